@@ -1,6 +1,6 @@
 -- Cutting a list at the first item that passes a test.
 use Rattle.dm_asm.proofs.Names.{ℕ, zero, suc, Bool, true, false, not, ◌==◌, ◌≡◌, ◌+◌, ◌<◌, ◌≤◌, List, [], ◌∷◌, length, take, drop, get_or, length-drop, add-zero, ◌-◌, refl, ap, sym, ◌∙◌, arith, position, position_or_len, Some, None}
-use Rattle.dm_asm.proofs.Names.{common_steps, take_all, length-take-le, get_or-drop, nat_tests, drop-length, position-Some, cut, lines, words, separates, begins_comment, without_comment}
+use Rattle.dm_asm.proofs.Names.{common_steps, take_all, length-take-le, get_or-drop, nat_tests, drop-length, position-Some, cut, source_lines, source_words, separates, is_semicolon, without_comment}
 
 -- behind the first item that passes, the rest is cut
 cut-at : (test : ℕ → Bool) (xs : List ℕ) (i : ℕ) → i < length xs → test (get_or xs i 0) ≡ true → ((k : ℕ) → k < i → test (get_or xs k 0) ≡ false) → cut test xs ≡ take i xs ∷ cut test (drop (i + 1) xs)
@@ -38,10 +38,10 @@ position-None : (test : ℕ → Bool) (xs : List ℕ) → position test xs ≡ N
 position-None test xs e = none_passes test xs (grind (arith, nat_tests, e))
 
 -- nothing has no lines
-pub lines-none : (text : List ℕ) → length text ≡ 0 → lines text ≡ []
-unfolding lines
-lines-none [] e = refl
-lines-none (c ∷ cs) e = absurd (omega arith)
+pub source_lines-none : (text : List ℕ) → length text ≡ 0 → source_lines text ≡ []
+unfolding source_lines
+source_lines-none [] e = refl
+source_lines-none (c ∷ cs) e = absurd (omega arith)
 
 -- a place that is found is in the list
 pub place_below : (test : ℕ → Bool) (xs : List ℕ) (i : ℕ) → position test xs ≡ Some i → i < length xs
@@ -60,43 +60,43 @@ pub cut-whole : (test : ℕ → Bool) (xs : List ℕ) → position test xs ≡ N
 cut-whole test [] e h = absurd (omega arith)
 cut-whole test (x ∷ xs) e h = cut-none test x xs (position-None test (x ∷ xs) e)
 
-comment-at : (xs : List ℕ) (i : ℕ) → i < length xs → begins_comment (get_or xs i 0) ≡ true → ((k : ℕ) → k < i → begins_comment (get_or xs k 0) ≡ false) → take i xs ≡ without_comment xs
+comment-at : (xs : List ℕ) (i : ℕ) → i < length xs → is_semicolon (get_or xs i 0) ≡ true → ((k : ℕ) → k < i → is_semicolon (get_or xs k 0) ≡ false) → take i xs ≡ without_comment xs
 comment-at [] i h p q = absurd (omega arith)
 comment-at (x ∷ xs) zero h p q = rw p refl
 comment-at (x ∷ xs) (suc i) h p q =
-    let f : begins_comment x ≡ false = q 0 (omega arith) in
+    let f : is_semicolon x ≡ false = q 0 (omega arith) in
     rw f (ap (λ (r : List ℕ). x ∷ r) (comment-at xs i (omega arith) p (λ k l. q (suc k) (omega arith))))
 
 -- a comment begins at the first semicolon
-pub comment-position : (xs : List ℕ) (i : ℕ) → position begins_comment xs ≡ Some i → take i xs ≡ without_comment xs
-comment-position xs i e = let h = position-Some begins_comment xs i 0 e in comment-at xs i h.0 h.1 h.2
+pub comment-position : (xs : List ℕ) (i : ℕ) → position is_semicolon xs ≡ Some i → take i xs ≡ without_comment xs
+comment-position xs i e = let h = position-Some is_semicolon xs i 0 e in comment-at xs i h.0 h.1 h.2
 
-comment-none : (xs : List ℕ) → ((k : ℕ) → k < length xs → begins_comment (get_or xs k 0) ≡ false) → xs ≡ without_comment xs
+comment-none : (xs : List ℕ) → ((k : ℕ) → k < length xs → is_semicolon (get_or xs k 0) ≡ false) → xs ≡ without_comment xs
 comment-none [] q = refl
 comment-none (x ∷ xs) q =
-    let f : begins_comment x ≡ false = q 0 (omega arith) in
+    let f : is_semicolon x ≡ false = q 0 (omega arith) in
     rw f (ap (λ (r : List ℕ). x ∷ r) (comment-none xs (λ k l. q (suc k) (omega arith))))
 
 -- a line without a semicolon has no comment
-pub comment-whole : (xs : List ℕ) → position begins_comment xs ≡ None → xs ≡ without_comment xs
-comment-whole xs e = comment-none xs (position-None begins_comment xs e)
+pub comment-whole : (xs : List ℕ) → position is_semicolon xs ≡ None → xs ≡ without_comment xs
+comment-whole xs e = comment-none xs (position-None is_semicolon xs e)
 
 -- a separator before the words
-words-skip : (x : ℕ) (xs : List ℕ) → separates x ≡ true → words (x ∷ xs) ≡ words xs
-unfolding words
-words-skip x xs e = rw e refl
+source_words-skip : (x : ℕ) (xs : List ℕ) → separates x ≡ true → source_words (x ∷ xs) ≡ source_words xs
+unfolding source_words
+source_words-skip x xs e = rw e refl
 
 -- separators before the words
-pub words-drop : (xs : List ℕ) (i : ℕ) → i ≤ length xs → ((k : ℕ) → k < i → separates (get_or xs k 0) ≡ true) → words xs ≡ words (drop i xs)
-words-drop xs zero h q = refl
-words-drop [] (suc i) h q = refl
-words-drop (x ∷ xs) (suc i) h q =
-    words-skip x xs (q 0 (omega arith)) ∙ words-drop xs i (omega arith) (λ k l. q (suc k) (omega arith))
+pub source_words-drop : (xs : List ℕ) (i : ℕ) → i ≤ length xs → ((k : ℕ) → k < i → separates (get_or xs k 0) ≡ true) → source_words xs ≡ source_words (drop i xs)
+source_words-drop xs zero h q = refl
+source_words-drop [] (suc i) h q = refl
+source_words-drop (x ∷ xs) (suc i) h q =
+    source_words-skip x xs (q 0 (omega arith)) ∙ source_words-drop xs i (omega arith) (λ k l. q (suc k) (omega arith))
 
 -- no word
-words-nil : words [] ≡ []
-unfolding words
-words-nil = refl
+source_words-nil : source_words [] ≡ []
+unfolding source_words
+source_words-nil = refl
 
 -- what is a separator for the test that looks for others
 separates-not : (b : Bool) → not b ≡ false → b ≡ true
@@ -104,30 +104,30 @@ separates-not true e = refl
 separates-not false e = absurd (cc)
 
 -- nothing but separators
-pub words-none : (xs : List ℕ) → position (λ c. not (separates c)) xs ≡ None → words xs ≡ []
-words-none xs e =
+pub source_words-none : (xs : List ℕ) → position (λ c. not (separates c)) xs ≡ None → source_words xs ≡ []
+source_words-none xs e =
     let q = position-None (λ c. not (separates c)) xs e in
-    words-drop xs (length xs) (omega arith) (λ k l. separates-not (separates (get_or xs k 0)) (q k l)) ∙ ap words (drop-length xs) ∙ words-nil
+    source_words-drop xs (length xs) (omega arith) (λ k l. separates-not (separates (get_or xs k 0)) (q k l)) ∙ ap source_words (drop-length xs) ∙ source_words-nil
 
 -- the words begin behind the separators
-pub words-start : (xs : List ℕ) (i : ℕ) → position (λ c. not (separates c)) xs ≡ Some i → words xs ≡ words (drop i xs)
-words-start xs i e =
+pub source_words-start : (xs : List ℕ) (i : ℕ) → position (λ c. not (separates c)) xs ≡ Some i → source_words xs ≡ source_words (drop i xs)
+source_words-start xs i e =
     let h = position-Some (λ c. not (separates c)) xs i 0 e in
-    words-drop xs i (omega (arith, h.0)) (λ k l. separates-not (separates (get_or xs k 0)) (h.2 k l))
+    source_words-drop xs i (omega (arith, h.0)) (λ k l. separates-not (separates (get_or xs k 0)) (h.2 k l))
 
 -- the first word ends at a separator
-pub words-first : (xs : List ℕ) (i : ℕ) → position separates xs ≡ Some i → 0 < i → words xs ≡ take i xs ∷ words (drop (i + 1) xs)
-unfolding words
-words-first xs i e l =
+pub source_words-first : (xs : List ℕ) (i : ℕ) → position separates xs ≡ Some i → 0 < i → source_words xs ≡ take i xs ∷ source_words (drop (i + 1) xs)
+unfolding source_words
+source_words-first xs i e l =
     let h = position-Some separates xs i 0 e in
     let f : length (take i xs) ≡ i = length-take-le i xs (omega (arith, h.0)) in
     let g : not (length (take i xs) == 0) ≡ true = grind (arith, nat_tests, f) in
     rw (cut-position separates xs i e, g) refl
 
 -- or it is all
-pub words-whole : (xs : List ℕ) → position separates xs ≡ None → 0 < length xs → words xs ≡ xs ∷ words []
-unfolding words
-words-whole xs e l =
+pub source_words-whole : (xs : List ℕ) → position separates xs ≡ None → 0 < length xs → source_words xs ≡ xs ∷ source_words []
+unfolding source_words
+source_words-whole xs e l =
     let g : not (length xs == 0) ≡ true = grind (arith, nat_tests) in
     rw (cut-whole separates xs e l, g) refl
 

@@ -21,16 +21,16 @@ unfoldable pub use Rattle.dm_asm.specs.Assembled.{assembled, places_of, with_lin
 pub use Rattle.dm_asm.specs.Forms.{shape_of}
 unfoldable pub use Rattle.dm_asm.specs.Forms.{form_of}
 unfoldable pub use Rattle.dm_asm.specs.Labels.{place_in}
-pub use Rattle.dm_asm.specs.Lines.{begins_comment, cut, ends_line, separates, without_comment}
-unfoldable pub use Rattle.dm_asm.specs.Lines.{lines, words}
-pub use Rattle.dm_asm.specs.Numbers.{base, digit, going_on}
-unfoldable pub use Rattle.dm_asm.specs.Numbers.{number_of}
+pub use Rattle.dm_asm.specs.Lines.{cut, is_line_feed, is_semicolon, separates, without_comment}
+unfoldable pub use Rattle.dm_asm.specs.Lines.{source_lines, source_words}
+pub use Rattle.dm_asm.specs.Numbers.{base, digit, number_going_on}
+unfoldable pub use Rattle.dm_asm.specs.Numbers.{literal_value}
 pub use Rattle.dm_asm.specs.Operands.{wanted_number}
-unfoldable pub use Rattle.dm_asm.specs.Operands.{distance_of, fields, number, register, target, value, value_of}
-pub use Rattle.dm_asm.specs.Places.{behind_label, first_of, form_size, label_of, place_from, statement_size, zero_size}
+unfoldable pub use Rattle.dm_asm.specs.Operands.{distance_of, fields, number_operand, operand_value, register, target, value}
+pub use Rattle.dm_asm.specs.Places.{behind_label, first_of, form_size, label_of_words, place_from, statement_size, zero_size}
 unfoldable pub use Rattle.dm_asm.specs.Places.{has_label, line_size}
-pub use Rattle.dm_asm.specs.Refusals.{behind, why_code, ◌>>=◌}
-pub use Rattle.dm_asm.specs.Statements.{form_bytes, instruction_bytes, is_twice, named_bytes, takes}
+pub use Rattle.dm_asm.specs.Refusals.{bytes_behind, why_code, ◌>>=◌}
+pub use Rattle.dm_asm.specs.Statements.{form_bytes, instruction_bytes, is_twice, named_bytes, takes_operands}
 unfoldable pub use Rattle.dm_asm.specs.Statements.{line_bytes, listed_bytes, statement_bytes}
 pub use Rattle.dm_asm.specs.declared.forms.Form.{Form}
 pub use Rattle.dm_asm.specs.declared.forms.Form.TheVariants.{Byte, Instruction, Word, Zero}

@@ -1,8 +1,8 @@
 -- A line makes as many bytes as it counts.
 use Rattle.dm_asm.proofs.Names.{ℕ, suc, Bool, true, false, nat_le, ◌≡◌, refl, ap, List, [], ◌∷◌, length, replicate, arith, Option, Some, None, Result, Ok, Err, if◌then◌else◌, nat_tests, length-replicate, Opcode, Form, Instruction, Word}
-use Rattle.dm_asm.proofs.Names.{Byte, Zero, Shape, RegisterValue, TwoRegisters, ThreeRegisters, Access, Jump, Branch, Call, Place, Why, OperandCount, OutOfRange, form_of, shape_of, words, without_comment, number_of, fields, number}
-use Rattle.dm_asm.proofs.Names.{register, target, value, wanted_number, behind_label, form_size, label_of, line_size, statement_size, zero_size, ◌>>=◌, form_bytes, instruction_bytes, is_twice, line_bytes, listed_bytes, named_bytes}
-use Rattle.dm_asm.proofs.Names.{statement_bytes, takes}
+use Rattle.dm_asm.proofs.Names.{Byte, Zero, Shape, RegisterValue, TwoRegisters, ThreeRegisters, Access, Jump, Branch, Call, Place, Why, OperandCount, OutOfRange, form_of, shape_of, source_words, without_comment, literal_value, fields}
+use Rattle.dm_asm.proofs.Names.{number_operand, register, target, value, wanted_number, behind_label, form_size, label_of_words, line_size, statement_size, zero_size, ◌>>=◌, form_bytes, instruction_bytes, is_twice, line_bytes, listed_bytes}
+use Rattle.dm_asm.proofs.Names.{named_bytes, statement_bytes, takes_operands}
 
 -- so many bytes, if any
 abbrev pub HasLength : ℕ → Result (List ℕ) Why → Type 0
@@ -33,10 +33,10 @@ unfolding fields
 three-fields places at RegisterValue ws = of-value 3 (register ws) _ (λ a. of-value 3 (value places 65535 a.1) _ (λ v. refl))
 three-fields places at TwoRegisters ws = of-value 3 (register ws) _ (λ a. of-value 3 (register a.1) _ (λ b. refl))
 three-fields places at ThreeRegisters ws = of-value 3 (register ws) _ (λ a. of-value 3 (register a.1) _ (λ b. of-value 3 (register b.1) _ (λ c. refl)))
-three-fields places at Access ws = of-value 3 (register ws) _ (λ a. of-value 3 (register a.1) _ (λ b. of-value 3 (number 255 b.1) _ (λ c. refl)))
+three-fields places at Access ws = of-value 3 (register ws) _ (λ a. of-value 3 (register a.1) _ (λ b. of-value 3 (number_operand 255 b.1) _ (λ c. refl)))
 three-fields places at Jump ws = of-value 3 (value places 65535 ws) _ (λ v. refl)
 three-fields places at Branch ws = of-value 3 (register ws) _ (λ a. of-value 3 (register a.1) _ (λ b. of-value 3 (target places at b.1) _ (λ d. refl)))
-three-fields places at Call ws = of-value 3 (number 255 ws) _ (λ n. refl)
+three-fields places at Call ws = of-value 3 (number_operand 255 ws) _ (λ n. refl)
 
 four-bytes : (places : List ℕ → Option Place) (at : ℕ) (op : Opcode) (ws : List (List ℕ)) → HasLength 4 (instruction_bytes places at op ws)
 four-bytes places at op ws = of-bytes 3 4 (fields places at (shape_of op) ws) _ (three-fields places at (shape_of op) ws) (λ bs e. ap suc e)
@@ -44,7 +44,7 @@ four-bytes places at op ws = of-bytes 3 4 (fields places at (shape_of op) ws) _ 
 as-listed : (ws : List (List ℕ)) → HasLength (length ws) (listed_bytes ws)
 unfolding listed_bytes
 as-listed [] = refl
-as-listed (w ∷ ws) = of-value (length (w ∷ ws)) (wanted_number 255 (number_of w)) _ (λ first. of-bytes (length ws) (length (w ∷ ws)) (listed_bytes ws) _ (as-listed ws) (λ others e. ap suc e))
+as-listed (w ∷ ws) = of-value (length (w ∷ ws)) (wanted_number 255 (literal_value w)) _ (λ first. of-bytes (length ws) (length (w ∷ ws)) (listed_bytes ws) _ (as-listed ws) (λ others e. ap suc e))
 
 -- zeros, by the test of their number
 zeros-by : (b : Bool) (n : ℕ) → HasLength (if b then n else 0) (((if b then Ok n else Err OutOfRange) >>= λ v. Ok (v, [])) >>= λ (m : ℕ × List (List ℕ)). Ok (replicate m.0 0))
@@ -55,19 +55,19 @@ zeros-of : (o : Option ℕ) → HasLength (zero_size o) ((wanted_number 65536 o 
 zeros-of None = tt
 zeros-of (Some n) = zeros-by (nat_le n 65536) n
 
-form-length : (places : List ℕ → Option Place) (at : ℕ) (form : Form) (ws : List (List ℕ)) → takes form (length ws) ≡ true → HasLength (form_size (Some form) ws) (form_bytes places at form ws)
-unfolding number
+form-length : (places : List ℕ → Option Place) (at : ℕ) (form : Form) (ws : List (List ℕ)) → takes_operands form (length ws) ≡ true → HasLength (form_size (Some form) ws) (form_bytes places at form ws)
+unfolding number_operand
 form-length places at (Instruction op) ws h = four-bytes places at op ws
 form-length places at Word ws h = of-value 4 (value places 4294967295 ws) _ (λ w. refl)
 form-length places at Byte ws h = as-listed ws
 form-length places at Zero [] h = tt
-form-length places at Zero (w ∷ []) h = zeros-of (number_of w)
+form-length places at Zero (w ∷ []) h = zeros-of (literal_value w)
 form-length places at Zero (w ∷ v ∷ ws) h = absurd (grind (arith, nat_tests))
 
 named-length : (places : List ℕ → Option Place) (at : ℕ) (twice : Bool) (o : Option Form) (ws : List (List ℕ)) → HasLength (form_size o ws) (named_bytes places at twice o ws)
 named-length places at twice None ws = tt
 named-length places at twice (Some form) ws =
-    where_false (form_size (Some form) ws) twice _ _ (where_true (form_size (Some form) ws) (takes form (length ws)) OperandCount _ (form-length places at form ws))
+    where_false (form_size (Some form) ws) twice _ _ (where_true (form_size (Some form) ws) (takes_operands form (length ws)) OperandCount _ (form-length places at form ws))
 
 statement-length : (places : List ℕ → Option Place) (at : ℕ) (twice : Bool) (ws : List (List ℕ)) → HasLength (statement_size ws) (statement_bytes places at twice ws)
 unfolding statement_bytes
@@ -78,5 +78,5 @@ statement-length places at twice (w ∷ ws) = named-length places at twice (form
 pub line-length : (places : List ℕ → Option Place) (number at : ℕ) (line : List ℕ) → HasLength (line_size line) (line_bytes places number at line)
 unfolding line_bytes line_size
 line-length places number at line =
-    let ws = words (without_comment line) in
-    statement-length places at (is_twice places number (label_of ws)) (behind_label ws)
+    let ws = source_words (without_comment line) in
+    statement-length places at (is_twice places number (label_of_words ws)) (behind_label ws)

@@ -7,9 +7,9 @@ use Rattle.dm_asm.specs.declared.refusals.AssembleError.{AssembleError}
 use Rattle.dm_asm.specs.declared.refusals.AssembleError.TheVariants.{Fault, NoMemory}
 use Rattle.dm_asm.specs.declared.refusals.Stop.{Stop}
 use Rattle.dm_asm.specs.declared.refusals.Stop.TheVariants as stops
-use Rattle.dm_asm.specs.Lines.{lines}
+use Rattle.dm_asm.specs.Lines.{source_lines}
 use Rattle.dm_asm.specs.Places.{place_from}
-use Rattle.dm_asm.specs.Refusals.{◌>>=◌, behind}
+use Rattle.dm_asm.specs.Refusals.{◌>>=◌, bytes_behind}
 use Rattle.dm_asm.specs.Statements.{line_bytes}
 
 -- an image that is not too long
@@ -19,7 +19,7 @@ not_too_long image = if nat_le (length image) 65536 then Ok image else Err TooLo
 -- an image with a line, by its number
 unfoldable pub with_line : (List ℕ → Option Place) → ℕ → List ℕ → List ℕ → Result (List ℕ) Why
 with_line places number image line = do
-  longer ← behind image (line_bytes places number (length image) line)
+  longer ← bytes_behind image (line_bytes places number (length image) line)
   not_too_long longer
 
 -- what follows an image, or the line with its reason
@@ -35,11 +35,11 @@ with_lines places number image (l ∷ ls) =
 
 -- the first line of a text with a label, and its address
 unfoldable pub places_of : List ℕ → List ℕ → Option Place
-places_of text name = place_from 1 0 (lines text) name
+places_of text name = place_from 1 0 (source_lines text) name
 
 -- the image that a text means, or the first line that is refused, with the reason
 unfoldable pub assembled : List ℕ → Result (List ℕ) (ℕ × Why)
-assembled text = with_lines (places_of text) 1 [] (lines text)
+assembled text = with_lines (places_of text) 1 [] (source_lines text)
 
 -- an answer, seen as an image, is what is meant, unless memory is wanting
 abbrev pub Answers : {A : Type 0} → (A → List ℕ) → Result A AssembleError → Result (List ℕ) (ℕ × Why) → Type 0
@@ -55,6 +55,6 @@ at_line line (stops.NoMemory none) = NoMemory none
 -- a place of a text with this image: its address is how many bytes the lines before it make, and with these the image begins
 pub record StandsBehind (text image : List ℕ) (place : Place) : Type 0 where
   pub before : List ℕ
-  pub of_lines : with_lines (places_of text) 1 [] (take (place.line - 1) (lines text)) ≡ Ok before
+  pub of_lines : with_lines (places_of text) 1 [] (take (place.line - 1) (source_lines text)) ≡ Ok before
   pub value : place.address ≡ length before
   pub begins : take place.address image ≡ before

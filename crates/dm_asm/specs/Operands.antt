@@ -5,7 +5,7 @@ use Rattle.dm_asm.specs.declared.forms.Shape.TheVariants.{RegisterValue, TwoRegi
 use Rattle.dm_asm.specs.declared.labels.Place.{Place}
 use Rattle.dm_asm.specs.declared.refusals.Why.{Why}
 use Rattle.dm_asm.specs.declared.refusals.Why.TheVariants.{BadRegister, BadNumber, OutOfRange, UnknownLabel, OperandCount}
-use Rattle.dm_asm.specs.Numbers.{begins_name, number_of, register_of}
+use Rattle.dm_asm.specs.Numbers.{begins_name, literal_value, register_of}
 use Rattle.dm_asm.specs.Refusals.{◌>>=◌}
 
 -- a register that must be there
@@ -14,23 +14,23 @@ wanted_register None = Err BadRegister
 wanted_register (Some r) = Ok r
 
 -- a number that is at most so large
-abbrev pub at_most : ℕ → ℕ → Result ℕ Why
-at_most most n = if nat_le n most then Ok n else Err OutOfRange
+abbrev pub within_range : ℕ → ℕ → Result ℕ Why
+within_range most n = if nat_le n most then Ok n else Err OutOfRange
 
 -- a number that must be there, and at most so large
 abbrev pub wanted_number : ℕ → Option ℕ → Result ℕ Why
 wanted_number most None = Err BadNumber
-wanted_number most (Some n) = at_most most n
+wanted_number most (Some n) = within_range most n
 
 -- the value of a label that must be there, at most so large
 abbrev pub wanted_label : ℕ → Option Place → Result ℕ Why
 wanted_label most None = Err UnknownLabel
-wanted_label most (Some place) = at_most most place.address
+wanted_label most (Some place) = within_range most place.address
 
 -- a number or a label
-unfoldable pub value_of : (List ℕ → Option Place) → ℕ → List ℕ → Result ℕ Why
-value_of places most word =
-    if begins_name word then wanted_label most (places word) else wanted_number most (number_of word)
+unfoldable pub operand_value : (List ℕ → Option Place) → ℕ → List ℕ → Result ℕ Why
+operand_value places most word =
+    if begins_name word then wanted_label most (places word) else wanted_number most (literal_value word)
 
 -- how many words it is from behind an instruction to a target, as a byte: -128 to 127
 abbrev pub distance : ℕ → ℕ → Result ℕ Why
@@ -49,27 +49,27 @@ unfoldable pub distance_of : (List ℕ → Option Place) → ℕ → List ℕ �
 distance_of places at word = if begins_name word then wanted_distance at (places word) else Err BadNumber
 
 -- the value of the next word, and the words behind it
-abbrev pub next : (List ℕ → Result ℕ Why) → List (List ℕ) → Result (ℕ × List (List ℕ)) Why
-next value [] = Err OperandCount
-next value (w ∷ ws) = do
+abbrev pub next_operand : (List ℕ → Result ℕ Why) → List (List ℕ) → Result (ℕ × List (List ℕ)) Why
+next_operand value [] = Err OperandCount
+next_operand value (w ∷ ws) = do
   v ← value w
   Ok (v, ws)
 
 -- a register
 unfoldable pub register : List (List ℕ) → Result (ℕ × List (List ℕ)) Why
-register ws = next (λ w. wanted_register (register_of w)) ws
+register ws = next_operand (λ w. wanted_register (register_of w)) ws
 
 -- a number that is at most so large
-unfoldable pub number : ℕ → List (List ℕ) → Result (ℕ × List (List ℕ)) Why
-number most ws = next (λ w. wanted_number most (number_of w)) ws
+unfoldable pub number_operand : ℕ → List (List ℕ) → Result (ℕ × List (List ℕ)) Why
+number_operand most ws = next_operand (λ w. wanted_number most (literal_value w)) ws
 
 -- a number or a label that is at most so large
 unfoldable pub value : (List ℕ → Option Place) → ℕ → List (List ℕ) → Result (ℕ × List (List ℕ)) Why
-value places most ws = next (value_of places most) ws
+value places most ws = next_operand (operand_value places most) ws
 
 -- the distance to a label
 unfoldable pub target : (List ℕ → Option Place) → ℕ → List (List ℕ) → Result (ℕ × List (List ℕ)) Why
-target places at ws = next (distance_of places at) ws
+target places at ws = next_operand (distance_of places at) ws
 
 -- the three last bytes of an instruction at an address
 unfoldable pub fields : (List ℕ → Option Place) → ℕ → Shape → List (List ℕ) → Result (List ℕ) Why
@@ -89,7 +89,7 @@ fields places at ThreeRegisters ws = do
 fields places at Access ws = do
   a ← register ws
   b ← register a.1
-  c ← number 255 b.1
+  c ← number_operand 255 b.1
   Ok (a.0 ∷ b.0 ∷ c.0 ∷ [])
 fields places at Jump ws = do
   v ← value places 65535 ws
@@ -100,5 +100,5 @@ fields places at Branch ws = do
   d ← target places at b.1
   Ok (a.0 ∷ b.0 ∷ d.0 ∷ [])
 fields places at Call ws = do
-  n ← number 255 ws
+  n ← number_operand 255 ws
   Ok (0 ∷ 0 ∷ n.0 ∷ [])

@@ -5,19 +5,19 @@ use Rattle.dm_asm.specs.declared.forms.Form.{Form}
 use Rattle.dm_asm.specs.declared.forms.Form.TheVariants.{Instruction, Word, Byte, Zero}
 use Rattle.dm_asm.specs.declared.labels.Place.{Place}
 use Rattle.dm_asm.specs.Forms.{form_of}
-use Rattle.dm_asm.specs.Lines.{words, without_comment}
-use Rattle.dm_asm.specs.Numbers.{is_name, number_of}
+use Rattle.dm_asm.specs.Lines.{source_words, without_comment}
+use Rattle.dm_asm.specs.Numbers.{is_label_name, literal_value}
 
 -- the label that a word is with its colon
 abbrev pub label_in : List ℕ → Option (List ℕ)
 label_in word =
     let name = take (length word - 1) word in
-    if (slice_index word (length word - 1) == 58) && is_name name then Some name else None
+    if (slice_index word (length word - 1) == 58) && is_label_name name then Some name else None
 
 -- the label of a line of words
-abbrev pub label_of : List (List ℕ) → Option (List ℕ)
-label_of [] = None
-label_of (w ∷ ws) = label_in w
+abbrev pub label_of_words : List (List ℕ) → Option (List ℕ)
+label_of_words [] = None
+label_of_words (w ∷ ws) = label_in w
 
 -- what stands behind the label of a line of words
 abbrev pub behind_label : List (List ℕ) → List (List ℕ)
@@ -31,7 +31,7 @@ zero_size (Some n) = if nat_le n 65536 then n else 0
 
 -- how many bytes the operand of .zero asks for
 abbrev pub zeros_size : List (List ℕ) → ℕ
-zeros_size (word ∷ []) = zero_size (number_of word)
+zeros_size (word ∷ []) = zero_size (literal_value word)
 zeros_size _ = 0
 
 -- how many bytes a line counts whose word is this, with these operands
@@ -49,16 +49,16 @@ statement_size (w ∷ ws) = form_size (form_of w) ws
 
 -- how many bytes a line counts
 unfoldable pub line_size : List ℕ → ℕ
-line_size line = statement_size (behind_label (words (without_comment line)))
+line_size line = statement_size (behind_label (source_words (without_comment line)))
 
 -- whether a label has this name
-abbrev pub is_named : Option (List ℕ) → List ℕ → Bool
-is_named None name = false
-is_named (Some label) name = bytes_eq name label
+abbrev pub label_is_named : Option (List ℕ) → List ℕ → Bool
+label_is_named None name = false
+label_is_named (Some label) name = bytes_eq name label
 
 -- whether a line has this label
 unfoldable pub has_label : List ℕ → List ℕ → Bool
-has_label line name = is_named (label_of (words (without_comment line))) name
+has_label line name = label_is_named (label_of_words (source_words (without_comment line))) name
 
 -- the first of two, if any
 abbrev pub first_of : Option Place → Option Place → Option Place

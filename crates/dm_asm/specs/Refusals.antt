@@ -24,9 +24,9 @@ abbrev pub ◌>>=◌ : {A B : Type 0} → Result A Why → (A → Result B Why) 
 (Err why) >>= f = Err why
 
 -- bytes behind others
-abbrev pub behind : List ℕ → Result (List ℕ) Why → Result (List ℕ) Why
-behind bytes (Ok more) = Ok (bytes ++ more)
-behind bytes (Err why) = Err why
+abbrev pub bytes_behind : List ℕ → Result (List ℕ) Why → Result (List ℕ) Why
+bytes_behind bytes (Ok more) = Ok (bytes ++ more)
+bytes_behind bytes (Err why) = Err why
 
 -- a stop is for want of memory
 abbrev pub IsWant : Stop → Type 0

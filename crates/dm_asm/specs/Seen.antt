@@ -2,9 +2,9 @@
 use Rattle.std.specs.Prelude.{ℕ, List, Result, Ok, Err}
 use Rattle.std.specs.Borrow.{Bor}
 use Rattle.dm_asm.specs.declared.refusals.Why.{Why}
-use Rattle.dm_asm.specs.Lines.{words}
+use Rattle.dm_asm.specs.Lines.{source_words}
 
 -- a value and the words behind it
 abbrev pub seen : Result (ℕ × Bor (List ℕ)) Why → Result (ℕ × List (List ℕ)) Why
-seen (Ok read) = Ok (read.0, words read.1.now)
+seen (Ok read) = Ok (read.0, source_words read.1.now)
 seen (Err why) = Err why

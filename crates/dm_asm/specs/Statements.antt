@@ -9,10 +9,10 @@ use Rattle.dm_asm.specs.declared.labels.Place.{Place}
 use Rattle.dm_asm.specs.declared.refusals.Why.{Why}
 use Rattle.dm_asm.specs.declared.refusals.Why.TheVariants.{UnknownWord, LabelTwice, OperandCount}
 use Rattle.dm_asm.specs.Forms.{form_of, operand_count, shape_of}
-use Rattle.dm_asm.specs.Lines.{words, without_comment}
-use Rattle.dm_asm.specs.Numbers.{number_of}
-use Rattle.dm_asm.specs.Operands.{fields, number, value, wanted_number}
-use Rattle.dm_asm.specs.Places.{behind_label, label_of}
+use Rattle.dm_asm.specs.Lines.{source_words, without_comment}
+use Rattle.dm_asm.specs.Numbers.{literal_value}
+use Rattle.dm_asm.specs.Operands.{fields, number_operand, value, wanted_number}
+use Rattle.dm_asm.specs.Places.{behind_label, label_of_words}
 use Rattle.dm_asm.specs.Refusals.{◌>>=◌}
 
 -- the four bytes of an instruction
@@ -25,7 +25,7 @@ instruction_bytes places at op ws = do
 unfoldable pub listed_bytes : List (List ℕ) → Result (List ℕ) Why
 listed_bytes [] = Ok []
 listed_bytes (w ∷ ws) = do
-  first ← wanted_number 255 (number_of w)
+  first ← wanted_number 255 (literal_value w)
   others ← listed_bytes ws
   Ok (first ∷ others)
 
@@ -37,22 +37,22 @@ form_bytes places at Word ws = do
   Ok (word_bytes w.0)
 form_bytes places at Byte ws = listed_bytes ws
 form_bytes places at Zero ws = do
-  n ← number 65536 ws
+  n ← number_operand 65536 ws
   Ok (replicate n.0 0)
 
 -- whether an instruction or directive can have so many operands
-abbrev pub takes : Form → ℕ → Bool
-takes (Instruction op) n = n == operand_count (shape_of op)
-takes Word n = n == 1
-takes Byte n = nat_lt 0 n
-takes Zero n = n == 1
+abbrev pub takes_operands : Form → ℕ → Bool
+takes_operands (Instruction op) n = n == operand_count (shape_of op)
+takes_operands Word n = n == 1
+takes_operands Byte n = nat_lt 0 n
+takes_operands Zero n = n == 1
 
 -- the bytes of what a word and its operands say
 abbrev pub named_bytes : (List ℕ → Option Place) → ℕ → Bool → Option Form → List (List ℕ) → Result (List ℕ) Why
 named_bytes places at twice None ws = Err UnknownWord
 named_bytes places at twice (Some form) ws =
     if twice then Err LabelTwice
-    else (if takes form (length ws) then form_bytes places at form ws else Err OperandCount)
+    else (if takes_operands form (length ws) then form_bytes places at form ws else Err OperandCount)
 
 -- the bytes of what stands behind a label, if any; the label may be defined before
 unfoldable pub statement_bytes : (List ℕ → Option Place) → ℕ → Bool → List (List ℕ) → Result (List ℕ) Why
@@ -72,5 +72,5 @@ is_twice places line (Some name) = is_elsewhere line (places name)
 -- the bytes of a line at an address
 unfoldable pub line_bytes : (List ℕ → Option Place) → ℕ → ℕ → List ℕ → Result (List ℕ) Why
 line_bytes places line at text =
-    let ws = words (without_comment text) in
-    statement_bytes places at (is_twice places line (label_of ws)) (behind_label ws)
+    let ws = source_words (without_comment text) in
+    statement_bytes places at (is_twice places line (label_of_words ws)) (behind_label ws)

@@ -3,7 +3,7 @@ ghost use Rattle.std.specs.Prelude.{◌≡◌, ◌≤◌, [], IfOk, OnOk, length
 ghost use Rattle.std.specs.Option.{option_copied};
 ghost use Rattle.dm_asm.specs.Assembled.{Answers, assembled, at_line, with_line, with_lines};
 ghost use Rattle.dm_asm.specs.Labels.{place_in};
-ghost use Rattle.dm_asm.specs.Lines.{lines};
+ghost use Rattle.dm_asm.specs.Lines.{source_lines};
 ghost use Rattle.dm_asm.specs.Refusals.{Gives};
 ghost use Rattle.dm_asm.specs.Statements.{is_twice, line_bytes};
 
@@ -59,7 +59,7 @@ fn stopped(line: usize, stop: Stop) -> AssembleError
 
 /// The bytes of all lines.
 fn all_lines(alloc: Global, labels: &Labels, text: &[u8]) -> Result<Vec<u8>, AssembleError>
-    ensures exact { Answers (λ image. image.items) result (with_lines (place_in labels.now) 1 [] (lines text.now)) }
+    ensures exact { Answers (λ image. image.items) result (with_lines (place_in labels.now) 1 [] (source_lines text.now)) }
     ensures most { IfOk result (λ image. length image.items ≤ MOST_MEMORY) }
 {
     let mut image = Vec::new(alloc);

@@ -3,8 +3,8 @@ ghost use Rattle.std.specs.Prelude.{◌≡◌, ◌+◌, ℕ, List, IfOk, None, O
 ghost use Rattle.std.specs.Option.{option_copied};
 ghost use Rattle.std.specs.Str.{bytes_eq};
 ghost use Rattle.dm_asm.specs.Labels.{place_in};
-ghost use Rattle.dm_asm.specs.Lines.{lines, without_comment, words};
-ghost use Rattle.dm_asm.specs.Places.{behind_label, first_of, has_label, label_in, label_of, line_size, place_from, statement_size, zeros_size};
+ghost use Rattle.dm_asm.specs.Lines.{source_lines, source_words, without_comment};
+ghost use Rattle.dm_asm.specs.Places.{behind_label, first_of, has_label, label_in, label_of_words, line_size, place_from, statement_size, zeros_size};
 
 use crate::forms::Form;
 use crate::lines::{count_words, first_line, next_word, uncommented};
@@ -73,8 +73,8 @@ fn label_of_word(word: &[u8]) -> Option<&[u8]>
 
 /// The label of a line, and what stands behind it.
 pub fn split_label(line: &[u8]) -> (Option<&[u8]>, &[u8])
-    ensures label { option_copied result.0 ≡ label_of (words line.now) }
-    ensures rest { words result.1.now ≡ behind_label (words line.now) }
+    ensures label { option_copied result.0 ≡ label_of_words (source_words line.now) }
+    ensures rest { source_words result.1.now ≡ behind_label (source_words line.now) }
 {
     match next_word(line) {
         None => (None, line),
@@ -87,7 +87,7 @@ pub fn split_label(line: &[u8]) -> (Option<&[u8]>, &[u8])
 
 /// The label that a line defines, whatever stands behind it.
 fn defined_by(line: &[u8]) -> Option<&[u8]>
-    ensures { option_copied result ≡ label_of (words (without_comment line.now)) }
+    ensures { option_copied result ≡ label_of_words (source_words (without_comment line.now)) }
 {
     let (label, _) = split_label(uncommented(line));
     label
@@ -95,7 +95,7 @@ fn defined_by(line: &[u8]) -> Option<&[u8]>
 
 /// How many zeros the operands of `.zero` ask for, if they are good.
 fn zeros_counted(operands: &[u8]) -> usize
-    ensures { result ≡ zeros_size (words operands.now) }
+    ensures { result ≡ zeros_size (source_words operands.now) }
 {
     if count_words(operands) != 1 {
         return 0;
@@ -111,7 +111,7 @@ fn zeros_counted(operands: &[u8]) -> usize
 
 /// How many bytes a statement counts.
 fn statement_counted(statement: &[u8]) -> usize
-    ensures { result ≡ statement_size (words statement.now) }
+    ensures { result ≡ statement_size (source_words statement.now) }
 {
     match next_word(statement) {
         None => 0,
@@ -138,7 +138,7 @@ impl<'t> Labels<'t> {
 
     /// The labels of a text.
     pub fn of(alloc: Global, text: &'t [u8]) -> Result<Labels<'t>, NoMemory>
-        ensures ok { IfOk result (λ labels. (q : List ℕ) → place_in labels q ≡ place_from 1 0 (lines text.now) q) }
+        ensures ok { IfOk result (λ labels. (q : List ℕ) → place_in labels q ≡ place_from 1 0 (source_lines text.now) q) }
     {
         let mut labels = Labels::new(alloc);
         let mut place = Place {

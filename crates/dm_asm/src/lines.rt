@@ -1,18 +1,18 @@
 //! Lines and words.
 ghost use Rattle.std.specs.Prelude.{◌≡◌, ◌+◌, ◌<◌, ◌∷◌, [], IfNone, IfSome, length, not, Some};
 ghost use Rattle.std.specs.List.{position};
-ghost use Rattle.dm_asm.specs.Lines.{begins_comment, ends_line, lines, separates, without_comment, words};
+ghost use Rattle.dm_asm.specs.Lines.{is_line_feed, is_semicolon, separates, source_lines, source_words, without_comment};
 
 /// Where the first line of a text ends.
 fn line_end(text: &[u8]) -> Option<usize>
-    ensures { result ≡ position ends_line text.now }
+    ensures { result ≡ position is_line_feed text.now }
 {
     text.iter().position(|c| *c == b'\n')
 }
 
 /// Where the comment of a line begins.
 fn comment_start(line: &[u8]) -> Option<usize>
-    ensures { result ≡ position begins_comment line.now }
+    ensures { result ≡ position is_semicolon line.now }
 {
     line.iter().position(|c| *c == b';')
 }
@@ -41,7 +41,7 @@ fn word_end(line: &[u8]) -> Option<usize>
 /// The first line of a text that isn't empty, and the text behind its end.
 pub fn first_line(text: &[u8]) -> (&[u8], &[u8])
     requires { 0 < length text.now }
-    ensures lines { lines text.now ≡ result.0.now ∷ lines result.1.now }
+    ensures lines { source_lines text.now ≡ result.0.now ∷ source_lines result.1.now }
     ensures less { length result.1.now < length text.now }
 {
     match line_end(text) {
@@ -63,7 +63,7 @@ pub fn uncommented(line: &[u8]) -> &[u8]
 /// The first word, which begins there, and what stands behind it.
 fn split_word(line: &[u8], start: usize) -> (&[u8], &[u8])
     requires { position (λ c. not (separates c)) line.now ≡ Some start }
-    ensures some { words line.now ≡ result.0.now ∷ words result.1.now }
+    ensures some { source_words line.now ≡ result.0.now ∷ source_words result.1.now }
     ensures word { 0 < length result.0.now }
     ensures less { length result.1.now < length line.now }
 {
@@ -76,8 +76,8 @@ fn split_word(line: &[u8], start: usize) -> (&[u8], &[u8])
 
 /// The first word, and what stands behind it.
 pub fn next_word(line: &[u8]) -> Option<(&[u8], &[u8])>
-    ensures none { IfNone result (words line.now ≡ []) }
-    ensures some { IfSome result (λ found. words line.now ≡ found.0.now ∷ words found.1.now) }
+    ensures none { IfNone result (source_words line.now ≡ []) }
+    ensures some { IfSome result (λ found. source_words line.now ≡ found.0.now ∷ source_words found.1.now) }
     ensures word { IfSome result (λ found. 0 < length found.0.now) }
     ensures less { IfSome result (λ found. length found.1.now < length line.now) }
 {
@@ -89,7 +89,7 @@ pub fn next_word(line: &[u8]) -> Option<(&[u8], &[u8])>
 
 /// How many words there are.
 pub fn count_words(line: &[u8]) -> usize
-    ensures count { result ≡ length (words line.now) }
+    ensures count { result ≡ length (source_words line.now) }
 {
     let mut rest = line;
     let mut count = 0;

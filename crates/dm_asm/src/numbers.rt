@@ -1,7 +1,7 @@
 //! Numbers, registers and names as they are written.
 ghost use Rattle.std.specs.Prelude.{◌≡◌, ◌+◌, ◌*◌, ◌<◌, ◌≤◌, ◌^◌, IfSome, min, option_map, true};
 ghost use Rattle.std.specs.List.{list_all};
-ghost use Rattle.dm_asm.specs.Numbers.{base, begins_name, digit, going_on, is_name, is_name_part, number_of, register_of};
+ghost use Rattle.dm_asm.specs.Numbers.{base, begins_name, digit, is_label_name, is_name_part, literal_value, number_going_on, register_of};
 
 /// Numbers from here on are not told apart.
 const HUGE: u64 = 1 << 32;
@@ -31,7 +31,7 @@ fn with_digit(hex: bool, value: u64, digit: u64) -> u64
 
 /// The number of hexadecimal or decimal digits, at most [`HUGE`].
 fn digits_value(hex: bool, digits: &[u8]) -> Option<u64>
-    ensures { result ≡ option_map (λ n. min n (2 ^ 32)) (going_on hex 0 digits.now) }
+    ensures { result ≡ option_map (λ n. min n (2 ^ 32)) (number_going_on hex 0 digits.now) }
 {
     let mut value = 0;
     for c in digits {
@@ -44,9 +44,9 @@ fn digits_value(hex: bool, digits: &[u8]) -> Option<u64>
 }
 
 /// The number that a word is, at most [`HUGE`].
-#[tactic(auto, unfolding(crate::specs::Numbers::number_of))]
+#[tactic(auto, unfolding(crate::specs::Numbers::literal_value))]
 pub fn number(word: &[u8]) -> Option<u64>
-    ensures { result ≡ option_map (λ n. min n (2 ^ 32)) (number_of word.now) }
+    ensures { result ≡ option_map (λ n. min n (2 ^ 32)) (literal_value word.now) }
 {
     if word.len() > 2 && word[0] == b'0' && word[1] == b'x' {
         digits_value(true, &word[2..])
@@ -85,7 +85,7 @@ fn has_name_parts(word: &[u8]) -> bool
 
 /// Whether a word is a label's name.
 pub fn is_label(word: &[u8]) -> bool
-    ensures { result ≡ is_name word.now }
+    ensures { result ≡ is_label_name word.now }
 {
     if word.is_empty() || word.len() > 16 || word[0].is_ascii_digit() {
         return false;

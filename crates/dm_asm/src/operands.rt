@@ -1,9 +1,9 @@
 //! The operands of an instruction or directive.
 ghost use Rattle.std.specs.Prelude.{◌≡◌, ◌<◌, ◌≤◌, ◌^◌, ◌/◌, ◌%◌, IfOk};
 ghost use Rattle.dm_asm.specs.Labels.{place_in};
-ghost use Rattle.dm_asm.specs.Lines.{words};
-ghost use Rattle.dm_asm.specs.Numbers.{number_of};
-ghost use Rattle.dm_asm.specs.Operands.{distance, distance_of, fields, number, register, target, value, value_of, wanted_number};
+ghost use Rattle.dm_asm.specs.Lines.{source_words};
+ghost use Rattle.dm_asm.specs.Numbers.{literal_value};
+ghost use Rattle.dm_asm.specs.Operands.{distance, distance_of, fields, number_operand, operand_value, register, target, value, wanted_number};
 ghost use Rattle.dm_asm.specs.Seen.{seen};
 
 use crate::forms::Shape;
@@ -14,7 +14,7 @@ use crate::refusals::Why;
 
 /// A number that a word must be, at most so large.
 pub fn number_within(word: &[u8], most: u32) -> Result<u32, Why>
-    ensures value { result ≡ wanted_number most (number_of word.now) }
+    ensures value { result ≡ wanted_number most (literal_value word.now) }
     ensures small { IfOk result (λ n. n ≤ most) }
 {
     match number(word) {
@@ -25,9 +25,9 @@ pub fn number_within(word: &[u8], most: u32) -> Result<u32, Why>
 }
 
 /// A number or a label's address that a word must be, at most so large.
-#[tactic(auto, unfolding(crate::specs::Operands::value_of))]
+#[tactic(auto, unfolding(crate::specs::Operands::operand_value))]
 fn value_within(labels: &Labels, word: &[u8], most: u32) -> Result<u32, Why>
-    ensures value { result ≡ value_of (place_in labels.now) most word.now }
+    ensures value { result ≡ operand_value (place_in labels.now) most word.now }
     ensures small { IfOk result (λ n. n ≤ most) }
 {
     if !looks_like_label(word) {
@@ -80,7 +80,7 @@ fn distance_to(labels: &Labels, word: &[u8], at: usize) -> Result<u8, Why>
 /// The register that the next word must be, and what stands behind it.
 #[tactic(auto, unfolding(crate::specs::Operands::register))]
 pub fn next_register(rest: &[u8]) -> Result<(u8, &[u8]), Why>
-    ensures { seen result ≡ register (words rest.now) }
+    ensures { seen result ≡ register (source_words rest.now) }
 {
     match next_word(rest) {
         None => Err(Why::OperandCount),
@@ -92,9 +92,9 @@ pub fn next_register(rest: &[u8]) -> Result<(u8, &[u8]), Why>
 }
 
 /// The number that the next word must be, and what stands behind it.
-#[tactic(auto, unfolding(crate::specs::Operands::number))]
+#[tactic(auto, unfolding(crate::specs::Operands::number_operand))]
 pub fn next_number(rest: &[u8], most: u32) -> Result<(u32, &[u8]), Why>
-    ensures value { seen result ≡ number most (words rest.now) }
+    ensures value { seen result ≡ number_operand most (source_words rest.now) }
     ensures small { IfOk result (λ x. x.0 ≤ most) }
 {
     match next_word(rest) {
@@ -109,7 +109,7 @@ pub fn next_number(rest: &[u8], most: u32) -> Result<(u32, &[u8]), Why>
 /// The number or label's address that the next word must be, and what stands behind it.
 #[tactic(auto, unfolding(crate::specs::Operands::value))]
 pub fn next_value<'r>(labels: &Labels, rest: &'r [u8], most: u32) -> Result<(u32, &'r [u8]), Why>
-    ensures value { seen result ≡ value (place_in labels.now) most (words rest.now) }
+    ensures value { seen result ≡ value (place_in labels.now) most (source_words rest.now) }
     ensures small { IfOk result (λ x. x.0 ≤ most) }
 {
     match next_word(rest) {
@@ -125,7 +125,7 @@ pub fn next_value<'r>(labels: &Labels, rest: &'r [u8], most: u32) -> Result<(u32
 /// behind that.
 #[tactic(auto, unfolding(crate::specs::Operands::target))]
 fn next_target<'r>(labels: &Labels, rest: &'r [u8], at: usize) -> Result<(u8, &'r [u8]), Why>
-    ensures { seen result ≡ target (place_in labels.now) at (words rest.now) }
+    ensures { seen result ≡ target (place_in labels.now) at (source_words rest.now) }
 {
     match next_word(rest) {
         None => Err(Why::OperandCount),
@@ -148,7 +148,7 @@ fn two_bytes(n: u32) -> (u8, u8)
 /// The three last bytes of an instruction at an address.
 #[tactic(auto, unfolding(crate::specs::Operands::fields))]
 pub fn last_bytes(labels: &Labels, at: usize, shape: Shape, rest: &[u8]) -> Result<[u8; 3], Why>
-    ensures { result ≡ fields (place_in labels.now) at shape (words rest.now) }
+    ensures { result ≡ fields (place_in labels.now) at shape (source_words rest.now) }
 {
     match shape {
         Shape::RegisterValue => {

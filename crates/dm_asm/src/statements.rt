@@ -1,9 +1,9 @@
 //! The bytes of statements.
 ghost use Rattle.std.specs.Prelude.{◌≡◌, length};
 ghost use Rattle.dm_asm.specs.Labels.{place_in};
-ghost use Rattle.dm_asm.specs.Lines.{words};
-ghost use Rattle.dm_asm.specs.Refusals.{Gives, behind};
-ghost use Rattle.dm_asm.specs.Statements.{form_bytes, instruction_bytes, is_elsewhere, listed_bytes, statement_bytes, takes};
+ghost use Rattle.dm_asm.specs.Lines.{source_words};
+ghost use Rattle.dm_asm.specs.Refusals.{Gives, bytes_behind};
+ghost use Rattle.dm_asm.specs.Statements.{form_bytes, instruction_bytes, is_elsewhere, listed_bytes, statement_bytes, takes_operands};
 ghost use Rattle.dm_asm.specs.declared.forms.Form.TheVariants.{Byte, Word, Zero};
 
 use crate::forms::{Form, Shape};
@@ -23,7 +23,7 @@ fn add_instruction(
     operands: &[u8],
 ) -> Result<(), Stop>
     ensures { Gives (λ _. image.new.items) result
-        (behind image.old.items (instruction_bytes (place_in labels.now) (length image.old.items) op (words operands.now))) }
+        (bytes_behind image.old.items (instruction_bytes (place_in labels.now) (length image.old.items) op (source_words operands.now))) }
 {
     let at = image.len();
     let last = last_bytes(labels, at, Shape::of(op), operands)?;
@@ -35,7 +35,7 @@ fn add_instruction(
 /// Adds a word.
 fn add_word(labels: &Labels, image: &mut Vec<u8>, operands: &[u8]) -> Result<(), Stop>
     ensures { Gives (λ _. image.new.items) result
-        (behind image.old.items (form_bytes (place_in labels.now) (length image.old.items) Word (words operands.now))) }
+        (bytes_behind image.old.items (form_bytes (place_in labels.now) (length image.old.items) Word (source_words operands.now))) }
 {
     let (word, _) = next_value(labels, operands, u32::MAX)?;
     let mut bytes = [0; 4];
@@ -46,7 +46,7 @@ fn add_word(labels: &Labels, image: &mut Vec<u8>, operands: &[u8]) -> Result<(),
 
 /// Adds listed bytes.
 fn add_listed(image: &mut Vec<u8>, operands: &[u8]) -> Result<(), Stop>
-    ensures { Gives (λ _. image.new.items) result (behind image.old.items (listed_bytes (words operands.now))) }
+    ensures { Gives (λ _. image.new.items) result (bytes_behind image.old.items (listed_bytes (source_words operands.now))) }
 {
     let mut rest = operands;
     while let Some((word, others)) = next_word(rest) {
@@ -62,7 +62,7 @@ fn add_listed(image: &mut Vec<u8>, operands: &[u8]) -> Result<(), Stop>
 /// Adds zeros.
 fn add_zeros(labels: &Labels, image: &mut Vec<u8>, operands: &[u8]) -> Result<(), Stop>
     ensures { Gives (λ _. image.new.items) result
-        (behind image.old.items (form_bytes (place_in labels.now) (length image.old.items) Zero (words operands.now))) }
+        (bytes_behind image.old.items (form_bytes (place_in labels.now) (length image.old.items) Zero (source_words operands.now))) }
 {
     let (n, _) = next_number(operands, 65_536)?;
     append_zeros(image, n)?;
@@ -71,7 +71,7 @@ fn add_zeros(labels: &Labels, image: &mut Vec<u8>, operands: &[u8]) -> Result<()
 
 /// Whether an instruction or directive can have so many operands.
 fn can_have(form: Form, operands: usize) -> bool
-    ensures { result ≡ takes form operands }
+    ensures { result ≡ takes_operands form operands }
 {
     match form {
         Form::Instruction(op) => operands == Shape::of(op).operands(),
@@ -83,7 +83,7 @@ fn can_have(form: Form, operands: usize) -> bool
 /// Adds what an instruction or directive with its operands is.
 fn add_form(labels: &Labels, image: &mut Vec<u8>, form: Form, operands: &[u8]) -> Result<(), Stop>
     ensures { Gives (λ _. image.new.items) result
-        (behind image.old.items (form_bytes (place_in labels.now) (length image.old.items) form (words operands.now))) }
+        (bytes_behind image.old.items (form_bytes (place_in labels.now) (length image.old.items) form (source_words operands.now))) }
 {
     match form {
         Form::Instruction(op) => add_instruction(labels, image, op, operands),
@@ -102,7 +102,7 @@ pub fn add_statement(
     statement: &[u8],
 ) -> Result<(), Stop>
     ensures { Gives (λ _. image.new.items) result
-        (behind image.old.items (statement_bytes (place_in labels.now) (length image.old.items) twice (words statement.now))) }
+        (bytes_behind image.old.items (statement_bytes (place_in labels.now) (length image.old.items) twice (source_words statement.now))) }
 {
     match next_word(statement) {
         None if twice => Err(Stop::Fault(Why::LabelTwice)),

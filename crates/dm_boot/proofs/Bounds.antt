@@ -1,6 +1,6 @@
 -- What a document whose rules are kept says of its numbers.
 use Rattle.dm_boot.proofs.Imports.{◌≡◌, ℕ, ◌+◌, ◌<◌, ◌&&◌, zero, suc, Bool, true, false, if◌then◌else◌, nat_le, ℤ, pos, negsuc, List, length, slice_get, Option, Some, None, refl, sym, arith, and_parts, nat_tests, is_some, list_all, Data}
-use Rattle.dm_boot.proofs.Imports.{Items, no_items, item, get_item, get, as_integer, in_range, integer_in, number_or, number_at, or_zero, count, first_failing, map_items, place_from, place_of, is_named}
+use Rattle.dm_boot.proofs.Imports.{Items, no_items, item, get_item, get, as_integer, in_range, integer_in, number_or, number_at, or_zero, count, first_failing, map_items, element_place_from, element_place, is_named}
 
 -- an `if` that says nothing
 pub if-none : (b : Bool) (rest : Option ℕ) (i : ℕ) → (if b then rest else Some i) ≡ None → (b ≡ true) × (rest ≡ None)
@@ -91,14 +91,14 @@ found false i k n rest h later =
     let below = later h in
     omega arith
 
-place_from-within : (i : ℕ) (name : List ℕ) (ds : Items) (k : ℕ) → place_from i name ds ≡ Some k → k < i + count ds
-place_from-within i name no_items k h = absurd (cc)
-place_from-within i name (item d ds) k h = found (is_named name d) i k (count ds) (place_from (i + 1) name ds) h (λ rest. place_from-within (i + 1) name ds k rest)
+element_place_from-within : (i : ℕ) (name : List ℕ) (ds : Items) (k : ℕ) → element_place_from i name ds ≡ Some k → k < i + count ds
+element_place_from-within i name no_items k h = absurd (cc)
+element_place_from-within i name (item d ds) k h = found (is_named name d) i k (count ds) (element_place_from (i + 1) name ds) h (λ rest. element_place_from-within (i + 1) name ds k rest)
 
-pub place-within : (name : List ℕ) (ds : Items) (k : ℕ) → place_of name ds ≡ Some k → k < count ds
-unfolding place_of
+pub place-within : (name : List ℕ) (ds : Items) (k : ℕ) → element_place name ds ≡ Some k → k < count ds
+unfolding element_place
 place-within name ds k h =
-    let below = place_from-within 0 name ds k h in
+    let below = element_place_from-within 0 name ds k h in
     omega arith
 
 -- there is an element at each place below their number

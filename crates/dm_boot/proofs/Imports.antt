@@ -30,18 +30,18 @@ pub use Rattle.dm_boot.specs.Boot.{Answers, boot_of_document, document_of, unles
 unfoldable pub use Rattle.dm_boot.specs.Boot.{boot_of, boot_of_table, unless_at}
 pub use Rattle.dm_boot.specs.Build.{base_in, blocks_in, channel_in, code_in, format_number, format_of, home_of, image_blocks, image_place, image_tables, images_of, is_control, len_in, link_tables, linked, links_of, machine_number}
 pub use Rattle.dm_boot.specs.Build.{machine_tables, machines_of, numbers_of, pid_of_start, process_tables, processes_of, quantum_of, slots_in, system_of}
-unfoldable pub use Rattle.dm_boot.specs.Build.{control_of, image_of, link_of, link_to, linked_all, machine_of, pid_named, start_of, starts_from, starts_of, system_with}
+unfoldable pub use Rattle.dm_boot.specs.Build.{boot_machine, image_of, link_of, link_of_control, link_to, linked_all, pid_named, start_of, starts_from, starts_of, system_with}
 pub use Rattle.dm_boot.specs.Named.{place_in}
 pub use Rattle.dm_boot.specs.Rules.{assembles, broken_or, fits_machine, image_rules, is_below, link_rules, process_rules, rules}
 unfoldable pub use Rattle.dm_boot.specs.Rules.{broken_at, first_broken, first_long, first_unassembled, fits_after, has_area, has_good_image_count, has_good_machine_count, has_good_room, has_good_settings, has_link_count, has_machine}
 unfoldable pub use Rattle.dm_boot.specs.Rules.{is_link}
-unfoldable pub use Rattle.dm_boot.specs.Rules.{has_place, has_target, image_fits, is_limited, is_plain, keeps, memory_of, rule_of, subjects}
-pub use Rattle.dm_boot.specs.Tables.{all_items, all_known, count, in_range, integer_in, is_known, is_named, is_table, lone_member, number_or, or_zero, place_from, text_at, truth_at}
+unfoldable pub use Rattle.dm_boot.specs.Rules.{has_place, has_target, image_fits, is_limited, is_plain, keeps, memory_size_of, rule_of, subjects}
+pub use Rattle.dm_boot.specs.Tables.{all_items, all_known, count, element_place_from, in_range, integer_in, is_known, is_named, is_table, lone_member, number_or, or_zero, text_at, truth_at}
 pub use Rattle.dm_boot.specs.Sound.{all_sound, general_link, has_sound_links}
 unfoldable pub use Rattle.dm_boot.specs.Sound.{is_sound}
-unfoldable pub use Rattle.dm_boot.specs.Tables.{first_failing, map_items, named, number_at, place_of}
+unfoldable pub use Rattle.dm_boot.specs.Tables.{element_place, first_failing, map_items, named, number_at}
 pub use Rattle.dm_boot.specs.Text.{is_manager, is_switchboard}
-unfoldable pub use Rattle.dm_boot.specs.Text.{is_server}
+unfoldable pub use Rattle.dm_boot.specs.Text.{is_server_name}
 pub use Rattle.dm_boot.specs.declared.rules.BootError.{BootError}
 pub use Rattle.dm_boot.specs.declared.rules.BootError.TheVariants.{NoMemory, Refused}
 pub use Rattle.dm_boot.specs.declared.rules.BootRule.{BootRule}

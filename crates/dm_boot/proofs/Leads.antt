@@ -1,8 +1,9 @@
 -- Each link of a boot file leads somewhere.
 use Rattle.dm_boot.proofs.Imports.{◌≡◌, ℕ, ◌+◌, ◌*◌, ◌<◌, ◌≤◌, ◌==◌, ◌&&◌, ◌||◌, not, Bool, true, false, if◌then◌else◌, nat_le, List, [], length, slice_get, codes, Option, Some, None, refl, ap, sym, subst, ◌∙◌, arith, and_parts, nat_tests}
 use Rattle.dm_boot.proofs.Imports.{is_some, Data, get_item, Pid, Link, pid_of, pid_eq, BootProcess, Boot, first_number, process_named, switchboard, manager, blocks_of_image, memory_size, leads_to_process, leads_to_server, controls_child}
-use Rattle.dm_boot.proofs.Imports.{link_is_valid, area_is_within, count, or_zero, text_at, truth_at, place_of, named, is_switchboard, is_manager, is_server, process_tables, image_tables, image_place, image_of, images_of, starts_of}
-use Rattle.dm_boot.proofs.Imports.{linked, link_of, link_to, control_of, pid_named, pid_of_start, is_control, code_in, channel_in, base_in, len_in, system_of, system_with, has_target, is_plain, is_limited, has_area, memory_of}
+use Rattle.dm_boot.proofs.Imports.{link_is_valid, area_is_within, count, or_zero, text_at, truth_at, element_place, named, is_switchboard, is_manager, is_server_name, process_tables, image_tables, image_place, image_of, images_of}
+use Rattle.dm_boot.proofs.Imports.{starts_of, linked, link_of, link_to, link_of_control, pid_named, pid_of_start, is_control, code_in, channel_in, base_in, len_in, system_of, system_with, has_target, is_plain, is_limited, has_area}
+use Rattle.dm_boot.proofs.Imports.{memory_size_of}
 use Rattle.dm_boot.proofs.Bounds.{none-is, number-bounds, number-zero, map-at, place-within, item-at}
 use Rattle.dm_boot.proofs.Found.{Start, linked-length, start-at, numbered-none, found-start, found-linked}
 
@@ -23,9 +24,9 @@ not-false true h = absurd (cc)
 not-false false h = refl
 
 -- a link that controls a child
-control-valid : (d : Data) (child : ℕ) → nat_le 1 child ≡ true → nat_le child (length (system_of d).processes) ≡ true → link_is_valid (system_of d) (control_of child) ≡ true
-unfolding control_of
-control-valid d child least most = or-right (leads_to_server (control_of child)) (controls_child (system_of d) (control_of child)) (and-true least most)
+control-valid : (d : Data) (child : ℕ) → nat_le 1 child ≡ true → nat_le child (length (system_of d).processes) ≡ true → link_is_valid (system_of d) (link_of_control child) ≡ true
+unfolding link_of_control
+control-valid d child least most = or-right (leads_to_server (link_of_control child)) (controls_child (system_of d) (link_of_control child)) (and-true least most)
 
 -- a link to a server
 plain-server : (p : Pid) (l : Data) → p.home ≡ 0 → is_plain l ≡ true → leads_to_server (link_to p l) ≡ true
@@ -82,8 +83,8 @@ process-valid d l s p channel number found same within =
     and-true (channel-small s.pid l channel) (rw (a, b) leads)
 
 -- the memory of a process that the file names
-memory-is : (d : Data) (name : List ℕ) (k : ℕ) (t : Data) (s : BootProcess) → place_of name (process_tables d) ≡ Some k → get_item k (process_tables d) ≡ Some t → Start d t s → is_some (image_place d t) ≡ true → memory_of d name ≡ 256 * blocks_of_image (slice_get (images_of d) s.image)
-unfolding memory_of named image_of
+memory-is : (d : Data) (name : List ℕ) (k : ℕ) (t : Data) (s : BootProcess) → element_place name (process_tables d) ≡ Some k → get_item k (process_tables d) ≡ Some t → Start d t s → is_some (image_place d t) ≡ true → memory_size_of d name ≡ 256 * blocks_of_image (slice_get (images_of d) s.image)
+unfolding memory_size_of named image_of
 memory-is d name k t s place at start has_image =
     let (j, f) = none-is (image_place d t) has_image in
     let (u, there) = item-at (image_tables d) j (place-within (text_at (codes "image") t) (image_tables d) j f) in
@@ -96,9 +97,9 @@ pid-at starts o k s e at = ap (λ (x : Option ℕ). pid_of_start (slice_get star
 
 -- a link that isn't a control link, by the name that it has
 to-valid : (d l : Data) (a m : Bool) → ((k : ℕ) (t : Data) → get_item k (process_tables d) ≡ Some t → is_some (image_place d t) ≡ true)
-    → ((a || m) || is_some (place_of (text_at (codes "to") l) (process_tables d))) ≡ true
-    → (is_some (channel_in l) && (if a || m then is_plain l else is_some (code_in 4294967295 l) && has_area (memory_of d (text_at (codes "to") l)) l)) ≡ true
-    → link_is_valid (system_of d) (link_to (if a then switchboard else if m then manager else pid_of_start (slice_get (starts_of d) (or_zero (place_of (text_at (codes "to") l) (process_tables d))))) l) ≡ true
+    → ((a || m) || is_some (element_place (text_at (codes "to") l) (process_tables d))) ≡ true
+    → (is_some (channel_in l) && (if a || m then is_plain l else is_some (code_in 4294967295 l) && has_area (memory_size_of d (text_at (codes "to") l)) l)) ≡ true
+    → link_is_valid (system_of d) (link_to (if a then switchboard else if m then manager else pid_of_start (slice_get (starts_of d) (or_zero (element_place (text_at (codes "to") l) (process_tables d))))) l) ≡ true
 unfolding starts_of has_area link_to system_with
 to-valid d l true m images target limit =
     let (channel, plain) = and_parts (is_some (channel_in l)) (is_plain l) limit in
@@ -108,25 +109,25 @@ to-valid d l false true images target limit =
     manager-valid d l channel plain
 to-valid d l false false images target limit =
     let name = text_at (codes "to") l in
-    let (channel, more) = and_parts (is_some (channel_in l)) (is_some (code_in 4294967295 l) && has_area (memory_of d name) l) limit in
-    let (code, area) = and_parts (is_some (code_in 4294967295 l)) (has_area (memory_of d name) l) more in
-    let (base, rest) = and_parts (is_some (base_in 65536 l)) (is_some (len_in 65536 l) && nat_le (or_zero (base_in 65536 l) + or_zero (len_in 65536 l)) (memory_of d name)) area in
-    let (len, within) = and_parts (is_some (len_in 65536 l)) (nat_le (or_zero (base_in 65536 l) + or_zero (len_in 65536 l)) (memory_of d name)) rest in
-    let (k, place) = none-is (place_of name (process_tables d)) target in
+    let (channel, more) = and_parts (is_some (channel_in l)) (is_some (code_in 4294967295 l) && has_area (memory_size_of d name) l) limit in
+    let (code, area) = and_parts (is_some (code_in 4294967295 l)) (has_area (memory_size_of d name) l) more in
+    let (base, rest) = and_parts (is_some (base_in 65536 l)) (is_some (len_in 65536 l) && nat_le (or_zero (base_in 65536 l) + or_zero (len_in 65536 l)) (memory_size_of d name)) area in
+    let (len, within) = and_parts (is_some (len_in 65536 l)) (nat_le (or_zero (base_in 65536 l) + or_zero (len_in 65536 l)) (memory_size_of d name)) rest in
+    let (k, place) = none-is (element_place name (process_tables d)) target in
     let (t, at) = item-at (process_tables d) k (place-within name (process_tables d) k place) in
     let (s, says) = start-at d [] (process_tables d) k t at in
     let found = found-start d [] (process_tables d) k s numbered-none says.0 in
     let (ls, found_too) = found-linked d (starts_of d) [] (process_tables d) s.pid s found in
     let size = memory-is d name k t s place at says.1 (images k t at) in
-    let pid = pid-at (starts_of d) (place_of name (process_tables d)) k s place says.0 in
+    let pid = pid-at (starts_of d) (element_place name (process_tables d)) k s place says.0 in
     subst (λ (q : Pid). link_is_valid (system_of d) (link_to q l) ≡ true) (sym pid) (process-valid d l s (linked s ls) channel says.1.number found_too refl (rw (← size) within))
 
 -- a link of the file
 pub link-valid : (d l : Data) (b : Bool) → b ≡ is_control l → ((k : ℕ) (t : Data) → get_item k (process_tables d) ≡ Some t → is_some (image_place d t) ≡ true) → has_target d l ≡ true → is_limited d l ≡ true → link_is_valid (system_of d) (link_of d (starts_of d) l) ≡ true
-unfolding has_target is_limited link_of pid_named is_server
+unfolding has_target is_limited link_of pid_named is_server_name
 link-valid d l true control images target limit =
     let named_here = rw (← control) at target in
-    let (k, place) = none-is (place_of (text_at (codes "control") l) (process_tables d)) named_here in
+    let (k, place) = none-is (element_place (text_at (codes "control") l) (process_tables d)) named_here in
     let below = place-within (text_at (codes "control") l) (process_tables d) k place in
     let many = processes-length d in
     let least : nat_le 1 (k + 1) ≡ true = grind (arith, nat_tests) in

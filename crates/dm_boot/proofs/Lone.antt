@@ -1,6 +1,6 @@
 -- Links whose tables say no more than whom they lead to.
 use Rattle.dm_boot.proofs.Imports.{◌≡◌, ℕ, ◌||◌, ◌&&◌, Bool, true, false, nat_le, if◌then◌else◌, List, refl, ◌∙◌, codes, is_some, arith, nat_tests, Data, table, member, string, no_members, BootProcess}
-use Rattle.dm_boot.proofs.Imports.{process_tables, place_of, number_at, is_server, link_of, link_to, pid_named, is_link, has_target, is_limited, is_plain, has_area, memory_of, general_link, is_sound}
+use Rattle.dm_boot.proofs.Imports.{process_tables, element_place, number_at, is_server_name, link_of, link_to, pid_named, is_link, has_target, is_limited, is_plain, has_area, memory_size_of, general_link, is_sound}
 
 -- such a table
 abbrev pub lone : List ℕ → Data
@@ -24,13 +24,13 @@ and-right false b h = refl
 
 lone-limited : (d : Data) (name : List ℕ) → is_limited d (lone name) ≡ true
 unfolding is_limited is_plain has_area number_at
-lone-limited d name = limited (is_server name) (memory_of d name)
+lone-limited d name = limited (is_server_name name) (memory_size_of d name)
 
-lone-target : (d : Data) (name : List ℕ) → has_target d (lone name) ≡ (is_server name || is_some (place_of name (process_tables d)))
+lone-target : (d : Data) (name : List ℕ) → has_target d (lone name) ≡ (is_server_name name || is_some (element_place name (process_tables d)))
 unfolding has_target
 lone-target d name = refl
 
-pub lone-sound : (d : Data) (t : Data) (name : List ℕ) → t ≡ lone name → is_sound d t ≡ (is_server name || is_some (place_of name (process_tables d)))
+pub lone-sound : (d : Data) (t : Data) (name : List ℕ) → t ≡ lone name → is_sound d t ≡ (is_server_name name || is_some (element_place name (process_tables d)))
 unfolding is_sound
 lone-sound d t name e = rw e (and-right (has_target d (lone name)) (is_limited d (lone name)) (lone-limited d name) ∙ lone-target d name)
 

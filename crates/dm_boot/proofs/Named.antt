@@ -1,6 +1,6 @@
 -- The elements of an array, found by their names.
 use Rattle.dm_boot.proofs.Imports.{◌≡◌, ℕ, ◌+◌, ◌<◌, Bool, true, false, if◌then◌else◌, List, None, Some, refl, ap, sym, arith, is_some, option_or, Items, no_items, item}
-use Rattle.dm_boot.proofs.Imports.{count, is_named, place_from, place_of}
+use Rattle.dm_boot.proofs.Imports.{count, element_place, element_place_from, is_named}
 use Rattle.std.specs.declared.option.Option.{Option}
 
 -- a place is one of the elements
@@ -8,12 +8,12 @@ from_within : (here : Bool) (i n k : ℕ) (o : Option ℕ) → (if here then Som
 from_within true i n k o e h = let is : i ≡ k = cc in omega arith
 from_within false i n k o e h = omega (arith, h e)
 
-place_from_within : (i : ℕ) (name : List ℕ) (ts : Items) (k : ℕ) → place_from i name ts ≡ Some k → k < i + count ts
+place_from_within : (i : ℕ) (name : List ℕ) (ts : Items) (k : ℕ) → element_place_from i name ts ≡ Some k → k < i + count ts
 place_from_within i name no_items k e = absurd (cc)
-place_from_within i name (item t ts) k e = from_within (is_named name t) i (count ts) k (place_from (i + 1) name ts) e (place_from_within (i + 1) name ts k)
+place_from_within i name (item t ts) k e = from_within (is_named name t) i (count ts) k (element_place_from (i + 1) name ts) e (place_from_within (i + 1) name ts k)
 
-pub place_within : (name : List ℕ) (ts : Items) (k : ℕ) → place_of name ts ≡ Some k → k < count ts
-unfolding place_of
+pub place_within : (name : List ℕ) (ts : Items) (k : ℕ) → element_place name ts ≡ Some k → k < count ts
+unfolding element_place
 place_within name ts k e = omega (arith, place_from_within 0 name ts k e)
 
 pub ruleset named_lemmas = (place_within)

@@ -3,10 +3,10 @@ use Rattle.dm_boot.proofs.Imports.{◌≡◌, ℕ, ◌+◌, ◌≤◌, ◌==◌,
 use Rattle.dm_boot.proofs.Imports.{arith, and_parts, nat_tests, list_all, is_some, IfOk, Data, Items, no_items, item, get_item, table, Members, BootMachine, BootImage, BootProcess, Boot, IsValid, first_number, slots_of, starting_at}
 use Rattle.dm_boot.proofs.Imports.{blocks_at, links_are_valid, image_is_valid, images_are_valid, process_is_valid, processes_are_valid, machine_is_valid, machines_are_valid, TopKeys, Settings, MachineCount, MachineKeys, MachineRoom}
 use Rattle.dm_boot.proofs.Imports.{ImageCount, ImageKeys, ImageName, ImageBlocks, ImageText, ImageBytes, ProcessKeys, ProcessName, ProcessMachine, ProcessImage, ProcessRoom, LinkCount, LinkTarget, LinkLimits, BootError, count, or_zero}
-use Rattle.dm_boot.proofs.Imports.{all_items, first_failing, map_items, machine_tables, image_tables, process_tables, link_tables, numbers_of, quantum_of, format_number, format_of, slots_in, blocks_in, machine_of, machines_of, image_blocks}
-use Rattle.dm_boot.proofs.Imports.{image_of, images_of, machine_number, home_of, image_place, start_of, starts_from, starts_of, links_of, link_of, linked, linked_all, processes_of, is_control, system_of, system_with, keeps, subjects}
-use Rattle.dm_boot.proofs.Imports.{broken_at, first_broken, rules, has_good_settings, has_good_machine_count, has_good_room, has_good_image_count, image_fits, is_below, has_machine, has_link_count, has_target, is_limited, Answers, boot_of}
-use Rattle.dm_boot.proofs.Imports.{boot_of_table, boot_of_document, document_of}
+use Rattle.dm_boot.proofs.Imports.{all_items, first_failing, map_items, machine_tables, image_tables, process_tables, link_tables, numbers_of, quantum_of, format_number, format_of, slots_in, blocks_in, boot_machine, machines_of}
+use Rattle.dm_boot.proofs.Imports.{image_blocks, image_of, images_of, machine_number, home_of, image_place, start_of, starts_from, starts_of, links_of, link_of, linked, linked_all, processes_of, is_control, system_of, system_with, keeps}
+use Rattle.dm_boot.proofs.Imports.{subjects, broken_at, first_broken, rules, has_good_settings, has_good_machine_count, has_good_room, has_good_image_count, image_fits, is_below, has_machine, has_link_count, has_target, is_limited, Answers}
+use Rattle.dm_boot.proofs.Imports.{boot_of, boot_of_table, boot_of_document, document_of}
 use Rattle.dm_boot.proofs.Parts.{none-head, at_top, unless-ok}
 use Rattle.dm_boot.proofs.Bounds.{if-none, none-is, number-bounds, both-pass, length-map, place-within}
 use Rattle.dm_boot.proofs.Rooms.{AllFit, fit-none, fit-from}
@@ -95,8 +95,8 @@ slots-at zero (s ∷ rs) all r h =
 slots-at (suc m) (s ∷ rs) all r h = slots-at m rs (and_parts (nat_le s.slots 64 && nat_le s.blocks 4096) (list_all (λ x. nat_le x.slots 64 && nat_le x.blocks 4096) rs) all).1 r h
 
 rooms-valid : (d : Data) → Kept d → list_all (λ r. nat_le r.slots 64 && nat_le r.blocks 4096) (machines_of d) ≡ true
-unfolding broken_at keeps subjects has_good_room machine_of
-rooms-valid d k = both-pass (λ _ t. has_good_room t) (λ _ t. has_good_room t) machine_of (λ r. nat_le r.slots 64 && nat_le r.blocks 4096) (λ i t good _.
+unfolding broken_at keeps subjects has_good_room boot_machine
+rooms-valid d k = both-pass (λ _ t. has_good_room t) (λ _ t. has_good_room t) boot_machine (λ r. nat_le r.slots 64 && nat_le r.blocks 4096) (λ i t good _.
     let (slots, blocks) = and_parts (is_some (slots_in t)) (is_some (blocks_in t)) good in
     and-true (number-bounds 0 0 64 (codes "slots") t refl refl slots).1 (number-bounds 0 0 4096 (codes "blocks") t refl refl blocks).1) 0 (machine_tables d) k.machine_room k.machine_room
 
@@ -161,7 +161,7 @@ pub record Good (d : Data) (t : Data) : Type 0 where
 process-valid : (d : Data) (done : List BootProcess) (t : Data) (others : ℕ) → ((k : ℕ) (u : Data) → get_item k (process_tables d) ≡ Some u → is_some (image_place d u) ≡ true) → Good d t → others ≡ starting_at (home_of t) done → process_is_valid (system_of d) others (linked (start_of d done t) (links_of d (starts_of d) t)) ≡ true
 unfolding system_with start_of has_machine has_link_count
 process-valid d done t others images good e =
-    let home : nat_lt (home_of t) (length (machines_of d)) ≡ true = rw (length-map machine_of (machine_tables d)) (below (count (machine_tables d)) (machine_number t) good.machine) in
+    let home : nat_lt (home_of t) (length (machines_of d)) ≡ true = rw (length-map boot_machine (machine_tables d)) (below (count (machine_tables d)) (machine_number t) good.machine) in
     let number : (first_number + starting_at (home_of t) done == first_number + others) ≡ true = grind (arith, nat_tests) in
     let (j, place) = none-is (image_place d t) good.image in
     let within = place-within _ (image_tables d) j place in
@@ -222,8 +222,8 @@ valid d k =
       most_numbers = most_numbers;
       least_quantum = least_quantum;
       most_quantum = most_quantum;
-      some_machines = rw (length-map machine_of (machine_tables d)) some;
-      few_machines = rw (length-map machine_of (machine_tables d)) few;
+      some_machines = rw (length-map boot_machine (machine_tables d)) some;
+      few_machines = rw (length-map boot_machine (machine_tables d)) few;
       machines = machines-valid d k;
       few_images = rw (length-map image_of (image_tables d)) images;
       images = images-valid d k;

@@ -14,8 +14,8 @@ use Rattle.dm_onekernel.specs.declared.boot.BootImage.{BootImage}
 use Rattle.dm_onekernel.specs.declared.boot.BootProcess.{BootProcess}
 use Rattle.dm_onekernel.specs.declared.boot.Boot.{Boot}
 use Rattle.dm_onekernel.specs.Boot.{first_number, starting_at, switchboard, manager}
-use Rattle.dm_boot.specs.Tables.{has, is_text, text_at, text_or_empty, truth_at, number_at, or_zero, items_at, map_items, place_of}
-use Rattle.dm_boot.specs.Text.{bytes_of, is_switchboard, is_manager}
+use Rattle.dm_boot.specs.Tables.{has_value, is_text, text_at, text_or_empty, truth_at, number_at, or_zero, items_at, map_items, element_place}
+use Rattle.dm_boot.specs.Text.{bytes_of_image, is_switchboard, is_manager}
 
 -- the tables of the machines, the images and the processes
 abbrev pub machine_tables : Data → Items
@@ -51,11 +51,11 @@ slots_in t = number_at 0 0 64 (codes "slots") t
 abbrev pub blocks_in : Data → Option ℕ
 blocks_in t = number_at 0 0 4096 (codes "blocks") t
 
-unfoldable pub machine_of : Data → BootMachine
-machine_of t = record { slots = or_zero (slots_in t); blocks = or_zero (blocks_in t) }
+unfoldable pub boot_machine : Data → BootMachine
+boot_machine t = record { slots = or_zero (slots_in t); blocks = or_zero (blocks_in t) }
 
 abbrev pub machines_of : Data → List BootMachine
-machines_of d = map_items machine_of (machine_tables d)
+machines_of d = map_items boot_machine (machine_tables d)
 
 -- the blocks of an image's memory
 abbrev pub image_blocks : Data → Option ℕ
@@ -63,7 +63,7 @@ image_blocks t = number_at 1 1 256 (codes "blocks") t
 
 -- what the memory of an image's processes starts with
 unfoldable pub image_of : Data → BootImage
-image_of t = record { bytes = text_or_empty (bytes_of (text_at (codes "text") t)); blocks = or_zero (image_blocks t) }
+image_of t = record { bytes = text_or_empty (bytes_of_image (text_at (codes "text") t)); blocks = or_zero (image_blocks t) }
 
 abbrev pub images_of : Data → List BootImage
 images_of d = map_items image_of (image_tables d)
@@ -77,7 +77,7 @@ home_of t = or_zero (machine_number t)
 
 -- the place of its image
 abbrev pub image_place : Data → Data → Option ℕ
-image_place d t = place_of (text_at (codes "image") t) (image_tables d)
+image_place d t = element_place (text_at (codes "image") t) (image_tables d)
 
 -- a process without its links: it has the next number of its machine after these earlier processes
 unfoldable pub start_of : Data → List BootProcess → Data → BootProcess
@@ -106,7 +106,7 @@ unfoldable pub pid_named : Data → List BootProcess → List ℕ → Pid
 pid_named d starts name =
     if is_switchboard name then switchboard
     else if is_manager name then manager
-    else pid_of_start (slice_get starts (or_zero (place_of name (process_tables d))))
+    else pid_of_start (slice_get starts (or_zero (element_place name (process_tables d))))
 
 -- the numbers of a link; 0 where the table has none
 abbrev pub code_in : ℕ → Data → Option ℕ
@@ -142,8 +142,8 @@ link_to p t = record {
 }
 
 -- a general link to the manager with the number of a child, which counts from 1 in the order of the file
-unfoldable pub control_of : ℕ → Link
-control_of child = record {
+unfoldable pub link_of_control : ℕ → Link
+link_of_control child = record {
   addr = record { pid = manager; at = 0; moves = 0 };
   kind = General;
   to_kernel = false;
@@ -154,11 +154,11 @@ control_of child = record {
 
 -- the link controls a child
 abbrev pub is_control : Data → Bool
-is_control t = has is_text (codes "control") t
+is_control t = has_value is_text (codes "control") t
 
 unfoldable pub link_of : Data → List BootProcess → Data → Link
 link_of d starts t =
-    if is_control t then control_of (or_zero (place_of (text_at (codes "control") t) (process_tables d)) + 1)
+    if is_control t then link_of_control (or_zero (element_place (text_at (codes "control") t) (process_tables d)) + 1)
     else link_to (pid_named d starts (text_at (codes "to") t)) t
 
 -- the tables of a process's links

@@ -11,8 +11,8 @@ use Rattle.dm_boot.specs.declared.rules.BootRule.{BootRule}
 use Rattle.dm_boot.specs.declared.rules.BootRule.TheVariants.{Document, TopKeys, Settings, MachineCount, MachineKeys, MachineRoom, ImageCount, ImageKeys, ImageName, ImageBlocks, ImageText, ImageBytes, ProcessKeys, ProcessName, ProcessMachine, ProcessImage, ProcessRoom, LinkCount, LinkTarget, LinkLimits}
 use Rattle.dm_boot.specs.declared.rules.TableRule.{TableRule}
 use Rattle.dm_boot.specs.declared.rules.TableRule.TheVariants as of_tables
-use Rattle.dm_boot.specs.Tables.{has_only, is_integer, is_text, is_truth, is_array, is_table, has, may_have, text_at, truth_at, or_zero, count, all_items, first_failing, place_of, named, is_place, items_at}
-use Rattle.dm_boot.specs.Text.{is_name, is_server, bytes_of}
+use Rattle.dm_boot.specs.Tables.{has_only, is_integer, is_text, is_truth, is_array, is_table, has_value, may_have, text_at, truth_at, or_zero, count, all_items, first_failing, element_place, named, is_place, items_at}
+use Rattle.dm_boot.specs.Text.{is_boot_name, is_server_name, bytes_of_image}
 use Rattle.dm_boot.specs.Build.{machine_tables, image_tables, process_tables, link_tables, numbers_of, quantum_of, format_number, format_of, slots_in, blocks_in, machines_of, image_blocks, image_of, images_of, machine_number, image_place, start_of, starts_of, code_in, channel_in, base_in, len_in, is_control}
 
 -- the number of a rule
@@ -63,7 +63,7 @@ has_good_image_count d = nat_le (count (image_tables d)) 256
 
 -- the keys of a machine, and their types
 unfoldable pub is_machine : Data → Bool
-is_machine t = has_only (codes "slots" ∷ codes "blocks" ∷ []) t && (has is_integer (codes "slots") t && has is_integer (codes "blocks") t)
+is_machine t = has_only (codes "slots" ∷ codes "blocks" ∷ []) t && (has_value is_integer (codes "slots") t && has_value is_integer (codes "blocks") t)
 
 -- its room is within the limits
 unfoldable pub has_good_room : Data → Bool
@@ -73,15 +73,15 @@ has_good_room t = is_some (slots_in t) && is_some (blocks_in t)
 unfoldable pub is_image : Data → Bool
 is_image t =
     has_only (codes "name" ∷ codes "blocks" ∷ codes "text" ∷ []) t
-    && (has is_text (codes "name") t && (has is_integer (codes "blocks") t && has is_text (codes "text") t))
+    && (has_value is_text (codes "name") t && (has_value is_integer (codes "blocks") t && has_value is_text (codes "text") t))
 
 -- the name of element i is a name, and no earlier one of these has it
 unfoldable pub has_own_name : Items → ℕ → Data → Bool
-has_own_name ts i t = is_name (text_at (codes "name") t) && is_place i (place_of (text_at (codes "name") t) ts)
+has_own_name ts i t = is_boot_name (text_at (codes "name") t) && is_place i (element_place (text_at (codes "name") t) ts)
 
 -- the assembler takes an image's text
 unfoldable pub assembles : Data → Bool
-assembles t = is_some (bytes_of (text_at (codes "text") t))
+assembles t = is_some (bytes_of_image (text_at (codes "text") t))
 
 -- the first of these images, from i on, whose text the assembler refuses
 unfoldable pub first_unassembled : ℕ → Items → Option ℕ
@@ -100,12 +100,12 @@ first_long i (image ∷ images) = if image_fits image then first_long (i + 1) im
 abbrev pub is_link_to : Data → Bool
 is_link_to t =
     has_only (codes "to" ∷ codes "code" ∷ codes "channel" ∷ codes "base" ∷ codes "len" ∷ codes "reply" ∷ codes "read" ∷ codes "write" ∷ []) t
-    && (has is_text (codes "to") t
+    && (has_value is_text (codes "to") t
     && ((may_have is_integer (codes "code") t && (may_have is_integer (codes "channel") t && (may_have is_integer (codes "base") t && may_have is_integer (codes "len") t)))
     && (may_have is_truth (codes "reply") t && (may_have is_truth (codes "read") t && may_have is_truth (codes "write") t))))
 
 abbrev pub is_control_link : Data → Bool
-is_control_link t = has_only (codes "control" ∷ []) t && has is_text (codes "control") t
+is_control_link t = has_only (codes "control" ∷ []) t && has_value is_text (codes "control") t
 
 unfoldable pub is_link : Data → Bool
 is_link t = is_link_to t || is_control_link t
@@ -114,12 +114,12 @@ is_link t = is_link_to t || is_control_link t
 unfoldable pub is_process : Data → Bool
 is_process t =
     has_only (codes "name" ∷ codes "image" ∷ codes "machine" ∷ codes "links" ∷ []) t
-    && (has is_text (codes "name") t && (has is_text (codes "image") t && (has is_integer (codes "machine") t
+    && (has_value is_text (codes "name") t && (has_value is_text (codes "image") t && (has_value is_integer (codes "machine") t
     && (may_have is_array (codes "links") t && all_items is_link (link_tables t)))))
 
 -- its name is its own, and no server's
 unfoldable pub has_process_name : Items → ℕ → Data → Bool
-has_process_name ts i t = has_own_name ts i t && not (is_server (text_at (codes "name") t))
+has_process_name ts i t = has_own_name ts i t && not (is_server_name (text_at (codes "name") t))
 
 -- a machine of the file
 abbrev pub is_below : ℕ → Option ℕ → Bool
@@ -150,8 +150,8 @@ has_link_count d t = nat_le (count (link_tables t)) (slots_of (format_of d))
 -- a link leads to a process or a server, a control link to a process
 unfoldable pub has_target : Data → Data → Bool
 has_target d l =
-    if is_control l then is_some (place_of (text_at (codes "control") l) (process_tables d))
-    else is_server (text_at (codes "to") l) || is_some (place_of (text_at (codes "to") l) (process_tables d))
+    if is_control l then is_some (element_place (text_at (codes "control") l) (process_tables d))
+    else is_server_name (text_at (codes "to") l) || is_some (element_place (text_at (codes "to") l) (process_tables d))
 
 -- the blocks of the image of this process
 abbrev pub blocks_of_named : Option Data → ℕ
@@ -163,8 +163,8 @@ blocks_of_process d None = 0
 blocks_of_process d (Some t) = blocks_of_named (named (text_at (codes "image") t) (image_tables d))
 
 -- the bytes of the memory of the process with this name
-unfoldable pub memory_of : Data → List ℕ → ℕ
-memory_of d name = 256 * blocks_of_process d (named name (process_tables d))
+unfoldable pub memory_size_of : Data → List ℕ → ℕ
+memory_size_of d name = 256 * blocks_of_process d (named name (process_tables d))
 
 -- a link's area within so many bytes
 unfoldable pub has_area : ℕ → Data → Bool
@@ -180,8 +180,8 @@ is_plain l =
 unfoldable pub is_limited : Data → Data → Bool
 is_limited d l =
     is_some (channel_in l)
-    && (if is_control l || is_server (text_at (codes "to") l) then is_plain l
-    else is_some (code_in 4294967295 l) && has_area (memory_of d (text_at (codes "to") l)) l)
+    && (if is_control l || is_server_name (text_at (codes "to") l) then is_plain l
+    else is_some (code_in 4294967295 l) && has_area (memory_size_of d (text_at (codes "to") l)) l)
 
 -- what element i of those that a rule speaks of must be
 unfoldable pub keeps : BootRule → Data → ℕ → Data → Bool

@@ -47,8 +47,8 @@ may_hold test None = true
 may_hold test (Some d) = test d
 
 -- the key has a value of this type
-abbrev pub has : (Data → Bool) → List ℕ → Data → Bool
-has test key d = holds test (get key d)
+abbrev pub has_value : (Data → Bool) → List ℕ → Data → Bool
+has_value test key d = holds test (get key d)
 
 -- the key is missing, or has a value of this type
 abbrev pub may_have : (Data → Bool) → List ℕ → Data → Bool
@@ -148,13 +148,13 @@ abbrev pub is_named : List ℕ → Data → Bool
 is_named name d = bytes_eq (text_at (codes "name") d) name
 
 -- the place of the first element with this name, from i on
-abbrev pub place_from : ℕ → List ℕ → Items → Option ℕ
-place_from i name no_items = None
-place_from i name (item d ds) = if is_named name d then Some i else place_from (i + 1) name ds
+abbrev pub element_place_from : ℕ → List ℕ → Items → Option ℕ
+element_place_from i name no_items = None
+element_place_from i name (item d ds) = if is_named name d then Some i else element_place_from (i + 1) name ds
 
 -- the place of the first element with this name
-unfoldable pub place_of : List ℕ → Items → Option ℕ
-place_of name ds = place_from 0 name ds
+unfoldable pub element_place : List ℕ → Items → Option ℕ
+element_place name ds = element_place_from 0 name ds
 
 -- the first element with this name
 abbrev pub element_at : Option ℕ → Items → Option Data
@@ -162,7 +162,7 @@ element_at None ds = None
 element_at (Some k) ds = get_item k ds
 
 unfoldable pub named : List ℕ → Items → Option Data
-named name ds = element_at (place_of name ds) ds
+named name ds = element_at (element_place name ds) ds
 
 -- a name stands first at this place
 abbrev pub is_place : ℕ → Option ℕ → Bool

@@ -14,8 +14,8 @@ abbrev pub is_name_byte : ℕ → Bool
 is_name_byte b = ((nat_le 97 b && nat_le b 122) || (nat_le 48 b && nat_le b 57)) || (b == 95)
 
 -- a name has 1 to 16 of these
-abbrev pub is_name : List ℕ → Bool
-is_name name = (nat_le 1 (length name) && nat_le (length name) 16) && list_all is_name_byte name
+abbrev pub is_boot_name : List ℕ → Bool
+is_boot_name name = (nat_le 1 (length name) && nat_le (length name) 16) && list_all is_name_byte name
 
 -- the names of the servers
 abbrev pub is_switchboard : List ℕ → Bool
@@ -24,8 +24,8 @@ is_switchboard name = bytes_eq name (codes "switchboard")
 abbrev pub is_manager : List ℕ → Bool
 is_manager name = bytes_eq name (codes "manager")
 
-unfoldable pub is_server : List ℕ → Bool
-is_server name = is_switchboard name || is_manager name
+unfoldable pub is_server_name : List ℕ → Bool
+is_server_name name = is_switchboard name || is_manager name
 
 -- what the assembler makes of a text, if it makes something
 abbrev pub bytes_made : Result (List ℕ) (ℕ × Why) → Option (List ℕ)
@@ -33,5 +33,5 @@ bytes_made (Ok bytes) = Some bytes
 bytes_made (Err e) = None
 
 -- the bytes of an image: what the assembler makes of its text
-unfoldable pub bytes_of : List ℕ → Option (List ℕ)
-bytes_of text = bytes_made (assembled text)
+unfoldable pub bytes_of_image : List ℕ → Option (List ℕ)
+bytes_of_image text = bytes_made (assembled text)

@@ -5,7 +5,7 @@ ghost use Rattle.std.specs.Str.{bytes_eq};
 ghost use Rattle.toml.specs.View.{items_view, view};
 ghost use Rattle.dm_boot.specs.Named.{FindsNames, place_in};
 ghost use Rattle.dm_boot.specs.Build.{image_tables, process_tables};
-ghost use Rattle.dm_boot.specs.Tables.{named, place_of};
+ghost use Rattle.dm_boot.specs.Tables.{named, element_place};
 
 use crate::tables::{items_at, text_at};
 use dm_memory::NoMemory;
@@ -41,7 +41,7 @@ impl<'a> Document<'a> {
 
     /// The place of the first image with this name.
     pub fn image_named(&self, name: &str) -> Option<usize>
-        ensures { result ≡ place_of name.now (image_tables (view self.now.top.now)) }
+        ensures { result ≡ element_place name.now (image_tables (view self.now.top.now)) }
     {
         self.images.get(name).copied()
     }
@@ -70,7 +70,7 @@ impl<'a> Document<'a> {
 
     /// The place of the first process with this name.
     pub fn process_named(&self, name: &str) -> Option<usize>
-        ensures { result ≡ place_of name.now (process_tables (view self.now.top.now)) }
+        ensures { result ≡ element_place name.now (process_tables (view self.now.top.now)) }
     {
         self.processes.get(name).copied()
     }

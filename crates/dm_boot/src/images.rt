@@ -53,7 +53,7 @@ pub fn images_of(alloc: Global, tables: &[Value]) -> Result<Items<BootImage>, Bo
 }
 
 /// An image, as its table says.
-#[tactic(auto, unfolding(crate::specs::Rules::assembles, crate::specs::Text::bytes_of, crate::specs::Build::image_of))]
+#[tactic(auto, unfolding(crate::specs::Rules::assembles, crate::specs::Text::bytes_of_image, crate::specs::Build::image_of))]
 fn image_of(alloc: Global, table: &Value) -> Assembled
     ensures { IsMade (view table.now) result }
 {

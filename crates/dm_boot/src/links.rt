@@ -1,8 +1,8 @@
 //! The links.
 ghost use Rattle.std.specs.Prelude.{◌≡◌, ◌≤◌, ◌||◌, IfOk, false, is_some, slice_get, true};
 ghost use Rattle.toml.specs.View.{view};
-ghost use Rattle.dm_boot.specs.Tables.{count, place_of};
-ghost use Rattle.dm_boot.specs.Text.{is_server};
+ghost use Rattle.dm_boot.specs.Tables.{count, element_place};
+ghost use Rattle.dm_boot.specs.Text.{is_server_name};
 ghost use Rattle.dm_boot.specs.Build.{is_control, kind_with, link_of, link_to, links_of, pid_named, pid_of_start, process_tables};
 ghost use Rattle.dm_boot.specs.Sound.{general_link, has_sound_links, is_sound};
 
@@ -95,7 +95,7 @@ fn plain_link(led: Led) -> ReadLink
 }
 
 /// A link that controls a child.
-#[tactic(auto, unfolding(crate::specs::Build::link_of, crate::specs::Build::control_of, crate::specs::Rules::has_target, crate::specs::Sound::is_sound), using(crate::proofs::Named::named_lemmas))]
+#[tactic(auto, unfolding(crate::specs::Build::link_of, crate::specs::Build::link_of_control, crate::specs::Rules::has_target, crate::specs::Sound::is_sound), using(crate::proofs::Named::named_lemmas))]
 fn control_link(document: &Document<'_>, starts: &[BootProcess], link: &Value) -> ReadLink
     requires few { count (process_tables (view document.now.top.now)) ≤ 4294967294 }
     requires control { is_control (view link.now) ≡ true }
@@ -124,10 +124,10 @@ fn full_link(document: &Document<'_>, starts: &[BootProcess], link: &Value) -> R
 }
 
 /// The process or server with a name.
-#[tactic(auto, unfolding(crate::specs::Build::pid_named, crate::specs::Text::is_server))]
+#[tactic(auto, unfolding(crate::specs::Build::pid_named, crate::specs::Text::is_server_name))]
 fn led_to(document: &Document<'_>, starts: &[BootProcess], name: &str) -> Led
     ensures pid { result.pid ≡ pid_named (view document.now.top.now) starts.now name.now }
-    ensures found { result.found ≡ (is_server name.now || is_some (place_of name.now (process_tables (view document.now.top.now)))) }
+    ensures found { result.found ≡ (is_server_name name.now || is_some (element_place name.now (process_tables (view document.now.top.now)))) }
 {
     if is_switchboard(name) {
         return Led {

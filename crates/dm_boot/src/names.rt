@@ -1,11 +1,11 @@
 //! Names.
 ghost use Rattle.std.specs.Prelude.{◌≡◌};
 ghost use Rattle.std.specs.List.{list_all};
-ghost use Rattle.dm_boot.specs.Text.{is_manager, is_name, is_name_byte, is_server, is_switchboard};
+ghost use Rattle.dm_boot.specs.Text.{is_boot_name, is_manager, is_name_byte, is_server_name, is_switchboard};
 
 /// Whether a text is a name: 1 to 16 of `a` to `z`, `0` to `9` and `_`.
 pub fn is_name(text: &str) -> bool
-    ensures { result ≡ is_name text.now }
+    ensures { result ≡ is_boot_name text.now }
 {
     let len = text.len();
     1 <= len && len <= 16 && are_name_bytes(text.as_bytes())
@@ -38,9 +38,9 @@ pub fn is_manager(name: &str) -> bool
 }
 
 /// Whether a name is a server's.
-#[tactic(auto, unfolding(crate::specs::Text::is_server))]
+#[tactic(auto, unfolding(crate::specs::Text::is_server_name))]
 pub fn is_server(name: &str) -> bool
-    ensures { result ≡ is_server name.now }
+    ensures { result ≡ is_server_name name.now }
 {
     is_switchboard(name) || is_manager(name)
 }

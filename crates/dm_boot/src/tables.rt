@@ -5,7 +5,7 @@ ghost use Rattle.std.specs.Str.{bytes_eq};
 ghost use Rattle.std.specs.BTreeMap.{keys};
 ghost use Rattle.toml.specs.Data.{member, no_members, string, table};
 ghost use Rattle.toml.specs.View.{items_view, table_view, view};
-ghost use Rattle.dm_boot.specs.Tables.{all_known, has, has_only, in_range, is_array, is_integer, is_known, is_text, is_truth, items_at, lone_member, lone_text, may_have, number_at, text_at, truth_at};
+ghost use Rattle.dm_boot.specs.Tables.{all_known, has_only, has_value, in_range, is_array, is_integer, is_known, is_text, is_truth, items_at, lone_member, lone_text, may_have, number_at, text_at, truth_at};
 
 use toml::{Table, Value};
 
@@ -51,7 +51,7 @@ fn names_any(known: &[&str], key: &str) -> bool
 
 /// Whether the key has an integer.
 pub fn has_integer(value: &Value, key: &str) -> bool
-    ensures { result ≡ has is_integer key.now (view value.now) }
+    ensures { result ≡ has_value is_integer key.now (view value.now) }
 {
     match value.get(key) {
         Some(found) => found.is_integer(),
@@ -71,7 +71,7 @@ pub fn may_have_integer(value: &Value, key: &str) -> bool
 
 /// Whether the key has a text.
 pub fn has_text(value: &Value, key: &str) -> bool
-    ensures { result ≡ has is_text key.now (view value.now) }
+    ensures { result ≡ has_value is_text key.now (view value.now) }
 {
     match value.get(key) {
         Some(found) => found.is_str(),

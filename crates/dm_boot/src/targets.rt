@@ -3,7 +3,7 @@ ghost use Rattle.std.specs.Prelude.{◌≡◌, ◌≤◌, IfSome, option_map};
 ghost use Rattle.toml.specs.View.{items_view, view};
 ghost use Rattle.dm_boot.specs.Tables.{all_items};
 ghost use Rattle.dm_boot.specs.Build.{base_in, channel_in, code_in, is_control, len_in};
-ghost use Rattle.dm_boot.specs.Rules.{blocks_of_named, blocks_of_process, has_area, has_target, is_limited, is_plain, memory_of};
+ghost use Rattle.dm_boot.specs.Rules.{blocks_of_named, blocks_of_process, has_area, has_target, is_limited, is_plain, memory_size_of};
 
 use crate::document::Document;
 use crate::limits::image_blocks;
@@ -77,7 +77,7 @@ pub fn len_in(link: &Value, most: u32) -> Option<u32>
 /// looked up for it.
 #[tactic(auto, unfolding(crate::specs::Rules::has_area))]
 fn has_area(document: &Document<'_>, name: &str, link: &Value) -> bool
-    ensures { result ≡ has_area (memory_of (view document.now.top.now) name.now) (view link.now) }
+    ensures { result ≡ has_area (memory_size_of (view document.now.top.now) name.now) (view link.now) }
 {
     match (base_in(link, MOST_MEMORY), len_in(link, MOST_MEMORY)) {
         (Some(base), Some(len)) => base + len == 0 || base + len <= memory_of(document, name),
@@ -123,9 +123,9 @@ fn blocks_of_process(document: &Document<'_>, process: Option<&Value>) -> u32
 }
 
 /// The bytes of the memory of the process with a name.
-#[tactic(auto, unfolding(crate::specs::Rules::memory_of))]
+#[tactic(auto, unfolding(crate::specs::Rules::memory_size_of))]
 pub fn memory_of(document: &Document<'_>, name: &str) -> u32
-    ensures { result ≡ memory_of (view document.now.top.now) name.now }
+    ensures { result ≡ memory_size_of (view document.now.top.now) name.now }
 {
     BLOCK as u32 * blocks_of_process(document, document.process(name))
 }

@@ -1,6 +1,6 @@
 -- Each message that is put has one arrow, and nothing else is an arrow.
 use Rattle.dm_chart.proofs.Names.{◌≡◌, ℕ, zero, suc, ◌-◌, Bool, true, false, List, [], ◌∷◌, ◌++◌, map, Some, None, refl, ap, ◌∙◌, Option, flat_map, not, ◌&&◌, if◌then◌else◌, flat_map-append, append-nil, Pid, MsgId, Line, Letter, Life, Role}
-use Rattle.dm_chart.proofs.Names.{Spot, is_delivery, letter_of_shape, letter_of_role, letters_of, role_of, Shape, Group, columns, deliveries, fate, fate_here, first_bar, group_shapes, life_shapes, line_shapes, lost_unless, moves_to}
+use Rattle.dm_chart.proofs.Names.{Spot, is_delivery, letter_of_shape, letter_of_role, letters_of, role_of, Shape, Group, columns, deliveries, fate, fate_here, first_bar, group_shapes, life_shapes, line_shapes, lost_unless, moves_shown}
 use Rattle.dm_chart.proofs.Names.{own_shapes, sending_shapes, shapes, shapes_from, first_spot, next_spot}
 use Rattle.dm_chart.specs.declared.role.Life.TheVariants as life
 use Rattle.dm_chart.specs.declared.role.Role.TheVariants as role
@@ -55,7 +55,7 @@ none-lost : (b : Bool) (x y row : ℕ) → arrows (lost_unless b x y row) ≡ []
 none-lost true x y row = refl
 none-lost false x y row = refl
 
-none-moves : (p : Pid) (s : Spot) (o : Option Spot) → arrows (moves_to p s o) ≡ []
+none-moves : (p : Pid) (s : Spot) (o : Option Spot) → arrows (moves_shown p s o) ≡ []
 none-moves p s None = refl
 none-moves p s (Some t) = refl
 

@@ -12,15 +12,15 @@ pub use Rattle.dm_text.proofs.Names.{Label, Line, MsgId, Option, decimal, ne_eqb
 pub use Rattle.dm_chart.specs.Ahead.{is_delivery, is_wanted}
 unfoldable pub use Rattle.dm_chart.specs.Ahead.{first_ahead}
 pub use Rattle.dm_chart.specs.Behind.{kill_in}
-pub use Rattle.dm_chart.specs.Drawn.{all_drawn, draw_beside, draw_note, drawn}
-pub use Rattle.dm_chart.specs.Kept.{puts}
+pub use Rattle.dm_chart.specs.Drawn.{all_drawn, draw_beside, draw_note, drawn_shape}
+pub use Rattle.dm_chart.specs.Kept.{is_put_line}
 pub use Rattle.dm_chart.specs.Laws.{letter_of_role, letter_of_shape, letters_of}
 pub use Rattle.dm_chart.specs.Notes.{Note, call_note, label_note, no_note, note, note_of}
 pub use Rattle.dm_chart.specs.Picture.{made_in}
 pub use Rattle.dm_chart.specs.Roles.{role_of}
-pub use Rattle.dm_chart.specs.Shapes.{Column, Group, Shape, fate, fate_here, first_bar, group_shapes, life_shapes, line_shapes, lost_unless, moves_to, own_shapes, sending_shapes, shapes}
+pub use Rattle.dm_chart.specs.Shapes.{Column, Group, Shape, fate, fate_here, first_bar, group_shapes, life_shapes, line_shapes, lost_unless, moves_shown, own_shapes, sending_shapes, shapes}
 unfoldable pub use Rattle.dm_chart.specs.Shapes.{columns, deliveries, shapes_from}
-pub use Rattle.dm_chart.specs.Spots.{behind, first_spot, next_spot}
+pub use Rattle.dm_chart.specs.Spots.{first_spot, next_spot, spot_behind}
 pub use Rattle.dm_chart.specs.Written.{seen}
 pub use Rattle.dm_chart.specs.Xml.{attribute}
 pub use Rattle.dm_chart.specs.declared.frame.Frame.{Frame}

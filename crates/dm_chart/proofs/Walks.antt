@@ -1,7 +1,7 @@
 -- Walks over lines, as loops go through them.
 use Rattle.dm_chart.proofs.Names.{◌≡◌, ℕ, zero, suc, ◌+◌, ◌<◌, ◌≤◌, Bool, true, false, List, [], ◌∷◌, ◌++◌, length, get_or, take, drop, map, Some, None, refl, ap, sym, ◌∙◌, add-one, append_assoc, flat_map, flat_map-append, append-nil}
-use Rattle.dm_chart.proofs.Names.{drop_more, flat_map_more, take_more, drop_of_length-le, Pid, Line, Frame, Role, Spot, first_ahead, is_delivery, all_drawn, drawn, role_of, Shape, Column, columns, deliveries, fate_here, first_bar}
-use Rattle.dm_chart.proofs.Names.{line_shapes, shapes_from, next_spot, behind}
+use Rattle.dm_chart.proofs.Names.{drop_more, flat_map_more, take_more, drop_of_length-le, Pid, Line, Frame, Role, Spot, first_ahead, is_delivery, all_drawn, drawn_shape, role_of, Shape, Column, columns, deliveries, fate_here, first_bar}
+use Rattle.dm_chart.proofs.Names.{line_shapes, shapes_from, next_spot, spot_behind}
 use Rattle.dm_chart.proofs.Pieces.{read_at}
 
 -- the first line ahead that passes a test
@@ -20,22 +20,22 @@ unfolding first_ahead
 ahead-here test s n ls i d within next passes = rw (drop_more ls i d within, passes, next) refl
 
 -- behind all lines
-pub behind-end : (s : Spot) (ls : List Line) (i : ℕ) → length ls ≤ i → behind s (drop i ls) ≡ s
-behind-end s ls i past = ap (behind s) (drop_of_length-le ls past)
+pub spot_behind-end : (s : Spot) (ls : List Line) (i : ℕ) → length ls ≤ i → spot_behind s (drop i ls) ≡ s
+spot_behind-end s ls i past = ap (spot_behind s) (drop_of_length-le ls past)
 
-pub behind-more : (s : Spot) (ls : List Line) (i : ℕ) (l : Line) → i < length ls → l ≡ get_or ls i l → behind s (drop i ls) ≡ behind (next_spot s l) (drop (i + 1) ls)
-behind-more s ls i l within read = ap (behind s) (read_at ls i l within read)
+pub spot_behind-more : (s : Spot) (ls : List Line) (i : ℕ) (l : Line) → i < length ls → l ≡ get_or ls i l → spot_behind s (drop i ls) ≡ spot_behind (next_spot s l) (drop (i + 1) ls)
+spot_behind-more s ls i l within read = ap (spot_behind s) (read_at ls i l within read)
 
-pub ruleset behind_lemmas = (behind-end, behind-more)
+pub ruleset behind_lemmas = (spot_behind-end, spot_behind-more)
 
 -- what is drawn of two lists of shapes
 pub drawn-both : (f : Frame) (done : List ℕ) (ss ts : List Shape) → done ++ all_drawn f (ss ++ ts) ≡ (done ++ all_drawn f ss) ++ all_drawn f ts
-drawn-both f done ss ts = ap (λ t. done ++ t) (flat_map-append (drawn f) ss ts) ∙ sym (append_assoc done (all_drawn f ss) (all_drawn f ts))
+drawn-both f done ss ts = ap (λ t. done ++ t) (flat_map-append (drawn_shape f) ss ts) ∙ sym (append_assoc done (all_drawn f ss) (all_drawn f ts))
 
-pub drawn-one : (f : Frame) (done : List ℕ) (x : Shape) → done ++ all_drawn f (x ∷ []) ≡ done ++ drawn f x
-drawn-one f done x = ap (λ t. done ++ t) (append-nil (drawn f x))
+pub drawn_shape-one : (f : Frame) (done : List ℕ) (x : Shape) → done ++ all_drawn f (x ∷ []) ≡ done ++ drawn_shape f x
+drawn_shape-one f done x = ap (λ t. done ++ t) (append-nil (drawn_shape f x))
 
-pub ruleset drawn_lemmas = (drawn-both, drawn-one)
+pub ruleset drawn_lemmas = (drawn-both, drawn_shape-one)
 
 -- all lines
 pub walk-end : (f : Frame) (done : List ℕ) (last : ℕ) (all before : List Line) (s : Spot) (ls : List Line) (i : ℕ) → length ls ≤ i → done ++ all_drawn f (shapes_from last all before s (drop i ls)) ≡ done
@@ -74,9 +74,9 @@ start-more f done new g ps i d within said =
     ∙ ap (λ t. t ++ all_drawn f (map g (drop (i + 1) ps))) (sym said)
 
 -- one machine more
-pub column-more : (f : Frame) (done new : List ℕ) (m : ℕ) → new ≡ (done ++ all_drawn f (columns m)) ++ drawn f (Column m) → new ≡ done ++ all_drawn f (columns (m + 1))
+pub column-more : (f : Frame) (done new : List ℕ) (m : ℕ) → new ≡ (done ++ all_drawn f (columns m)) ++ drawn_shape f (Column m) → new ≡ done ++ all_drawn f (columns (m + 1))
 unfolding columns
-column-more f done new m e = e ∙ flat_map_more (drawn f) done (columns m) (Column m) ∙ ap (λ n. done ++ all_drawn f (columns n)) (sym (add-one m))
+column-more f done new m e = e ∙ flat_map_more (drawn_shape f) done (columns m) (Column m) ∙ ap (λ n. done ++ all_drawn f (columns n)) (sym (add-one m))
 
 pub column-none : (f : Frame) (done : List ℕ) → done ++ all_drawn f (columns 0) ≡ done
 unfolding columns

@@ -17,7 +17,7 @@ use Rattle.dm_chart.specs.declared.scan.Wanted.TheVariants as wanted
 use Rattle.dm_chart.specs.declared.spot.Spot.{Spot}
 use Rattle.dm_chart.specs.Roles.{role_of}
 use Rattle.dm_chart.specs.Spots.{next_spot}
-use Rattle.dm_chart.specs.Behind.{is_among}
+use Rattle.dm_chart.specs.Behind.{message_is_among}
 
 -- message number n of a pair enters the inbox
 abbrev pub is_taken : ℕ → ℕ → ℕ → Role → Bool
@@ -40,7 +40,7 @@ ends_life p kills (life.Made q) = false
 ends_life p kills (life.From q) = false
 ends_life p kills (life.Ends q) = pid_eq q p
 ends_life p kills (life.Leaves q) = pid_eq q p
-ends_life p kills (life.Served i) = is_among i kills
+ends_life p kills (life.Served i) = message_is_among i kills
 
 abbrev pub is_end : Pid → List MsgId → Role → Bool
 is_end p kills (role.Note l) = ends_life p kills l

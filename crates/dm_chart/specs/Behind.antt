@@ -12,8 +12,8 @@ use Rattle.dm_chart.specs.declared.role.Role.{Role}
 use Rattle.dm_chart.specs.declared.role.Role.TheVariants as role
 use Rattle.dm_chart.specs.Roles.{role_of}
 
-abbrev pub is_among : MsgId → List MsgId → Bool
-is_among i ids = list_any (λ j. id_eq j i) ids
+abbrev pub message_is_among : MsgId → List MsgId → Bool
+message_is_among i ids = list_any (λ j. id_eq j i) ids
 
 -- a put of this message
 abbrev pub puts_it : MsgId → Role → Bool

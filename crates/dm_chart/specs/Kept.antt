@@ -5,7 +5,7 @@ use Rattle.dm_chart.specs.declared.kept.Kept.{Kept}
 use Rattle.dm_chart.specs.declared.role.Role.{Role}
 use Rattle.dm_chart.specs.declared.role.Role.TheVariants as role
 use Rattle.dm_chart.specs.Roles.{role_of}
-use Rattle.dm_chart.specs.Spots.{first_spot, behind, most_rows}
+use Rattle.dm_chart.specs.Spots.{first_spot, spot_behind, most_rows}
 
 -- counts stay within 64 bits
 abbrev pub plus : ℕ → ℕ → ℕ
@@ -19,15 +19,15 @@ abbrev pub is_put : Role → Bool
 is_put (role.Put x) = true
 is_put _ = false
 
-unfoldable pub puts : Line → Bool
-puts l = is_put (role_of l)
+unfoldable pub is_put_line : Line → Bool
+is_put_line l = is_put (role_of l)
 
 -- how many messages a group puts, and how many rows it has
 abbrev pub messages_in : List Line → ℕ
-messages_in g = count_by puts g
+messages_in g = count_by is_put_line g
 
 abbrev pub rows_in : List Line → ℕ
-rows_in g = (behind first_spot g).row
+rows_in g = (spot_behind first_spot g).row
 
 -- a group of which nothing is seen
 abbrev pub passed : Kept → ℕ → Kept
@@ -41,14 +41,14 @@ left k messages = record (passed k messages) { full = true; left_groups = plus k
 abbrev pub shown : Kept → ℕ → ℕ → List Line → Kept
 shown k messages rows g = record (passed k messages) { numbers = k.numbers ++ plus k.groups 1 ∷ []; lines = k.lines ++ g; rows = k.rows + rows }
 
-abbrev pub fits : Kept → ℕ → Bool
-fits k rows = not k.full && nat_lt (k.rows + rows) most_rows
+abbrev pub rows_fit : Kept → ℕ → Bool
+rows_fit k rows = not k.full && nat_lt (k.rows + rows) most_rows
 
 -- one more group
 unfoldable pub keep : Kept → List Line → Kept
 keep k g =
     if rows_in g == 0 then passed k (messages_in g)
-    else if fits k (rows_in g) then shown k (messages_in g) (rows_in g) g
+    else if rows_fit k (rows_in g) then shown k (messages_in g) (rows_in g) g
     else left k (messages_in g)
 
 -- all groups

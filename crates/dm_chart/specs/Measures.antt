@@ -63,5 +63,5 @@ abbrev pub lane_of : Frame → Pid → Option ℕ
 lane_of f p = within_lanes (position (λ q. pid_eq q p) f.processes)
 
 -- the number of a group that is shown
-abbrev pub number_of : Frame → ℕ → ℕ
-number_of f group = slice_index f.numbers group
+abbrev pub number_shown : Frame → ℕ → ℕ
+number_shown f group = slice_index f.numbers group

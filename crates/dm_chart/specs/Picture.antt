@@ -18,7 +18,7 @@ use Rattle.dm_chart.specs.Measures.{breadth, height, point}
 use Rattle.dm_chart.specs.Drawn.{all_drawn, written}
 use Rattle.dm_chart.specs.Legend.{style_sheet, marks, meanings}
 use Rattle.dm_chart.specs.Kept.{kept_of}
-use Rattle.dm_chart.specs.Xml.{alone, opening, closing}
+use Rattle.dm_chart.specs.Xml.{alone, opening_tag, closing}
 
 -- a process that is made
 abbrev pub made_with : Life → List Pid
@@ -57,13 +57,13 @@ abbrev pub left_out : Frame → Kept → List ℕ
 left_out f k = left_words (point 10 (height f.rows + 30)) k.left_groups k.left_messages (length f.processes - 12)
 
 -- what stands before the shapes
-unfoldable pub head : Frame → Kept → List ℕ
-head f k = concat style_sheet ++ concat marks ++ sheet f ++ title f.machines k ++ concat meanings
+unfoldable pub picture_head : Frame → Kept → List ℕ
+picture_head f k = concat style_sheet ++ concat marks ++ sheet f ++ title f.machines k ++ concat meanings
 
 abbrev pub picture_in : Frame → List Pid → Kept → List ℕ
 picture_in f ps k =
-    opening (codes "svg") (extent f)
-    ++ head f k
+    opening_tag (codes "svg") (extent f)
+    ++ picture_head f k
     ++ all_drawn f (shapes f.machines f.rows ps k.lines)
     ++ left_out f k
     ++ closing (codes "svg")
@@ -72,9 +72,9 @@ picture_in f ps k =
 unfoldable pub picture_of : ℕ → List Pid → Kept → List ℕ
 picture_of machines ps k = picture_in (frame_of machines ps k) ps k
 
-abbrev pub starts_of : Boot → List Pid
-starts_of b = map (λ p. p.pid) b.processes
+abbrev pub boot_pids : Boot → List Pid
+boot_pids b = map (λ p. p.pid) b.processes
 
 -- the picture of a run: of its boot file, and the lines of its groups
 abbrev pub chart_of : Boot → List (List Line) → List ℕ
-chart_of b gs = picture_of (length b.machines) (starts_of b) (kept_of gs)
+chart_of b gs = picture_of (length b.machines) (boot_pids b) (kept_of gs)

@@ -40,9 +40,9 @@ pub data Shape : Type 0 where
   Beside : ℕ → ℕ → Line → Shape
 
 -- the row of a place, where there is one
-abbrev pub row_of : Option Spot → Option ℕ
-row_of None = None
-row_of (Some s) = Some s.row
+abbrev pub spot_row : Option Spot → Option ℕ
+spot_row None = None
+spot_row (Some s) = Some s.row
 
 abbrev pub row_or : ℕ → Option Spot → ℕ
 row_or last None = last
@@ -50,23 +50,23 @@ row_or last (Some s) = s.row
 
 -- a message to its own machine is in the inbox at once; another one where its number on the stream is taken
 abbrev pub comes_at : ℕ → ℕ → List Line → Spot → List Line → Option ℕ
-comes_at a b before s after = if a == b then Some s.row else row_of (first_ahead (is_taken a b (number_among a b before)) s after)
+comes_at a b before s after = if a == b then Some s.row else spot_row (first_ahead (is_taken a b (number_among a b before)) s after)
 
 -- how long a process's life on a machine lasts, from a place on
 abbrev pub bar : ℕ → List Line → Pid → ℕ → Spot → List Line → Shape
 bar last all p m s after = Bar p m s.row (row_or last (first_ahead (is_end p (kills_of p all)) s after))
 
 -- where it goes on, if it does
-abbrev pub moves_to : Pid → Spot → Option Spot → List Shape
-moves_to p s None = []
-moves_to p s (Some t) = Moves p s.machine s.row t.machine t.row ∷ []
+abbrev pub moves_shown : Pid → Spot → Option Spot → List Shape
+moves_shown p s None = []
+moves_shown p s (Some t) = Moves p s.machine s.row t.machine t.row ∷ []
 
 abbrev pub life_shapes : ℕ → List Line → Life → Spot → List Line → List Shape
 life_shapes last all life.Same s after = []
 life_shapes last all (life.Made p) s after = bar last all p s.machine s after ∷ []
 life_shapes last all (life.From p) s after = bar last all p s.machine s after ∷ []
 life_shapes last all (life.Ends p) s after = []
-life_shapes last all (life.Leaves p) s after = moves_to p s (first_ahead (is_restart p) s after)
+life_shapes last all (life.Leaves p) s after = moves_shown p s (first_ahead (is_restart p) s after)
 life_shapes last all (life.Served i) s after = []
 
 -- what becomes of a packet where it is delivered; with its own message it is the message's arrow

@@ -13,15 +13,15 @@ use Rattle.dm_chart.specs.Roles.{role_of}
 abbrev pub most_rows : ℕ
 most_rows = 1200
 
-abbrev pub more : ℕ → ℕ
-more n = if nat_lt n most_rows then n + 1 else most_rows
+abbrev pub one_row_more : ℕ → ℕ
+one_row_more n = if nat_lt n most_rows then n + 1 else most_rows
 
 -- the machine that acts on a directive; a request to move is the process manager's, on machine 0
-abbrev pub machine_of : Step → ℕ
-machine_of (step.Turn m) = m
-machine_of (step.Tick m) = m
-machine_of (step.Deliver a b k) = b
-machine_of (step.Migrate p m) = 0
+abbrev pub acting_machine : Step → ℕ
+acting_machine (step.Turn m) = m
+acting_machine (step.Tick m) = m
+acting_machine (step.Deliver a b k) = b
+acting_machine (step.Migrate p m) = 0
 
 -- before the first line
 abbrev pub first_spot : Spot
@@ -29,7 +29,7 @@ first_spot = record { row = 0; groups = 0; step = step.Turn 0; machine = 0; begu
 
 -- a line with a row, and whether it puts a message
 abbrev pub with_row : Bool → Spot → Spot
-with_row own s = record { row = more s.row; groups = s.groups; step = s.step; machine = s.machine; begun = true; own = own }
+with_row own s = record { row = one_row_more s.row; groups = s.groups; step = s.step; machine = s.machine; begun = true; own = own }
 
 -- a line without a row
 abbrev pub without_row : Spot → Spot
@@ -37,7 +37,7 @@ without_row s = record { row = s.row; groups = s.groups; step = s.step; machine 
 
 -- a packet that goes out with its message has no row of its own
 abbrev pub spot_after : Spot → Role → Spot
-spot_after s (role.Head e) = record { row = s.row; groups = more s.groups; step = e; machine = machine_of e; begun = false; own = false }
+spot_after s (role.Head e) = record { row = s.row; groups = one_row_more s.groups; step = e; machine = acting_machine e; begun = false; own = false }
 spot_after s (role.Put letter) = with_row true s
 spot_after s (role.Packet a b k n) = if s.begun then without_row s else with_row false s
 spot_after s (role.Taken a b n) = with_row false s
@@ -51,6 +51,6 @@ unfoldable pub next_spot : Spot → Line → Spot
 next_spot s l = spot_after s (role_of l)
 
 -- behind some lines
-abbrev pub behind : Spot → List Line → Spot
-behind s [] = s
-behind s (l ∷ ls) = behind (next_spot s l) ls
+abbrev pub spot_behind : Spot → List Line → Spot
+spot_behind s [] = s
+spot_behind s (l ∷ ls) = spot_behind (next_spot s l) ls

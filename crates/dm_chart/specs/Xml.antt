@@ -15,12 +15,12 @@ unfoldable pub alone : List ℕ → List (List ℕ × List ℕ) → List ℕ
 alone name as_ = codes "<" ++ name ++ attributes as_ ++ codes "/>\n"
 
 -- what opens an element, and what closes it
-unfoldable pub opening : List ℕ → List (List ℕ × List ℕ) → List ℕ
-opening name as_ = codes "<" ++ name ++ attributes as_ ++ codes ">"
+unfoldable pub opening_tag : List ℕ → List (List ℕ × List ℕ) → List ℕ
+opening_tag name as_ = codes "<" ++ name ++ attributes as_ ++ codes ">"
 
 abbrev pub closing : List ℕ → List ℕ
 closing name = codes "</" ++ name ++ codes ">\n"
 
 -- an element round its content
-unfoldable pub around : List ℕ → List (List ℕ × List ℕ) → List ℕ → List ℕ
-around name as_ content = opening name as_ ++ content ++ closing name
+unfoldable pub element_around : List ℕ → List (List ℕ × List ℕ) → List ℕ → List ℕ
+element_around name as_ content = opening_tag name as_ ++ content ++ closing name

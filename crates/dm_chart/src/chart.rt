@@ -2,11 +2,11 @@
 ghost use Rattle.std.specs.Prelude.{◌≡◌, ◌-◌, [], ◌∷◌, ◌++◌, IfOk, OnOk, codes, length, map, option_to_list};
 ghost use Rattle.std.specs.List.{concat, flat_map};
 ghost use Rattle.dm_chart.specs.Drawn.{all_drawn};
-ghost use Rattle.dm_chart.specs.Picture.{extent, frame_of, head, left_out, left_words, made_in, made_with, picture_in, picture_of, processes_in, sheet, starts_of, title};
+ghost use Rattle.dm_chart.specs.Picture.{boot_pids, extent, frame_of, left_out, left_words, made_in, made_with, picture_head, picture_in, picture_of, processes_in, sheet, title};
 ghost use Rattle.dm_chart.specs.Roles.{role_of};
 ghost use Rattle.dm_chart.specs.Shapes.{columns, first_bar, shapes};
 ghost use Rattle.dm_chart.specs.Spots.{first_spot};
-ghost use Rattle.dm_chart.specs.Xml.{opening};
+ghost use Rattle.dm_chart.specs.Xml.{opening_tag};
 
 use crate::draw::{put_column, put_written};
 use crate::frame::{Frame, MOST_LANES, Point, breadth, height};
@@ -27,7 +27,7 @@ use std::alloc::Global;
 /// The names of the processes that are there from the start.
 #[tactic(auto, using(crate::proofs::Pieces::pieces_lemmas))]
 pub fn starts_of(alloc: Global, boot: &Boot) -> Result<Items<Pid>, NoMemory>
-    ensures { IfOk result (λ ps. ps ≡ starts_of boot.now) }
+    ensures { IfOk result (λ ps. ps ≡ boot_pids boot.now) }
 {
     let mut starts = Items::new(alloc);
     for process in boot.processes.as_slice() {
@@ -157,9 +157,9 @@ fn put_picture(
 }
 
 /// Writes what stands before the shapes.
-#[tactic(auto, unfolding(crate::specs::Picture::head))]
+#[tactic(auto, unfolding(crate::specs::Picture::picture_head))]
 fn put_head(into: &mut Vec<u8>, frame: &Frame, kept: &Kept) -> Result<(), NoMemory>
-    ensures { OnOk result (into.new.items ≡ into.old.items ++ head frame.now kept.now) }
+    ensures { OnOk result (into.new.items ≡ into.old.items ++ picture_head frame.now kept.now) }
 {
     put_style_sheet(into)?;
     put_marks(into)?;
@@ -169,9 +169,9 @@ fn put_head(into: &mut Vec<u8>, frame: &Frame, kept: &Kept) -> Result<(), NoMemo
 }
 
 /// Opens the picture.
-#[tactic(auto, unfolding(crate::specs::Xml::opening))]
+#[tactic(auto, unfolding(crate::specs::Xml::opening_tag))]
 fn put_extent(into: &mut Vec<u8>, frame: &Frame) -> Result<(), NoMemory>
-    ensures { OnOk result (into.new.items ≡ into.old.items ++ opening (codes "svg") (extent frame.now)) }
+    ensures { OnOk result (into.new.items ≡ into.old.items ++ opening_tag (codes "svg") (extent frame.now)) }
 {
     put_opening(
         into,

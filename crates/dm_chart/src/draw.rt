@@ -2,7 +2,7 @@
 ghost use Rattle.std.specs.Prelude.{◌≡◌, ◌++◌, OnOk, codes, map};
 ghost use Rattle.dm_text.specs.Written.{word_text};
 ghost use Rattle.dm_chart.specs.Measures.{on_axis};
-ghost use Rattle.dm_chart.specs.Drawn.{draw_arrow, draw_bar, draw_beside, draw_column, draw_group, draw_lost, draw_moves, draw_packet, draw_way, directive_words, mark, stroke, tinted, written};
+ghost use Rattle.dm_chart.specs.Drawn.{draw_arrow, draw_bar, draw_beside, draw_column, draw_group, draw_lost, draw_moves, draw_packet, draw_way, directive_words, drawn_mark, stroke, tinted, written};
 
 use crate::frame::{
     Frame, Point, axis, beside, height, lane_at, number_of, on_axis, on_lane, towards,
@@ -60,9 +60,9 @@ fn put_tinted(
 }
 
 /// Draws a mark that the head of the picture defines.
-#[tactic(auto, unfolding(crate::specs::Drawn::mark))]
+#[tactic(auto, unfolding(crate::specs::Drawn::drawn_mark))]
 fn put_mark(into: &mut Vec<u8>, name: &'static str, p: Point) -> Result<(), NoMemory>
-    ensures { OnOk result (into.new.items ≡ into.old.items ++ mark name.now p) }
+    ensures { OnOk result (into.new.items ≡ into.old.items ++ drawn_mark name.now p) }
 {
     put_alone(
         into,
@@ -325,7 +325,7 @@ pub fn put_marked_packet(
     row: u32,
     last: u32,
 ) -> Result<(), NoMemory>
-    ensures { OnOk result (into.new.items ≡ into.old.items ++ (draw_packet frame.now from to row last ++ mark name.now (on_axis frame.now to last))) }
+    ensures { OnOk result (into.new.items ≡ into.old.items ++ (draw_packet frame.now from to row last ++ drawn_mark name.now (on_axis frame.now to last))) }
 {
     put_packet(into, frame, from, to, row, last)?;
     put_mark(into, name, on_axis(frame, to, last))

@@ -1,7 +1,7 @@
 //! Where things stand in a picture, in units of the picture.
 ghost use Rattle.std.specs.Prelude.{◌≡◌, ◌≤◌, IfSome, position};
 ghost use Rattle.dm_link.specs.Names.{pid_eq};
-ghost use Rattle.dm_chart.specs.Measures.{at_least_legend, axis, beside, breadth, column, few, height, lane_at, lane_of, number_of, on_axis, on_lane, towards};
+ghost use Rattle.dm_chart.specs.Measures.{at_least_legend, axis, beside, breadth, column, few, height, lane_at, lane_of, number_shown, on_axis, on_lane, towards};
 
 use crate::scan::same_pid;
 use crate::spot::MOST_ROWS;
@@ -162,7 +162,7 @@ fn place_of(processes: &[Pid], pid: Pid) -> Option<usize>
 
 /// The number of a group that is shown, the first at 1.
 pub fn number_of(frame: &Frame, group: u32) -> u64
-    ensures { result ≡ number_of frame.now group }
+    ensures { result ≡ number_shown frame.now group }
 {
     let numbers = frame.numbers.as_slice();
     let place = group as usize;

@@ -1,6 +1,6 @@
 //! Which groups a picture shows.
 ghost use Rattle.std.specs.Prelude.{◌≡◌, ◌≤◌, ◌++◌, OnOk};
-ghost use Rattle.dm_chart.specs.Kept.{fits, keep, messages_in, none_kept, plus, puts, rows_in};
+ghost use Rattle.dm_chart.specs.Kept.{is_put_line, keep, messages_in, none_kept, plus, rows_fit, rows_in};
 
 use crate::role::{Role, role_of};
 use crate::spot::{MOST_ROWS, first_spot, next_spot};
@@ -74,7 +74,7 @@ pub fn keep(kept: &mut Kept, group: Vec<Line>) -> Result<(), NoMemory>
 fn fits(kept: &Kept, rows: u32) -> bool
     requires kept { kept.now.rows ≤ MOST_ROWS }
     requires rows { rows ≤ MOST_ROWS }
-    ensures { result ≡ fits kept.now rows }
+    ensures { result ≡ rows_fit kept.now rows }
 {
     !kept.full && kept.rows + rows < MOST_ROWS
 }
@@ -112,9 +112,9 @@ fn messages_in(group: &[Line]) -> usize
     count
 }
 
-#[tactic(auto, unfolding(crate::specs::Kept::puts))]
+#[tactic(auto, unfolding(crate::specs::Kept::is_put_line))]
 fn puts(line: &Line) -> bool
-    ensures { result ≡ puts line.now }
+    ensures { result ≡ is_put_line line.now }
 {
     matches!(role_of(line), Role::Put(_))
 }

@@ -2,7 +2,7 @@
 ghost use Rattle.std.specs.Prelude.{◌≡◌, [], ◌∷◌, ◌++◌, OnOk, false};
 ghost use Rattle.dm_chart.specs.Ahead.{first_ahead, is_restart};
 ghost use Rattle.dm_chart.specs.Drawn.{all_drawn};
-ghost use Rattle.dm_chart.specs.Shapes.{bar, comes_at, deliveries, fate_here, group_shapes, letter_shapes, life_shapes, line_shapes, moves_to, own_shapes, sending_shapes, shapes_from};
+ghost use Rattle.dm_chart.specs.Shapes.{bar, comes_at, deliveries, fate_here, group_shapes, letter_shapes, life_shapes, line_shapes, moves_shown, own_shapes, sending_shapes, shapes_from};
 ghost use Rattle.dm_chart.specs.Spots.{first_spot};
 
 use crate::draw::{
@@ -311,7 +311,7 @@ fn put_moving(
     spot: Spot,
     after: &[Line],
 ) -> Result<(), NoMemory>
-    ensures { OnOk result (into.new.items ≡ into.old.items ++ all_drawn frame.now (moves_to pid spot (first_ahead (is_restart pid) spot after.now))) }
+    ensures { OnOk result (into.new.items ≡ into.old.items ++ all_drawn frame.now (moves_shown pid spot (first_ahead (is_restart pid) spot after.now))) }
 {
     match first_ahead(Wanted::Restart(pid), spot, after) {
         Some(found) => {

@@ -4,7 +4,7 @@ ghost use Rattle.std.specs.List.{count_by, flat_map, list_any};
 ghost use Rattle.dm_link.specs.Names.{pid_eq};
 ghost use Rattle.dm_message.specs.Ids.{id_eq};
 ghost use Rattle.dm_chart.specs.Ahead.{first_ahead, is_delivery, is_end, is_restart, is_taken, is_wanted};
-ghost use Rattle.dm_chart.specs.Behind.{is_among, kill_in, kill_with, kills_of, number_among, puts_between, puts_id, was_put};
+ghost use Rattle.dm_chart.specs.Behind.{kill_in, kill_with, kills_of, message_is_among, number_among, puts_between, puts_id, was_put};
 
 use crate::role::{Letter, Life, Role, role_of};
 use crate::spot::{Spot, next_spot};
@@ -115,7 +115,7 @@ fn same_id(i: MsgId, j: MsgId) -> bool
 }
 
 fn is_among(id: MsgId, ids: &[MsgId]) -> bool
-    ensures { result ≡ is_among id ids.now }
+    ensures { result ≡ message_is_among id ids.now }
 {
     ids.iter().any(|i| same_id(*i, id))
 }

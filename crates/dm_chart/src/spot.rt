@@ -1,6 +1,6 @@
 //! How far a picture has come with the lines.
 ghost use Rattle.std.specs.Prelude.{◌≡◌, ◌≤◌};
-ghost use Rattle.dm_chart.specs.Spots.{first_spot, machine_of, more, next_spot, spot_after, with_row, without_row};
+ghost use Rattle.dm_chart.specs.Spots.{acting_machine, first_spot, next_spot, one_row_more, spot_after, with_row, without_row};
 
 use crate::role::{Role, role_of};
 use dm_line::line::Line;
@@ -109,7 +109,7 @@ fn without_row(spot: Spot) -> Spot
 
 /// One more of what a picture has at most so many of.
 fn more(n: u32) -> u32
-    ensures more { result ≡ more n }
+    ensures more { result ≡ one_row_more n }
     ensures most { result ≤ MOST_ROWS }
 {
     if n < MOST_ROWS { n + 1 } else { MOST_ROWS }
@@ -117,7 +117,7 @@ fn more(n: u32) -> u32
 
 /// The machine that acts on a directive; a request to move is the process manager's, on machine 0.
 fn machine_of(step: Step) -> u8
-    ensures { result ≡ machine_of step }
+    ensures { result ≡ acting_machine step }
 {
     match step {
         Step::Turn(m) => m,

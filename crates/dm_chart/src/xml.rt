@@ -2,7 +2,7 @@
 ghost use Rattle.std.specs.Prelude.{◌≡◌, ◌++◌, OnOk, codes, map};
 ghost use Rattle.std.specs.List.{concat};
 ghost use Rattle.dm_text.specs.Written.{word_text};
-ghost use Rattle.dm_chart.specs.Xml.{alone, around, attribute, attributes, closing, opening};
+ghost use Rattle.dm_chart.specs.Xml.{alone, attribute, attributes, closing, element_around, opening_tag};
 ghost use Rattle.dm_chart.specs.Written.{seen};
 
 use dm_memory::NoMemory;
@@ -80,14 +80,14 @@ pub fn put_alone(
 }
 
 /// Writes an element round words.
-#[tactic(auto, unfolding(crate::specs::Xml::around), using(crate::proofs::Pieces::pieces_lemmas))]
+#[tactic(auto, unfolding(crate::specs::Xml::element_around), using(crate::proofs::Pieces::pieces_lemmas))]
 pub fn put_around(
     into: &mut Vec<u8>,
     name: &'static str,
     attributes: &[Attribute],
     words: &[Word],
 ) -> Result<(), NoMemory>
-    ensures { OnOk result (into.new.items ≡ into.old.items ++ around name.now (map seen attributes.now) (concat (map word_text words.now))) }
+    ensures { OnOk result (into.new.items ≡ into.old.items ++ element_around name.now (map seen attributes.now) (concat (map word_text words.now))) }
 {
     put_opening(into, name, attributes)?;
     put_words(into, words)?;
@@ -95,13 +95,13 @@ pub fn put_around(
 }
 
 /// Writes what opens an element.
-#[tactic(auto, unfolding(crate::specs::Xml::opening))]
+#[tactic(auto, unfolding(crate::specs::Xml::opening_tag))]
 pub fn put_opening(
     into: &mut Vec<u8>,
     name: &'static str,
     attributes: &[Attribute],
 ) -> Result<(), NoMemory>
-    ensures { OnOk result (into.new.items ≡ into.old.items ++ opening name.now (map seen attributes.now)) }
+    ensures { OnOk result (into.new.items ≡ into.old.items ++ opening_tag name.now (map seen attributes.now)) }
 {
     put_text(into, "<")?;
     put_text(into, name)?;

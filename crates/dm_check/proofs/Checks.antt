@@ -123,7 +123,7 @@ none_worn b w e number from to x is held worn =
     falls pt n bytes h =
         ap (λ (t : Bool). if t then begins_group b pt n bytes (group_of b pt e) else Falls NotDue) held
         ∙ ap (begins_group b pt n bytes) h.due
-        ∙ ap (λ o. unless_worn o (judge.begins b.quantum h.group.lines h.group.point (n + 1) bytes)) h.first
+        ∙ ap (λ o. unless_worn o (judge.at_first_line b.quantum h.group.lines h.group.point (n + 1) bytes)) h.first
 
 -- where its stop is that
 pub none_stopped : (b : Boot) (w : WorldState) (e : Step) (number from to : ℕ) (s : Stop) (x : CheckError) → s ≡ stop.Worn from to → x ≡ no.Refused number NotDue → can_hold (length b.machines) e ≡ true → StopsWorn b w e s → NoGroup b w e number x

@@ -1,7 +1,7 @@
 -- Lines that are due, one after another.
 use Rattle.dm_check.proofs.Names.{◌≡◌, ◌<◌, ◌≤◌, ℕ, suc, ◌+◌, ◌==◌, Bool, true, false, List, [], ◌∷◌, ◌++◌, length, take, drop, get_or, drop-cons, refl, ap, sym, ◌∙◌, subst, append_assoc, append-nil, length-append, arith, Bor, Some, None}
-use Rattle.dm_check.proofs.Names.{All, starts_with, nat_eq, codes, take_more, drop-length, take-length, Boot, Line, EndLine, Point, end_words, EndFits, LineFits, pieces, words, spaced, spelled, text, end_text, text_of_ends, text_of_lines}
-use Rattle.dm_check.proofs.Names.{IsFull, CheckError, RefusedSo, Verdict, Ended, behind_line, judged_from}
+use Rattle.dm_check.proofs.Names.{All, starts_with, nat_eq, codes, take_more, drop-length, take-length, Boot, Line, EndLine, Point, end_words, EndFits, LineFits, pieces, line_words, spaced, spelled_line, text, end_text, text_of_ends}
+use Rattle.dm_check.proofs.Names.{text_of_lines, IsFull, CheckError, RefusedSo, Verdict, Ended, behind_line, judged_from}
 use Rattle.dm_check.specs.Judge as judge
 use Rattle.dm_check.proofs.Judging.{at_text_end, end_stands, lines_append}
 
@@ -42,7 +42,7 @@ unfolding text_of_lines
 read_none lines bytes = refl
 
 -- a line takes a byte at least, its line feed
-some_bytes : (ws : List (List ℕ)) → 0 < length (spelled ws)
+some_bytes : (ws : List (List ℕ)) → 0 < length (spelled_line ws)
 some_bytes [] = omega arith
 some_bytes (w ∷ ws) = omega (arith, length-append (w ++ spaced ws) (codes "\n"))
 
@@ -50,7 +50,7 @@ behind_bytes : (line bytes rest : List ℕ) → 0 < length line → bytes ≡ li
 behind_bytes line bytes rest h e = let k : length bytes ≡ length (line ++ rest) = ap length e in omega (arith, k, length-append line rest, h)
 
 pub shorter : (l : Line) (bytes rest : List ℕ) → bytes ≡ text l ++ rest → length rest < length bytes
-shorter l bytes rest e = behind_bytes (text l) bytes rest (some_bytes (words l)) e
+shorter l bytes rest e = behind_bytes (text l) bytes rest (some_bytes (line_words l)) e
 
 pub shorter_end : (l : EndLine) (bytes rest : List ℕ) → bytes ≡ end_text l ++ rest → length rest < length bytes
 shorter_end l bytes rest e = behind_bytes (end_text l) bytes rest (some_bytes (end_words l)) e

@@ -147,7 +147,7 @@ first_full pt =
 
 queues_full : (pt : Point) → AreFull (ends.queue_lines pt)
 queues_full pt =
-    homes_full pt (λ p. ends.queue_at pt.view p (ends.first_with ends.has pt.view p pt.kernel.machines)) pt.kernel.machines (λ p. queue_full pt.view p (ends.first_with ends.has pt.view p pt.kernel.machines))
+    homes_full pt (λ p. ends.queue_at pt.view p (ends.first_with ends.standing_of pt.view p pt.kernel.machines)) pt.kernel.machines (λ p. queue_full pt.view p (ends.first_with ends.standing_of pt.view p pt.kernel.machines))
 
 holding_full : (pt : Point) → AreFull (ends.holding_lines pt)
 holding_full pt =

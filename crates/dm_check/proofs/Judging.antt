@@ -1,9 +1,9 @@
 -- What becomes of the verdict at each line of a text.
 use Rattle.dm_check.proofs.Names.{◌≡◌, ◌<◌, ℕ, suc, ◌+◌, ◌==◌, Bool, true, false, ◌&&◌, nat_lt, not, if◌then◌else◌, List, [], ◌∷◌, ◌++◌, length, refl, ap, sym, ◌∙◌, subst, append_assoc, append-nil, arith, Some, None, codes, All, bytes_eq}
 use Rattle.dm_check.proofs.Names.{IfErr, IsErr, IsErrAnd, Result, Ok, Err, false≢true, nat_tests, Option, bytes_eq-Decides, Pid, Boot, Step, Line, EndLine, Two, end_lines, Spelled, Point, group_of, worn_in, end_words, EndFits, LineFits}
-use Rattle.dm_check.proofs.Names.{pieces, words, spelled, text, end_text, text_of_ends, text_of_lines, end_words_are, words-are, line_bytes, spelled_bytes, pieces_of_line, IsFull, head_of, has_shape, some_piece, cut_is, first_is}
-use Rattle.dm_check.proofs.Names.{lines_have, ends_have, heads_have, TraceFault, NotALine, NotDue, NotTheEnd, CheckError, FallsBy, RefusedSo, first_line, head_of_line, is_final, Verdict, Ended, Refused, Due, Nothing, Taken, Stands, Falls}
-use Rattle.dm_check.proofs.Names.{is_text, behind_line, told, at_end, at_head, begins_group, unless_worn, can_hold, taken, ended, judged_from}
+use Rattle.dm_check.proofs.Names.{pieces, line_words, spelled_line, text, end_text, text_of_ends, text_of_lines, end_words_are, line_words-are, line_bytes, spelled_bytes, pieces_of_line, IsFull, head_step, has_shape, some_piece, cut_is}
+use Rattle.dm_check.proofs.Names.{first_is, lines_have, ends_have, heads_have, TraceFault, NotALine, NotDue, NotTheEnd, CheckError, FallsBy, RefusedSo, first_line, head_of_line, is_final, Verdict, Ended, Refused, Due, Nothing, Judgement}
+use Rattle.dm_check.proofs.Names.{Stands, Falls, is_line_text, behind_line, told, at_end, at_head, begins_group, unless_worn, can_hold, taken, text_ended, judged_from}
 use Rattle.dm_line.specs.declared.line.Line.TheVariants as line
 use Rattle.dm_check.specs.declared.stop.CheckError.TheVariants as stop
 use Rattle.dm_check.specs.Judge as judge
@@ -37,7 +37,7 @@ lines_append [] b = refl
 lines_append (l ∷ ls) b = ap (λ t. text l ++ t) (lines_append ls b) ∙ sym (append_assoc (text l) (text_of_lines ls) (text_of_lines b))
 
 -- the text is over
-pub at_text_end : (b : Boot) (due : Due) (number : ℕ) → judged_from b due number (pieces 10 []) ≡ ended due number
+pub at_text_end : (b : Boot) (due : Due) (number : ℕ) → judged_from b due number (pieces 10 []) ≡ text_ended due number
 unfolding pieces
 at_text_end b due number = refl
 
@@ -63,13 +63,13 @@ pub taken_alike : (b : Boot) (due d : Due) (number : ℕ) (l q : List ℕ) (ps :
 taken_alike b due d number l q ps e = rw e refl
 
 -- a line is that of a text
-pub text_same : (bytes printed : List ℕ) → bytes ++ codes "\n" ≡ printed → is_text bytes printed ≡ true
+pub text_same : (bytes printed : List ℕ) → bytes ++ codes "\n" ≡ printed → is_line_text bytes printed ≡ true
 text_same bytes printed e = (bytes_eq-Decides (bytes ++ codes "\n") printed).1 e
 
-pub text_other : (bytes printed : List ℕ) → (bytes ++ codes "\n" ≡ printed → ⊥) → is_text bytes printed ≡ false
-text_other bytes printed h = by_test (is_text bytes printed) refl
+pub text_other : (bytes printed : List ℕ) → (bytes ++ codes "\n" ≡ printed → ⊥) → is_line_text bytes printed ≡ false
+text_other bytes printed h = by_test (is_line_text bytes printed) refl
   where
-    by_test : (t : Bool) → is_text bytes printed ≡ t → is_text bytes printed ≡ false
+    by_test : (t : Bool) → is_line_text bytes printed ≡ t → is_line_text bytes printed ≡ false
     by_test true e = absurd (h ((bytes_eq-Decides (bytes ++ codes "\n") printed).0 e))
     by_test false e = e
 
@@ -77,10 +77,10 @@ text_other bytes printed h = by_test (is_text bytes printed) refl
 pub line_stands : (b : Boot) (l : Line) (ls : List Line) (pt : Point) (n number : ℕ) (bytes rest : List ℕ) → LineFits l → bytes ≡ text l ++ rest
     → judged_from b (judge.InGroup l ls pt n) number (pieces 10 bytes) ≡ judged_from b (behind_line ls pt n) (number + 1) (pieces 10 rest)
 line_stands b l ls pt n number bytes rest h e =
-    let w : List ℕ = line_bytes (words l) in
-    let is : w ++ codes "\n" ≡ text l = sym (spelled_bytes (words l)) in
+    let w : List ℕ = line_bytes (line_words l) in
+    let is : w ++ codes "\n" ≡ text l = sym (spelled_bytes (line_words l)) in
     ap (λ t. judged_from b (judge.InGroup l ls pt n) number (pieces 10 t)) e
-    ∙ ap (judged_from b (judge.InGroup l ls pt n) number) (pieces_of_line (words l) rest (words-are l h))
+    ∙ ap (judged_from b (judge.InGroup l ls pt n) number) (pieces_of_line (line_words l) rest (line_words-are l h))
     ∙ goes_from b (judge.InGroup l ls pt n) (behind_line ls pt n) number w (pieces 10 rest) (some_piece 10 rest) (lines_have l w h is)
     (ap (λ (t : Bool). if t then Stands (behind_line ls pt n) else told b.quantum l (pieces 32 w)) (text_same w (text l) is))
 
@@ -151,14 +151,14 @@ pub falls_over : (b : Boot) (due : Due) (number : ℕ) (bytes : List ℕ) (f : T
 falls_over b due number bytes f h e = ap (λ t. judged_from b due number (pieces 10 t)) e ∙ at_text_end b due number ∙ h.ends e
 
 -- the group of a head is due
-taken_group : (b : Boot) (pt : Point) (n : ℕ) (l : List ℕ) (e : Step) (w : Spelled) (first : Line) (others : List Line) → head_of l ≡ Some e → can_hold (length b.machines) e ≡ true → group_of b pt e ≡ Some w
+taken_group : (b : Boot) (pt : Point) (n : ℕ) (l : List ℕ) (e : Step) (w : Spelled) (first : Line) (others : List Line) → head_step l ≡ Some e → can_hold (length b.machines) e ≡ true → group_of b pt e ≡ Some w
     → worn_in b.numbers pt.view w.lines ≡ None → w.lines ≡ first ∷ others → taken b (judge.Head pt n) l ≡ taken b (behind_line w.lines w.point (n + 1)) l
 taken_group b pt n l e w first others head held due fresh lines =
     ap (at_head b pt n l) head
     ∙ ap (λ (t : Bool). if t then begins_group b pt n l (group_of b pt e) else Falls NotDue) held
     ∙ ap (begins_group b pt n l) due
-    ∙ ap (λ o. unless_worn o (judge.begins b.quantum w.lines w.point (n + 1) l)) fresh
-    ∙ ap (λ ls. judge.begins b.quantum ls w.point (n + 1) l) lines
+    ∙ ap (λ o. unless_worn o (judge.at_first_line b.quantum w.lines w.point (n + 1) l)) fresh
+    ∙ ap (λ ls. judge.at_first_line b.quantum ls w.point (n + 1) l) lines
     ∙ sym (ap (λ ls. taken b (behind_line ls w.point (n + 1)) l) lines)
 
 pub due_group : (b : Boot) (pt : Point) (n number : ℕ) (ps : List (List ℕ)) (e : Step) (w : Spelled) (first : Line) (others : List Line) → head_of_line (first_line ps) ≡ Some e → can_hold (length b.machines) e ≡ true → group_of b pt e ≡ Some w
@@ -175,7 +175,7 @@ no_group b pt n number (l ∷ []) e head none = absurd (cc)
 no_group b pt n number (l ∷ q ∷ ps) e head none = falls_from b (judge.Head pt n) NotDue number l (q ∷ ps) (λ x. cc) (heads_have l e head) (ap (at_head b pt n l) head ∙ none l)
 
 -- the lines at the end are due
-taken_ends : (b : Boot) (pt : Point) (n : ℕ) (l : List ℕ) → head_of l ≡ None → bytes_eq l (codes "final") ≡ true → taken b (judge.Head pt n) l ≡ taken b (judge.End (end_lines pt) n) l
+taken_ends : (b : Boot) (pt : Point) (n : ℕ) (l : List ℕ) → head_step l ≡ None → bytes_eq l (codes "final") ≡ true → taken b (judge.Head pt n) l ≡ taken b (judge.End (end_lines pt) n) l
 taken_ends b pt n l head is = ap (at_head b pt n l) head ∙ ap (λ (t : Bool). if t then at_end (end_lines pt) n l else Falls NotDue) is
 
 pub due_ends : (b : Boot) (pt : Point) (n number : ℕ) (ps : List (List ℕ)) → head_of_line (first_line ps) ≡ None → is_final (first_line ps) ≡ true → judged_from b (judge.Head pt n) number ps ≡ judged_from b (judge.End (end_lines pt) n) number ps

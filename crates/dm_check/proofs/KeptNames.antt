@@ -30,7 +30,7 @@ registered : (ks : List NamedLink) (name : List ℕ) (l : PlainLink) (general : 
 registered ks name l true h e = new_names ks name l (board.link_named name ks) h e
 registered ks name l false h e = h
 
-if_name : (ks : List NamedLink) (name : List ℕ) (l : PlainLink) (t : Bool) → is_name name ≡ t → AreNames ks → AreNames (if t then board.registers ks name l else board.bad_request ks).names
+if_name : (ks : List NamedLink) (name : List ℕ) (l : PlainLink) (t : Bool) → is_name name ≡ t → AreNames ks → AreNames (if t then board.registers_name ks name l else board.board_bad_request ks).names
 if_name ks name l true e h = registered ks name l (is_general l.kind) h e
 if_name ks name l false e h = h
 
@@ -39,7 +39,7 @@ register_keeps ks name [] h = h
 register_keeps ks name (l ∷ []) h = if_name ks name l (is_name name) refl h
 register_keeps ks name (l ∷ k ∷ others) h = h
 
-if_looks : (ks : List NamedLink) (name : List ℕ) (t : Bool) → AreNames ks → AreNames (if t then board.looks_up ks name else board.bad_request ks).names
+if_looks : (ks : List NamedLink) (name : List ℕ) (t : Bool) → AreNames ks → AreNames (if t then board.looks_up ks name else board.board_bad_request ks).names
 if_looks ks name true h = h
 if_looks ks name false h = h
 
@@ -48,7 +48,7 @@ look_keeps ks name [] h = if_looks ks name (is_name name) h
 look_keeps ks name (l ∷ others) h = h
 
 by_operation : (ks : List NamedLink) (name : List ℕ) (others : List PlainLink) (s t : Bool) → AreNames ks
-    → AreNames (if s then board.asks_to_register ks name others else if t then board.asks_to_look_up ks name others else board.bad_request ks).names
+    → AreNames (if s then board.asks_to_register ks name others else if t then board.asks_to_look_up ks name others else board.board_bad_request ks).names
 by_operation ks name others true t h = register_keeps ks name others h
 by_operation ks name others false true h = look_keeps ks name others h
 by_operation ks name others false false h = h
@@ -61,8 +61,8 @@ request_keeps : (b : Switchboard) (body : List ℕ) (links : List PlainLink) →
 request_keeps b body [] h = h
 request_keeps b body (l ∷ others) h = asks_keep b.names body others h
 
-board_keeps : (b : Switchboard) (m : PlainMessage) (w : PlainWhat) (t : board.Took) → board.takes b m w ≡ Some t → AreNames b.names → AreNames t.switchboard.names
-board_keeps b m (what.User code channel body links) t e h = let f : board.takes_request b body links ≡ t = cc in subst (λ (x : board.Took). AreNames x.switchboard.names) f (request_keeps b body links h)
+board_keeps : (b : Switchboard) (m : PlainMessage) (w : PlainWhat) (t : board.BoardTook) → board.board_takes b m w ≡ Some t → AreNames b.names → AreNames t.switchboard.names
+board_keeps b m (what.User code channel body links) t e h = let f : board.takes_request b body links ≡ t = cc in subst (λ (x : board.BoardTook). AreNames x.switchboard.names) f (request_keeps b body links h)
 board_keeps b m w t e h = absurd (cc)
 
 -- a step keeps them
@@ -85,23 +85,23 @@ stay_sent : (s t : OneKernel) (o : Option PlainMessage) → Stay s t → Stay s 
 stay_sent s t None h = h
 stay_sent s t (Some m) h = h
 
-replies_stay : (s : OneKernel) (p : Pid) (n : ℕ) (c : Reply) (x : step.Next) → StaySome s (step.replies s p n c x)
+replies_stay : (s : OneKernel) (p : Pid) (n : ℕ) (c : Reply) (x : step.Trap) → StaySome s (step.replies s p n c x)
 replies_stay s p n c (step.Calls number (calls.Replies reply x)) = stay_when s (step.goes_on s p x) _ (λ h. h)
 replies_stay s p n c other = tt
 
-sends_stay : (s : OneKernel) (p : Pid) (id : MsgId) (x : step.Next) → StaySome s (step.sends s p id x)
+sends_stay : (s : OneKernel) (p : Pid) (id : MsgId) (x : step.Trap) → StaySome s (step.sends s p id x)
 sends_stay s p id (step.Calls number (calls.Sends m x)) = stay_when s (with_sent (step.goes_on s p x) (Some m)) _ (λ h. h)
 sends_stay s p id other = tt
 
-waits_stay : (s : OneKernel) (p : Pid) (x : step.Next) → StaySome s (step.waits s p x)
+waits_stay : (s : OneKernel) (p : Pid) (x : step.Trap) → StaySome s (step.waits s p x)
 waits_stay s p (step.Calls number (calls.Waits x)) = λ h. h
 waits_stay s p other = tt
 
-outputs_stay : (s : OneKernel) (p : Pid) (w : ℕ) (x : step.Next) → StaySome s (step.outputs s p w x)
+outputs_stay : (s : OneKernel) (p : Pid) (w : ℕ) (x : step.Trap) → StaySome s (step.outputs s p w x)
 outputs_stay s p w (step.Calls number (calls.Outputs word x)) = stay_when s (step.goes_on s p x) _ (λ h. h)
 outputs_stay s p w other = tt
 
-ends_stay : (s : OneKernel) (p : Pid) (y : Why) (x : step.Next) → StaySome s (step.ends s p y x)
+ends_stay : (s : OneKernel) (p : Pid) (y : Why) (x : step.Trap) → StaySome s (step.ends s p y x)
 ends_stay s p y (step.Calls number (calls.Ends because)) = stay_when s _ _ (λ h. h)
 ends_stay s p y (step.Faults fault) = stay_when s _ _ (λ h. h)
 ends_stay s p y other = tt
@@ -130,12 +130,12 @@ serves_stay s id m p what.Gone = stay_bind s (pieces.lands m.to p m p.status) (�
 serves_stay s id m p w = tt
 
 by_server : (s : OneKernel) (id : MsgId) (m : PlainMessage) (is_board is_manager : Bool)
-    → StaySome s (if is_board then bind (board.takes s.switchboard m m.what) (λ t. Some (service.switchboard_took s id t))
-    else if is_manager then bind (manage.takes s.manager s.machines (length s.images) m m.what) (λ t. Some (service.manager_took s id t)) else None)
+    → StaySome s (if is_board then bind (board.board_takes s.switchboard m m.what) (λ t. Some (service.switchboard_took s id t))
+    else if is_manager then bind (manage.manager_takes s.manager s.machines (length s.images) m m.what) (λ t. Some (service.manager_took s id t)) else None)
 by_server s id m true is_manager =
-    stay_bind s (board.takes s.switchboard m m.what) (λ t. Some (service.switchboard_took s id t)) (λ t e h. stay_sent s _ t.answer (λ k. board_keeps s.switchboard m m.what t e k) h)
+    stay_bind s (board.board_takes s.switchboard m m.what) (λ t. Some (service.switchboard_took s id t)) (λ t e h. stay_sent s _ t.answer (λ k. board_keeps s.switchboard m m.what t e k) h)
 by_server s id m false true =
-    stay_bind s (manage.takes s.manager s.machines (length s.images) m m.what) (λ t. Some (service.manager_took s id t)) (λ t e h. stay_sent s _ t.message (λ k. k) h)
+    stay_bind s (manage.manager_takes s.manager s.machines (length s.images) m m.what) (λ t. Some (service.manager_took s id t)) (λ t e h. stay_sent s _ t.message (λ k. k) h)
 by_server s id m false false = tt
 
 took_stays : (s : OneKernel) (id : MsgId) (m : PlainMessage) → StaySome s (service.takes s id m)
@@ -153,20 +153,20 @@ step_stays : (s : OneKernel) (l : Label) → StaySome s (step.step s l)
 step_stays s (label.Ran p k) =
     stay_bind s (step.running s p) (λ x. bind (step.plain_steps k (step.machine_of x)) (λ m. Some (step.goes_on s p (step.with_machine x m))))
     (λ x e. stay_bind s (step.plain_steps k (step.machine_of x)) (λ m. Some (step.goes_on s p (step.with_machine x m))) (λ m f h. h))
-step_stays s (label.Call p n c) = stay_bind s (step.next s p) (step.replies s p n c) (λ x e. replies_stay s p n c x)
-step_stays s (label.Send p id) = stay_bind s (step.next s p) (step.sends s p id) (λ x e. sends_stay s p id x)
-step_stays s (label.Wait p) = stay_bind s (step.next s p) (step.waits s p) (λ x e. waits_stay s p x)
-step_stays s (label.Out p w) = stay_bind s (step.next s p) (step.outputs s p w) (λ x e. outputs_stay s p w x)
-step_stays s (label.End p y) = stay_bind s (step.next s p) (step.ends s p y) (λ x e. ends_stay s p y x)
+step_stays s (label.Call p n c) = stay_bind s (step.next_trap s p) (step.replies s p n c) (λ x e. replies_stay s p n c x)
+step_stays s (label.Send p id) = stay_bind s (step.next_trap s p) (step.sends s p id) (λ x e. sends_stay s p id x)
+step_stays s (label.Wait p) = stay_bind s (step.next_trap s p) (step.waits s p) (λ x e. waits_stay s p x)
+step_stays s (label.Out p w) = stay_bind s (step.next_trap s p) (step.outputs s p w) (λ x e. outputs_stay s p w x)
+step_stays s (label.End p y) = stay_bind s (step.next_trap s p) (step.ends s p y) (λ x e. ends_stay s p y x)
 step_stays s (label.Receive p id) = stay_bind s (step.completing s p id) (step.receives s p id) (λ x e. receives_stay s p id x)
 step_stays s (label.Refuse p id c) = stay_bind s (step.completing s p id) (step.refuses s p c) (λ x e. refuses_stay s p c x)
 step_stays s (label.Served id) =
     stay_bind s (s.bag id) (λ m. bind (step.alive (s.processes m.to)) (λ p. service.serves s id m p m.what)) (λ m e. stay_bind s (step.alive (s.processes m.to)) (λ p. service.serves s id m p m.what) (λ p f. serves_stay s id m p m.what))
 step_stays s (label.Took id) = stay_bind s (s.bag id) (service.takes s id) (λ m e. took_stays s id m)
 step_stays s (label.Dropped id) =
-    stay_bind s (s.bag id) (λ m. bind (step.ended (s.processes m.to)) (step.drops s id m)) (λ m e. stay_bind s (step.ended (s.processes m.to)) (step.drops s id m) (λ y f. stay_when s _ _ (λ h. h)))
+    stay_bind s (s.bag id) (λ m. bind (step.why_ended (s.processes m.to)) (step.drops s id m)) (λ m e. stay_bind s (step.why_ended (s.processes m.to)) (step.drops s id m) (λ y f. stay_when s _ _ (λ h. h)))
 step_stays s (label.Gone id) =
-    stay_bind s (s.bag id) (λ m. bind (step.ended (s.processes m.to)) (step.says_gone s id m)) (λ m e. stay_bind s (step.ended (s.processes m.to)) (step.says_gone s id m) (λ y f. stay_when s _ _ (λ h. h)))
+    stay_bind s (s.bag id) (λ m. bind (step.why_ended (s.processes m.to)) (step.says_gone s id m)) (λ m e. stay_bind s (step.why_ended (s.processes m.to)) (step.says_gone s id m) (λ y f. stay_when s _ _ (λ h. h)))
 step_stays s (label.Created id child) = stay_bind s (s.bag id) (λ m. service.creates s id m child m.what) (λ m e. creates_stay s id m child m.what)
 step_stays s (label.NoSpace id slots blocks) = stay_bind s (s.bag id) (λ m. service.has_no_room s id m m.what) (λ m e. no_room_stays s id m m.what)
 

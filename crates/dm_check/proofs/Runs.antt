@@ -1,10 +1,10 @@
 -- The verdict on the text of a run by the rule.
 use Rattle.dm_check.proofs.Names.{◌≡◌, ◌≢◌, ◌<◌, ℕ, zero, suc, ◌+◌, ◌==◌, Bool, true, false, not, ◌&&◌, nat_lt, if◌then◌else◌, List, [], ◌∷◌, ◌++◌, length, map, refl, ap, sym, ◌∙◌, subst, append_assoc, append-nil, length-append, arith}
 use Rattle.dm_check.proofs.Names.{Some, None, ⊤, codes, All, Option, nat_tests, All-nil, All-cons, All-head, All-tail, Pid, Boot, Step, Directive, Line, EndLine, Pass, Two, Todo, Next, all_of, below, pairs_of, here_or_later, next_delivery}
-use Rattle.dm_check.proofs.Names.{pass_begun, takes_turn, next, next_turn, in_pass, or, begin_pass, settles, next_directive, next_pass, is_over, following, end_lines, next_step, undelivered, IsKept, IsRun, IsStep, Spelled, Point}
-use Rattle.dm_check.proofs.Names.{first_point, labels, has_mail, is_quiet, group_of, View, worn_in, EndFits, LineFits, pieces, words, text, end_text, text_of_ends, text_of_lines, words-are, line_bytes, spelled_bytes, pieces_of_line, ones}
-use Rattle.dm_check.proofs.Names.{IsGood, joined, IsTwo, IsDirective, IsTodo, machines_group, next_fits, head_of, some_piece, heads_read, first_line, head_of_line, is_final, AllHeld, EndsFit, IsTrace, good_verdict, text_behind, Open, Ended}
-use Rattle.dm_check.proofs.Names.{can_hold, behind_line, judged_from, verdict, IsHome, HasHome, TracesAreGood, BeginningsAreOpen, RunsAreEnded}
+use Rattle.dm_check.proofs.Names.{pass_begun, takes_turn, next_and_left, next_turn, in_pass, or, begin_pass, settles, next_directive, next_pass, is_over, following, end_lines, next_step, undelivered, IsKept, IsRun, IsStep, Spelled, Point}
+use Rattle.dm_check.proofs.Names.{first_point, labels, has_mail, is_quiet, group_of, View, worn_in, EndFits, LineFits, pieces, line_words, text, end_text, text_of_ends, text_of_lines, line_words-are, line_bytes, spelled_bytes}
+use Rattle.dm_check.proofs.Names.{pieces_of_line, ones, IsGood, joined, IsTwo, IsDirective, IsTodo, machines_group, next_fits, head_step, some_piece, heads_read, first_line, head_of_line, is_final, AllHeld, EndsFit, IsTrace, good_verdict}
+use Rattle.dm_check.proofs.Names.{text_behind, Open, Ended, can_hold, behind_line, judged_from, verdict, IsHome, HasHome, TracesAreGood, BeginningsAreOpen, RunsAreEnded}
 use Rattle.dm_schedule.specs.declared.Step.TheVariants as step
 use Rattle.dm_schedule.specs.declared.Directive.TheVariants as directive
 use Rattle.dm_line.specs.declared.line.Line.TheVariants as line
@@ -19,9 +19,9 @@ use Rattle.dm_check.proofs.KeptNames.{AreNames, names_always}
 first_is_head : (e : Step) (others : List Line) (rest : List ℕ) → LineFits (line.Head e) → head_of_line (first_line (pieces 10 (text_of_lines (line.Head e ∷ others) ++ rest))) ≡ Some e
 unfolding text_of_lines
 first_is_head e others rest h =
-    let ws : List (List ℕ) = words (line.Head e) in
+    let ws : List (List ℕ) = line_words (line.Head e) in
     ap (λ t. head_of_line (first_line (pieces 10 t))) (append_assoc (text (line.Head e)) (text_of_lines others) rest)
-    ∙ ap (λ ps. head_of_line (first_line ps)) (pieces_of_line ws (text_of_lines others ++ rest) (words-are (line.Head e) h))
+    ∙ ap (λ ps. head_of_line (first_line ps)) (pieces_of_line ws (text_of_lines others ++ rest) (line_words-are (line.Head e) h))
     ∙ ap head_of_line (first_of (line_bytes ws) (pieces 10 (text_of_lines others ++ rest)) (some_piece 10 (text_of_lines others ++ rest)))
     ∙ heads_read e (line_bytes ws) h (sym (spelled_bytes ws))
 
@@ -72,7 +72,7 @@ run_judged b P f (g ∷ gs) pt end t left n number rest machines p fits (nx, w, 
 
 -- the lines at the end, behind whole groups
 final_first : (es : List EndLine) → (head_of_line (first_line (pieces 10 (text_of_ends (end.Final ∷ es)))) ≡ None) × (is_final (first_line (pieces 10 (text_of_ends (end.Final ∷ es)))) ≡ true)
-unfolding text_of_ends head_of pieces
+unfolding text_of_ends head_step pieces
 final_first es =
     let some = some_piece 10 (text_of_ends es) in
     let first : first_line (codes "final" ∷ pieces 10 (text_of_ends es)) ≡ Some (codes "final") = first_of (codes "final") (pieces 10 (text_of_ends es)) some in
@@ -138,7 +138,7 @@ delivery_home machines first [] = tt
 delivery_home machines first (p ∷ ps) = here_home machines p ps (first p.from p.to) (next_delivery first ps) (delivery_home machines first ps)
 
 turn_or_later : (machines : ℕ) (t : Todo) (m : ℕ) (ms : List ℕ) (b : Bool) (o : Option Next) → All (HasHome machines) t.directives → HomeNext machines o
-    → HomeNext machines (if b then next (step.Turn m) (record t { pairs = []; machines = ms }) else o)
+    → HomeNext machines (if b then next_and_left (step.Turn m) (record t { pairs = []; machines = ms }) else o)
 turn_or_later machines t m ms true o h later = (tt, h)
 turn_or_later machines t m ms false o h later = later
 

@@ -6,7 +6,7 @@ use Rattle.std.specs.declared.option.Option.TheVariants.{None, Some}
 use Rattle.dm_onekernel.specs.declared.boot.Boot.{Boot}
 use Rattle.dm_schedule.specs.declared.Step.{Step}
 use Rattle.dm_text.specs.Reading.{pieces}
-use Rattle.dm_shape.specs.Heads.{head_of}
+use Rattle.dm_shape.specs.Heads.{head_step}
 use Rattle.dm_shape.specs.Shapes.{has_shape}
 use Rattle.dm_check.specs.declared.fault.TraceFault.{TraceFault}
 use Rattle.dm_check.specs.declared.fault.TraceFault.TheVariants.{NotALine}
@@ -16,13 +16,13 @@ use Rattle.dm_check.specs.declared.told.Other.{Other}
 use Rattle.dm_check.specs.declared.told.Other.TheVariants as other
 use Rattle.dm_check.specs.declared.follow.Standing.{Standing}
 use Rattle.dm_check.specs.declared.follow.Standing.TheVariants as standing
-use Rattle.dm_check.specs.Judge.{Verdict, Refused, Due, Nothing, Taken, Stands, Falls, ended, judged_from, taken}
+use Rattle.dm_check.specs.Judge.{Verdict, Refused, Due, Nothing, Judgement, Stands, Falls, text_ended, judged_from, taken}
 
 -- what the code says of a line
-abbrev pub fault_of : TraceFault → Taken
+abbrev pub fault_of : TraceFault → Judgement
 fault_of f = Falls f
 
-abbrev pub taken_of : Other → Taken
+abbrev pub taken_of : Other → Judgement
 taken_of (other.Fewer p) = Stands (Nothing p)
 taken_of (other.Falls f) = Falls f
 
@@ -34,7 +34,7 @@ first_line (l ∷ m ∷ others) = Some l
 
 abbrev pub head_of_line : Option (List ℕ) → Option Step
 head_of_line None = None
-head_of_line (Some l) = head_of l
+head_of_line (Some l) = head_step l
 
 abbrev pub is_final : Option (List ℕ) → Bool
 is_final None = false
@@ -48,7 +48,7 @@ StandsAs text standing.NoLine = (b : Boot) (due : Due) (number : ℕ) → judged
 
 -- each line of the format falls by this fault where a text begins, and so does the end of the text
 pub record FallsBy (b : Boot) (due : Due) (number : ℕ) (text : List ℕ) (fault : TraceFault) : Type 0 where
-  pub ends : text ≡ [] → ended due number ≡ Refused number fault
+  pub ends : text ≡ [] → text_ended due number ≡ Refused number fault
   pub lines : (l : List ℕ) → first_line (pieces 10 text) ≡ Some l → taken b due l ≡ Falls fault
 
 -- a refusal is the verdict; want of memory says nothing

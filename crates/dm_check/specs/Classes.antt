@@ -12,9 +12,9 @@ use Rattle.dm_text.specs.Rows.{is}
 use Rattle.dm_shape.specs.Choices.{one_of}
 
 -- a word names this process, this message
-abbrev pub is_pid : Option Pid → Pid → Bool
-is_pid None p = false
-is_pid (Some q) p = pid_eq q p
+abbrev pub names_pid : Option Pid → Pid → Bool
+names_pid None p = false
+names_pid (Some q) p = pid_eq q p
 
 abbrev pub is_id : Option MsgId → MsgId → Bool
 is_id None i = false
@@ -25,21 +25,21 @@ abbrev pub calls : List (List ℕ)
 calls = codes "call" ∷ codes "send" ∷ codes "wait" ∷ codes "out" ∷ codes "end" ∷ []
 
 -- the lines of how its receive ends
-abbrev pub receptions : List (List ℕ)
-receptions = codes "receive" ∷ codes "refuse" ∷ []
+abbrev pub reception_words : List (List ℕ)
+reception_words = codes "receive" ∷ codes "refuse" ∷ []
 
 -- call P N C, send P ID, wait P, out P W, end P WHY, for this process
 abbrev pub tells_call : Pid → List (List ℕ) → Bool
 tells_call p [] = false
 tells_call p (w ∷ []) = false
-tells_call p (w ∷ q ∷ ws) = one_of calls w && is_pid (read_pid q) p
+tells_call p (w ∷ q ∷ ws) = one_of calls w && names_pid (read_pid q) p
 
 -- receive P ID, refuse P ID C, for this process and this message
 abbrev pub tells_reception : Pid → MsgId → List (List ℕ) → Bool
 tells_reception p i [] = false
 tells_reception p i (w ∷ []) = false
 tells_reception p i (w ∷ q ∷ []) = false
-tells_reception p i (w ∷ q ∷ j ∷ ws) = one_of receptions w && is_pid (read_pid q) p && is_id (read_id j) i
+tells_reception p i (w ∷ q ∷ j ∷ ws) = one_of reception_words w && names_pid (read_pid q) p && is_id (read_id j) i
 
 -- created ID P, for this message
 abbrev pub tells_made : MsgId → List (List ℕ) → Bool
@@ -52,4 +52,4 @@ abbrev pub told_ran : Pid → List (List ℕ) → Option ℕ
 told_ran p [] = None
 told_ran p (w ∷ []) = None
 told_ran p (w ∷ q ∷ []) = None
-told_ran p (w ∷ q ∷ k ∷ ws) = if is w (codes "ran") && is_pid (read_pid q) p then read_u32 k else None
+told_ran p (w ∷ q ∷ k ∷ ws) = if is w (codes "ran") && names_pid (read_pid q) p then read_u32 k else None

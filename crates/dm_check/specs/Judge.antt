@@ -20,7 +20,7 @@ use Rattle.dm_rule.specs.Rule.{group_of}
 use Rattle.dm_rule.specs.Worn.{worn_in}
 use Rattle.dm_text.specs.Reading.{pieces}
 use Rattle.dm_text.specs.Text.{text, end_text}
-use Rattle.dm_shape.specs.Heads.{head_of}
+use Rattle.dm_shape.specs.Heads.{head_step}
 use Rattle.dm_shape.specs.Shapes.{has_shape}
 use Rattle.dm_check.specs.declared.fault.TraceFault.{TraceFault}
 use Rattle.dm_check.specs.declared.fault.TraceFault.TheVariants.{NotALine, NotDue, NotAStep, NotTheEnd}
@@ -52,30 +52,30 @@ can_hold machines (step.Deliver a b k) = nat_lt a machines && nat_lt b machines 
 can_hold machines (step.Migrate p m) = nat_lt p.home machines && nat_lt m machines
 
 -- what becomes of a line: another is due behind it, or it is refused
-pub data Taken : Type 0 where
-  Stands : (due : Due) → Taken
-  Falls : (fault : TraceFault) → Taken
+pub data Judgement : Type 0 where
+  Stands : (due : Due) → Judgement
+  Falls : (fault : TraceFault) → Judgement
 
 -- a text without line feed is that of a line
-abbrev pub is_text : List ℕ → List ℕ → Bool
-is_text bytes printed = bytes_eq (bytes ++ codes "\n") printed
+abbrev pub is_line_text : List ℕ → List ℕ → Bool
+is_line_text bytes printed = bytes_eq (bytes ++ codes "\n") printed
 
 -- what is due behind lines of a group
 abbrev pub behind_line : List Line → Point → ℕ → Due
 behind_line [] pt n = Head pt n
 behind_line (l ∷ ls) pt n = InGroup l ls pt n
 
-abbrev pub falls_as_step : Bool → Taken
+abbrev pub falls_as_step : Bool → Judgement
 falls_as_step true = Falls NotAStep
 falls_as_step false = Falls NotDue
 
 -- a process is said to have run otherwise: fewer instructions are a step, and so would be more, up to the quantum, were they plain
-abbrev pub told_count : ℕ → Pid → ℕ → Option ℕ → Taken
+abbrev pub told_count : ℕ → Pid → ℕ → Option ℕ → Judgement
 told_count quantum p k None = Falls NotDue
 told_count quantum p k (Some n) = if nat_lt n k then Stands (Nothing p) else falls_as_step (nat_lt k n && nat_le n quantum)
 
 -- the words of another line than the label that is due
-abbrev pub told_label : ℕ → Label → List (List ℕ) → Taken
+abbrev pub told_label : ℕ → Label → List (List ℕ) → Judgement
 told_label quantum (label.Ran p k) ws = told_count quantum p k (told_ran p ws)
 told_label quantum (label.Call p n c) ws = falls_as_step (tells_call p ws)
 told_label quantum (label.Send p i) ws = falls_as_step (tells_call p ws)
@@ -92,7 +92,7 @@ told_label quantum (label.Created i p) ws = falls_as_step (tells_made i ws)
 told_label quantum (label.NoSpace i s b) ws = Falls NotDue
 
 -- the words of another line than the one that is due
-abbrev pub told : ℕ → Line → List (List ℕ) → Taken
+abbrev pub told : ℕ → Line → List (List ℕ) → Judgement
 told quantum (line.Label l) ws = told_label quantum l ws
 told quantum (line.Head s) ws = Falls NotDue
 told quantum (line.Idle m) ws = Falls NotDue
@@ -119,60 +119,60 @@ told quantum (line.NoChild p) ws = Falls NotDue
 told quantum (line.Pinned p) ws = Falls NotDue
 
 -- a line where this one is due
-abbrev pub at_line : ℕ → Line → List Line → Point → ℕ → List ℕ → Taken
-at_line quantum l ls pt n bytes = if is_text bytes (text l) then Stands (behind_line ls pt n) else told quantum l (pieces 32 bytes)
+abbrev pub at_line : ℕ → Line → List Line → Point → ℕ → List ℕ → Judgement
+at_line quantum l ls pt n bytes = if is_line_text bytes (text l) then Stands (behind_line ls pt n) else told quantum l (pieces 32 bytes)
 
 -- a line where these of the lines at the end are due
-abbrev pub at_end : List EndLine → ℕ → List ℕ → Taken
+abbrev pub at_end : List EndLine → ℕ → List ℕ → Judgement
 at_end [] n bytes = Falls NotTheEnd
-at_end (e ∷ es) n bytes = if is_text bytes (end_text e) then Stands (End es n) else Falls NotTheEnd
+at_end (e ∷ es) n bytes = if is_line_text bytes (end_text e) then Stands (End es n) else Falls NotTheEnd
 
 -- the first line of a group
-abbrev pub begins : ℕ → List Line → Point → ℕ → List ℕ → Taken
-begins quantum [] pt n bytes = Falls NotDue
-begins quantum (l ∷ ls) pt n bytes = at_line quantum l ls pt n bytes
+abbrev pub at_first_line : ℕ → List Line → Point → ℕ → List ℕ → Judgement
+at_first_line quantum [] pt n bytes = Falls NotDue
+at_first_line quantum (l ∷ ls) pt n bytes = at_line quantum l ls pt n bytes
 
 -- the group of a head, unless it would route a message between two machines that count as many as they may
-abbrev pub unless_worn : Option Two → Taken → Taken
+abbrev pub unless_worn : Option Two → Judgement → Judgement
 unless_worn None t = t
 unless_worn (Some two) t = Falls NotDue
 
-abbrev pub begins_group : Boot → Point → ℕ → List ℕ → Option Spelled → Taken
+abbrev pub begins_group : Boot → Point → ℕ → List ℕ → Option Spelled → Judgement
 begins_group b pt n bytes None = Falls NotDue
-begins_group b pt n bytes (Some w) = unless_worn (worn_in b.numbers pt.view w.lines) (begins b.quantum w.lines w.point (n + 1) bytes)
+begins_group b pt n bytes (Some w) = unless_worn (worn_in b.numbers pt.view w.lines) (at_first_line b.quantum w.lines w.point (n + 1) bytes)
 
 -- a line where a head is due, or the lines at the end
-abbrev pub at_head : Boot → Point → ℕ → List ℕ → Option Step → Taken
+abbrev pub at_head : Boot → Point → ℕ → List ℕ → Option Step → Judgement
 at_head b pt n bytes (Some e) = if can_hold (length b.machines) e then begins_group b pt n bytes (group_of b pt e) else Falls NotDue
 at_head b pt n bytes None = if bytes_eq bytes (codes "final") then at_end (end_lines pt) n bytes else Falls NotDue
 
 -- what becomes of a line of the format
-abbrev pub taken : Boot → Due → List ℕ → Taken
-taken b (Head pt n) bytes = at_head b pt n bytes (head_of bytes)
+abbrev pub taken : Boot → Due → List ℕ → Judgement
+taken b (Head pt n) bytes = at_head b pt n bytes (head_step bytes)
 taken b (InGroup l ls pt n) bytes = at_line b.quantum l ls pt n bytes
 taken b (Nothing p) bytes = falls_as_step (tells_call p (pieces 32 bytes))
 taken b (End es n) bytes = at_end es n bytes
 
 -- the text ends, at the line behind its last
-abbrev pub ended : Due → ℕ → Verdict
-ended (Head pt n) number = Open n
-ended (InGroup l ls pt n) number = Refused number NotDue
-ended (Nothing p) number = Refused number NotDue
-ended (End [] n) number = Ended n
-ended (End (e ∷ es) n) number = Refused number NotTheEnd
+abbrev pub text_ended : Due → ℕ → Verdict
+text_ended (Head pt n) number = Open n
+text_ended (InGroup l ls pt n) number = Refused number NotDue
+text_ended (Nothing p) number = Refused number NotDue
+text_ended (End [] n) number = Ended n
+text_ended (End (e ∷ es) n) number = Refused number NotTheEnd
 
-abbrev pub goes_on : ℕ → Taken → (Due → Verdict) → Verdict
-goes_on number (Stands due) next = next due
-goes_on number (Falls fault) next = Refused number fault
+abbrev pub if_stands : ℕ → Judgement → (Due → Verdict) → Verdict
+if_stands number (Stands due) next = next due
+if_stands number (Falls fault) next = Refused number fault
 
 -- from a line of this number on: these bytes up to the next line feed, and then these pieces; without a line feed they are no line
 abbrev pub judged : Boot → Due → ℕ → List ℕ → List (List ℕ) → Verdict
-judged b due number bytes [] = if length bytes == 0 then ended due number else Refused number NotALine
+judged b due number bytes [] = if length bytes == 0 then text_ended due number else Refused number NotALine
 judged b due number bytes (next ∷ others) =
-    if has_shape bytes then goes_on number (taken b due bytes) (λ d. judged b d (number + 1) next others) else Refused number NotALine
+    if has_shape bytes then if_stands number (taken b due bytes) (λ d. judged b d (number + 1) next others) else Refused number NotALine
 
 abbrev pub judged_from : Boot → Due → ℕ → List (List ℕ) → Verdict
-judged_from b due number [] = ended due number
+judged_from b due number [] = text_ended due number
 judged_from b due number (bytes ∷ others) = judged b due number bytes others
 
 -- what the whole text comes to, by this boot file

@@ -1,7 +1,7 @@
 //! Lines of a process that are steps of the kernel without machines.
 ghost use Rattle.std.specs.Prelude.{◌≡◌};
 ghost use Rattle.dm_text.specs.Reading.{pieces, read_id, read_pid};
-ghost use Rattle.dm_check.specs.Classes.{is_id, is_pid, tells_call, tells_made, tells_reception, told_ran};
+ghost use Rattle.dm_check.specs.Classes.{is_id, names_pid, tells_call, tells_made, tells_reception, told_ran};
 
 use dm_link::Pid;
 use dm_message::MsgId;
@@ -11,7 +11,7 @@ use dm_shape::split::split;
 
 /// Whether a word names this process.
 fn is_pid(word: &[u8], pid: Pid) -> bool
-    ensures { result ≡ is_pid (read_pid word.now) pid }
+    ensures { result ≡ names_pid (read_pid word.now) pid }
 {
     match process(word) {
         None => false,

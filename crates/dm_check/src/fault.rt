@@ -1,6 +1,6 @@
 //! What is wrong with a line of a trace.
 ghost use Rattle.std.specs.Prelude.{◌≡◌};
-ghost use Rattle.dm_check.specs.Faults.{number_of_fault};
+ghost use Rattle.dm_check.specs.Faults.{number_of_trace_fault};
 
 use thiserror::Error;
 
@@ -20,7 +20,7 @@ pub enum TraceFault {
 impl TraceFault {
     /// The number of the fault: 1 to 4.
     pub fn number(self) -> u8
-        ensures { result ≡ number_of_fault self }
+        ensures { result ≡ number_of_trace_fault self }
     {
         match self {
             TraceFault::NotALine => 1,

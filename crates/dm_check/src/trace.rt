@@ -7,7 +7,7 @@ ghost use Rattle.dm_rule.specs.Point.{Point};
 ghost use Rattle.dm_schedule.specs.declared.Step.{Step as TheStep};
 ghost use Rattle.dm_text.specs.Fits.{LineFits};
 ghost use Rattle.dm_text.specs.Reading.{pieces};
-ghost use Rattle.dm_world.specs.Meets.{state_of};
+ghost use Rattle.dm_world.specs.Meets.{world_state};
 ghost use Rattle.dm_mirror.specs.Ran.{Ran};
 ghost use Rattle.dm_run.specs.Running.{IsRunning, RunsOn};
 ghost use Rattle.dm_check.specs.Checked.{HasChecked, NoGroup};
@@ -63,7 +63,7 @@ fn check_on(
     trace: &[u8],
 ) -> Result<Good, CheckError>
     requires running { IsRunning world.old }
-    requires begun { HasChecked world.old.boot trace.now trace.now 1 0 (state_of world.old) }
+    requires begun { HasChecked world.old.boot trace.now trace.now 1 0 (world_state world.old) }
     requires groups { world.old.groups ≡ 0 }
     requires quantum { world.old.boot.quantum ≡ quantum }
     requires machines { length world.old.boot.machines ≡ machines }
@@ -103,12 +103,12 @@ fn group(machines: u8, step: &Step, number: u64, world: &mut World) -> Result<Ve
     requires groups { world.old.groups < 2 ^ 127 }
     requires machines { length world.old.boot.machines ≡ machines }
     ensures held { OnOk result (can_hold machines step.now ≡ true) }
-    ensures runs_on { IfOk result (λ lines. RunsOn (state_of world.old) world.old.boot step.now lines.items (state_of world.new)) }
+    ensures runs_on { IfOk result (λ lines. RunsOn (world_state world.old) world.old.boot step.now lines.items (world_state world.new)) }
     ensures fits { IfOk result (λ lines. All LineFits lines.items) }
     ensures running { OnOk result (IsRunning world.new) }
     ensures counts { OnOk result (world.new.groups ≡ world.old.groups + 1) }
     ensures boot { world.new.boot ≡ world.old.boot }
-    ensures none { IfErr result (NoGroup world.old.boot (state_of world.old) step.now number) }
+    ensures none { IfErr result (NoGroup world.old.boot (world_state world.old) step.now number) }
 {
     if !can_hold(machines, step) {
         return Err(refused(number, TraceFault::NotDue));
@@ -137,13 +137,13 @@ fn is_ended(world: &World, text: &[u8], number: u64, page: &mut Vec<u8>) -> Resu
     requires running { IsRunning world.now }
     requires no_head { head_of_line (first_line (pieces 10 text.now)) ≡ None }
     requires room { number + length text.now < 2 ^ 62 }
-    ensures verdict { (es : List TheStep) (gs : List (List TheLine)) (pt : Point) (n : ℕ) → Ran world.now.boot es gs pt (state_of world.now) →
+    ensures verdict { (es : List TheStep) (gs : List (List TheLine)) (pt : Point) (n : ℕ) → Ran world.now.boot es gs pt (world_state world.now) →
         IfOk result (λ ended. judged_from world.now.boot (judge.Head pt n) number (pieces 10 text.now) ≡ good_verdict n ended) }
-    ensures text { (es : List TheStep) (gs : List (List TheLine)) (pt : Point) → Ran world.now.boot es gs pt (state_of world.now) →
+    ensures text { (es : List TheStep) (gs : List (List TheLine)) (pt : Point) → Ran world.now.boot es gs pt (world_state world.now) →
         IfOk result (λ ended. text.now ≡ text_behind ended pt) }
-    ensures fits { (es : List TheStep) (gs : List (List TheLine)) (pt : Point) → Ran world.now.boot es gs pt (state_of world.now) →
+    ensures fits { (es : List TheStep) (gs : List (List TheLine)) (pt : Point) → Ran world.now.boot es gs pt (world_state world.now) →
         IfOk result (λ ended. EndsFit ended pt) }
-    ensures refused { (es : List TheStep) (gs : List (List TheLine)) (pt : Point) (n : ℕ) → Ran world.now.boot es gs pt (state_of world.now) →
+    ensures refused { (es : List TheStep) (gs : List (List TheLine)) (pt : Point) (n : ℕ) → Ran world.now.boot es gs pt (world_state world.now) →
         IfErr result (RefusedSo (judged_from world.now.boot (judge.Head pt n) number (pieces 10 text.now))) }
 {
     if text.is_empty() {

@@ -1,7 +1,7 @@
 -- What the status of a run that was drawn says.
 use Rattle.dm_commands.proofs.Names.{◌≡◌, ◌⊎◌, inl, inr, ℕ, List, refl, OnErr, OnOk, Option, Result, Ok, Err, Boot, Directive, Failed, RoseOrFull, appended, IsCutShort, Lasts, Wears, worn_same, IsBeforeWorn, Status, Done, Usage, ReadFault}
 use Rattle.dm_commands.proofs.Names.{NoMemory, WriteFault, BootRefused, ScheduleRefused, TooLong, Worn, TraceRefused, ChartSays, unless_failed, BlamesShelf, BlamesSink, IsWant}
-use Rattle.dm_drawing.proofs.Names.{IsWhole}
+use Rattle.dm_drawing.proofs.Names.{PictureIsWhole}
 
 -- one of what comes before a worn pair
 pub worn_says : {A : Type 0} (b : Boot) (ds : List Directive) (text : List ℕ) (from to : ℕ) (before after : Option (List ℕ)) (r : Result A Failed) → IsBeforeWorn b ds text from to → OnOk r (after ≡ appended before text) → OnErr r (IsCutShort before text after) → ChartSays b ds before after (unless_failed r (Worn from to))

@@ -1,7 +1,7 @@
 -- Files come to one thing: whether the trace is good is a function of them, where no read and no write fails and memory is there.
-use Rattle.dm_commands.proofs.Names.{◌≡◌, ◌⊎◌, inl, inr, ℕ, Bool, true, false, List, length, refl, ap, ap₂, sym, subst, ◌∙◌, cond, nat_lt, Option, Some, Boot, RoseOrFull, appended, TraceFault, number_of_fault, good_verdict, Verdict, Open}
-use Rattle.dm_commands.proofs.Names.{verdict, Status, Done, Usage, ReadFault, NoMemory, WriteFault, BootRefused, ScheduleRefused, TooLong, Worn, TraceRefused, CheckSays, GivesGood, GivesRefused, HasTrace, NoTrace, good_line, most_trace}
-use Rattle.dm_commands.proofs.Names.{IsLonger, AfterBoot, BlamesShelf, BlamesSink, IsWant, None}
+use Rattle.dm_commands.proofs.Names.{◌≡◌, ◌⊎◌, inl, inr, ℕ, Bool, true, false, List, length, refl, ap, ap₂, sym, subst, ◌∙◌, cond, nat_lt, Option, Some, Boot, RoseOrFull, appended, TraceFault, number_of_trace_fault, good_verdict, Verdict}
+use Rattle.dm_commands.proofs.Names.{Open, verdict, Status, Done, Usage, ReadFault, NoMemory, WriteFault, BootRefused, ScheduleRefused, TooLong, Worn, TraceRefused, CheckSays, GivesGood, GivesRefused, HasTrace, NoTrace, good_line}
+use Rattle.dm_commands.proofs.Names.{most_trace, IsLonger, AfterBoot, BlamesShelf, BlamesSink, IsWant, None}
 use Rattle.dm_check.specs.Judge.{Ended, Refused}
 use Rattle.dm_words.specs.declared.status.Input.TheVariants as input
 use Rattle.dm_commands.proofs.Outcomes.{Files, boot_part, above, not_above, long_boot, refused_boot, said_boot, want_or_not, some_one, same_boot}
@@ -14,7 +14,7 @@ trace_part (Some bytes) k = cond (nat_lt most_trace (length bytes)) (TooLong inp
 abbrev status_of : Verdict → Status
 status_of (Open n) = Done
 status_of (Ended n) = Done
-status_of (Refused line fault) = TraceRefused line (number_of_fault fault)
+status_of (Refused line fault) = TraceRefused line (number_of_trace_fault fault)
 
 abbrev outcome : Files → List ℕ → List ℕ → Status
 outcome files boot trace = boot_part (files boot) (λ b. trace_part (files trace) (λ bytes. status_of (verdict b bytes)))
@@ -92,8 +92,8 @@ good_or_not : (n line : ℕ) (ended : Bool) (fault : TraceFault) → good_verdic
 good_or_not n line false fault h = cc
 good_or_not n line true fault h = cc
 
-same_refusal : (line l : ℕ) (f g : TraceFault) → Refused line f ≡ Refused l g → TraceRefused line (number_of_fault f) ≡ TraceRefused l (number_of_fault g)
-same_refusal line l f g h = let x : line ≡ l = cc in let y : f ≡ g = cc in ap₂ (λ (k : ℕ) (e : TraceFault). TraceRefused k (number_of_fault e)) x y
+same_refusal : (line l : ℕ) (f g : TraceFault) → Refused line f ≡ Refused l g → TraceRefused line (number_of_trace_fault f) ≡ TraceRefused l (number_of_trace_fault g)
+same_refusal line l f g h = let x : line ≡ l = cc in let y : f ≡ g = cc in ap₂ (λ (k : ℕ) (e : TraceFault). TraceRefused k (number_of_trace_fault e)) x y
 
 -- the verdict on the one is that on the other
 moved : (b c : Boot) (xs ys : List ℕ) (v : Verdict) → SaysSame b c xs ys → verdict b xs ≡ v → verdict c ys ≡ v

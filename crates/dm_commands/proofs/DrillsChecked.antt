@@ -1,9 +1,9 @@
 -- What `drill --trace` writes of its groups, `check` finds good.
 use Rattle.dm_commands.proofs.Names.{◌≡◌, ◌≤◌, ◌==◌, nat_lt, ℕ, zero, suc, Bool, true, false, List, [], ◌∷◌, ◌++◌, length, append-nil, ap, sym, subst, ◌∙◌, arith, if◌then◌else◌, All, All-nil, All-cons, All-append, Option, Some, Boot}
-use Rattle.dm_commands.proofs.Names.{Directive, Line, Todo, Point, LineFits, text_of_lines, IsGood, joined, IsDirective, appended, World, are_directives, Open, verdict, HasHome, beginnings_open, boot_of, deliver_drawn, directive_drawn}
-use Rattle.dm_commands.proofs.Names.{directives_drawn, migrate_drawn, round_drawn, state_behind, tick_drawn, turn_drawn, drawn, stepped, drawn_next, drawn_none, boot_machines, directives_fit, drawn_below, Drill, totals_of, IsWorn}
-use Rattle.dm_commands.proofs.Names.{text_shown, summary, IsWithin, directives_of, DrillsCheck, IsGoodDrill, IsGoodWornDrill}
-use Rattle.dm_drill.specs.Drilled.{IsWhole}
+use Rattle.dm_commands.proofs.Names.{Directive, Line, Todo, Point, LineFits, text_of_lines, IsGood, joined, IsDirective, appended, World, are_directives, Open, verdict, HasHome, beginnings_open, boot_of_machines, deliver_drawn}
+use Rattle.dm_commands.proofs.Names.{directive_drawn, directives_drawn, migrate_drawn, round_drawn, state_behind, tick_drawn, turn_drawn, drawn, stepped, drawn_next, drawn_none, boot_machines, directives_fit, drawn_below, Drill, totals_of}
+use Rattle.dm_commands.proofs.Names.{DrillWears, text_shown, summary, IsWithin, directives_of_drill, DrillsCheck, IsGoodDrill, IsGoodWornDrill}
+use Rattle.dm_drill.specs.Drilled.{DrillIsWhole}
 use Rattle.dm_commands.proofs.Drills.{all_for}
 
 -- a process that is to move is at home on one of the machines
@@ -25,11 +25,11 @@ homes_fit n x (suc k) least =
     subst (All (HasHome n)) (sym (drawn_next n x k)) (All-append (HasHome n) (directives_drawn n x k) (d ∷ []) (homes_fit n x k least) (All-cons (HasHome n) d [] (home_fits n (state_behind n x k) least) (All-nil (HasHome n))))
 
 -- the groups of a drill are good, open
-groups_open : (d : Drill) → IsWithin d → (groups : List (List Line)) (end : Point) (left : Todo) → IsGood (boot_of d.machines) (directives_of d) groups end left → All LineFits (joined groups) → verdict (boot_of d.machines) (text_of_lines (joined groups)) ≡ Open (length groups)
+groups_open : (d : Drill) → IsWithin d → (groups : List (List Line)) (end : Point) (left : Todo) → IsGood (boot_of_machines d.machines) (directives_of_drill d) groups end left → All LineFits (joined groups) → verdict (boot_of_machines d.machines) (text_of_lines (joined groups)) ≡ Open (length groups)
 groups_open d within groups end left good fits =
     let n = d.machines in
-    let b = boot_of n in
-    let ds = directives_of d in
+    let b = boot_of_machines n in
+    let ds = directives_of_drill d in
     let same : length b.machines ≡ n = boot_machines n in
     let each : All (IsDirective (length b.machines)) ds = subst (λ (k : ℕ). All (IsDirective k) ds) (sym same) (are_directives n ds (all_for n ds (directives_fit n d.seed d.lines within.least))) in
     let homes : All (HasHome (length b.machines)) ds = subst (λ (k : ℕ). All (HasHome k) ds) (sym same) (homes_fit n d.seed d.lines within.least) in
@@ -43,7 +43,7 @@ from_nothing before after bytes none written = written ∙ ap (λ (o : Option (L
 shown : (trace : Bool) (ls : List Line) → trace ≡ true → text_shown trace ls ≡ text_of_lines ls
 shown trace ls e = ap (λ (t : Bool). text_shown t ls) e
 
-whole_checks : (d : Drill) (b : Boot) (ds : List Directive) (before after : Option (List ℕ)) (world : Option World) (w : IsWhole d b ds before after world) → d.trace ≡ true → before ≡ Some []
+whole_checks : (d : Drill) (b : Boot) (ds : List Directive) (before after : Option (List ℕ)) (world : Option World) (w : DrillIsWhole d b ds before after world) → d.trace ≡ true → before ≡ Some []
     → after ≡ Some (text_of_lines (joined w.groups) ++ summary d.seed d.machines d.lines (totals_of w.groups) w.sums.quiet)
 whole_checks d b ds before after world w trace none =
     from_nothing before after (text_shown d.trace (joined w.groups) ++ w.last) none w.written
@@ -57,7 +57,7 @@ drills_check = record {
     groups = length says.1.groups;
     totals = totals_of says.1.groups;
     quiet = says.1.sums.quiet;
-    written = whole_checks d (boot_of d.machines) (directives_of d) o.before o.after o.world says.1 trace none;
+    written = whole_checks d (boot_of_machines d.machines) (directives_of_drill d) o.before o.after o.world says.1 trace none;
     good = groups_open d within says.1.groups says.1.end says.1.left says.1.good says.1.fits;
   };
   worn = λ d o from to within trace none says. record {

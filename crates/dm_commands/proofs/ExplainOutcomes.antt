@@ -1,6 +1,6 @@
 -- What is said of files, and how the program ends that has said it.
 use Rattle.dm_commands.proofs.Names.{◌≡◌, ◌⊎◌, inl, inr, ℕ, List, length, refl, ap, sym, subst, ◌∙◌, Option, Some, TheNoMemory, Boot, Vec, Global, IsValid, BootRule, rule_number, BootTold, IsToldValid, RoseOrFull, Status, Done, Usage}
-use Rattle.dm_commands.proofs.Names.{ReadFault, NoMemory, WriteFault, BootRefused, ScheduleRefused, TooLong, Worn, TraceRefused, AsksFiles, AsksNamed, BeforeRun, NoInputs, SaysInputs, TellsFiles, TellsRead, TellsSchedule, TellsSystem}
+use Rattle.dm_commands.proofs.Names.{ReadFault, NoMemory, WriteFault, BootRefused, ScheduleRefused, TooLong, Worn, TraceRefused, AsksFiles, AsksNamed, BeforeRun, NoInputs, SaysInputs, TellsFiles, TellsRead, TellsSchedule, ExplainsSystem}
 use Rattle.dm_commands.proofs.Names.{Wrote, NoBoot, NoDirectives, NoFiles, SaysBoot, BlamesShelf, BlamesSink, IsWant, None}
 use Rattle.dm_explain.specs.declared.explain.BootTold.TheVariants as told_as
 use Rattle.dm_words.specs.declared.status.Input.TheVariants as input
@@ -54,7 +54,7 @@ wrote_shelf files boot schedule text before after old new k k' due s h w e = eli
   | inr b ↦ subst (λ (x : Status). BlamesShelf old new x) (sym b.ends) e
 ]
 
-says_boot : (files : Option Files) (boot : List ℕ) (b : Boot) (text : List ℕ) → TellsSystem files boot b text → SaysBoot files boot b
+says_boot : (files : Option Files) (boot : List ℕ) (b : Boot) (text : List ℕ) → ExplainsSystem files boot b text → SaysBoot files boot b
 says_boot files boot b text h = record { bytes = h.bytes; file = h.file; says = h.told.says }
 
 -- what is due is how a run ends before it runs
@@ -159,7 +159,7 @@ refused_told files boot schedule rule number place text told is e h =
     let k : TellsRead files boot (told_as.Refused rule place text) = subst (TellsRead files boot) is h in
     record { bytes = k.bytes; file = k.file; rule = rule; told = k.explains; number_is = e }
 
-pub system_told : (files : Option Files) (boot : List ℕ) (b : Boot) (text : Vec ℕ Global) (told : BootTold) → told ≡ told_as.System b text → TellsRead files boot told → TellsSystem files boot b text.items
+pub system_told : (files : Option Files) (boot : List ℕ) (b : Boot) (text : Vec ℕ Global) (told : BootTold) → told ≡ told_as.System b text → TellsRead files boot told → ExplainsSystem files boot b text.items
 system_told files boot b text told is h =
     let k : TellsRead files boot (told_as.System b text) = subst (TellsRead files boot) is h in
     record { bytes = k.bytes; file = k.file; told = k.explains }

@@ -8,18 +8,18 @@ pub use Rattle.dm_wire.proofs.Names.{vec_len}
 pub use Rattle.dm_stream.proofs.Names.{append-nil, inl, inr, nat_lt, subst, ◌≢◌, ◌⊎◌}
 pub use Rattle.dm_linktable.proofs.Names.{◌&&◌, ◌==◌}
 pub use Rattle.dm_packet.proofs.Names.{All, MsgId, OnOk, append_assoc, nat_le, take-append-drop}
-pub use Rattle.dm_schedule.proofs.Names.{Accepted, Refused, Schedule, also, ends_line, is_return, keyword_of, line_ends, number_of, onto_first, process_of, words}
+pub use Rattle.dm_schedule.proofs.Names.{Accepted, Refused, Schedule, also, ends_line, is_return, keyword_of, line_ends, number_of_word, onto_first, process_of, words}
 pub use Rattle.dm_schedule.specs.Keywords.{Machine, Operand, Packet, Process, Rounds, operands}
 unfoldable pub use Rattle.dm_schedule.specs.Lines.{lines}
 pub use Rattle.dm_schedule.specs.Operands.{Value, Values, value_of, values_of, within, ◌>>=◌}
-pub use Rattle.dm_schedule.specs.Schedule.{begins_comment, made, with_line}
+pub use Rattle.dm_schedule.specs.Schedule.{begins_comment, directive_made, line_and_rest}
 unfoldable pub use Rattle.dm_schedule.specs.Schedule.{directive_of, line_directive, lines_from}
 pub use Rattle.dm_schedule.specs.declared.LineFault.{LineFault}
 pub use Rattle.dm_schedule.specs.declared.LineFault.TheVariants.{SameMachine, WrongCount}
 pub use Rattle.dm_schedule.specs.declared.keywords.Keyword.{Keyword}
 pub use Rattle.dm_schedule.specs.declared.keywords.Keyword.TheVariants.{Deliver, Migrate, Round, Settle, Spin, Tick, Turn}
 pub use Rattle.dm_draw.proofs.Drawing.{drawn_next, drawn_none}
-pub use Rattle.dm_draw.proofs.Names.{All-append, All-cons, All-nil, Boot, Directive, IsDrawn, IsValid, boot_of, deliver_drawn, directives_drawn, drawn, migrate_drawn, round_drawn, state_behind, stepped, tick_drawn, turn_drawn}
+pub use Rattle.dm_draw.proofs.Names.{All-append, All-cons, All-nil, Boot, Directive, IsDrawn, IsValid, boot_of_machines, deliver_drawn, directives_drawn, drawn, migrate_drawn, round_drawn, state_behind, stepped, tick_drawn, turn_drawn}
 pub use Rattle.dm_draw.proofs.Within.{boot_machines, directives_fit, drawn_below}
 unfoldable pub use Rattle.dm_draw.specs.Directives.{directive_drawn}
 pub use Rattle.dm_asm.proofs.Names.{Vec, option_map}
@@ -48,10 +48,10 @@ pub use Rattle.dm_drawing.proofs.Names.{IsBeforeWorn, are_directives}
 pub use Rattle.dm_drawing.specs.declared.drawing.Drawn.{Drawn}
 pub use Rattle.dm_check.proofs.Names.{HasHome, IsGood, IsTrace, Open, Verdict, good_verdict, verdict}
 pub use Rattle.dm_check.proofs.Runs.{beginnings_open, runs_ended}
-pub use Rattle.dm_check.specs.Faults.{number_of_fault}
+pub use Rattle.dm_check.specs.Faults.{number_of_trace_fault}
 pub use Rattle.dm_check.specs.declared.fault.TraceFault.{TraceFault}
 pub use Rattle.dm_drill.proofs.Going.{nothing_drilled}
-pub use Rattle.dm_drill.proofs.Names.{Drill, Ended, IsWorn, Stop, summary, text_shown}
+pub use Rattle.dm_drill.proofs.Names.{Drill, DrillWears, Ended, Stop, summary, text_shown}
 pub use Rattle.dm_drill.specs.Counts.{totals_of}
 pub use Rattle.dm_words.specs.DrillWords.{IsWithin}
 pub use Rattle.dm_words.specs.Status.{BlamesShelf, BlamesSink, IsWant}
@@ -62,9 +62,9 @@ pub use Rattle.dm_commands.specs.Asked.{AsksBoth, AsksFiles, FailsSecond}
 pub use Rattle.dm_commands.specs.Charts.{ChartSays, unless_failed}
 pub use Rattle.dm_commands.specs.Checks.{Accepts, CheckSays, GivesGood, GivesRefused, HasTrace, NoBytes, NoTrace, good_line, most_trace}
 pub use Rattle.dm_commands.specs.Drills.{DrilledSays}
-unfoldable pub use Rattle.dm_commands.specs.Drills.{directives_of}
+unfoldable pub use Rattle.dm_commands.specs.Drills.{directives_of_drill}
 pub use Rattle.dm_commands.specs.Ended.{ended_with}
-pub use Rattle.dm_commands.specs.Explains.{AsksNamed, BeforeRun, FailsNamed, NoInputs, SaysInputs, TellsFiles, TellsRead, TellsSchedule, TellsSystem, Wrote}
+pub use Rattle.dm_commands.specs.Explains.{AsksNamed, BeforeRun, ExplainsSystem, FailsNamed, NoInputs, SaysInputs, TellsFiles, TellsRead, TellsSchedule, Wrote}
 pub use Rattle.dm_commands.specs.Files.{IsLonger, SoFar, StartsSo}
 pub use Rattle.dm_commands.specs.Inputs.{AcceptsFiles, AfterBoot, HasFile, NoBoot, NoDirectives, NoFiles, RefusesBoot, RefusesSchedule, SaysBoot, SaysDirectives, SaysFiles, most_boot, most_schedule}
 pub use Rattle.dm_commands.specs.Laws.{DrillsCheck, IsGoodDrill, IsGoodWornDrill, IsKept, RunsCheck, SaysItIs, WornRunsCheck}

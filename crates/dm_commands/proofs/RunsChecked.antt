@@ -1,7 +1,7 @@
 -- What `run` writes, `check` finds good.
 use Rattle.dm_commands.proofs.Names.{◌≡◌, ◌⊎◌, inl, inr, ℕ, Bool, true, false, List, [], ◌++◌, length, ap, sym, subst, ◌∙◌, append-nil, All, Option, Some, Boot, Directive, Line, IsGood, appended, good_verdict, verdict, HasHome}
 use Rattle.dm_commands.proofs.Names.{beginnings_open, runs_ended, Status, Accepts, GivesGood, HasTrace, AcceptsFiles, SaysBoot, SaysDirectives, IsKept, RunsCheck, SaysItIs, WornRunsCheck, Outside, NeverFails, IsWant, IsWhole}
-use Rattle.dm_run.specs.Printed.{IsWorn}
+use Rattle.dm_run.specs.Printed.{RunWears}
 use Rattle.dm_commands.proofs.Schedules.{are_read}
 
 -- the directives of a schedule name processes that are at home on machines that there are
@@ -44,7 +44,7 @@ pub worn_runs_check : WornRunsCheck
 worn_runs_check boot schedule trace run check from to s says kept promise never = elim says [
   | inl r ↦
       let a : AcceptsFiles (Some kept.files) boot schedule r.system r.directives = accepted boot schedule trace run check r.system r.directives kept r.accepts in
-      let w : IsWorn r.system r.directives run.before run.after from to = r.says in
+      let w : RunWears r.system r.directives run.before run.after from to = r.says in
       let good : IsGood r.system r.directives (w.groups ++ []) w.wears.end w.wears.left = subst (λ (gs : List (List Line)). IsGood r.system r.directives gs w.wears.end w.wears.left) (sym (append-nil w.groups)) w.wears.good in
       said_of boot schedule trace run check s r.system r.directives _ (length w.groups) false kept a w.written
       (beginnings_open r.system r.directives w.groups [] w.wears.end w.wears.left r.within (homes_of _ schedule (length r.system.machines) r.directives a.says.says_directives) good w.fits) promise never

@@ -1,8 +1,8 @@
 -- What the directives of a schedule are that is accepted.
 use Rattle.dm_commands.proofs.Names.{◌≡◌, ◌≢◌, ◌≤◌, ◌<◌, ℕ, suc, ◌+◌, ◌==◌, Bool, true, false, ◌&&◌, nat_lt, nat_le, if◌then◌else◌, List, [], ◌∷◌, length, refl, subst, arith, ⊤, All, All-nil, All-cons, nat_tests, Option, Some, Result, Ok}
 use Rattle.dm_commands.proofs.Names.{Err, Pid, Directive, LineFault, SameMachine, WrongCount, Keyword, Turn, Tick, Deliver, Migrate, Round, Spin, Settle, keyword_of, operands, Operand, Machine, Process, Packet, Rounds, lines, words}
-use Rattle.dm_commands.proofs.Names.{onto_first, ends_line, is_return, line_ends, number_of, process_of, Value, Values, value_of, values_of, within, ◌>>=◌, Schedule, Accepted, Refused, made, directive_of, begins_comment, line_directive}
-use Rattle.dm_commands.proofs.Names.{also, with_line, lines_from, IsFor, HasHome, None}
+use Rattle.dm_commands.proofs.Names.{onto_first, ends_line, is_return, line_ends, number_of_word, process_of, Value, Values, value_of, values_of, within, ◌>>=◌, Schedule, Accepted, Refused, directive_made, directive_of, begins_comment}
+use Rattle.dm_commands.proofs.Names.{line_directive, also, line_and_rest, lines_from, IsFor, HasHome, None}
 use Rattle.dm_schedule.specs.declared.Step.TheVariants as step
 use Rattle.dm_schedule.specs.declared.Directive.TheVariants as directive
 use Rattle.dm_schedule.specs.Schedule.{directives_of}
@@ -44,10 +44,10 @@ ValuesFit machines [] v = ⊤
 ValuesFit machines (o ∷ os) v = ValueFits machines o v.0 × ValuesFit machines os v.1
 
 value_has : (machines : ℕ) (o : Operand) (word : List ℕ) → OkHas (ValueFits machines o) (value_of machines o word)
-value_has machines Machine word = within_has (λ m. nat_lt m machines) (number_of word)
+value_has machines Machine word = within_has (λ m. nat_lt m machines) (number_of_word word)
 value_has machines Process word = within_has (λ (p : Pid). nat_lt p.home machines && nat_le p.num 4294967295) (process_of word)
-value_has machines Packet word = within_has (λ k. nat_le k 4294967295) (number_of word)
-value_has machines Rounds word = within_has (λ n. nat_le 1 n && nat_le n 65536) (number_of word)
+value_has machines Packet word = within_has (λ k. nat_le k 4294967295) (number_of_word word)
+value_has machines Rounds word = within_has (λ n. nat_le 1 n && nat_le n 65536) (number_of_word word)
 
 values_has : (machines : ℕ) (os : List Operand) (ws : List (List ℕ)) → OkHas (ValuesFit machines os) (values_of machines os ws)
 values_has machines [] [] = tt
@@ -85,7 +85,7 @@ deliver_has : (machines a c k : ℕ) (same : Bool) → (a == c) ≡ same → a <
 deliver_has machines a c k true e h g = tt
 deliver_has machines a c k false e h g = ((h, g, is_apart a c e), tt)
 
-made_has : (machines : ℕ) (k : Keyword) (v : Values (operands k)) → ValuesFit machines (operands k) v → OkHas (IsFit machines) (made k v)
+made_has : (machines : ℕ) (k : Keyword) (v : Values (operands k)) → ValuesFit machines (operands k) v → OkHas (IsFit machines) (directive_made k v)
 made_has machines Turn v h = (is_below v.0 machines h.0, tt)
 made_has machines Tick v h = (is_below v.0 machines h.0, tt)
 made_has machines Deliver v h = deliver_has machines v.0 v.1.0 v.1.1.0 (v.0 == v.1.0) refl (is_below v.0 machines h.0) (is_below v.1.0 machines h.1.0)
@@ -94,8 +94,8 @@ made_has machines Round v h = (tt, tt)
 made_has machines Spin v h = (in_range v.0 h.0, tt)
 made_has machines Settle v h = (tt, tt)
 
-counted_has : (machines : ℕ) (k : Keyword) (ws : List (List ℕ)) (b : Bool) → OkHas (IsFit machines) (if b then values_of machines (operands k) ws >>= made k else Err WrongCount)
-counted_has machines k ws true = then_has (ValuesFit machines (operands k)) (IsFit machines) (values_of machines (operands k) ws) (made k) (values_has machines (operands k) ws) (made_has machines k)
+counted_has : (machines : ℕ) (k : Keyword) (ws : List (List ℕ)) (b : Bool) → OkHas (IsFit machines) (if b then values_of machines (operands k) ws >>= directive_made k else Err WrongCount)
+counted_has machines k ws true = then_has (ValuesFit machines (operands k)) (IsFit machines) (values_of machines (operands k) ws) (directive_made k) (values_has machines (operands k) ws) (made_has machines k)
 counted_has machines k ws false = tt
 
 directive_has : (machines : ℕ) (k : Option Keyword) (ws : List (List ℕ)) → OkHas (IsFit machines) (directive_of machines k ws)
@@ -129,7 +129,7 @@ more_has : (machines n : ℕ) (s : Schedule) → Has machines n s → Has machin
 more_has machines n (Accepted ds) k = (k.0, omega (arith, k.1))
 more_has machines n (Refused line fault) k = tt
 
-with_has : (machines n line : ℕ) (r : Result (Option Directive) LineFault) (s : Schedule) → OkHas (SomeFit machines) r → Has machines n s → Has machines (suc n) (with_line line r s)
+with_has : (machines n line : ℕ) (r : Result (Option Directive) LineFault) (s : Schedule) → OkHas (SomeFit machines) r → Has machines n s → Has machines (suc n) (line_and_rest line r s)
 with_has machines n line (Ok None) s h k = more_has machines n s k
 with_has machines n line (Ok (Some d)) s h k = also_has machines n d s h k
 with_has machines n line (Err e) s h k = tt

@@ -12,7 +12,7 @@ use Rattle.dm_mirror.specs.Todo.{IsDirective}
 use Rattle.dm_outside.specs.declared.Failed.{Failed}
 use Rattle.dm_outside.specs.Outside.{appended}
 use Rattle.dm_run.specs.Appended.{IsCutShort}
-use Rattle.dm_drawing.specs.Pictured.{IsBeforeWorn, IsWhole}
+use Rattle.dm_drawing.specs.Pictured.{IsBeforeWorn, PictureIsWhole}
 use Rattle.dm_words.specs.declared.status.Input.TheVariants as input
 use Rattle.dm_words.specs.declared.status.Status.{Status}
 use Rattle.dm_words.specs.declared.status.Status.TheVariants.{Done, NoMemory, ReadFault, WriteFault, Worn}
@@ -25,7 +25,7 @@ use Rattle.dm_words.specs.Status.{BlamesShelf, BlamesSink}
 -- the picture of all of the run was appended
 pub record ShowsWhole (b : Boot) (ds : List Directive) (before after : Option (List ℕ)) : Type 0 where
   pub text : List ℕ
-  pub is : IsWhole b ds text
+  pub is : PictureIsWhole b ds text
   pub written : after ≡ appended before text
 
 -- that of what comes before two machines count as many messages as they may
@@ -36,7 +36,7 @@ pub record ShowsBegun (b : Boot) (ds : List Directive) (before after : Option (L
 
 -- one of these pictures
 abbrev pub IsPicture : Boot → List Directive → List ℕ → Type 0
-IsPicture b ds text = IsWhole b ds text ⊎ ((from to : ℕ) × IsBeforeWorn b ds text from to)
+IsPicture b ds text = PictureIsWhole b ds text ⊎ ((from to : ℕ) × IsBeforeWorn b ds text from to)
 
 -- it was begun
 pub record BeginsPicture (b : Boot) (ds : List Directive) (before after : Option (List ℕ)) : Type 0 where

@@ -8,7 +8,7 @@ use Rattle.dm_onekernel.specs.Boot.{IsValid}
 use Rattle.dm_outside.specs.Outside.{RoseOrFull, appended}
 use Rattle.dm_run.specs.Appended.{IsCutShort}
 use Rattle.dm_check.specs.declared.fault.TraceFault.{TraceFault}
-use Rattle.dm_check.specs.Faults.{number_of_fault}
+use Rattle.dm_check.specs.Faults.{number_of_trace_fault}
 use Rattle.dm_check.specs.Good.{IsTrace, good_verdict}
 use Rattle.dm_check.specs.Judge.{Refused, verdict}
 use Rattle.dm_words.specs.declared.status.Input.TheVariants as input
@@ -55,7 +55,7 @@ pub record BeginsGood (b : Boot) (bytes : List ℕ) (before after : Option (List
 pub record RefusesTrace (b : Boot) (bytes : List ℕ) (line why : ℕ) : Type 0 where
   pub fault : TraceFault
   pub refused : verdict b bytes ≡ Refused line fault
-  pub why_is : why ≡ number_of_fault fault
+  pub why_is : why ≡ number_of_trace_fault fault
 
 -- what a status says of this trace and this system
 abbrev pub CheckSays : Boot → List ℕ → Option (List ℕ) → Option (List ℕ) → Status → Type 0
@@ -129,8 +129,8 @@ Finds boot trace o s =
     (files : List ℕ → Option (List ℕ)) (line why : ℕ) → o.files ≡ Some files → GivesRefused files boot trace line why → NeverReadsBadly o → (s ≡ status.TraceRefused line why) ⊎ IsWant s
 
 -- and files that give nothing to check for the reason that there is
-abbrev pub Refuses : List ℕ → List ℕ → Outside → Status → Type 0
-Refuses boot trace o s =
+abbrev pub CheckRefuses : List ℕ → List ℕ → Outside → Status → Type 0
+CheckRefuses boot trace o s =
     (files : List ℕ → Option (List ℕ)) (due : Status) → o.files ≡ Some files
     → NoTrace (Some files) boot trace o.reads_before o.reads_after due → (IsWant due → ⊥) → NeverReadsBadly o → (s ≡ due) ⊎ IsWant s
 
@@ -139,7 +139,7 @@ pub record CheckMeets {F : Type 0} (asked : F → List ℕ → F → Type 0) (fa
   pub says : SaysCheck boot trace o s
   pub accepts : Accepts boot trace o s
   pub finds : Finds boot trace o s
-  pub refuses : Refuses boot trace o s
+  pub refuses : CheckRefuses boot trace o s
   pub asks : AsksFiles asked o.files boot trace old new
   pub boot_fault : s ≡ status.ReadFault input.Boot → FailsAlone asked faults boot old new
   pub trace_fault : s ≡ status.ReadFault input.Trace → FailsSecond asked faults o.files boot trace old new

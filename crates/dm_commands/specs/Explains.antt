@@ -28,7 +28,7 @@ pub record TellsRead (files : Option (List ℕ → Option (List ℕ))) (name : L
   pub explains : ExplainsBoot bytes told
 
 -- it breaks the rule of this number at this place, and that is said
-pub record TellsBroken (files : Option (List ℕ → Option (List ℕ))) (name : List ℕ) (number place : ℕ) (text : List ℕ) : Type 0 where
+pub record ExplainsBroken (files : Option (List ℕ → Option (List ℕ))) (name : List ℕ) (number place : ℕ) (text : List ℕ) : Type 0 where
   pub bytes : List ℕ
   pub file : HasFile files name most_boot bytes
   pub rule : BootRule
@@ -36,7 +36,7 @@ pub record TellsBroken (files : Option (List ℕ → Option (List ℕ))) (name :
   pub number_is : number ≡ rule_number rule
 
 -- it gives this system, and that is said
-pub record TellsSystem (files : Option (List ℕ → Option (List ℕ))) (name : List ℕ) (b : Boot) (text : List ℕ) : Type 0 where
+pub record ExplainsSystem (files : Option (List ℕ → Option (List ℕ))) (name : List ℕ) (b : Boot) (text : List ℕ) : Type 0 where
   pub bytes : List ℕ
   pub file : HasFile files name most_boot bytes
   pub told : TellsBoot bytes b text
@@ -70,13 +70,13 @@ pub record TellsSchedule (files : Option (List ℕ → Option (List ℕ))) (name
 pub record TellsBoth (files : Option (List ℕ → Option (List ℕ))) (boot schedule : List ℕ) (due : Status) (text : List ℕ) : Type 0 where
   pub system : Boot
   pub first : List ℕ
-  pub boot_told : TellsSystem files boot system first
+  pub boot_told : ExplainsSystem files boot system first
   pub schedule_told : TellsSchedule files schedule (length system.machines) first due text
 
 -- a system is said, alone
 pub record TellsAlone (files : Option (List ℕ → Option (List ℕ))) (boot text : List ℕ) : Type 0 where
   pub system : Boot
-  pub told : TellsSystem files boot system text
+  pub told : ExplainsSystem files boot system text
 
 abbrev pub TellsAccepted : Option (List ℕ → Option (List ℕ)) → List ℕ → Option (List ℕ) → List ℕ → Type 0
 TellsAccepted files boot None text = TellsAlone files boot text
@@ -89,7 +89,7 @@ TellsBadLine files boot (Some schedule) line why text = TellsBoth files boot sch
 -- how a run ends on files of these names before it runs, and what is said of them
 abbrev pub TellsFiles : Option (List ℕ → Option (List ℕ)) → List ℕ → Option (List ℕ) → Status → List ℕ → Type 0
 TellsFiles files boot schedule Done text = TellsAccepted files boot schedule text
-TellsFiles files boot schedule (BootRefused number place) text = TellsBroken files boot number place text
+TellsFiles files boot schedule (BootRefused number place) text = ExplainsBroken files boot number place text
 TellsFiles files boot schedule (ScheduleRefused line why) text = TellsBadLine files boot schedule line why text
 TellsFiles files boot schedule _ text = ⊥
 

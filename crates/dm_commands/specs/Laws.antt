@@ -3,7 +3,7 @@ use Rattle.std.specs.Prelude.{◌≡◌, ◌≤◌, ℕ, ◌⊎◌, Bool, true, 
 use Rattle.std.specs.declared.option.Option.{Option}
 use Rattle.std.specs.declared.option.Option.TheVariants.{Some}
 use Rattle.dm_outside.specs.Outside.{appended}
-use Rattle.dm_draw.specs.Boot.{boot_of}
+use Rattle.dm_draw.specs.Boot.{boot_of_machines}
 use Rattle.dm_draw.specs.declared.drill.Drill.{Drill}
 use Rattle.dm_drill.specs.Summary.{summary}
 use Rattle.dm_drill.specs.Totals.{Totals}
@@ -52,14 +52,14 @@ pub record IsGoodDrill (d : Drill) (text : Option (List ℕ)) : Type 0 where
   pub totals : Totals
   pub quiet : Bool
   pub written : text ≡ Some (printed ++ summary d.seed d.machines d.lines totals quiet)
-  pub good : verdict (boot_of d.machines) printed ≡ Open groups
+  pub good : verdict (boot_of_machines d.machines) printed ≡ Open groups
 
 -- and where it was stopped by two machines that count as many messages as they may, all that it printed is
 pub record IsGoodWornDrill (d : Drill) (text : Option (List ℕ)) : Type 0 where
   pub printed : List ℕ
   pub groups : ℕ
   pub written : text ≡ Some printed
-  pub good : verdict (boot_of d.machines) printed ≡ Open groups
+  pub good : verdict (boot_of_machines d.machines) printed ≡ Open groups
 
 -- what `drill --trace` writes, from nothing on and without its summary, is good, open
 pub record DrillsCheck : Type 0 where

@@ -8,7 +8,7 @@ use Rattle.dm_onekernel.specs.Boot.{IsValid}
 use Rattle.dm_schedule.specs.declared.Directive.{Directive}
 use Rattle.dm_world.specs.declared.world.World.{World}
 use Rattle.dm_mirror.specs.Todo.{IsDirective}
-use Rattle.dm_run.specs.Printed.{IsWhole, IsOfFirst, IsBegun, IsWorn, Lasts, Wears}
+use Rattle.dm_run.specs.Printed.{IsWhole, IsOfFirst, IsBegun, RunWears, Lasts, Wears}
 use Rattle.dm_words.specs.declared.status.Input.TheVariants as input
 use Rattle.dm_words.specs.declared.status.Status.{Status}
 use Rattle.dm_words.specs.declared.status.Status.TheVariants.{Done, NoMemory, ReadFault, WriteFault, Worn}
@@ -22,7 +22,7 @@ abbrev pub RunSays : Boot → List Directive → Option (List ℕ) → Option (L
 RunSays b ds before after world Done = Lasts b ds × IsWhole b ds before after world
 RunSays b ds before after world (NoMemory lack) = IsOfFirst b ds before after
 RunSays b ds before after world WriteFault = IsBegun b ds before after world
-RunSays b ds before after world (Worn from to) = IsWorn b ds before after from to
+RunSays b ds before after world (Worn from to) = RunWears b ds before after from to
 RunSays b ds before after world _ = ⊥
 
 -- a run of the system and the directives that the files say: the system may start, and the directives are for its machines

@@ -4,7 +4,7 @@ ghost use Rattle.dm_onekernel.specs.declared.boot.Boot.{Boot as TheBoot};
 ghost use Rattle.dm_onekernel.specs.Boot.{IsValid};
 ghost use Rattle.dm_words.specs.declared.status.Input.TheVariants as input_;
 ghost use Rattle.dm_commands.specs.Asked.{AsksFiles, FailsAlone, FailsSecond};
-ghost use Rattle.dm_commands.specs.Checks.{Accepts, CheckSays, Finds, IsGoodTrace, Refuses, SaysCheck, end_word, good_line};
+ghost use Rattle.dm_commands.specs.Checks.{Accepts, CheckRefuses, CheckSays, Finds, IsGoodTrace, SaysCheck, end_word, good_line};
 ghost use Rattle.dm_commands.specs.Outside.{around};
 ghost use Rattle.dm_words.specs.Status.{BlamesShelf, BlamesSink};
 
@@ -30,7 +30,7 @@ pub fn check_files<F: Shelf, K: Sink>(
         (around F.told F.faults K.told K.faults shelf.old shelf.new out.old out.new None) result }
     ensures finds { Finds boot.now trace.now
         (around F.told F.faults K.told K.faults shelf.old shelf.new out.old out.new None) result }
-    ensures refuses { Refuses boot.now trace.now
+    ensures refuses { CheckRefuses boot.now trace.now
         (around F.told F.faults K.told K.faults shelf.old shelf.new out.old out.new None) result }
     ensures asks { AsksFiles F.asked (F.told shelf.old) boot.now trace.now shelf.old shelf.new }
     ensures boot_fault { result ≡ Status.ReadFault input_.Boot → FailsAlone F.asked F.faults boot.now shelf.old shelf.new }

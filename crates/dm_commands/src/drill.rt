@@ -3,9 +3,9 @@ ghost use Rattle.std.specs.Prelude.{◌≡◌, ◌≤◌, IfOk, length};
 ghost use Rattle.std.specs.List.{All};
 ghost use Rattle.dm_onekernel.specs.Boot.{IsValid};
 ghost use Rattle.dm_run.specs.Coming.{IsFor};
-ghost use Rattle.dm_draw.specs.Boot.{boot_of};
+ghost use Rattle.dm_draw.specs.Boot.{boot_of_machines};
 ghost use Rattle.dm_words.specs.DrillWords.{IsWithin};
-ghost use Rattle.dm_commands.specs.Drills.{DrilledSays, directives_of};
+ghost use Rattle.dm_commands.specs.Drills.{DrilledSays, directives_of_drill};
 ghost use Rattle.dm_words.specs.Status.{BlamesSink};
 
 use crate::run::status_of;
@@ -38,7 +38,7 @@ pub fn drill<K: Sink>(
     world: &mut Option<World>,
 ) -> Status
     requires { IsWithin drill.now }
-    ensures says { DrilledSays drill.now (boot_of drill.now.machines) (directives_of drill.now) (K.told out.old) (K.told out.new) world.new result }
+    ensures says { DrilledSays drill.now (boot_of_machines drill.now.machines) (directives_of_drill drill.now) (K.told out.old) (K.told out.new) world.new result }
     ensures sink { BlamesSink (K.faults out.old) (K.faults out.new) result }
     ensures writes { K.faults out.old ≤ K.faults out.new }
 {
@@ -52,9 +52,9 @@ pub fn drill<K: Sink>(
 /// Draws a system and its directives.
 fn draw(alloc: Global, drill: &Drill) -> Result<Drawn, NoMemory>
     requires { IsWithin drill.now }
-    ensures boot { IfOk result (λ d. d.boot ≡ boot_of drill.now.machines) }
+    ensures boot { IfOk result (λ d. d.boot ≡ boot_of_machines drill.now.machines) }
     ensures valid { IfOk result (λ d. IsValid d.boot) }
-    ensures directives { IfOk result (λ d. d.directives.items ≡ directives_of drill.now) }
+    ensures directives { IfOk result (λ d. d.directives.items ≡ directives_of_drill drill.now) }
     ensures each { IfOk result (λ d. All (IsFor (length d.boot.machines)) d.directives.items) }
     ensures few { IfOk result (λ d. length d.directives.items ≤ MOST_SCHEDULE) }
 {

@@ -30,7 +30,7 @@ if_plainly true l m x y e f = e
 if_plainly false l m x y e f = f
 
 pub goes_on_plainly : (here : ℕ) (p : Process) (r : Rest)
-    → plain (goes_on here p r) ≡ Some (pieces.goes_on p.pid (plain_process p) r.dir r.owner.pid r.base r.own r.left (piece_of r.left))
+    → plain (goes_on here p r) ≡ Some (pieces.move_goes_on p.pid (plain_process p) r.dir r.owner.pid r.base r.own r.left (piece_of r.left))
 goes_on_plainly here p r =
     if_plainly (r.left - piece_of r.left == 0) _ _ _ _ (ends_plainly reply.Done p) (asks_plainly here p (behind r))
 

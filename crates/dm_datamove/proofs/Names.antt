@@ -13,7 +13,7 @@ pub use Rattle.dm_message.specs.declared.MsgId.{MsgId}
 pub use Rattle.dm_message.specs.declared.What.{What}
 pub use Rattle.dm_linktable.proofs.Names.{Link, Pid, ◌&&◌, ◌==◌}
 pub use Rattle.dm_process.proofs.Names.{Message}
-pub use Rattle.dm_process.specs.Begun.{begun}
+pub use Rattle.dm_process.specs.Begun.{begun_process}
 pub use Rattle.dm_process.specs.Lawful.{IsLawfulProcess, IsLawfulStatus, SlotIsLawful}
 pub use Rattle.dm_process.specs.declared.process.Direction.{Direction}
 pub use Rattle.dm_process.specs.declared.process.Process.{Process}

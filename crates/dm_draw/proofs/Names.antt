@@ -7,8 +7,8 @@ pub use Rattle.dm_processor.proofs.Names.{Bool, List, [], ap, arith, false, leng
 pub use Rattle.dm_linktable.proofs.Names.{rules, subst, ◌&&◌, ◌==◌, ◌≢◌}
 pub use Rattle.dm_schedule.proofs.Names.{if◌then◌else◌, nat_lt}
 pub use Rattle.dm_schedule.specs.declared.Directive.{Directive}
-pub use Rattle.dm_draw.specs.Boot.{machine, machines_of, processes_of}
-unfoldable pub use Rattle.dm_draw.specs.Boot.{boot_of}
+pub use Rattle.dm_draw.specs.Boot.{first_processes, small_machine, small_machines}
+unfoldable pub use Rattle.dm_draw.specs.Boot.{boot_of_machines}
 pub use Rattle.dm_draw.specs.Directives.{Drawn, IsDrawn, deliver_drawn, migrate_drawn, round_drawn, tick_drawn, turn_drawn}
 unfoldable pub use Rattle.dm_draw.specs.Directives.{directive_drawn, directives_drawn, state_behind}
 unfoldable pub use Rattle.dm_draw.specs.Draw.{drawn, stepped}

@@ -1,6 +1,6 @@
 -- The system of a drill is one that may start, for each number of machines.
 use Rattle.dm_draw.proofs.Names.{◌≡◌, ℕ, zero, suc, ◌+◌, ◌-◌, ◌<◌, ◌≤◌, ◌&&◌, ◌==◌, nat_le, Bool, true, false, [], length, refl, sym, subst, arith, nat_tests, Boot, IsValid, machines_are_valid, images_are_valid, processes_are_valid}
-use Rattle.dm_draw.proofs.Names.{boot_of}
+use Rattle.dm_draw.proofs.Names.{boot_of_machines}
 
 -- all that is asked of a boot file
 abbrev pub is_valid : Boot → Bool
@@ -59,11 +59,11 @@ each_at : (f : ℕ → Bool) (n k : ℕ) → each_below f n ≡ true → k < n �
 each_at f zero k e l = absurd (omega (arith, l))
 each_at f (suc n) k e l = at_or_below f n k (k == n) refl l (both_second _ _ e) (λ m. each_at f n k (both_first _ _ e) m)
 
-tested : each_below (λ k. is_valid (boot_of (k + 2))) 15 ≡ true
-unfolding boot_of
+tested : each_below (λ k. is_valid (boot_of_machines (k + 2))) 15 ≡ true
+unfolding boot_of_machines
 tested = refl
 
-pub boot_valid : (machines : ℕ) → 2 ≤ machines → machines ≤ 16 → IsValid (boot_of machines)
+pub boot_valid : (machines : ℕ) → 2 ≤ machines → machines ≤ 16 → IsValid (boot_of_machines machines)
 boot_valid machines least most =
-    let e : is_valid (boot_of (machines - 2 + 2)) ≡ true = each_at (λ k. is_valid (boot_of (k + 2))) 15 (machines - 2) tested (omega (arith, least, most)) in
-    valid_by (boot_of machines) (subst (λ (n : ℕ). is_valid (boot_of n) ≡ true) (omega (arith, least)) e)
+    let e : is_valid (boot_of_machines (machines - 2 + 2)) ≡ true = each_at (λ k. is_valid (boot_of_machines (k + 2))) 15 (machines - 2) tested (omega (arith, least, most)) in
+    valid_by (boot_of_machines machines) (subst (λ (n : ℕ). is_valid (boot_of_machines n) ≡ true) (omega (arith, least)) e)

@@ -1,7 +1,7 @@
 -- What is drawn for so many machines is for machines that are there.
 use Rattle.dm_draw.proofs.Names.{◌≡◌, ◌≢◌, ◌⊎◌, inl, inr, ℕ, zero, suc, ◌+◌, ◌-◌, ◌*◌, ◌/◌, ◌%◌, ◌^◌, ◌<◌, ◌≤◌, ◌==◌, nat_lt, Bool, true, false, if◌then◌else◌, List, [], ◌∷◌, ◌++◌, length, length-append, refl, ap, ◌∙◌, sym, subst, arith}
-use Rattle.dm_draw.proofs.Names.{All, All-nil, All-cons, All-append, mod_below, mod-mul-add, Directive, boot_of, machines_of, machine, Drawn, IsDrawn, deliver_drawn, directive_drawn, directives_drawn, migrate_drawn, round_drawn}
-use Rattle.dm_draw.proofs.Names.{state_behind, tick_drawn, turn_drawn, drawn, stepped}
+use Rattle.dm_draw.proofs.Names.{All, All-nil, All-cons, All-append, mod_below, mod-mul-add, Directive, boot_of_machines, small_machines, small_machine, Drawn, IsDrawn, deliver_drawn, directive_drawn, directives_drawn, migrate_drawn}
+use Rattle.dm_draw.proofs.Names.{round_drawn, state_behind, tick_drawn, turn_drawn, drawn, stepped}
 use Rattle.dm_draw.proofs.Drawing.{drawn_next, drawn_none}
 
 pub drawn_below : (n x : ℕ) → 0 < n → drawn n x < n
@@ -68,13 +68,13 @@ directives_count n x (suc k) =
     let g = directives_count n x k in
     omega (arith, e, f, g)
 
-machines_count : (n : ℕ) → length (machines_of n) ≡ n
+machines_count : (n : ℕ) → length (small_machines n) ≡ n
 machines_count zero = refl
 machines_count (suc n) =
-    let f = length-append (machines_of n) (machine ∷ []) in
+    let f = length-append (small_machines n) (small_machine ∷ []) in
     let g = machines_count n in
     omega (arith, f, g)
 
-pub boot_machines : (n : ℕ) → length (boot_of n).machines ≡ n
-unfolding boot_of
+pub boot_machines : (n : ℕ) → length (boot_of_machines n).machines ≡ n
+unfolding boot_of_machines
 boot_machines n = machines_count n

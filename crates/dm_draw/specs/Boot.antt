@@ -13,12 +13,12 @@ use Rattle.dm_onekernel.specs.declared.boot.Boot.{Boot}
 use Rattle.dm_onekernel.specs.Boot.{first_number}
 
 -- a machine with room for three processes of one block
-abbrev pub machine : BootMachine
-machine = record { slots = 3; blocks = 3 }
+abbrev pub small_machine : BootMachine
+small_machine = record { slots = 3; blocks = 3 }
 
-abbrev pub machines_of : ℕ → List BootMachine
-machines_of zero = []
-machines_of (suc n) = machines_of n ++ machine ∷ []
+abbrev pub small_machines : ℕ → List BootMachine
+small_machines zero = []
+small_machines (suc n) = small_machines n ++ small_machine ∷ []
 
 -- process i of a drill, on one of so many machines
 abbrev pub pid_at : ℕ → ℕ → Pid
@@ -48,8 +48,8 @@ abbrev pub image : BootImage
 image = record { bytes = program; blocks = 1 }
 
 -- a general link to process i, to an area of it
-abbrev pub link_to : ℕ → ℕ → ℕ → ℕ → ℕ → Link
-link_to machines i code base len =
+abbrev pub link_to_process : ℕ → ℕ → ℕ → ℕ → ℕ → Link
+link_to_process machines i code base len =
     record { addr = record { pid = pid_at machines i; at = i % machines; moves = 0 }; kind = General; to_kernel = false; code = code; channel = 0; area = record { base = base; len = len; read = read len; write = false } }
   where
     read : ℕ → Bool
@@ -61,21 +61,21 @@ abbrev pub process_at : ℕ → ℕ → BootProcess
 process_at machines i = record {
   pid = pid_at machines i;
   image = 0;
-  links = link_to machines ((i + 1) % (2 * machines)) i 0 0 ∷ link_to machines ((i + machines) % (2 * machines)) 0 192 16 ∷ [];
+  links = link_to_process machines ((i + 1) % (2 * machines)) i 0 0 ∷ link_to_process machines ((i + machines) % (2 * machines)) 0 192 16 ∷ [];
 }
 
 -- the first n processes
-abbrev pub processes_of : ℕ → ℕ → List BootProcess
-processes_of machines zero = []
-processes_of machines (suc n) = processes_of machines n ++ process_at machines n ∷ []
+abbrev pub first_processes : ℕ → ℕ → List BootProcess
+first_processes machines zero = []
+first_processes machines (suc n) = first_processes machines n ++ process_at machines n ∷ []
 
 -- the system of so many machines
-unfoldable pub boot_of : ℕ → Boot
-boot_of machines = record {
+unfoldable pub boot_of_machines : ℕ → Boot
+boot_of_machines machines = record {
   numbers = 1048576;
   quantum = 16;
   format = One;
-  machines = machines_of machines;
+  machines = small_machines machines;
   images = image ∷ [];
-  processes = processes_of machines (2 * machines);
+  processes = first_processes machines (2 * machines);
 }

@@ -1,7 +1,7 @@
 //! The system of a drill.
 ghost use Rattle.std.specs.Prelude.{◌≡◌, ◌≤◌, ◌<◌, ◌*◌, ◌∷◌, [], IfOk, length};
 ghost use Rattle.dm_onekernel.specs.Boot.{IsValid};
-ghost use Rattle.dm_draw.specs.Boot.{boot_of, image, link_to, machines_of, pid_at, process_at, processes_of};
+ghost use Rattle.dm_draw.specs.Boot.{boot_of_machines, first_processes, image, link_to_process, pid_at, process_at, small_machines};
 
 use dm_link::{Addr, Area, FIRST_NUMBER, Kind, Link, MACHINES, Pid};
 use dm_lists::Items;
@@ -17,10 +17,10 @@ const PROGRAM: [u8; 60] = [
 ];
 
 /// The system of so many machines, 2 to 16.
-#[tactic(auto, unfolding(crate::specs::Boot::boot_of))]
+#[tactic(auto, unfolding(crate::specs::Boot::boot_of_machines))]
 pub fn drill_boot(alloc: Global, machines: u8) -> Result<Boot, NoMemory>
     requires { (2 ≤ machines) × (machines ≤ MACHINES) }
-    ensures boot { IfOk result (λ b. b ≡ boot_of machines) }
+    ensures boot { IfOk result (λ b. b ≡ boot_of_machines machines) }
     ensures valid { IfOk result IsValid }
     ensures machines { IfOk result (λ b. length b.machines ≡ machines) }
 {
@@ -36,7 +36,7 @@ pub fn drill_boot(alloc: Global, machines: u8) -> Result<Boot, NoMemory>
 
 /// Machines with room for three processes of one block.
 fn machines_of(alloc: Global, machines: u8) -> Result<Items<BootMachine>, NoMemory>
-    ensures { IfOk result (λ items. items ≡ machines_of machines) }
+    ensures { IfOk result (λ items. items ≡ small_machines machines) }
 {
     let mut items = Items::new(alloc);
     for _ in 0..machines {
@@ -61,7 +61,7 @@ fn images_of(alloc: Global) -> Result<Items<BootImage>, NoMemory>
 /// Two processes a machine, one after another round the machines.
 fn processes_of(alloc: Global, machines: u8) -> Result<Items<BootProcess>, NoMemory>
     requires { (2 ≤ machines) × (machines ≤ MACHINES) }
-    ensures { IfOk result (λ items. items ≡ processes_of machines (2 * machines)) }
+    ensures { IfOk result (λ items. items ≡ first_processes machines (2 * machines)) }
 {
     let mut items = Items::new(alloc);
     for i in 0..2 * machines {
@@ -100,7 +100,7 @@ fn pid_at(machines: u8, i: u8) -> Pid
 /// A link to process `i`, with a code, to an area that may be read where it has a byte.
 fn link_to(machines: u8, i: u8, code: u32, base: u32, len: u32) -> Link
     requires { 0 < machines }
-    ensures { result ≡ link_to machines i code base len }
+    ensures { result ≡ link_to_process machines i code base len }
 {
     Link {
         addr: Addr {

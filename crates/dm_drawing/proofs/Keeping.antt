@@ -1,7 +1,7 @@
 -- A run goes on, group by group, and what a picture shows of it is kept.
 use Rattle.dm_drawing.proofs.Names.{◌≡◌, ◌≤◌, ◌<◌, ◌+◌, ℕ, inl, inr, List, [], ◌∷◌, ◌++◌, length, drop, get_or, add-one, refl, ap, ◌∙◌, sym, subst, arith, All, fold, false≢true, drop_all, drop_more, fold-append, IsErr, IsErrAnd, Option}
 use Rattle.dm_drawing.proofs.Names.{None, Some, Result, Ok, Err, Boot, IsValid, Step, Directive, Line, Todo, Next, all_of, Point, first_point, Kept, keep, kept_of, none_kept, Stop, NoMemory, Worn, Cursor, OrNoMemory, NextIs, todo_of}
-use Rattle.dm_drawing.proofs.Names.{Answers, MayStep, next_step, AreWhole, AreReadBack, gave, WorldState, Said, Says, WornOut, first_world, world_step, GoesOn, RunStands, IsDirective, RunGoes, worn_out, run_begins, run_goes_on}
+use Rattle.dm_drawing.proofs.Names.{Answers, MayStep, world_next_step, AreWhole, AreReadBack, gave, WorldState, Said, Says, WornOut, first_world, world_step, GoesOn, RunStands, IsDirective, RunGoes, worn_out, run_begins, run_goes_on}
 use Rattle.dm_drawing.proofs.Names.{next_is_said, HasKept, HasWorn, Came, Stopped}
 use Rattle.dm_rule.specs.Worn as worn_as
 
@@ -17,13 +17,13 @@ keeps_first b ds k w valid fit none e = record {
 }
 
 -- what is left may be said otherwise
-pub keeps_as : (b : Boot) (ds : List Directive) (t u : Todo) (k : Kept) (w : WorldState) → HasKept b ds t k w → next_step (length b.machines) w t ≡ next_step (length b.machines) w u → HasKept b ds u k w
+pub keeps_as : (b : Boot) (ds : List Directive) (t u : Todo) (k : Kept) (w : WorldState) → HasKept b ds t k w → world_next_step (length b.machines) w t ≡ world_next_step (length b.machines) w u → HasKept b ds u k w
 keeps_as b ds t u k w h e = record { groups = h.groups; end = h.end; left = h.left; stands = h.stands; follows = h.follows ∙ e; kept = h.kept }
 
-goes : (b : Boot) (ds : List Directive) (t : Todo) (k : Kept) (w : WorldState) (n : Next) → IsValid b → (h : HasKept b ds t k w) → next_step (length b.machines) w t ≡ Some n → RunGoes b ds h.groups h.end w n
+goes : (b : Boot) (ds : List Directive) (t : Todo) (k : Kept) (w : WorldState) (n : Next) → IsValid b → (h : HasKept b ds t k w) → world_next_step (length b.machines) w t ≡ Some n → RunGoes b ds h.groups h.end w n
 goes b ds t k w n valid h is = run_goes_on b ds h.groups h.end h.left w n valid h.stands (h.follows ∙ is)
 
-pub may_go : (b : Boot) (ds : List Directive) (t : Todo) (k : Kept) (w : WorldState) (n : Next) → IsValid b → HasKept b ds t k w → next_step (length b.machines) w t ≡ Some n → MayStep b w n.step
+pub may_go : (b : Boot) (ds : List Directive) (t : Todo) (k : Kept) (w : WorldState) (n : Next) → IsValid b → HasKept b ds t k w → world_next_step (length b.machines) w t ≡ Some n → MayStep b w n.step
 may_go b ds t k w n valid h is = (goes b ds t k w n valid h is).may
 
 -- a group more
@@ -35,7 +35,7 @@ grown_by : (b : Boot) (ds : List Directive) (t : Todo) (k : Kept) (w : WorldStat
     → g.said ≡ said → Grown b ds n.left h.groups said.lines said.state
 grown_by b ds t k w n said h g on e = subst (λ (x : Said). Grown b ds n.left h.groups x.lines x.state) e (record { end = g.group.point; stands = on })
 
-grown : (b : Boot) (ds : List Directive) (t : Todo) (k : Kept) (w : WorldState) (n : Next) (said : Said) → IsValid b → (h : HasKept b ds t k w) → next_step (length b.machines) w t ≡ Some n → world_step b w n.step ≡ Some (Says said)
+grown : (b : Boot) (ds : List Directive) (t : Todo) (k : Kept) (w : WorldState) (n : Next) (said : Said) → IsValid b → (h : HasKept b ds t k w) → world_next_step (length b.machines) w t ≡ Some n → world_step b w n.step ≡ Some (Says said)
     → AreReadBack (gave b w n.step) → AreWhole w n.step → Grown b ds n.left h.groups said.lines said.state
 grown b ds t k w n said valid h is happens again whole =
     let r = goes b ds t k w n valid h is in
@@ -48,7 +48,7 @@ kept_last : (gs : List (List Line)) (ls : List Line) → kept_of (gs ++ ls ∷ [
 kept_last gs ls = fold-append keep none_kept gs (ls ∷ [])
 
 -- the lines of a group were kept
-pub keeps_on : (b : Boot) (ds : List Directive) (t : Todo) (n : Next) (k j : Kept) (w u : WorldState) (ls : List Line) → IsValid b → HasKept b ds t k w → next_step (length b.machines) w t ≡ Some n
+pub keeps_on : (b : Boot) (ds : List Directive) (t : Todo) (n : Next) (k j : Kept) (w u : WorldState) (ls : List Line) → IsValid b → HasKept b ds t k w → world_next_step (length b.machines) w t ≡ Some n
     → world_step b w n.step ≡ Some (Says (record { state = u; lines = ls })) → AreReadBack (gave b w n.step) → AreWhole w n.step → j ≡ keep k ls → HasKept b ds n.left j u
 keeps_on b ds t n k j w u ls valid h is happens again whole e =
     let g = grown b ds t k w n (record { state = u; lines = ls }) valid h is happens again whole in
@@ -62,7 +62,7 @@ keeps_on b ds t n k j w u ls valid h is happens again whole e =
     }
 
 -- it stopped as worn
-pub worn_there : (b : Boot) (ds : List Directive) (t : Todo) (k : Kept) (w : WorldState) (n : Next) (from to : ℕ) → IsValid b → HasKept b ds t k w → next_step (length b.machines) w t ≡ Some n → world_step b w n.step ≡ Some (WornOut from to)
+pub worn_there : (b : Boot) (ds : List Directive) (t : Todo) (k : Kept) (w : WorldState) (n : Next) (from to : ℕ) → IsValid b → HasKept b ds t k w → world_next_step (length b.machines) w t ≡ Some n → world_step b w n.step ≡ Some (WornOut from to)
     → AreWhole w n.step → HasWorn b ds k from to
 worn_there b ds t k w n from to valid h is happens whole =
     let r = goes b ds t k w n valid h is in
@@ -87,7 +87,7 @@ worn_there b ds t k w n from to valid h is happens whole =
     ]
 
 -- a directive came to no end
-pub stops_there : (b : Boot) (ds : List Directive) (t : Todo) (k : Kept) (w u : WorldState) (n : Next) (e : Step) (s : Stop) → IsValid b → HasKept b ds t k w → next_step (length b.machines) w t ≡ Some n → n.step ≡ e
+pub stops_there : (b : Boot) (ds : List Directive) (t : Todo) (k : Kept) (w u : WorldState) (n : Next) (e : Step) (s : Stop) → IsValid b → HasKept b ds t k w → world_next_step (length b.machines) w t ≡ Some n → n.step ≡ e
     → Answers (Err s) u (world_step b w e) → OrNoMemory {X = List Line} (Err s) (AreWhole w e) → Stopped b ds k s
 stops_there b ds t k w u n e (NoMemory lack) valid h is same answers whole = tt
 stops_there b ds t k w u n e (Worn from to) valid h is same answers whole =
@@ -95,7 +95,7 @@ stops_there b ds t k w u n e (Worn from to) valid h is same answers whole =
 
 -- a group was kept for a directive, and brought the run on
 abbrev pub Brings : Boot → WorldState → WorldState → Kept → Kept → Step → Type 0
-Brings b w u k j e = (ds : List Directive) (t : Todo) (n : Next) → HasKept b ds t k w → next_step (length b.machines) w t ≡ Some n → n.step ≡ e → HasKept b ds n.left j u
+Brings b w u k j e = (ds : List Directive) (t : Todo) (n : Next) → HasKept b ds t k w → world_next_step (length b.machines) w t ≡ Some n → n.step ≡ e → HasKept b ds n.left j u
 
 -- the steps of a directive have brought a run so far
 abbrev pub Brought : Boot → Directive → WorldState → WorldState → Kept → Kept → Cursor → Type 0
@@ -103,7 +103,7 @@ Brought b d first w start k c = (ds rest : List Directive) → HasKept b ds (all
 
 -- this step comes next, whatever is behind
 abbrev pub Follows : Boot → WorldState → Cursor → Step → Cursor → Type 0
-Follows b w c e next = (rest : List Directive) → next_step (length b.machines) w (todo_of (length b.machines) c rest) ≡ Some (record { step = e; left = todo_of (length b.machines) next rest })
+Follows b w c e next = (rest : List Directive) → world_next_step (length b.machines) w (todo_of (length b.machines) c rest) ≡ Some (record { step = e; left = todo_of (length b.machines) next rest })
 
 pub brings_on : (a b : Boot) (d : Directive) (first w u : WorldState) (start k j : Kept) (c next : Cursor) (e : Step) → a ≡ b → Brought b d first w start k c → Follows a w c e next → Brings a w u k j e → Brought b d first u start j next
 brings_on a b d first w u start k j c next e same come follows brings ds rest h =
@@ -119,7 +119,7 @@ may_on a b d ds rest start k first w c next e valid same come follows h =
 
 -- a group came to no end
 abbrev pub Stops : Boot → WorldState → Kept → Kept → Step → Stop → Type 0
-Stops b w k j e s = (ds : List Directive) (t : Todo) (n : Next) → HasKept b ds t k w → next_step (length b.machines) w t ≡ Some n → n.step ≡ e → Stopped b ds j s
+Stops b w k j e s = (ds : List Directive) (t : Todo) (n : Next) → HasKept b ds t k w → world_next_step (length b.machines) w t ≡ Some n → n.step ≡ e → Stopped b ds j s
 
 pub stops_on : (a b : Boot) (d : Directive) (first w : WorldState) (start k j : Kept) (c next : Cursor) (e : Step) (s : Stop) → a ≡ b → Brought b d first w start k c → Follows a w c e next → Stops a w k j e s
     → (ds rest : List Directive) → HasKept b ds (all_of (d ∷ rest)) start first → Stopped b ds j s
@@ -135,7 +135,7 @@ came_err b ds t k u (Err y) e h p = subst (λ (x : Stop). Stopped b ds k x) (sym
 -- where no step of a directive is left, the run stands before the directives behind it
 pub none_on : (a b : Boot) (d : Directive) (first w : WorldState) (start k : Kept) (c : Cursor) → a ≡ b → Brought b d first w start k c → ((rest : List Directive) → NextIs (length a.machines) w c rest None) → (ds rest : List Directive) → HasKept b ds (all_of (d ∷ rest)) start first → HasKept b ds (all_of rest) k w
 none_on a b d first w start k c same come none ds rest h =
-    let f : next_step (length b.machines) w (todo_of (length b.machines) c rest) ≡ next_step (length b.machines) w (all_of rest) = subst (λ (x : Boot). next_step (length x.machines) w (todo_of (length x.machines) c rest) ≡ next_step (length x.machines) w (all_of rest)) same (none rest) in
+    let f : world_next_step (length b.machines) w (todo_of (length b.machines) c rest) ≡ world_next_step (length b.machines) w (all_of rest) = subst (λ (x : Boot). world_next_step (length x.machines) w (todo_of (length x.machines) c rest) ≡ world_next_step (length x.machines) w (all_of rest)) same (none rest) in
     keeps_as b ds (todo_of (length b.machines) c rest) (all_of rest) k w (come ds rest h) f
 
 -- directive by directive

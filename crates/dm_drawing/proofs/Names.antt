@@ -13,11 +13,11 @@ pub use Rattle.dm_laws.proofs.Names.{false≢true}
 pub use Rattle.dm_rule.proofs.Names.{Directive, Line, Next, Point, Step, Todo, all_of, first_point}
 pub use Rattle.dm_chart.proofs.Names.{drop_more}
 pub use Rattle.dm_chart.specs.Kept.{keep, kept_of, none_kept}
-pub use Rattle.dm_chart.specs.Picture.{chart_of, picture_of, starts_of}
+pub use Rattle.dm_chart.specs.Picture.{boot_pids, chart_of, picture_of}
 pub use Rattle.dm_chart.specs.declared.kept.Kept.{Kept}
 pub use Rattle.dm_node.proofs.Names.{IsErrAnd, OrNoMemory}
 pub use Rattle.dm_node.specs.declared.stop.Stop.TheVariants.{NoMemory, Worn}
-pub use Rattle.dm_world.proofs.Names.{Answers, AreReadBack, IsWorld, MayStep, NextIs, Said, Says, Stop, WorldState, WornOut, drop_all, has_mail, is_quiet, next_step, state_of, undelivered, world_step}
+pub use Rattle.dm_world.proofs.Names.{Answers, AreReadBack, IsWorld, MayStep, NextIs, Said, Says, Stop, WorldState, WornOut, drop_all, world_has_mail, world_is_quiet, world_next_step, world_state, world_step, world_undelivered}
 pub use Rattle.dm_mirror.proofs.Names.{AreWhole, GoesOn, IsDirective, RunStands, first_world, gave}
 pub use Rattle.dm_run.proofs.Counted.{happens, worn_out}
 pub use Rattle.dm_run.proofs.Decisions.{ends_once}
@@ -26,5 +26,5 @@ pub use Rattle.dm_run.proofs.Names.{Cursor, IsErr, IsOver, Lasts, RunGoes, Wears
 pub use Rattle.dm_run.proofs.Settling.{IsOnWay, goes_on_way, on_way_begins}
 pub use Rattle.dm_run.proofs.Stepping.{are_directives, one_group_more}
 pub use Rattle.dm_drawing.specs.Collected.{Came, HasKept, HasWorn, Stopped}
-pub use Rattle.dm_drawing.specs.Pictured.{IsBeforeWorn, IsDrawn, IsWhole}
+pub use Rattle.dm_drawing.specs.Pictured.{IsBeforeWorn, IsDrawn, PictureIsWhole}
 pub use Rattle.dm_drawing.specs.declared.drawing.Drawn.{Drawn}

@@ -13,8 +13,8 @@ use Rattle.dm_node.specs.declared.stop.Stop.{Stop}
 use Rattle.dm_node.specs.declared.stop.Stop.TheVariants.{NoMemory, Worn}
 use Rattle.dm_world.specs.declared.world.World.{World}
 use Rattle.dm_world.specs.World.{WorldState}
-use Rattle.dm_world.specs.Meets.{state_of}
-use Rattle.dm_world.specs.Next.{next_step}
+use Rattle.dm_world.specs.Meets.{world_state}
+use Rattle.dm_world.specs.Next.{world_next_step}
 use Rattle.dm_mirror.specs.Run.{RunStands}
 use Rattle.dm_run.specs.Printed.{WearsAfter}
 
@@ -25,14 +25,14 @@ pub record HasKept (b : Boot) (ds : List Directive) (t : Todo) (k : Kept) (w : W
   pub end : Point
   pub left : Todo
   pub stands : RunStands b ds groups end left w
-  pub follows : next_step (length b.machines) w left ≡ next_step (length b.machines) w t
+  pub follows : world_next_step (length b.machines) w left ≡ world_next_step (length b.machines) w t
   pub kept : k ≡ kept_of groups
 
 -- a run has come to a directive
 pub record IsDue (w : World) (d : Directive) (k : Kept) : Type 0 where
   pub ds : List Directive
   pub rest : List Directive
-  pub come : HasKept w.boot ds (all_of (d ∷ rest)) k (state_of w)
+  pub come : HasKept w.boot ds (all_of (d ∷ rest)) k (world_state w)
 
 -- good groups lead to a worn pair; what a picture shows of them was kept
 pub record HasWorn (b : Boot) (ds : List Directive) (k : Kept) (from to : ℕ) : Type 0 where

@@ -12,7 +12,7 @@ use Rattle.dm_drawing.specs.declared.drawing.Drawn.{Drawn}
 use Rattle.dm_drawing.specs.declared.drawing.Drawn.TheVariants as drawn
 
 -- the picture of good groups, one for each directive; no pair is worn
-pub record IsWhole (b : Boot) (ds : List Directive) (text : List ℕ) : Type 0 where
+pub record PictureIsWhole (b : Boot) (ds : List Directive) (text : List ℕ) : Type 0 where
   pub groups : List (List Line)
   pub end : Point
   pub left : Todo
@@ -28,5 +28,5 @@ pub record IsBeforeWorn (b : Boot) (ds : List Directive) (text : List ℕ) (from
   pub text_is : text ≡ chart_of b groups
 
 abbrev pub IsDrawn : Boot → List Directive → Drawn → Type 0
-IsDrawn b ds (drawn.Whole text) = IsWhole b ds text.items
+IsDrawn b ds (drawn.Whole text) = PictureIsWhole b ds text.items
 IsDrawn b ds (drawn.Worn text from to) = IsBeforeWorn b ds text.items from to

@@ -4,8 +4,8 @@ ghost use Rattle.std.specs.List.{All};
 ghost use Rattle.dm_schedule.specs.declared.Directive.{Directive as TheDirective};
 ghost use Rattle.dm_line.specs.Todo.{Todo, Next, all_of};
 ghost use Rattle.dm_world.specs.May.{MayStep};
-ghost use Rattle.dm_world.specs.Meets.{IsWorld, state_of};
-ghost use Rattle.dm_world.specs.Next.{next_step};
+ghost use Rattle.dm_world.specs.Meets.{IsWorld, world_state};
+ghost use Rattle.dm_world.specs.Next.{world_next_step};
 ghost use Rattle.dm_chart.specs.Kept.{none_kept};
 ghost use Rattle.dm_run.specs.Coming.{IsAfter, IsAtStart, IsFor};
 ghost use Rattle.dm_drawing.specs.Collected.{Came, HasKept, IsDue};
@@ -21,7 +21,7 @@ pub fn collect(directives: &[Directive], world: &mut World, kept: &mut Kept) -> 
     requires none { kept.old ≡ none_kept }
     requires each { All (IsFor (length world.old.boot.machines)) directives.now }
     requires few { length directives.now ≤ MOST_SCHEDULE }
-    ensures came { Came world.old.boot directives.now (all_of []) kept.new (state_of world.new) result }
+    ensures came { Came world.old.boot directives.now (all_of []) kept.new (world_state world.new) result }
 {
     'directives: for directive in directives {
         collect_directive(directive, world, kept)?;
@@ -37,8 +37,8 @@ fn collect_directive(directive: &Directive, world: &mut World, kept: &mut Kept) 
     requires groups { world.old.groups + 2 ^ 90 ≤ 2 ^ 126 }
     requires rows { kept.old.rows ≤ MOST_ROWS }
     ensures came { (ds rest : List TheDirective) →
-        HasKept world.old.boot ds (all_of (directive.now ∷ rest)) kept.old (state_of world.old) →
-        Came world.old.boot ds (all_of rest) kept.new (state_of world.new) result }
+        HasKept world.old.boot ds (all_of (directive.now ∷ rest)) kept.old (world_state world.old) →
+        Came world.old.boot ds (all_of rest) kept.new (world_state world.new) result }
     ensures world { OnOk result (IsWorld world.new) }
     ensures running { OnOk result (world.new.stopped ≡ false) }
     ensures boot { OnOk result (world.new.boot ≡ world.old.boot) }
@@ -58,14 +58,14 @@ fn collect_directive(directive: &Directive, world: &mut World, kept: &mut Kept) 
 fn collect_group(step: &Step, world: &mut World, kept: &mut Kept) -> Result<(), Stop>
     requires world { IsWorld world.old }
     requires running { world.old.stopped ≡ false }
-    requires may { MayStep world.old.boot (state_of world.old) step.now }
+    requires may { MayStep world.old.boot (world_state world.old) step.now }
     requires groups { world.old.groups < 2 ^ 127 }
     requires rows { kept.old.rows ≤ MOST_ROWS }
     ensures came { (ds : List TheDirective) (t : Todo) (n : Next) →
-        HasKept world.old.boot ds t kept.old (state_of world.old) →
-        next_step (length world.old.boot.machines) (state_of world.old) t ≡ Some n → n.step ≡ step.now →
-        Came world.old.boot ds n.left kept.new (state_of world.new) result }
-    ensures after { OnOk result (IsAfter world.old.boot (state_of world.old) step.now (state_of world.new)) }
+        HasKept world.old.boot ds t kept.old (world_state world.old) →
+        world_next_step (length world.old.boot.machines) (world_state world.old) t ≡ Some n → n.step ≡ step.now →
+        Came world.old.boot ds n.left kept.new (world_state world.new) result }
+    ensures after { OnOk result (IsAfter world.old.boot (world_state world.old) step.now (world_state world.new)) }
     ensures world { OnOk result (IsWorld world.new) }
     ensures running { OnOk result (world.new.stopped ≡ false) }
     ensures boot { OnOk result (world.new.boot ≡ world.old.boot) }

@@ -2,7 +2,7 @@
 ghost use Rattle.std.specs.Prelude.{◌≡◌, ◌≤◌, IfOk, length};
 ghost use Rattle.std.specs.List.{All};
 ghost use Rattle.dm_onekernel.specs.Boot.{IsValid};
-ghost use Rattle.dm_chart.specs.Picture.{starts_of};
+ghost use Rattle.dm_chart.specs.Picture.{boot_pids};
 ghost use Rattle.dm_run.specs.Coming.{IsAtStart, IsFor};
 ghost use Rattle.dm_drawing.specs.Pictured.{IsDrawn};
 
@@ -56,7 +56,7 @@ fn draw_world(
 ) -> Result<Drawn, NoMemory>
     requires fresh { IsAtStart world.old }
     requires machines { machines ≡ length world.old.boot.machines }
-    requires starts { starts.now ≡ starts_of world.old.boot }
+    requires starts { starts.now ≡ boot_pids world.old.boot }
     requires each { All (IsFor (length world.old.boot.machines)) directives.now }
     requires few { length directives.now ≤ MOST_SCHEDULE }
     ensures { IfOk result (λ d. IsDrawn world.old.boot directives.now d) }

@@ -14,7 +14,7 @@ pub use Rattle.dm_rule.proofs.Names.{IsQuiet, Line, Next, Step, Todo, all_of, fi
 pub use Rattle.dm_kernel.proofs.Names.{take_more}
 pub use Rattle.dm_text.proofs.Names.{LineFits, text_of_lines}
 pub use Rattle.dm_node.proofs.Names.{IsErrAnd, OrNoMemory}
-pub use Rattle.dm_world.proofs.Names.{Answers, AreReadBack, IsWorld, MayStep, NextIs, Says, WorldState, WornOut, drop_all, has_mail, is_quiet, next_step, state_of, undelivered, world_step}
+pub use Rattle.dm_world.proofs.Names.{Answers, AreReadBack, IsWorld, MayStep, NextIs, Says, WorldState, WornOut, drop_all, world_has_mail, world_is_quiet, world_next_step, world_state, world_step, world_undelivered}
 pub use Rattle.dm_mirror.proofs.Names.{AreWhole, IsDirective, RunStands, first_world, gave, joined}
 pub use Rattle.dm_mirror.proofs.QuietSaid.{quiet_is_said}
 pub use Rattle.dm_run.proofs.Comes.{always_ok}
@@ -26,9 +26,9 @@ pub use Rattle.dm_run.proofs.Stepping.{are_directives, blames_err, one_group_mor
 pub use Rattle.dm_run.proofs.Writing.{some_left}
 pub use Rattle.dm_run.specs.declared.stop.Stop.{Stop}
 pub use Rattle.dm_run.specs.declared.stop.Stop.TheVariants.{NoMemory, Worn, WriteFault}
-pub use Rattle.dm_drill.specs.Counts.{nothing, one_more, shown, sort_of, with_group}
-unfoldable pub use Rattle.dm_drill.specs.Counts.{with_groups, with_lines}
-pub use Rattle.dm_drill.specs.Drilled.{Came, Ended, HasDrilled, IsOfFirst, IsWhole, IsWorn, Stopped, TellsQuiet, Told, at, text_shown}
+pub use Rattle.dm_drill.specs.Counts.{counted_as, nothing, one_more, shown, with_group}
+unfoldable pub use Rattle.dm_drill.specs.Counts.{with_groups, with_group_lines}
+pub use Rattle.dm_drill.specs.Drilled.{Came, DrillIsOfFirst, DrillIsWhole, DrillTold, DrillWears, Ended, HasDrilled, Stopped, TellsQuiet, at, text_shown}
 pub use Rattle.dm_drill.specs.Summary.{summary}
 pub use Rattle.dm_drill.specs.Totals.{Totals}
 pub use Rattle.dm_drill.specs.declared.counts.Counted.{Counted}

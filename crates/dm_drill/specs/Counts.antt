@@ -41,31 +41,31 @@ sort_of_label (label.Created id p) = None
 sort_of_label (label.NoSpace id s b) = None
 
 -- as what a line is counted
-abbrev pub sort_of : Line → Option Counted
-sort_of (line.Head s) = None
-sort_of (line.Idle m) = None
-sort_of (line.Label l) = sort_of_label l
-sort_of (line.Put a b id kind q) = Some counted_.Put
-sort_of (line.Packet a b k l) = Some counted_.Packet
-sort_of (line.Taken a b n) = Some counted_.Taken
-sort_of (line.Old a b n) = Some counted_.Old
-sort_of (line.Early a b n) = Some counted_.Early
-sort_of (line.Acked a b n) = None
-sort_of line.Nothing = None
-sort_of (line.Resent m n) = None
-sort_of (line.Queued id) = None
-sort_of (line.Held id) = Some counted_.Held
-sort_of (line.Forwarded id m) = Some counted_.Forwarded
-sort_of (line.Updated id n) = None
-sort_of (line.Migration s p) = sort_of_step s
-sort_of (line.SentOn p n) = None
-sort_of (line.Lacks p s b) = None
-sort_of (line.Stays p) = Some counted_.Stayed
-sort_of (line.Here id) = None
-sort_of (line.NoMove id) = None
-sort_of (line.Proto id) = None
-sort_of (line.NoChild p) = None
-sort_of (line.Pinned p) = None
+abbrev pub counted_as : Line → Option Counted
+counted_as (line.Head s) = None
+counted_as (line.Idle m) = None
+counted_as (line.Label l) = sort_of_label l
+counted_as (line.Put a b id kind q) = Some counted_.Put
+counted_as (line.Packet a b k l) = Some counted_.Packet
+counted_as (line.Taken a b n) = Some counted_.Taken
+counted_as (line.Old a b n) = Some counted_.Old
+counted_as (line.Early a b n) = Some counted_.Early
+counted_as (line.Acked a b n) = None
+counted_as line.Nothing = None
+counted_as (line.Resent m n) = None
+counted_as (line.Queued id) = None
+counted_as (line.Held id) = Some counted_.Held
+counted_as (line.Forwarded id m) = Some counted_.Forwarded
+counted_as (line.Updated id n) = None
+counted_as (line.Migration s p) = sort_of_step s
+counted_as (line.SentOn p n) = None
+counted_as (line.Lacks p s b) = None
+counted_as (line.Stays p) = Some counted_.Stayed
+counted_as (line.Here id) = None
+counted_as (line.NoMove id) = None
+counted_as (line.Proto id) = None
+counted_as (line.NoChild p) = None
+counted_as (line.Pinned p) = None
 
 -- one more of these
 abbrev pub one_more : Option Counted → Totals → Totals
@@ -82,12 +82,12 @@ one_more (Some counted_.Forwarded) t = record t { forwarded = t.forwarded + 1 }
 one_more (Some counted_.Held) t = record t { held = t.held + 1 }
 
 -- with the lines of a group
-unfoldable pub with_lines : Totals → List Line → Totals
-with_lines t [] = t
-with_lines t (l ∷ ls) = with_lines (one_more (sort_of l) t) ls
+unfoldable pub with_group_lines : Totals → List Line → Totals
+with_group_lines t [] = t
+with_group_lines t (l ∷ ls) = with_group_lines (one_more (counted_as l) t) ls
 
 abbrev pub with_group : Totals → List Line → Totals
-with_group t g = with_lines (record t { groups = t.groups + 1 }) g
+with_group t g = with_group_lines (record t { groups = t.groups + 1 }) g
 
 -- with the lines of groups
 unfoldable pub with_groups : Totals → List (List Line) → Totals

@@ -1,6 +1,6 @@
 //! What a drill counts of the lines that are printed.
 ghost use Rattle.std.specs.Prelude.{◌≡◌, OnOk};
-ghost use Rattle.dm_drill.specs.Counts.{shown, sort_of, sort_of_label, nothing, one_more, sort_of_step, with_group, with_lines};
+ghost use Rattle.dm_drill.specs.Counts.{shown, counted_as, sort_of_label, nothing, one_more, sort_of_step, with_group, with_group_lines};
 
 use crate::tally::Tally;
 use dm_line::line::{Line, Stage};
@@ -70,7 +70,7 @@ impl Counts {
 
     /// Counts the lines of a group.
     fn add_lines(&mut self, lines: &[Line]) -> Result<(), NoMemory>
-        ensures { OnOk result (shown self.new ≡ with_lines (shown self.old) lines.now) }
+        ensures { OnOk result (shown self.new ≡ with_group_lines (shown self.old) lines.now) }
     {
         for line in lines {
             self.add(sort_of(line))?;
@@ -100,7 +100,7 @@ impl Counts {
 
 /// As what a line is counted, if it is.
 pub fn sort_of(line: &Line) -> Option<Counted>
-    ensures { result ≡ sort_of line.now }
+    ensures { result ≡ counted_as line.now }
 {
     match *line {
         Line::Label(label) => sort_of_label(label),

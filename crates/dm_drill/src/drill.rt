@@ -5,12 +5,12 @@ ghost use Rattle.dm_schedule.specs.declared.Directive.{Directive as TheDirective
 ghost use Rattle.dm_line.specs.Todo.{Todo, Next, all_of};
 ghost use Rattle.dm_text.specs.Fits.{LineFits};
 ghost use Rattle.dm_world.specs.May.{MayStep};
-ghost use Rattle.dm_world.specs.Meets.{IsWorld, state_of};
-ghost use Rattle.dm_world.specs.Next.{next_step};
+ghost use Rattle.dm_world.specs.Meets.{IsWorld, world_state};
+ghost use Rattle.dm_world.specs.Next.{world_next_step};
 ghost use Rattle.dm_run.specs.Coming.{Blames, IsAfter, IsAtStart, IsFor, Offered, rounds_of};
 ghost use Rattle.dm_run.specs.Printed.{Lasts};
 ghost use Rattle.dm_drill.specs.Counts.{nothing, shown, with_group};
-ghost use Rattle.dm_drill.specs.Drilled.{Came, Ended, HasDrilled, IsDue, Told, at, text_shown};
+ghost use Rattle.dm_drill.specs.Drilled.{Came, DrillTold, Ended, HasDrilled, IsDue, at, text_shown};
 ghost use Rattle.dm_drill.specs.Summary.{summary};
 
 use crate::counts::Counts;
@@ -61,8 +61,8 @@ fn drill_directive<K: Sink>(
     requires running { world.old.stopped ≡ false }
     requires due { IsDue drill.now.trace world.old directive.now (at (K.told out.old) (shown counts.old)) }
     requires groups { world.old.groups + 2 ^ 90 ≤ 2 ^ 126 }
-    ensures came { (ds rest : List TheDirective) (before : Told) →
-        HasDrilled drill.now.trace world.old.boot ds (all_of (directive.now ∷ rest)) before (at (K.told out.old) (shown counts.old)) (state_of world.old) →
+    ensures came { (ds rest : List TheDirective) (before : DrillTold) →
+        HasDrilled drill.now.trace world.old.boot ds (all_of (directive.now ∷ rest)) before (at (K.told out.old) (shown counts.old)) (world_state world.old) →
         Came drill.now world.old.boot ds (all_of rest) before (at (K.told out.new) (shown counts.new)) world.new result }
     ensures world { OnOk result (IsWorld world.new) }
     ensures running { OnOk result (world.new.stopped ≡ false) }
@@ -96,13 +96,13 @@ fn one_group<K: Sink>(
 ) -> Result<(), Stop>
     requires world { IsWorld world.old }
     requires running { world.old.stopped ≡ false }
-    requires may { MayStep world.old.boot (state_of world.old) step.now }
+    requires may { MayStep world.old.boot (world_state world.old) step.now }
     requires groups { world.old.groups < 2 ^ 127 }
-    ensures came { (ds : List TheDirective) (t : Todo) (n : Next) (before : Told) →
-        HasDrilled drill.now.trace world.old.boot ds t before (at (K.told out.old) (shown counts.old)) (state_of world.old) →
-        next_step (length world.old.boot.machines) (state_of world.old) t ≡ Some n → n.step ≡ step.now →
+    ensures came { (ds : List TheDirective) (t : Todo) (n : Next) (before : DrillTold) →
+        HasDrilled drill.now.trace world.old.boot ds t before (at (K.told out.old) (shown counts.old)) (world_state world.old) →
+        world_next_step (length world.old.boot.machines) (world_state world.old) t ≡ Some n → n.step ≡ step.now →
         Came drill.now world.old.boot ds n.left before (at (K.told out.new) (shown counts.new)) world.new result }
-    ensures after { OnOk result (IsAfter world.old.boot (state_of world.old) step.now (state_of world.new)) }
+    ensures after { OnOk result (IsAfter world.old.boot (world_state world.old) step.now (world_state world.new)) }
     ensures world { OnOk result (IsWorld world.new) }
     ensures running { OnOk result (world.new.stopped ≡ false) }
     ensures boot { OnOk result (world.new.boot ≡ world.old.boot) }
@@ -150,8 +150,8 @@ fn sum_up<K: Sink>(
     out: &mut K,
 ) -> Result<(), Stop>
     requires world { IsWorld world.now }
-    ensures ended { (ds : List TheDirective) (before : Told) → before.totals ≡ nothing →
-        HasDrilled drill.now.trace world.now.boot ds (all_of []) before (at (K.told out.old) (shown counts.now)) (state_of world.now) →
+    ensures ended { (ds : List TheDirective) (before : DrillTold) → before.totals ≡ nothing →
+        HasDrilled drill.now.trace world.now.boot ds (all_of []) before (at (K.told out.old) (shown counts.now)) (world_state world.now) →
         Ended drill.now world.now.boot ds before.text (K.told out.new) world.now result }
     ensures blames { Blames (K.faults out.old) (K.faults out.new) result }
     ensures writes { K.faults out.old ≤ K.faults out.new }

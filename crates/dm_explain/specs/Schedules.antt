@@ -43,17 +43,17 @@ abbrev pub is_settle : Directive → Bool
 is_settle directive.Settle = true
 is_settle _ = false
 
-abbrev pub is_of : Deed → Directive → Bool
-is_of Turn d = is_turn d
-is_of Tick d = is_tick d
-is_of Deliver d = is_deliver d
-is_of Migrate d = is_migrate d
-is_of Round d = is_round d
-is_of Spin d = is_spin d
-is_of Settle d = is_settle d
+abbrev pub is_deed : Deed → Directive → Bool
+is_deed Turn d = is_turn d
+is_deed Tick d = is_tick d
+is_deed Deliver d = is_deliver d
+is_deed Migrate d = is_migrate d
+is_deed Round d = is_round d
+is_deed Spin d = is_spin d
+is_deed Settle d = is_settle d
 
 abbrev pub many : Deed → List Directive → List ℕ
-many w ds = decimal (count_by (is_of w) ds)
+many w ds = decimal (count_by (is_deed w) ds)
 
 abbrev pub directives_told : List Directive → List ℕ
 directives_told ds =

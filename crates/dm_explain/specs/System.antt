@@ -41,25 +41,25 @@ unfoldable pub image_told : Items → ℕ → BootImage → List ℕ
 image_told ts i image =
     concat (codes "image " ∷ decimal i ∷ codes ": " ∷ quoted (text_in (codes "name") (get_item i ts)) ∷ codes ", " ∷ decimal image.blocks ∷ codes " blocks, " ∷ decimal (length image.bytes) ∷ codes " bytes of text\n" ∷ [])
 
-abbrev pub kind_word : Kind → List ℕ
-kind_word General = codes "general"
-kind_word Reply = codes "reply"
+abbrev pub link_kind_word : Kind → List ℕ
+link_kind_word General = codes "general"
+link_kind_word Reply = codes "reply"
 
 -- what may be done with a link's area
-abbrev pub rights_word : Bool → Bool → List ℕ
-rights_word true true = codes ", to read and write"
-rights_word true false = codes ", to read"
-rights_word false true = codes ", to write"
-rights_word false false = []
+abbrev pub area_rights_word : Bool → Bool → List ℕ
+area_rights_word true true = codes ", to read and write"
+area_rights_word true false = codes ", to read"
+area_rights_word false true = codes ", to write"
+area_rights_word false false = []
 
 unfoldable pub link_told : ℕ → Link → List ℕ
 link_told k l =
-    concat (codes "    link " ∷ decimal k ∷ codes ": " ∷ kind_word l.kind ∷ codes " to " ∷ pid_word l.addr.pid ∷ codes " at " ∷ decimal l.addr.at
+    concat (codes "    link " ∷ decimal k ∷ codes ": " ∷ link_kind_word l.kind ∷ codes " to " ∷ pid_word l.addr.pid ∷ codes " at " ∷ decimal l.addr.at
     ∷ codes ", code " ∷ decimal l.code ∷ codes ", channel " ∷ decimal l.channel ∷ codes ", area " ∷ decimal l.area.base ∷ codes " " ∷ decimal l.area.len
-    ∷ rights_word l.area.read l.area.write ∷ codes "\n" ∷ [])
+    ∷ area_rights_word l.area.read l.area.write ∷ codes "\n" ∷ [])
 
-unfoldable pub process_told : Items → ℕ → BootProcess → List ℕ
-process_told ts i p =
+unfoldable pub boot_process_told : Items → ℕ → BootProcess → List ℕ
+boot_process_told ts i p =
     concat (codes "process " ∷ pid_word p.pid ∷ codes ": " ∷ quoted (text_in (codes "name") (get_item i ts)) ∷ codes ", image " ∷ quoted (text_in (codes "image") (get_item i ts)) ∷ codes ", links: " ∷ decimal (length p.links) ∷ codes "\n" ∷ [])
     ++ each link_told 0 p.links
 
@@ -69,4 +69,4 @@ system_told b d =
     settings_told b
     ++ each machine_told 0 b.machines
     ++ each (image_told (image_tables d)) 0 b.images
-    ++ each (process_told (process_tables d)) 0 b.processes
+    ++ each (boot_process_told (process_tables d)) 0 b.processes

@@ -6,14 +6,14 @@ use Rattle.toml.specs.Data.{Data, get_item}
 use Rattle.dm_asm.specs.declared.refusals.Why.{Why}
 use Rattle.dm_asm.specs.declared.refusals.Why.TheVariants.{UnknownWord, BadRegister, BadNumber, OutOfRange, UnknownLabel, LabelTwice, OperandCount, TooLong}
 use Rattle.dm_asm.specs.Assembled.{assembled}
-use Rattle.dm_asm.specs.Lines.{lines}
+use Rattle.dm_asm.specs.Lines.{source_lines}
 use Rattle.dm_onekernel.specs.Boot.{slots_of}
 use Rattle.dm_boot.specs.declared.rules.BootRule.{BootRule}
 use Rattle.dm_boot.specs.declared.rules.BootRule.TheVariants.{Document, TopKeys, Settings, MachineCount, MachineKeys, MachineRoom, ImageCount, ImageKeys, ImageName, ImageBlocks, ImageText, ImageBytes, ProcessKeys, ProcessName, ProcessMachine, ProcessImage, ProcessRoom, LinkCount, LinkTarget, LinkLimits}
 use Rattle.dm_boot.specs.Build.{format_of, home_of, image_tables, is_control, link_tables, machine_tables, process_tables}
-use Rattle.dm_boot.specs.Rules.{has_target, is_limited, is_link, memory_of, rule_number}
+use Rattle.dm_boot.specs.Rules.{has_target, is_limited, is_link, memory_size_of, rule_number}
 use Rattle.dm_boot.specs.Tables.{count, first_failing, text_at}
-use Rattle.dm_boot.specs.Text.{is_name, is_server}
+use Rattle.dm_boot.specs.Text.{is_boot_name, is_server_name}
 use Rattle.dm_explain.specs.declared.told.LinkRule.{LinkRule}
 use Rattle.dm_explain.specs.declared.told.LinkRule.TheVariants as link
 use Rattle.dm_explain.specs.Faults.{integer_at, key_fault, number_fault}
@@ -25,8 +25,8 @@ abbrev pub name_at : Data → List ℕ
 name_at t = text_at (codes "name") t
 
 -- an element by its place, and by its name
-unfoldable pub numbered : List ℕ → ℕ → List ℕ
-numbered kind place = concat (kind ∷ codes " " ∷ decimal place ∷ codes ": " ∷ [])
+unfoldable pub place_title : List ℕ → ℕ → List ℕ
+place_title kind place = concat (kind ∷ codes " " ∷ decimal place ∷ codes ": " ∷ [])
 
 unfoldable pub titled : List ℕ → Data → List ℕ
 titled kind t = concat (kind ∷ codes " " ∷ quoted (name_at t) ∷ codes ": " ∷ [])
@@ -49,20 +49,20 @@ top_told ImageCount d = count_told (count (image_tables d)) (codes "images") 0 2
 top_told _ d = []
 
 -- rules of machine i
-abbrev pub machine_told : BootRule → ℕ → Data → List ℕ
-machine_told MachineKeys i t = numbered (codes "machine") i ++ key_fault machine_wishes [] t
-machine_told MachineRoom i t = numbered (codes "machine") i ++ number_fault machine_limits [] t
-machine_told _ i t = []
+abbrev pub machine_rule_told : BootRule → ℕ → Data → List ℕ
+machine_rule_told MachineKeys i t = place_title (codes "machine") i ++ key_fault machine_wishes [] t
+machine_rule_told MachineRoom i t = place_title (codes "machine") i ++ number_fault machine_limits [] t
+machine_rule_told _ i t = []
 
 -- a name that is another's, or none
 abbrev pub no_name : List ℕ
 no_name = codes " is no name, which has 1 to 16 of a to z, 0 to 9 and _"
 
 abbrev pub image_name_words : List ℕ → List ℕ
-image_name_words name = if is_name name then codes " is an earlier image's name" else no_name
+image_name_words name = if is_boot_name name then codes " is an earlier image's name" else no_name
 
 abbrev pub process_name_words : List ℕ → List ℕ
-process_name_words name = if is_name name then (if is_server name then codes " is a server's name" else codes " is an earlier process's name") else no_name
+process_name_words name = if is_boot_name name then (if is_server_name name then codes " is a server's name" else codes " is an earlier process's name") else no_name
 
 -- why a line of an image's text is refused
 abbrev pub why_words : Why → List ℕ
@@ -78,7 +78,7 @@ why_words TooLong = codes "the image has more than 65536 bytes with this line"
 abbrev pub text_told : Data → List ℕ → Result (List ℕ) (ℕ × Why) → List ℕ
 text_told t text (Ok bytes) = []
 text_told t text (Err refused) =
-    concat (codes "image " ∷ quoted (name_at t) ∷ codes ", line " ∷ decimal refused.0 ∷ codes ": " ∷ why_words refused.1 ∷ codes ": " ∷ quoted (line_at refused.0 (lines text)) ∷ [])
+    concat (codes "image " ∷ quoted (name_at t) ∷ codes ", line " ∷ decimal refused.0 ∷ codes ": " ∷ why_words refused.1 ∷ codes ": " ∷ quoted (line_at refused.0 (source_lines text)) ∷ [])
 
 abbrev pub bytes_told : Data → Result (List ℕ) (ℕ × Why) → List ℕ
 bytes_told t (Ok bytes) =
@@ -86,13 +86,13 @@ bytes_told t (Ok bytes) =
 bytes_told t (Err refused) = []
 
 -- rules of image i
-abbrev pub image_told : BootRule → ℕ → Data → List ℕ
-image_told ImageKeys i t = numbered (codes "image") i ++ key_fault image_wishes [] t
-image_told ImageName i t = numbered (codes "image") i ++ concat (quoted (name_at t) ∷ image_name_words (name_at t) ∷ [])
-image_told ImageBlocks i t = titled (codes "image") t ++ number_fault image_limits [] t
-image_told ImageText i t = text_told t (text_at (codes "text") t) (assembled (text_at (codes "text") t))
-image_told ImageBytes i t = bytes_told t (assembled (text_at (codes "text") t))
-image_told _ i t = []
+abbrev pub image_rule_told : BootRule → ℕ → Data → List ℕ
+image_rule_told ImageKeys i t = place_title (codes "image") i ++ key_fault image_wishes [] t
+image_rule_told ImageName i t = place_title (codes "image") i ++ concat (quoted (name_at t) ∷ image_name_words (name_at t) ∷ [])
+image_rule_told ImageBlocks i t = titled (codes "image") t ++ number_fault image_limits [] t
+image_rule_told ImageText i t = text_told t (text_at (codes "text") t) (assembled (text_at (codes "text") t))
+image_rule_told ImageBytes i t = bytes_told t (assembled (text_at (codes "text") t))
+image_rule_told _ i t = []
 
 -- what is said of a link by a rule that it breaks
 abbrev pub target_told : Data → List ℕ
@@ -101,20 +101,20 @@ target_told l =
     else concat (codes "no process or server is named " ∷ quoted (text_at (codes "to") l) ∷ [])
 
 abbrev pub area_told : Data → Data → List ℕ
-area_told d l = concat (codes "base and len are more than " ∷ decimal (memory_of d (text_at (codes "to") l)) ∷ codes " together, the bytes of the memory of " ∷ quoted (text_at (codes "to") l) ∷ [])
+area_told d l = concat (codes "base and len are more than " ∷ decimal (memory_size_of d (text_at (codes "to") l)) ∷ codes " together, the bytes of the memory of " ∷ quoted (text_at (codes "to") l) ∷ [])
 
 abbrev pub limits_told : Data → Data → List ℕ
 limits_told d l =
-    if is_server (text_at (codes "to") l) then number_fault channel_limits (concat (codes "a link to a server has no code, base, len, read or write" ∷ [])) l
+    if is_server_name (text_at (codes "to") l) then number_fault channel_limits (concat (codes "a link to a server has no code, base, len, read or write" ∷ [])) l
     else number_fault link_limits (area_told d l) l
 
 abbrev pub link_keys_told : Data → List ℕ
 link_keys_told l = if is_control l then key_fault control_wishes [] l else key_fault link_wishes [] l
 
-abbrev pub link_told : LinkRule → Data → Data → List ℕ
-link_told link.Keys d l = link_keys_told l
-link_told link.Target d l = target_told l
-link_told link.Limits d l = limits_told d l
+abbrev pub link_rule_told : LinkRule → Data → Data → List ℕ
+link_rule_told link.Keys d l = link_keys_told l
+link_rule_told link.Target d l = target_told l
+link_rule_told link.Limits d l = limits_told d l
 
 -- a link keeps a rule
 abbrev pub link_keeps : LinkRule → Data → Data → Bool
@@ -128,7 +128,7 @@ bad_link r d t = first_failing (λ k l. link_keeps r d l) 0 (link_tables t)
 
 abbrev pub at_link : LinkRule → Data → Data → Option ℕ → List ℕ
 at_link r d t None = []
-at_link r d t (Some k) = numbered (codes "link") k ++ of_element (get_item k (link_tables t)) (λ l. link_told r d l)
+at_link r d t (Some k) = place_title (codes "link") k ++ of_element (get_item k (link_tables t)) (λ l. link_rule_told r d l)
 
 -- the keys of a process, or of its first bad link
 abbrev pub keys_told : Data → Data → Option ℕ → List ℕ
@@ -140,18 +140,18 @@ abbrev pub room_told : Data → List ℕ
 room_told m = concat (codes ", which has slots = " ∷ integer_text (integer_at (codes "slots") m) ∷ codes " and blocks = " ∷ integer_text (integer_at (codes "blocks") m) ∷ [])
 
 -- rules of process i
-abbrev pub process_told : BootRule → Data → ℕ → Data → List ℕ
-process_told ProcessKeys d i t = numbered (codes "process") i ++ keys_told d t (bad_link link.Keys d t)
-process_told ProcessName d i t = numbered (codes "process") i ++ concat (quoted (name_at t) ∷ process_name_words (name_at t) ∷ [])
-process_told ProcessMachine d i t =
+abbrev pub process_rule_told : BootRule → Data → ℕ → Data → List ℕ
+process_rule_told ProcessKeys d i t = place_title (codes "process") i ++ keys_told d t (bad_link link.Keys d t)
+process_rule_told ProcessName d i t = place_title (codes "process") i ++ concat (quoted (name_at t) ∷ process_name_words (name_at t) ∷ [])
+process_rule_told ProcessMachine d i t =
     titled (codes "process") t ++ concat (codes "machine = " ∷ integer_text (integer_at (codes "machine") t) ∷ codes ", and the machines are " ∷ decimal (count (machine_tables d)) ∷ codes ", from 0 on" ∷ [])
-process_told ProcessImage d i t = titled (codes "process") t ++ concat (codes "no image is named " ∷ quoted (text_at (codes "image") t) ∷ [])
-process_told ProcessRoom d i t =
+process_rule_told ProcessImage d i t = titled (codes "process") t ++ concat (codes "no image is named " ∷ quoted (text_at (codes "image") t) ∷ [])
+process_rule_told ProcessRoom d i t =
     titled (codes "process") t ++ concat (codes "with those before it there is no room for it on machine " ∷ decimal (home_of t) ∷ []) ++ of_element (get_item (home_of t) (machine_tables d)) room_told
-process_told LinkCount d i t = titled (codes "process") t ++ count_told (count (link_tables t)) (codes "links") 0 (slots_of (format_of d))
-process_told LinkTarget d i t = titled (codes "process") t ++ at_link link.Target d t (bad_link link.Target d t)
-process_told LinkLimits d i t = titled (codes "process") t ++ at_link link.Limits d t (bad_link link.Limits d t)
-process_told _ d i t = []
+process_rule_told LinkCount d i t = titled (codes "process") t ++ count_told (count (link_tables t)) (codes "links") 0 (slots_of (format_of d))
+process_rule_told LinkTarget d i t = titled (codes "process") t ++ at_link link.Target d t (bad_link link.Target d t)
+process_rule_told LinkLimits d i t = titled (codes "process") t ++ at_link link.Limits d t (bad_link link.Limits d t)
+process_rule_told _ d i t = []
 
 -- what is said of a rule that the element at a place breaks
 abbrev pub rule_told : BootRule → ℕ → Data → List ℕ
@@ -159,22 +159,22 @@ rule_told Document i d = []
 rule_told TopKeys i d = top_told TopKeys d
 rule_told Settings i d = top_told Settings d
 rule_told MachineCount i d = top_told MachineCount d
-rule_told MachineKeys i d = of_element (get_item i (machine_tables d)) (λ t. machine_told MachineKeys i t)
-rule_told MachineRoom i d = of_element (get_item i (machine_tables d)) (λ t. machine_told MachineRoom i t)
+rule_told MachineKeys i d = of_element (get_item i (machine_tables d)) (λ t. machine_rule_told MachineKeys i t)
+rule_told MachineRoom i d = of_element (get_item i (machine_tables d)) (λ t. machine_rule_told MachineRoom i t)
 rule_told ImageCount i d = top_told ImageCount d
-rule_told ImageKeys i d = of_element (get_item i (image_tables d)) (λ t. image_told ImageKeys i t)
-rule_told ImageName i d = of_element (get_item i (image_tables d)) (λ t. image_told ImageName i t)
-rule_told ImageBlocks i d = of_element (get_item i (image_tables d)) (λ t. image_told ImageBlocks i t)
-rule_told ImageText i d = of_element (get_item i (image_tables d)) (λ t. image_told ImageText i t)
-rule_told ImageBytes i d = of_element (get_item i (image_tables d)) (λ t. image_told ImageBytes i t)
-rule_told ProcessKeys i d = of_element (get_item i (process_tables d)) (λ t. process_told ProcessKeys d i t)
-rule_told ProcessName i d = of_element (get_item i (process_tables d)) (λ t. process_told ProcessName d i t)
-rule_told ProcessMachine i d = of_element (get_item i (process_tables d)) (λ t. process_told ProcessMachine d i t)
-rule_told ProcessImage i d = of_element (get_item i (process_tables d)) (λ t. process_told ProcessImage d i t)
-rule_told ProcessRoom i d = of_element (get_item i (process_tables d)) (λ t. process_told ProcessRoom d i t)
-rule_told LinkCount i d = of_element (get_item i (process_tables d)) (λ t. process_told LinkCount d i t)
-rule_told LinkTarget i d = of_element (get_item i (process_tables d)) (λ t. process_told LinkTarget d i t)
-rule_told LinkLimits i d = of_element (get_item i (process_tables d)) (λ t. process_told LinkLimits d i t)
+rule_told ImageKeys i d = of_element (get_item i (image_tables d)) (λ t. image_rule_told ImageKeys i t)
+rule_told ImageName i d = of_element (get_item i (image_tables d)) (λ t. image_rule_told ImageName i t)
+rule_told ImageBlocks i d = of_element (get_item i (image_tables d)) (λ t. image_rule_told ImageBlocks i t)
+rule_told ImageText i d = of_element (get_item i (image_tables d)) (λ t. image_rule_told ImageText i t)
+rule_told ImageBytes i d = of_element (get_item i (image_tables d)) (λ t. image_rule_told ImageBytes i t)
+rule_told ProcessKeys i d = of_element (get_item i (process_tables d)) (λ t. process_rule_told ProcessKeys d i t)
+rule_told ProcessName i d = of_element (get_item i (process_tables d)) (λ t. process_rule_told ProcessName d i t)
+rule_told ProcessMachine i d = of_element (get_item i (process_tables d)) (λ t. process_rule_told ProcessMachine d i t)
+rule_told ProcessImage i d = of_element (get_item i (process_tables d)) (λ t. process_rule_told ProcessImage d i t)
+rule_told ProcessRoom i d = of_element (get_item i (process_tables d)) (λ t. process_rule_told ProcessRoom d i t)
+rule_told LinkCount i d = of_element (get_item i (process_tables d)) (λ t. process_rule_told LinkCount d i t)
+rule_told LinkTarget i d = of_element (get_item i (process_tables d)) (λ t. process_rule_told LinkTarget d i t)
+rule_told LinkLimits i d = of_element (get_item i (process_tables d)) (λ t. process_rule_told LinkLimits d i t)
 
 -- the whole line
 abbrev pub broken_told : BootRule → ℕ → Data → List ℕ

@@ -1,14 +1,14 @@
 //! A line of a text, by its number.
 ghost use Rattle.std.specs.Prelude.{◌≡◌, ◌-◌, ◌<◌, ◌≤◌, ◌&&◌, ◌∷◌, if◌then◌else◌, length, nat_lt, slice_index};
 ghost use Rattle.std.specs.List.{position};
-ghost use Rattle.dm_asm.specs.Lines.{lines as text_lines};
+ghost use Rattle.dm_asm.specs.Lines.{source_lines};
 ghost use Rattle.dm_schedule.specs.Lines.{ends_line, is_return, lines as schedule_lines};
 ghost use Rattle.dm_explain.specs.LineAt.{line_at};
 
 /// Line `n` of an image's text, from 1; nothing where there is none.
 #[tactic(auto, using(crate::proofs::Loops::line_lemmas))]
 pub fn text_line(text: &[u8], n: usize) -> &[u8]
-    ensures { result.now ≡ line_at n (text_lines text.now) }
+    ensures { result.now ≡ line_at n (source_lines text.now) }
 {
     let mut rest = text;
     let mut left = n.saturating_sub(1);

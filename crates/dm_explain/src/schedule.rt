@@ -1,6 +1,6 @@
 //! What is said of a schedule.
 ghost use Rattle.std.specs.Prelude.{◌≡◌, ◌≤◌, ◌++◌, OnOk, count_by, length};
-ghost use Rattle.dm_explain.specs.Schedules.{directives_told, fault_words, is_of, line_told};
+ghost use Rattle.dm_explain.specs.Schedules.{directives_told, fault_words, is_deed, line_told};
 
 use crate::line::schedule_line;
 use crate::part::{Part, put_parts};
@@ -49,7 +49,7 @@ pub fn put_directives(into: &mut Vec<u8>, directives: &[Directive]) -> Result<()
 
 /// How many of these directives are of a word.
 fn many(deed: Deed, directives: &[Directive]) -> u64
-    ensures { result ≡ count_by (is_of deed) directives.now }
+    ensures { result ≡ count_by (is_deed deed) directives.now }
 {
     let mut count = 0;
     for directive in directives {
@@ -62,7 +62,7 @@ fn many(deed: Deed, directives: &[Directive]) -> u64
 
 /// Whether a directive is of a word.
 fn is_of(deed: Deed, directive: &Directive) -> bool
-    ensures { result ≡ is_of deed directive.now }
+    ensures { result ≡ is_deed deed directive.now }
 {
     match deed {
         Deed::Turn => matches!(*directive, Directive::One(Step::Turn(_))),

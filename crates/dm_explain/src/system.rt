@@ -2,7 +2,7 @@
 ghost use Rattle.std.specs.Prelude.{◌≡◌, ◌++◌, OnOk};
 ghost use Rattle.toml.specs.View.{items_view, view};
 ghost use Rattle.toml.specs.Data.{get_item};
-ghost use Rattle.dm_explain.specs.System.{each, format_word, image_told, kind_word, link_told, machine_told, process_told, rights_word, settings_told, system_told, text_in};
+ghost use Rattle.dm_explain.specs.System.{area_rights_word, boot_process_told, each, format_word, image_told, link_kind_word, link_told, machine_told, settings_told, system_told, text_in};
 
 use crate::part::{Part, put_parts};
 use dm_boot::tables::{items_at, text_at};
@@ -121,7 +121,7 @@ fn put_processes(
     processes: &[BootProcess],
     tables: &[Value],
 ) -> Result<(), NoMemory>
-    ensures { OnOk result (into.new.items ≡ into.old.items ++ each (process_told (items_view tables.now)) 0 processes.now) }
+    ensures { OnOk result (into.new.items ≡ into.old.items ++ each (boot_process_told (items_view tables.now)) 0 processes.now) }
 {
     for (i, process) in processes.iter().enumerate() {
         put_process(into, i, process, tables)?;
@@ -129,14 +129,14 @@ fn put_processes(
     Ok(())
 }
 
-#[tactic(auto, unfolding(crate::specs::System::process_told))]
+#[tactic(auto, unfolding(crate::specs::System::boot_process_told))]
 fn put_process(
     into: &mut Vec<u8>,
     i: usize,
     process: &BootProcess,
     tables: &[Value],
 ) -> Result<(), NoMemory>
-    ensures { OnOk result (into.new.items ≡ into.old.items ++ process_told (items_view tables.now) i process.now) }
+    ensures { OnOk result (into.new.items ≡ into.old.items ++ boot_process_told (items_view tables.now) i process.now) }
 {
     put_parts(
         into,
@@ -196,7 +196,7 @@ fn put_link(into: &mut Vec<u8>, k: usize, link: &Link) -> Result<(), NoMemory>
 }
 
 fn kind_word(kind: Kind) -> &'static str
-    ensures { result.now ≡ kind_word kind }
+    ensures { result.now ≡ link_kind_word kind }
 {
     match kind {
         Kind::General => "general",
@@ -206,7 +206,7 @@ fn kind_word(kind: Kind) -> &'static str
 
 /// What may be done with a link's area.
 fn rights_word(read: bool, write: bool) -> &'static str
-    ensures { result.now ≡ rights_word read write }
+    ensures { result.now ≡ area_rights_word read write }
 {
     if read {
         if write {

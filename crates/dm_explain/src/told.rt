@@ -9,7 +9,7 @@ ghost use Rattle.dm_boot.specs.Build.{home_of, link_tables, machine_tables};
 ghost use Rattle.dm_boot.specs.Tables.{count, first_failing, items_at, text_at};
 ghost use Rattle.dm_explain.specs.Faults.{integer_at};
 ghost use Rattle.dm_explain.specs.Parts.{integer_text, quoted};
-ghost use Rattle.dm_explain.specs.Told.{area_told, at_link, bad_link, broken_told, bytes_told, count_told, image_name_words, image_told, keys_told, limits_told, link_keeps, link_keys_told, link_told, machine_told, name_at, numbered, of_element, process_name_words, process_told, room_told, rule_told, target_told, text_told, titled, top_told, why_words};
+ghost use Rattle.dm_explain.specs.Told.{area_told, at_link, bad_link, broken_told, bytes_told, count_told, image_name_words, image_rule_told, keys_told, limits_told, link_keeps, link_keys_told, link_rule_told, machine_rule_told, name_at, of_element, place_title, process_name_words, process_rule_told, room_told, rule_told, target_told, text_told, titled, top_told, why_words};
 
 use crate::faults::{integer_at, put_key_fault, put_number_fault};
 use crate::line::text_line;
@@ -113,9 +113,9 @@ fn element<'a>(table: &'a Value, key: &str, place: u64) -> Option<&'a Value>
 }
 
 /// Writes what an element is, by its place.
-#[tactic(auto, unfolding(crate::specs::Told::numbered))]
+#[tactic(auto, unfolding(crate::specs::Told::place_title))]
 fn put_numbered(into: &mut Vec<u8>, kind: &'static str, place: u64) -> Result<(), NoMemory>
-    ensures { OnOk result (into.new.items ≡ into.old.items ++ numbered kind.now place) }
+    ensures { OnOk result (into.new.items ≡ into.old.items ++ place_title kind.now place) }
 {
     put_parts(
         into,
@@ -200,7 +200,7 @@ fn put_machine(
     place: u64,
     machine: &Value,
 ) -> Result<(), NoMemory>
-    ensures { OnOk result (into.new.items ≡ into.old.items ++ machine_told rule place (view machine.now)) }
+    ensures { OnOk result (into.new.items ≡ into.old.items ++ machine_rule_told rule place (view machine.now)) }
 {
     match rule {
         BootRule::MachineKeys => {
@@ -223,7 +223,7 @@ fn put_image(
     place: u64,
     image: &Value,
 ) -> Result<(), NoMemory>
-    ensures { OnOk result (into.new.items ≡ into.old.items ++ image_told rule place (view image.now)) }
+    ensures { OnOk result (into.new.items ≡ into.old.items ++ image_rule_told rule place (view image.now)) }
 {
     match rule {
         BootRule::ImageKeys => {
@@ -370,7 +370,7 @@ fn put_process(
     place: u64,
     process: &Value,
 ) -> Result<(), NoMemory>
-    ensures { OnOk result (into.new.items ≡ into.old.items ++ process_told rule (view document.now.top.now) place (view process.now)) }
+    ensures { OnOk result (into.new.items ≡ into.old.items ++ process_rule_told rule (view document.now.top.now) place (view process.now)) }
 {
     match rule {
         BootRule::ProcessKeys => {
@@ -555,7 +555,7 @@ fn put_link(
     rule: LinkRule,
     link: &Value,
 ) -> Result<(), NoMemory>
-    ensures { OnOk result (into.new.items ≡ into.old.items ++ link_told rule (view document.now.top.now) (view link.now)) }
+    ensures { OnOk result (into.new.items ≡ into.old.items ++ link_rule_told rule (view document.now.top.now) (view link.now)) }
 {
     match rule {
         LinkRule::Keys => put_link_keys(into, link),

@@ -1,9 +1,9 @@
 -- What is known of the process that an event is about.
 use Rattle.dm_kernel.proofs.Names.{◌≡◌, ◌∙◌, Bool, true, false, if◌then◌else◌, refl, ap, sym, subst, Some, None, IsSome, rules, Option, IfSome, Pid, pid_eq, pid_eq_same, pid_eq_self, is_runnable, IsServiceOf, Service, Process, HasTaken}
-use Rattle.dm_kernel.proofs.Names.{Taken, Here, Frozen, Incoming, Forward, Ended, here_of, with_record, bind, KernelState, Known, Turned, blocks_of, with_here, MayAct, IsHere, Serves, known_is_runnable}
+use Rattle.dm_kernel.proofs.Names.{Taken, Here, Frozen, Incoming, Forward, Ended, here_of, with_record, bind, KernelState, KernelKnown, Turned, blocks_of, with_here, MayAct, IsHere, Serves, known_is_runnable}
 
 -- what holds of it
-pub is_here : (P : Process → Type 0) (o : Option Known) (x : Process) → here_of o ≡ Some x → IsHere P o → P x
+pub is_here : (P : Process → Type 0) (o : Option KernelKnown) (x : Process) → here_of o ≡ Some x → IsHere P o → P x
 is_here P None x e h = absurd h
 is_here P (Some (Here y)) x e h = let same : y ≡ x = cc in subst P same h
 is_here P (Some (Frozen leaving)) x e h = absurd h
@@ -12,7 +12,7 @@ is_here P (Some (Forward machine moves)) x e h = absurd h
 is_here P (Some (Ended y)) x e h = absurd h
 
 -- what follows for the process that is here
-pub here_as : (P Q : Process → Type 0) (o : Option Known) → ((x : Process) → P x → Q x) → IsHere P o → IsHere Q o
+pub here_as : (P Q : Process → Type 0) (o : Option KernelKnown) → ((x : Process) → P x → Q x) → IsHere P o → IsHere Q o
 here_as P Q None go h = absurd h
 here_as P Q (Some (Here x)) go h = go x h
 here_as P Q (Some (Frozen leaving)) go h = absurd h
@@ -20,7 +20,7 @@ here_as P Q (Some (Incoming arriving)) go h = absurd h
 here_as P Q (Some (Forward machine moves)) go h = absurd h
 here_as P Q (Some (Ended y)) go h = absurd h
 
-pub is_here_as : (P : Process → Type 0) (o : Option Known) (x : Process) → here_of o ≡ Some x → P x → IsHere P o
+pub is_here_as : (P : Process → Type 0) (o : Option KernelKnown) (x : Process) → here_of o ≡ Some x → P x → IsHere P o
 is_here_as P None x e h = absurd (cc)
 is_here_as P (Some (Here y)) x e h = let same : x ≡ y = cc in subst P same h
 is_here_as P (Some (Frozen leaving)) x e h = absurd (cc)
@@ -29,7 +29,7 @@ is_here_as P (Some (Forward machine moves)) x e h = absurd (cc)
 is_here_as P (Some (Ended y)) x e h = absurd (cc)
 
 -- whether it can be served goes by the process that is here
-pub here_runs : (o : Option Known) (x : Process) → here_of o ≡ Some x → known_is_runnable o ≡ is_runnable x
+pub here_runs : (o : Option KernelKnown) (x : Process) → here_of o ≡ Some x → known_is_runnable o ≡ is_runnable x
 here_runs None x e = absurd (cc)
 here_runs (Some (Here y)) x e = let same : y ≡ x = cc in ap is_runnable same
 here_runs (Some (Frozen leaving)) x e = absurd (cc)
@@ -37,7 +37,7 @@ here_runs (Some (Incoming arriving)) x e = absurd (cc)
 here_runs (Some (Forward machine moves)) x e = absurd (cc)
 here_runs (Some (Ended y)) x e = absurd (cc)
 
-pub none_runs : (o : Option Known) → here_of o ≡ None → known_is_runnable o ≡ false
+pub none_runs : (o : Option KernelKnown) → here_of o ≡ None → known_is_runnable o ≡ false
 none_runs None e = refl
 none_runs (Some (Here y)) e = absurd (cc)
 none_runs (Some (Frozen leaving)) e = refl
@@ -46,7 +46,7 @@ none_runs (Some (Forward machine moves)) e = refl
 none_runs (Some (Ended y)) e = refl
 
 -- a process that is set as it is there changes nothing
-is_known : (o : Option Known) (x : Process) → here_of o ≡ Some x → Some (Here x) ≡ o
+is_known : (o : Option KernelKnown) (x : Process) → here_of o ≡ Some x → Some (Here x) ≡ o
 is_known None x e = absurd (cc)
 is_known (Some (Here y)) x e = let same : y ≡ x = cc in ap (λ (x : Process). Some (Here x)) (sym same)
 is_known (Some (Frozen leaving)) x e = absurd (cc)
@@ -54,11 +54,11 @@ is_known (Some (Incoming arriving)) x e = absurd (cc)
 is_known (Some (Forward machine moves)) x e = absurd (cc)
 is_known (Some (Ended y)) x e = absurd (cc)
 
-set_or_not : (same : Bool) (k o : Option Known) → (same ≡ true → k ≡ o) → (if same then k else o) ≡ o
+set_or_not : (same : Bool) (k o : Option KernelKnown) → (same ≡ true → k ≡ o) → (if same then k else o) ≡ o
 set_or_not true k o e = e refl
 set_or_not false k o e = refl
 
-pub set_again : (records : Pid → Option Known) (p : Pid) (x : Process) → here_of (records p) ≡ Some x → (q : Pid) → with_record records p (Here x) q ≡ records q
+pub set_again : (records : Pid → Option KernelKnown) (p : Pid) (x : Process) → here_of (records p) ≡ Some x → (q : Pid) → with_record records p (Here x) q ≡ records q
 set_again records p x e q =
     set_or_not (pid_eq p q) (Some (Here x)) (records q) (λ same. is_known (records p) x e ∙ ap records (pid_eq_same p q same))
 
@@ -73,7 +73,7 @@ holds_at P None p e h = absurd (cc)
 holds_at P (Some q) p e h = let same : q ≡ p = cc in subst P same h
 
 -- it can be served so
-pub can_serve : (s t : KernelState) (p : Pid) (service : Service) (o : Option Known) → t.room ≡ s.room → ((x : Process) → o ≡ Some (Here x) → MayAct s p x) → IsHere (λ x. IsServiceOf x service) o
+pub can_serve : (s t : KernelState) (p : Pid) (service : Service) (o : Option KernelKnown) → t.room ≡ s.room → ((x : Process) → o ≡ Some (Here x) → MayAct s p x) → IsHere (λ x. IsServiceOf x service) o
     → IsHere (Serves t p service) o
 can_serve s t p service None room may h = absurd h
 can_serve s t p service (Some (Here x)) room may h = record { acts = acts_still s t p x room (may x refl); does = h }
@@ -83,11 +83,11 @@ can_serve s t p service (Some (Forward machine moves)) room may h = absurd h
 can_serve s t p service (Some (Ended y)) room may h = absurd h
 
 -- a state with the same records
-pub same_state : (s : KernelState) (records : Pid → Option Known) → ((q : Pid) → records q ≡ s.records q) → record s { records = records } ≡ s
+pub same_state : (s : KernelState) (records : Pid → Option KernelKnown) → ((q : Pid) → records q ≡ s.records q) → record s { records = records } ≡ s
 same_state s records e = λ i. record s { records = λ q. e q i }
 
 -- the process p is set to x
-pub sets : (s : KernelState) (p : Pid) (x : Process) (records : Pid → Option Known) → ((q : Pid) → records q ≡ with_record s.records p (Here x) q) → record s { records = records } ≡ with_here s p x
+pub sets : (s : KernelState) (p : Pid) (x : Process) (records : Pid → Option KernelKnown) → ((q : Pid) → records q ≡ with_record s.records p (Here x) q) → record s { records = records } ≡ with_here s p x
 sets s p x records e = λ i. record s { records = λ q. e q i }
 
 pub there : (s : KernelState) (p : Pid) (x : Process) → here_of ((with_here s p x).records p) ≡ Some x

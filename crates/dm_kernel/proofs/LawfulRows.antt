@@ -2,7 +2,7 @@
 use Rattle.dm_kernel.proofs.Names.{◌≡◌, ℕ, ◌-◌, ◌*◌, ◌<◌, ◌≤◌, Bool, true, false, if◌then◌else◌, List, [], ◌∷◌, ◌++◌, length, map, replicate, Some, None, refl, sym, subst, inl, inr, ◌⊎◌, arith, All, IfSome, common_steps, All-append}
 use Rattle.dm_kernel.proofs.Names.{All-cons, All-map, All-nil, All-push, nat_tests, Option, Link, Pid, IsMachine, IsLawfulEnclosed, pid_eq, Message, What, kind_of, IsLawfulMessage, IsLawfulWhat, is_answer, Process, IsLawfulProcess}
 use Rattle.dm_kernel.proofs.Names.{SlotIsLawful, Here, Ended, with_record, Taken, answer, none_lawful, Boot, BootImage, Format, One, Two, Why, image_is_valid, slots_of, memory_of, slots_with, Line, Part, Says, Routes, child_of, with_child}
-use Rattle.dm_kernel.proofs.Names.{routes, AreLawful, IsLawfulKnown, IsLawfulPart, IsLawfulRoom, IsLawfulState, IsLawfulTurned, KernelState, Known, Turned, drops, with_here, without_process}
+use Rattle.dm_kernel.proofs.Names.{routes, AreLawful, IsLawfulKnown, IsLawfulPart, IsLawfulRoom, IsLawfulState, IsLawfulTurned, KernelState, KernelKnown, Turned, drops, with_here, without_process}
 
 -- what there is of a turn is lawful
 abbrev pub Lawfully : Option Turned → Type 0
@@ -33,16 +33,16 @@ all_dropped [] = none_said
 all_dropped (m ∷ ms) = said (all_dropped ms)
 
 -- what is known of a process is set
-known_or : (same : Bool) (k : Known) (o : Option Known) → IsLawfulKnown k → IfSome o IsLawfulKnown → IfSome (if same then Some k else o) IsLawfulKnown
+known_or : (same : Bool) (k : KernelKnown) (o : Option KernelKnown) → IsLawfulKnown k → IfSome o IsLawfulKnown → IfSome (if same then Some k else o) IsLawfulKnown
 known_or true k o lawful h = lawful
 known_or false k o lawful h = h
 
-pub knows : (s : KernelState) (p : Pid) (k : Known) → IsLawfulState s → IsLawfulKnown k → (q : Pid) → IfSome (with_record s.records p k q) IsLawfulKnown
+pub knows : (s : KernelState) (p : Pid) (k : KernelKnown) → IsLawfulState s → IsLawfulKnown k → (q : Pid) → IfSome (with_record s.records p k q) IsLawfulKnown
 knows s p k h lawful q = known_or (pid_eq p q) k (s.records q) lawful (h.records q)
 
 -- what is known of one
-pub of_known : (s : KernelState) (p : Pid) (o : Option Known) → IsLawfulState s → s.records p ≡ o → IfSome o IsLawfulKnown
-of_known s p o h e = subst (λ (o : Option Known). IfSome o IsLawfulKnown) e (h.records p)
+pub of_known : (s : KernelState) (p : Pid) (o : Option KernelKnown) → IsLawfulState s → s.records p ≡ o → IfSome o IsLawfulKnown
+of_known s p o h e = subst (λ (o : Option KernelKnown). IfSome o IsLawfulKnown) e (h.records p)
 
 -- as many slots and blocks as before
 pub same_room : (r : Taken) (slots blocks : ℕ) → IsLawfulRoom r → IsLawfulRoom (record r { taken_slots = slots; taken_blocks = blocks })

@@ -3,7 +3,8 @@ use Rattle.dm_kernel.proofs.Names.{◌≡◌, ◌∙◌, ℕ, ◌+◌, ◌*◌, 
 use Rattle.dm_kernel.proofs.Names.{common_steps, All-cons, All-nil, and_parts, nat_tests, Option, Ok, Link, Pid, IsLawfulEnclosed, pid_eq, pid_eq_same, IsLawfulMessage, Process, IsLawfulProcess, HasTaken, Taken, with_reserved, Here, Frozen}
 use Rattle.dm_kernel.proofs.Names.{Incoming, Forward, Ended, Boot, BootImage, BootMachine, BootProcess, IsValid, blocks_at, blocks_of_image, controls_child, image_is_valid, images_are_valid, leads_somewhere, leads_to_process}
 use Rattle.dm_kernel.proofs.Names.{leads_to_server, link_is_valid, links_are_valid, machine_is_valid, manager, memory_size, process_is_valid, process_named, processes_are_valid, slots_of, starting_at, switchboard, memory_of, started_lawful}
-use Rattle.dm_kernel.proofs.Names.{starting, IsLawfulNamed, begins, child_of, empty, opened, room_of, with_all, with_child, IsLawfulKnown, IsLawfulPair, IsLawfulRoom, IsLawfulState, FrontMay, MayTurn, KernelState, Known, blocks_of}
+use Rattle.dm_kernel.proofs.Names.{starting, IsLawfulNamed, begins_process, child_of, empty, opened, room_of, with_all, with_child, IsLawfulKnown, IsLawfulPair, IsLawfulRoom, IsLawfulState, FrontMay, MayTurn, KernelState, KernelKnown}
+use Rattle.dm_kernel.proofs.Names.{blocks_of}
 use Rattle.dm_kernel.proofs.Making.{image_fits}
 use Rattle.dm_kernel.proofs.LawfulRows.{child_lawfully, same_room}
 use Rattle.dm_kernel.proofs.Opening.{machine_fits}
@@ -124,7 +125,7 @@ record AreFresh (s : KernelState) : Type 0 where
 grown : (r : Taken) (n blocks : ℕ) → HasTaken r n → HasTaken (with_reserved r blocks) n
 grown r n blocks h = let some : 0 < r.taken_slots = h.0 in let all : n ≤ r.taken_blocks = h.1 in (omega arith, omega arith)
 
-fresh_or : (s : KernelState) (test : Bool) (p q : Pid) (c x : Process) (blocks : ℕ) (o : Option Known) → pid_eq p q ≡ test → c.pid ≡ p → IsLawfulProcess c → c.sent ≡ 0 → blocks_of c ≡ blocks
+fresh_or : (s : KernelState) (test : Bool) (p q : Pid) (c x : Process) (blocks : ℕ) (o : Option KernelKnown) → pid_eq p q ≡ test → c.pid ≡ p → IsLawfulProcess c → c.sent ≡ 0 → blocks_of c ≡ blocks
     → (o ≡ Some (Here x) → Fresh s q x) → (if test then Some (Here c) else o) ≡ Some (Here x) → Fresh (with_child s p c blocks) q x
 fresh_or s true p q c x blocks o is named lawful sent size h e =
     let same : c ≡ x = cc in
@@ -154,7 +155,7 @@ child_fresh b s p i home valid few lawful h =
     }
 
 begins_fresh : (b : Boot) (s : KernelState) (p : BootProcess) (o : Option BootImage) (test : Bool) → (p.pid.home == s.here) ≡ test → slice_get b.images p.image ≡ o → images_are_valid b.images ≡ true → p.pid.home ≤ 15
-    → length p.links ≤ slots_of b.format → All IsLawfulEnclosed p.links → AreFresh s → AreFresh (begins b s p o)
+    → length p.links ≤ slots_of b.format → All IsLawfulEnclosed p.links → AreFresh s → AreFresh (begins_process b s p o)
 begins_fresh b s p None test is e valid home few lawful h = h
 begins_fresh b s p (Some i) true is e valid home few lawful h = rw is (child_fresh b s p i home (image_fits b.images p.image i valid e) few lawful h)
 begins_fresh b s p (Some i) false is e valid home few lawful h = rw is h
@@ -170,20 +171,20 @@ all_fresh b earlier (p ∷ ps) s valid few h fresh =
     in
     let links : (length p.links ≤ slots_of b.format) × (links_are_valid b p.links ≡ true) = links_of b (starting_at p.pid.home earlier) p parts.0 in
     let home : p.pid.home < length b.machines = home_of b (starting_at p.pid.home earlier) p parts.0 in
-    all_fresh b (earlier ++ p ∷ []) ps (begins b s p (slice_get b.images p.image)) valid few parts.1
+    all_fresh b (earlier ++ p ∷ []) ps (begins_process b s p (slice_get b.images p.image)) valid few parts.1
     (begins_fresh b s p (slice_get b.images p.image) (p.pid.home == s.here) refl refl valid.images (omega arith) links.0 (links_lawfully b p.links valid few links.1) fresh)
 
 here_or : (test : Bool) (s t : KernelState) → t.here ≡ s.here → (if test then t else s).here ≡ s.here
 here_or true s t e = e
 here_or false s t e = refl
 
-here_still : (b : Boot) (s : KernelState) (p : BootProcess) (o : Option BootImage) → (begins b s p o).here ≡ s.here
+here_still : (b : Boot) (s : KernelState) (p : BootProcess) (o : Option BootImage) → (begins_process b s p o).here ≡ s.here
 here_still b s p None = refl
 here_still b s p (Some i) = here_or (p.pid.home == s.here) s (with_child s p.pid (child_of b p.pid i p.links) i.blocks) refl
 
 here_always : (b : Boot) (s : KernelState) (ps : List BootProcess) → (with_all b s ps).here ≡ s.here
 here_always b s [] = refl
-here_always b s (p ∷ ps) = here_always b (begins b s p (slice_get b.images p.image)) ps ∙ here_still b s p (slice_get b.images p.image)
+here_always b s (p ∷ ps) = here_always b (begins_process b s p (slice_get b.images p.image)) ps ∙ here_still b s p (slice_get b.images p.image)
 
 no_names : All IsLawfulNamed []
 no_names = All-nil IsLawfulNamed
@@ -201,7 +202,7 @@ fresh_at_first b m valid =
     (record { processes = λ p x e. absurd (cc); inbox = refl; servers = servers_lawfully b (m == 0) valid })
 
 -- what a machine opens with: no process leaves, comes or has gone, and it has no more than packets can tell of
-abbrev NoneMoves : Option Known → Type 0
+abbrev NoneMoves : Option KernelKnown → Type 0
 NoneMoves None = ⊤
 NoneMoves (Some (Here x)) = ⊤
 NoneMoves (Some (Frozen leaving)) = ⊥
@@ -213,7 +214,7 @@ record Opens (s : KernelState) : Type 0 where
   known : (p : Pid) → NoneMoves (s.records p)
   room : IsLawfulRoom s.room
 
-none_or : (test : Bool) (x : Process) (o : Option Known) → NoneMoves o → NoneMoves (if test then Some (Here x) else o)
+none_or : (test : Bool) (x : Process) (o : Option KernelKnown) → NoneMoves o → NoneMoves (if test then Some (Here x) else o)
 none_or true x o h = tt
 none_or false x o h = h
 
@@ -225,14 +226,14 @@ opens_or : (test : Bool) (s t : KernelState) → Opens t → Opens s → Opens (
 opens_or true s t h k = h
 opens_or false s t h k = k
 
-begins_open : (b : Boot) (s : KernelState) (p : BootProcess) (o : Option BootImage) → Opens s → Opens (begins b s p o)
+begins_open : (b : Boot) (s : KernelState) (p : BootProcess) (o : Option BootImage) → Opens s → Opens (begins_process b s p o)
 begins_open b s p None h = h
 begins_open b s p (Some i) h =
     opens_or (p.pid.home == s.here) s (with_child s p.pid (child_of b p.pid i p.links) i.blocks) (child_opens s p.pid (child_of b p.pid i p.links) i.blocks h) h
 
 all_open : (b : Boot) (s : KernelState) (ps : List BootProcess) → Opens s → Opens (with_all b s ps)
 all_open b s [] h = h
-all_open b s (p ∷ ps) h = all_open b (begins b s p (slice_get b.images p.image)) ps (begins_open b s p (slice_get b.images p.image) h)
+all_open b s (p ∷ ps) h = all_open b (begins_process b s p (slice_get b.images p.image)) ps (begins_open b s p (slice_get b.images p.image) h)
 
 few_of : (b : Boot) (n : ℕ) (r : BootMachine) → machine_is_valid b n r ≡ true → IsLawfulRoom (room_of (Some r))
 few_of b n r valid =
@@ -247,7 +248,7 @@ room_fits b m (Some r) valid at = few_of b (0 + m) r (machine_fits b 0 b.machine
 opens : (b : Boot) (m : ℕ) → IsValid b → Opens (opened b m)
 opens b m valid = all_open b (empty b m) b.processes (record { known = λ p. tt; room = room_fits b m (slice_get b.machines m) valid refl })
 
-known_lawful : (o : Option Known) → NoneMoves o → ((x : Process) → o ≡ Some (Here x) → IsLawfulProcess x) → IfSome o IsLawfulKnown
+known_lawful : (o : Option KernelKnown) → NoneMoves o → ((x : Process) → o ≡ Some (Here x) → IsLawfulProcess x) → IfSome o IsLawfulKnown
 known_lawful None h k = tt
 known_lawful (Some (Here x)) h k = k x refl
 known_lawful (Some (Frozen leaving)) h k = absurd h

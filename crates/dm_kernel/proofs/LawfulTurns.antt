@@ -7,7 +7,7 @@ use Rattle.dm_kernel.proofs.Names.{receive_refusals, first_failed, heard, manage
 use Rattle.dm_kernel.proofs.Names.{completes_lawfully, IsLawfulDone, call_lawfully, Servers, Halt, asks_move, child_of, restarts, takes_piece, gives_piece, leaves, stays, answers_with, board_handles, board_took, ended_handles, handles}
 use Rattle.dm_kernel.proofs.Names.{here_handles, kernel_handles, lands, lands_as, makes, makes_of, manager_handles, manager_took, next_pid, process_handles, told_board, told_manager, IsLawfulArrival, IsLawfulDeparture, IsLawfulKnown}
 use Rattle.dm_kernel.proofs.Names.{IsLawfulPair, IsLawfulState, IsLawfulTurned, FitsEnded, FitsHere, FitsKernel, FrontMay, FitsKnown, FitsManager, FitsManagerWhat, IsSuch, MayHandle, MayRestart, MayTurn, called_with, ends, halts}
-use Rattle.dm_kernel.proofs.Names.{processor_of, ran, received_by, receives, serves, serves_status, with_machine, KernelState, Known, Turned, with_here, first_runnable, goes_round, turn, turns}
+use Rattle.dm_kernel.proofs.Names.{processor_of, ran, received_by, receives, serves, serves_status, with_machine, KernelState, KernelKnown, Turned, with_here, first_runnable, goes_round, turn, turns}
 use Rattle.dm_message.specs.declared.What.TheVariants as what
 use Rattle.dm_process.specs.declared.process.Status.TheVariants as status
 use Rattle.dm_migrate.specs.Pieces.{state_of}
@@ -109,7 +109,7 @@ status_lawfully quantum s p x status.Ready machine h lawful is =
 status_lawfully quantum s p x (status.Waiting mask base size) machine h lawful is = receives_lawfully s p x mask base size (first_on mask x.queue) h lawful is refl
 status_lawfully quantum s p x (status.Moving dir owner base own left pending) machine h lawful is = tt
 
-serves_known : (quantum : ℕ) (s : KernelState) (p : Pid) (o : Option Known) → s.here < 16 → IsLawfulState s → s.records p ≡ o → Lawfully (serves quantum s p o)
+serves_known : (quantum : ℕ) (s : KernelState) (p : Pid) (o : Option KernelKnown) → s.here < 16 → IsLawfulState s → s.records p ≡ o → Lawfully (serves quantum s p o)
 serves_known quantum s p None machine h e = tt
 serves_known quantum s p (Some (Here x)) machine h e = status_lawfully quantum s p x x.status machine h (of_known s p (Some (Here x)) h e) refl
 serves_known quantum s p (Some (Frozen leaving)) machine h e = tt
@@ -174,7 +174,7 @@ ended_lawfully s m (what.Migrate to) machine h message fits = record { state = h
 ended_lawfully s m (what.Update about) machine h message fits = record { state = h; parts = said none_said }
 ended_lawfully s m w machine h message fits = absurd fits
 
-known_lawfully : (s : KernelState) (m : Message) (o : Option Known) → s.here < 16 → IsLawfulState s → IsLawfulMessage m → ((x : Process) → o ≡ Some (Here x) → ¬ IsServer x.pid) → FitsKnown s m o
+known_lawfully : (s : KernelState) (m : Message) (o : Option KernelKnown) → s.here < 16 → IsLawfulState s → IsLawfulMessage m → ((x : Process) → o ≡ Some (Here x) → ¬ IsServer x.pid) → FitsKnown s m o
     → s.records m.to.pid ≡ o → Lawfully (process_handles s m o)
 known_lawfully s m None machine h message none fits e = tt
 known_lawfully s m (Some (Here x)) machine h message none fits e = here_lawfully s m x m.what machine h message message.what (of_known s m.to.pid (Some (Here x)) h e) (none x refl) fits
@@ -202,7 +202,7 @@ makes_of_lawfully b s m links None machine h message valid few lawful = tt
 makes_of_lawfully b s m links (Some i) machine h message valid few lawful = makes_lawfully b s m links i (has_room s.room i.blocks) machine h message (valid i refl) few lawful
 
 -- a message about a process that leaves, or comes
-each_leaving : (o : Option Known) (go : Departure → Option Turned) → IfSome o IsLawfulKnown → ((d : Departure) → frozen_of o ≡ Some d → IsLawfulDeparture d → Lawfully (go d)) → Lawfully (bind (frozen_of o) go)
+each_leaving : (o : Option KernelKnown) (go : Departure → Option Turned) → IfSome o IsLawfulKnown → ((d : Departure) → frozen_of o ≡ Some d → IsLawfulDeparture d → Lawfully (go d)) → Lawfully (bind (frozen_of o) go)
 each_leaving None go h k = tt
 each_leaving (Some (Here x)) go h k = tt
 each_leaving (Some (Frozen d)) go h k = k d refl h
@@ -210,7 +210,7 @@ each_leaving (Some (Incoming a)) go h k = tt
 each_leaving (Some (Forward place moves)) go h k = tt
 each_leaving (Some (Ended y)) go h k = tt
 
-each_arriving : (o : Option Known) (go : Arrival → Option Turned) → IfSome o IsLawfulKnown → ((a : Arrival) → incoming_of o ≡ Some a → IsLawfulArrival a → Lawfully (go a)) → Lawfully (bind (incoming_of o) go)
+each_arriving : (o : Option KernelKnown) (go : Arrival → Option Turned) → IfSome o IsLawfulKnown → ((a : Arrival) → incoming_of o ≡ Some a → IsLawfulArrival a → Lawfully (go a)) → Lawfully (bind (incoming_of o) go)
 each_arriving None go h k = tt
 each_arriving (Some (Here x)) go h k = tt
 each_arriving (Some (Frozen d)) go h k = tt
@@ -338,7 +338,7 @@ fits_still : (b : Boot) (s : KernelState) (rest : List Message) (w : What) → F
 fits_still b s rest (what.Create image links) h = h
 fits_still b s rest w h = h
 
-known_still : (s : KernelState) (m : Message) (rest : List Message) (o : Option Known) → FitsKnown s m o → FitsKnown (record s { inbox = rest }) m o
+known_still : (s : KernelState) (m : Message) (rest : List Message) (o : Option KernelKnown) → FitsKnown s m o → FitsKnown (record s { inbox = rest }) m o
 known_still s m rest None h = h
 known_still s m rest (Some (Here x)) h = here_still s m x rest m.what h
   where

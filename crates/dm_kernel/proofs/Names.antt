@@ -33,7 +33,7 @@ pub use Rattle.dm_linkupdate.proofs.Lawful.{applied_lawful}
 pub use Rattle.dm_linkupdate.proofs.Names.{Addr, All, All-map, IsLawfulAddr, IsLawfulEnclosed, IsLawfulProcess, IsLawfulStatus, IsMachine, Process, Ready, SlotIsLawful, Status}
 pub use Rattle.dm_linkupdate.specs.Notice.{is_told_back, kernel_at, update_of}
 pub use Rattle.dm_statebytes.proofs.Names.{Direction, General, IfOk, IfSome, IsLawfulMessage, Regs, direction_numbered, inl, inr, length-drop, nat_le, ◌⊎◌}
-unfoldable pub use Rattle.dm_statebytes.specs.Shell.{registers, shell_of_bytes, spelling}
+unfoldable pub use Rattle.dm_statebytes.specs.Shell.{registers, shell_of_bytes, shell_spelling}
 pub use Rattle.dm_migrate.proofs.Messages.{lawful_all}
 pub use Rattle.dm_migrate.proofs.Names.{All-append, All-cons, Arrival, Asker, Departure, Err, HasChunk, Ok, Result, What, block_of, chunk_bytes, chunk_of, into_iter_items, length-take, pull, sent_on, with_chunk, with_piece}
 pub use Rattle.dm_migrate.specs.Arrival.{expected, with_block, with_held as with_held_too}
@@ -71,7 +71,7 @@ pub use Rattle.dm_syscall.specs.declared.Completed.{Completed}
 pub use Rattle.dm_line.specs.Sets.{moved_back, without}
 pub use Rattle.dm_line.specs.declared.line.Line.{Line}
 pub use Rattle.dm_kernel.specs.Asking.{asks_manager, asks_move, told_to_move}
-pub use Rattle.dm_kernel.specs.Begun.{begins, child_of, empty, opened, room_of, with_all, with_child}
+pub use Rattle.dm_kernel.specs.Begun.{begins_process, child_of, empty, opened, room_of, with_all, with_child}
 pub use Rattle.dm_kernel.specs.Coming.{accepts, answers_ask, holds_arriving, restarts, restarts_as, takes_piece, took_piece}
 pub use Rattle.dm_kernel.specs.Departing.{freezes, gives_piece, holds_leaving, leaves, migrates, stays}
 pub use Rattle.dm_kernel.specs.Following.{board_follows, forwards, forwards_and, manager_follows, process_follows}
@@ -79,10 +79,10 @@ pub use Rattle.dm_kernel.specs.Handle.{answers_with, board_handles, board_took, 
 pub use Rattle.dm_kernel.specs.Handle.{told_board, told_manager}
 pub use Rattle.dm_kernel.specs.Lawful.{AreLawful, IsLawfulArrival, IsLawfulDeparture, IsLawfulKnown, IsLawfulPair, IsLawfulPart, IsLawfulRoom, IsLawfulState, IsLawfulTurned}
 pub use Rattle.dm_kernel.specs.May.{FitsBoardWhat, FitsEnded, FitsHere, FitsKernel, FitsKnown, FitsManager, FitsManagerWhat, FrontMay, IsSuch, MayAct, MayHandle, MayRestart, MayTurn, most}
-pub use Rattle.dm_kernel.specs.Meets.{Answers, IsIn, MeetsSome, state_of}
+pub use Rattle.dm_kernel.specs.Meets.{Answers, IsIn, MeetsSome, kernel_state}
 pub use Rattle.dm_kernel.specs.Serve.{Ran, after_row, called_with, completed_label, does, ends, executes, halts, one_more, processor_of, ran, received, received_by, receives, serves, serves_status, with_machine}
 pub use Rattle.dm_kernel.specs.Served.{Executes, HasPlace, IsHere, Receives, Serves}
-pub use Rattle.dm_kernel.specs.State.{KernelState, Known, Turned, blocks_of, drops, own, own_id, says, turned, with_here, without_process}
+pub use Rattle.dm_kernel.specs.State.{KernelKnown, KernelState, Turned, blocks_of, drops, own, own_id, says, turned, with_here, without_process}
 pub use Rattle.dm_kernel.specs.Turn.{first_runnable, goes_round, known_is_runnable, turn, turns}
 pub use Rattle.dm_kernel.specs.declared.kernel.Kernel.{Kernel}
 pub use Rattle.dm_kernel.specs.declared.kernel.Servers.{Servers}

@@ -1,10 +1,10 @@
 -- How the machine of a boot file comes to be, one process at a time.
 use Rattle.dm_kernel.proofs.Names.{◌≡◌, ℕ, zero, suc, ◌+◌, ◌<◌, ◌≤◌, Bool, true, false, ◌==◌, if◌then◌else◌, List, [], ◌∷◌, length, Some, None, slice_get, refl, sym, subst, arith, ◌&&◌, nat_le, common_steps, and_parts, nat_tests, Option}
-use Rattle.dm_kernel.proofs.Names.{at, Boot, BootImage, BootMachine, BootProcess, IsValid, blocks_at, blocks_of_image, machine_is_valid, machines_are_valid, starting_at, Kernel, KernelState, begins, child_of, empty, with_child, IsIn}
-use Rattle.dm_kernel.proofs.Names.{state_of}
+use Rattle.dm_kernel.proofs.Names.{at, Boot, BootImage, BootMachine, BootProcess, IsValid, blocks_at, blocks_of_image, machine_is_valid, machines_are_valid, starting_at, Kernel, KernelState, begins_process, child_of, empty, with_child}
+use Rattle.dm_kernel.proofs.Names.{IsIn, kernel_state}
 
 -- a kernel's state, as a whole
-pub is_state : (k : Kernel) (s : KernelState) → IsIn k s → state_of k ≡ s
+pub is_state : (k : Kernel) (s : KernelState) → IsIn k s → kernel_state k ≡ s
 is_state k s h =
     λ i. record {
       here = h.here i;
@@ -35,13 +35,13 @@ stands b m s p ps i false slots blocks made here = record { here = here; slots =
 begun : (b : Boot) (m : ℕ) (s : KernelState) (p : BootProcess) (ps : List BootProcess) (o : Option BootImage)
     → s.room.taken_slots + ((if p.pid.home == m then 1 else 0) + starting_at m ps) ≤ s.room.slots
     → s.room.taken_blocks + ((if p.pid.home == m then blocks_of_image o else 0) + blocks_at m b.images ps) ≤ s.room.blocks
-    → s.made + ((if p.pid.home == m then 1 else 0) + starting_at m ps) ≤ 64 → s.here ≡ m → HasRoomFor b m (begins b s p o) ps
+    → s.made + ((if p.pid.home == m then 1 else 0) + starting_at m ps) ≤ 64 → s.here ≡ m → HasRoomFor b m (begins_process b s p o) ps
 begun b m s p ps None slots blocks made here = record { here = here; slots = omega arith; blocks = omega arith; made = omega arith }
 begun b m s p ps (Some i) slots blocks made here =
     subst (λ (k : ℕ). HasRoomFor b m (if p.pid.home == k then with_child s p.pid (child_of b p.pid i p.links) i.blocks else s) ps) (sym here)
     (stands b m s p ps i (p.pid.home == m) slots blocks made here)
 
-pub room_then : (b : Boot) (m : ℕ) (s : KernelState) (p : BootProcess) (ps : List BootProcess) → HasRoomFor b m s (p ∷ ps) → HasRoomFor b m (begins b s p (slice_get b.images p.image)) ps
+pub room_then : (b : Boot) (m : ℕ) (s : KernelState) (p : BootProcess) (ps : List BootProcess) → HasRoomFor b m s (p ∷ ps) → HasRoomFor b m (begins_process b s p (slice_get b.images p.image)) ps
 room_then b m s p ps h = begun b m s p ps (slice_get b.images p.image) h.slots h.blocks h.made h.here
 
 -- a machine of a boot file has room for all its processes

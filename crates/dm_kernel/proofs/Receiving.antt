@@ -1,6 +1,6 @@
 -- What taking a message comes to, from what the end of the receive gives.
 use Rattle.dm_kernel.proofs.Names.{◌≡◌, ◌∙◌, ℕ, List, [], ◌∷◌, ap, map, remove, slice_get, subst, sym, Some, None, IfOk, Vec, Global, Option, Ok, Err, NoMemory, Link, Pid, plain_link, Message, What, first_on, without_first_on, Takes}
-use Rattle.dm_kernel.proofs.Names.{Process, Status, Reply, plain_process, receive_refusals, first_failed, Completed, Completion, completes, completes_unless, completion, Kernel, Part, Answers, IsIn, MeetsSome, state_of, completed_label}
+use Rattle.dm_kernel.proofs.Names.{Process, Status, Reply, plain_process, receive_refusals, first_failed, Completed, Completion, completes, completes_unless, completion, Kernel, Part, Answers, IsIn, MeetsSome, kernel_state, completed_label}
 use Rattle.dm_kernel.proofs.Names.{received, received_by, receives, KernelState, Turned, says, turned, with_here}
 use Rattle.std.specs.Prelude.{Result}
 use Rattle.dm_message.specs.declared.What.TheVariants as what
@@ -43,7 +43,7 @@ received_at s p x mask place m d t at e =
     ∙ ap (receives s p x mask) (sym at ∙ t.first)
 
 -- a kernel that is in a state, and says one thing
-is_in : (k : Kernel) (s : KernelState) → state_of k ≡ s → IsIn k s
+is_in : (k : Kernel) (s : KernelState) → kernel_state k ≡ s → IsIn k s
 is_in k s e =
     record {
       here = ap (λ (t : KernelState). t.here) e;
@@ -56,7 +56,7 @@ is_in k s e =
       servers = ap (λ (t : KernelState). t.servers) e;
     }
 
-pub says_one : (k : Kernel) (s : KernelState) (part : Part) (r : Result (Vec Part Global) NoMemory) (o : Option Turned) → turned s (part ∷ []) ≡ o → state_of k ≡ s → IfOk r (λ parts. parts.items ≡ part ∷ [])
+pub says_one : (k : Kernel) (s : KernelState) (part : Part) (r : Result (Vec Part Global) NoMemory) (o : Option Turned) → turned s (part ∷ []) ≡ o → kernel_state k ≡ s → IfOk r (λ parts. parts.items ≡ part ∷ [])
     → Answers r k o
 says_one k s part (Ok parts) o e same h = subst (MeetsSome k parts.items) e (record { state = is_in k s same; parts = h })
 says_one k s part (Err none) o e same h = tt

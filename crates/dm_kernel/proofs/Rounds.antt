@@ -1,12 +1,12 @@
 -- The first process of the ring that can be served, where looking for it changes nothing.
 use Rattle.dm_kernel.proofs.Names.{◌≡◌, ◌∙◌, ℕ, suc, ◌<◌, true, false, List, [], ◌∷◌, length, take, Some, None, slice_get, ap, subst, sym, Option, IfSome, Pid, IsServiceOf, Process, Service, here_of, Boot, moved_back, Says, serves, IsHere}
-use Rattle.dm_kernel.proofs.Names.{KernelState, Known, Turned, turned, first_runnable, goes_round, known_is_runnable}
+use Rattle.dm_kernel.proofs.Names.{KernelState, KernelKnown, Turned, turned, first_runnable, goes_round, known_is_runnable}
 use Rattle.dm_line.specs.declared.line.Line.TheVariants as line
 use Rattle.dm_kernel.proofs.Known.{is_here_as}
 use Rattle.dm_kernel.proofs.Ringing.{found, not_found}
 
 -- what a process that is here does, said of what is known of it
-pub here_does : (o n : Option Known) (x : Process) (r : Option Service) → here_of o ≡ Some x → n ≡ o → IfSome r (IsServiceOf x) → IfSome r (λ s. IsHere (λ y. IsServiceOf y s) n)
+pub here_does : (o n : Option KernelKnown) (x : Process) (r : Option Service) → here_of o ≡ Some x → n ≡ o → IfSome r (IsServiceOf x) → IfSome r (λ s. IsHere (λ y. IsServiceOf y s) n)
 here_does o n x None was same h = tt
 here_does o n x (Some s) was same h = subst (IsHere (λ (y : Process). IsServiceOf y s)) (sym same) (is_here_as (λ (y : Process). IsServiceOf y s) o x was h)
 

@@ -3,8 +3,8 @@ use Rattle.dm_kernel.proofs.Names.{◌≡◌, ◌∙◌, ℕ, zero, suc, ◌/◌
 use Rattle.dm_kernel.proofs.Names.{first_empty, link_at, pid_eq_self, Message, Row, instruction, KeepsLengths, instruction-lengths, Process, Direction, Status, IsLawfulProcess, IsLawfulStatus, direction_numbered, first_on, is_on, Takes}
 use Rattle.dm_kernel.proofs.Names.{HasTaken, Taken, Here, Frozen, Incoming, Forward, Ended, here_of, with_record, Reply, CallNumber, Exit, Out, Make, Copy, Drop, Send, Receive, Move, Unknown, call_number, is_outside, is_reply}
 use Rattle.dm_kernel.proofs.Names.{make_refusals, move_refusals, send_refusals, bind, plain_process, reg, first_failed, Machine, Called, Done, after_send, calls, copies, does_call, message_over, moves, moves_bytes, moves_over, own_link}
-use Rattle.dm_kernel.proofs.Names.{puts_link, replied, sends, unless_refused, waits, whole, KernelState, Known, blocks_of, with_here, Ran, after_row, called_with, does, executes, halts, processor_of, ran, receives, serves, serves_status}
-use Rattle.dm_kernel.proofs.Names.{with_machine, MayAct, HasPlace, IsHere}
+use Rattle.dm_kernel.proofs.Names.{puts_link, replied, sends, unless_refused, waits, whole, KernelState, KernelKnown, blocks_of, with_here, Ran, after_row, called_with, does, executes, halts, processor_of, ran, receives, serves}
+use Rattle.dm_kernel.proofs.Names.{serves_status, with_machine, MayAct, HasPlace, IsHere}
 use Rattle.dm_processor.specs.Instructions as row
 use Rattle.dm_process.specs.declared.process.Status.TheVariants as status
 use Rattle.dm_onekernel.specs.declared.label.Reply.TheVariants as reply
@@ -57,7 +57,7 @@ called_as s t p k n w d result e a b =
     ∙ (λ i. called_with (with_here s p (a i)) p k n (a i) (b i))
 
 -- serving a process that is ready, and one that waits
-pub serves_ready : (quantum : ℕ) (s : KernelState) (p : Pid) (o : Option Known) → IsHere (λ x. x.status ≡ status.Ready) o
+pub serves_ready : (quantum : ℕ) (s : KernelState) (p : Pid) (o : Option KernelKnown) → IsHere (λ x. x.status ≡ status.Ready) o
     → bind (here_of o) (λ x. executes s p x (ran quantum (processor_of x))) ≡ serves quantum s p o
 serves_ready quantum s p None h = absurd h
 serves_ready quantum s p (Some (Here x)) h = sym (ap (serves_status quantum s p x) h)
@@ -66,7 +66,7 @@ serves_ready quantum s p (Some (Incoming arriving)) h = absurd h
 serves_ready quantum s p (Some (Forward machine moves)) h = absurd h
 serves_ready quantum s p (Some (Ended y)) h = absurd h
 
-pub serves_waiting : (quantum : ℕ) (s : KernelState) (p : Pid) (mask place : ℕ) (o : Option Known) → IsHere (λ x. Takes x mask place) o
+pub serves_waiting : (quantum : ℕ) (s : KernelState) (p : Pid) (mask place : ℕ) (o : Option KernelKnown) → IsHere (λ x. Takes x mask place) o
     → bind (here_of o) (λ x. receives s p x mask (first_on mask x.queue)) ≡ serves quantum s p o
 serves_waiting quantum s p mask place None h = absurd h
 serves_waiting quantum s p mask place (Some (Here x)) h = sym (ap (serves_status quantum s p x) h.waits)
@@ -76,7 +76,7 @@ serves_waiting quantum s p mask place (Some (Forward machine moves)) h = absurd 
 serves_waiting quantum s p mask place (Some (Ended y)) h = absurd h
 
 -- it has its slot and its blocks still
-pub has_place : (s t : KernelState) (p : Pid) (x y : Process) (records : Pid → Option Known) → t.room ≡ s.room → ((q : Pid) → t.records q ≡ with_record records p (Here y) q)
+pub has_place : (s t : KernelState) (p : Pid) (x y : Process) (records : Pid → Option KernelKnown) → t.room ≡ s.room → ((q : Pid) → t.records q ≡ with_record records p (Here y) q)
     → length y.memory ≡ length x.memory → MayAct s p x → IsHere (HasPlace t) (t.records p)
 has_place s t p x y records room set size may =
     let e : t.records p ≡ Some (Here y) = set p ∙ rw (pid_eq_self p) refl in

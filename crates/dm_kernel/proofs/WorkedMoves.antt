@@ -1,6 +1,6 @@
 -- Worked cases, computed: what the kernels of two machines say where a process moves from the one to the other.
-use Rattle.dm_kernel.proofs.Names.{◌≡◌, ℕ, ◌==◌, List, [], ◌∷◌, ◌++◌, map, refl, if◌then◌else◌, Option, pid_of, Message, id_of, kind_of, registers, shell_of_bytes, spelling, Boot, One, bind, Line, Part, Says, Routes, asks_move, opened}
-use Rattle.dm_kernel.proofs.Names.{KernelState, Turned, turn}
+use Rattle.dm_kernel.proofs.Names.{◌≡◌, ℕ, ◌==◌, List, [], ◌∷◌, ◌++◌, map, refl, if◌then◌else◌, Option, pid_of, Message, id_of, kind_of, registers, shell_of_bytes, shell_spelling, Boot, One, bind, Line, Part, Says, Routes, asks_move}
+use Rattle.dm_kernel.proofs.Names.{opened, KernelState, Turned, turn}
 use Rattle.std.specs.declared.option.Option.TheVariants.{Some}
 use Rattle.dm_message.specs.declared.kind.MessageKind.TheVariants as kind
 use Rattle.dm_line.specs.declared.line.Line.TheVariants as line
@@ -70,7 +70,7 @@ refused : groups (places 0) (at_first 0) (Asks 1 ∷ Turns 0 ∷ Turns 1 ∷ Tur
     ∷ (line.Lacks (pid_of 0 3) 0 2 ∷ line.Put 1 0 (id_of (pid_of 1 0) 0) kind.Refuse (pid_of 0 0) ∷ [])
     ∷ (line.Stays (pid_of 0 3) ∷ [])
     ∷ [])
-unfolding spelling registers
+unfolding shell_spelling registers
 refused = refl
 
 -- it moves, is told to move back while it is on its way, and that message follows it
@@ -93,7 +93,7 @@ moves : groups (places 2) (at_first 2) (Asks 1 ∷ Turns 0 ∷ Asks 0 ∷ Turns 
     ∷ (line.Put 0 0 (id_of (pid_of 0 0) 7) kind.Migrate (pid_of 0 3) ∷ [])
     ∷ (line.Held (id_of (pid_of 0 0) 7) ∷ [])
     ∷ [])
-unfolding spelling registers shell_of_bytes
+unfolding shell_spelling registers shell_of_bytes
 moves = refl
 
 -- a message that comes to where it was goes on, and its sender is told
@@ -113,5 +113,5 @@ follows : groups (places 2) (at_first 2) (Asks 1 ∷ Turns 0 ∷ Turns 1 ∷ Tur
     ∷ (line.Migration stage.Restarted (pid_of 0 3) ∷ [])
     ∷ (line.Here (id_of (pid_of 0 0) 5) ∷ [])
     ∷ [])
-unfolding spelling registers shell_of_bytes
+unfolding shell_spelling registers shell_of_bytes
 follows = refl

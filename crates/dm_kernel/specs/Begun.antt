@@ -5,8 +5,8 @@ use Rattle.std.specs.declared.option.Option.TheVariants.{None, Some}
 use Rattle.dm_link.specs.declared.Link.{Link}
 use Rattle.dm_link.specs.declared.Pid.{Pid}
 use Rattle.dm_process.specs.declared.process.Process.{Process}
-use Rattle.dm_process.specs.Begun.{begun}
-use Rattle.dm_room.specs.Room.{Taken, untaken, with_reserved}
+use Rattle.dm_process.specs.Begun.{begun_process}
+use Rattle.dm_room.specs.Room.{Taken, nothing_taken, with_reserved}
 use Rattle.dm_records.specs.declared.record.Record.TheVariants.{Here}
 use Rattle.dm_records.specs.Records.{with_record}
 use Rattle.dm_procman.specs.Managing.{starting}
@@ -21,7 +21,7 @@ use Rattle.dm_kernel.specs.State.{KernelState}
 
 -- a process of this image with these links from slot 0 on, which hasn't executed anything yet
 abbrev pub child_of : Boot → Pid → BootImage → List Link → Process
-child_of b p i links = begun p (memory_of i) (slots_with (slots_of b.format) links)
+child_of b p i links = begun_process p (memory_of i) (slots_with (slots_of b.format) links)
 
 -- it stands at the ring's back, and takes a slot and its blocks
 abbrev pub with_child : KernelState → Pid → Process → ℕ → KernelState
@@ -34,17 +34,17 @@ with_child s child x blocks =
     }
 
 -- the processes of the boot file, those whose home the machine is
-abbrev pub begins : Boot → KernelState → BootProcess → Option BootImage → KernelState
-begins b s p None = s
-begins b s p (Some i) = if p.pid.home == s.here then with_child s p.pid (child_of b p.pid i p.links) i.blocks else s
+abbrev pub begins_process : Boot → KernelState → BootProcess → Option BootImage → KernelState
+begins_process b s p None = s
+begins_process b s p (Some i) = if p.pid.home == s.here then with_child s p.pid (child_of b p.pid i p.links) i.blocks else s
 
 abbrev pub with_all : Boot → KernelState → List BootProcess → KernelState
 with_all b s [] = s
-with_all b s (p ∷ ps) = with_all b (begins b s p (slice_get b.images p.image)) ps
+with_all b s (p ∷ ps) = with_all b (begins_process b s p (slice_get b.images p.image)) ps
 
 abbrev pub room_of : Option BootMachine → Taken
-room_of None = untaken 0 0
-room_of (Some r) = untaken r.slots r.blocks
+room_of None = nothing_taken 0 0
+room_of (Some r) = nothing_taken r.slots r.blocks
 
 -- the servers are on machine 0
 abbrev pub servers_of : Boot → ℕ → Option Servers

@@ -9,7 +9,7 @@ use Rattle.dm_message.specs.declared.What.TheVariants as what
 use Rattle.dm_records.specs.declared.record.Record.TheVariants.{Here, Frozen, Incoming, Forward, Ended}
 use Rattle.dm_migrate.specs.Departure.{CanMove}
 use Rattle.dm_onekernel.specs.Boot.{switchboard, manager}
-use Rattle.dm_kernel.specs.State.{KernelState, Known}
+use Rattle.dm_kernel.specs.State.{KernelState, KernelKnown}
 
 -- where a message tells its receiver to move to another machine than this one, this holds
 abbrev pub WhereSentOff : ℕ → What → Type 0 → Type 0
@@ -41,7 +41,7 @@ WhereSentOff here (what.CallOff pid) P = ⊤
 WhereSentOff here (what.Bury pid) P = ⊤
 
 -- a process that is here, and is told to move to another machine, can be carried
-abbrev pub KnownIsWhole : ℕ → What → Option Known → Type 0
+abbrev pub KnownIsWhole : ℕ → What → Option KernelKnown → Type 0
 KnownIsWhole here w None = ⊤
 KnownIsWhole here w (Some (Here x)) = WhereSentOff here w (CanMove x)
 KnownIsWhole here w (Some (Frozen leaving)) = ⊤

@@ -33,7 +33,7 @@ use Rattle.dm_kernel.specs.declared.kernel.Servers.{Servers}
 use Rattle.dm_kernel.specs.Coming.{answers_ask, holds_arriving, restarts, takes_piece}
 use Rattle.dm_kernel.specs.Departing.{gives_piece, holds_leaving, leaves, migrates, stays}
 use Rattle.dm_kernel.specs.Following.{board_follows, forwards, manager_follows, process_follows, updated}
-use Rattle.dm_kernel.specs.State.{KernelState, Known, Turned, turned, says, with_here, without_process, drops}
+use Rattle.dm_kernel.specs.State.{KernelState, KernelKnown, Turned, turned, says, with_here, without_process, drops}
 
 -- a process that is here: its queue takes user messages
 abbrev pub queued : Process → Message → Process
@@ -128,7 +128,7 @@ ended_handles s m (what.CallOff pid) = None
 ended_handles s m (what.Bury pid) = None
 
 -- by what is known of the receiver
-abbrev pub process_handles : KernelState → Message → Option Known → Option Turned
+abbrev pub process_handles : KernelState → Message → Option KernelKnown → Option Turned
 process_handles s m None = None
 process_handles s m (Some (Here x)) = here_handles s m x m.what
 process_handles s m (Some (Frozen leaving)) = holds_leaving s m leaving

@@ -15,7 +15,7 @@ use Rattle.dm_procman.specs.Lawful.{IsLawfulManager}
 use Rattle.dm_kernel.specs.declared.kernel.Servers.{Servers}
 use Rattle.dm_kernel.specs.declared.part.Part.{Part}
 use Rattle.dm_kernel.specs.declared.part.Part.TheVariants.{Says, Routes}
-use Rattle.dm_kernel.specs.State.{KernelState, Known, Turned}
+use Rattle.dm_kernel.specs.State.{KernelKnown, KernelState, Turned}
 
 pub record IsLawfulPair (v : Servers) : Type 0 where
   pub board : IsLawfulBoard v.board
@@ -32,7 +32,7 @@ pub record IsLawfulArrival (a : Arrival) : Type 0 where
   pub held : All IsLawfulMessage a.held
 
 -- what is known of a process
-abbrev pub IsLawfulKnown : Known → Type 0
+abbrev pub IsLawfulKnown : KernelKnown → Type 0
 IsLawfulKnown (Here x) = IsLawfulProcess x
 IsLawfulKnown (Frozen d) = IsLawfulDeparture d
 IsLawfulKnown (Incoming a) = IsLawfulArrival a

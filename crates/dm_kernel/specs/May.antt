@@ -24,7 +24,7 @@ use Rattle.dm_procman.specs.Taking.{IsForManager}
 use Rattle.dm_onekernel.specs.declared.boot.Boot.{Boot}
 use Rattle.dm_onekernel.specs.Boot.{first_number, switchboard, manager}
 use Rattle.dm_kernel.specs.declared.kernel.Servers.{Servers}
-use Rattle.dm_kernel.specs.State.{KernelState, Known, blocks_of}
+use Rattle.dm_kernel.specs.State.{KernelKnown, KernelState, blocks_of}
 
 -- counts and process numbers are below the greatest u32
 abbrev pub most : ℕ
@@ -68,7 +68,7 @@ FitsEnded (what.Update about) = ⊤
 FitsEnded w = ⊥
 
 -- something is known of the receiver; what it may get waits or goes on where it leaves, comes or has gone
-abbrev pub FitsKnown : KernelState → Message → Option Known → Type 0
+abbrev pub FitsKnown : KernelState → Message → Option KernelKnown → Type 0
 FitsKnown s m None = ⊥
 FitsKnown s m (Some (Here x)) = FitsHere s m x m.what
 FitsKnown s m (Some (Frozen leaving)) = ⊤

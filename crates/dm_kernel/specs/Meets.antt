@@ -12,8 +12,8 @@ use Rattle.dm_kernel.specs.declared.kernel.Kernel.{Kernel}
 use Rattle.dm_kernel.specs.declared.part.Part.{Part}
 use Rattle.dm_kernel.specs.State.{KernelState, Turned}
 
-abbrev pub state_of : Kernel → KernelState
-state_of k = record { here = k.here; records = at k.records; ring = k.ring; inbox = k.inbox; made = k.made; sent = k.sent; room = k.room; servers = k.servers }
+abbrev pub kernel_state : Kernel → KernelState
+kernel_state k = record { here = k.here; records = at k.records; ring = k.ring; inbox = k.inbox; made = k.made; sent = k.sent; room = k.room; servers = k.servers }
 
 -- the kernel is in this state
 pub record IsIn (k : Kernel) (s : KernelState) : Type 0 where

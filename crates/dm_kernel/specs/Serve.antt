@@ -26,7 +26,7 @@ use Rattle.dm_kernel.specs.declared.part.Part.TheVariants.{Routes}
 use Rattle.dm_kernel.specs.declared.run.Halt.{Halt}
 use Rattle.dm_kernel.specs.declared.run.Halt.TheVariants as halt
 use Rattle.dm_records.specs.declared.record.Record.TheVariants.{Here, Frozen, Incoming, Forward, Ended}
-use Rattle.dm_kernel.specs.State.{KernelState, Known, Turned, turned, says, with_here, without_process, drops}
+use Rattle.dm_kernel.specs.State.{KernelState, KernelKnown, Turned, turned, says, with_here, without_process, drops}
 
 -- how far a process comes in a turn, and why it comes no further
 pub record Ran : Type 0 where
@@ -102,7 +102,7 @@ serves_status quantum s p x (status.Waiting mask base cap_) = receives s p x mas
 serves_status quantum s p x (status.Moving dir owner base own left pending) = None
 
 -- a process of the ring is here
-abbrev pub serves : ℕ → KernelState → Pid → Option Known → Option Turned
+abbrev pub serves : ℕ → KernelState → Pid → Option KernelKnown → Option Turned
 serves quantum s p None = None
 serves quantum s p (Some (Here x)) = serves_status quantum s p x x.status
 serves quantum s p (Some (Frozen leaving)) = None

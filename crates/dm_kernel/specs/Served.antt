@@ -10,7 +10,7 @@ use Rattle.dm_process.specs.declared.process.Service.{Service}
 use Rattle.dm_process.specs.declared.process.Status.TheVariants.{Ready}
 use Rattle.dm_records.specs.declared.record.Record.TheVariants.{Here, Frozen, Incoming, Forward, Ended}
 use Rattle.dm_room.specs.Room.{HasTaken, Taken}
-use Rattle.dm_kernel.specs.State.{KernelState, Known, blocks_of}
+use Rattle.dm_kernel.specs.State.{KernelKnown, KernelState, blocks_of}
 use Rattle.dm_process.specs.Lawful.{IsLawfulProcess}
 use Rattle.dm_datamove.specs.Serving.{IsWithin}
 use Rattle.dm_datamove.specs.Landing.{IsAwaited}
@@ -18,7 +18,7 @@ use Rattle.dm_migrate.specs.Departure.{Departure}
 use Rattle.dm_kernel.specs.May.{MayAct, MayLeave, FitsHere, most}
 
 -- it is here, and this holds of it
-abbrev pub IsHere : (Process → Type 0) → Option Known → Type 0
+abbrev pub IsHere : (Process → Type 0) → Option KernelKnown → Type 0
 IsHere P None = ⊥
 IsHere P (Some (Here x)) = P x
 IsHere P (Some (Frozen leaving)) = ⊥

@@ -26,12 +26,12 @@ use Rattle.dm_kernel.specs.declared.part.Part.{Part}
 use Rattle.dm_kernel.specs.declared.part.Part.TheVariants.{Says}
 
 -- what a machine knows of a process
-abbrev pub Known : Type 0
-Known = record_.Record Process Departure Arrival Why
+abbrev pub KernelKnown : Type 0
+KernelKnown = record_.Record Process Departure Arrival Why
 
 pub record KernelState : Type 0 where
   pub here : ℕ
-  pub records : Pid → Option Known
+  pub records : Pid → Option KernelKnown
   -- the processes that are served, in order
   pub ring : List Pid
   -- the messages that have come and wait to be handled
@@ -77,7 +77,7 @@ without_process s p x y =
     }
 
 -- what is known of a process is set
-abbrev pub with_known : KernelState → Pid → Known → KernelState
+abbrev pub with_known : KernelState → Pid → KernelKnown → KernelState
 with_known s p k = record s { records = with_record s.records p k }
 
 -- a message of the kernel's own bears its name and the count of those before it

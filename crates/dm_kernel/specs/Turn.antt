@@ -11,12 +11,12 @@ use Rattle.dm_onekernel.specs.declared.boot.Boot.{Boot}
 use Rattle.dm_line.specs.declared.line.Line.TheVariants as line
 use Rattle.dm_line.specs.Sets.{moved_back}
 use Rattle.dm_kernel.specs.declared.part.Part.TheVariants.{Says}
-use Rattle.dm_kernel.specs.State.{KernelState, Known, Turned, turned}
+use Rattle.dm_kernel.specs.State.{KernelKnown, KernelState, Turned, turned}
 use Rattle.dm_kernel.specs.Serve.{serves}
 use Rattle.dm_kernel.specs.Handle.{handles}
 
 -- a process that leaves, comes, has gone or has ended isn't served
-abbrev pub known_is_runnable : Option Known → Bool
+abbrev pub known_is_runnable : Option KernelKnown → Bool
 known_is_runnable None = false
 known_is_runnable (Some (Here x)) = is_runnable x
 known_is_runnable (Some (Frozen leaving)) = false
@@ -24,7 +24,7 @@ known_is_runnable (Some (Incoming arriving)) = false
 known_is_runnable (Some (Forward machine moves)) = false
 known_is_runnable (Some (Ended y)) = false
 
-abbrev pub first_runnable : (Pid → Option Known) → List Pid → Option Pid
+abbrev pub first_runnable : (Pid → Option KernelKnown) → List Pid → Option Pid
 first_runnable records [] = None
 first_runnable records (p ∷ ps) = if known_is_runnable (records p) then Some p else first_runnable records ps
 

@@ -7,7 +7,7 @@ ghost use Rattle.dm_onekernel.specs.Options.{bind};
 ghost use Rattle.dm_kernel.specs.Coming.{answers_ask, holds_arriving, piece_line, restarts, took_piece};
 ghost use Rattle.dm_kernel.specs.Departing.{takes_step};
 ghost use Rattle.dm_kernel.specs.May.{IsSuch, MayRestart};
-ghost use Rattle.dm_kernel.specs.Meets.{Answers, IsIn, state_of};
+ghost use Rattle.dm_kernel.specs.Meets.{Answers, IsIn, kernel_state};
 ghost use Rattle.dm_kernel.specs.State.{own, turned, with_known, with_sent};
 ghost use Rattle.dm_line.specs.declared.line.Line.TheVariants as line_;
 ghost use Rattle.dm_line.specs.declared.line.Stage.TheVariants as stage_;
@@ -42,7 +42,7 @@ impl Kernel {
         requires most { ask.blocks ≤ MOST_BLOCKS }
         requires moves { ask.moves < u32.MAX }
         requires size { ask.size ≤ MOST_STATE }
-        ensures { Answers result self.new (answers_ask boot.now (state_of self.old) message.now ask.pid ask.blocks ask.moves ask.size ask.asker) }
+        ensures { Answers result self.new (answers_ask boot.now (kernel_state self.old) message.now ask.pid ask.blocks ask.moves ask.size ask.asker) }
     {
         match answer_ask(self.alloc, ask, &mut self.room, boot.format.slots()) {
             Asked::Accepted(arriving, pull) => self.accept(message, ask.pid, arriving, pull),
@@ -60,8 +60,8 @@ impl Kernel {
         pull: What,
     ) -> Result<Vec<Part>, NoMemory>
         requires { self.old.sent < u32.MAX }
-        ensures { Answers result self.new (turned (with_sent (with_known (state_of self.old) pid (Incoming arriving)))
-            (takes_step stage_.Accepted pid ∷ Part.Routes (own (state_of self.old) message.now.sender pull) ∷ [])) }
+        ensures { Answers result self.new (turned (with_sent (with_known (kernel_state self.old) pid (Incoming arriving)))
+            (takes_step stage_.Accepted pid ∷ Part.Routes (own (kernel_state self.old) message.now.sender pull) ∷ [])) }
     {
         if let Err((_, e)) = self.records.set(pid, Record::Incoming(arriving)) {
             return Err(e);
@@ -79,8 +79,8 @@ impl Kernel {
         lacks: Lacks,
     ) -> Result<Vec<Part>, NoMemory>
         requires { self.old.sent < u32.MAX }
-        ensures { Answers result self.new (turned (with_sent (state_of self.old))
-            (Part.Says (line_.Lacks pid lacks.free_slots lacks.free_blocks) ∷ Part.Routes (own (state_of self.old) message.now.sender refusal) ∷ [])) }
+        ensures { Answers result self.new (turned (with_sent (kernel_state self.old))
+            (Part.Says (line_.Lacks pid lacks.free_slots lacks.free_blocks) ∷ Part.Routes (own (kernel_state self.old) message.now.sender refusal) ∷ [])) }
     {
         let Lacks {
             free_slots,
@@ -98,7 +98,7 @@ impl Kernel {
     /// Keeps a message for a process that comes.
     pub(crate) fn hold_arriving(&mut self, message: Parcel<Message>) -> Result<Vec<Part>, NoMemory>
         requires { IsSome (incoming_of (at self.old.records message.to.pid)) }
-        ensures { Answers result self.new (bind (incoming_of (at self.old.records message.to.pid)) (λ a. holds_arriving (state_of self.old) message a)) }
+        ensures { Answers result self.new (bind (incoming_of (at self.old.records message.to.pid)) (λ a. holds_arriving (kernel_state self.old) message a)) }
     {
         let message = message.into_inner();
         let id = message.id;
@@ -121,7 +121,7 @@ impl Kernel {
         requires sent { self.old.sent < u32.MAX }
         requires chunk { IsSuch (λ (a : Arrival). IsNextChunk a pid chunk last bytes.now) (incoming_of (at self.old.records pid)) }
         ensures { Answers result self.new (bind (incoming_of (at self.old.records pid))
-            (λ a. took_piece (state_of self.old) message.now pid (Some (with_chunk a chunk last bytes.now)))) }
+            (λ a. took_piece (kernel_state self.old) message.now pid (Some (with_chunk a chunk last bytes.now)))) }
     {
         let arriving = self.records.incoming_mut(pid).unwrap();
         let pull = arriving.take_chunk(chunk, last, bytes);
@@ -140,7 +140,7 @@ impl Kernel {
         requires sent { self.old.sent < u32.MAX }
         requires block { IsSuch (λ (a : Arrival). (pid ≡ a.pid) × (a.wanted ≡ Wanted.Block block)) (incoming_of (at self.old.records pid)) }
         ensures { Answers result self.new (bind (incoming_of (at self.old.records pid))
-            (λ a. took_piece (state_of self.old) message.now pid (Some (with_block a block bytes.now)))) }
+            (λ a. took_piece (kernel_state self.old) message.now pid (Some (with_block a block bytes.now)))) }
     {
         let arriving = self.records.incoming_mut(pid).unwrap();
         let pull = arriving.take_block(block, bytes);
@@ -151,8 +151,8 @@ impl Kernel {
     /// Asks who sent a piece for the next.
     fn pull(&mut self, message: &Message, said: Line, pull: What) -> Result<Vec<Part>, NoMemory>
         requires { self.old.sent < u32.MAX }
-        ensures { Answers result self.new (turned (with_sent (state_of self.old))
-            (Part.Says said ∷ Part.Routes (own (state_of self.old) message.now.sender pull) ∷ [])) }
+        ensures { Answers result self.new (turned (with_sent (kernel_state self.old))
+            (Part.Says said ∷ Part.Routes (own (kernel_state self.old) message.now.sender pull) ∷ [])) }
     {
         let pull = self.send(message.sender, pull);
         self.say_and_route(said, pull)
@@ -161,7 +161,7 @@ impl Kernel {
     /// Lets a process go on that has come: it is served, and what was held is handled first.
     pub(crate) fn restart(&mut self, pid: Pid) -> Result<Vec<Part>, NoMemory>
         requires { IsSuch MayRestart (incoming_of (at self.old.records pid)) }
-        ensures { Answers result self.new (bind (incoming_of (at self.old.records pid)) (restarts (state_of self.old) pid)) }
+        ensures { Answers result self.new (bind (incoming_of (at self.old.records pid)) (restarts (kernel_state self.old) pid)) }
     {
         let (process, held) = self.records.take_incoming(pid).restart();
         self.go_on(pid, process, held)?;
@@ -176,7 +176,7 @@ impl Kernel {
         held: Vec<Message>,
     ) -> Result<(), NoMemory>
         requires { HasPlace self.old.records pid }
-        ensures { OnOk result (IsIn self.new (record (state_of self.old)
+        ensures { OnOk result (IsIn self.new (record (kernel_state self.old)
             { records = with_record (at self.old.records) pid (Here process); ring = self.old.ring ++ pid ∷ []; inbox = held.items ++ self.old.inbox })) }
     {
         self.ring.push(pid)?;

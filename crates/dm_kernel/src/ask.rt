@@ -2,7 +2,7 @@
 ghost use Rattle.std.specs.Prelude.{◌≡◌};
 ghost use Rattle.dm_kernel.specs.Asking.{asks_move};
 ghost use Rattle.dm_kernel.specs.May.{MayAskMove};
-ghost use Rattle.dm_kernel.specs.Meets.{Answers, state_of};
+ghost use Rattle.dm_kernel.specs.Meets.{Answers, kernel_state};
 
 use crate::kernel::Kernel;
 use crate::part::Part;
@@ -15,8 +15,8 @@ impl Kernel {
     /// Has the manager tell a process to move to a machine, where it is one of its children. Answers what the machine
     /// says and routes, in order.
     pub fn ask_move(&mut self, pid: Pid, to: u8) -> Result<Vec<Part>, NoMemory>
-        requires { MayAskMove (state_of self.old) }
-        ensures { Answers result self.new (asks_move (state_of self.old) pid to) }
+        requires { MayAskMove (kernel_state self.old) }
+        ensures { Answers result self.new (asks_move (kernel_state self.old) pid to) }
     {
         let id = self.own_id();
         let servers = self.servers.as_ref().unwrap();

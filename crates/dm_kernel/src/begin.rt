@@ -2,8 +2,8 @@
 ghost use Rattle.std.specs.Prelude.{◌≡◌, ◌<◌, ◌≤◌, IfOk, OnOk, length, slice_get, true};
 ghost use Rattle.dm_onekernel.specs.Boot.{IsValid, blocks_of_image, images_are_valid, slots_of};
 ghost use Rattle.dm_room.specs.Room.{HasRoom};
-ghost use Rattle.dm_kernel.specs.Begun.{begins, empty, opened, servers_of};
-ghost use Rattle.dm_kernel.specs.Meets.{IsIn, state_of};
+ghost use Rattle.dm_kernel.specs.Begun.{begins_process, empty, opened, servers_of};
+ghost use Rattle.dm_kernel.specs.Meets.{IsIn, kernel_state};
 
 use crate::kernel::{Kernel, Servers};
 use crate::make::{child_of, image_of};
@@ -57,7 +57,7 @@ impl Kernel {
         requires links { length process.now.links ≤ slots_of boot.now.format }
         requires room { process.now.pid.home ≡ self.old.here → HasRoom self.old.room (blocks_of_image (slice_get boot.now.images process.now.image)) }
         requires counts { self.old.made < u32.MAX }
-        ensures { OnOk result (IsIn self.new (begins boot.now (state_of self.old) process.now (slice_get boot.now.images process.now.image))) }
+        ensures { OnOk result (IsIn self.new (begins_process boot.now (kernel_state self.old) process.now (slice_get boot.now.images process.now.image))) }
     {
         if process.pid.home != self.here {
             return Ok(());

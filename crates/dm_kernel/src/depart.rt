@@ -2,11 +2,11 @@
 ghost use Rattle.std.specs.Prelude.{◌≡◌, ◌≢◌, ◌<◌, ◌+◌, ◌++◌, ◌∷◌, [], IfOk, IfSome, IsSome, OnOk, length, map};
 ghost use Rattle.dm_records.specs.Records.{at, frozen_of, here_of};
 ghost use Rattle.dm_migrate.specs.Departure.{CanMove, Departure};
-ghost use Rattle.dm_migrate.specs.Pieces.{HasBlock, HasChunk, block_of, chunk_of, state_of as state_bytes};
+ghost use Rattle.dm_migrate.specs.Pieces.{HasBlock, HasChunk, block_of, chunk_of, state_of};
 ghost use Rattle.dm_onekernel.specs.Options.{bind};
 ghost use Rattle.dm_kernel.specs.Departing.{freezes, gives_piece, holds_leaving, leaves, migrates, stays, takes_step};
 ghost use Rattle.dm_kernel.specs.May.{IsSuch, MayLeave};
-ghost use Rattle.dm_kernel.specs.Meets.{Answers, state_of};
+ghost use Rattle.dm_kernel.specs.Meets.{Answers, kernel_state};
 ghost use Rattle.dm_kernel.specs.Served.{CanFreeze, IsHere};
 ghost use Rattle.dm_line.specs.declared.line.Line.TheVariants as line_;
 ghost use Rattle.dm_line.specs.declared.line.Stage.TheVariants as stage_;
@@ -25,9 +25,9 @@ use std::alloc::Global;
 impl Kernel {
     /// Lets a process leave for a machine, if it isn't there.
     pub(crate) fn migrate(&mut self, message: &Message, to: u8) -> Result<Vec<Part>, NoMemory>
-        requires process { IsHere (CanFreeze (state_of self.old)) (at self.old.records message.now.to.pid) }
+        requires process { IsHere (CanFreeze (kernel_state self.old)) (at self.old.records message.now.to.pid) }
         ensures answers { Answers result self.new (bind (here_of (at self.old.records message.now.to.pid))
-            (λ x. migrates (state_of self.old) message.now x to)) }
+            (λ x. migrates (kernel_state self.old) message.now x to)) }
         ensures whole { OnOk result (to ≢ self.old.here → IfSome (here_of (at self.old.records message.now.to.pid)) CanMove) }
     {
         if to == self.here {
@@ -39,8 +39,8 @@ impl Kernel {
 
     /// Freezes a process that is to leave for a machine: it isn't served any more, and that machine is asked.
     fn freeze(&mut self, pid: Pid, to: u8) -> Result<Vec<Part>, NoMemory>
-        requires process { IsHere (CanFreeze (state_of self.old)) (at self.old.records pid) }
-        ensures answers { Answers result self.new (bind (here_of (at self.old.records pid)) (λ x. freezes (state_of self.old) pid x to)) }
+        requires process { IsHere (CanFreeze (kernel_state self.old)) (at self.old.records pid) }
+        ensures answers { Answers result self.new (bind (here_of (at self.old.records pid)) (λ x. freezes (kernel_state self.old) pid x to)) }
         ensures whole { OnOk result (IfSome (here_of (at self.old.records pid)) CanMove) }
     {
         let process = self.records.take_here(pid);
@@ -73,7 +73,7 @@ impl Kernel {
     /// Keeps a message for a process that leaves.
     pub(crate) fn hold_leaving(&mut self, message: Parcel<Message>) -> Result<Vec<Part>, NoMemory>
         requires { IsSome (frozen_of (at self.old.records message.to.pid)) }
-        ensures { Answers result self.new (bind (frozen_of (at self.old.records message.to.pid)) (λ d. holds_leaving (state_of self.old) message d)) }
+        ensures { Answers result self.new (bind (frozen_of (at self.old.records message.to.pid)) (λ d. holds_leaving (kernel_state self.old) message d)) }
     {
         let message = message.into_inner();
         let id = message.id;
@@ -87,7 +87,7 @@ impl Kernel {
     /// Lets a process that was to leave stay: it is served again, and what was held is handled first.
     pub(crate) fn stay(&mut self, pid: Pid) -> Result<Vec<Part>, NoMemory>
         requires { IsSome (frozen_of (at self.old.records pid)) }
-        ensures { Answers result self.new (bind (frozen_of (at self.old.records pid)) (stays (state_of self.old) pid)) }
+        ensures { Answers result self.new (bind (frozen_of (at self.old.records pid)) (stays (kernel_state self.old) pid)) }
     {
         let (process, held) = self.records.take_frozen(pid).stay();
         self.go_on(pid, process, held)?;
@@ -102,9 +102,9 @@ impl Kernel {
         chunk: u32,
     ) -> Result<Vec<Part>, NoMemory>
         requires sent { self.old.sent < u32.MAX }
-        requires chunk { IsSuch (λ (d : Departure). HasChunk (state_bytes d.process) chunk) (frozen_of (at self.old.records pid)) }
+        requires chunk { IsSuch (λ (d : Departure). HasChunk (state_of d.process) chunk) (frozen_of (at self.old.records pid)) }
         ensures { Answers result self.new (bind (frozen_of (at self.old.records pid))
-            (λ d. gives_piece (state_of self.old) message.now (chunk_of d.process.pid (state_bytes d.process) chunk))) }
+            (λ d. gives_piece (kernel_state self.old) message.now (chunk_of d.process.pid (state_of d.process) chunk))) }
     {
         let piece = self.records.frozen(pid).unwrap().chunk(chunk);
         self.give(message, piece)
@@ -120,7 +120,7 @@ impl Kernel {
         requires sent { self.old.sent < u32.MAX }
         requires block { IsSuch (λ (d : Departure). HasBlock d.process.memory block) (frozen_of (at self.old.records pid)) }
         ensures { Answers result self.new (bind (frozen_of (at self.old.records pid))
-            (λ d. gives_piece (state_of self.old) message.now (block_of d.process.pid d.process.memory block))) }
+            (λ d. gives_piece (kernel_state self.old) message.now (block_of d.process.pid d.process.memory block))) }
     {
         let piece = self.records.frozen(pid).unwrap().block(block);
         self.give(message, piece)
@@ -129,7 +129,7 @@ impl Kernel {
     /// Sends a piece to who asked for it.
     fn give(&mut self, message: &Message, piece: What) -> Result<Vec<Part>, NoMemory>
         requires { self.old.sent < u32.MAX }
-        ensures { Answers result self.new (gives_piece (state_of self.old) message.now piece) }
+        ensures { Answers result self.new (gives_piece (kernel_state self.old) message.now piece) }
     {
         let piece = self.send(message.sender, piece);
         self.say_and_route(Line::Proto(message.id), piece)
@@ -139,7 +139,7 @@ impl Kernel {
     pub(crate) fn let_go(&mut self, pid: Pid) -> Result<Vec<Part>, NoMemory>
         requires sent { self.old.sent < u32.MAX }
         requires process { IsSuch (MayLeave self.old.room) (frozen_of (at self.old.records pid)) }
-        ensures { Answers result self.new (bind (frozen_of (at self.old.records pid)) (leaves (state_of self.old) pid)) }
+        ensures { Answers result self.new (bind (frozen_of (at self.old.records pid)) (leaves (kernel_state self.old) pid)) }
     {
         let leaving = self.records.take_frozen(pid);
         let to = leaving.to();

@@ -4,7 +4,7 @@ ghost use Rattle.dm_records.specs.Records.{at, here_of};
 ghost use Rattle.dm_onekernel.specs.Options.{bind};
 ghost use Rattle.dm_process.specs.declared.process.Process.{Process};
 ghost use Rattle.std.specs.Prelude.{Some};
-ghost use Rattle.dm_kernel.specs.Meets.{Answers, IsIn, state_of};
+ghost use Rattle.dm_kernel.specs.Meets.{Answers, IsIn, kernel_state};
 ghost use Rattle.dm_kernel.specs.Serve.{ends};
 ghost use Rattle.dm_kernel.specs.Served.{HasPlace, IsHere};
 ghost use Rattle.dm_kernel.specs.State.{drops, without_process};
@@ -24,8 +24,8 @@ use dm_records::Record;
 impl Kernel {
     /// Ends a process that has executed so many instructions.
     pub(crate) fn end(&mut self, pid: Pid, count: u32, why: Why) -> Result<Vec<Part>, NoMemory>
-        requires { IsHere (HasPlace (state_of self.old)) (at self.old.records pid) }
-        ensures { Answers result self.new (bind (here_of (at self.old.records pid)) (λ x. ends (state_of self.old) pid count x why)) }
+        requires { IsHere (HasPlace (kernel_state self.old)) (at self.old.records pid) }
+        ensures { Answers result self.new (bind (here_of (at self.old.records pid)) (λ x. ends (kernel_state self.old) pid count x why)) }
     {
         let ran = Part::Says(Line::Label(Label::Ran { pid, count }));
         let end = Part::Says(Line::Label(Label::End { pid, why }));
@@ -37,8 +37,8 @@ impl Kernel {
 
     /// Takes a process out of the machine, which knows from now on why it ended; what waited for it.
     pub(crate) fn take_out(&mut self, pid: Pid, why: Why) -> Queue<Message>
-        requires { IsHere (HasPlace (state_of self.old)) (at self.old.records pid) }
-        ensures state { (x : Process) → here_of (at self.old.records pid) ≡ Some x → IsIn self.new (without_process (state_of self.old) pid x why) }
+        requires { IsHere (HasPlace (kernel_state self.old)) (at self.old.records pid) }
+        ensures state { (x : Process) → here_of (at self.old.records pid) ≡ Some x → IsIn self.new (without_process (kernel_state self.old) pid x why) }
         ensures queue { (x : Process) → here_of (at self.old.records pid) ≡ Some x → result ≡ x.queue }
     {
         let process = self.records.take_here(pid);

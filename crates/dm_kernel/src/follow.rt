@@ -3,7 +3,7 @@ ghost use Rattle.std.specs.Prelude.{◌≡◌, ◌<◌, ◌+◌, ◌^◌, ◌∷
 ghost use Rattle.dm_records.specs.Records.{at, here_of};
 ghost use Rattle.dm_onekernel.specs.Options.{bind};
 ghost use Rattle.dm_kernel.specs.Following.{board_follows, forwards, manager_follows, process_follows};
-ghost use Rattle.dm_kernel.specs.Meets.{Answers, state_of};
+ghost use Rattle.dm_kernel.specs.Meets.{Answers, kernel_state};
 ghost use Rattle.dm_line.specs.declared.line.Line.TheVariants as line_;
 
 use crate::kernel::Kernel;
@@ -24,7 +24,7 @@ impl Kernel {
         moves: u32,
     ) -> Result<Vec<Part>, NoMemory>
         requires { self.old.sent < u32.MAX }
-        ensures { Answers result self.new (forwards (state_of self.old) message to moves) }
+        ensures { Answers result self.new (forwards (kernel_state self.old) message to moves) }
     {
         let mut message = message.into_inner();
         let update = notice(&message, self.own_id(), self.here, to, moves);
@@ -48,7 +48,7 @@ impl Kernel {
     pub(crate) fn follow(&mut self, message: &Message, about: Addr) -> Result<Vec<Part>, NoMemory>
         requires { IsSome (here_of (at self.old.records message.now.to.pid)) }
         ensures { Answers result self.new (bind (here_of (at self.old.records message.now.to.pid))
-            (λ x. process_follows (state_of self.old) message.now x about)) }
+            (λ x. process_follows (kernel_state self.old) message.now x about)) }
     {
         let process = self.records.here_mut(message.to.pid).unwrap();
         let count = apply(process, about.pid, about.at, about.moves);
@@ -63,7 +63,7 @@ impl Kernel {
     ) -> Result<Vec<Part>, NoMemory>
         requires servers { IsSome self.old.servers }
         requires few { IfSome self.old.servers (λ v. length v.board.names < 2 ^ 31) }
-        ensures { Answers result self.new (bind self.old.servers (λ v. board_follows (state_of self.old) message.now v about)) }
+        ensures { Answers result self.new (bind self.old.servers (λ v. board_follows (kernel_state self.old) message.now v about)) }
     {
         let servers = self.servers.as_mut().unwrap();
         let count = servers.board.retarget(about.pid, about.at, about.moves);
@@ -78,7 +78,7 @@ impl Kernel {
     ) -> Result<Vec<Part>, NoMemory>
         requires servers { IsSome self.old.servers }
         requires few { IfSome self.old.servers (λ v. length v.manager.children + length v.manager.pending < 2 ^ 31) }
-        ensures { Answers result self.new (bind self.old.servers (λ v. manager_follows (state_of self.old) message.now v about)) }
+        ensures { Answers result self.new (bind self.old.servers (λ v. manager_follows (kernel_state self.old) message.now v about)) }
     {
         let servers = self.servers.as_mut().unwrap();
         let count = servers.manager.retarget(about.pid, about.at, about.moves);

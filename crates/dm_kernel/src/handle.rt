@@ -9,7 +9,7 @@ ghost use Rattle.dm_onekernel.specs.Options.{bind};
 ghost use Rattle.dm_kernel.specs.Carried.{FreezesReceiverWhole, KnownIsWhole, WhereSentOff};
 ghost use Rattle.dm_kernel.specs.Handle.{ended_handles, handles, here_handles, process_handles};
 ghost use Rattle.dm_kernel.specs.May.{FitsEnded, FitsKnown, MayAct, MayHandle};
-ghost use Rattle.dm_kernel.specs.Meets.{Answers, state_of};
+ghost use Rattle.dm_kernel.specs.Meets.{Answers, kernel_state};
 ghost use Rattle.dm_kernel.specs.Served.{Handles, IsHere};
 
 use crate::kernel::Kernel;
@@ -28,12 +28,12 @@ impl Kernel {
         boot: &Boot,
         message: Parcel<Message>,
     ) -> Result<Vec<Part>, NoMemory>
-        requires may { MayHandle boot.now (state_of self.old) message }
+        requires may { MayHandle boot.now (kernel_state self.old) message }
         requires images { images_are_valid boot.now.images ≡ true }
         requires here { self.old.here < MACHINES }
-        requires processes { (p : _) (x : _) → at self.old.records p ≡ Some (Here x) → MayAct (state_of self.old) p x }
-        ensures answers { Answers result self.new (handles boot.now (state_of self.old) message) }
-        ensures whole { OnOk result (FreezesReceiverWhole (state_of self.old) message) }
+        requires processes { (p : _) (x : _) → at self.old.records p ≡ Some (Here x) → MayAct (kernel_state self.old) p x }
+        ensures answers { Answers result self.new (handles boot.now (kernel_state self.old) message) }
+        ensures whole { OnOk result (FreezesReceiverWhole (kernel_state self.old) message) }
     {
         let to = message.get().to.pid;
         if to.num == 0 {
@@ -51,9 +51,9 @@ impl Kernel {
     fn for_process(&mut self, message: Parcel<Message>) -> Result<Vec<Part>, NoMemory>
         requires lawful { IsLawfulMessage message }
         requires here { self.old.here < MACHINES }
-        requires fits { FitsKnown (state_of self.old) message (at self.old.records message.to.pid) }
-        requires acts { (x : _) → at self.old.records message.to.pid ≡ Some (Here x) → MayAct (state_of self.old) message.to.pid x }
-        ensures answers { Answers result self.new (process_handles (state_of self.old) message (at self.old.records message.to.pid)) }
+        requires fits { FitsKnown (kernel_state self.old) message (at self.old.records message.to.pid) }
+        requires acts { (x : _) → at self.old.records message.to.pid ≡ Some (Here x) → MayAct (kernel_state self.old) message.to.pid x }
+        ensures answers { Answers result self.new (process_handles (kernel_state self.old) message (at self.old.records message.to.pid)) }
         ensures whole { OnOk result (KnownIsWhole self.old.here message.what (at self.old.records message.to.pid)) }
     {
         match self.records.borrow(message.get().to.pid) {
@@ -72,9 +72,9 @@ impl Kernel {
     fn for_here(&mut self, message: Parcel<Message>) -> Result<Vec<Part>, NoMemory>
         requires lawful { IsLawfulMessage message }
         requires here { self.old.here < MACHINES }
-        requires process { IsHere (Handles (state_of self.old) message) (at self.old.records message.to.pid) }
+        requires process { IsHere (Handles (kernel_state self.old) message) (at self.old.records message.to.pid) }
         ensures answers { Answers result self.new (bind (here_of (at self.old.records message.to.pid))
-            (λ x. here_handles (state_of self.old) message x message.what)) }
+            (λ x. here_handles (kernel_state self.old) message x message.what)) }
         ensures whole { OnOk result (WhereSentOff self.old.here message.what (IfSome (here_of (at self.old.records message.to.pid)) CanMove)) }
     {
         let said = message.get();
@@ -100,7 +100,7 @@ impl Kernel {
         requires lawful { IsLawfulMessage message.now }
         requires here { self.now.here < MACHINES }
         requires fits { FitsEnded message.now.what }
-        ensures { Answers result self.now (ended_handles (state_of self.now) message.now message.now.what) }
+        ensures { Answers result self.now (ended_handles (kernel_state self.now) message.now message.now.what) }
     {
         match &message.what {
             What::Read { .. } => self.answer_gone(message),

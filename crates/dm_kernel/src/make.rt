@@ -11,7 +11,7 @@ ghost use Rattle.dm_onekernel.specs.declared.label.Label.TheVariants as label_;
 ghost use Rattle.dm_kernel.specs.Begun.{child_of};
 ghost use Rattle.dm_kernel.specs.Handle.{has_room, kernel_handles, makes, next_pid};
 ghost use Rattle.dm_kernel.specs.May.{FitsKernel};
-ghost use Rattle.dm_kernel.specs.Meets.{Answers, IsIn, state_of};
+ghost use Rattle.dm_kernel.specs.Meets.{Answers, IsIn, kernel_state};
 ghost use Rattle.dm_kernel.specs.State.{says};
 
 use crate::kernel::Kernel;
@@ -38,8 +38,8 @@ impl Kernel {
     ) -> Result<Vec<Part>, NoMemory>
         requires lawful { IsLawfulMessage message.now }
         requires images { images_are_valid boot.now.images ≡ true }
-        requires fits { FitsKernel boot.now (state_of self.old) message.now.what }
-        ensures { Answers result self.new (kernel_handles boot.now (state_of self.old) message.now message.now.what) }
+        requires fits { FitsKernel boot.now (kernel_state self.old) message.now.what }
+        ensures { Answers result self.new (kernel_handles boot.now (kernel_state self.old) message.now message.now.what) }
     {
         match &message.what {
             What::Create { image, links } => {
@@ -89,7 +89,7 @@ impl Kernel {
         requires image { image_is_valid image.now ≡ true }
         requires links { length links.now ≤ 3 }
         requires counts { FIRST_NUMBER + self.old.made < u32.MAX }
-        ensures { Answers result self.new (makes boot.now (state_of self.old) message.now links.now image.now (has_room self.old.room image.now.blocks)) }
+        ensures { Answers result self.new (makes boot.now (kernel_state self.old) message.now links.now image.now (has_room self.old.room image.now.blocks)) }
     {
         match self.room.reserve(image.blocks) {
             Ok(()) => {
@@ -104,7 +104,7 @@ impl Kernel {
     /// The name of the next process that is made here.
     fn next_pid(&self) -> Pid
         requires { FIRST_NUMBER + self.now.made < u32.MAX }
-        ensures { result ≡ next_pid (state_of self.now) }
+        ensures { result ≡ next_pid (kernel_state self.now) }
     {
         Pid {
             home: self.here,
@@ -115,7 +115,7 @@ impl Kernel {
     /// Puts a process that begins into the records and at the ring's back, and counts it.
     pub(crate) fn stand(&mut self, pid: Pid, process: Process) -> Result<(), NoMemory>
         requires { self.old.made < u32.MAX }
-        ensures { OnOk result (IsIn self.new (record (state_of self.old)
+        ensures { OnOk result (IsIn self.new (record (kernel_state self.old)
             { records = with_record (at self.old.records) pid (Here process); ring = self.old.ring ++ pid ∷ []; made = self.old.made + 1 })) }
     {
         self.ring.push(pid)?;

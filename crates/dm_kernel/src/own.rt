@@ -1,6 +1,6 @@
 //! The messages that a machine's kernel sends itself.
 ghost use Rattle.std.specs.Prelude.{◌≡◌, ◌<◌, ◌∷◌, [], IfOk};
-ghost use Rattle.dm_kernel.specs.Meets.{IsIn, state_of};
+ghost use Rattle.dm_kernel.specs.Meets.{IsIn, kernel_state};
 ghost use Rattle.dm_kernel.specs.State.{own, own_id, with_sent};
 
 use crate::kernel::Kernel;
@@ -13,7 +13,7 @@ use dm_message::{Message, MsgId, What};
 impl Kernel {
     /// The name of the next message that the kernel sends itself.
     pub(crate) fn own_id(&self) -> MsgId
-        ensures { result ≡ own_id (state_of self.now) }
+        ensures { result ≡ own_id (kernel_state self.now) }
     {
         MsgId {
             from: Pid {
@@ -28,8 +28,8 @@ impl Kernel {
     /// A message that the kernel sends itself, which it counts.
     pub(crate) fn send(&mut self, to: Addr, what: What) -> Message
         requires { self.old.sent < u32.MAX }
-        ensures message { result ≡ own (state_of self.old) to what }
-        ensures state { IsIn self.new (with_sent (state_of self.old)) }
+        ensures message { result ≡ own (kernel_state self.old) to what }
+        ensures state { IsIn self.new (with_sent (kernel_state self.old)) }
     {
         let id = self.own_id();
         self.sent += 1;

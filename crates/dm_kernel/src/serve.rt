@@ -4,7 +4,7 @@ ghost use Rattle.dm_records.specs.Records.{at, here_of};
 ghost use Rattle.dm_onekernel.specs.Options.{bind};
 ghost use Rattle.dm_onekernel.specs.declared.label.Label.TheVariants as label_;
 ghost use Rattle.dm_process.specs.Mail.{first_on};
-ghost use Rattle.dm_kernel.specs.Meets.{Answers, state_of};
+ghost use Rattle.dm_kernel.specs.Meets.{Answers, kernel_state};
 ghost use Rattle.dm_kernel.specs.Serve.{called_with, completed_label, executes, processor_of, ran, receives, serves};
 ghost use Rattle.dm_kernel.specs.Served.{Executes, HasPlace, IsHere, Receives, Serves};
 ghost use Rattle.dm_kernel.specs.State.{says};
@@ -29,8 +29,8 @@ impl Kernel {
         quantum: u32,
     ) -> Result<Vec<Part>, NoMemory>
         requires here { self.old.here < MACHINES }
-        requires process { IsHere (Serves (state_of self.old) pid service) (at self.old.records pid) }
-        ensures { Answers result self.new (serves quantum (state_of self.old) pid (at self.old.records pid)) }
+        requires process { IsHere (Serves (kernel_state self.old) pid service) (at self.old.records pid) }
+        ensures { Answers result self.new (serves quantum (kernel_state self.old) pid (at self.old.records pid)) }
     {
         match service {
             Service::Execute => self.run(pid, quantum),
@@ -41,8 +41,8 @@ impl Kernel {
     /// Lets a ready process execute.
     fn run(&mut self, pid: Pid, quantum: u32) -> Result<Vec<Part>, NoMemory>
         requires here { self.old.here < MACHINES }
-        requires process { IsHere (Executes (state_of self.old) pid) (at self.old.records pid) }
-        ensures { Answers result self.new (bind (here_of (at self.old.records pid)) (λ x. executes (state_of self.old) pid x (ran quantum (processor_of x)))) }
+        requires process { IsHere (Executes (kernel_state self.old) pid) (at self.old.records pid) }
+        ensures { Answers result self.new (bind (here_of (at self.old.records pid)) (λ x. executes (kernel_state self.old) pid x (ran quantum (processor_of x)))) }
     {
         let here = self.here;
         let process = self.records.here_mut(pid).unwrap();
@@ -67,8 +67,8 @@ impl Kernel {
         number: u8,
         called: Called,
     ) -> Result<Vec<Part>, NoMemory>
-        requires { IsHere (HasPlace (state_of self.old)) (at self.old.records pid) }
-        ensures { Answers result self.new (bind (here_of (at self.old.records pid)) (λ x. called_with (state_of self.old) pid count number x called)) }
+        requires { IsHere (HasPlace (kernel_state self.old)) (at self.old.records pid) }
+        ensures { Answers result self.new (bind (here_of (at self.old.records pid)) (λ x. called_with (kernel_state self.old) pid count number x called)) }
     {
         match called {
             Called::Replied(reply) => self.goes_on(pid, count, Label::Call { pid, number, reply }),
@@ -108,8 +108,8 @@ impl Kernel {
 
     /// Lets a process that waits take the message at a place of its queue, or refuses it that.
     fn receive(&mut self, pid: Pid, mask: u32, place: usize) -> Result<Vec<Part>, NoMemory>
-        requires { IsHere (Receives (state_of self.old) pid mask place) (at self.old.records pid) }
-        ensures { Answers result self.new (bind (here_of (at self.old.records pid)) (λ x. receives (state_of self.old) pid x mask (first_on mask x.queue))) }
+        requires { IsHere (Receives (kernel_state self.old) pid mask place) (at self.old.records pid) }
+        ensures { Answers result self.new (bind (here_of (at self.old.records pid)) (λ x. receives (kernel_state self.old) pid x mask (first_on mask x.queue))) }
     {
         let process = self.records.here_mut(pid).unwrap();
         let id = process.queue.at(place).id;

@@ -10,7 +10,7 @@ ghost use Rattle.dm_switchboard.specs.Taking.{takes};
 ghost use Rattle.dm_kernel.specs.Handle.{board_handles, board_took, manager_handles, manager_took, routes};
 ghost use Rattle.dm_kernel.specs.May.{FitsBoard, FitsManager, IsSuch};
 ghost use Rattle.dm_kernel.specs.declared.kernel.Servers.{Servers};
-ghost use Rattle.dm_kernel.specs.Meets.{Answers, state_of};
+ghost use Rattle.dm_kernel.specs.Meets.{Answers, kernel_state};
 ghost use Rattle.dm_kernel.specs.State.{says};
 
 use crate::kernel::Kernel;
@@ -24,7 +24,7 @@ impl Kernel {
     /// Handles a message for the switchboard.
     pub(crate) fn for_board(&mut self, message: &Message) -> Result<Vec<Part>, NoMemory>
         requires { FitsBoard message.now self.old.servers }
-        ensures { Answers result self.new (board_handles (state_of self.old) message.now self.old.servers) }
+        ensures { Answers result self.new (board_handles (kernel_state self.old) message.now self.old.servers) }
     {
         match &message.what {
             What::Update { about } => self.follow_board(message, *about),
@@ -36,7 +36,7 @@ impl Kernel {
     fn take_for_board(&mut self, message: &Message) -> Result<Vec<Part>, NoMemory>
         requires user { kind_of message.now.what ≡ kind.User }
         requires fits { IsSuch (λ (v : Servers). v.board.sent < u32.MAX) self.old.servers }
-        ensures { Answers result self.new (bind self.old.servers (λ v. board_took (state_of self.old) message.now v (takes v.board message.now.what))) }
+        ensures { Answers result self.new (bind self.old.servers (λ v. board_took (kernel_state self.old) message.now v (takes v.board message.now.what))) }
     {
         let took = self.servers.as_mut().unwrap().board.take(message)?;
         self.took(message.id, took.answer)
@@ -45,7 +45,7 @@ impl Kernel {
     /// Handles a message for the process manager.
     pub(crate) fn for_manager(&mut self, message: &Message) -> Result<Vec<Part>, NoMemory>
         requires { FitsManager message.now self.old.servers }
-        ensures { Answers result self.new (manager_handles (state_of self.old) message.now self.old.servers) }
+        ensures { Answers result self.new (manager_handles (kernel_state self.old) message.now self.old.servers) }
     {
         match &message.what {
             What::Update { about } => self.follow_manager(message, *about),
@@ -58,7 +58,7 @@ impl Kernel {
         requires fits { IsSuch (λ (v : Servers). IsForManager v.manager message.now.id.n message.now.what × (v.manager.sent < u32.MAX) ×
             (length v.manager.children < 4294967295)) self.old.servers }
         ensures { Answers result self.new (bind self.old.servers
-            (λ v. manager_took (state_of self.old) message.now v (manage.takes v.manager message.now.id.n message.now.what))) }
+            (λ v. manager_took (kernel_state self.old) message.now v (manage.takes v.manager message.now.id.n message.now.what))) }
     {
         let sent = self.servers.as_mut().unwrap().manager.take(message)?;
         self.took(message.id, sent)

@@ -8,7 +8,7 @@ ghost use Rattle.dm_onekernel.specs.declared.label.Label.TheVariants as label_;
 ghost use Rattle.dm_datamove.specs.Landing.{landing};
 ghost use Rattle.dm_line.specs.declared.line.Line.TheVariants as line_;
 ghost use Rattle.dm_kernel.specs.Handle.{answered, is_dropped, is_gone, killed, lands, queued, served_as};
-ghost use Rattle.dm_kernel.specs.Meets.{Answers, state_of};
+ghost use Rattle.dm_kernel.specs.Meets.{Answers, kernel_state};
 ghost use Rattle.dm_kernel.specs.Served.{AwaitsPiece, HasPlace, IsHere, OwnsPiece};
 ghost use Rattle.dm_kernel.specs.State.{says, turned, with_here};
 
@@ -27,7 +27,7 @@ impl Kernel {
     pub(crate) fn queue(&mut self, message: Parcel<Message>) -> Result<Vec<Part>, NoMemory>
         requires { IsSome (here_of (at self.old.records message.to.pid)) }
         ensures { Answers result self.new (bind (here_of (at self.old.records message.to.pid))
-            (λ x. turned (with_here (state_of self.old) message.to.pid (queued x message)) (Part.Says (line_.Queued message.id) ∷ []))) }
+            (λ x. turned (with_here (kernel_state self.old) message.to.pid (queued x message)) (Part.Says (line_.Queued message.id) ∷ []))) }
     {
         let message = message.into_inner();
         let id = message.id;
@@ -44,7 +44,7 @@ impl Kernel {
     ) -> Result<Vec<Part>, NoMemory>
         requires { IsSome (here_of (at self.old.records message.now.to.pid)) }
         ensures { Answers result self.new (bind (here_of (at self.old.records message.now.to.pid))
-            (λ x. served_as (state_of self.old) message.now (record x { stopped = stopped }))) }
+            (λ x. served_as (kernel_state self.old) message.now (record x { stopped = stopped }))) }
     {
         let process = self.records.here_mut(message.to.pid).unwrap();
         process.stopped = stopped;
@@ -53,8 +53,8 @@ impl Kernel {
 
     /// Ends a process that is to be killed.
     pub(crate) fn kill(&mut self, message: &Message) -> Result<Vec<Part>, NoMemory>
-        requires { IsHere (HasPlace (state_of self.old)) (at self.old.records message.now.to.pid) }
-        ensures { Answers result self.new (bind (here_of (at self.old.records message.now.to.pid)) (λ x. killed (state_of self.old) message.now x)) }
+        requires { IsHere (HasPlace (kernel_state self.old)) (at self.old.records message.now.to.pid) }
+        ensures { Answers result self.new (bind (here_of (at self.old.records message.now.to.pid)) (λ x. killed (kernel_state self.old) message.now x)) }
     {
         let mut parts = self.say_served(message.id)?;
         let queue = self.take_out(message.to.pid, Why::Killed);
@@ -67,7 +67,7 @@ impl Kernel {
         requires lawful { IsLawfulMessage message.now }
         requires here { self.old.here < MACHINES }
         requires owner { IsHere (OwnsPiece message.now) (at self.old.records message.now.to.pid) }
-        ensures { Answers result self.new (bind (here_of (at self.old.records message.now.to.pid)) (λ x. answered (state_of self.old) message.now x)) }
+        ensures { Answers result self.new (bind (here_of (at self.old.records message.now.to.pid)) (λ x. answered (kernel_state self.old) message.now x)) }
     {
         let here = self.here;
         let process = self.records.here_mut(message.to.pid).unwrap();
@@ -81,7 +81,7 @@ impl Kernel {
         requires here { self.old.here < MACHINES }
         requires mover { IsHere (AwaitsPiece message.now) (at self.old.records message.now.to.pid) }
         ensures { Answers result self.new (bind (here_of (at self.old.records message.now.to.pid))
-            (λ x. lands (state_of self.old) message.now (landing self.old.here x message.now.what x.status))) }
+            (λ x. lands (kernel_state self.old) message.now (landing self.old.here x message.now.what x.status))) }
     {
         let here = self.here;
         let process = self.records.here_mut(message.to.pid).unwrap();
@@ -99,7 +99,7 @@ impl Kernel {
         requires lawful { IsLawfulMessage message.now }
         requires here { self.now.here < MACHINES }
         requires request { IsRequest message.now.what }
-        ensures { Answers result self.now (is_gone (state_of self.now) message.now) }
+        ensures { Answers result self.now (is_gone (kernel_state self.now) message.now) }
     {
         let answer = Parcel::new(self.alloc, gone(message, self.here))?;
         let said = Line::Label(Label::Gone { id: message.id });
@@ -108,7 +108,7 @@ impl Kernel {
 
     /// Drops a message for a process that has ended.
     pub(crate) fn drop_message(&self, message: &Message) -> Result<Vec<Part>, NoMemory>
-        ensures { Answers result self.now (is_dropped (state_of self.now) message.now) }
+        ensures { Answers result self.now (is_dropped (kernel_state self.now) message.now) }
     {
         self.say(Line::Label(Label::Dropped { id: message.id }))
     }

@@ -7,7 +7,7 @@ ghost use Rattle.dm_onekernel.specs.Options.{bind};
 ghost use Rattle.dm_process.specs.Service.{IsServiceOf};
 ghost use Rattle.dm_kernel.specs.Carried.{FreezesWhole};
 ghost use Rattle.dm_kernel.specs.May.{MayAct, MayTurn};
-ghost use Rattle.dm_kernel.specs.Meets.{Answers, state_of};
+ghost use Rattle.dm_kernel.specs.Meets.{Answers, kernel_state};
 ghost use Rattle.dm_kernel.specs.Served.{IsHere};
 ghost use Rattle.dm_kernel.specs.Turn.{first_runnable, goes_round, known_is_runnable, turn};
 
@@ -24,11 +24,11 @@ impl Kernel {
     /// Takes a turn: handles the message at the inbox's front, or serves the first process of the ring that can be
     /// served, or is idle. Answers what it says and routes, in order.
     pub fn turn(&mut self, boot: &Boot) -> Result<Vec<Part>, NoMemory>
-        requires may { MayTurn boot.now (state_of self.old) }
+        requires may { MayTurn boot.now (kernel_state self.old) }
         requires images { images_are_valid boot.now.images ≡ true }
-        ensures answers { Answers result self.new (turn boot.now (state_of self.old)) }
+        ensures answers { Answers result self.new (turn boot.now (kernel_state self.old)) }
         // Where it froze a process, that one can be carried whole.
-        ensures whole { OnOk result (FreezesWhole (state_of self.old) self.old.inbox) }
+        ensures whole { OnOk result (FreezesWhole (kernel_state self.old) self.old.inbox) }
     {
         match self.inbox.pop() {
             Some(message) => self.handle(boot, message),
@@ -39,8 +39,8 @@ impl Kernel {
     /// Serves the first process of the ring that can be served, which goes to the ring's back.
     fn go_round(&mut self, boot: &Boot) -> Result<Vec<Part>, NoMemory>
         requires here { self.old.here < MACHINES }
-        requires processes { (p : _) (x : _) → at self.old.records p ≡ Some (Here x) → MayAct (state_of self.old) p x }
-        ensures { Answers result self.new (goes_round boot.now (state_of self.old) (first_runnable (at self.old.records) self.old.ring)) }
+        requires processes { (p : _) (x : _) → at self.old.records p ≡ Some (Here x) → MayAct (kernel_state self.old) p x }
+        ensures { Answers result self.new (goes_round boot.now (kernel_state self.old) (first_runnable (at self.old.records) self.old.ring)) }
     {
         match self.first_service() {
             Some((place, service)) => {
@@ -54,7 +54,7 @@ impl Kernel {
 
     /// The place in the ring of the first process that can be served, and what it does then.
     fn first_service(&mut self) -> Option<(usize, Service)>
-        ensures unchanged { state_of self.new ≡ state_of self.old }
+        ensures unchanged { kernel_state self.new ≡ kernel_state self.old }
         ensures within { IfSome result (λ s. s.0 < length self.new.ring) }
         ensures first { bind result (λ s. slice_get self.new.ring s.0) ≡ first_runnable (at self.new.records) self.new.ring }
         ensures service { IfSome result (λ s. IfSome (slice_get self.new.ring s.0) (λ p. IsHere (λ x. IsServiceOf x s.1) (at self.new.records p))) }
@@ -70,7 +70,7 @@ impl Kernel {
 
     /// What a process does where it is served now; nothing where it isn't here, or can't be served.
     fn service_of(&mut self, pid: Pid) -> Option<Service>
-        ensures unchanged { state_of self.new ≡ state_of self.old }
+        ensures unchanged { kernel_state self.new ≡ kernel_state self.old }
         ensures runnable { is_some result ≡ known_is_runnable (at self.new.records pid) }
         ensures service { IfSome result (λ s. IsHere (λ x. IsServiceOf x s) (at self.new.records pid)) }
     {

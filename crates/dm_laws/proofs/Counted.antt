@@ -60,13 +60,13 @@ copies-counts pid p None = (refl, refl)
 copies-counts pid p (Some l) =
     if-counts pid p (calls.is_reply l.kind) (calls.refused Reply.NotCopyable p) (calls.puts_link p l (first_empty p.links)) (refused-counts pid p Reply.NotCopyable) (puts_link-counts pid p l (first_empty p.links))
 
-drops-counts : (pid : Pid) (p : PlainProcess) (l : Option PlainLink) → Counts pid p (calls.drops p l)
-drops-counts pid p None = (refl, refl)
-drops-counts pid p (Some l) = (refl, refl)
+drop_call-counts : (pid : Pid) (p : PlainProcess) (l : Option PlainLink) → Counts pid p (calls.drop_call p l)
+drop_call-counts pid p None = (refl, refl)
+drop_call-counts pid p (Some l) = (refl, refl)
 
-sends-counts : (pid : Pid) (p : PlainProcess) (l : Option PlainLink) → Counts pid p (calls.sends pid p l)
-sends-counts pid p None = (refl, refl)
-sends-counts pid p (Some l) =
+send_call-counts : (pid : Pid) (p : PlainProcess) (l : Option PlainLink) → Counts pid p (calls.send_call pid p l)
+send_call-counts pid p None = (refl, refl)
+send_call-counts pid p (Some l) =
     unless_refused-counts pid p (first_failed (calls.send_refusals p)) (Sends (calls.message_over pid p l) (calls.after_send p)) (record { id = refl; sender = refl; count = refl; piece = refl; is = inl (refl, refl) })
 
 pub requests-sent : (pid : Pid) (p : PlainProcess) (dir : Direction) (owner : Pid) (base own left : ℕ) → Sent pid p (pieces.requests pid p dir owner base own left).message (pieces.requests pid p dir owner base own left).process
@@ -76,7 +76,7 @@ requests-sent pid p Direction.IntoArea owner base own left = record { id = refl;
 moves_bytes-counts : (pid : Pid) (p : PlainProcess) (l : PlainLink) (dir : Direction) → Counts pid p (calls.moves_bytes pid p l dir)
 moves_bytes-counts pid p l dir =
     let r = pieces.requests pid p dir l.to (l.area.base + reg p.regs 3) (reg p.regs 4) (reg p.regs 5) in
-    if-counts pid p (reg p.regs 5 == 0) (calls.refused Reply.Done p) (calls.begins r) (refused-counts pid p Reply.Done)
+    if-counts pid p (reg p.regs 5 == 0) (calls.refused Reply.Done p) (calls.begins_move r) (refused-counts pid p Reply.Done)
     (requests-sent pid p dir l.to (l.area.base + reg p.regs 3) (reg p.regs 4) (reg p.regs 5))
 
 moves_over-counts : (pid : Pid) (p : PlainProcess) (l : PlainLink) (dir : Option Direction) → Counts pid p (calls.moves_over pid p l dir)
@@ -84,20 +84,20 @@ moves_over-counts pid p l None = (refl, refl)
 moves_over-counts pid p l (Some dir) =
     unless_refused-counts pid p (first_failed (calls.move_refusals p l dir)) (calls.moves_bytes pid p l dir) (moves_bytes-counts pid p l dir)
 
-moves-counts : (pid : Pid) (p : PlainProcess) (l : Option PlainLink) → Counts pid p (calls.moves pid p l)
-moves-counts pid p None = (refl, refl)
-moves-counts pid p (Some l) = moves_over-counts pid p l (direction_numbered (reg p.regs 2))
+move_call-counts : (pid : Pid) (p : PlainProcess) (l : Option PlainLink) → Counts pid p (calls.move_call pid p l)
+move_call-counts pid p None = (refl, refl)
+move_call-counts pid p (Some l) = moves_over-counts pid p l (direction_numbered (reg p.regs 2))
 
 does_call-counts : (pid : Pid) (p : PlainProcess) (c : CallNumber) → Counts pid p (calls.does_call pid p c)
 does_call-counts pid p Out = (refl, refl)
 does_call-counts pid p Make = unless_refused-counts pid p (first_failed (calls.make_refusals p)) (calls.puts_link p (calls.own_link pid p) (first_empty p.links)) (puts_link-counts pid p (calls.own_link pid p) (first_empty p.links))
 does_call-counts pid p Copy = copies-counts pid p (link_at p.links (reg p.regs 1))
-does_call-counts pid p Drop = drops-counts pid p (link_at p.links (reg p.regs 1))
-does_call-counts pid p Send = sends-counts pid p (link_at p.links (reg p.regs 1))
+does_call-counts pid p Drop = drop_call-counts pid p (link_at p.links (reg p.regs 1))
+does_call-counts pid p Send = send_call-counts pid p (link_at p.links (reg p.regs 1))
 does_call-counts pid p Receive =
     if-counts pid p (calls.is_outside p (reg p.regs 2) (reg p.regs 3)) (calls.refused Reply.BadRange p) (Waits (record p { status = Waiting (reg p.regs 1) (reg p.regs 2) (reg p.regs 3) }))
     (refused-counts pid p Reply.BadRange) (waiting-counts pid p (reg p.regs 1) (reg p.regs 2) (reg p.regs 3))
-does_call-counts pid p Move = moves-counts pid p (link_at p.links (reg p.regs 1))
+does_call-counts pid p Move = move_call-counts pid p (link_at p.links (reg p.regs 1))
 does_call-counts pid p _ = tt
 
 pub call-counts : (pid : Pid) (p : PlainProcess) (n : ℕ) → Counts pid p (calls.call pid p n)
@@ -114,4 +114,4 @@ completes_unless-is p after (Some c) e f = (refl, refl)
 
 pub completes-is : (p : PlainProcess) (base size code channel : ℕ) (body : _) (links : _) → Completes p (receiving.completes p base size code channel body links)
 completes-is p base size code channel body links =
-    completes_unless-is p (receiving.receives p base code channel body links) (first_failed (receiving.receive_refusals p size body links)) refl refl
+    completes_unless-is p (receiving.with_received p base code channel body links) (first_failed (receiving.receive_refusals p size body links)) refl refl

@@ -13,11 +13,11 @@ use Rattle.dm_laws.proofs.Servers.{after_took, after_dropped, after_gone, after_
 
 pub after_step : (r e : MsgId → ℕ) (s t : OneKernel) (l : Label) → kernel.step s l ≡ Some t → Sound r e s → After r e s l t
 after_step r e s t (Label.Ran p k) is h = after_ran r e s t p k is h
-after_step r e s t (Label.Call p n c) is h = let (x, next, rest) = bind-is (kernel.next s p) (kernel.replies s p n c) t is in after_replies r e s t p n c x (nexts s p x next) rest h
-after_step r e s t (Label.Send p id) is h = let (x, next, rest) = bind-is (kernel.next s p) (kernel.sends s p id) t is in after_sends r e s t p id x (nexts s p x next) rest h
-after_step r e s t (Label.Wait p) is h = let (x, next, rest) = bind-is (kernel.next s p) (kernel.waits s p) t is in after_waits r e s t p x (nexts s p x next) rest h
-after_step r e s t (Label.Out p w) is h = let (x, next, rest) = bind-is (kernel.next s p) (kernel.outputs s p w) t is in after_outputs r e s t p w x (nexts s p x next) rest h
-after_step r e s t (Label.End p y) is h = let (x, next, rest) = bind-is (kernel.next s p) (kernel.ends s p y) t is in after_ends r e s t p y x (nexts s p x next) rest h
+after_step r e s t (Label.Call p n c) is h = let (x, next, rest) = bind-is (kernel.next_trap s p) (kernel.replies s p n c) t is in after_replies r e s t p n c x (nexts s p x next) rest h
+after_step r e s t (Label.Send p id) is h = let (x, next, rest) = bind-is (kernel.next_trap s p) (kernel.sends s p id) t is in after_sends r e s t p id x (nexts s p x next) rest h
+after_step r e s t (Label.Wait p) is h = let (x, next, rest) = bind-is (kernel.next_trap s p) (kernel.waits s p) t is in after_waits r e s t p x (nexts s p x next) rest h
+after_step r e s t (Label.Out p w) is h = let (x, next, rest) = bind-is (kernel.next_trap s p) (kernel.outputs s p w) t is in after_outputs r e s t p w x (nexts s p x next) rest h
+after_step r e s t (Label.End p y) is h = let (x, next, rest) = bind-is (kernel.next_trap s p) (kernel.ends s p y) t is in after_ends r e s t p y x (nexts s p x next) rest h
 after_step r e s t (Label.Receive p id) is h = let (x, c, rest) = bind-is (kernel.completing s p id) (kernel.receives s p id) t is in after_receives r e s t p id x (completing s p id x c) rest h
 after_step r e s t (Label.Refuse p id d) is h = let (x, c, rest) = bind-is (kernel.completing s p id) (kernel.refuses s p d) t is in after_refuses r e s t p id d x (completing s p id x c) rest h
 after_step r e s t (Label.Served id) is h =

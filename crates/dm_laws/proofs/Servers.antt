@@ -23,26 +23,26 @@ board_request : (b : Switchboard) (body : List ℕ) (links : List PlainLink) →
 board_request b body [] = refl
 board_request b body (l ∷ ls) = (refl, refl, refl, refl)
 
-pub board_takes : (b : Switchboard) (m : PlainMessage) (w : PlainWhat) (k : board.Took) → board.takes b m w ≡ Some k
+pub board_takes_lem : (b : Switchboard) (m : PlainMessage) (w : PlainWhat) (k : board.BoardTook) → board.board_takes b m w ≡ Some k
     → (is_of_memory w ≡ false) × (is_piece w ≡ false) × ServerSends switchboard b.sent k.answer k.switchboard.sent
-board_takes b m (PlainWhat.User code channel body links) k e =
+board_takes_lem b m (PlainWhat.User code channel body links) k e =
     let f : board.takes_request b body links ≡ k = cc in
-    (refl, refl, subst (λ (v : board.Took). ServerSends switchboard b.sent v.answer v.switchboard.sent) f (board_request b body links))
-board_takes b m _ k e = cc
+    (refl, refl, subst (λ (v : board.BoardTook). ServerSends switchboard b.sent v.answer v.switchboard.sent) f (board_request b body links))
+board_takes_lem b m _ k e = cc
 
 -- the manager: its children and its count only rise
-pub record ManagerSends (g : Manager) (k : manage.Took) : Type 0 where
+pub record ManagerSends (g : Manager) (k : manage.ManagerTook) : Type 0 where
   pub sends : ServerSends manager g.sent k.message k.manager.sent
   pub children : length g.children ≤ length k.manager.children
 
-manager_answers : (g h : Manager) (l : PlainLink) (code : ℕ) (links : List PlainLink) → h.sent ≡ g.sent → length g.children ≤ length h.children → ManagerSends g (manage.answers h l code links)
+manager_answers : (g h : Manager) (l : PlainLink) (code : ℕ) (links : List PlainLink) → h.sent ≡ g.sent → length g.children ≤ length h.children → ManagerSends g (manage.answers_byte h l code links)
 manager_answers g h l code links e le = record { sends = (ap (id_of manager) e, ap (λ n. n + 1) e, refl, refl); children = le }
 
 manager_bad : (g : Manager) (links : List PlainLink) → ManagerSends g (manage.bad_request g links)
 manager_bad g [] = record { sends = refl; children = omega arith }
 manager_bad g (l ∷ ls) = manager_answers g g l 2 [] refl (omega arith)
 
-manager_if : (g : Manager) (b : Bool) (x y : manage.Took) → ManagerSends g x → ManagerSends g y → ManagerSends g (if b then x else y)
+manager_if : (g : Manager) (b : Bool) (x y : manage.ManagerTook) → ManagerSends g x → ManagerSends g y → ManagerSends g (if b then x else y)
 manager_if g true x y h k = h
 manager_if g false x y h k = k
 
@@ -52,7 +52,7 @@ manager_wants g machines images machine image (l ∷ ls) =
     manager_if g (nat_lt machine machines && nat_lt image images) (manage.asks_for g machine image l ls) (manage.bad_request g (l ∷ ls))
     (record { sends = (refl, refl, refl, refl); children = omega arith }) (manager_bad g (l ∷ ls))
 
-manager_requests : (g : Manager) (machines images : ℕ) (body : List ℕ) (links : List PlainLink) → ManagerSends g (manage.requests g machines images body links)
+manager_requests : (g : Manager) (machines images : ℕ) (body : List ℕ) (links : List PlainLink) → ManagerSends g (manage.requests_child g machines images body links)
 manager_requests g machines images (a ∷ b ∷ c ∷ d ∷ []) links =
     manager_if g (a == 1) (manage.wants_child g machines images b (256 * c + d) links) (manage.bad_request g links) (manager_wants g machines images b (256 * c + d) links) (manager_bad g links)
 manager_requests g machines images _ links = manager_bad g links
@@ -64,7 +64,7 @@ control_is false true d w e = let f : PlainWhat.Resume ≡ w = cc in (sym (ap is
 control_is false false true w e = let f : PlainWhat.Kill ≡ w = cc in (sym (ap is_of_memory f), sym (ap is_piece f))
 control_is false false false w e = cc
 
-manager_controls_child : (g : Manager) (child : Pid) (o : Option PlainWhat) (links : List PlainLink) → ((w : PlainWhat) → o ≡ Some w → (is_of_memory w ≡ false) × (is_piece w ≡ false)) → ManagerSends g (manage.controls_child g child o links)
+manager_controls_child : (g : Manager) (child : Pid) (o : Option PlainWhat) (links : List PlainLink) → ((w : PlainWhat) → o ≡ Some w → (is_of_memory w ≡ false) × (is_piece w ≡ false)) → ManagerSends g (manage.tells_child g child o links)
 manager_controls_child g child None links h = manager_bad g links
 manager_controls_child g child (Some w) links h = let k = h w refl in record { sends = (refl, refl, k.0, k.1); children = omega arith }
 
@@ -77,33 +77,33 @@ append-longer : {A : Type 0} (xs : List A) (y : A) → length (xs ++ y ∷ []) �
 append-longer [] y = refl
 append-longer (x ∷ xs) y = omega (arith, append-longer xs y)
 
-manager_created : (g : Manager) (n : ℕ) (child : Pid) (o : Option Pending) (k : manage.Took) → manage.takes_created g n child o ≡ Some k → ManagerSends g k
+manager_created : (g : Manager) (n : ℕ) (child : Pid) (o : Option Pending) (k : manage.ManagerTook) → manage.takes_created g n child o ≡ Some k → ManagerSends g k
 manager_created g n child None k e = cc
 manager_created g n child (Some r) k e =
     let h = record g { children = g.children ++ child ∷ []; pending = manage.without_pending n g.pending } in
-    let f : manage.answers h r.answer 0 (manage.control_link (length g.children + 1) ∷ []) ≡ k = cc in
+    let f : manage.answers_byte h r.answer 0 (manage.control_link (length g.children + 1) ∷ []) ≡ k = cc in
     subst (ManagerSends g) f (manager_answers g h r.answer 0 (manage.control_link (length g.children + 1) ∷ []) refl (let z = append-longer g.children child in omega (arith, z)))
 
-manager_no_room : (g : Manager) (n : ℕ) (o : Option Pending) (k : manage.Took) → manage.takes_no_room g n o ≡ Some k → ManagerSends g k
+manager_no_room : (g : Manager) (n : ℕ) (o : Option Pending) (k : manage.ManagerTook) → manage.takes_no_room g n o ≡ Some k → ManagerSends g k
 manager_no_room g n None k e = cc
 manager_no_room g n (Some r) k e =
     let h = record g { pending = manage.without_pending n g.pending } in
-    let f : manage.answers h r.answer 1 [] ≡ k = cc in
+    let f : manage.answers_byte h r.answer 1 [] ≡ k = cc in
     subst (ManagerSends g) f (manager_answers g h r.answer 1 [] refl (omega arith))
 
-pub manager_takes : (g : Manager) (machines images : ℕ) (m : PlainMessage) (w : PlainWhat) (k : manage.Took) → manage.takes g machines images m w ≡ Some k
+pub manager_takes_lem : (g : Manager) (machines images : ℕ) (m : PlainMessage) (w : PlainWhat) (k : manage.ManagerTook) → manage.manager_takes g machines images m w ≡ Some k
     → (is_of_memory w ≡ false) × (is_piece w ≡ false) × ManagerSends g k
-manager_takes g machines images m (PlainWhat.User code channel body links) k e =
+manager_takes_lem g machines images m (PlainWhat.User code channel body links) k e =
     let f : manage.takes_user g machines images code body links ≡ k = cc in (
       refl,
       refl,
       subst (ManagerSends g) f
-          (manager_if g (code == 0) (manage.requests g machines images body links) (manage.controls g (manage.child_numbered g.children code) body links)
+          (manager_if g (code == 0) (manage.requests_child g machines images body links) (manage.controls g (manage.child_numbered g.children code) body links)
           (manager_requests g machines images body links) (manager_controls g (manage.child_numbered g.children code) body links)),
     )
-manager_takes g machines images m (PlainWhat.Created child) k e = (refl, refl, manager_created g m.id.n child (manage.pending_numbered m.id.n g.pending) k e)
-manager_takes g machines images m PlainWhat.NoRoom k e = (refl, refl, manager_no_room g m.id.n (manage.pending_numbered m.id.n g.pending) k e)
-manager_takes g machines images m _ k e = cc
+manager_takes_lem g machines images m (PlainWhat.Created child) k e = (refl, refl, manager_created g m.id.n child (manage.pending_numbered m.id.n g.pending) k e)
+manager_takes_lem g machines images m PlainWhat.NoRoom k e = (refl, refl, manager_no_room g m.id.n (manage.pending_numbered m.id.n g.pending) k e)
+manager_takes_lem g machines images m _ k e = cc
 
 counts_at : (b c : Bool) (n x x' g g' : ℕ) (l l' : Option Life) → l' ≡ l → g ≤ g' → x ≤ x' → (if b then nat_lt n x else if c then nat_lt n g else is_counted n l) ≡ true → (if b then nat_lt n x' else if c then nat_lt n g' else is_counted n l') ≡ true
 counts_at true c n x x' g g' l l' e p q h = grind (arith, nat_tests)
@@ -123,7 +123,7 @@ counts_board s t i p g le h = counts_board_at s t i (ap (λ (f : Pid → Option 
 counts_manager : (s t : OneKernel) (i : MsgId) → t.processes ≡ s.processes → t.switchboard ≡ s.switchboard → s.manager.sent ≤ t.manager.sent → counts s i ≡ true → counts t i ≡ true
 counts_manager s t i p b le h = counts_manager_at s t i (ap (λ (f : Pid → Option Life). f i.from) p) (ap (λ (v : Switchboard). v.sent) b) le h
 
-after_board : (r e : MsgId → ℕ) (s : OneKernel) (id : MsgId) (k : board.Took) → IsUnawaited s id → ServerSends switchboard s.switchboard.sent k.answer k.switchboard.sent → Sound r e s
+after_board : (r e : MsgId → ℕ) (s : OneKernel) (id : MsgId) (k : board.BoardTook) → IsUnawaited s id → ServerSends switchboard s.switchboard.sent k.answer k.switchboard.sent → Sound r e s
     → (o : Option PlainMessage) → k.answer ≡ o → After r e s (Label.Took id) (with_sent (record (without_message s id) { switchboard = k.switchboard }) o)
 after_board r e s id k un sends h None is =
     let count : k.switchboard.sent ≡ s.switchboard.sent = subst (λ o. ServerSends switchboard s.switchboard.sent o k.switchboard.sent) is sends in
@@ -146,7 +146,7 @@ after_board r e s id k un sends h (Some m) is =
     (record { lives = λ p. LifeGrows-same (s.processes p); switchboard = omega (arith, count); manager = omega arith; made = λ n. omega arith; children = omega arith })
     after
 
-after_manager : (r e : MsgId → ℕ) (s : OneKernel) (id : MsgId) (k : manage.Took) → IsUnawaited s id → ManagerSends s.manager k → Sound r e s
+after_manager : (r e : MsgId → ℕ) (s : OneKernel) (id : MsgId) (k : manage.ManagerTook) → IsUnawaited s id → ManagerSends s.manager k → Sound r e s
     → (o : Option PlainMessage) → k.message ≡ o → After r e s (Label.Took id) (with_sent (record (without_message s id) { manager = k.manager }) o)
 after_manager r e s id k un sends h None is =
     let count : k.manager.sent ≡ s.manager.sent = subst (λ o. ServerSends manager s.manager.sent o k.manager.sent) is sends.sends in
@@ -173,17 +173,17 @@ after_manager r e s id k un sends h (Some m) is =
 
 -- took: by which server
 takes_by : (r e : MsgId → ℕ) (s t : OneKernel) (id : MsgId) (m : PlainMessage) (b c : Bool) → s.bag id ≡ Some m
-    → (if b then bind (board.takes s.switchboard m m.what) (λ k. Some (service.switchboard_took s id k))
-    else if c then bind (manage.takes s.manager s.machines (length s.images) m m.what) (λ k. Some (service.manager_took s id k))
+    → (if b then bind (board.board_takes s.switchboard m m.what) (λ k. Some (service.switchboard_took s id k))
+    else if c then bind (manage.manager_takes s.manager s.machines (length s.images) m m.what) (λ k. Some (service.manager_took s id k))
     else None) ≡ Some t → Sound r e s → After r e s (Label.Took id) t
 takes_by r e s t id m true c there is h =
-    let (k, took, last) = bind-is (board.takes s.switchboard m m.what) (λ v. Some (service.switchboard_took s id v)) t is in
-    let (memory, piece, sends) = board_takes s.switchboard m m.what k took in
+    let (k, took, last) = bind-is (board.board_takes s.switchboard m m.what) (λ v. Some (service.switchboard_took s id v)) t is in
+    let (memory, piece, sends) = board_takes_lem s.switchboard m m.what k took in
     let f : service.switchboard_took s id k ≡ t = cc in
     subst (After r e s (Label.Took id)) f (after_board r e s id k (unawaited s id m there memory piece h.movers) sends h k.answer refl)
 takes_by r e s t id m false true there is h =
-    let (k, took, last) = bind-is (manage.takes s.manager s.machines (length s.images) m m.what) (λ v. Some (service.manager_took s id v)) t is in
-    let (memory, piece, sends) = manager_takes s.manager s.machines (length s.images) m m.what k took in
+    let (k, took, last) = bind-is (manage.manager_takes s.manager s.machines (length s.images) m m.what) (λ v. Some (service.manager_took s id v)) t is in
+    let (memory, piece, sends) = manager_takes_lem s.manager s.machines (length s.images) m m.what k took in
     let f : service.manager_took s id k ≡ t = cc in
     subst (After r e s (Label.Took id)) f (after_manager r e s id k (unawaited s id m there memory piece h.movers) sends h k.message refl)
 takes_by r e s t id m false false there is h = cc
@@ -194,9 +194,9 @@ after_took r e s t id is h =
     takes_by r e s t id m (pid_eq m.to switchboard) (pid_eq m.to manager) there rest h
 
 -- a message whose receiver has ended
-pub ended-is : (l : Option Life) (y : Why) → step.ended l ≡ Some y → l ≡ Some (Ended y)
-ended-is (Some (Ended z)) y e = ap (λ (v : Why). Some (Ended v)) (let f : z ≡ y = cc in f)
-ended-is _ y e = cc
+pub why_ended-is : (l : Option Life) (y : Why) → step.why_ended l ≡ Some y → l ≡ Some (Ended y)
+why_ended-is (Some (Ended z)) y e = ap (λ (v : Why). Some (Ended v)) (let f : z ≡ y = cc in f)
+why_ended-is _ y e = cc
 
 apart_of : (s : OneKernel) (p q : Pid) (y : Why) (z : PlainProcess) (b : Bool) → pid_eq p q ≡ b → s.processes p ≡ Some (Ended y) → s.processes q ≡ Some (Alive z) → b ≡ false
 apart_of s p q y z false e f g = refl
@@ -220,10 +220,10 @@ not_memory _ e = refl
 
 pub after_dropped : (r e : MsgId → ℕ) (s t : OneKernel) (id : MsgId) → step.step s (Label.Dropped id) ≡ Some t → Sound r e s → After r e s (Label.Dropped id) t
 after_dropped r e s t id is h =
-    let (m, there, rest) = bind-is (s.bag id) (λ v. bind (step.ended (s.processes v.to)) (step.drops s id v)) t is in
-    let (y, gone, last) = bind-is (step.ended (s.processes m.to)) (step.drops s id m) t rest in
+    let (m, there, rest) = bind-is (s.bag id) (λ v. bind (step.why_ended (s.processes v.to)) (step.drops s id v)) t is in
+    let (y, gone, last) = bind-is (step.why_ended (s.processes m.to)) (step.drops s id m) t rest in
     let k = when-is (service.is_dropped m.what) (without_message s id) t last in
-    let un = dropped_unawaited s id m y there (ended-is (s.processes m.to) y gone) (not_memory m.what k.0) h.movers in
+    let un = dropped_unawaited s id m y there (why_ended-is (s.processes m.to) y gone) (not_memory m.what k.0) h.movers in
     subst (After r e s (Label.Dropped id)) k.1
     (quiet r e s (without_message s id) (Label.Dropped id) (λ i. refl) (stayed s id) (Grown-bag s (without_message s id) (λ q. refl) (λ n. refl) refl refl) (leaves r e s id un h))
 
@@ -247,8 +247,8 @@ memory_asks _ e = cc
 
 pub after_gone : (r e : MsgId → ℕ) (s t : OneKernel) (id : MsgId) → step.step s (Label.Gone id) ≡ Some t → Sound r e s → After r e s (Label.Gone id) t
 after_gone r e s t id is h =
-    let (m, there, rest) = bind-is (s.bag id) (λ v. bind (step.ended (s.processes v.to)) (step.says_gone s id v)) t is in
-    let (y, gone, last) = bind-is (step.ended (s.processes m.to)) (step.says_gone s id m) t rest in
+    let (m, there, rest) = bind-is (s.bag id) (λ v. bind (step.why_ended (s.processes v.to)) (step.says_gone s id v)) t is in
+    let (y, gone, last) = bind-is (step.why_ended (s.processes m.to)) (step.says_gone s id m) t rest in
     let k = when-is (is_of_memory m.what) (with_sent (without_message s id) (Some (answer_to m PlainWhat.Gone))) t last in
     subst (After r e s (Label.Gone id)) k.1 (answer_row r e s id m PlainWhat.Gone (Label.Gone id) there (memory_asks m.what k.0) refl refl (sym k.0) (λ i. refl) h)
 
@@ -275,7 +275,7 @@ next_is_new s home h = none_below s (pid_of home (first_number + s.made home)) (
 created_row : (r e : MsgId → ℕ) (s t : OneKernel) (id : MsgId) (m : PlainMessage) (child : Pid) (links : List PlainLink) (image : BootImage) → s.bag id ≡ Some m → asks m.what ≡ true → is_of_memory m.what ≡ false
     → service.creates_of s id m child links image ≡ Some t → Sound r e s → After r e s (Label.Created id child) t
 created_row r e s t id m child links image there asking memory is h =
-    let u = service.with_child (without_message s id) child image links in
+    let u = service.with_created (without_message s id) child image links in
     let k = when-is _ (with_sent u (Some (answer_to m (PlainWhat.Created child)))) t is in
     let both = k.0 in
     let name : pid_eq child (pid_of m.to.home (first_number + s.made m.to.home)) ≡ true = grind (arith, nat_tests) in

@@ -57,10 +57,10 @@ if_lands p x false k c h e = cc
 
 lands_what-is : (p : Pid) (x : PlainProcess) (dir : Direction) (owner : Pid) (base own left : ℕ) (w : PlainWhat) (c : pieces.Landed) → pieces.lands_what p x dir owner base own left w ≡ Some c → LandsSo p x c
 lands_what-is p x Direction.FromArea owner base own left (PlainWhat.Block bytes) c e =
-    if_lands p x _ (pieces.goes_on p (record x { memory = pieces.written_at x.memory own bytes }) Direction.FromArea owner base own left (pieces.piece_of left)) c
+    if_lands p x _ (pieces.move_goes_on p (record x { memory = pieces.written_at x.memory own bytes }) Direction.FromArea owner base own left (pieces.piece_of left)) c
     (goes_on-lands p x (record x { memory = pieces.written_at x.memory own bytes }) Direction.FromArea owner (base + pieces.piece_of left) (own + pieces.piece_of left) (left - pieces.piece_of left) (left - pieces.piece_of left == 0) refl refl) e
 lands_what-is p x Direction.IntoArea owner base own left PlainWhat.Written c e =
-    if_lands p x _ (pieces.goes_on p x Direction.IntoArea owner base own left (pieces.piece_of left)) c (goes_on-lands p x x Direction.IntoArea owner (base + pieces.piece_of left) (own + pieces.piece_of left) (left - pieces.piece_of left) (left - pieces.piece_of left == 0) refl refl) e
+    if_lands p x _ (pieces.move_goes_on p x Direction.IntoArea owner base own left (pieces.piece_of left)) c (goes_on-lands p x x Direction.IntoArea owner (base + pieces.piece_of left) (own + pieces.piece_of left) (left - pieces.piece_of left) (left - pieces.piece_of left == 0) refl refl) e
 lands_what-is p x Direction.FromArea owner base own left PlainWhat.Gone c e = let k : pieces.done Reply.Gone x ≡ c = cc in subst (LandsSo p x) k (refl, refl)
 lands_what-is p x Direction.IntoArea owner base own left PlainWhat.Gone c e = let k : pieces.done Reply.Gone x ≡ c = cc in subst (LandsSo p x) k (refl, refl)
 lands_what-is p x _ owner base own left _ c e = cc

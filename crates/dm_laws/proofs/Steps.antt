@@ -136,23 +136,23 @@ runs s p x e =
     record { alive = alive-is (s.processes p) x (is ∙ ap Some k.0); still = sym (ap (λ (v : PlainProcess). pending_of v.status) k.0) ∙ k.1 }
 
 -- what a process that has a call or a fault next is, and what the call counts
-abbrev pub NextCounts : Pid → PlainProcess → step.Next → Type 0
+abbrev pub NextCounts : Pid → PlainProcess → step.Trap → Type 0
 NextCounts p x (step.Calls number called) = (y : PlainProcess) × (y.sent ≡ x.sent) × (pending_of y.status ≡ pending_of x.status) × Counts p y called
 NextCounts p x (step.Faults fault) = ⊤
 
-next_row-counts : (p : Pid) (x : PlainProcess) (w : Row) (n : step.Next) → step.next_row p x w ≡ Some n → NextCounts p x n
+next_row-counts : (p : Pid) (x : PlainProcess) (w : Row) (n : step.Trap) → step.next_row p x w ≡ Some n → NextCounts p x n
 next_row-counts p x (Row.Plain regs bytes) n e = cc
 next_row-counts p x (Row.Calls number regs) n e =
     let k : step.Calls number (calls.call p (record x { regs = regs }) number) ≡ n = cc in
     subst (NextCounts p x) k (record x { regs = regs }, refl, refl, call-counts p (record x { regs = regs }) number)
 next_row-counts p x (Row.Faults fault) n e = let k : step.Faults fault ≡ n = cc in subst (NextCounts p x) k tt
 
-pub record Nexts (s : OneKernel) (p : Pid) (n : step.Next) : Type 0 where
+pub record Nexts (s : OneKernel) (p : Pid) (n : step.Trap) : Type 0 where
   pub x : PlainProcess
   pub is : Runs s p x
   pub counts : NextCounts p x n
 
-pub nexts : (s : OneKernel) (p : Pid) (n : step.Next) → step.next s p ≡ Some n → Nexts s p n
+pub nexts : (s : OneKernel) (p : Pid) (n : step.Trap) → step.next_trap s p ≡ Some n → Nexts s p n
 nexts s p n e =
     let (x, is, row_is) = bind-is (step.running s p) (λ v. step.next_row p v (instruction v.regs v.memory)) n e in
     record { x = x; is = runs s p x is; counts = next_row-counts p x (instruction x.regs x.memory) n row_is }
@@ -174,7 +174,7 @@ process_goes : (r e : MsgId → ℕ) (s : OneKernel) (p : Pid) (x y : PlainProce
 process_goes r e s p x y l is sent pending none h =
     quiet r e s (step.goes_on s p y) l none (λ i z f. f) (Grown-process s (step.goes_on s p y) p x y is (omega (arith, sent)) (λ q. refl) (λ n. refl) refl refl) (goes r e s p x y is sent pending h)
 
-pub after_replies : (r e : MsgId → ℕ) (s t : OneKernel) (p : Pid) (n : ℕ) (c : Reply) (next : step.Next) → Nexts s p next → step.replies s p n c next ≡ Some t → Sound r e s → After r e s (Label.Call p n c) t
+pub after_replies : (r e : MsgId → ℕ) (s t : OneKernel) (p : Pid) (n : ℕ) (c : Reply) (next : step.Trap) → Nexts s p next → step.replies s p n c next ≡ Some t → Sound r e s → After r e s (Label.Call p n c) t
 after_replies r e s t p n c (step.Calls number (calls.Replies reply y)) w is h =
     let (z, sent, pending, counted) = w.counts in
     let k = when-is _ (step.goes_on s p y) t is in
@@ -204,7 +204,7 @@ process_sends r e s p x y m l is sent none h =
     puts r e s u m l none (was_none r e s (with_sent u (Some m)) m.id m (sent_at u m m.id (id_eq-same m.id)) after h) (λ i z f. f)
     (Grown-process s (with_sent u (Some m)) p x y is (omega (arith, count)) (λ q. refl) (λ n. refl) refl refl) after
 
-pub after_sends : (r e : MsgId → ℕ) (s t : OneKernel) (p : Pid) (id : MsgId) (next : step.Next) → Nexts s p next → step.sends s p id next ≡ Some t → Sound r e s → After r e s (Label.Send p id) t
+pub after_sends : (r e : MsgId → ℕ) (s t : OneKernel) (p : Pid) (id : MsgId) (next : step.Trap) → Nexts s p next → step.sends s p id next ≡ Some t → Sound r e s → After r e s (Label.Send p id) t
 after_sends r e s t p id (step.Calls number (calls.Sends m y)) w is h =
     let (z, sent, pending, counted) = w.counts in
     let k = when-is _ (with_sent (step.goes_on s p y) (Some m)) t is in
@@ -212,14 +212,14 @@ after_sends r e s t p id (step.Calls number (calls.Sends m y)) w is h =
     (process_sends r e s p w.x y m (Label.Send p id) w.is.alive (Sent-from p w.x z m y sent pending counted) (λ i. refl) h)
 after_sends r e s t p id _ w is h = cc
 
-pub after_waits : (r e : MsgId → ℕ) (s t : OneKernel) (p : Pid) (next : step.Next) → Nexts s p next → step.waits s p next ≡ Some t → Sound r e s → After r e s (Label.Wait p) t
+pub after_waits : (r e : MsgId → ℕ) (s t : OneKernel) (p : Pid) (next : step.Trap) → Nexts s p next → step.waits s p next ≡ Some t → Sound r e s → After r e s (Label.Wait p) t
 after_waits r e s t p (step.Calls number (calls.Waits y)) w is h =
     let (z, sent, pending, counted) = w.counts in
     let k : step.goes_on s p y ≡ t = cc in
     subst (After r e s (Label.Wait p)) k (process_goes r e s p w.x y (Label.Wait p) w.is.alive (counted.0 ∙ sent) (inr counted.1) (λ i. refl) h)
 after_waits r e s t p _ w is h = cc
 
-pub after_outputs : (r e : MsgId → ℕ) (s t : OneKernel) (p : Pid) (word : ℕ) (next : step.Next) → Nexts s p next → step.outputs s p word next ≡ Some t → Sound r e s → After r e s (Label.Out p word) t
+pub after_outputs : (r e : MsgId → ℕ) (s t : OneKernel) (p : Pid) (word : ℕ) (next : step.Trap) → Nexts s p next → step.outputs s p word next ≡ Some t → Sound r e s → After r e s (Label.Out p word) t
 after_outputs r e s t p word (step.Calls number (calls.Outputs put y)) w is h =
     let (z, sent, pending, counted) = w.counts in
     let k = when-is _ (step.goes_on s p y) t is in
@@ -230,7 +230,7 @@ process_ends : (r e : MsgId → ℕ) (s : OneKernel) (p : Pid) (x : PlainProcess
 process_ends r e s p x y l is none h =
     quiet r e s (with_process s p (Ended y)) l none (λ i z f. f) (Grown-ended s (with_process s p (Ended y)) p x y is (λ q. refl) (λ n. refl) refl refl) (ending r e s p x y is h)
 
-pub after_ends : (r e : MsgId → ℕ) (s t : OneKernel) (p : Pid) (y : Why) (next : step.Next) → Nexts s p next → step.ends s p y next ≡ Some t → Sound r e s → After r e s (Label.End p y) t
+pub after_ends : (r e : MsgId → ℕ) (s t : OneKernel) (p : Pid) (y : Why) (next : step.Trap) → Nexts s p next → step.ends s p y next ≡ Some t → Sound r e s → After r e s (Label.End p y) t
 after_ends r e s t p y (step.Calls number (calls.Replies reply z)) w is h = cc
 after_ends r e s t p y (step.Calls number (calls.Sends m z)) w is h = cc
 after_ends r e s t p y (step.Calls number (calls.Waits z)) w is h = cc

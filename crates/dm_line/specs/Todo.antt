@@ -40,8 +40,8 @@ pub record Next : Type 0 where
   pub step : Step
   pub left : Todo
 
-abbrev pub next : Step → Todo → Option Next
-next s t = Some (record { step = s; left = t })
+abbrev pub next_and_left : Step → Todo → Option Next
+next_and_left s t = Some (record { step = s; left = t })
 
 -- no pass is left, but these directives
 abbrev pub all_of : List Directive → Todo
@@ -67,10 +67,10 @@ takes_turn Settle mail m = mail m
 -- the turn of the next machine that takes its own, once no delivery is left
 abbrev pub next_turn : (ℕ → Bool) → Todo → List ℕ → Option Next
 next_turn takes t [] = None
-next_turn takes t (m ∷ ms) = if takes m then next (step.Turn m) (record t { pairs = []; machines = ms }) else next_turn takes t ms
+next_turn takes t (m ∷ ms) = if takes m then next_and_left (step.Turn m) (record t { pairs = []; machines = ms }) else next_turn takes t ms
 
 abbrev pub in_pass : (ℕ → Bool) → Todo → Option (Step × List Two) → Option Next
-in_pass mail t (Some d) = next d.0 (record t { pairs = d.1 })
+in_pass mail t (Some d) = next_and_left d.0 (record t { pairs = d.1 })
 in_pass mail t None = next_turn (takes_turn t.pass mail) t t.machines
 
 abbrev pub or : {A : Type 0} → Option A → Option A → Option A
@@ -88,7 +88,7 @@ settles quiet pass behind = if quiet then behind else or pass behind
 -- the next directive; a spin of no rounds is passed over
 abbrev pub next_directive : ℕ → (ℕ → ℕ → Option ℕ) → (ℕ → Bool) → Bool → List Directive → Option Next
 next_directive machines first mail quiet [] = None
-next_directive machines first mail quiet (directive.One s ∷ ds) = next s (all_of ds)
+next_directive machines first mail quiet (directive.One s ∷ ds) = next_and_left s (all_of ds)
 next_directive machines first mail quiet (directive.Round ∷ ds) = begin_pass machines first mail (Round 0) ds
 next_directive machines first mail quiet (directive.Spin zero ∷ ds) = next_directive machines first mail quiet ds
 next_directive machines first mail quiet (directive.Spin (suc n) ∷ ds) = begin_pass machines first mail (Round n) ds

@@ -5,5 +5,5 @@ use Rattle.dm_memory.specs.declared.of_args.ArgsError.{ArgsError}
 use Rattle.dm_memory.specs.declared.of_args.ArgsError.TheVariants as why
 
 -- there are none for want of memory
-abbrev pub IsWant : ArgsError → Type 0
-IsWant e = (none : NoMemory) × (e ≡ why.NoMemory none)
+abbrev pub ArgsLackMemory : ArgsError → Type 0
+ArgsLackMemory e = (none : NoMemory) × (e ≡ why.NoMemory none)

@@ -13,5 +13,5 @@ FailsBy kinds (Err Refused) = kinds ≡ [] → ⊥
 FailsBy kinds (Err (NoMemory _)) = Unit {0}
 
 -- there are no matches for want of memory
-abbrev pub IsWant : MatchesError → Type 0
-IsWant e = (none : TheNoMemory) × (e ≡ NoMemory none)
+abbrev pub MatchesLackMemory : MatchesError → Type 0
+MatchesLackMemory e = (none : TheNoMemory) × (e ≡ NoMemory none)

@@ -5,5 +5,5 @@ use Rattle.dm_memory.specs.declared.of_toml.DocumentError.{DocumentError}
 use Rattle.dm_memory.specs.declared.of_toml.DocumentError.TheVariants as why
 
 -- there is none for want of memory
-abbrev pub IsWant : DocumentError → Type 0
-IsWant e = (none : NoMemory) × (e ≡ why.NoMemory none)
+abbrev pub DocumentLacksMemory : DocumentError → Type 0
+DocumentLacksMemory e = (none : NoMemory) × (e ≡ why.NoMemory none)

@@ -3,7 +3,7 @@
 ghost use Rattle.std.specs.Prelude.{◌≡◌, ◌↔◌, IfOk};
 ghost use Rattle.std.specs.Vec.Iter.{into_iter_steps};
 ghost use Rattle.std.specs.Iterator.Runs.{WholeRun};
-ghost use Rattle.dm_memory.specs.Args.{IsWant};
+ghost use Rattle.dm_memory.specs.Args.{ArgsLackMemory};
 
 use crate::NoMemory;
 use std::alloc::Global;
@@ -30,7 +30,7 @@ pub fn args(rt: &HostRuntime) -> Result<Args, ArgsError> {
 
 /// Why there are no words: only one kind of error is want of memory.
 fn no_args(kind: ErrorKind) -> ArgsError
-    ensures { IsWant result ↔ (kind ≡ ErrorKind.OutOfMemory) }
+    ensures { ArgsLackMemory result ↔ (kind ≡ ErrorKind.OutOfMemory) }
 {
     match kind {
         ErrorKind::OutOfMemory => ArgsError::NoMemory(NoMemory(())),

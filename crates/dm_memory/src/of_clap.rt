@@ -3,7 +3,7 @@
 //! the call that it answers.
 ghost use Rattle.std.specs.Prelude.{◌≡◌, ◌↔◌, IfOk, map, true};
 ghost use Rattle.clap.specs.Words.{AddsArg, AddsSubcommand, HasMatchesOf, app_of, fault_of, is_simple_and_free};
-ghost use Rattle.dm_memory.specs.Clap.{FailsBy, IsWant};
+ghost use Rattle.dm_memory.specs.Clap.{FailsBy, MatchesLackMemory};
 
 use crate::NoMemory;
 use clap::error::ErrorKind;
@@ -57,7 +57,7 @@ pub fn matches_from<'a>(
 
 /// Why there are no matches: only one kind of error is want of memory.
 fn no_matches(kind: ErrorKind) -> MatchesError
-    ensures { IsWant result ↔ (kind ≡ ErrorKind.OutOfMemory) }
+    ensures { MatchesLackMemory result ↔ (kind ≡ ErrorKind.OutOfMemory) }
 {
     match kind {
         ErrorKind::OutOfMemory => MatchesError::NoMemory(NoMemory(())),

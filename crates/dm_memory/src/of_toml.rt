@@ -4,7 +4,7 @@ ghost use Rattle.std.specs.Prelude.{◌≡◌, ◌↔◌, IfErr, IfOk, IsUtf8, N
 ghost use Rattle.toml.specs.Errors.{IsBlank, IsMemory};
 ghost use Rattle.toml.specs.Parse.{parse_document};
 ghost use Rattle.toml.specs.View.{table_view};
-ghost use Rattle.dm_memory.specs.Toml.{IsWant};
+ghost use Rattle.dm_memory.specs.Toml.{DocumentLacksMemory};
 
 use crate::NoMemory;
 use std::alloc::Global;
@@ -24,7 +24,7 @@ pub enum DocumentError {
 pub fn table_from_slice(alloc: Global, bytes: &[u8]) -> Result<Table, DocumentError>
     ensures ok { IfOk result (λ table. IsUtf8 bytes.now × (parse_document bytes.now ≡ Some (table_view table))) }
     ensures unread { IfErr result (λ no. no ≡ DocumentError.Unread → IsUtf8 bytes.now → parse_document bytes.now ≡ None) }
-    ensures want { IfErr result (λ no. IsWant no → ¬ (IsBlank bytes.now)) }
+    ensures want { IfErr result (λ no. DocumentLacksMemory no → ¬ (IsBlank bytes.now)) }
 {
     match toml::table_from_slice(alloc, bytes) {
         Ok(table) => Ok(table),
@@ -34,7 +34,7 @@ pub fn table_from_slice(alloc: Global, bytes: &[u8]) -> Result<Table, DocumentEr
 
 /// Why there is no document: only one kind of error is want of memory.
 fn no_document(error: &Error) -> DocumentError
-    ensures { IsWant result ↔ IsMemory error.now }
+    ensures { DocumentLacksMemory result ↔ IsMemory error.now }
 {
     if error.is_memory() {
         DocumentError::NoMemory(NoMemory(()))

@@ -4,11 +4,11 @@ use Rattle.dm_link.specs.declared.Pid.{Pid}
 use Rattle.dm_message.specs.declared.What.{What}
 use Rattle.dm_message.specs.declared.What.TheVariants as what
 use Rattle.dm_process.specs.declared.process.Process.{Process}
-use Rattle.dm_statebytes.specs.Shell.{shell_of, spelling}
+use Rattle.dm_statebytes.specs.Shell.{shell_of, shell_spelling}
 
 -- the state bytes of a process: all of it but its memory and its queue
 abbrev pub state_of : Process → List ℕ
-state_of p = spelling (shell_of p)
+state_of p = shell_spelling (shell_of p)
 
 -- state bytes have a chunk of this number
 abbrev pub HasChunk : List ℕ → ℕ → Type 0

@@ -1,7 +1,7 @@
 -- A run of directives is a run of more of them, as far as it has come.
 use Rattle.dm_mirror.proofs.Names.{◌≡◌, ℕ, zero, suc, Bool, true, false, List, [], ◌∷◌, ◌++◌, refl, ap, ◌∙◌, if◌then◌else◌, option_map, Option, None, Some, Boot, Step, Directive, Line, Pass, Todo, Next, Two, begin_pass, below, following}
 use Rattle.dm_mirror.proofs.Names.{in_pass, is_over, next_delivery, next_directive, next_pass, next_turn, or, pairs_of, pass_begun, settles, takes_turn, undelivered, IsRun, Point, has_mail, is_quiet}
-use Rattle.dm_line.specs.Todo.{next}
+use Rattle.dm_line.specs.Todo.{next_and_left}
 
 -- with more directives behind
 abbrev pub behind : List Directive → Todo → Todo
@@ -11,7 +11,7 @@ abbrev pub next_behind : List Directive → Next → Next
 next_behind more n = record { step = n.step; left = behind more n.left }
 
 turn_or_behind : (more : List Directive) (t : Todo) (m : ℕ) (ms : List ℕ) (b : Bool) (o p : Option Next) → p ≡ option_map (next_behind more) o
-    → (if b then next (Step.Turn m) (record (behind more t) { pairs = []; machines = ms }) else p) ≡ option_map (next_behind more) (if b then next (Step.Turn m) (record t { pairs = []; machines = ms }) else o)
+    → (if b then next_and_left (Step.Turn m) (record (behind more t) { pairs = []; machines = ms }) else p) ≡ option_map (next_behind more) (if b then next_and_left (Step.Turn m) (record t { pairs = []; machines = ms }) else o)
 turn_or_behind more t m ms true o p e = refl
 turn_or_behind more t m ms false o p e = e
 

@@ -87,11 +87,11 @@ module _ (b : Boot) (w : WorldState) (pt : Point) (l : Placed) (h : History) (a 
   }
 
   -- what is read of the packet arrives
-  read_is : (p : stream.Packet Message) (carried : Load Message) (x : Packet) → slice_get (h.packets a c) k ≡ Some p → p.load ≡ carried → packet_of (spelling (out.packet_of a c carried)) ≡ Ok x
+  read_is : (p : stream.Packet Message) (carried : Load Message) (x : Packet) → slice_get (h.packets a c) k ≡ Some p → p.load ≡ carried → packet_of (spelling (out.packet_of_load a c carried)) ≡ Ok x
       → world_step b w (Step.Deliver a c k) ≡ reads (record w { wires = after_mark w.wires a c k }) (Step.Deliver a c k) a c (Ok x)
   read_is p carried x is loads read =
-      let put : bytes_at (w.wires a c) k ≡ Some (spelling (out.packet_of a c carried)) =
-      bytes_are b l a c (ends_of w h a c) (w.wires a c) (pt.view.pair a c) k there ∙ ap (option_map (bytes_for a c)) is ∙ ap (λ (z : Load Message). Some (spelling (out.packet_of a c z))) loads in
+      let put : bytes_at (w.wires a c) k ≡ Some (spelling (out.packet_of_load a c carried)) =
+      bytes_are b l a c (ends_of w h a c) (w.wires a c) (pt.view.pair a c) k there ∙ ap (option_map (bytes_for a c)) is ∙ ap (λ (z : Load Message). Some (spelling (out.packet_of_load a c z))) loads in
       ap (delivers w (Step.Deliver a c k) a c k) put ∙ ap (reads (record w { wires = after_mark w.wires a c k }) (Step.Deliver a c k) a c) read
 
   said_is : (p : stream.Packet Message) → slice_get (h.packets a c) k ≡ Some p → slice_get (pt.view.pair a c).wire k ≡ Some (line_of p)
@@ -168,10 +168,10 @@ may_act b w pt l h m valid s m_in machines_are others =
     }
 
 module _ (b : Boot) (w : WorldState) (pt : Point) (l : Placed) (h : History) (a c k : ℕ) (s : StandsWith b w pt l h) (counted : CountsStand w pt) (a_in : a < pt.kernel.machines) (c_in : c < pt.kernel.machines) (apart : a ≢ c) where
-  may_read : (p : stream.Packet Message) (carried : Load Message) (x : Packet) → slice_get (h.packets a c) k ≡ Some p → p.load ≡ carried → packet_of (spelling (out.packet_of a c carried)) ≡ Ok x → MayRead w a c (Ok x) → MayDeliver w a c (bytes_at (w.wires a c) k)
+  may_read : (p : stream.Packet Message) (carried : Load Message) (x : Packet) → slice_get (h.packets a c) k ≡ Some p → p.load ≡ carried → packet_of (spelling (out.packet_of_load a c carried)) ≡ Ok x → MayRead w a c (Ok x) → MayDeliver w a c (bytes_at (w.wires a c) k)
   may_read p carried x is loads read may =
-      let put : bytes_at (w.wires a c) k ≡ Some (spelling (out.packet_of a c carried)) =
-      bytes_are b l a c (ends_of w h a c) (w.wires a c) (pt.view.pair a c) k (there_pair b w pt l h a c s a_in c_in apart) ∙ ap (option_map (bytes_for a c)) is ∙ ap (λ (z : Load Message). Some (spelling (out.packet_of a c z))) loads in
+      let put : bytes_at (w.wires a c) k ≡ Some (spelling (out.packet_of_load a c carried)) =
+      bytes_are b l a c (ends_of w h a c) (w.wires a c) (pt.view.pair a c) k (there_pair b w pt l h a c s a_in c_in apart) ∙ ap (option_map (bytes_for a c)) is ∙ ap (λ (z : Load Message). Some (spelling (out.packet_of_load a c z))) loads in
       subst (MayDeliver w a c) (sym put) (subst (MayRead w a c) (sym read) may)
 
   may_with : (p : stream.Packet Message) (carried : Load Message) → a < 16 → c < 16 → slice_get (h.packets a c) k ≡ Some p → p.load ≡ carried → MayAct (w.nodes c) → ReadsAs w h a c k → MayDeliver w a c (bytes_at (w.wires a c) k)

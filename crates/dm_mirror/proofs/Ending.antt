@@ -1,7 +1,7 @@
 -- Where everything stands at the end is what the printed lines say.
 use Rattle.dm_mirror.proofs.Names.{◌≡◌, ℕ, ◌+◌, ◌<◌, List, [], ◌∷◌, ◌++◌, length, ap, ◌∙◌, sym, arith, nat_tests, pid_of, Boot, IsValid, first_number, Step, EndLine, each_machine, list_line, first_with, Leads, Point, first_point, pair_home}
 use Rattle.dm_mirror.proofs.Names.{Run, Placed, WorldState, History, StandsWith, MadeStands, EndIsSaid}
-use Rattle.dm_rule.specs.Ends.{has}
+use Rattle.dm_rule.specs.Ends.{standing_of}
 use Rattle.dm_rule.specs.Ends as rule
 use Rattle.dm_rule.specs.Spots as spots
 use Rattle.dm_world.specs.Ends as world
@@ -31,7 +31,7 @@ processes_said b w pt l h f =
 
 queues_said : (b : Boot) (w : WorldState) (pt : Point) (l : Placed) (h : History) → Final b w pt l h → world.homes_with w (world.queue_of pt.kernel.machines w) pt.kernel.machines ≡ rule.queue_lines pt
 queues_said b w pt l h f =
-    homes_same w pt (world.queue_of pt.kernel.machines w) (λ p. rule.queue_at pt.view p (first_with has pt.view p pt.kernel.machines)) pt.kernel.machines (λ m below. made_same b w pt l h m below f)
+    homes_same w pt (world.queue_of pt.kernel.machines w) (λ p. rule.queue_at pt.view p (first_with standing_of pt.view p pt.kernel.machines)) pt.kernel.machines (λ m below. made_same b w pt l h m below f)
     (λ home n below fewer. queue_said b w pt l h (pid_of home (first_number + n)) (of_home b w pt l h home n below f) (f.made.all home n below fewer))
 
 -- the servers are on machine 0

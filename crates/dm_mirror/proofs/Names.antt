@@ -14,7 +14,7 @@ pub use Rattle.dm_stream.proofs.Lists.{drop-more, get-drop}
 pub use Rattle.dm_stream.proofs.Names.{Ack, Acknowledge, Data, Deliver, DeliverBack, Event, Give, GoAgain, GoOut, OtherAck, OtherData, Receiving, Sending, Stream, TakeKept, cases_Bool, due, given_count, goes_again, happens, inl, inr}
 pub use Rattle.dm_stream.proofs.Names.{is_some, just_put, kept_once, kept_under, max, moved_up, nat_lt, next, outstanding, place, slice_get_within, subst, window, ◌≢◌, ◌⊎◌}
 pub use Rattle.dm_stream.proofs.Places.{place-kept_other, place-kept_same, place-moved_up}
-pub use Rattle.dm_stream.proofs.Together.{Stands-happens, Stands-start}
+pub use Rattle.dm_stream.proofs.Together.{StreamStands-happens, StreamStands-start}
 pub use Rattle.dm_stream.specs.Packets.{load_in}
 unfoldable pub use Rattle.dm_stream.specs.Packets.{load_at}
 pub use Rattle.dm_stream.specs.Receiving.{advanced}
@@ -22,14 +22,14 @@ pub use Rattle.dm_message.specs.Kinds.{IsKindOfPlain}
 pub use Rattle.dm_linktable.proofs.Names.{Link, Ok, count_by, eqb, length-map, link_at, map, slot_is_behind, ◌&&◌, ◌==◌}
 pub use Rattle.dm_packet.proofs.Coded.{packet_kind_is}
 pub use Rattle.dm_packet.proofs.Fields.{machine_is}
-pub use Rattle.dm_packet.proofs.Names.{Addr, All, All-push, IfSome, IsLawfulMessage, IsMachine, IsRoute, Message, MessageKind, MsgId, What, append-nil, append_assoc, ended, eq-eqb, eqb-true, flat_map, flat_map-cons, kind_of, length-append}
-pub use Rattle.dm_packet.proofs.Names.{machine, message, nat_le, not, number, numbered_message, opening, other_machine, packet_kind, spell_message, version, ◌>>=◌}
+pub use Rattle.dm_packet.proofs.Names.{Addr, All, All-push, IfSome, IsLawfulMessage, IsMachine, IsRoute, Message, MessageKind, MsgId, What, append-nil, append_assoc, eq-eqb, eqb-true, flat_map, flat_map-cons, kind_of, length-append}
+pub use Rattle.dm_packet.proofs.Names.{machine, message, nat_le, not, number, numbered_message, only_packet, opening, other_machine, packet_kind, spell_message, version, ◌>>=◌}
 pub use Rattle.dm_packet.proofs.Packets.{packet_again}
 unfoldable pub use Rattle.dm_packet.specs.Packets.{packet_of, read_rest, spelling}
 pub use Rattle.dm_packet.specs.declared.front.Opening.{Opening}
 pub use Rattle.dm_packet.specs.declared.front.PacketKind.{PacketKind}
 pub use Rattle.dm_process.proofs.Names.{first_on, is_on, without_first_on}
-pub use Rattle.dm_process.specs.Begun.{begun as begun_process}
+pub use Rattle.dm_process.specs.Begun.{begun_process}
 pub use Rattle.dm_process.specs.Process.{status_is_runnable}
 pub use Rattle.dm_linkupdate.proofs.Names.{IsLawfulProcess, IsLawfulStatus, None, Process, Status, applied}
 pub use Rattle.dm_statebytes.proofs.Names.{Direction, IsField, IsField-both, IsField-for, IsField-made, IsField-number, IsField-tested, PacketError, Regs, guard_ok, length-drop, mask_of, shell_of, spell_slot, spell_status}
@@ -41,13 +41,13 @@ pub use Rattle.dm_migrate.proofs.Way.{by_pieces}
 pub use Rattle.dm_migrate.specs.Answer.{IsAskOfProcess}
 pub use Rattle.dm_switchboard.proofs.Imports.{ArrayVec, Board, Named, is_general, named_is_behind, plain_board, plain_link, plain_named, switchboard}
 pub use Rattle.dm_switchboard.proofs.Plain.{plain_request}
-pub use Rattle.dm_procman.proofs.Names.{Boot, BootProcess, IsForManager, IsValid, Managing, PlainLink, answer_over, at_home, child_named, control_link, manager, message_to, moves_child, pending_is_behind, pending_numbered, plain_child}
+pub use Rattle.dm_procman.proofs.Names.{Boot, BootProcess, IsForManager, IsValid, Managing, PlainLink, answer_over, at_home, child_named, control_link, manager, message_to, moves_child, pending_is_behind, pending_request, plain_child}
 pub use Rattle.dm_procman.proofs.Names.{plain_manager, plain_pending, process_is_valid, processes_are_valid, slice_get-map, starting_at, tells_to_move, ◌||◌}
 pub use Rattle.dm_procman.proofs.Plain.{plain_created, plain_no_room, plain_user}
 pub use Rattle.dm_laws.proofs.Names.{Alive, BootImage, Called, Label, Life, Manager, Moving, OneKernel, PlainMessage, PlainProcess, PlainStatus, Ready, Reply, Switchboard, Waiting, Why, answer_id, answer_to, bind, entry, false≢true}
 pub use Rattle.dm_laws.proofs.Names.{first_failed, first_life, first_number, id_eq, id_of, is_of_memory, life_at, option_map, pid_of, reception, replay, start, when, with_process, without_message, ⊤}
 pub use Rattle.dm_laws.proofs.Runs.{reached, received_once}
-pub use Rattle.dm_laws.proofs.Servers.{board_takes, manager_takes}
+pub use Rattle.dm_laws.proofs.Servers.{board_takes_lem, manager_takes_lem}
 pub use Rattle.dm_laws.proofs.Sound.{not_counted}
 pub use Rattle.dm_laws.proofs.Steps.{Completing, after_ran}
 pub use Rattle.dm_datamove.proofs.Names.{All-nil, IsAnswerOf, IsAwaited, IsWithin, Landing, after_serving, answer, answer_of, answer_with, piece_of, plain_landed, plain_process, plain_status, serving_answer, written_at}
@@ -66,14 +66,14 @@ pub use Rattle.dm_rule.proofs.Moves.Sent.{fits_packet, fits_put}
 pub use Rattle.dm_rule.proofs.Names.{About, Addresses, Again, Child, Directive, Ended, Fault, Forward, Frozen, Gets, Held, Here, HomeStands, Inbox, Incoming, IsIn, IsStep, IsToken, Known, LandsSo, Leads, Line, Load, Made, Moves, Name}
 pub use Rattle.dm_rule.proofs.Names.{NamedLink, Next, Nexts, NothingElse, Nowhere, Of, Over, Owns, Pair, Part, Phase, Place, Point, Queue, Receiver, Rests, Room, Routes, Says, Sender, ServerSends, Slot, Sort, Sound, Spelled, Spot, Stage}
 pub use Rattle.dm_rule.proofs.Names.{StandsAsBag, StandsNowhere, StandsOnce, StandsOutside, StandsRight, Step, Todo, Told, Transmits, Unknown, Untaken, View, actor, addresses_after, after, after_label, after_line, after_packet, after_proto}
-pub use Rattle.dm_rule.proofs.Names.{after_put, after_step, alive-is, all_of, ascends, at_id, at_least, at_machine, at_pair, at_pid, at_record, begins, behind_count, bind-is, child_number, chunks_of, comes, comes_to, counts, counts_process}
+pub use Rattle.dm_rule.proofs.Names.{after_put, after_step, alive-is, all_of, ascends, at_id, at_least, at_machine, at_pair, at_pid, at_record, begins, behind_count, bind-is, child_number, chunks_of, comes_to, counts, counts_process}
 pub use Rattle.dm_rule.proofs.Names.{dropped_for, ended_told, filter, first_gives, first_point, first_view, fits, forward_about, forwarded_for, forwards_on, free_room, front_of, front_told, gets, given, goes_out, gone_after, gone_to}
 pub use Rattle.dm_rule.proofs.Names.{group_of, handled, has, has_mail, headed, hears, here_told, id_eq-is, id_eq-same, id_eq-swap, ids_at, is_apart, is_away, is_between, is_counted, is_due, is_early, is_here, is_kernels, is_quiet}
-pub use Rattle.dm_rule.proofs.Names.{is_restart, is_told_back, kept_from, kernel_after, kernel_hears, kernel_told, known_at, knows, label_of, lands-is, left_true, less, lines_of, marked, migrates, migrates_child, more, moved, moved_back}
-pub use Rattle.dm_rule.proofs.Names.{next_step, nexts, not_server, numbers_from, oldest, outcome, own_given, own_gives, own_id, packet_line, pair_is_quiet, pid_eq-is, pid_eq-same, pieces_of, place_of, place_of_child, place_told, plain_kind}
-pub use Rattle.dm_rule.proofs.Names.{process_told, puts, queued_for, receiver_in, receiver_of, repeats, resends, right_true, ring_at, routed_on, sender_in, sends_on, server_told, slice_get_cases, slots_of, slots_with, sort_of, spelled}
-pub use Rattle.dm_rule.proofs.Names.{standing, takes, takes_block, takes_chunk, target_of, times, to_kernel, to_of, token_in, told_between, unentered, unmoved, untaken, updates, view_after, when-is, with_pair, without, without_first}
-pub use Rattle.dm_rule.proofs.Names.{without_front, without_id}
+pub use Rattle.dm_rule.proofs.Names.{is_restart, is_told_back, kept_from, kernel_after, kernel_hears, kernel_told, kind_comes, known_at, knows, label_of, lands-is, left_true, less, lines_of, marked, migrates, migrates_child, more, moved}
+pub use Rattle.dm_rule.proofs.Names.{moved_back, next_step, nexts, not_server, numbers_from, oldest, outcome, own_given, own_gives, own_id, packet_line, pair_is_quiet, pid_eq-is, pid_eq-same, pieces_of, place_of, place_of_child, place_told}
+pub use Rattle.dm_rule.proofs.Names.{plain_kind, process_told, puts, queued_for, receiver_in, receiver_of, repeats, resends, right_true, ring_at, routed_on, sender_in, sends_on, server_told, slice_get_cases, slots_of, slots_with, sort_of}
+pub use Rattle.dm_rule.proofs.Names.{spelled, standing, takes_block, takes_chunk, taking_parts, target_of, times, to_kernel, to_of, token_in, told_between, unentered, unmoved, untaken, updates, view_after, when-is, with_pair, without}
+pub use Rattle.dm_rule.proofs.Names.{without_first, without_front, without_id}
 pub use Rattle.dm_rule.proofs.Pairs.{Pairs, pair_home, pair_stands, pairs_stand_always}
 pub use Rattle.dm_rule.proofs.Pairs.Comes.{less-right, more-is}
 pub use Rattle.dm_rule.proofs.Pairs.Lines.{AllFit, forwarded_pair, held_pair, label_pair, onward, pair_same, proto_pair, queued_pair, stage_pair, taken_pair, touches}
@@ -95,7 +95,7 @@ pub use Rattle.dm_rule.proofs.Turns.{machine_same}
 pub use Rattle.dm_rule.specs.Ends.{Stood, first_with, stood_at}
 pub use Rattle.dm_rule.specs.Good.{IsKept, first_undelivered, undelivered}
 pub use Rattle.dm_rule.specs.Migrating.{link_size, links_size, state_size, status_size}
-pub use Rattle.dm_rule.specs.Phases.{is_unknown, leaves}
+pub use Rattle.dm_rule.specs.Phases.{is_unknown, kind_leaves}
 pub use Rattle.dm_rule.specs.Rule.{and, blocks_of, taken_at, taken_by, taken_of_home, takes_room}
 pub use Rattle.dm_rule.specs.View.{serving}
 pub use Rattle.dm_rule.specs.Worn.{full_pair, is_full, worn_in}

@@ -4,7 +4,7 @@ use Rattle.dm_mirror.proofs.Names.{All-head, All-tail, All-append, All-push, Mes
 use Rattle.dm_mirror.proofs.Names.{in_pass, or, begin_pass, settles, next_directive, next_pass, is_over, following, first_undelivered, IsStep, Leads, Point, first_point, has_mail, is_quiet, based_always, Placed, WorldState, first_unseen}
 use Rattle.dm_mirror.proofs.Names.{History, PairStands, Stands, bytes_of, line_of, IsTwo, IsDirective, IsTodo, NextIsSaid}
 use Rattle.dm_stream.specs.Packets as stream
-use Rattle.dm_line.specs.Todo.{next}
+use Rattle.dm_line.specs.Todo.{next_and_left}
 use Rattle.dm_rule.specs.Good as rule
 use Rattle.dm_world.specs.Next as world
 use Rattle.dm_mirror.proofs.QuietSaid.{mail_same, quiet_same}
@@ -18,10 +18,10 @@ first_same : (a c k : ℕ) (ps : List (stream.Packet Message)) → first_unseen 
 first_same a c k [] = refl
 first_same a c k (p ∷ ps) = ap (λ (o : Option ℕ). if p.delivered then o else Some k) (first_same a c (k + 1) ps)
 
-undelivered_same : (b : Boot) (w : WorldState) (pt : Point) (l : Placed) (h : History) (a c : ℕ) → PairStands b pt l w h a c → world.undelivered w a c ≡ rule.undelivered pt.view a c
+undelivered_same : (b : Boot) (w : WorldState) (pt : Point) (l : Placed) (h : History) (a c : ℕ) → PairStands b pt l w h a c → world.world_undelivered w a c ≡ rule.undelivered pt.view a c
 undelivered_same b w pt l h a c p = ap (first_unseen 0) p.bytes ∙ (first_same a c 0 (h.packets a c) ∙ ap (first_undelivered 0) p.packets)
 
-pub undelivered_said : (b : Boot) (es : List Step) (w : WorldState) (pt : Point) (a c : ℕ) → IsValid b → Leads b (first_point b) es pt → Stands b w pt → a < length b.machines → c < length b.machines → a ≢ c → world.undelivered w a c ≡ rule.undelivered pt.view a c
+pub undelivered_said : (b : Boot) (es : List Step) (w : WorldState) (pt : Point) (a c : ℕ) → IsValid b → Leads b (first_point b) es pt → Stands b w pt → a < length b.machines → c < length b.machines → a ≢ c → world.world_undelivered w a c ≡ rule.undelivered pt.view a c
 undelivered_said b es w pt a c valid leads stands from to apart =
     let ((l, h, s), counts) = stands in
     let machines = machines_stay b es pt valid leads in
@@ -79,8 +79,8 @@ takes_same machines Pass.Settle f g same m h = same m h
 turn_same : (machines : ℕ) (f g : ℕ → Bool) (t : Todo) (ms : List ℕ) → SameMail machines f g → All (IsBelow machines) ms → next_turn f t ms ≡ next_turn g t ms
 turn_same machines f g t [] same fit = refl
 turn_same machines f g t (m ∷ ms) same fit =
-    ap (λ (b : Bool). if b then next (Step.Turn m) (record t { pairs = []; machines = ms }) else next_turn f t ms) (same m (All-head (IsBelow machines) m ms fit))
-    ∙ ap (λ (o : Option Next). if g m then next (Step.Turn m) (record t { pairs = []; machines = ms }) else o) (turn_same machines f g t ms same (All-tail (IsBelow machines) m ms fit))
+    ap (λ (b : Bool). if b then next_and_left (Step.Turn m) (record t { pairs = []; machines = ms }) else next_turn f t ms) (same m (All-head (IsBelow machines) m ms fit))
+    ∙ ap (λ (o : Option Next). if g m then next_and_left (Step.Turn m) (record t { pairs = []; machines = ms }) else o) (turn_same machines f g t ms same (All-tail (IsBelow machines) m ms fit))
 
 in_same : (machines : ℕ) (f g : ℕ → Bool) (t : Todo) (d : Option (Step × List Two)) → SameMail machines f g → All (IsBelow machines) t.machines → in_pass f t d ≡ in_pass g t d
 in_same machines f g t None same fit = turn_same machines (takes_turn t.pass f) (takes_turn t.pass g) t t.machines (takes_same machines t.pass f g same) fit
@@ -144,7 +144,7 @@ or_fits machines None y h k = k
 or_fits machines (Some n) y h k = h
 
 turn_or_later : (machines : ℕ) (t : Todo) (m : ℕ) (ms : List ℕ) (b : Bool) (o : Option Next) → IsTodo machines t → All (IsBelow machines) (m ∷ ms) → Fits machines o
-    → Fits machines (if b then next (Step.Turn m) (record t { pairs = []; machines = ms }) else o)
+    → Fits machines (if b then next_and_left (Step.Turn m) (record t { pairs = []; machines = ms }) else o)
 turn_or_later machines t m ms true o h fit later =
     record { step = All-head (IsBelow machines) m ms fit; left = record { pairs = All-nil (IsTwo machines); machines_ = All-tail (IsBelow machines) m ms fit; directives = h.directives } }
 turn_or_later machines t m ms false o h fit later = later
@@ -203,7 +203,7 @@ next_is_said b es w pt t valid leads stands fit =
     let ((l, h, s), counts) = stands in
     let n = length b.machines in
     let machines = machines_stay b es pt valid leads in
-    following_same n (world.undelivered w) (rule.undelivered pt.view) (world.has_mail w) (has_mail pt.view) (world.is_quiet n w) t
+    following_same n (world.world_undelivered w) (rule.undelivered pt.view) (world.world_has_mail w) (has_mail pt.view) (world.world_is_quiet n w) t
     (λ a c from to apart. undelivered_same b w pt l h a c (s.pairs a c (omega (arith, from, machines)) (omega (arith, to, machines)) apart))
     (λ m small. mail_same b w pt l h m (omega (arith, small, machines)) s) fit.pairs fit.machines_
     ∙ ap (λ (q : Bool). following n (rule.undelivered pt.view) (has_mail pt.view) q t) (quiet_same b es w pt valid leads stands)

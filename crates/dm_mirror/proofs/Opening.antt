@@ -2,16 +2,16 @@
 use Rattle.dm_mirror.proofs.Names.{◌≡◌, ℕ, ◌+◌, ◌==◌, Bool, true, false, List, [], ◌∷◌, ◌++◌, refl, ap, ◌∙◌, sym, subst, append_assoc, arith, if◌then◌else◌, slice_get, Option, None, Some, append-nil, Pid, pid_eq, Process, BootImage, nat_tests}
 use Rattle.dm_mirror.proofs.Names.{BootProcess, Boot, starting_at, blocks_at, blocks_of_image, processes_are_valid, process_named, pid_eq-is, started, ring_at, KernelState, child_of, with_all, with_child}
 use Rattle.dm_records.specs.declared.record.Record.TheVariants.{Here}
-use Rattle.dm_kernel.specs.State.{Known}
-use Rattle.dm_kernel.specs.Begun.{begins}
+use Rattle.dm_kernel.specs.State.{KernelKnown}
+use Rattle.dm_kernel.specs.Begun.{begins_process}
 use Rattle.dm_mirror.proofs.Numbering.{listed, none_again, one_if}
 
 -- what machine m knows of a process that the file may name
-abbrev pub first_here : Option Process → Option Known
+abbrev pub first_here : Option Process → Option KernelKnown
 first_here None = None
 first_here (Some x) = Some (Here x)
 
-abbrev pub first_record : Boot → ℕ → Pid → Option BootProcess → Option Known → Option Known
+abbrev pub first_record : Boot → ℕ → Pid → Option BootProcess → Option KernelKnown → Option KernelKnown
 first_record b m q None before = before
 first_record b m q (Some p) before = if q.home == m then first_here (started b p) else before
 
@@ -29,12 +29,12 @@ pub record Opens (b : Boot) (m : ℕ) (ps : List BootProcess) (s t : KernelState
   pub servers : t.servers ≡ s.servers
 
 -- a record that is set
-set_record : (b : Boot) (m : ℕ) (p : BootProcess) (x : Process) (q : Pid) (c d : Bool) (before : Option Known) → pid_eq p.pid q ≡ c → (p.pid.home == m) ≡ true → first_here (started b p) ≡ Some (Here x)
+set_record : (b : Boot) (m : ℕ) (p : BootProcess) (x : Process) (q : Pid) (c d : Bool) (before : Option KernelKnown) → pid_eq p.pid q ≡ c → (p.pid.home == m) ≡ true → first_here (started b p) ≡ Some (Here x)
     → (if c then Some (Here x) else before) ≡ first_record b m q (if c then Some p else None) before
 set_record b m p x q true d before is home e = grind (arith, nat_tests, pid_eq-is)
 set_record b m p x q false d before is home e = refl
 
-off_record : (b : Boot) (m : ℕ) (p : BootProcess) (q : Pid) (c : Bool) (before : Option Known) → pid_eq p.pid q ≡ c → (p.pid.home == m) ≡ false → before ≡ first_record b m q (if c then Some p else None) before
+off_record : (b : Boot) (m : ℕ) (p : BootProcess) (q : Pid) (c : Bool) (before : Option KernelKnown) → pid_eq p.pid q ≡ c → (p.pid.home == m) ≡ false → before ≡ first_record b m q (if c then Some p else None) before
 off_record b m p q true before is home = grind (arith, nat_tests, pid_eq-is)
 off_record b m p q false before is home = refl
 
@@ -57,14 +57,14 @@ begin_on b m p i s false home here there =
     let many : blocks_if (p.pid.home == m) (blocks_of_image (slice_get b.images p.image)) ≡ 0 = ap (λ (t : Bool). blocks_if t (blocks_of_image (slice_get b.images p.image))) home in
     search (off_record, pid_eq, s.records, sym (ap (λ (t : Bool). s.ring ++ (if t then p.pid ∷ [] else [])) home ∙ append-nil s.ring), arith, one, many)
 
-begin_one : (b : Boot) (m : ℕ) (p : BootProcess) (i : BootImage) (s : KernelState) → s.here ≡ m → slice_get b.images p.image ≡ Some i → Opens b m (p ∷ []) s (begins b s p (slice_get b.images p.image))
+begin_one : (b : Boot) (m : ℕ) (p : BootProcess) (i : BootImage) (s : KernelState) → s.here ≡ m → slice_get b.images p.image ≡ Some i → Opens b m (p ∷ []) s (begins_process b s p (slice_get b.images p.image))
 begin_one b m p i s here there =
-    subst (λ (o : Option BootImage). Opens b m (p ∷ []) s (begins b s p o)) (sym there)
+    subst (λ (o : Option BootImage). Opens b m (p ∷ []) s (begins_process b s p o)) (sym there)
     (subst (λ (n : ℕ). Opens b m (p ∷ []) s (if p.pid.home == n then with_child s p.pid (child_of b p.pid i p.links) i.blocks else s)) (sym here)
     (begin_on b m p i s (p.pid.home == m) refl here there))
 
 -- and then the others
-records_then : (b : Boot) (m : ℕ) (q : Pid) (p : BootProcess) (c : Bool) (o : Option BootProcess) (before mid after : Option Known) → (c ≡ true → o ≡ None)
+records_then : (b : Boot) (m : ℕ) (q : Pid) (p : BootProcess) (c : Bool) (o : Option BootProcess) (before mid after : Option KernelKnown) → (c ≡ true → o ≡ None)
     → mid ≡ first_record b m q (if c then Some p else None) before → after ≡ first_record b m q o mid → after ≡ first_record b m q (if c then Some p else o) before
 records_then b m q p true o before mid after none e f = f ∙ ap (λ (v : Option BootProcess). first_record b m q v mid) (none refl) ∙ e
 records_then b m q p false o before mid after none e f = f ∙ ap (first_record b m q o) e
@@ -77,7 +77,7 @@ pub opens_all : (b : Boot) (m : ℕ) (earlier ps : List BootProcess) (s : Kernel
 opens_all b m earlier [] s h here = search (sym (append-nil s.ring), arith)
 opens_all b m earlier (p ∷ ps) s h here =
     let k = listed b earlier p ps h in
-    let u = begins b s p (slice_get b.images p.image) in
+    let u = begins_process b s p (slice_get b.images p.image) in
     let one = begin_one b m p k.image s here k.there in
     let rest = opens_all b m (earlier ++ p ∷ []) ps u k.rest one.here in
     let made = one.made in let made_ = rest.made in

@@ -18,14 +18,14 @@ module _ (pt next : Point) (l placed : Placed) (p : Pid) (ids js : List MsgId) (
   here_stays : (x : Process) → placed.processes p ≡ l.processes p → HereStands l p ids x → HereStands placed p ids x
   here_stays x process h = ((h.0.0, process ∙ h.0.1), messages_stay l.bag placed.bag ids x.queue queue h.1)
 
-  pub known_same : (k : view.Known) (r : Option machine.Known) → (has_process k ≡ true → placed.processes p ≡ l.processes p) → (k ≡ view.Ended → next.kernel.processes p ≡ pt.kernel.processes p)
+  pub known_same : (k : view.Known) (r : Option machine.KernelKnown) → (has_process k ≡ true → placed.processes p ≡ l.processes p) → (k ≡ view.Ended → next.kernel.processes p ≡ pt.kernel.processes p)
       → KnownStands pt l p ids js k r → KnownStands next placed p ids js k r
   known_same view.Unknown None process ended h = tt
   known_same view.Here (Some (Record.Here x)) process ended h = here_stays x (process refl) h
   known_same (view.Frozen to) (Some (Record.Frozen d)) process ended h = record { to = h.to; asker = h.asker; here = here_stays d.process (process refl) h.here; held = messages_stay l.bag placed.bag js d.held held h.held; whole = h.whole }
   known_same (view.Incoming from) (Some (Record.Incoming a)) process ended h = record { process = h.process; there = process refl ∙ h.there; whole = h.whole; pieces = h.pieces; held = messages_stay l.bag placed.bag js a.held held h.held }
   known_same (view.Forward at_ moves) (Some (Record.Forward to n)) process ended h = h
-  known_same view.Ended (Some (Record.Ended y)) process ended h = ap kernel.ended (ended refl) ∙ h
+  known_same view.Ended (Some (Record.Ended y)) process ended h = ap kernel.why_ended (ended refl) ∙ h
   known_same k r process ended h = h
 
 -- what a process takes of a machine's room
@@ -124,7 +124,7 @@ pub pair_stays : (b : Boot) (pt next : Point) (l placed : Placed) (w u : WorldSt
     → PairStands b pt l w h a c → PairStands b next placed u h a c
 pair_stays b pt next l placed w u h a c sends receives wire pair bag x = record {
   stream =
-      subst order.Stands
+      subst order.StreamStands
       (sym (λ i. record {
         sender = sends i;
         receiver = receives i;

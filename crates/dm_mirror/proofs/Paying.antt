@@ -40,7 +40,7 @@ line_within s t None e f = let k : s ≡ t = cc in subst (Within 0 s) k (same_wi
 line_within s t (Some l) e f = cc
 
 -- a queue goes
-drops_paid : (ids : List MsgId) (s : OneKernel) → Paid s (rule.drops ids)
+drops_paid : (ids : List MsgId) (s : OneKernel) → Paid s (rule.drop_parts ids)
 drops_paid [] s = tt
 drops_paid (i ∷ is) s = (refl, λ t e. inl ((dropped_raises s t i e).within, drops_paid is t))
 
@@ -52,7 +52,7 @@ called_paid s p n queue (calls.Waits x) = (refl, λ t e. inl ((wait_raises s t p
 called_paid s p n queue (calls.Outputs word x) = (refl, λ t e. inl ((out_raises s t p word e).within, tt))
 called_paid s p n queue (calls.Ends because) = (refl, λ t e. inl ((end_raises s t p because e).within, drops_paid queue t))
 
-stops_paid : (s : OneKernel) (p : Pid) (queue : List MsgId) (o : Option kernel.Next) → Paid s (rule.stops p queue o)
+stops_paid : (s : OneKernel) (p : Pid) (queue : List MsgId) (o : Option kernel.Trap) → Paid s (rule.stops p queue o)
 stops_paid s p queue None = tt
 stops_paid s p queue (Some (kernel.Calls n c)) = called_paid s p n queue c
 stops_paid s p queue (Some (kernel.Faults fault)) = (refl, λ t e. inl ((end_raises s t p (Why.Fault fault) e).within, drops_paid queue t))
@@ -61,19 +61,19 @@ unless_paid : (s : OneKernel) (c : Bool) (ps : List Part) → Paid s ps → Paid
 unless_paid s true ps h = tt
 unless_paid s false ps h = h
 
-completes_paid : (s : OneKernel) (p : Pid) (i : MsgId) (c : receiving.Completed) → Paid s (rule.completes p i c)
+completes_paid : (s : OneKernel) (p : Pid) (i : MsgId) (c : receiving.Completed) → Paid s (rule.completion_parts p i c)
 completes_paid s p i (receiving.Receives x) = (refl, λ t e. inl ((receive_raises s t p i e).within, tt))
 completes_paid s p i (receiving.Refuses reply x) = (refl, λ t e. inl ((refuse_raises s t p i reply e).within, tt))
 
-completed_paid : (s : OneKernel) (p : Pid) (i : MsgId) (o : Option receiving.Completed) → PaidIf s (bind o (λ c. Some (rule.completes p i c)))
+completed_paid : (s : OneKernel) (p : Pid) (i : MsgId) (o : Option receiving.Completed) → PaidIf s (bind o (λ c. Some (rule.completion_parts p i c)))
 completed_paid s p i None = tt
 completed_paid s p i (Some c) = completes_paid s p i c
 
-received_paid : (s : OneKernel) (p : Pid) (i : MsgId) (x : PlainProcess) (o : Option PlainMessage) → PaidIf s (bind o (λ m. bind (receiving.completes_with p x m) (λ c. Some (rule.completes p i c))))
+received_paid : (s : OneKernel) (p : Pid) (i : MsgId) (x : PlainProcess) (o : Option PlainMessage) → PaidIf s (bind o (λ m. bind (receiving.completes_with p x m) (λ c. Some (rule.completion_parts p i c))))
 received_paid s p i x None = tt
 received_paid s p i x (Some m) = completed_paid s p i (receiving.completes_with p x m)
 
-receives_paid : (s : OneKernel) (p : Pid) (x : PlainProcess) (o : Option MsgId) → PaidIf s (rule.receives s p x o)
+receives_paid : (s : OneKernel) (p : Pid) (x : PlainProcess) (o : Option MsgId) → PaidIf s (rule.reception_parts s p x o)
 receives_paid s p x None = tt
 receives_paid s p x (Some i) = received_paid s p i x (s.bag i)
 
@@ -103,7 +103,7 @@ created_paid : (s : OneKernel) (i : MsgId) (child : Pid) (slots blocks : ℕ) (c
 created_paid s i child slots blocks true j = (refl, λ t e. inr ((created_makes s t i child e).counts, (j, refl)))
 created_paid s i child slots blocks false j = (refl, λ t e. inl ((no_space_raises s t i slots blocks e).within, tt))
 
-creates_paid : (pt : Point) (m : ℕ) (i : MsgId) (r : rule.Room) (o : Option BootImage) → PaidIf pt.kernel (rule.creates pt m i r o)
+creates_paid : (pt : Point) (m : ℕ) (i : MsgId) (r : rule.Room) (o : Option BootImage) → PaidIf pt.kernel (rule.creation_parts pt m i r o)
 creates_paid pt m i r None = tt
 creates_paid pt m i r (Some image) = created_paid pt.kernel i (pid_of m (first_number + pt.kernel.made m)) r.slots r.blocks (rule.has_room r image.blocks) (answer_id i)
 
@@ -126,11 +126,11 @@ took_paid s i m o there is = (refl, λ t e. by o is t (within t e))
     by None e t w = inl (subst (λ n. Within n s t) e w, tt)
     by (Some x) e t w = inr (subst (λ n. Within n s t) e w, (x.id, refl))
 
-board_paid : (s : OneKernel) (i : MsgId) (m : PlainMessage) (o : Option board.Took) → s.bag i ≡ Some m → took_raise s m ≡ board_raise o → PaidIf s (rule.board_took i o)
+board_paid : (s : OneKernel) (i : MsgId) (m : PlainMessage) (o : Option board.BoardTook) → s.bag i ≡ Some m → took_raise s m ≡ board_raise o → PaidIf s (rule.board_took i o)
 board_paid s i m None there is = tt
 board_paid s i m (Some k) there is = took_paid s i m k.answer there is
 
-manager_paid : (s : OneKernel) (i : MsgId) (m : PlainMessage) (o : Option manage.Took) → s.bag i ≡ Some m → took_raise s m ≡ manager_raise o → PaidIf s (rule.manager_took i o)
+manager_paid : (s : OneKernel) (i : MsgId) (m : PlainMessage) (o : Option manage.ManagerTook) → s.bag i ≡ Some m → took_raise s m ≡ manager_raise o → PaidIf s (rule.manager_parts i o)
 manager_paid s i m None there is = tt
 manager_paid s i m (Some k) there is = took_paid s i m k.message there is
 
@@ -144,7 +144,7 @@ serves_paid s i m x t there alive e =
     let h : k.x ≡ x = cc in
     subst (λ (v : PlainProcess). Within (served_raise m v m.what) s t) h (subst (λ (v : PlainMessage). Within (served_raise v k.x v.what) s t) g k.raises.within)
 
-lands_paid : (s : OneKernel) (i : MsgId) (o : Option pieces.Landed) → ((t : OneKernel) → kernel.step s (Label.Served i) ≡ Some t → Within (landed_raise o) s t) → PaidIf s (rule.lands i o)
+lands_paid : (s : OneKernel) (i : MsgId) (o : Option pieces.Landed) → ((t : OneKernel) → kernel.step s (Label.Served i) ≡ Some t → Within (landed_raise o) s t) → PaidIf s (rule.landing_parts i o)
 lands_paid s i None h = tt
 lands_paid s i (Some (pieces.Next request x)) h = (refl, λ t e. inr (h t e, (request.id, refl)))
 lands_paid s i (Some (pieces.Done reply x)) h = (refl, λ t e. inl (h t e, tt))
@@ -192,16 +192,16 @@ process_paid pt m i msg _ there = (refl, λ t e. inl (line_within pt.kernel t No
 
 handles_paid : (b : Boot) (pt : Point) (m : ℕ) (i : MsgId) (msg : PlainMessage) (c d e : Bool) → pid_eq msg.to switchboard ≡ d → pt.kernel.bag i ≡ Some msg
     → PaidIf pt.kernel (if c then rule.kernel_handles b pt m i msg.what
-    else if d then rule.board_took i (board.takes pt.kernel.switchboard msg msg.what)
-    else if e then rule.manager_took i (manage.takes pt.kernel.manager pt.kernel.machines (length pt.kernel.images) msg msg.what)
+    else if d then rule.board_took i (board.board_takes pt.kernel.switchboard msg msg.what)
+    else if e then rule.manager_parts i (manage.manager_takes pt.kernel.manager pt.kernel.machines (length pt.kernel.images) msg msg.what)
     else rule.process_handles pt m i msg (pt.view.known m msg.to))
 handles_paid b pt m i msg true d e is there = kernel_paid b pt m i msg.what
 handles_paid b pt m i msg false true e is there =
-    board_paid pt.kernel i msg (board.takes pt.kernel.switchboard msg msg.what) there
-    (ap (λ (c : Bool). if c then board_raise (board.takes pt.kernel.switchboard msg msg.what) else manager_raise (manage.takes pt.kernel.manager pt.kernel.machines (length pt.kernel.images) msg msg.what)) is)
+    board_paid pt.kernel i msg (board.board_takes pt.kernel.switchboard msg msg.what) there
+    (ap (λ (c : Bool). if c then board_raise (board.board_takes pt.kernel.switchboard msg msg.what) else manager_raise (manage.manager_takes pt.kernel.manager pt.kernel.machines (length pt.kernel.images) msg msg.what)) is)
 handles_paid b pt m i msg false false true is there =
-    manager_paid pt.kernel i msg (manage.takes pt.kernel.manager pt.kernel.machines (length pt.kernel.images) msg msg.what) there
-    (ap (λ (c : Bool). if c then board_raise (board.takes pt.kernel.switchboard msg msg.what) else manager_raise (manage.takes pt.kernel.manager pt.kernel.machines (length pt.kernel.images) msg msg.what)) is)
+    manager_paid pt.kernel i msg (manage.manager_takes pt.kernel.manager pt.kernel.machines (length pt.kernel.images) msg msg.what) there
+    (ap (λ (c : Bool). if c then board_raise (board.board_takes pt.kernel.switchboard msg msg.what) else manager_raise (manage.manager_takes pt.kernel.manager pt.kernel.machines (length pt.kernel.images) msg msg.what)) is)
 handles_paid b pt m i msg false false false is there = process_paid pt m i msg (pt.view.known m msg.to) there
 
 pub front_paid : (b : Boot) (pt : Point) (m : ℕ) (i : MsgId) (msg : PlainMessage) → pt.kernel.bag i ≡ Some msg → PaidIf pt.kernel (rule.handles b pt m i msg)

@@ -6,7 +6,7 @@ use Rattle.dm_stream.specs.Packets as stream
 use Rattle.dm_wire.specs.Sent as wire
 use Rattle.dm_wire.specs.Wire.{after_put}
 use Rattle.dm_node.specs.declared.out.Out.TheVariants.{Says}
-use Rattle.dm_node.specs.Out.{packet_of}
+use Rattle.dm_node.specs.Out.{packet_of_load}
 use Rattle.dm_node.specs.Wired.{packet_line}
 use Rattle.dm_rule.specs.Parts.{behind}
 use Rattle.dm_mirror.proofs.Streams.{Joined, pair_stands, pair_stays, with_back, with_bytes, with_line}
@@ -26,18 +26,18 @@ spoken-append wires (Says l ∷ xs) ys = ap (says l) (spoken-append wires xs ys)
 spoken-append wires (Sends p ∷ xs) ys = ap (says (packet_line wires p)) (spoken-append (with_packet wires p) xs ys)
 
 -- the wire with a packet of this load
-pub wires_put : (wires : ℕ → ℕ → List wire.Sent) (a c : ℕ) (l : stream.Load Message) (x y : ℕ) → with_packet wires (packet_of a c l) x y ≡ after_put wires a c (spelling (packet_of a c l)) x y
+pub wires_put : (wires : ℕ → ℕ → List wire.Sent) (a c : ℕ) (l : stream.Load Message) (x y : ℕ) → with_packet wires (packet_of_load a c l) x y ≡ after_put wires a c (spelling (packet_of_load a c l)) x y
 wires_put wires a c (stream.Data n m) x y = refl
 wires_put wires a c (stream.Ack n) x y = refl
 
-wire_here : (wires : ℕ → ℕ → List wire.Sent) (a c : ℕ) (l : stream.Load Message) → with_packet wires (packet_of a c l) a c ≡ with_bytes a c (wires a c) l
+wire_here : (wires : ℕ → ℕ → List wire.Sent) (a c : ℕ) (l : stream.Load Message) → with_packet wires (packet_of_load a c l) a c ≡ with_bytes a c (wires a c) l
 wire_here wires a c l = grind (arith, nat_tests, wires_put, eq-eqb)
 
-wire_other : (wires : ℕ → ℕ → List wire.Sent) (a c : ℕ) (l : stream.Load Message) (x y : ℕ) → ((a == x) && (c == y)) ≡ false → with_packet wires (packet_of a c l) x y ≡ wires x y
-wire_other wires a c l x y e = wires_put wires a c l x y ∙ ap (λ (t : Bool). if t then wires x y ++ wire.just_put (spelling (packet_of a c l)) ∷ [] else wires x y) e
+wire_other : (wires : ℕ → ℕ → List wire.Sent) (a c : ℕ) (l : stream.Load Message) (x y : ℕ) → ((a == x) && (c == y)) ≡ false → with_packet wires (packet_of_load a c l) x y ≡ wires x y
+wire_other wires a c l x y e = wires_put wires a c l x y ∙ ap (λ (t : Bool). if t then wires x y ++ wire.just_put (spelling (packet_of_load a c l)) ∷ [] else wires x y) e
 
 -- the line is the same
-pub line_put : (wires : ℕ → ℕ → List wire.Sent) (a c k : ℕ) (l : stream.Load Message) → length (wires a c) ≡ k → packet_line wires (packet_of a c l) ≡ Line.Packet a c k (load_of l)
+pub line_put : (wires : ℕ → ℕ → List wire.Sent) (a c k : ℕ) (l : stream.Load Message) → length (wires a c) ≡ k → packet_line wires (packet_of_load a c l) ≡ Line.Packet a c k (load_of l)
 line_put wires a c k (stream.Data n m) e = ap (λ (z : ℕ). Line.Packet a c z (Load.Data n)) e
 line_put wires a c k (stream.Ack n) e = ap (λ (z : ℕ). Line.Packet a c z (Load.Ack n)) e
 
@@ -82,7 +82,7 @@ abbrev pub with_put : History → ℕ → ℕ → stream.Load Message → Histor
 with_put h a c l = record h { packets = at_pair h.packets a c (h.packets a c ++ stream.just_put l ∷ []) }
 
 abbrev pub world_put : WorldState → ℕ → ℕ → (ℕ → NodeState) → stream.Load Message → WorldState
-world_put w a c nodes l = record w { nodes = nodes; wires = with_packet w.wires (packet_of a c l) }
+world_put w a c nodes l = record w { nodes = nodes; wires = with_packet w.wires (packet_of_load a c l) }
 
 abbrev pub point_put : Point → ℕ → ℕ → stream.Load Message → Point
 point_put pt a c l = record pt { view = after_packet pt.view a c (load_of l) }

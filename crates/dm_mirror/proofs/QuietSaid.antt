@@ -4,14 +4,14 @@ use Rattle.dm_mirror.proofs.Names.{all_below, all_same, Leads, HomeStands, Point
 use Rattle.dm_mirror.proofs.Names.{PairStands, Stands, StandsWith}
 use Rattle.std.proofs.Common.{length-drop}
 use Rattle.dm_world.specs.Next as world
-use Rattle.dm_mirror.specs.Stands.{id_of}
+use Rattle.dm_mirror.specs.Stands.{message_id}
 use Rattle.dm_mirror.proofs.Machines.{machines_are}
 
 -- as many messages as names
 as_many : {B : Type 0} (bag : MsgId → B) (wrap : Message → B) (ids : List MsgId) (ms : List Message) → map bag ids ≡ map wrap ms → length ms ≡ length ids
 as_many bag wrap ids ms e = sym (length-map ms wrap) ∙ sym (ap length e) ∙ length-map ids bag
 
-pub mail_same : (b : Boot) (w : WorldState) (pt : Point) (l : Placed) (h : History) (m : ℕ) → m < pt.kernel.machines → StandsWith b w pt l h → world.has_mail w m ≡ has_mail pt.view m
+pub mail_same : (b : Boot) (w : WorldState) (pt : Point) (l : Placed) (h : History) (m : ℕ) → m < pt.kernel.machines → StandsWith b w pt l h → world.world_has_mail w m ≡ has_mail pt.view m
 mail_same b w pt l h m small s = ap (nat_lt 0) (as_many l.bag Some (pt.view.inbox m) (w.nodes m).kernel.inbox (s.nodes m small).kernel.inbox)
 
 -- a machine's pair with itself is always quiet
@@ -36,12 +36,12 @@ is_home v a c e h = let same : a ≡ c = grind (arith, nat_tests) in subst (λ (
 not_same : (a c : ℕ) → (a == c) ≡ false → a ≢ c
 not_same a c e = grind (arith, nat_tests)
 
-pub quiet_same : (b : Boot) (es : List Step) (w : WorldState) (pt : Point) → IsValid b → Leads b (first_point b) es pt → Stands b w pt → world.is_quiet (length b.machines) w ≡ is_quiet (length b.machines) pt.view
+pub quiet_same : (b : Boot) (es : List Step) (w : WorldState) (pt : Point) → IsValid b → Leads b (first_point b) es pt → Stands b w pt → world.world_is_quiet (length b.machines) w ≡ is_quiet (length b.machines) pt.view
 quiet_same b es w pt valid leads ((l, h, s), counts) =
     let n = length b.machines in
     let machines = machines_are b es pt leads in
     let home = λ (a : ℕ). (pairs_stand_always b es pt a (suc a) leads (λ same. absurd (let f : a < a = omega (arith, same) in omega (arith, f)))).1 in
-    all_same n (λ a. not (world.has_mail w a) && all_below n (world.all_heard w a)) (λ a. not (has_mail pt.view a) && all_below n (λ c. pair_is_quiet (a == c) (pt.view.pair a c)))
+    all_same n (λ a. not (world.world_has_mail w a) && all_below n (world.all_heard w a)) (λ a. not (has_mail pt.view a) && all_below n (λ c. pair_is_quiet (a == c) (pt.view.pair a c)))
     (λ a small.
     ap (λ (t : Bool). not t && all_below n (world.all_heard w a)) (mail_same b w pt l h a (omega (arith, small, machines)) s)
     ∙ ap (λ (t : Bool). not (has_mail pt.view a) && t)

@@ -99,14 +99,14 @@ ran_raises s t p k is =
     let (m, plain, last) = bind-is (step.plain_steps k (step.machine_of x)) (λ m. Some (step.goes_on s p (step.with_machine x m))) t rest in
     goes_raises s t p x (step.with_machine x m) (let e : step.goes_on s p (step.with_machine x m) ≡ t = cc in e) (runs_alive s p x running) refl
 
-replies_raise : (s t : OneKernel) (p : Pid) (n : ℕ) (c : Reply) (next : step.Next) → Nexts s p next → step.replies s p n c next ≡ Some t → Raises 0 s t
+replies_raise : (s t : OneKernel) (p : Pid) (n : ℕ) (c : Reply) (next : step.Trap) → Nexts s p next → step.replies s p n c next ≡ Some t → Raises 0 s t
 replies_raise s t p n c (step.Calls number (Called.Replies reply y)) w is =
     let (z, sent, pending, counted) = w.counts in
     let k = when-is _ (step.goes_on s p y) t is in
     goes_raises s t p w.x y k.1 w.is.alive (counted.0 ∙ sent)
 replies_raise s t p n c _ w is = cc
 
-sends_raise : (s t : OneKernel) (p : Pid) (id : MsgId) (next : step.Next) → Nexts s p next → step.sends s p id next ≡ Some t → Raises 1 s t
+sends_raise : (s t : OneKernel) (p : Pid) (id : MsgId) (next : step.Trap) → Nexts s p next → step.sends s p id next ≡ Some t → Raises 1 s t
 sends_raise s t p id (step.Calls number (Called.Sends m y)) w is =
     let (z, sent, pending, counted) = w.counts in
     let k = when-is _ (with_sent (step.goes_on s p y) (Some m)) t is in
@@ -114,13 +114,13 @@ sends_raise s t p id (step.Calls number (Called.Sends m y)) w is =
     subst (Raises 1 s) k.1 (set_raises s (with_sent (step.goes_on s p y) (Some m)) p w.x (Alive y) 1 w.is.alive (omega (arith, count, sent)) (λ q. refl) (λ h. refl) refl refl refl)
 sends_raise s t p id _ w is = cc
 
-waits_raise : (s t : OneKernel) (p : Pid) (next : step.Next) → Nexts s p next → step.waits s p next ≡ Some t → Raises 0 s t
+waits_raise : (s t : OneKernel) (p : Pid) (next : step.Trap) → Nexts s p next → step.waits s p next ≡ Some t → Raises 0 s t
 waits_raise s t p (step.Calls number (Called.Waits y)) w is =
     let (z, sent, pending, counted) = w.counts in
     goes_raises s t p w.x y (let e : step.goes_on s p y ≡ t = cc in e) w.is.alive (counted.0 ∙ sent)
 waits_raise s t p _ w is = cc
 
-outputs_raise : (s t : OneKernel) (p : Pid) (word : ℕ) (next : step.Next) → Nexts s p next → step.outputs s p word next ≡ Some t → Raises 0 s t
+outputs_raise : (s t : OneKernel) (p : Pid) (word : ℕ) (next : step.Trap) → Nexts s p next → step.outputs s p word next ≡ Some t → Raises 0 s t
 outputs_raise s t p word (step.Calls number (Called.Outputs put y)) w is =
     let (z, sent, pending, counted) = w.counts in
     let k = when-is _ (step.goes_on s p y) t is in
@@ -130,25 +130,25 @@ outputs_raise s t p word _ w is = cc
 pub end_raises_of : (s t : OneKernel) (p : Pid) (x : PlainProcess) (y : Why) → with_process s p (Ended y) ≡ t → s.processes p ≡ Some (Alive x) → Raises 0 s t
 end_raises_of s t p x y e is = subst (Raises 0 s) e (set_raises s (with_process s p (Ended y)) p x (Ended y) 0 is (omega arith) (λ q. refl) (λ h. refl) refl refl refl)
 
-ends_raise : (s t : OneKernel) (p : Pid) (y : Why) (next : step.Next) → Nexts s p next → step.ends s p y next ≡ Some t → Raises 0 s t
+ends_raise : (s t : OneKernel) (p : Pid) (y : Why) (next : step.Trap) → Nexts s p next → step.ends s p y next ≡ Some t → Raises 0 s t
 ends_raise s t p y (step.Calls number (Called.Ends because)) w is = let k = when-is _ (with_process s p (Ended y)) t is in end_raises_of s t p w.x y k.1 w.is.alive
 ends_raise s t p y (step.Faults fault) w is = let k = when-is _ (with_process s p (Ended y)) t is in end_raises_of s t p w.x y k.1 w.is.alive
 ends_raise s t p y _ w is = cc
 
 pub call_raises : (s t : OneKernel) (p : Pid) (n : ℕ) (c : Reply) → step.step s (Label.Call p n c) ≡ Some t → Raises 0 s t
-call_raises s t p n c is = let (x, next, rest) = bind-is (step.next s p) (step.replies s p n c) t is in replies_raise s t p n c x (nexts s p x next) rest
+call_raises s t p n c is = let (x, next, rest) = bind-is (step.next_trap s p) (step.replies s p n c) t is in replies_raise s t p n c x (nexts s p x next) rest
 
 pub send_raises : (s t : OneKernel) (p : Pid) (id : MsgId) → step.step s (Label.Send p id) ≡ Some t → Raises 1 s t
-send_raises s t p id is = let (x, next, rest) = bind-is (step.next s p) (step.sends s p id) t is in sends_raise s t p id x (nexts s p x next) rest
+send_raises s t p id is = let (x, next, rest) = bind-is (step.next_trap s p) (step.sends s p id) t is in sends_raise s t p id x (nexts s p x next) rest
 
 pub wait_raises : (s t : OneKernel) (p : Pid) → step.step s (Label.Wait p) ≡ Some t → Raises 0 s t
-wait_raises s t p is = let (x, next, rest) = bind-is (step.next s p) (step.waits s p) t is in waits_raise s t p x (nexts s p x next) rest
+wait_raises s t p is = let (x, next, rest) = bind-is (step.next_trap s p) (step.waits s p) t is in waits_raise s t p x (nexts s p x next) rest
 
 pub out_raises : (s t : OneKernel) (p : Pid) (w : ℕ) → step.step s (Label.Out p w) ≡ Some t → Raises 0 s t
-out_raises s t p w is = let (x, next, rest) = bind-is (step.next s p) (step.outputs s p w) t is in outputs_raise s t p w x (nexts s p x next) rest
+out_raises s t p w is = let (x, next, rest) = bind-is (step.next_trap s p) (step.outputs s p w) t is in outputs_raise s t p w x (nexts s p x next) rest
 
 pub end_raises : (s t : OneKernel) (p : Pid) (y : Why) → step.step s (Label.End p y) ≡ Some t → Raises 0 s t
-end_raises s t p y is = let (x, next, rest) = bind-is (step.next s p) (step.ends s p y) t is in ends_raise s t p y x (nexts s p x next) rest
+end_raises s t p y is = let (x, next, rest) = bind-is (step.next_trap s p) (step.ends s p y) t is in ends_raise s t p y x (nexts s p x next) rest
 
 -- a receive that ends
 receives_raise : (s t : OneKernel) (p : Pid) (id : MsgId) (c : receiving.Completed) → Completing s p id c → step.receives s p id c ≡ Some t → Raises 0 s t

@@ -1,7 +1,7 @@
 -- How much a step raises counts: what the manager says, and a process that is made.
 use Rattle.dm_mirror.proofs.Names.{◌≡◌, ◌≢◌, ◌⊎◌, inl, inr, ℕ, ◌+◌, ◌*◌, ◌<◌, ◌≤◌, ◌==◌, ◌&&◌, Bool, true, false, List, [], ◌∷◌, ◌++◌, refl, ap, ◌∙◌, sym, subst, is_some, nat_lt, arith, length, if◌then◌else◌, slice_get, Option, None, Some}
 use Rattle.dm_mirror.proofs.Names.{nat_tests, Pid, pid_eq, pid_of, PlainLink, MsgId, PlainMessage, PlainWhat, BootImage, Label, first_number, switchboard, manager, bind, Life, Alive, Manager, OneKernel, answer_to, without_message}
-use Rattle.dm_mirror.proofs.Names.{pid_eq-is, pid_eq-same, bind-is, when-is, ServerSends, manager_takes}
+use Rattle.dm_mirror.proofs.Names.{pid_eq-is, pid_eq-same, bind-is, when-is, ServerSends, manager_takes_lem}
 use Rattle.dm_onekernel.specs.Kernel.{Pending, with_sent}
 use Rattle.dm_onekernel.specs.Start.{begun}
 use Rattle.dm_onekernel.specs.Switchboard as board
@@ -12,17 +12,17 @@ use Rattle.dm_mirror.proofs.Raises.{Within, Stays, Raises, sent_of, ran_raises, 
 use Rattle.dm_mirror.proofs.RaisesServed.{sent_raise, board_raises, dropped_raises, gone_raises, no_space_raises, served_raises, append-longer}
 
 -- a child comes only with an answer
-abbrev Paid : Manager → manage.Took → Type 0
+abbrev Paid : Manager → manage.ManagerTook → Type 0
 Paid g k = length k.manager.children + g.sent ≤ length g.children + k.manager.sent
 
-paid_answers : (g h : Manager) (l : PlainLink) (code : ℕ) (links : List PlainLink) → h.sent ≡ g.sent → length h.children ≤ length g.children + 1 → Paid g (manage.answers h l code links)
+paid_answers : (g h : Manager) (l : PlainLink) (code : ℕ) (links : List PlainLink) → h.sent ≡ g.sent → length h.children ≤ length g.children + 1 → Paid g (manage.answers_byte h l code links)
 paid_answers g h l code links e le = omega (arith, e, le)
 
 paid_bad : (g : Manager) (links : List PlainLink) → Paid g (manage.bad_request g links)
 paid_bad g [] = omega arith
 paid_bad g (l ∷ ls) = paid_answers g g l 2 [] refl (omega arith)
 
-paid_if : (g : Manager) (b : Bool) (x y : manage.Took) → Paid g x → Paid g y → Paid g (if b then x else y)
+paid_if : (g : Manager) (b : Bool) (x y : manage.ManagerTook) → Paid g x → Paid g y → Paid g (if b then x else y)
 paid_if g true x y h k = h
 paid_if g false x y h k = k
 
@@ -31,12 +31,12 @@ paid_wants g machines images machine image [] = paid_bad g []
 paid_wants g machines images machine image (l ∷ ls) =
     paid_if g (nat_lt machine machines && nat_lt image images) (manage.asks_for g machine image l ls) (manage.bad_request g (l ∷ ls)) (omega arith) (paid_bad g (l ∷ ls))
 
-paid_requests : (g : Manager) (machines images : ℕ) (body : List ℕ) (links : List PlainLink) → Paid g (manage.requests g machines images body links)
+paid_requests : (g : Manager) (machines images : ℕ) (body : List ℕ) (links : List PlainLink) → Paid g (manage.requests_child g machines images body links)
 paid_requests g machines images (a ∷ b ∷ c ∷ d ∷ []) links =
     paid_if g (a == 1) (manage.wants_child g machines images b (256 * c + d) links) (manage.bad_request g links) (paid_wants g machines images b (256 * c + d) links) (paid_bad g links)
 paid_requests g machines images _ links = paid_bad g links
 
-paid_control : (g : Manager) (child : Pid) (o : Option PlainWhat) (links : List PlainLink) → Paid g (manage.controls_child g child o links)
+paid_control : (g : Manager) (child : Pid) (o : Option PlainWhat) (links : List PlainLink) → Paid g (manage.tells_child g child o links)
 paid_control g child None links = paid_bad g links
 paid_control g child (Some w) links = omega arith
 
@@ -45,24 +45,24 @@ paid_controls g (Some child) (a ∷ []) links = paid_control g child (manage.con
 paid_controls g None (a ∷ []) links = paid_bad g links
 paid_controls g _ _ links = paid_bad g links
 
-paid_created : (g : Manager) (n : ℕ) (child : Pid) (o : Option Pending) (k : manage.Took) → manage.takes_created g n child o ≡ Some k → Paid g k
+paid_created : (g : Manager) (n : ℕ) (child : Pid) (o : Option Pending) (k : manage.ManagerTook) → manage.takes_created g n child o ≡ Some k → Paid g k
 paid_created g n child None k e = cc
 paid_created g n child (Some r) k e =
     let h = record g { children = g.children ++ child ∷ []; pending = manage.without_pending n g.pending } in
-    let f : manage.answers h r.answer 0 (manage.control_link (length g.children + 1) ∷ []) ≡ k = cc in
+    let f : manage.answers_byte h r.answer 0 (manage.control_link (length g.children + 1) ∷ []) ≡ k = cc in
     subst (Paid g) f (paid_answers g h r.answer 0 (manage.control_link (length g.children + 1) ∷ []) refl (let z = append-longer g.children child in omega (arith, z)))
 
-paid_no_room : (g : Manager) (n : ℕ) (o : Option Pending) (k : manage.Took) → manage.takes_no_room g n o ≡ Some k → Paid g k
+paid_no_room : (g : Manager) (n : ℕ) (o : Option Pending) (k : manage.ManagerTook) → manage.takes_no_room g n o ≡ Some k → Paid g k
 paid_no_room g n None k e = cc
 paid_no_room g n (Some r) k e =
     let h = record g { pending = manage.without_pending n g.pending } in
-    let f : manage.answers h r.answer 1 [] ≡ k = cc in
+    let f : manage.answers_byte h r.answer 1 [] ≡ k = cc in
     subst (Paid g) f (paid_answers g h r.answer 1 [] refl (omega arith))
 
-paid_takes : (g : Manager) (machines images : ℕ) (m : PlainMessage) (w : PlainWhat) (k : manage.Took) → manage.takes g machines images m w ≡ Some k → Paid g k
+paid_takes : (g : Manager) (machines images : ℕ) (m : PlainMessage) (w : PlainWhat) (k : manage.ManagerTook) → manage.manager_takes g machines images m w ≡ Some k → Paid g k
 paid_takes g machines images m (PlainWhat.User code channel body links) k e =
     let f : manage.takes_user g machines images code body links ≡ k = cc in
-    subst (Paid g) f (paid_if g (code == 0) (manage.requests g machines images body links) (manage.controls g (manage.child_numbered g.children code) body links)
+    subst (Paid g) f (paid_if g (code == 0) (manage.requests_child g machines images body links) (manage.controls g (manage.child_numbered g.children code) body links)
     (paid_requests g machines images body links) (paid_controls g (manage.child_numbered g.children code) body links))
 paid_takes g machines images m (PlainWhat.Created child) k e = paid_created g m.id.n child (manage.pending_numbered m.id.n g.pending) k e
 paid_takes g machines images m PlainWhat.NoRoom k e = paid_no_room g m.id.n (manage.pending_numbered m.id.n g.pending) k e
@@ -82,40 +82,40 @@ manager_raises_of s id g (Some m) k e le = record {
   stays = record { machines = refl; made = λ h. refl; lives = λ p. refl };
 }
 
-manager_raises : (s : OneKernel) (id : MsgId) (m : PlainMessage) (k : manage.Took) → manage.takes s.manager s.machines (length s.images) m m.what ≡ Some k → Raises (sent_raise k.message) s (service.manager_took s id k)
+manager_raises : (s : OneKernel) (id : MsgId) (m : PlainMessage) (k : manage.ManagerTook) → manage.manager_takes s.manager s.machines (length s.images) m m.what ≡ Some k → Raises (sent_raise k.message) s (service.manager_took s id k)
 manager_raises s id m k took =
-    let (memory, piece, sends) = manager_takes s.manager s.machines (length s.images) m m.what k took in
+    let (memory, piece, sends) = manager_takes_lem s.manager s.machines (length s.images) m m.what k took in
     let count = manager_sent s.manager.sent k.manager.sent k.message sends.sends in
     let paid = paid_takes s.manager s.machines (length s.images) m m.what k took in
     manager_raises_of s id k.manager k.message (sent_raise k.message) count (omega (arith, count, paid))
 
 -- what the servers' messages raise
-abbrev pub board_raise : Option board.Took → ℕ
+abbrev pub board_raise : Option board.BoardTook → ℕ
 board_raise None = 0
 board_raise (Some k) = sent_raise k.answer
 
-abbrev pub manager_raise : Option manage.Took → ℕ
+abbrev pub manager_raise : Option manage.ManagerTook → ℕ
 manager_raise None = 0
 manager_raise (Some k) = sent_raise k.message
 
 abbrev pub took_raise : OneKernel → PlainMessage → ℕ
 took_raise s m =
-    if pid_eq m.to switchboard then board_raise (board.takes s.switchboard m m.what)
-    else manager_raise (manage.takes s.manager s.machines (length s.images) m m.what)
+    if pid_eq m.to switchboard then board_raise (board.board_takes s.switchboard m m.what)
+    else manager_raise (manage.manager_takes s.manager s.machines (length s.images) m m.what)
 
 took_raises_of : (s t : OneKernel) (id : MsgId) (m : PlainMessage) (c d : Bool)
-    → (if c then bind (board.takes s.switchboard m m.what) (λ k. Some (service.switchboard_took s id k))
-    else if d then bind (manage.takes s.manager s.machines (length s.images) m m.what) (λ k. Some (service.manager_took s id k))
+    → (if c then bind (board.board_takes s.switchboard m m.what) (λ k. Some (service.switchboard_took s id k))
+    else if d then bind (manage.manager_takes s.manager s.machines (length s.images) m m.what) (λ k. Some (service.manager_took s id k))
     else None) ≡ Some t
-    → Raises (if c then board_raise (board.takes s.switchboard m m.what) else manager_raise (manage.takes s.manager s.machines (length s.images) m m.what)) s t
+    → Raises (if c then board_raise (board.board_takes s.switchboard m m.what) else manager_raise (manage.manager_takes s.manager s.machines (length s.images) m m.what)) s t
 took_raises_of s t id m true d is =
-    let (k, took, last) = bind-is (board.takes s.switchboard m m.what) (λ v. Some (service.switchboard_took s id v)) t is in
+    let (k, took, last) = bind-is (board.board_takes s.switchboard m m.what) (λ v. Some (service.switchboard_took s id v)) t is in
     let f : service.switchboard_took s id k ≡ t = cc in
-    subst (λ (o : Option board.Took). Raises (board_raise o) s t) (sym took) (subst (Raises (sent_raise k.answer) s) f (board_raises s id m k took))
+    subst (λ (o : Option board.BoardTook). Raises (board_raise o) s t) (sym took) (subst (Raises (sent_raise k.answer) s) f (board_raises s id m k took))
 took_raises_of s t id m false true is =
-    let (k, took, last) = bind-is (manage.takes s.manager s.machines (length s.images) m m.what) (λ v. Some (service.manager_took s id v)) t is in
+    let (k, took, last) = bind-is (manage.manager_takes s.manager s.machines (length s.images) m m.what) (λ v. Some (service.manager_took s id v)) t is in
     let f : service.manager_took s id k ≡ t = cc in
-    subst (λ (o : Option manage.Took). Raises (manager_raise o) s t) (sym took) (subst (Raises (sent_raise k.message) s) f (manager_raises s id m k took))
+    subst (λ (o : Option manage.ManagerTook). Raises (manager_raise o) s t) (sym took) (subst (Raises (sent_raise k.message) s) f (manager_raises s id m k took))
 took_raises_of s t id m false false is = cc
 
 pub record TookSo (s t : OneKernel) (id : MsgId) : Type 0 where
@@ -151,7 +151,7 @@ made_same : (s : OneKernel) (home h : ℕ) → h ≢ home → service.made_one s
 made_same s home h apart = grind (arith, nat_tests)
 
 makes : (s : OneKernel) (id : MsgId) (m : PlainMessage) (home : ℕ) (links : List PlainLink) (image : BootImage) → home < s.machines
-    → Makes s (with_sent (service.with_child (without_message s id) (pid_of home (first_number + s.made home)) image links) (Some (answer_to m (PlainWhat.Created (pid_of home (first_number + s.made home))))))
+    → Makes s (with_sent (service.with_created (without_message s id) (pid_of home (first_number + s.made home)) image links) (Some (answer_to m (PlainWhat.Created (pid_of home (first_number + s.made home))))))
 makes s id m home links image within =
     let child = pid_of home (first_number + s.made home) in
     let life = Alive (begun s.format image links) in
@@ -168,12 +168,12 @@ makes s id m home links image within =
 
 created_of : (s t : OneKernel) (id : MsgId) (m : PlainMessage) (child : Pid) (links : List PlainLink) (image : BootImage) → service.creates_of s id m child links image ≡ Some t → Makes s t
 created_of s t id m child links image is =
-    let k = when-is _ (with_sent (service.with_child (without_message s id) child image links) (Some (answer_to m (PlainWhat.Created child)))) t is in
+    let k = when-is _ (with_sent (service.with_created (without_message s id) child image links) (Some (answer_to m (PlainWhat.Created child)))) t is in
     let both = k.0 in
     let name : pid_eq child (pid_of m.to.home (first_number + s.made m.to.home)) ≡ true = grind (arith, nat_tests) in
     let within : m.to.home < s.machines = grind (arith, nat_tests) in
     let child_is : child ≡ pid_of m.to.home (first_number + s.made m.to.home) = pid_eq-is child (pid_of m.to.home (first_number + s.made m.to.home)) name in
-    subst (Makes s) (ap (λ (c : Pid). with_sent (service.with_child (without_message s id) c image links) (Some (answer_to m (PlainWhat.Created c)))) (sym child_is) ∙ k.1) (makes s id m m.to.home links image within)
+    subst (Makes s) (ap (λ (c : Pid). with_sent (service.with_created (without_message s id) c image links) (Some (answer_to m (PlainWhat.Created c)))) (sym child_is) ∙ k.1) (makes s id m m.to.home links image within)
 
 creates_raises : (s t : OneKernel) (id : MsgId) (m : PlainMessage) (child : Pid) (w : PlainWhat) → service.creates s id m child w ≡ Some t → Makes s t
 creates_raises s t id m child (PlainWhat.Create image links) is =

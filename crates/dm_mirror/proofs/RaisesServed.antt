@@ -1,7 +1,7 @@
 -- How much a step raises counts: what kernels and servers say.
 use Rattle.dm_mirror.proofs.Names.{◌≡◌, ℕ, ◌+◌, ◌≤◌, ◌==◌, List, [], ◌∷◌, ◌++◌, length, Bool, true, false, refl, ap, sym, subst, arith, if◌then◌else◌, take, drop, Option, None, Some, MsgId, Label, Why, PlainMessage, PlainWhat, is_general, nat_tests}
 use Rattle.dm_mirror.proofs.Names.{switchboard, bind, PlainProcess, Alive, NamedLink, Switchboard, OneKernel, with_process, answer_to, PlainLink, without_message, is_of_memory, is_dropped, bind-is, when-is, alive-is, LandsSo, lands-is}
-use Rattle.dm_mirror.proofs.Names.{ServerSends, board_takes, if_some-is}
+use Rattle.dm_mirror.proofs.Names.{ServerSends, board_takes_lem, if_some-is}
 use Rattle.dm_onekernel.specs.Kernel.{Ended, with_sent}
 use Rattle.dm_onekernel.specs.Pieces as pieces
 use Rattle.dm_onekernel.specs.Switchboard as board
@@ -12,15 +12,15 @@ use Rattle.dm_mirror.proofs.Raises.{Raises, bag_raises, set_raises}
 -- messages that have nobody to take them
 pub dropped_raises : (s t : OneKernel) (id : MsgId) → step.step s (Label.Dropped id) ≡ Some t → Raises 0 s t
 dropped_raises s t id is =
-    let (m, there, rest) = bind-is (s.bag id) (λ v. bind (step.ended (s.processes v.to)) (step.drops s id v)) t is in
-    let (y, gone, last) = bind-is (step.ended (s.processes m.to)) (step.drops s id m) t rest in
+    let (m, there, rest) = bind-is (s.bag id) (λ v. bind (step.why_ended (s.processes v.to)) (step.drops s id v)) t is in
+    let (y, gone, last) = bind-is (step.why_ended (s.processes m.to)) (step.drops s id m) t rest in
     let k = when-is (is_dropped m.what) (without_message s id) t last in
     subst (Raises 0 s) k.1 (bag_raises s (without_message s id) (λ p. refl) (λ h. refl) refl refl refl)
 
 pub gone_raises : (s t : OneKernel) (id : MsgId) → step.step s (Label.Gone id) ≡ Some t → Raises 0 s t
 gone_raises s t id is =
-    let (m, there, rest) = bind-is (s.bag id) (λ v. bind (step.ended (s.processes v.to)) (step.says_gone s id v)) t is in
-    let (y, gone, last) = bind-is (step.ended (s.processes m.to)) (step.says_gone s id m) t rest in
+    let (m, there, rest) = bind-is (s.bag id) (λ v. bind (step.why_ended (s.processes v.to)) (step.says_gone s id v)) t is in
+    let (y, gone, last) = bind-is (step.why_ended (s.processes m.to)) (step.says_gone s id m) t rest in
     let k = when-is (is_of_memory m.what) (with_sent (without_message s id) (Some (answer_to m PlainWhat.Gone))) t last in
     subst (Raises 0 s) k.1 (bag_raises s (with_sent (without_message s id) (Some (answer_to m PlainWhat.Gone))) (λ p. refl) (λ h. refl) refl refl refl)
 
@@ -128,7 +128,7 @@ names_registered names name (l ∷ []) = grind (arith, nat_tests, names_if, name
 names_registered names name _ = omega arith
 
 names_looked : (names : List NamedLink) (name : List ℕ) (others : List PlainLink) → length (board.asks_to_look_up names name others).names ≤ length names + 1
-names_looked names name [] = names_if names (board.is_name name) (board.looks_up names name) (board.bad_request names) (omega arith) (omega arith)
+names_looked names name [] = names_if names (board.is_name name) (board.looks_up names name) (board.board_bad_request names) (omega arith) (omega arith)
 names_looked names name (l ∷ ls) = omega arith
 
 names_asked : (names : List NamedLink) (body : List ℕ) (others : List PlainLink) → length (board.asks names body others).names ≤ length names + 1
@@ -139,7 +139,7 @@ names_requested : (b : Switchboard) (body : List ℕ) (links : List PlainLink) �
 names_requested b body [] = omega arith
 names_requested b body (l ∷ others) = names_asked b.names body others
 
-names_took : (b : Switchboard) (m : PlainMessage) (w : PlainWhat) (k : board.Took) → board.takes b m w ≡ Some k → length k.switchboard.names ≤ length b.names + sent_raise k.answer
+names_took : (b : Switchboard) (m : PlainMessage) (w : PlainWhat) (k : board.BoardTook) → board.board_takes b m w ≡ Some k → length k.switchboard.names ≤ length b.names + sent_raise k.answer
 names_took b m (PlainWhat.User code channel body links) k e = grind (arith, nat_tests, names_requested)
 names_took b m _ k e = cc
 
@@ -153,7 +153,7 @@ board_raises_of s id b (Some m) k e n = record {
   stays = record { machines = refl; made = λ h. refl; lives = λ p. refl };
 }
 
-pub board_raises : (s : OneKernel) (id : MsgId) (m : PlainMessage) (k : board.Took) → board.takes s.switchboard m m.what ≡ Some k → Raises (sent_raise k.answer) s (service.switchboard_took s id k)
+pub board_raises : (s : OneKernel) (id : MsgId) (m : PlainMessage) (k : board.BoardTook) → board.board_takes s.switchboard m m.what ≡ Some k → Raises (sent_raise k.answer) s (service.switchboard_took s id k)
 board_raises s id m k took =
-    let (memory, piece, sends) = board_takes s.switchboard m m.what k took in
+    let (memory, piece, sends) = board_takes_lem s.switchboard m m.what k took in
     board_raises_of s id k.switchboard k.answer (sent_raise k.answer) (board_sent s.switchboard.sent k.switchboard.sent k.answer sends) (names_took s.switchboard m m.what k took)

@@ -4,7 +4,7 @@ use Rattle.dm_mirror.proofs.Names.{nat_tests, Message, kind_of, IsLawfulMessage,
 use Rattle.dm_mirror.proofs.Names.{routes_away, routes_home, sends_due, Line, or, after_put, view_after, goes_out, Point, moved, at_machine, PairsFit, Sane, is_full, worn_in, Placed, WorldState, History, PairStands, StandsWith, AllRecords}
 use Rattle.dm_stream.specs.Packets.{Load}
 use Rattle.dm_node.specs.declared.out.Out.TheVariants.{Says}
-use Rattle.dm_node.specs.Out.{packet_of}
+use Rattle.dm_node.specs.Out.{packet_of_load}
 use Rattle.dm_line.specs.declared.line.Load.TheVariants as load
 use Rattle.dm_rule.specs.Parts as rule
 use Rattle.dm_mirror.proofs.Route.Goes.{RouteGoes, RouteOn, RouteWorn, with_acted}
@@ -175,14 +175,14 @@ module _ (b : Boot) (w : WorldState) (pt : Point) (l : Placed) (h : History) (m 
 
     -- it goes out at once
     goes_away : none_waits ((w.nodes m).senders x.to.at) ≡ true → goes_out (pt.view.pair m x.to.at) ≡ true → due (with_given ((w.nodes m).senders x.to.at) x) ≡ Some (((w.nodes m).senders x.to.at).gone, x)
-        → routes (w.nodes m) x ≡ Goes (record { state = node_went w m x.to.at x; outs = Says (put_line (w.nodes m) x) ∷ Sends (packet_of (here (w.nodes m)) x.to.at (Load.Data ((w.nodes m).senders x.to.at).gone x)) ∷ [] }) → RouteOn b w pt l m r
+        → routes (w.nodes m) x ≡ Goes (record { state = node_went w m x.to.at x; outs = Says (put_line (w.nodes m) x) ∷ Sends (packet_of_load (here (w.nodes m)) x.to.at (Load.Data ((w.nodes m).senders x.to.at).gone x)) ∷ [] }) → RouteOn b w pt l m r
     goes_away none out next_due is =
         let c : ℕ = x.to.at in
         let pair : PairStands b pt l w h m c = f.stands.pairs m c f.here f.there apart in
         let n : ℕ = ((w.nodes m).senders c).gone in
         let all : length (pt.view.pair m c).ids ≡ n = let e : given_count ((w.nodes m).senders c) ≡ length (pt.view.pair m c).ids = count_given b pt l w h m c pair in grind (arith, nat_tests, e, none) in
         let put : Point = put_point pt m c x in
-        let outs : ℕ → List Out = λ (z : ℕ). Says (put_line (w.nodes m) x) ∷ Sends (packet_of z c (Load.Data n x)) ∷ [] in
+        let outs : ℕ → List Out = λ (z : ℕ). Says (put_line (w.nodes m) x) ∷ Sends (packet_of_load z c (Load.Data n x)) ∷ [] in
         let later : History = with_put (with_gift h m c x) m c (Load.Data n x) in
         let went : StandsWith b (with_acted w m (record { state = node_went w m c x; outs = outs m })) (point_put put m c (Load.Data n x)) u later =
         stands_went b put u w (with_gift h m c x) m c n x apart f.here f.there next_due gave in

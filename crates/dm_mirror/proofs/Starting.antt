@@ -1,10 +1,10 @@
 -- The world as the boot file has it stands for the first point.
 use Rattle.dm_mirror.proofs.Names.{◌≡◌, ℕ, zero, suc, ◌-◌, ◌^◌, ◌<◌, ◌≤◌, ◌==◌, Bool, true, false, List, [], ◌∷◌, length, map, replicate, refl, ap, ◌∙◌, sym, subst, is_some, nat_lt, arith, ◌||◌, if◌then◌else◌, slice_get, Option, None, Some}
-use Rattle.dm_mirror.proofs.Names.{nat_tests, All-nil, Pid, pid_eq, Message, IsLawfulMessage, Process, Sending, fresh_sending, fresh_receiving, kept_under, place, Stands-start, BootImage, BootMachine, BootProcess, Boot, IsValid}
+use Rattle.dm_mirror.proofs.Names.{nat_tests, All-nil, Pid, pid_eq, Message, IsLawfulMessage, Process, Sending, fresh_sending, fresh_receiving, kept_under, place, StreamStands-start, BootImage, BootMachine, BootProcess, Boot, IsValid}
 use Rattle.dm_mirror.proofs.Names.{process_named, switchboard, manager, bind, first_life, KernelState, child_of, empty, opened, room_of, with_all, with_child, opened_lawful, Record, fresh_sender, placed_start, started, start_mirrors}
 use Rattle.dm_mirror.proofs.Names.{first_point, Known, is_server, first_world, History, KernelStands, KnownStands, PairStands, StartStands}
 use Rattle.dm_stream.specs.Order as order
-use Rattle.dm_kernel.specs.Begun.{begins}
+use Rattle.dm_kernel.specs.Begun.{begins_process}
 use Rattle.dm_mirror.proofs.Numbering.{named_is, none_below, started_named}
 use Rattle.dm_mirror.proofs.Opening.{first_here, first_record, first_started, opens_all}
 use Rattle.dm_mirror.proofs.StartKnown.{known_of_life, first_known}
@@ -85,13 +85,13 @@ sent_if : (b : Boot) (p : BootProcess) (i : BootImage) (s : KernelState) (c : Bo
 sent_if b p i s true = refl
 sent_if b p i s false = refl
 
-sent_one : (b : Boot) (p : BootProcess) (s : KernelState) (o : Option BootImage) → (begins b s p o).sent ≡ s.sent
+sent_one : (b : Boot) (p : BootProcess) (s : KernelState) (o : Option BootImage) → (begins_process b s p o).sent ≡ s.sent
 sent_one b p s None = refl
 sent_one b p s (Some i) = sent_if b p i s (p.pid.home == s.here)
 
 sent_all : (b : Boot) (ps : List BootProcess) (s : KernelState) → (with_all b s ps).sent ≡ s.sent
 sent_all b [] s = refl
-sent_all b (p ∷ ps) s = sent_all b ps (begins b s p (slice_get b.images p.image)) ∙ sent_one b p s (slice_get b.images p.image)
+sent_all b (p ∷ ps) s = sent_all b ps (begins_process b s p (slice_get b.images p.image)) ∙ sent_one b p s (slice_get b.images p.image)
 
 sent_first : (b : Boot) (m : ℕ) → (opened b m).sent ≡ 0
 sent_first b m = sent_all b b.processes (empty b m)
@@ -123,7 +123,7 @@ pair_first b a c valid lt =
     let within : nat_lt c 16 ≡ true = (let k = few b valid in grind (arith, nat_tests)) in
     let sender : fresh_sender b.numbers c ≡ fresh_sending b.numbers = ap (λ (t : Bool). fresh_sending (if t then b.numbers else 0)) within in
     search (
-      subst (λ (s : Sending Message). order.Stands (record { sender = s; receiver = fresh_receiving; given = []; taken = []; out = []; back = [] })) (sym sender) (Stands-start b.numbers (small b valid)),
+      subst (λ (s : Sending Message). order.StreamStands (record { sender = s; receiver = fresh_receiving; given = []; taken = []; out = []; back = [] })) (sym sender) (StreamStands-start b.numbers (small b valid)),
       ap (λ (s : Sending Message). s.gone) sender,
       ap (λ (s : Sending Message). s.numbers) sender,
       none_kept,

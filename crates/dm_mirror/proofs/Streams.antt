@@ -1,19 +1,19 @@
 -- An event of a stream, and what stands of its pair of machines behind it.
 use Rattle.dm_mirror.proofs.Names.{◌≡◌, ℕ, ◌+◌, ◌<◌, ◌≤◌, nat_lt, Bool, true, false, List, [], ◌∷◌, ◌++◌, length, map, take, drop, is_some, refl, ap, ◌∙◌, sym, subst, arith, if◌then◌else◌, All, Option, None, Some, nat_tests, map-append}
 use Rattle.dm_mirror.proofs.Names.{drop-append-le, length-map, All-push, Message, MsgId, IsLawfulMessage, Sending, due, outstanding, numbered, with_given, with_sent, kept_under, Stream, Give, GoOut, GoAgain, OtherData, goes_again}
-use Rattle.dm_mirror.proofs.Names.{Stands-happens, spelling, Boot, Load, Pair, gone_after, Point, has, Placed, WorldState, AreMessages, History, PairStands, bytes_of, line_of, load_of, stream_of}
+use Rattle.dm_mirror.proofs.Names.{StreamStands-happens, spelling, Boot, Load, Pair, gone_after, Point, has, Placed, WorldState, AreMessages, History, PairStands, bytes_of, line_of, load_of, stream_of}
 use Rattle.dm_stream.specs.Packets as stream
 use Rattle.dm_stream.specs.Stream.{gives, goes_out, is_worn}
 use Rattle.dm_stream.specs.Order as order
 use Rattle.dm_wire.specs.Sent as wire
-use Rattle.dm_node.specs.Out.{packet_of}
-use Rattle.dm_rule.specs.View.{Sent}
-use Rattle.dm_mirror.specs.Stands.{id_of}
+use Rattle.dm_node.specs.Out.{packet_of_load}
+use Rattle.dm_rule.specs.View.{SentLoad}
+use Rattle.dm_mirror.specs.Stands.{message_id}
 
 -- what stands of a pair, over its stream, the bytes on its wire, and what the lines say of it
 pub record Joined (b : Boot) (bag : MsgId → Option Message) (a c : ℕ) (s : Stream Message) (sent : List wire.Sent) (p : Pair) : Type 0 where
-  pub stream : order.Stands s
-  pub ids : map id_of s.given ≡ p.ids
+  pub stream : order.StreamStands s
+  pub ids : map message_id s.given ≡ p.ids
   pub untaken : AreMessages bag (drop p.taken p.ids) (drop p.taken s.given)
   pub taken : s.receiver.count ≡ p.taken
   pub gone : s.sender.gone ≡ p.gone
@@ -71,20 +71,20 @@ abbrev pub with_back : Stream Message → stream.Load Message → Stream Message
 with_back s l = record s { back = s.back ++ stream.just_put l ∷ [] }
 
 abbrev pub with_bytes : ℕ → ℕ → List wire.Sent → stream.Load Message → List wire.Sent
-with_bytes a c sent l = sent ++ wire.just_put (spelling (packet_of a c l)) ∷ []
+with_bytes a c sent l = sent ++ wire.just_put (spelling (packet_of_load a c l)) ∷ []
 
 abbrev pub with_line : Pair → Load → Pair
 with_line p l = record p { gone = gone_after l p.gone; wire = p.wire ++ record { load = l; delivered = false } ∷ [] }
 
-lines_put : (out : List (stream.Packet Message)) (l : stream.Load Message) (ws : List Sent) → map line_of out ≡ ws → map line_of (out ++ stream.just_put l ∷ []) ≡ ws ++ record { load = load_of l; delivered = false } ∷ []
-lines_put out l ws e = map-append line_of out (stream.just_put l ∷ []) ∙ ap (λ (xs : List Sent). xs ++ record { load = load_of l; delivered = false } ∷ []) e
+lines_put : (out : List (stream.Packet Message)) (l : stream.Load Message) (ws : List SentLoad) → map line_of out ≡ ws → map line_of (out ++ stream.just_put l ∷ []) ≡ ws ++ record { load = load_of l; delivered = false } ∷ []
+lines_put out l ws e = map-append line_of out (stream.just_put l ∷ []) ∙ ap (λ (xs : List SentLoad). xs ++ record { load = load_of l; delivered = false } ∷ []) e
 
 bytes_put : (a c : ℕ) (out : List (stream.Packet Message)) (l : stream.Load Message) (sent : List wire.Sent) → sent ≡ map (bytes_of a c) out → with_bytes a c sent l ≡ map (bytes_of a c) (out ++ stream.just_put l ∷ [])
-bytes_put a c out l sent e = ap (λ (xs : List wire.Sent). xs ++ wire.just_put (spelling (packet_of a c l)) ∷ []) e ∙ sym (map-append (bytes_of a c) out (stream.just_put l ∷ []))
+bytes_put a c out l sent e = ap (λ (xs : List wire.Sent). xs ++ wire.just_put (spelling (packet_of_load a c l)) ∷ []) e ∙ sym (map-append (bytes_of a c) out (stream.just_put l ∷ []))
 
 -- so many have been given
 pub given_length : (b : Boot) (bag : MsgId → Option Message) (a c : ℕ) (s : Stream Message) (sent : List wire.Sent) (p : Pair) → Joined b bag a c s sent p → length p.ids ≡ length s.given
-given_length b bag a c s sent p j = sym (ap length j.ids) ∙ length-map s.given id_of
+given_length b bag a c s sent p j = sym (ap length j.ids) ∙ length-map s.given message_id
 
 pub taken_within : (b : Boot) (bag : MsgId → Option Message) (a c : ℕ) (s : Stream Message) (sent : List wire.Sent) (p : Pair) → Joined b bag a c s sent p → p.taken ≤ length s.given
 taken_within b bag a c s sent p j = omega (arith, j.stream.in_order.taken_gone, j.stream.in_order.gone_given, j.taken)
@@ -100,8 +100,8 @@ untaken_then bag n ids xs x few less there e =
 
 pub is_given : (b : Boot) (bag : MsgId → Option Message) (a c : ℕ) (s : Stream Message) (sent : List wire.Sent) (p : Pair) (x : Message) → is_worn s.sender ≡ false → bag x.id ≡ Some x → IsLawfulMessage x → Joined b bag a c s sent p → Joined b bag a c (record s { sender = with_given s.sender x; given = s.given ++ x ∷ [] }) sent (record p { ids = p.ids ++ x.id ∷ [] })
 is_given b bag a c s sent p x fresh there lawful j = search (
-  subst (λ (z : Bool). order.Stands (gives s x z)) fresh (Stands-happens s (Give x) j.stream),
-  map-append id_of s.given (x ∷ []) ∙ ap (λ (is : List MsgId). is ++ x.id ∷ []) j.ids,
+  subst (λ (z : Bool). order.StreamStands (gives s x z)) fresh (StreamStands-happens s (Give x) j.stream),
+  map-append message_id s.given (x ∷ []) ∙ ap (λ (is : List MsgId). is ++ x.id ∷ []) j.ids,
   untaken_then bag p.taken p.ids s.given x (let k = taken_within b bag a c s sent p j in omega (arith, k, given_length b bag a c s sent p j)) (taken_within b bag a c s sent p j) there j.untaken,
   All-push IsLawfulMessage s.given x j.lawful lawful,
 )
@@ -130,7 +130,7 @@ gone_again n g e = grind (arith, nat_tests)
 pub went_out : (b : Boot) (bag : MsgId → Option Message) (a c : ℕ) (s : Stream Message) (sent : List wire.Sent) (p : Pair) (n : ℕ) (x : Message) → due s.sender ≡ Some (n, x) → Joined b bag a c s sent p
     → Joined b bag a c (record s { sender = with_sent s.sender; out = s.out ++ stream.just_put (stream.Data n x) ∷ [] }) (with_bytes a c sent (stream.Data n x)) (with_line p (Load.Data n))
 went_out b bag a c s sent p n x next j = search (
-  subst (λ (z : Option (ℕ × Message)). order.Stands (goes_out s z)) next (Stands-happens s GoOut j.stream),
+  subst (λ (z : Option (ℕ × Message)). order.StreamStands (goes_out s z)) next (StreamStands-happens s GoOut j.stream),
   ap (λ (g : ℕ). g + 1) j.gone ∙ gone_next n p.gone (due_is s.sender n x next ∙ j.gone),
   lines_put s.out (stream.Data n x) p.wire j.packets,
   bytes_put a c s.out (stream.Data n x) sent j.bytes,
@@ -140,16 +140,16 @@ went_out b bag a c s sent p n x next j = search (
 pub went_again : (b : Boot) (bag : MsgId → Option Message) (a c : ℕ) (s : Stream Message) (sent : List wire.Sent) (p : Pair) (k n : ℕ) (x : Message) → outstanding s.sender k ≡ Some (n, x) → Joined b bag a c s sent p
     → Joined b bag a c (with_out s (stream.Data n x)) (with_bytes a c sent (stream.Data n x)) (with_line p (Load.Data n))
 went_again b bag a c s sent p k n x out j = search (
-  subst (λ (z : Option (ℕ × Message)). order.Stands (goes_again s z)) out (Stands-happens s (GoAgain k) j.stream),
+  subst (λ (z : Option (ℕ × Message)). order.StreamStands (goes_again s z)) out (StreamStands-happens s (GoAgain k) j.stream),
   j.gone ∙ gone_again n p.gone (let f = outstanding_is s.sender k n x out in omega (arith, f.1, j.gone)),
   lines_put s.out (stream.Data n x) p.wire j.packets,
   bytes_put a c s.out (stream.Data n x) sent j.bytes,
 )
 
 -- a packet on the wire back leaves all but that wire
-back_put : (b : Boot) (bag : MsgId → Option Message) (a c : ℕ) (s : Stream Message) (sent : List wire.Sent) (p : Pair) (l : stream.Load Message) → order.Stands (with_back s l) → Joined b bag a c s sent p → Joined b bag a c (with_back s l) sent p
+back_put : (b : Boot) (bag : MsgId → Option Message) (a c : ℕ) (s : Stream Message) (sent : List wire.Sent) (p : Pair) (l : stream.Load Message) → order.StreamStands (with_back s l) → Joined b bag a c s sent p → Joined b bag a c (with_back s l) sent p
 back_put b bag a c s sent p l stands j = search
 
 -- data of the stream the other way
 pub put_back : (b : Boot) (bag : MsgId → Option Message) (a c : ℕ) (s : Stream Message) (sent : List wire.Sent) (p : Pair) (n : ℕ) (x : Message) → Joined b bag a c s sent p → Joined b bag a c (with_back s (stream.Data n x)) sent p
-put_back b bag a c s sent p n x j = back_put b bag a c s sent p (stream.Data n x) (Stands-happens s (OtherData n x) j.stream) j
+put_back b bag a c s sent p n x j = back_put b bag a c s sent p (stream.Data n x) (StreamStands-happens s (OtherData n x) j.stream) j

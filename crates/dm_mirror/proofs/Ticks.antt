@@ -5,7 +5,7 @@ use Rattle.dm_mirror.proofs.Names.{spoken, Line, View, NothingElse, after_packet
 use Rattle.dm_mirror.proofs.Names.{PairStands, StandsWith, stream_of, GoesOn}
 use Rattle.std.proofs.lemmas.List.{append_assoc}
 use Rattle.dm_stream.specs.Order as order
-use Rattle.dm_node.specs.Out.{packet_of}
+use Rattle.dm_node.specs.Out.{packet_of_load}
 use Rattle.dm_rule.specs.Parts as rule
 use Rattle.dm_rule.specs.Parts.{behind}
 use Rattle.dm_rule.specs.Rule as rules
@@ -56,7 +56,7 @@ again_one : (b : Boot) (l : Placed) (w : WorldState) (pt : Point) (h : History) 
 again_one b l w pt h m c k n x apart small less out st =
     let pair : PairStands b pt l w h m c = st.pairs m c small less apart in
     let next : Point = record pt { view = after_packet pt.view m c (Load.Data n) } in
-    let is : Again b l w pt (Sends (packet_of m c (Data n x)) ∷ []) (Transmits m c (Load.Data n) ∷ []) =
+    let is : Again b l w pt (Sends (packet_of_load m c (Data n x)) ∷ []) (Transmits m c (Load.Data n) ∷ []) =
     record {
       lines = rule.packet_line pt.view m c (Load.Data n) ∷ [];
       next = next;
@@ -69,7 +69,7 @@ again_one b l w pt h m c k n x apart small less out st =
       machines = refl;
       counts = refl;
     } in
-    subst (λ (z : ℕ). Again b l w pt (Sends (packet_of z c (Data n x)) ∷ []) (Transmits m c (Load.Data n) ∷ [])) (sym (st.nodes m small).kernel.here) is
+    subst (λ (z : ℕ). Again b l w pt (Sends (packet_of_load z c (Data n x)) ∷ []) (Transmits m c (Load.Data n) ∷ [])) (sym (st.nodes m small).kernel.here) is
 
 apart_of : (m c : ℕ) → (m == c) ≡ false → m ≢ c
 apart_of m c e = grind (arith, nat_tests)
@@ -79,7 +79,7 @@ numbers_next : (n k : ℕ) → numbers_from n (suc k) ≡ numbers_from n k ++ (n
 numbers_next n zero = ap (λ (z : ℕ). z ∷ []) (omega arith)
 numbers_next n (suc k) = ap (λ (ns : List ℕ). n ∷ ns) (numbers_next (n + 1) k ∙ ap (λ (z : ℕ). numbers_from (n + 1) k ++ z ∷ []) (omega arith))
 
-out_there : (s : Stream Message) (k : ℕ) → order.Stands s → suc k ≤ count_out s.sender → (x : Message) × (outstanding s.sender k ≡ Some (s.sender.acked + k, x))
+out_there : (s : Stream Message) (k : ℕ) → order.StreamStands s → suc k ≤ count_out s.sender → (x : Message) × (outstanding s.sender k ≡ Some (s.sender.acked + k, x))
 out_there s k st few =
     let long : length s.sender.unacked ≡ length s.given - s.sender.acked = ap length st.in_order.unacked ∙ length-drop s.sender.acked s.given in
     let within : k < length s.sender.unacked = omega (arith, long, few, st.in_order.gone_given) in
@@ -139,7 +139,7 @@ all_on b l w m pt h small st (suc n) few = next (all_on b l w m pt h small st n 
         let ps : List Part = if m == n then [] else repeats m n (numbers_from (pt.view.pair m n).acked ((pt.view.pair m n).gone - (pt.view.pair m n).acked)) in
         subst (λ (z : ℕ). Again b l w pt (all_out (w.nodes m) n ++ outs z) (resends pt.view m n ++ ps)) (sym is) (again_then b l w pt (all_out (w.nodes m) n) (outs m) (resends pt.view m n) ps a one)
 
-counts_same : (b : Boot) (l : Placed) (w : WorldState) (m : ℕ) (pt : Point) (h : History) → m < pt.kernel.machines → StandsWith b w pt l h → (n : ℕ) → n ≤ pt.kernel.machines → counts_out (w.nodes m) n ≡ rules.outstanding pt.view m n
+counts_same : (b : Boot) (l : Placed) (w : WorldState) (m : ℕ) (pt : Point) (h : History) → m < pt.kernel.machines → StandsWith b w pt l h → (n : ℕ) → n ≤ pt.kernel.machines → counts_out (w.nodes m) n ≡ rules.outstanding_count pt.view m n
 counts_same b l w m pt h small st zero few = refl
 counts_same b l w m pt h small st (suc n) few =
     let rest = counts_same b l w m pt h small st n (omega (arith, few)) in
@@ -161,8 +161,8 @@ tick_goes b w pt l h m st sent small =
     let stood : StandsWith b later begun l h = stands_begun b w pt l h m st in
     let machines : n.machines ≡ pt.kernel.machines = (st.nodes m small).machines in
     let a : Again b l later begun (all_out n n.machines) (resends pt.view m pt.kernel.machines) = subst (λ (z : ℕ). Again b l later begun (all_out n z) (resends pt.view m pt.kernel.machines)) (sym machines) (all_on b l later m begun h small stood pt.kernel.machines (omega arith)) in
-    let count : counts_out n n.machines ≡ rules.outstanding pt.view m pt.kernel.machines = ap (counts_out n) machines ∙ counts_same b l w m pt h small st pt.kernel.machines (omega arith) in
-    let said : Line = Line.Resent m (rules.outstanding pt.view m pt.kernel.machines) in
+    let count : counts_out n n.machines ≡ rules.outstanding_count pt.view m pt.kernel.machines = ap (counts_out n) machines ∙ counts_same b l w m pt h small st pt.kernel.machines (omega arith) in
+    let said : Line = Line.Resent m (rules.outstanding_count pt.view m pt.kernel.machines) in
     let rest : Spelled = record { lines = a.lines ++ []; point = a.next } in
     let ends : spelled begun (resends pt.view m pt.kernel.machines) ≡ Some rest = ap (spelled begun) (sym (append-nil (resends pt.view m pt.kernel.machines))) ∙ a.spells [] (record { lines = []; point = a.next }) refl in
     record {

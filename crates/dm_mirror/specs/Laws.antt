@@ -43,18 +43,18 @@ StepsStand =
 abbrev pub NextIsSaid : Type 0
 NextIsSaid =
     (b : Boot) (es : List Step) (w : WorldState) (pt : Point) (t : Todo) → IsValid b → Leads b (first_point b) es pt → Stands b w pt → IsTodo (length b.machines) t
-    → world.next_step (length b.machines) w t ≡ rule.next_step pt.kernel.machines pt.view t
+    → world.world_next_step (length b.machines) w t ≡ rule.next_step pt.kernel.machines pt.view t
 
 -- whether anything is on its way, and whether a machine has mail, is what the printed lines say
 abbrev pub QuietIsSaid : Type 0
 QuietIsSaid =
     (b : Boot) (es : List Step) (w : WorldState) (pt : Point) → IsValid b → Leads b (first_point b) es pt → Stands b w pt
-    → (world.is_quiet (length b.machines) w ≡ true) ↔ IsQuiet pt.kernel.machines pt.view
+    → (world.world_is_quiet (length b.machines) w ≡ true) ↔ IsQuiet pt.kernel.machines pt.view
 
 abbrev pub MailIsSaid : Type 0
 MailIsSaid =
     (b : Boot) (es : List Step) (w : WorldState) (pt : Point) (m : ℕ) → IsValid b → Leads b (first_point b) es pt → Stands b w pt → m < length b.machines
-    → world.has_mail w m ≡ has_mail pt.view m
+    → world.world_has_mail w m ≡ has_mail pt.view m
 
 -- where everything stands at the end is what the printed lines say
 abbrev pub EndIsSaid : Type 0
@@ -80,7 +80,7 @@ pub record RunGoes (b : Boot) (ds : List Directive) (gs : List (List Line)) (pt 
 abbrev pub RunGoesOn : Type 0
 RunGoesOn =
     (b : Boot) (ds : List Directive) (gs : List (List Line)) (pt : Point) (left : Todo) (w : WorldState) (n : Next) → IsValid b → RunStands b ds gs pt left w
-    → world.next_step (length b.machines) w left ≡ Some n → RunGoes b ds gs pt w n
+    → world.world_next_step (length b.machines) w left ≡ Some n → RunGoes b ds gs pt w n
 
 -- good groups are a run by the rule, directive by directive, and end to end they are the lines that were printed: so each law of
 -- such runs speaks of printed lines

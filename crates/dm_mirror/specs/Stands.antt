@@ -28,10 +28,10 @@ use Rattle.dm_kernel.specs.State.{KernelState}
 use Rattle.dm_kernel.specs.Begun.{room_of}
 use Rattle.dm_kernel.specs.Lawful.{IsLawfulState}
 use Rattle.dm_node.specs.State.{NodeState}
-use Rattle.dm_node.specs.Out.{packet_of}
+use Rattle.dm_node.specs.Out.{packet_of_load}
 use Rattle.dm_line.specs.declared.line.Load.{Load}
 use Rattle.dm_line.specs.declared.line.Load.TheVariants as load
-use Rattle.dm_rule.specs.View.{Sent, Known, Unknown, Here, Frozen, Incoming, Forward, Ended}
+use Rattle.dm_rule.specs.View.{SentLoad, Known, Unknown, Here, Frozen, Incoming, Forward, Ended}
 use Rattle.dm_rule.specs.Point.{Point}
 use Rattle.dm_rule.specs.Rule.{Room, taken_at, has}
 use Rattle.dm_rulelaws.specs.Fits.{is_server}
@@ -66,13 +66,13 @@ pub record ComesStand (l : Placed) (p : Pid) (held_ : List MsgId) (a : Arrival) 
   pub held : AreMessages l.bag held_ a.held
 
 -- what a machine knows of a process is what the lines say
-abbrev pub KnownStands : Point → Placed → Pid → List MsgId → List MsgId → Known → Option machine.Known → Type 0
+abbrev pub KnownStands : Point → Placed → Pid → List MsgId → List MsgId → Known → Option machine.KernelKnown → Type 0
 KnownStands pt l p queue held Unknown None = ⊤
 KnownStands pt l p queue held Here (Some (record_.Here x)) = HereStands l p queue x
 KnownStands pt l p queue held (Frozen to) (Some (record_.Frozen d)) = LeavesStand l p queue held to d
 KnownStands pt l p queue held (Incoming from) (Some (record_.Incoming a)) = ComesStand l p held a
 KnownStands pt l p queue held (Forward at moves) (Some (record_.Forward to count)) = (to ≡ at) × (count ≡ moves)
-KnownStands pt l p queue held Ended (Some (record_.Ended y)) = kernel.ended (pt.kernel.processes p) ≡ Some y
+KnownStands pt l p queue held Ended (Some (record_.Ended y)) = kernel.why_ended (pt.kernel.processes p) ≡ Some y
 KnownStands pt l p queue held k r = ⊥
 
 -- the room is the boot file's, and what is taken is what the processes of the lines take
@@ -108,13 +108,13 @@ pub record NodeStands (b : Boot) (pt : Point) (l : Placed) (m : ℕ) (n : NodeSt
 
 -- what lies on the wire from a to c, as bytes and as the lines say
 abbrev pub bytes_of : ℕ → ℕ → stream.Packet Message → wire.Sent
-bytes_of a c p = record { bytes = spelling (packet_of a c p.load); seen = p.delivered }
+bytes_of a c p = record { bytes = spelling (packet_of_load a c p.load); seen = p.delivered }
 
 abbrev pub load_of : stream.Load Message → Load
 load_of (stream.Data n m) = load.Data n
 load_of (stream.Ack n) = load.Ack n
 
-abbrev pub line_of : stream.Packet Message → Sent
+abbrev pub line_of : stream.Packet Message → SentLoad
 line_of p = record { load = load_of p.load; delivered = p.delivered }
 
 -- the messages that were ever routed from one machine to another, and the packets that were ever put on its wire
@@ -134,13 +134,13 @@ stream_of w h a c =
       back = h.packets c a;
     }
 
-abbrev pub id_of : Message → MsgId
-id_of m = m.id
+abbrev pub message_id : Message → MsgId
+message_id m = m.id
 
 -- the pair of machine a with another machine c
 pub record PairStands (b : Boot) (pt : Point) (l : Placed) (w : WorldState) (h : History) (a c : ℕ) : Type 0 where
-  pub stream : order.Stands (stream_of w h a c)
-  pub ids : map id_of (h.given a c) ≡ (pt.view.pair a c).ids
+  pub stream : order.StreamStands (stream_of w h a c)
+  pub ids : map message_id (h.given a c) ≡ (pt.view.pair a c).ids
   pub untaken : AreMessages l.bag (drop (pt.view.pair a c).taken (pt.view.pair a c).ids) (drop (pt.view.pair a c).taken (h.given a c))
   pub taken : ((w.nodes c).receivers a).count ≡ (pt.view.pair a c).taken
   pub gone : ((w.nodes a).senders c).gone ≡ (pt.view.pair a c).gone

@@ -54,7 +54,7 @@ destination_of i t = if is_of_source t.kind then t.receiver.home else i.from.hom
 
 -- what each machine knows of each process
 abbrev pub AllRecords : Type 0
-AllRecords = ℕ → Pid → Option machine.Known
+AllRecords = ℕ → Pid → Option machine.KernelKnown
 
 pub record TokenStands (v : View) (l : Placed) (records : AllRecords) (p : Pid) (i : MsgId) (t : Told) : Type 0 where
   pub process : Process

@@ -1,6 +1,6 @@
 -- The count of an address that a process or a server has doesn't fall until a step gives it a new one.
 use Rattle.dm_movelaws.proofs.Names.{◌≡◌, ℕ, ◌<◌, ◌≤◌, ◌&&◌, ◌||◌, Bool, true, false, List, [], ◌∷◌, ◌++◌, refl, ap, ◌∙◌, sym, subst, nat_lt, arith, if◌then◌else◌, false≢true, nat_tests, Option, None, Some, Pid, Place, MsgId, MessageKind}
-use Rattle.dm_movelaws.proofs.Names.{OneKernel, bind-is, Line, Addresses, Holder, Receiver, Sender, Enclosed, Gets, gets, holder_eq, unmoved, given, gives, belongs_to, leads_to, is_pid, is_behind, tells_back, is_told_back, forwards}
+use Rattle.dm_movelaws.proofs.Names.{OneKernel, bind-is, Line, Addresses, Holder, Receiver, Sender, Enclosed, Gets, gets, holder_eq, unmoved, given, gives, belongs_to, leads_to, is_pid, is_behind, told_back_gets, is_told_back, forwards}
 use Rattle.dm_movelaws.proofs.Names.{all_follow, child_number, place_of_child, own_gives, first_gives, place_told, updated, updated_to, addresses_after, Point, label_of, kernel_after, moved, after_line, after, View, Told, About, is_owned}
 use Rattle.dm_movelaws.proofs.Names.{gives_to, is_filled, in_next, refilled, CountsStay, CountsKept, Updated, Sort, sort_of, own_given}
 use Rattle.dm_rule.specs.View as view
@@ -36,13 +36,13 @@ no_sender i _ e = refl
 both_none : (i : MsgId) (p r : Place) (h : Holder) → is_owned h ≡ true → gives_to h (gets (Receiver i) p ∷ gets (Sender i) r ∷ []) ≡ false
 both_none i p r h e = ap (λ (c : Bool). c || (holder_eq (Sender i) h || false)) (no_receiver i h e) ∙ ap (λ (c : Bool). c || false) (no_sender i h e)
 
-tells_none : (v : View) (a : Addresses) (id : MsgId) (h : Holder) (c : Bool) → is_owned h ≡ true → gives_to h (tells_back v a id c) ≡ false
+tells_none : (v : View) (a : Addresses) (id : MsgId) (h : Holder) (c : Bool) → is_owned h ≡ true → gives_to h (told_back_gets v a id c) ≡ false
 tells_none v a id h true e = both_none (view.own_id v) (a (Sender id)) (unmoved v.acting) h e
 tells_none v a id h false e = refl
 
 forwards_none : (v : View) (a : Addresses) (id : MsgId) (h : Holder) (o : Option Told) → is_owned h ≡ true → gives_to h (forwards v a id o) ≡ false
 forwards_none v a id h None e = refl
-forwards_none v a id h (Some t) e = ap (λ (c : Bool). c || gives_to h (tells_back v a id (is_told_back t.kind))) (no_receiver id h e) ∙ tells_none v a id h (is_told_back t.kind) e
+forwards_none v a id h (Some t) e = ap (λ (c : Bool). c || gives_to h (told_back_gets v a id (is_told_back t.kind))) (no_receiver id h e) ∙ tells_none v a id h (is_told_back t.kind) e
 
 follows_none : (v : View) (a : Addresses) (p : Pid) (h : Holder) (is : List MsgId) → is_owned h ≡ true → gives_to h (all_follow v a p is) ≡ false
 follows_none v a p h [] e = refl

@@ -1,7 +1,7 @@
 -- The end lines say of each process once whether it lives.
 use Rattle.dm_movelaws.proofs.Names.{◌≡◌, ◌≢◌, ◌⊎◌, ℕ, zero, suc, ◌+◌, ◌<◌, ◌≤◌, ◌==◌, ◌||◌, Bool, true, false, is_some, nat_le, List, [], ◌∷◌, ◌++◌, length, refl, ap, ◌∙◌, sym, subst, inl, inr, arith, ◌*◌, ◌/◌, if◌then◌else◌, take, drop}
 use Rattle.dm_movelaws.proofs.Names.{Option, None, Some, cases_Bool, nat_tests, append-nil, filter-append, Pid, pid_of, pid_eq, PlainLink, MsgId, Boot, first_number, switchboard, manager, PlainProcess, Life, Alive, NamedLink, Pending}
-use Rattle.dm_movelaws.proofs.Names.{pid_eq-is, pid_eq-same, EndLine, trimmed, block_line, memory_lines, home_with, each_machine, list_line, Addresses, Stood, has, first_with, stood, doing_of, slot_line, link_lines, state_lines}
+use Rattle.dm_movelaws.proofs.Names.{pid_eq-is, pid_eq-same, EndLine, trimmed, block_line, memory_lines, home_with, each_machine, list_line, Addresses, Stood, standing_of, first_with, stood, doing_of, slot_line, link_lines, state_lines}
 use Rattle.dm_movelaws.proofs.Names.{alive_lines, process_lines, homes_with, each_process, name_lines, child_lines, pending_lines, queue_at, queue_lines, holding_lines, inbox_lines, stream_lines, server_lines, end_lines, Point, untaken}
 use Rattle.dm_movelaws.proofs.Names.{View, is_server, Run, run_always, tells_life, life_lines, IsSaid, LivesAreSaid}
 use Rattle.dm_movelaws.proofs.LifePlaces.{alive_placed}
@@ -61,7 +61,7 @@ mute_queue p v q (Some s) = mute_list p (EndLine.Queue q) (v.queue s.at q) (λ i
 mute_queues : (p : Pid) (pt : Point) → Mute p (queue_lines pt)
 mute_queues p pt =
     let n = pt.kernel.machines in
-    mute_homes p pt (λ q. queue_at pt.view q (first_with has pt.view q n)) n (λ q. mute_queue p pt.view q (first_with has pt.view q n))
+    mute_homes p pt (λ q. queue_at pt.view q (first_with standing_of pt.view q n)) n (λ q. mute_queue p pt.view q (first_with standing_of pt.view q n))
 
 mute_holding : (p : Pid) (pt : Point) → Mute p (holding_lines pt)
 mute_holding p pt =

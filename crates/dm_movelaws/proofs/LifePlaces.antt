@@ -1,7 +1,7 @@
 -- Each living process is on a machine, leaves one or comes to one, and the end lines find it there.
 use Rattle.dm_movelaws.proofs.Names.{◌≡◌, ◌≢◌, ◌⊎◌, ℕ, zero, suc, ◌<◌, ◌==◌, Bool, true, false, not, is_some, refl, ap, ◌∙◌, sym, inl, inr, arith, ◌&&◌, if◌then◌else◌, Option, None, Some, cases_Bool, false≢true, nat_tests, Pid, MsgId}
-use Rattle.dm_movelaws.proofs.Names.{MessageKind, Boot, Life, Alive, PlainProcess, Standing, or, Stood, has, stood_at, first_with, stood, Phase, Nowhere, Rests, Over, Moves, IsIn, knows, is_unknown, is_here, is_over, is_restart, is_early}
-use Rattle.dm_movelaws.proofs.Names.{Point, View, Known, Unknown, Here, Frozen, Incoming, Forward, agrees, living, Run, stands_by, IsPlace}
+use Rattle.dm_movelaws.proofs.Names.{MessageKind, Boot, Life, Alive, PlainProcess, Standing, or, Stood, standing_of, stood_at, first_with, stood, Phase, Nowhere, Rests, Over, Moves, IsIn, knows, is_unknown, is_here, is_over, is_restart}
+use Rattle.dm_movelaws.proofs.Names.{is_early, Point, View, Known, Unknown, Here, Frozen, Incoming, Forward, agrees, living, Run, stands_by, IsPlace}
 use Rattle.dm_onekernel.specs.Step as kernel
 use Rattle.dm_rule.specs.Ends.{awaits}
 use Rattle.dm_rule.specs.Phases as phases
@@ -49,7 +49,7 @@ first_or f v p (suc n) = elim (first_or f v p n) [
 ]
 
 -- a process is where it is found
-has_stands : (k : Known) (x : Standing) → has k ≡ Some x → stands_by k ≡ Some x
+has_stands : (k : Known) (x : Standing) → standing_of k ≡ Some x → stands_by k ≡ Some x
 has_stands Here x e = e
 has_stands (Frozen to) x e = e
 has_stands _ x e = cc
@@ -58,7 +58,7 @@ awaits_stands : (k : Known) (x : Standing) → awaits k ≡ Some x → stands_by
 awaits_stands (Incoming from) x e = e
 awaits_stands _ x e = cc
 
-neither : (k : Known) (x : Standing) → has k ≡ None → awaits k ≡ None → stands_by k ≡ Some x → ⊥
+neither : (k : Known) (x : Standing) → standing_of k ≡ None → awaits k ≡ None → stands_by k ≡ Some x → ⊥
 neither Here x a b e = cc
 neither (Frozen to) x a b e = cc
 neither (Incoming from) x a b e = cc
@@ -73,7 +73,7 @@ pub record Placed (pt : Point) (p : Pid) : Type 0 where
 placed : (pt : Point) (p : Pid) (m : ℕ) (x : Standing) → m < pt.kernel.machines → stands_by (pt.view.known m p) ≡ Some x → Placed pt p
 placed pt p m x less some =
     let n = pt.kernel.machines in
-    elim (first_or has pt.view p n) [
+    elim (first_or standing_of pt.view p n) [
       | inl found ↦ record {
         at = found.at;
         is = ap (λ (y : Option Stood). or y (first_with awaits pt.view p n)) found.is;
@@ -105,7 +105,7 @@ rests_stands v p at e =
     record { machine = at; standing = Standing.Here; stands = here_stands (v.known at p) (sym (ap (λ (c : Bool). if c then is_here (v.known at p) else phases.is_away (v.known at p)) same) ∙ e) }
 
 -- a process that moves is frozen at its source, or comes to its destination
-leaves_or : (k : MessageKind) (d : ℕ) (x : Known) → phases.leaves k d x ≡ true → (stands_by x ≡ Some Standing.Leaving) ⊎ (is_restart k ≡ true)
+leaves_or : (k : MessageKind) (d : ℕ) (x : Known) → phases.kind_leaves k d x ≡ true → (stands_by x ≡ Some Standing.Leaving) ⊎ (is_restart k ≡ true)
 leaves_or k d (Frozen m) e = inl refl
 leaves_or k d (Forward m moves) e = inr (first (is_restart k) (d == m) e)
   where
@@ -118,7 +118,7 @@ restart_late : (k : MessageKind) → is_restart k ≡ true → is_early k ≡ fa
 restart_late MessageKind.Restart e = refl
 restart_late k e = absurd (false≢true e)
 
-comes_stands : (k : MessageKind) (s : ℕ) (x : Known) → is_early k ≡ false → phases.comes k s x ≡ true → stands_by x ≡ Some Standing.Arriving
+comes_stands : (k : MessageKind) (s : ℕ) (x : Known) → is_early k ≡ false → phases.kind_comes k s x ≡ true → stands_by x ≡ Some Standing.Arriving
 comes_stands k s (Incoming m) late e = refl
 comes_stands k s Unknown late e = absurd (false≢true (sym late ∙ e))
 comes_stands k s (Forward m moves) late e = absurd (false≢true (sym late ∙ e))
@@ -127,16 +127,16 @@ comes_stands k s _ late e = absurd (false≢true e)
 moves_stands : (v : View) (p : Pid) (k : MessageKind) (s d : ℕ) (id : Option MsgId) → IsIn v p (Moves k s d id) → Somewhere v p
 moves_stands v p k s d id h =
     let at_s : (s == s) ≡ true = grind (arith, nat_tests) in
-    let source : phases.leaves k d (v.known s p) ≡ true =
-    sym (ap (λ (c : Bool). if c then phases.leaves k d (v.known s p) else if d == s then phases.comes k s (v.known s p) else phases.is_away (v.known s p)) at_s) ∙ h.known s in
+    let source : phases.kind_leaves k d (v.known s p) ≡ true =
+    sym (ap (λ (c : Bool). if c then phases.kind_leaves k d (v.known s p) else if d == s then phases.kind_comes k s (v.known s p) else phases.is_away (v.known s p)) at_s) ∙ h.known s in
     elim (leaves_or k d (v.known s p) source) [
       | inl leaving ↦ record { machine = s; standing = Standing.Leaving; stands = leaving }
       | inr restart ↦
           let apart : (s == d) ≡ false = other (phases.is_between k) (s == d) h.apart in
           let at_d : (d == d) ≡ true = grind (arith, nat_tests) in
-          let destination : phases.comes k s (v.known d p) ≡ true =
-          sym (ap (λ (c : Bool). if c then phases.leaves k d (v.known d p) else if d == d then phases.comes k s (v.known d p) else phases.is_away (v.known d p)) apart
-          ∙ ap (λ (c : Bool). if c then phases.comes k s (v.known d p) else phases.is_away (v.known d p)) at_d) ∙ h.known d in
+          let destination : phases.kind_comes k s (v.known d p) ≡ true =
+          sym (ap (λ (c : Bool). if c then phases.kind_leaves k d (v.known d p) else if d == d then phases.kind_comes k s (v.known d p) else phases.is_away (v.known d p)) apart
+          ∙ ap (λ (c : Bool). if c then phases.kind_comes k s (v.known d p) else phases.is_away (v.known d p)) at_d) ∙ h.known d in
           record { machine = d; standing = Standing.Arriving; stands = comes_stands k s (v.known d p) (restart_late k restart) destination }
     ]
   where

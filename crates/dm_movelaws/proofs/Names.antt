@@ -13,7 +13,7 @@ pub use Rattle.dm_laws.proofs.Names.{PlainProcess, PlainStatus, PlainWhat, Ready
 pub use Rattle.dm_laws.proofs.Names.{first_failed, first_life, first_number, id_eq, id_of, in_bag, inl, inr, is_of_memory, is_some, life_at, manager, nat_le, option_map, pid_of, plain_link, reception, receptions, reg, replay, start}
 pub use Rattle.dm_laws.proofs.Names.{switchboard, with_process, with_sent, without_message, ⊤, ◌⊎◌}
 pub use Rattle.dm_laws.proofs.Runs.{ended_stays, reached}
-pub use Rattle.dm_laws.proofs.Servers.{board_takes, manager_takes}
+pub use Rattle.dm_laws.proofs.Servers.{board_takes_lem, manager_takes_lem}
 pub use Rattle.dm_laws.proofs.Sound.{not_counted}
 pub use Rattle.dm_laws.proofs.Steps.{Sent-from}
 pub use Rattle.dm_line.specs.Ends.{block_line, each_machine, home_with, list_line, memory_lines, trimmed}
@@ -39,16 +39,17 @@ pub use Rattle.dm_rule.proofs.Moves.Sent.{least_of as either, fits_packet, fits_
 pub use Rattle.dm_rule.proofs.Moves.States.{kernels_by, packet_off}
 pub use Rattle.dm_rule.proofs.Names.{About, Addresses, AddressesOn, Again, Answer, Child, Enclosed, Ended, Forward, Frozen, Gets, Held, Here, Holder, Inbox, Incoming, IsIn, IsOn, IsOthers, IsQuiet, IsStep, IsToken, Known, Leads, LifeGrows}
 pub use Rattle.dm_rule.proofs.Names.{Line, Load, MessageKind, Moves, Name, NamedLink, NothingElse, Nowhere, Of, Over, Owner, Owns, Pair, Part, Phase, Place, Point, Queue, Receiver, Rests, Routes, Says, Sender, ServerSends, Slot, Sort}
-pub use Rattle.dm_rule.proofs.Names.{Sound, Spares, Spelled, Spot, Stage, StandsNowhere, StandsOutside, StandsRight, Step, Told, Trail, Trails, TrailsAlways, Transmits, Trodden, Unknown, Untaken, View, accepts, actor, addresses_after}
-pub use Rattle.dm_rule.proofs.Names.{after, after_head, after_line, after_proto, after_put, after_step, alive-is, all_follow, along, answer_link, ascends, asks_on, at_machine, at_pair, at_record, behind, behind_count, belongs_to, bind-is}
-pub use Rattle.dm_rule.proofs.Names.{board_finds, board_keeps, both_true, child_links, child_number, chunks_of, comes, counts, counts_process, destination, enclosed_from, encloses, ended-is, ended_told, fills_by, filter, first_gives}
-pub use Rattle.dm_rule.proofs.Names.{first_point, first_trails, first_trodden, first_view, follows_up, forward_about, forwarded_for, forwards, forwards_on, free_room, front_of, front_told, gets, given, gives, gives_piece, goes_out}
-pub use Rattle.dm_rule.proofs.Names.{goes_round, gone_to, group_of, handled, handled_first, hears, held_for, here, here_told, holder_eq, id_eq-is, id_eq-same, ids_at, is_apart, is_away, is_behind, is_between, is_counted, is_dropped, is_due}
-pub use Rattle.dm_rule.proofs.Names.{is_early, is_here, is_kernels, is_over, is_pid, is_restart, is_told_back, kernel_after, kernel_hears, kernel_told, kills, knowing, known_at, knows, label_of, lands-is, leads_to, left_true, length-append}
-pub use Rattle.dm_rule.proofs.Names.{lines_of, link_to, made, manager_answers, manager_sends, manager_tells, marked, migrates, moved, name_link, names, not_server, outcome, own_given, own_gives, own_id, packet_line, pending_of, pid_eq-is}
-pub use Rattle.dm_rule.proofs.Names.{pid_eq-same, pieces_of, place_of_child, place_told, plain_kind, process_told, puts, receiver_in, receiver_of, receives_links, receives_what, released, right_true, sender_in, sender_of, sends_on}
-pub use Rattle.dm_rule.proofs.Names.{sends_what, sent_at, sent_off, served_told, server_told, serves_what, slice_get_cases, slice_get_within, slot_after, slot_of, sort_of, spelled, standing, stayed, taken_id, takes_block, takes_chunk}
-pub use Rattle.dm_rule.proofs.Names.{target_of, tells_back, times, to_kernel, to_of, token_in, told_between, trails_after, unmoved, untaken, updated, updated_to, updates, view_after, with_pair, with_ring, without_front, without_id, ◌||◌}
+pub use Rattle.dm_rule.proofs.Names.{Sound, Spares, Spelled, Spot, Stage, StandsNowhere, StandsOutside, StandsRight, Step, Told, Trail, Trails, TrailsAlways, Transmits, Trodden, Unknown, Untaken, View, accepts, acting_place, actor}
+pub use Rattle.dm_rule.proofs.Names.{addresses_after, after, after_head, after_line, after_proto, after_put, after_step, alive-is, all_follow, along, answer_link, ascends, asks_on, at_machine, at_pair, at_record, behind, behind_count}
+pub use Rattle.dm_rule.proofs.Names.{belongs_to, bind-is, board_finds, board_keeps, both_true, call_gets, child_links, child_number, chunks_of, counts, counts_process, destination, enclosed_from, encloses, ended_told, fills_by, filter}
+pub use Rattle.dm_rule.proofs.Names.{first_gives, first_point, first_trails, first_trodden, first_view, follows_up, forward_about, forwarded_for, forwards, forwards_on, free_room, front_of, front_told, gets, given, gives, gives_piece}
+pub use Rattle.dm_rule.proofs.Names.{goes_out, goes_round, gone_to, group_of, handled, handled_first, hears, held_for, here_told, holder_eq, id_eq-is, id_eq-same, ids_at, is_apart, is_away, is_behind, is_between, is_counted, is_dropped}
+pub use Rattle.dm_rule.proofs.Names.{is_due, is_early, is_here, is_kernels, is_over, is_pid, is_restart, is_told_back, kernel_after, kernel_hears, kernel_told, kills, kind_comes, knowing, known_at, knows, label_of, lands-is, leads_to}
+pub use Rattle.dm_rule.proofs.Names.{left_true, length-append, lines_of, link_target, manager_answers, manager_sends, manager_tells, marked, migrates, moved, name_link, names, not_server, outcome, own_given, own_gives, own_id, packet_line}
+pub use Rattle.dm_rule.proofs.Names.{pending_of, pid_eq-is, pid_eq-same, pieces_of, place_of_child, place_told, plain_kind, process_told, puts, receiver_in, receiver_of, receives_links, receives_what, released, right_true, sender_in}
+pub use Rattle.dm_rule.proofs.Names.{sender_of, sends_on, sends_what, sent_at, sent_off, served_told, server_told, serves_what, slice_get_cases, slice_get_within, slot_after, slot_of, sort_of, spelled, standing, stayed, taken_id}
+pub use Rattle.dm_rule.proofs.Names.{takes_block, takes_chunk, target_of, times, to_kernel, to_of, token_in, told_back_gets, told_between, trails_after, unmoved, untaken, updated, updated_to, updates, view_after, why_ended-is, with_pair}
+pub use Rattle.dm_rule.proofs.Names.{with_ring, without_front, without_id, ◌||◌}
 pub use Rattle.dm_rule.proofs.Once.{one_of-same}
 pub use Rattle.dm_rule.proofs.Pairs.Lines.{AllFit, line_view, onward, pair_same, taken_pair, touches}
 pub use Rattle.dm_rule.proofs.Pairs.Migrating.{migrates_fit}
@@ -82,11 +83,11 @@ pub use Rattle.dm_rule.proofs.Trails.Treads.{KnownFits, LabelFits, LineFits, Put
 pub use Rattle.dm_rule.proofs.Trails.Within.{HeadIn, Within, forwarded_acting, held_acting, line_within, queued_acting, trail_within}
 pub use Rattle.dm_rule.proofs.Turns.{created_off, ended_off, serving_off}
 pub use Rattle.dm_rule.specs.Addresses.{creates_what}
-pub use Rattle.dm_rule.specs.Ends.{Stood, alive_lines, child_lines, doing_of, each_process, end_lines, first_with, has, holding_lines, homes_with, inbox_lines, link_lines, name_lines, pending_lines, process_lines, queue_at, queue_lines}
-pub use Rattle.dm_rule.specs.Ends.{server_lines, slot_line, state_lines, stood, stood_at, stream_lines}
-pub use Rattle.dm_rule.specs.Migrating.{answers_in, behind_among, holders_of, numbered, slots_from, slots_in}
-pub use Rattle.dm_rule.specs.Phases.{is_unknown, leaves}
-pub use Rattle.dm_rule.specs.Rule.{handles, lands}
+pub use Rattle.dm_rule.specs.Ends.{Stood, alive_lines, child_lines, doing_of, each_process, end_lines, first_with, holding_lines, homes_with, inbox_lines, link_lines, name_lines, pending_lines, process_lines, queue_at, queue_lines}
+pub use Rattle.dm_rule.specs.Ends.{server_lines, slot_line, standing_of, state_lines, stood, stood_at, stream_lines}
+pub use Rattle.dm_rule.specs.Migrating.{answers_in, behind_among, holders_numbered, holders_of, slot_holders, slots_from}
+pub use Rattle.dm_rule.specs.Phases.{is_unknown, kind_leaves}
+pub use Rattle.dm_rule.specs.Rule.{handles, landing_parts}
 pub use Rattle.dm_rulelaws.proofs.Based.Always.{based_always, based_group, based_start}
 pub use Rattle.dm_rulelaws.proofs.Based.Constants.{constant_group, step_constant}
 pub use Rattle.dm_rulelaws.proofs.Based.Groups.{Begins, begins, group_keeps}

@@ -1,7 +1,7 @@
 -- What comes of a packet that arrives, one message after another.
 use Rattle.dm_node.proofs.Names.{◌≡◌, ℕ, suc, ◌+◌, ◌-◌, ◌<◌, ◌≤◌, Bool, true, false, List, [], ◌∷◌, ◌++◌, refl, sym, ap, subst, inl, inr, ◌∙◌, append_assoc, append-nil, arith, if◌then◌else◌, is_some, Option, None, Some, eqb_tells, Message}
 use Rattle.dm_node.proofs.Names.{at_machine, due, window, Receiving, moved_up, next, after_next, Arrived, Node, Out, Says, NodeState, here, with_message, with_receiver, Acted, acknowledges, before, comes, comes_in, lets_go, lets_next}
-use Rattle.dm_node.proofs.Names.{sends_due, takes_kept, takes_next, then_acknowledges, Gave, HasStreams, state_of}
+use Rattle.dm_node.proofs.Names.{sends_due, takes_kept, takes_next, then_acknowledges, Gave, HasStreams, node_state}
 use Rattle.dm_line.specs.declared.line.Line.TheVariants as line
 
 -- with these before the rest
@@ -9,7 +9,7 @@ pub gave_before : (after : Node) (old mid new outs : List Out) (a : Acted) → m
 gave_before after old mid new outs a e g = record { state = g.state; streams = g.streams; outs = g.outs ∙ ap (λ xs. xs ++ a.outs) e ∙ append_assoc old outs a.outs }
 
 -- and with an acknowledgement behind them
-pub gave_acknowledged : (after : Node) (old mid new : List Out) (a : Acted) (from : ℕ) → Gave after old mid a → new ≡ mid ++ acknowledges (state_of after) from
+pub gave_acknowledged : (after : Node) (old mid new : List Out) (a : Acted) (from : ℕ) → Gave after old mid a → new ≡ mid ++ acknowledges (node_state after) from
     → Gave after old new (then_acknowledges a from)
 gave_acknowledged after old mid new a from g e =
     record {
@@ -57,7 +57,7 @@ one_taken i n mid after a m old between new h some state outs g =
     (taken_next n mid after a m (next (n.receivers a)) (λ s. takes_kept (window - (i + 1)) s a) old between new some state outs g)
 
 -- none is left
-pub none_taken : (i : ℕ) (n : NodeState) (after : Node) (a : ℕ) (old : List Out) → i < 8 → next (n.receivers a) ≡ None → state_of after ≡ with_receiver n a (after_next (n.receivers a))
+pub none_taken : (i : ℕ) (n : NodeState) (after : Node) (a : ℕ) (old : List Out) → i < 8 → next (n.receivers a) ≡ None → node_state after ≡ with_receiver n a (after_next (n.receivers a))
     → HasStreams after → Gave after old old (takes_kept (window - i) n a)
 unfolding takes_kept
 none_taken i n after a old h none state streams =
@@ -66,22 +66,22 @@ none_taken i n after a old h none state streams =
     (record { state = state ∙ receiver_stays n a (after_next (n.receivers a)) (none_after (n.receivers a) none); streams = streams; outs = sym (append-nil old) }))
 
 -- all rounds are over
-pub rounds_over : (i : ℕ) (n : Node) (a : ℕ) (old : List Out) → 8 ≤ i → HasStreams n → Gave n old old (takes_kept (window - i) (state_of n) a)
+pub rounds_over : (i : ℕ) (n : Node) (a : ℕ) (old : List Out) → 8 ≤ i → HasStreams n → Gave n old old (takes_kept (window - i) (node_state n) a)
 unfolding takes_kept
 rounds_over i n a old h streams =
     let e : window - i ≡ 0 = omega arith in
-    subst (λ k. Gave n old old (takes_kept k (state_of n) a)) (sym e) (record { state = refl; streams = streams; outs = sym (append-nil old) })
+    subst (λ k. Gave n old old (takes_kept k (node_state n) a)) (sym e) (record { state = refl; streams = streams; outs = sym (append-nil old) })
 
 -- one more message that waits goes out
 goes_next : (n : NodeState) (mid after : Node) (b : ℕ) (o : Option (ℕ × Message)) (go : NodeState → Acted) (old between new : List Out) → is_some o ≡ true
-    → Gave mid old between (sends_due n b o) → Gave after between new (go (state_of mid)) → Gave after old new (lets_next n b o go)
+    → Gave mid old between (sends_due n b o) → Gave after between new (go (node_state mid)) → Gave after old new (lets_next n b o go)
 goes_next n mid after b None go old between new some g rest = absurd (let e : false ≡ true = some in cc)
 goes_next n mid after b (Some p) go old between new some g rest =
     let now = sends_due n b (Some p) in
     gave_before after old between new now.outs (go now.state) g.outs (subst (λ s. Gave after between new (go s)) g.state rest)
 
 pub one_goes : (i : ℕ) (n : NodeState) (mid after : Node) (b : ℕ) (old between new : List Out) → i < 8 → is_some (due (n.senders b)) ≡ true
-    → Gave mid old between (sends_due n b (due (n.senders b))) → Gave after between new (lets_go (window - (i + 1)) (state_of mid) b) → Gave after old new (lets_go (window - i) n b)
+    → Gave mid old between (sends_due n b (due (n.senders b))) → Gave after between new (lets_go (window - (i + 1)) (node_state mid) b) → Gave after old new (lets_go (window - i) n b)
 unfolding lets_go
 one_goes i n mid after b old between new h some g rest =
     subst (λ k. Gave after old new (lets_go k n b)) (sym (rounds i h))
@@ -99,14 +99,14 @@ none_goes i n mid b old between h none g =
     subst (λ k. Gave mid old between (lets_go k n b)) (sym (rounds i h))
     (none_next n mid b (due (n.senders b)) (λ s. lets_go (window - (i + 1)) s b) old between none g)
 
-pub none_may_go : (i : ℕ) (n : Node) (b : ℕ) (old : List Out) → 8 ≤ i → HasStreams n → Gave n old old (lets_go (window - i) (state_of n) b)
+pub none_may_go : (i : ℕ) (n : Node) (b : ℕ) (old : List Out) → 8 ≤ i → HasStreams n → Gave n old old (lets_go (window - i) (node_state n) b)
 unfolding lets_go
 none_may_go i n b old h streams =
     let e : window - i ≡ 0 = omega arith in
-    subst (λ k. Gave n old old (lets_go k (state_of n) b)) (sym e) (record { state = refl; streams = streams; outs = sym (append-nil old) })
+    subst (λ k. Gave n old old (lets_go k (node_state n) b)) (sym e) (record { state = refl; streams = streams; outs = sym (append-nil old) })
 
 -- a message has come, and all that was taken is acknowledged
 pub message_came : (n m : NodeState) (after : Node) (from seq : ℕ) (x y : Arrived Message) (old mid new : List Out) → m ≡ n → x ≡ y → Gave after old mid (comes_in m from seq x)
-    → new ≡ mid ++ acknowledges (state_of after) from → Gave after old new (comes n from seq y)
+    → new ≡ mid ++ acknowledges (node_state after) from → Gave after old new (comes n from seq y)
 message_came n m after from seq x y old mid new e f g outs =
     gave_acknowledged after old mid new (comes_in n from seq y) from (subst (λ z. Gave after old mid (comes_in n from seq z)) f (subst (λ z. Gave after old mid (comes_in z from seq x)) e g)) outs

@@ -1,16 +1,16 @@
 -- A machine as the boot file has it.
 use Rattle.dm_node.proofs.Names.{◌≡◌, ℕ, suc, Bool, List, length, sym, ap, inl, inr, ◌∙◌, arith, if◌then◌else◌, replicate, get_or-replicate, get_or_past, leb_tells, Message, Sending, fresh_sending, Receiving, fresh_receiving, Boot}
-use Rattle.dm_node.proofs.Names.{KernelState, fresh_sender, opened, receiver_of, sender_of}
+use Rattle.dm_node.proofs.Names.{KernelState, fresh_sender, node_opened, receiver_at, sender_at}
 use Rattle.dm_kernel.specs.Begun as kernel
 
-sixteen_senders : (numbers c : ℕ) → sender_of (replicate 16 (fresh_sending numbers)) c ≡ fresh_sender numbers c
+sixteen_senders : (numbers c : ℕ) → sender_at (replicate 16 (fresh_sending numbers)) c ≡ fresh_sender numbers c
 sixteen_senders numbers c =
     elim (leb_tells (suc c) 16) [
       | inl e ↦ get_or-replicate 16 c (fresh_sending numbers) (fresh_sending 0) e.1 ∙ sym (ap (λ (b : Bool). fresh_sending {M = Message} (if b then numbers else 0)) e.0)
       | inr e ↦ get_or_past (replicate 16 (fresh_sending numbers)) c (fresh_sending 0) (let g = e.1 in omega (arith, g)) ∙ sym (ap (λ (b : Bool). fresh_sending {M = Message} (if b then numbers else 0)) e.0)
     ]
 
-sixteen_receivers : (c : ℕ) → receiver_of (replicate 16 fresh_receiving) c ≡ fresh_receiving
+sixteen_receivers : (c : ℕ) → receiver_at (replicate 16 fresh_receiving) c ≡ fresh_receiving
 sixteen_receivers c =
     elim (leb_tells (suc c) 16) [
       | inl e ↦ get_or-replicate 16 c fresh_receiving fresh_receiving e.1
@@ -19,7 +19,7 @@ sixteen_receivers c =
 
 pub begun : (k : KernelState) (machines : ℕ) (senders : List (Sending Message)) (receivers : List (Receiving Message)) (b : Boot) (m : ℕ) → k ≡ kernel.opened b m → machines ≡ length b.machines
     → senders ≡ replicate 16 (fresh_sending b.numbers) → receivers ≡ replicate 16 fresh_receiving
-    → record { kernel = k; machines = machines; numbers = b.numbers; home = 0; senders = sender_of senders; receivers = receiver_of receivers } ≡ opened b m
+    → record { kernel = k; machines = machines; numbers = b.numbers; home = 0; senders = sender_at senders; receivers = receiver_at receivers } ≡ node_opened b m
 begun k machines senders receivers b m e f g h =
     λ i.
     record {
@@ -27,6 +27,6 @@ begun k machines senders receivers b m e f g h =
       machines = f i;
       numbers = b.numbers;
       home = 0;
-      senders = λ c. (ap (λ xs. sender_of xs c) g ∙ sixteen_senders b.numbers c) i;
-      receivers = λ c. (ap (λ xs. receiver_of xs c) h ∙ sixteen_receivers c) i;
+      senders = λ c. (ap (λ xs. sender_at xs c) g ∙ sixteen_senders b.numbers c) i;
+      receivers = λ c. (ap (λ xs. receiver_at xs c) h ∙ sixteen_receivers c) i;
     }

@@ -2,9 +2,9 @@
 use Rattle.dm_node.proofs.Names.{◌≡◌, ℕ, ◌==◌, Bool, true, false, List, [], ◌∷◌, refl, ◌∙◌, ⊤, if◌then◌else◌, slice_get, Option, None, Some, Ok, Err, Link, Pid, pid_eq, Message, What, Process, Status, first_on, Here, Frozen, Incoming}
 use Rattle.dm_node.proofs.Names.{Forward, Ended, frozen_of, incoming_of, is_told_back, Asker, kind_of, Arrival, restarted, with_piece, Departure, block_of, chunk_of, bind, has_room_for, Landed, Landing, landing, after_serving}
 use Rattle.dm_node.proofs.Names.{serving_answer, Boot, BootImage, BootProcess, manager, switchboard, MoveError, moves_child, moved_back, Called, Completed, calls, Completion, completion, Servers, asks_manager, asks_move, told_to_move}
-use Rattle.dm_node.proofs.Names.{begins, child_of, empty, with_all, with_child, accepts, restarts, restarts_as, takes_piece, took_piece, gives_piece, leaves, stays, forwards_and, Halt, answers_with, board_handles, board_took, ended_handles}
-use Rattle.dm_node.proofs.Names.{handles, has_room, here_handles, kernel_handles, lands, lands_as, makes, makes_of, manager_handles, manager_took, process_handles, told_board, told_manager, called_with, halts, processor_of, ran, received}
-use Rattle.dm_node.proofs.Names.{received_by, receives, serves, serves_status, with_machine, KernelState, Known, Turned, own_id, with_here, first_runnable, goes_round, turn, here, opened}
+use Rattle.dm_node.proofs.Names.{begins_process, child_of, empty, with_all, with_child, accepts, restarts, restarts_as, takes_piece, took_piece, gives_piece, leaves, stays, forwards_and, Halt, answers_with, board_handles, board_took}
+use Rattle.dm_node.proofs.Names.{ended_handles, handles, has_room, here_handles, kernel_handles, lands, lands_as, makes, makes_of, manager_handles, manager_took, process_handles, told_board, told_manager, called_with, halts, processor_of}
+use Rattle.dm_node.proofs.Names.{ran, received, received_by, receives, serves, serves_status, with_machine, KernelState, KernelKnown, Turned, own_id, with_here, first_runnable, goes_round, turn, here, node_opened}
 use Rattle.std.specs.declared.result.Result.{Result}
 use Rattle.dm_message.specs.declared.What.TheVariants as what
 use Rattle.dm_process.specs.declared.process.Status.TheVariants as status
@@ -59,7 +59,7 @@ status_stays quantum s p x status.Ready =
 status_stays quantum s p x (status.Waiting mask base size) = receives_stays s p x mask (first_on mask x.queue)
 status_stays quantum s p x (status.Moving dir owner base own left pending) = tt
 
-serves_stays : (quantum : ℕ) (s : KernelState) (p : Pid) (o : Option Known) → StaysAt s.here (serves quantum s p o)
+serves_stays : (quantum : ℕ) (s : KernelState) (p : Pid) (o : Option KernelKnown) → StaysAt s.here (serves quantum s p o)
 serves_stays quantum s p None = tt
 serves_stays quantum s p (Some (Here x)) = status_stays quantum s p x x.status
 serves_stays quantum s p (Some (Frozen leaving)) = tt
@@ -112,7 +112,7 @@ forwards_stays : (s : KernelState) (m : Message) (place moves : ℕ) (told : Boo
 forwards_stays s m place moves true = refl
 forwards_stays s m place moves false = refl
 
-known_stays : (s : KernelState) (m : Message) (o : Option Known) → StaysAt s.here (process_handles s m o)
+known_stays : (s : KernelState) (m : Message) (o : Option KernelKnown) → StaysAt s.here (process_handles s m o)
 known_stays s m None = tt
 known_stays s m (Some (Here x)) = here_stays s m x m.what
 known_stays s m (Some (Frozen leaving)) = refl
@@ -221,13 +221,13 @@ begin_here : (test : Bool) (s t : KernelState) → t.here ≡ s.here → (if tes
 begin_here true s t h = h
 begin_here false s t h = refl
 
-begins_here : (b : Boot) (s : KernelState) (p : BootProcess) (o : Option BootImage) → (begins b s p o).here ≡ s.here
+begins_here : (b : Boot) (s : KernelState) (p : BootProcess) (o : Option BootImage) → (begins_process b s p o).here ≡ s.here
 begins_here b s p None = refl
 begins_here b s p (Some i) = begin_here (p.pid.home == s.here) s (with_child s p.pid (child_of b p.pid i p.links) i.blocks) refl
 
 all_begin_here : (b : Boot) (s : KernelState) (ps : List BootProcess) → (with_all b s ps).here ≡ s.here
 all_begin_here b s [] = refl
-all_begin_here b s (p ∷ ps) = all_begin_here b (begins b s p (slice_get b.images p.image)) ps ∙ begins_here b s p (slice_get b.images p.image)
+all_begin_here b s (p ∷ ps) = all_begin_here b (begins_process b s p (slice_get b.images p.image)) ps ∙ begins_here b s p (slice_get b.images p.image)
 
-pub opened_here : (b : Boot) (m : ℕ) → here (opened b m) ≡ m
+pub opened_here : (b : Boot) (m : ℕ) → here (node_opened b m) ≡ m
 opened_here b m = all_begin_here b (empty b m) b.processes

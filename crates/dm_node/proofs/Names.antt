@@ -29,11 +29,11 @@ pub use Rattle.dm_syscall.proofs.Names.{All-drop, Completion, calls, completion}
 pub use Rattle.dm_line.proofs.Names.{eqb_tells}
 pub use Rattle.dm_line.specs.Sets.{at_machine}
 pub use Rattle.dm_kernel.proofs.LawfulTurns.{asked_lawful, turn_lawful}
-pub use Rattle.dm_kernel.proofs.Names.{All-head, All-tail, BootImage, Called, Completed, Ended, Forward, Frozen, Here, Incoming, IsLawfulPart, IsLawfulState, IsLawfulTurned, KernelState, Known, Landed, Line, MeetsSome, MoveError, Turned}
-pub use Rattle.dm_kernel.proofs.Names.{accepts, answers_with, asks_manager, asks_move, begins, board_handles, board_took, called_with, child_of, empty, ended_handles, first_runnable, forwards_and, frozen_of, gives_piece, goes_round, halts}
-pub use Rattle.dm_kernel.proofs.Names.{handles, here_handles, images_are_valid, incoming_of, is_told_back, kernel_handles, lands, lands_as, leaves, makes, makes_of, manager_handles, manager_took, moved_back, own_id, process_handles}
-pub use Rattle.dm_kernel.proofs.Names.{processor_of, ran, received, received_by, receives, restarts, restarts_as, serves, serves_status, stays, takes_piece, told_board, told_manager, told_to_move, took_piece, turn, with_all, with_child}
-pub use Rattle.dm_kernel.proofs.Names.{with_here, with_machine, ⊤}
+pub use Rattle.dm_kernel.proofs.Names.{All-head, All-tail, BootImage, Called, Completed, Ended, Forward, Frozen, Here, Incoming, IsLawfulPart, IsLawfulState, IsLawfulTurned, KernelKnown, KernelState, Landed, Line, MeetsSome, MoveError}
+pub use Rattle.dm_kernel.proofs.Names.{Turned, accepts, answers_with, asks_manager, asks_move, begins_process, board_handles, board_took, called_with, child_of, empty, ended_handles, first_runnable, forwards_and, frozen_of, gives_piece}
+pub use Rattle.dm_kernel.proofs.Names.{goes_round, halts, handles, here_handles, images_are_valid, incoming_of, is_told_back, kernel_handles, lands, lands_as, leaves, makes, makes_of, manager_handles, manager_took, moved_back, own_id}
+pub use Rattle.dm_kernel.proofs.Names.{process_handles, processor_of, ran, received, received_by, receives, restarts, restarts_as, serves, serves_status, stays, takes_piece, told_board, told_manager, told_to_move, took_piece, turn}
+pub use Rattle.dm_kernel.proofs.Names.{with_all, with_child, with_here, with_machine, ⊤}
 pub use Rattle.dm_kernel.specs.Carried.{FreezesWhole}
 pub use Rattle.dm_kernel.specs.Handle.{has_room}
 pub use Rattle.dm_kernel.specs.declared.kernel.Kernel.{Kernel}
@@ -45,9 +45,9 @@ pub use Rattle.dm_node.specs.Acts.{sends_due, takes_next, then_acknowledges, tic
 unfoldable pub use Rattle.dm_node.specs.Acts.{lets_go, takes_kept}
 pub use Rattle.dm_node.specs.Lawful.{ActsLawfully, IsLawfulOut}
 pub use Rattle.dm_node.specs.May.{MayAct, MayArrive, MayArrivePacket, MayAskMove, MayTurn}
-pub use Rattle.dm_node.specs.Meets.{Answers, AnswersSome, Gave, GaveActs, HasStreams, OrNoMemory, receiver_of, sender_of, state_of}
+pub use Rattle.dm_node.specs.Meets.{Answers, AnswersSome, Gave, GaveActs, HasStreams, OrNoMemory, node_state, receiver_at, sender_at}
 pub use Rattle.dm_node.specs.Out.{Acted, Acts, Goes, Worn, behind, then_}
-pub use Rattle.dm_node.specs.State.{NodeState, fresh_sender, here, opened, with_message, with_receiver, with_sender}
+pub use Rattle.dm_node.specs.State.{NodeState, fresh_sender, here, node_opened, with_message, with_receiver, with_sender}
 pub use Rattle.dm_node.specs.declared.node.Node.{Node}
 pub use Rattle.dm_node.specs.declared.out.Out.{Out}
 pub use Rattle.dm_node.specs.declared.out.Out.TheVariants.{Says, Sends}

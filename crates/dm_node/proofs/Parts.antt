@@ -1,7 +1,7 @@
 -- The parts of a turn, one after another.
 use Rattle.dm_node.proofs.Names.{◌≡◌, ℕ, suc, ◌≤◌, Bool, true, false, ◌==◌, List, [], ◌∷◌, ◌++◌, length, refl, sym, ap, subst, inl, inr, ◌∙◌, append_assoc, append-nil, arith, Result, ⊤, if◌then◌else◌, Option, None, Some, Ok, Err, eqb_tells}
 use Rattle.dm_node.proofs.Names.{Message, Line, Kernel, Part, KernelState, Turned, Sending, due, with_given, Node, Stop, Out, Says, NodeState, here, with_sender, Acts, Goes, Worn, behind, then_, acts, gives, is_worn, none_waits, routes}
-use Rattle.dm_node.proofs.Names.{routes_away, routes_home, sends_due, turns, Answers, AnswersSome, GaveActs, HasStreams, OrNoMemory, state_of}
+use Rattle.dm_node.proofs.Names.{routes_away, routes_home, sends_due, turns, Answers, AnswersSome, GaveActs, HasStreams, OrNoMemory, node_state}
 use Rattle.dm_kernel.specs.declared.part.Part.TheVariants as part
 use Rattle.dm_kernel.specs.Meets as kernel
 use Rattle.dm_node.specs.declared.stop.Stop.TheVariants as stop
@@ -20,24 +20,24 @@ pub line_said : (r : Result Unit Stop) (after : Node) (n : NodeState) (l : Line)
 line_said r after n l ps old mid new e g = answers_behind r after old mid new (Says l ∷ []) (acts n ps) e g
 
 -- a message is routed, then the rest
-then_answers : (r : Result Unit Stop) (after between : Node) (old mid new : List Out) (a : Acts) (go : NodeState → Acts) → GaveActs between old mid a → Answers r after mid new (go (state_of between))
+then_answers : (r : Result Unit Stop) (after between : Node) (old mid new : List Out) (a : Acts) (go : NodeState → Acts) → GaveActs between old mid a → Answers r after mid new (go (node_state between))
     → Answers r after old new (then_ a go)
 then_answers r after between old mid new (Goes a) go g rest = answers_behind r after old mid new a.outs (go a.state) g.outs (subst (λ n. Answers r after mid new (go n)) g.state rest)
 then_answers r after between old mid new (Worn x y) go g rest = absurd g
 
 pub message_routed : (r : Result Unit Stop) (after between : Node) (n : NodeState) (m : Message) (ps : List Part) (old mid new : List Out) → GaveActs between old mid (routes n m)
-    → Answers r after mid new (acts (state_of between) ps) → Answers r after old new (acts n (part.Routes m ∷ ps))
+    → Answers r after mid new (acts (node_state between) ps) → Answers r after old new (acts n (part.Routes m ∷ ps))
 message_routed r after between n m ps old mid new g rest = then_answers r after between old mid new (routes n m) (λ next. acts next ps) g rest
 
-nothing_left : (n : Node) (outs : List Out) → HasStreams n → Answers (Ok tt) n outs outs (acts (state_of n) [])
+nothing_left : (n : Node) (outs : List Out) → HasStreams n → Answers (Ok tt) n outs outs (acts (node_state n) [])
 nothing_left n outs h = record { state = refl; streams = h; outs = sym (append-nil outs) }
 
 none_in : (ps : List Part) → length ps ≡ 0 → ps ≡ []
 none_in [] h = refl
 none_in (p ∷ ps) h = absurd (let e : suc (length ps) ≡ 0 = h in cc)
 
-pub all_done : (n : Node) (outs : List Out) (ps : List Part) → length ps ≡ 0 → HasStreams n → Answers (Ok tt) n outs outs (acts (state_of n) ps)
-all_done n outs ps e h = subst (λ xs. Answers (Ok tt) n outs outs (acts (state_of n) xs)) (sym (none_in ps e)) (nothing_left n outs h)
+pub all_done : (n : Node) (outs : List Out) (ps : List Part) → length ps ≡ 0 → HasStreams n → Answers (Ok tt) n outs outs (acts (node_state n) ps)
+all_done n outs ps e h = subst (λ xs. Answers (Ok tt) n outs outs (acts (node_state n) xs)) (sym (none_in ps e)) (nothing_left n outs h)
 
 pub gave_streams : (a : Acts) (after : Node) (old new : List Out) → GaveActs after old new a → HasStreams after
 gave_streams (Goes a) after old new g = g.streams
@@ -78,15 +78,15 @@ routes_counts n m h =
       | false ↦ away_counts n m.to.at m (n.senders m.to.at) (is_worn (n.senders m.to.at)) h
     ]
 
-gave_counts : (a : Acts) (numbers : ℕ) (after : Node) (old new : List Out) → GaveActs after old new a → CountsIn numbers a → Counts (state_of after) numbers
+gave_counts : (a : Acts) (numbers : ℕ) (after : Node) (old new : List Out) → GaveActs after old new a → CountsIn numbers a → Counts (node_state after) numbers
 gave_counts (Goes a) numbers after old new g c = subst (λ s. Counts s numbers) (sym g.state) c
 gave_counts (Worn x y) numbers after old new g c = absurd g
 
-pub routed_counts : (n : NodeState) (after : Node) (old new : List Out) (m : Message) → n.home ≤ n.numbers → GaveActs after old new (routes n m) → Counts (state_of after) n.numbers
+pub routed_counts : (n : NodeState) (after : Node) (old new : List Out) (m : Message) → n.home ≤ n.numbers → GaveActs after old new (routes n m) → Counts (node_state after) n.numbers
 routed_counts n after old new m h g = gave_counts (routes n m) n.numbers after old new g (routes_counts n m h)
 
 -- the kernel's state, pointwise and whole
-pub kernel_is : (k : Kernel) (s : KernelState) → kernel.IsIn k s → kernel.state_of k ≡ s
+pub kernel_is : (k : Kernel) (s : KernelState) → kernel.IsIn k s → kernel.kernel_state k ≡ s
 kernel_is k s h =
     λ i. record { here = h.here i; records = λ q. h.records q i; ring = h.ring i; inbox = h.inbox i; made = h.made i; sent = h.sent i; room = h.room i; servers = h.servers i }
 
@@ -97,7 +97,7 @@ some_answered (Err (stop.Worn x y)) after old new a g = g
 some_answered (Err (stop.NoMemory e)) after old new a g = tt
 
 pub turn_answered : (r : Result Unit Stop) (after : Node) (n : NodeState) (k : Kernel) (parts : List Part) (t : Option Turned) (old new : List Out) → kernel.MeetsSome k parts t
-    → Answers r after old new (acts (record n { kernel = kernel.state_of k }) parts) → AnswersSome r after old new (turns n t)
+    → Answers r after old new (acts (record n { kernel = kernel.kernel_state k }) parts) → AnswersSome r after old new (turns n t)
 turn_answered r after n k parts None old new h g = absurd h
 turn_answered r after n k parts (Some t) old new h g =
     some_answered r after old new (acts (record n { kernel = t.state }) t.parts)

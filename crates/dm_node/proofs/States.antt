@@ -1,7 +1,7 @@
 -- A machine of which one stream has changed, and what comes of a message that is routed.
 use Rattle.dm_node.proofs.Names.{◌≡◌, ℕ, Bool, true, false, ◌==◌, List, [], ◌∷◌, ◌++◌, length, refl, sym, ap, ◌∙◌, subst, append_assoc, inl, inr, eq-eqb, Result, if◌then◌else◌, IsErrAnd, with_items, eqb_tells, with_items_is}
 use Rattle.dm_node.proofs.Names.{err_from_is_err_and, Option, None, Some, NoMemory, Message, Packet, Sending, due, with_given, with_sent, Receiving, at_machine, Node, Stop, Out, Says, Sends, NodeState, here, with_sender, with_receiver}
-use Rattle.dm_node.proofs.Names.{Acted, Acts, Worn, gives, is_worn, none_waits, put_line, routes_away, sends_due, Answers, Gave, GaveActs, HasStreams, receiver_of, sender_of, state_of}
+use Rattle.dm_node.proofs.Names.{Acted, Acts, Worn, gives, is_worn, none_waits, put_line, routes_away, sends_due, Answers, Gave, GaveActs, HasStreams, receiver_at, sender_at, node_state}
 use Rattle.dm_node.specs.declared.stop.Stop.TheVariants as stop
 use Rattle.dm_node.specs.Out.{numbered}
 
@@ -15,11 +15,11 @@ pub receiver_set : (n : NodeState) (receivers : ℕ → Receiving Message) (a : 
 receiver_set n receivers a r e = λ i. record n { receivers = λ c. e c i }
 
 -- what is written into the streams stands there
-pub senders_written : (n : Node) (xs : List (Sending Message)) → length xs ≡ length n.senders.items → state_of (record n { senders = with_items n.senders xs }) ≡ record (state_of n) { senders = sender_of xs }
-senders_written n xs e = ap (λ ys. record (state_of n) { senders = sender_of ys }) (with_items_is n.senders xs (e ∙ sym n.senders.ok.0))
+pub senders_written : (n : Node) (xs : List (Sending Message)) → length xs ≡ length n.senders.items → node_state (record n { senders = with_items n.senders xs }) ≡ record (node_state n) { senders = sender_at xs }
+senders_written n xs e = ap (λ ys. record (node_state n) { senders = sender_at ys }) (with_items_is n.senders xs (e ∙ sym n.senders.ok.0))
 
-pub receivers_written : (n : Node) (xs : List (Receiving Message)) → length xs ≡ length n.receivers.items → state_of (record n { receivers = with_items n.receivers xs }) ≡ record (state_of n) { receivers = receiver_of xs }
-receivers_written n xs e = ap (λ ys. record (state_of n) { receivers = receiver_of ys }) (with_items_is n.receivers xs (e ∙ sym n.receivers.ok.0))
+pub receivers_written : (n : Node) (xs : List (Receiving Message)) → length xs ≡ length n.receivers.items → node_state (record n { receivers = with_items n.receivers xs }) ≡ record (node_state n) { receivers = receiver_at xs }
+receivers_written n xs e = ap (λ ys. record (node_state n) { receivers = receiver_at ys }) (with_items_is n.receivers xs (e ∙ sym n.receivers.ok.0))
 
 pub senders_there : (n : Node) (xs : List (Sending Message)) → HasStreams n → length xs ≡ length n.senders.items → HasStreams (record n { senders = with_items n.senders xs })
 senders_there n xs h e = record { senders = ap length (with_items_is n.senders xs (e ∙ sym n.senders.ok.0)) ∙ e ∙ h.senders; receivers = h.receivers }

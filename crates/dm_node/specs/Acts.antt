@@ -23,7 +23,7 @@ use Rattle.dm_kernel.specs.Turn as kernel
 use Rattle.dm_node.specs.State.{NodeState, here, with_sender, with_message, with_receiver}
 use Rattle.dm_node.specs.declared.out.Out.{Out}
 use Rattle.dm_node.specs.declared.out.Out.TheVariants.{Says, Sends}
-use Rattle.dm_node.specs.Out.{Acted, Acts, Goes, Worn, goes, behind, then_, packet_of}
+use Rattle.dm_node.specs.Out.{Acted, Acts, Goes, Worn, goes, behind, then_, packet_of_load}
 
 -- a message is routed to the machine that its receiver's address names
 abbrev pub put_line : NodeState → Message → Line
@@ -35,7 +35,7 @@ routes_home n m true = Worn (here n) (here n)
 routes_home n m false = goes (record (with_message n m) { home = n.home + 1 }) (Says (put_line n m) ∷ [])
 
 abbrev pub sends : NodeState → ℕ → Load Message → Out
-sends n b carried = Sends (packet_of (here n) b carried)
+sends n b carried = Sends (packet_of_load (here n) b carried)
 
 -- what is due goes out
 abbrev pub sends_due : NodeState → ℕ → Option (ℕ × Message) → Acted

@@ -17,21 +17,21 @@ use Rattle.dm_node.specs.Out.{Acted, Acts, Goes, Worn}
 use Rattle.dm_node.specs.Acts.{is_worn}
 
 -- the streams with machine b
-abbrev pub sender_of : List (Sending Message) → ℕ → Sending Message
-sender_of senders b = slice_index_or senders b (fresh_sending 0)
+abbrev pub sender_at : List (Sending Message) → ℕ → Sending Message
+sender_at senders b = slice_index_or senders b (fresh_sending 0)
 
-abbrev pub receiver_of : List (Receiving Message) → ℕ → Receiving Message
-receiver_of receivers b = slice_index_or receivers b fresh_receiving
+abbrev pub receiver_at : List (Receiving Message) → ℕ → Receiving Message
+receiver_at receivers b = slice_index_or receivers b fresh_receiving
 
-abbrev pub state_of : Node → NodeState
-state_of n =
+abbrev pub node_state : Node → NodeState
+node_state n =
     record {
-      kernel = kernel.state_of n.kernel;
+      kernel = kernel.kernel_state n.kernel;
       machines = n.machines;
       numbers = n.numbers;
       home = n.home;
-      senders = sender_of n.senders.items;
-      receivers = receiver_of n.receivers.items;
+      senders = sender_at n.senders.items;
+      receivers = receiver_at n.receivers.items;
     }
 
 -- there is a stream to and from each of sixteen machines
@@ -42,7 +42,7 @@ pub record HasStreams (n : Node) : Type 0 where
 -- a machine's stream has one more message
 pub record GaveTo (new : Node) (n : NodeState) (b : ℕ) (m : Message) : Type 0 where
   pub not_worn : is_worn (n.senders b) ≡ false
-  pub state : state_of new ≡ with_sender n b (with_given (n.senders b) m)
+  pub state : node_state new ≡ with_sender n b (with_given (n.senders b) m)
   pub streams : HasStreams new
 
 -- a message can't be given, since all numbers of the stream are used
@@ -58,7 +58,7 @@ Gives (Err (stop.NoMemory e)) new n b m = ⊤
 
 -- the code gives these at the end of what there was, or has no memory
 pub record Gave (n : Node) (old new : List Out) (a : Acted) : Type 0 where
-  pub state : state_of n ≡ a.state
+  pub state : node_state n ≡ a.state
   pub streams : HasStreams n
   pub outs : new ≡ old ++ a.outs
 

@@ -10,9 +10,9 @@ use Rattle.dm_node.specs.declared.out.Out.{Out}
 use Rattle.dm_node.specs.State.{NodeState}
 
 -- the packet of a load from machine a to machine b
-abbrev pub packet_of : ℕ → ℕ → Load Message → Packet
-packet_of a b (Data k m) = packet.Data a b k m
-packet_of a b (Ack k) = packet.Ack a b k
+abbrev pub packet_of_load : ℕ → ℕ → Load Message → Packet
+packet_of_load a b (Data k m) = packet.Data a b k m
+packet_of_load a b (Ack k) = packet.Ack a b k
 
 -- the packet of a message with its number
 abbrev pub numbered : ℕ → ℕ → Option (ℕ × Message) → Option Packet

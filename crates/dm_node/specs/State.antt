@@ -37,8 +37,8 @@ abbrev pub fresh_sender : ℕ → ℕ → Sending Message
 fresh_sender numbers c = fresh_sending (if nat_lt c 16 then numbers else 0)
 
 -- a machine as the boot file has it: nothing was sent yet
-abbrev pub opened : Boot → ℕ → NodeState
-opened b m =
+abbrev pub node_opened : Boot → ℕ → NodeState
+node_opened b m =
     record {
       kernel = kernel.opened b m;
       machines = length b.machines;

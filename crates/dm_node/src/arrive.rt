@@ -4,7 +4,7 @@ ghost use Rattle.dm_stream.specs.Packets.{Ack, Data};
 ghost use Rattle.dm_stream.specs.Sending.{window};
 ghost use Rattle.dm_node.specs.Acts.{acknowledges, arrives, arrives_packet, comes_in, takes_kept};
 ghost use Rattle.dm_node.specs.May.{MayArrive, MayArrivePacket};
-ghost use Rattle.dm_node.specs.Meets.{Gave, HasStreams, state_of};
+ghost use Rattle.dm_node.specs.Meets.{Gave, HasStreams, node_state};
 
 use crate::envelope::{Contents, Envelope};
 use crate::node::Node;
@@ -22,9 +22,9 @@ impl Node {
     /// that came early, kept if it is early, and dropped if it is old; how many were taken is acknowledged. An
     /// acknowledgement lets messages go out that wait.
     pub fn arrive(&mut self, packet: Envelope, outs: &mut Vec<Out>) -> Result<(), NoMemory>
-        requires may { MayArrivePacket (state_of self.old) packet }
+        requires may { MayArrivePacket (node_state self.old) packet }
         requires streams { HasStreams self.old }
-        ensures { OnOk result (Gave self.new outs.old.items outs.new.items (arrives_packet (state_of self.old) packet)) }
+        ensures { OnOk result (Gave self.new outs.old.items outs.new.items (arrives_packet (node_state self.old) packet)) }
     {
         match packet.open() {
             Contents::Data {
@@ -53,9 +53,9 @@ impl Node {
         message: Parcel<Message>,
         outs: &mut Vec<Out>,
     ) -> Result<(), NoMemory>
-        requires may { MayArrive (state_of self.old) from (Data seq message) }
+        requires may { MayArrive (node_state self.old) from (Data seq message) }
         requires streams { HasStreams self.old }
-        ensures { OnOk result (Gave self.new outs.old.items outs.new.items (arrives (state_of self.old) from (Data seq message))) }
+        ensures { OnOk result (Gave self.new outs.old.items outs.new.items (arrives (node_state self.old) from (Data seq message))) }
     {
         let arrived = self.receive(from, seq, message);
         self.take_in(from, seq, arrived, outs)?;
@@ -72,7 +72,7 @@ impl Node {
     ) -> Result<(), NoMemory>
         requires from { from < MACHINES }
         requires streams { HasStreams self.old }
-        ensures { OnOk result (Gave self.new outs.old.items outs.new.items (comes_in (state_of self.old) from seq arrived)) }
+        ensures { OnOk result (Gave self.new outs.old.items outs.new.items (comes_in (node_state self.old) from seq arrived)) }
     {
         let here = self.kernel.here();
         match arrived {
@@ -112,7 +112,7 @@ impl Node {
     fn take_kept(&mut self, from: u8, outs: &mut Vec<Out>) -> Result<(), NoMemory>
         requires from { from < MACHINES }
         requires streams { HasStreams self.old }
-        ensures { OnOk result (Gave self.new outs.old.items outs.new.items (takes_kept window (state_of self.old) from)) }
+        ensures { OnOk result (Gave self.new outs.old.items outs.new.items (takes_kept window (node_state self.old) from)) }
     {
         for _round in 0..WINDOW {
             let n = self.count(from);
@@ -138,7 +138,7 @@ impl Node {
     fn acknowledge(&self, to: u8, outs: &mut Vec<Out>) -> Result<(), NoMemory>
         requires to { to < MACHINES }
         requires streams { HasStreams self.now }
-        ensures { OnOk result (outs.new.items ≡ outs.old.items ++ acknowledges (state_of self.now) to) }
+        ensures { OnOk result (outs.new.items ≡ outs.old.items ++ acknowledges (node_state self.now) to) }
     {
         let acknowledgement = Packet::Ack {
             from: self.kernel.here(),
@@ -150,9 +150,9 @@ impl Node {
 
     /// Machine `from` has taken the first `count` messages: those that wait go out, as far as the window allows.
     fn hear(&mut self, from: u8, count: u32, outs: &mut Vec<Out>) -> Result<(), NoMemory>
-        requires may { MayArrive (state_of self.old) from (Ack count) }
+        requires may { MayArrive (node_state self.old) from (Ack count) }
         requires streams { HasStreams self.old }
-        ensures { OnOk result (Gave self.new outs.old.items outs.new.items (arrives (state_of self.old) from (Ack count))) }
+        ensures { OnOk result (Gave self.new outs.old.items outs.new.items (arrives (node_state self.old) from (Ack count))) }
     {
         push(
             outs,

@@ -3,8 +3,8 @@ ghost use Rattle.std.specs.Prelude.{◌≡◌, ◌<◌, IfOk, length, replicate}
 ghost use Rattle.dm_stream.specs.Sending.{fresh_sending};
 ghost use Rattle.dm_stream.specs.Receiving.{fresh_receiving};
 ghost use Rattle.dm_onekernel.specs.Boot.{IsValid};
-ghost use Rattle.dm_node.specs.Meets.{HasStreams, state_of};
-ghost use Rattle.dm_node.specs.State.{opened};
+ghost use Rattle.dm_node.specs.Meets.{HasStreams, node_state};
+ghost use Rattle.dm_node.specs.State.{node_opened};
 
 use crate::node::Node;
 use dm_kernel::Kernel;
@@ -20,7 +20,7 @@ impl Node {
     pub fn new(alloc: Global, boot: &Boot, here: u8) -> Result<Node, NoMemory>
         requires valid { IsValid boot.now }
         requires here { here < length boot.now.machines }
-        ensures state { IfOk result (λ n. state_of n ≡ opened boot.now here) }
+        ensures state { IfOk result (λ n. node_state n ≡ node_opened boot.now here) }
         ensures streams { IfOk result (λ n. HasStreams n) }
     {
         let kernel = Kernel::new(alloc, boot, here)?;

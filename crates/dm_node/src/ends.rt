@@ -3,7 +3,7 @@ ghost use Rattle.std.specs.Prelude.{◌≡◌, ◌<◌, ◌≤◌, ◌+◌, ◌-
 ghost use Rattle.dm_stream.specs.Sending.{due, outstanding, with_acked, with_sent};
 ghost use Rattle.dm_stream.specs.Receiving.{after_arrival, after_next, arrival, next};
 ghost use Rattle.dm_node.specs.Acts.{count_out, none_waits};
-ghost use Rattle.dm_node.specs.Meets.{Gives, HasStreams, state_of};
+ghost use Rattle.dm_node.specs.Meets.{Gives, HasStreams, node_state};
 ghost use Rattle.dm_node.specs.Out.{numbered};
 ghost use Rattle.dm_node.specs.State.{with_receiver, with_sender};
 
@@ -21,7 +21,7 @@ impl Node {
     pub(crate) fn none_waits(&self, to: u8) -> bool
         requires streams { HasStreams self.now }
         requires to { to < MACHINES }
-        ensures { result ≡ none_waits ((state_of self.now).senders to) }
+        ensures { result ≡ none_waits ((node_state self.now).senders to) }
     {
         streams::none_waits(&self.senders, to)
     }
@@ -30,7 +30,7 @@ impl Node {
     pub(crate) fn give(&mut self, to: u8, message: Parcel<Message>) -> Result<(), Stop>
         requires streams { HasStreams self.old }
         requires to { to < MACHINES }
-        ensures { Gives result self.new (state_of self.old) to message }
+        ensures { Gives result self.new (node_state self.old) to message }
     {
         match streams::give(&mut self.senders, to, message) {
             Ok(()) => Ok(()),
@@ -46,7 +46,7 @@ impl Node {
     pub(crate) fn due(&self, to: u8) -> Option<Packet>
         requires streams { HasStreams self.now }
         requires to { to < MACHINES }
-        ensures { result ≡ numbered self.now.kernel.here to (due ((state_of self.now).senders to)) }
+        ensures { result ≡ numbered self.now.kernel.here to (due ((node_state self.now).senders to)) }
     {
         streams::due(&self.senders, self.kernel.here(), to)
     }
@@ -55,8 +55,8 @@ impl Node {
     pub(crate) fn sent_due(&mut self, to: u8)
         requires streams { HasStreams self.old }
         requires to { to < MACHINES }
-        requires due { IsSome (due ((state_of self.old).senders to)) }
-        ensures state { state_of self.new ≡ with_sender (state_of self.old) to (with_sent ((state_of self.old).senders to)) }
+        requires due { IsSome (due ((node_state self.old).senders to)) }
+        ensures state { node_state self.new ≡ with_sender (node_state self.old) to (with_sent ((node_state self.old).senders to)) }
         ensures streams { HasStreams self.new }
     {
         streams::sent_due(&mut self.senders, to);
@@ -66,7 +66,7 @@ impl Node {
     pub(crate) fn outstanding(&self, to: u8, place: usize) -> Option<Packet>
         requires streams { HasStreams self.now }
         requires to { to < MACHINES }
-        ensures { result ≡ numbered self.now.kernel.here to (outstanding ((state_of self.now).senders to) place) }
+        ensures { result ≡ numbered self.now.kernel.here to (outstanding ((node_state self.now).senders to) place) }
     {
         streams::outstanding(&self.senders, self.kernel.here(), to, place)
     }
@@ -75,7 +75,7 @@ impl Node {
     pub(crate) fn count_out(&self, to: u8) -> u32
         requires streams { HasStreams self.now }
         requires to { to < MACHINES }
-        ensures count { result ≡ count_out ((state_of self.now).senders to) }
+        ensures count { result ≡ count_out ((node_state self.now).senders to) }
         ensures few { result ≤ WINDOW }
     {
         streams::count_out(&self.senders, to)
@@ -85,8 +85,8 @@ impl Node {
     pub(crate) fn acked(&mut self, to: u8, count: u32)
         requires streams { HasStreams self.old }
         requires to { to < MACHINES }
-        requires gone { count ≤ ((state_of self.old).senders to).gone }
-        ensures state { state_of self.new ≡ with_sender (state_of self.old) to (with_acked ((state_of self.old).senders to) count) }
+        requires gone { count ≤ ((node_state self.old).senders to).gone }
+        ensures state { node_state self.new ≡ with_sender (node_state self.old) to (with_acked ((node_state self.old).senders to) count) }
         ensures streams { HasStreams self.new }
     {
         streams::acked(&mut self.senders, to, count);
@@ -96,7 +96,7 @@ impl Node {
     pub fn count(&self, from: u8) -> u32
         requires streams { HasStreams self.now }
         requires from { from < MACHINES }
-        ensures { result ≡ ((state_of self.now).receivers from).count }
+        ensures { result ≡ ((node_state self.now).receivers from).count }
     {
         streams::count(&self.receivers, from)
     }
@@ -110,10 +110,10 @@ impl Node {
     ) -> Arrived<Parcel<Message>>
         requires streams { HasStreams self.old }
         requires from { from < MACHINES }
-        requires in_window { seq < ((state_of self.old).receivers from).count + WINDOW }
+        requires in_window { seq < ((node_state self.old).receivers from).count + WINDOW }
         requires numbered { seq < 2 ^ 32 - 1 }
-        ensures value { result ≡ arrival ((state_of self.old).receivers from) seq message }
-        ensures state { state_of self.new ≡ with_receiver (state_of self.old) from (after_arrival ((state_of self.old).receivers from) seq message) }
+        ensures value { result ≡ arrival ((node_state self.old).receivers from) seq message }
+        ensures state { node_state self.new ≡ with_receiver (node_state self.old) from (after_arrival ((node_state self.old).receivers from) seq message) }
         ensures streams { HasStreams self.new }
     {
         streams::arrive(&mut self.receivers, from, seq, message)
@@ -123,8 +123,8 @@ impl Node {
     pub(crate) fn next_kept(&mut self, from: u8) -> Option<Parcel<Message>>
         requires streams { HasStreams self.old }
         requires from { from < MACHINES }
-        ensures value { result ≡ next ((state_of self.old).receivers from) }
-        ensures state { state_of self.new ≡ with_receiver (state_of self.old) from (after_next ((state_of self.old).receivers from)) }
+        ensures value { result ≡ next ((node_state self.old).receivers from) }
+        ensures state { node_state self.new ≡ with_receiver (node_state self.old) from (after_next ((node_state self.old).receivers from)) }
         ensures streams { HasStreams self.new }
     {
         streams::next_kept(&mut self.receivers, from)

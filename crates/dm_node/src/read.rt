@@ -1,6 +1,6 @@
 //! What can be read of a machine.
 ghost use Rattle.std.specs.Prelude.{◌≡◌, ◌<◌};
-ghost use Rattle.dm_node.specs.Meets.{HasStreams, state_of};
+ghost use Rattle.dm_node.specs.Meets.{HasStreams, node_state};
 
 use crate::node::Node;
 use dm_kernel::Kernel;
@@ -29,7 +29,7 @@ impl Node {
     pub fn sender(&self, to: u8) -> &Sender<Parcel<Message>>
         requires streams { HasStreams self.now }
         requires to { to < MACHINES }
-        ensures { result.now ≡ (state_of self.now).senders to }
+        ensures { result.now ≡ (node_state self.now).senders to }
     {
         &self.senders[usize::from(to)]
     }

@@ -2,7 +2,7 @@
 ghost use Rattle.std.specs.Prelude.{◌≡◌, ◌<◌, ◌≤◌, ◌^◌, ◌++◌, ◌∷◌, ◌==◌, [], IfOk, OnOk, is_some};
 ghost use Rattle.dm_stream.specs.Sending.{due, given_count, with_given, with_sent};
 ghost use Rattle.dm_node.specs.Acts.{gives, put_line, routes, routes_away, routes_home, sends_due};
-ghost use Rattle.dm_node.specs.Meets.{Answers, Gave, HasStreams, state_of};
+ghost use Rattle.dm_node.specs.Meets.{Answers, Gave, HasStreams, node_state};
 ghost use Rattle.dm_node.specs.Out.{Goes};
 
 use crate::node::Node;
@@ -24,7 +24,7 @@ impl Node {
         requires to { message.to.at < MACHINES }
         requires home { self.old.home ≤ self.old.numbers }
         requires numbers { self.old.numbers < 2 ^ 32 }
-        ensures { Answers result self.new outs.old.items outs.new.items (routes (state_of self.old) message) }
+        ensures { Answers result self.new outs.old.items outs.new.items (routes (node_state self.old) message) }
     {
         if message.get().to.at == self.kernel.here() {
             self.route_home(message, outs)
@@ -35,7 +35,7 @@ impl Node {
 
     /// The line of a message that is routed.
     fn put_line(&self, message: &Message) -> Line
-        ensures { result ≡ put_line (state_of self.now) message.now }
+        ensures { result ≡ put_line (node_state self.now) message.now }
     {
         Line::Put {
             from: self.kernel.here(),
@@ -51,7 +51,7 @@ impl Node {
         requires streams { HasStreams self.old }
         requires home { self.old.home ≤ self.old.numbers }
         requires numbers { self.old.numbers < 2 ^ 32 }
-        ensures { Answers result self.new outs.old.items outs.new.items (routes_home (state_of self.old) message (self.old.home == self.old.numbers)) }
+        ensures { Answers result self.new outs.old.items outs.new.items (routes_home (node_state self.old) message (self.old.home == self.old.numbers)) }
     {
         let here = self.kernel.here();
         if self.home == self.numbers {
@@ -73,7 +73,7 @@ impl Node {
         requires streams { HasStreams self.old }
         requires to { message.to.at < MACHINES }
         ensures { Answers result self.new outs.old.items outs.new.items
-            (routes_away (state_of self.old) message.to.at message ((state_of self.old).senders message.to.at)) }
+            (routes_away (node_state self.old) message.to.at message ((node_state self.old).senders message.to.at)) }
     {
         let said = message.get();
         let to = said.to.at;
@@ -91,8 +91,8 @@ impl Node {
     pub(crate) fn send_due(&mut self, to: u8, outs: &mut Vec<Out>) -> Result<bool, NoMemory>
         requires streams { HasStreams self.old }
         requires to { to < MACHINES }
-        ensures gave { OnOk result (Gave self.new outs.old.items outs.new.items (sends_due (state_of self.old) to (due ((state_of self.old).senders to)))) }
-        ensures was { IfOk result (λ sent. sent ≡ is_some (due ((state_of self.old).senders to))) }
+        ensures gave { OnOk result (Gave self.new outs.old.items outs.new.items (sends_due (node_state self.old) to (due ((node_state self.old).senders to)))) }
+        ensures was { IfOk result (λ sent. sent ≡ is_some (due ((node_state self.old).senders to))) }
     {
         match self.due(to) {
             Some(packet) => {

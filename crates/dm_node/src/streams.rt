@@ -6,7 +6,7 @@ ghost use Rattle.dm_stream.specs.Returned.{message_in};
 ghost use Rattle.dm_stream.specs.declared.sender.GiveError.TheVariants as no;
 ghost use Rattle.dm_node.specs.Acts.{count_out, none_waits};
 ghost use Rattle.dm_node.specs.Out.{numbered};
-ghost use Rattle.dm_node.specs.Meets.{receiver_of, sender_of};
+ghost use Rattle.dm_node.specs.Meets.{receiver_at, sender_at};
 ghost use Rattle.dm_line.specs.Sets.{at_machine};
 
 use dm_memory::Parcel;
@@ -17,7 +17,7 @@ use dm_stream::{Arrived, GiveError, Receiver, Sender, WINDOW};
 /// Whether all messages to machine `to` have gone out.
 pub fn none_waits(senders: &[Sender<Parcel<Message>>], to: u8) -> bool
     requires { to < length senders.now }
-    ensures { result ≡ none_waits (sender_of senders.now to) }
+    ensures { result ≡ none_waits (sender_at senders.now to) }
 {
     let sender = &senders[usize::from(to)];
     sender.gone_out() == sender.given()
@@ -30,8 +30,8 @@ pub fn give(
     message: Parcel<Message>,
 ) -> Result<(), GiveError<Parcel<Message>>>
     requires { to < length senders.old }
-    ensures ok { OnOk result ((c : ℕ) → sender_of senders.new c ≡ at_machine (sender_of senders.old) to (with_given (sender_of senders.old to) message) c) }
-    ensures worn { (result ≡ Err (no.Worn message)) ↔ (given_count (sender_of senders.old to) ≡ (sender_of senders.old to).numbers) }
+    ensures ok { OnOk result ((c : ℕ) → sender_at senders.new c ≡ at_machine (sender_at senders.old) to (with_given (sender_at senders.old to) message) c) }
+    ensures worn { (result ≡ Err (no.Worn message)) ↔ (given_count (sender_at senders.old to) ≡ (sender_at senders.old to).numbers) }
     ensures returned { IfErr result (λ e. message_in e ≡ message) }
     ensures length { length senders.new ≡ length senders.old }
 {
@@ -41,7 +41,7 @@ pub fn give(
 /// The packet that is due on the stream from machine `here` to machine `to`.
 pub fn due(senders: &[Sender<Parcel<Message>>], here: u8, to: u8) -> Option<Packet>
     requires { to < length senders.now }
-    ensures { result ≡ numbered here to (due (sender_of senders.now to)) }
+    ensures { result ≡ numbered here to (due (sender_at senders.now to)) }
 {
     match senders[usize::from(to)].due() {
         Some((seq, message)) => Some(Packet::Data {
@@ -57,8 +57,8 @@ pub fn due(senders: &[Sender<Parcel<Message>>], here: u8, to: u8) -> Option<Pack
 /// The packet that is due to machine `to` has gone out.
 pub fn sent_due(senders: &mut [Sender<Parcel<Message>>], to: u8)
     requires within { to < length senders.old }
-    requires due { IsSome (due (sender_of senders.old to)) }
-    ensures sent { (c : ℕ) → sender_of senders.new c ≡ at_machine (sender_of senders.old) to (with_sent (sender_of senders.old to)) c }
+    requires due { IsSome (due (sender_at senders.old to)) }
+    ensures sent { (c : ℕ) → sender_at senders.new c ≡ at_machine (sender_at senders.old) to (with_sent (sender_at senders.old to)) c }
     ensures length { length senders.new ≡ length senders.old }
 {
     senders[usize::from(to)].sent_due();
@@ -72,7 +72,7 @@ pub fn outstanding(
     place: usize,
 ) -> Option<Packet>
     requires { to < length senders.now }
-    ensures { result ≡ numbered here to (outstanding (sender_of senders.now to) place) }
+    ensures { result ≡ numbered here to (outstanding (sender_at senders.now to) place) }
 {
     match senders[usize::from(to)].outstanding(place) {
         Some((seq, message)) => Some(Packet::Data {
@@ -88,7 +88,7 @@ pub fn outstanding(
 /// How many packets are out to machine `to` and not acknowledged.
 pub fn count_out(senders: &[Sender<Parcel<Message>>], to: u8) -> u32
     requires { to < length senders.now }
-    ensures count { result ≡ count_out (sender_of senders.now to) }
+    ensures count { result ≡ count_out (sender_at senders.now to) }
     ensures few { result ≤ WINDOW }
 {
     senders[usize::from(to)].out()
@@ -97,8 +97,8 @@ pub fn count_out(senders: &[Sender<Parcel<Message>>], to: u8) -> u32
 /// Machine `to` has taken the first `count` messages.
 pub fn acked(senders: &mut [Sender<Parcel<Message>>], to: u8, count: u32)
     requires within { to < length senders.old }
-    requires gone { count ≤ (sender_of senders.old to).gone }
-    ensures acked { (c : ℕ) → sender_of senders.new c ≡ at_machine (sender_of senders.old) to (with_acked (sender_of senders.old to) count) c }
+    requires gone { count ≤ (sender_at senders.old to).gone }
+    ensures acked { (c : ℕ) → sender_at senders.new c ≡ at_machine (sender_at senders.old) to (with_acked (sender_at senders.old to) count) c }
     ensures length { length senders.new ≡ length senders.old }
 {
     senders[usize::from(to)].acked(count);
@@ -107,7 +107,7 @@ pub fn acked(senders: &mut [Sender<Parcel<Message>>], to: u8, count: u32)
 /// How many messages of machine `from` were taken.
 pub fn count(receivers: &[Receiver<Parcel<Message>>], from: u8) -> u32
     requires { from < length receivers.now }
-    ensures { result ≡ (receiver_of receivers.now from).count }
+    ensures { result ≡ (receiver_at receivers.now from).count }
 {
     receivers[usize::from(from)].count()
 }
@@ -120,11 +120,11 @@ pub fn arrive(
     message: Parcel<Message>,
 ) -> Arrived<Parcel<Message>>
     requires within { from < length receivers.old }
-    requires in_window { seq < (receiver_of receivers.old from).count + WINDOW }
+    requires in_window { seq < (receiver_at receivers.old from).count + WINDOW }
     requires numbered { seq < 2 ^ 32 - 1 }
-    ensures value { result ≡ arrival (receiver_of receivers.old from) seq message }
-    ensures after { (c : ℕ) → receiver_of receivers.new c ≡
-        at_machine (receiver_of receivers.old) from (after_arrival (receiver_of receivers.old from) seq message) c }
+    ensures value { result ≡ arrival (receiver_at receivers.old from) seq message }
+    ensures after { (c : ℕ) → receiver_at receivers.new c ≡
+        at_machine (receiver_at receivers.old) from (after_arrival (receiver_at receivers.old from) seq message) c }
     ensures length { length receivers.new ≡ length receivers.old }
 {
     receivers[usize::from(from)].arrive(seq, message)
@@ -133,8 +133,8 @@ pub fn arrive(
 /// Takes the message of machine `from` that came early and is the next now.
 pub fn next_kept(receivers: &mut [Receiver<Parcel<Message>>], from: u8) -> Option<Parcel<Message>>
     requires within { from < length receivers.old }
-    ensures value { result ≡ next (receiver_of receivers.old from) }
-    ensures after { (c : ℕ) → receiver_of receivers.new c ≡ at_machine (receiver_of receivers.old) from (after_next (receiver_of receivers.old from)) c }
+    ensures value { result ≡ next (receiver_at receivers.old from) }
+    ensures after { (c : ℕ) → receiver_at receivers.new c ≡ at_machine (receiver_at receivers.old) from (after_next (receiver_at receivers.old from)) c }
     ensures length { length receivers.new ≡ length receivers.old }
 {
     receivers[usize::from(from)].next_kept()

@@ -6,7 +6,7 @@ ghost use Rattle.dm_kernel.specs.Carried.{FreezesWhole};
 ghost use Rattle.dm_kernel.specs.Lawful.{IsLawfulPart, IsLawfulState};
 ghost use Rattle.dm_node.specs.Acts.{acts, all_out, asks_move, count_out, counts_out, first_out, tick, turn};
 ghost use Rattle.dm_node.specs.May.{MayAct, MayAskMove, MayTurn};
-ghost use Rattle.dm_node.specs.Meets.{Answers, AnswersSome, Gave, HasStreams, OrNoMemory, state_of};
+ghost use Rattle.dm_node.specs.Meets.{Answers, AnswersSome, Gave, HasStreams, OrNoMemory, node_state};
 
 use crate::node::Node;
 use crate::out::Out;
@@ -22,13 +22,13 @@ impl Node {
     /// Takes a turn. What it gives comes to the end of `outs`. It stops as worn exactly where it would route a message
     /// to a machine to which it has routed as many as it may.
     pub fn turn(&mut self, boot: &Boot, outs: &mut Vec<Out>) -> Result<(), Stop>
-        requires may { MayTurn boot.now (state_of self.old) }
+        requires may { MayTurn boot.now (node_state self.old) }
         requires images { images_are_valid boot.now.images ≡ true }
-        requires lawful { IsLawfulState (state_of self.old).kernel }
+        requires lawful { IsLawfulState (node_state self.old).kernel }
         requires streams { HasStreams self.old }
-        ensures answers { AnswersSome result self.new outs.old.items outs.new.items (turn boot.now (state_of self.old)) }
+        ensures answers { AnswersSome result self.new outs.old.items outs.new.items (turn boot.now (node_state self.old)) }
         // Where the kernel froze a process, that one can be carried whole.
-        ensures whole { OrNoMemory result (FreezesWhole (state_of self.old).kernel (state_of self.old).kernel.inbox) }
+        ensures whole { OrNoMemory result (FreezesWhole (node_state self.old).kernel (node_state self.old).kernel.inbox) }
     {
         turns_are_lawful();
         match self.kernel.turn(boot) {
@@ -40,11 +40,11 @@ impl Node {
     /// Has the manager tell a process to move to a machine, on the machine where the manager is. What it gives comes to
     /// the end of `outs`, and it stops as worn like a turn.
     pub fn ask_move(&mut self, pid: Pid, to: u8, outs: &mut Vec<Out>) -> Result<(), Stop>
-        requires may { MayAskMove (state_of self.old) }
+        requires may { MayAskMove (node_state self.old) }
         requires to { to < MACHINES }
-        requires lawful { IsLawfulState (state_of self.old).kernel }
+        requires lawful { IsLawfulState (node_state self.old).kernel }
         requires streams { HasStreams self.old }
-        ensures { AnswersSome result self.new outs.old.items outs.new.items (asks_move (state_of self.old) pid to) }
+        ensures { AnswersSome result self.new outs.old.items outs.new.items (asks_move (node_state self.old) pid to) }
     {
         moves_are_asked_lawfully();
         match self.kernel.ask_move(pid, to) {
@@ -59,7 +59,7 @@ impl Node {
         requires parts { All IsLawfulPart parts.items }
         requires home { self.old.home ≤ self.old.numbers }
         requires numbers { self.old.numbers < 2 ^ 32 }
-        ensures { Answers result self.new outs.old.items outs.new.items (acts (state_of self.old) parts.items) }
+        ensures { Answers result self.new outs.old.items outs.new.items (acts (node_state self.old) parts.items) }
     {
         for part in parts {
             match part {
@@ -72,9 +72,9 @@ impl Node {
 
     /// Sends all packets again that are out and not acknowledged, by machine and by number.
     pub fn tick(&self, outs: &mut Vec<Out>) -> Result<(), NoMemory>
-        requires may { MayAct (state_of self.now) }
+        requires may { MayAct (node_state self.now) }
         requires streams { HasStreams self.now }
-        ensures { OnOk result (Gave self.now outs.old.items outs.new.items (tick (state_of self.now))) }
+        ensures { OnOk result (Gave self.now outs.old.items outs.new.items (tick (node_state self.now))) }
     {
         let resent = Line::Resent {
             machine: self.kernel.here(),
@@ -93,7 +93,7 @@ impl Node {
     fn counts_out(&self) -> u32
         requires streams { HasStreams self.now }
         requires machines { self.now.machines ≤ MACHINES }
-        ensures { result ≡ counts_out (state_of self.now) self.now.machines }
+        ensures { result ≡ counts_out (node_state self.now) self.now.machines }
     {
         let mut count = 0;
         for to in 0..self.machines {
@@ -108,7 +108,7 @@ impl Node {
     fn send_again(&self, to: u8, outs: &mut Vec<Out>) -> Result<(), NoMemory>
         requires streams { HasStreams self.now }
         requires to { to < MACHINES }
-        ensures { OnOk result (outs.new.items ≡ outs.old.items ++ first_out (state_of self.now) to (count_out ((state_of self.now).senders to))) }
+        ensures { OnOk result (outs.new.items ≡ outs.old.items ++ first_out (node_state self.now) to (count_out ((node_state self.now).senders to))) }
     {
         let count = self.count_out(to);
         for place in 0..count {

@@ -47,12 +47,12 @@ unless_refused (Some c) p called = refused c p
 abbrev pub is_outside : PlainProcess → ℕ → ℕ → Bool
 is_outside p base len = nat_lt (length p.memory) (base + len)
 
-abbrev pub bytes_at : PlainProcess → ℕ → ℕ → List ℕ
-bytes_at p base len = take len (drop base p.memory)
+abbrev pub memory_at : PlainProcess → ℕ → ℕ → List ℕ
+memory_at p base len = take len (drop base p.memory)
 
 -- call 2, OUT: the word in register 1
-abbrev pub outputs : PlainProcess → Called
-outputs p = Outputs (reg p.regs 1) (replied reply.Done p)
+abbrev pub output_call : PlainProcess → Called
+output_call p = Outputs (reg p.regs 1) (replied reply.Done p)
 
 -- a link goes into the lowest empty slot, whose number register 1 then holds
 abbrev pub puts_link : PlainProcess → PlainLink → Option ℕ → Called
@@ -100,14 +100,14 @@ copies p None = refused reply.NoLink p
 copies p (Some l) = if is_reply l.kind then refused reply.NotCopyable p else puts_link p l (first_empty p.links)
 
 -- call 5, DROP: slot r1 is empty then
-abbrev pub drops : PlainProcess → Option PlainLink → Called
-drops p None = refused reply.NoLink p
-drops p (Some l) = Replies reply.Done (record p { regs = setting p.regs 0 (reply_code reply.Done); links = slice_set p.links (reg p.regs 1) None })
+abbrev pub drop_call : PlainProcess → Option PlainLink → Called
+drop_call p None = refused reply.NoLink p
+drop_call p (Some l) = Replies reply.Done (record p { regs = setting p.regs 0 (reply_code reply.Done); links = slice_set p.links (reg p.regs 1) None })
 
 -- call 6, SEND: a body of r3 bytes at r2, with the links of the r4 slots whose numbers stand at r5, goes over the link in
 -- slot r1
 abbrev pub listed : PlainProcess → List ℕ
-listed p = bytes_at p (reg p.regs 5) (reg p.regs 4)
+listed p = memory_at p (reg p.regs 5) (reg p.regs 4)
 
 -- the greatest body, in bytes: processes of 32 slots have one of 64, those of 128 one of 256
 abbrev pub most_body : PlainProcess → ℕ
@@ -138,8 +138,8 @@ abbrev pub without_replies : List (Option PlainLink) → List ℕ → List (Opti
 without_replies links [] = links
 without_replies links (s ∷ ss) = without_replies (if holds_reply (link_at links s) then slice_set links s None else links) ss
 
-abbrev pub links_of : List (Option PlainLink) → List ℕ → List PlainLink
-links_of links slots = filter_map (link_at links) slots
+abbrev pub links_in_slots : List (Option PlainLink) → List ℕ → List PlainLink
+links_in_slots links slots = filter_map (link_at links) slots
 
 abbrev pub send_refusals : PlainProcess → List Check
 send_refusals p =
@@ -155,7 +155,7 @@ message_over pid p l =
       id = id_of pid p.sent;
       to = l.to;
       sender = pid;
-      what = User l.code l.channel (bytes_at p (reg p.regs 2) (reg p.regs 3)) (links_of p.links (listed p));
+      what = User l.code l.channel (memory_at p (reg p.regs 2) (reg p.regs 3)) (links_in_slots p.links (listed p));
     }
 
 abbrev pub after_send : PlainProcess → PlainProcess
@@ -166,13 +166,13 @@ after_send p =
       sent = p.sent + 1;
     }
 
-abbrev pub sends : Pid → PlainProcess → Option PlainLink → Called
-sends pid p None = refused reply.NoLink p
-sends pid p (Some l) = unless_refused (first_failed (send_refusals p)) p (Sends (message_over pid p l) (after_send p))
+abbrev pub send_call : Pid → PlainProcess → Option PlainLink → Called
+send_call pid p None = refused reply.NoLink p
+send_call pid p (Some l) = unless_refused (first_failed (send_refusals p)) p (Sends (message_over pid p l) (after_send p))
 
 -- call 7, RECEIVE: a message on a channel of mask r1 is to come into r3 bytes at r2
-abbrev pub waits : PlainProcess → Called
-waits p =
+abbrev pub receive_call : PlainProcess → Called
+receive_call p =
     if is_outside p (reg p.regs 2) (reg p.regs 3) then refused reply.BadRange p
     else Waits (record p { status = Waiting (reg p.regs 1) (reg p.regs 2) (reg p.regs 3) })
 
@@ -189,22 +189,22 @@ move_refusals p l dir =
     ∷ []
 
 -- the first request goes out
-abbrev pub begins : Requested → Called
-begins r = Sends r.message r.process
+abbrev pub begins_move : Requested → Called
+begins_move r = Sends r.message r.process
 
 -- a move of nothing is done at once
 abbrev pub moves_bytes : Pid → PlainProcess → PlainLink → Direction → Called
 moves_bytes pid p l dir =
     if reg p.regs 5 == 0 then Replies reply.Done (replied reply.Done p)
-    else begins (requests pid p dir l.to (l.area.base + reg p.regs 3) (reg p.regs 4) (reg p.regs 5))
+    else begins_move (requests pid p dir l.to (l.area.base + reg p.regs 3) (reg p.regs 4) (reg p.regs 5))
 
 abbrev pub moves_over : Pid → PlainProcess → PlainLink → Option Direction → Called
 moves_over pid p l None = refused reply.BadKind p
 moves_over pid p l (Some dir) = unless_refused (first_failed (move_refusals p l dir)) p (moves_bytes pid p l dir)
 
-abbrev pub moves : Pid → PlainProcess → Option PlainLink → Called
-moves pid p None = refused reply.NoLink p
-moves pid p (Some l) = moves_over pid p l (direction_numbered (reg p.regs 2))
+abbrev pub move_call : Pid → PlainProcess → Option PlainLink → Called
+move_call pid p None = refused reply.NoLink p
+move_call pid p (Some l) = moves_over pid p l (direction_numbered (reg p.regs 2))
 
 -- the calls that there are
 pub data CallNumber : Type 0 where
@@ -225,13 +225,13 @@ call_number n =
 
 abbrev pub does_call : Pid → PlainProcess → CallNumber → Called
 does_call pid p Exit = Ends why.Exit
-does_call pid p Out = outputs p
+does_call pid p Out = output_call p
 does_call pid p Make = makes pid p
 does_call pid p Copy = copies p (link_at p.links (reg p.regs 1))
-does_call pid p Drop = drops p (link_at p.links (reg p.regs 1))
-does_call pid p Send = sends pid p (link_at p.links (reg p.regs 1))
-does_call pid p Receive = waits p
-does_call pid p Move = moves pid p (link_at p.links (reg p.regs 1))
+does_call pid p Drop = drop_call p (link_at p.links (reg p.regs 1))
+does_call pid p Send = send_call pid p (link_at p.links (reg p.regs 1))
+does_call pid p Receive = receive_call p
+does_call pid p Move = move_call pid p (link_at p.links (reg p.regs 1))
 does_call pid p Unknown = Ends why.UnknownCall
 
 -- the call with this number, by a process whose pc is past the instruction

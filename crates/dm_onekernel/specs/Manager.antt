@@ -14,55 +14,55 @@ use Rattle.dm_onekernel.specs.Kernel.{Manager, Pending}
 use Rattle.dm_onekernel.specs.Switchboard.{goes_over}
 
 -- the manager after a message, and what it sends
-pub record Took : Type 0 where
+pub record ManagerTook : Type 0 where
   pub manager : Manager
   pub message : Option PlainMessage
 
 -- one byte goes over the link of an answer
-abbrev pub answers : Manager → PlainLink → ℕ → List PlainLink → Took
-answers g l code links =
+abbrev pub answers_byte : Manager → PlainLink → ℕ → List PlainLink → ManagerTook
+answers_byte g l code links =
     record { manager = record g { sent = g.sent + 1 }; message = Some (goes_over manager g.sent l (code ∷ []) links) }
 
 -- a message to a process or a kernel
-abbrev pub tells : Manager → Pid → PlainWhat → Took
+abbrev pub tells : Manager → Pid → PlainWhat → ManagerTook
 tells g to w =
     record { manager = record g { sent = g.sent + 1 }; message = Some (record { id = id_of manager g.sent; to = to; sender = manager; what = w }) }
 
 -- a bad request is answered with 2 over its first link, if it has one
-abbrev pub bad_request : Manager → List PlainLink → Took
+abbrev pub bad_request : Manager → List PlainLink → ManagerTook
 bad_request g [] = record { manager = g; message = None }
-bad_request g (l ∷ ls) = answers g l 2 []
+bad_request g (l ∷ ls) = answers_byte g l 2 []
 
 -- a process is to be made: the request goes to the kernel of its machine, and waits for the answer
-abbrev pub asks_for : Manager → ℕ → ℕ → PlainLink → List PlainLink → Took
+abbrev pub asks_for : Manager → ℕ → ℕ → PlainLink → List PlainLink → ManagerTook
 asks_for g machine image answer links =
     let told = tells g (pid_of machine 0) (what.Create image links) in
     record { manager = record told.manager { pending = g.pending ++ record { n = g.sent; answer = answer } ∷ [] }; message = told.message }
 
 -- over a link with code 0: the bytes 1, machine, image (two bytes), and links, the first for the answer, up to three more
 -- for the child
-abbrev pub wants_child : Manager → ℕ → ℕ → ℕ → ℕ → List PlainLink → Took
+abbrev pub wants_child : Manager → ℕ → ℕ → ℕ → ℕ → List PlainLink → ManagerTook
 wants_child g machines images machine image [] = bad_request g []
 wants_child g machines images machine image (l ∷ ls) =
     if nat_lt machine machines && nat_lt image images then asks_for g machine image l ls else bad_request g (l ∷ ls)
 
-abbrev pub requests : Manager → ℕ → ℕ → List ℕ → List PlainLink → Took
-requests g machines images (operation ∷ machine ∷ high ∷ low ∷ []) links =
+abbrev pub requests_child : Manager → ℕ → ℕ → List ℕ → List PlainLink → ManagerTook
+requests_child g machines images (operation ∷ machine ∷ high ∷ low ∷ []) links =
     if operation == 1 then wants_child g machines images machine (256 * high + low) links else bad_request g links
-requests g machines images body links = bad_request g links
+requests_child g machines images body links = bad_request g links
 
 -- what is done to a child: 2 stops it, 3 resumes it, 4 kills it
 abbrev pub control_of : ℕ → Option PlainWhat
 control_of operation =
     if operation == 2 then Some what.Stop else if operation == 3 then Some what.Resume else if operation == 4 then Some what.Kill else None
 
-abbrev pub controls_child : Manager → Pid → Option PlainWhat → List PlainLink → Took
-controls_child g child None links = bad_request g links
-controls_child g child (Some w) links = tells g child w
+abbrev pub tells_child : Manager → Pid → Option PlainWhat → List PlainLink → ManagerTook
+tells_child g child None links = bad_request g links
+tells_child g child (Some w) links = tells g child w
 
 -- over a link whose code is the number of a child: one byte
-abbrev pub controls : Manager → Option Pid → List ℕ → List PlainLink → Took
-controls g (Some child) (operation ∷ []) links = controls_child g child (control_of operation) links
+abbrev pub controls : Manager → Option Pid → List ℕ → List PlainLink → ManagerTook
+controls g (Some child) (operation ∷ []) links = tells_child g child (control_of operation) links
 controls g child body links = bad_request g links
 
 -- child number n, from 1
@@ -71,9 +71,9 @@ child_numbered children zero = None
 child_numbered children (suc n) = slice_get children n
 
 -- a user message that came over a link with this code
-abbrev pub takes_user : Manager → ℕ → ℕ → ℕ → List ℕ → List PlainLink → Took
+abbrev pub takes_user : Manager → ℕ → ℕ → ℕ → List ℕ → List PlainLink → ManagerTook
 takes_user g machines images code body links =
-    if code == 0 then requests g machines images body links else controls g (child_numbered g.children code) body links
+    if code == 0 then requests_child g machines images body links else controls g (child_numbered g.children code) body links
 
 abbrev pub pending_numbered : ℕ → List Pending → Option Pending
 pending_numbered n [] = None
@@ -89,19 +89,19 @@ control_link n =
     record { to = manager; kind = kind.General; to_kernel = false; code = n; channel = 0; area = record { base = 0; len = 0; read = false; write = false } }
 
 -- the child stands: it gets the next number, and the answer brings its control link
-abbrev pub takes_created : Manager → ℕ → Pid → Option Pending → Option Took
+abbrev pub takes_created : Manager → ℕ → Pid → Option Pending → Option ManagerTook
 takes_created g n child None = None
 takes_created g n child (Some r) =
-    Some (answers (record g { children = g.children ++ child ∷ []; pending = without_pending n g.pending }) r.answer 0 (control_link (length g.children + 1) ∷ []))
+    Some (answers_byte (record g { children = g.children ++ child ∷ []; pending = without_pending n g.pending }) r.answer 0 (control_link (length g.children + 1) ∷ []))
 
 -- there was no room for it
-abbrev pub takes_no_room : Manager → ℕ → Option Pending → Option Took
+abbrev pub takes_no_room : Manager → ℕ → Option Pending → Option ManagerTook
 takes_no_room g n None = None
-takes_no_room g n (Some r) = Some (answers (record g { pending = without_pending n g.pending }) r.answer 1 [])
+takes_no_room g n (Some r) = Some (answers_byte (record g { pending = without_pending n g.pending }) r.answer 1 [])
 
 -- user messages, and the answers to pending requests
-abbrev pub takes : Manager → ℕ → ℕ → PlainMessage → PlainWhat → Option Took
-takes g machines images m (what.User code channel body links) = Some (takes_user g machines images code body links)
-takes g machines images m (what.Created child) = takes_created g m.id.n child (pending_numbered m.id.n g.pending)
-takes g machines images m what.NoRoom = takes_no_room g m.id.n (pending_numbered m.id.n g.pending)
-takes g machines images m w = None
+abbrev pub manager_takes : Manager → ℕ → ℕ → PlainMessage → PlainWhat → Option ManagerTook
+manager_takes g machines images m (what.User code channel body links) = Some (takes_user g machines images code body links)
+manager_takes g machines images m (what.Created child) = takes_created g m.id.n child (pending_numbered m.id.n g.pending)
+manager_takes g machines images m what.NoRoom = takes_no_room g m.id.n (pending_numbered m.id.n g.pending)
+manager_takes g machines images m w = None

@@ -24,15 +24,15 @@ pub record Requested : Type 0 where
   pub process : PlainProcess
 
 -- what is asked for: bytes of the area, or that bytes of the mover's are written there
-abbrev pub request_of : PlainProcess → Direction → ℕ → ℕ → ℕ → PlainWhat
-request_of p direction.FromArea base own left = what.Read base (piece_of left)
-request_of p direction.IntoArea base own left = what.Write base (take (piece_of left) (drop own p.memory))
+abbrev pub piece_request : PlainProcess → Direction → ℕ → ℕ → ℕ → PlainWhat
+piece_request p direction.FromArea base own left = what.Read base (piece_of left)
+piece_request p direction.IntoArea base own left = what.Write base (take (piece_of left) (drop own p.memory))
 
 -- the request for the piece at `base` of the owner's memory and `own` of the mover's, where so many bytes are left with it
 abbrev pub requests : Pid → PlainProcess → Direction → Pid → ℕ → ℕ → ℕ → Requested
 requests pid p dir owner base own left =
     record {
-      message = record { id = id_of pid p.sent; to = owner; sender = pid; what = request_of p dir base own left };
+      message = record { id = id_of pid p.sent; to = owner; sender = pid; what = piece_request p dir base own left };
       process = record p { status = Moving dir owner base own left p.sent; sent = p.sent + 1 };
     }
 
@@ -76,8 +76,8 @@ abbrev pub next_request : Requested → Landed
 next_request r = Next r.message r.process
 
 -- a piece of so many bytes has come: the move goes on behind it, or is done where nothing is left
-abbrev pub goes_on : Pid → PlainProcess → Direction → Pid → ℕ → ℕ → ℕ → ℕ → Landed
-goes_on pid p dir owner base own left piece =
+abbrev pub move_goes_on : Pid → PlainProcess → Direction → Pid → ℕ → ℕ → ℕ → ℕ → Landed
+move_goes_on pid p dir owner base own left piece =
     if left - piece == 0 then done reply.Done p
     else next_request (requests pid p dir owner (base + piece) (own + piece) (left - piece))
 
@@ -85,10 +85,10 @@ goes_on pid p dir owner base own left piece =
 -- the owner has ended
 abbrev pub lands_what : Pid → PlainProcess → Direction → Pid → ℕ → ℕ → ℕ → PlainWhat → Option Landed
 lands_what pid p direction.FromArea owner base own left (what.Block bytes) =
-    if (length bytes == piece_of left) && nat_le (own + left) (length p.memory) then Some (goes_on pid (record p { memory = written_at p.memory own bytes }) direction.FromArea owner base own left (piece_of left))
+    if (length bytes == piece_of left) && nat_le (own + left) (length p.memory) then Some (move_goes_on pid (record p { memory = written_at p.memory own bytes }) direction.FromArea owner base own left (piece_of left))
     else None
 lands_what pid p direction.IntoArea owner base own left what.Written =
-    if nat_le (own + left) (length p.memory) then Some (goes_on pid p direction.IntoArea owner base own left (piece_of left)) else None
+    if nat_le (own + left) (length p.memory) then Some (move_goes_on pid p direction.IntoArea owner base own left (piece_of left)) else None
 lands_what pid p dir owner base own left what.Gone = Some (done reply.Gone p)
 lands_what pid p dir owner base own left w = None
 

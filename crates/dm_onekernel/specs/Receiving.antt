@@ -23,15 +23,15 @@ pub data Completed : Type 0 where
   Refuses : (reply : Reply) → (process : PlainProcess) → Completed
 
 -- links go into the lowest empty slots, in order; the numbers of the slots stand in the registers from r on
-pub record Placed : Type 0 where
+pub record RegsAndLinks : Type 0 where
   pub regs : Regs
   pub links : List (Option PlainLink)
 
-abbrev pub place_into : Placed → ℕ → PlainLink → Option ℕ → Placed
+abbrev pub place_into : RegsAndLinks → ℕ → PlainLink → Option ℕ → RegsAndLinks
 place_into t r l None = t
 place_into t r l (Some slot) = record { regs = setting t.regs r slot; links = slice_set t.links slot (Some l) }
 
-abbrev pub place_links : Placed → ℕ → List PlainLink → Placed
+abbrev pub place_links : RegsAndLinks → ℕ → List PlainLink → RegsAndLinks
 place_links t r [] = t
 place_links t r (l ∷ ls) = place_links (place_into t r l (first_empty t.links)) (r + 1) ls
 
@@ -41,8 +41,8 @@ received_regs r code channel len count =
     setting (setting (setting (setting (setting r 0 (reply_code reply.Done)) 1 code) 2 channel) 3 len) 4 count
 
 -- the body stands in the buffer, and the links in slots
-abbrev pub receives : PlainProcess → ℕ → ℕ → ℕ → List ℕ → List PlainLink → PlainProcess
-receives p base code channel body links =
+abbrev pub with_received : PlainProcess → ℕ → ℕ → ℕ → List ℕ → List PlainLink → PlainProcess
+with_received p base code channel body links =
     let placed = place_links (record { regs = received_regs p.regs code channel (length body) (length links); links = p.links }) 5 links in
     record p { regs = placed.regs; memory = written_at p.memory base body; links = placed.links; status = Ready }
 
@@ -59,7 +59,7 @@ completes_unless (Some c) p after = Refuses c (record p { regs = setting p.regs 
 
 abbrev pub completes : PlainProcess → ℕ → ℕ → ℕ → ℕ → List ℕ → List PlainLink → Completed
 completes p base cap code channel body links =
-    completes_unless (first_failed (receive_refusals p cap body links)) p (receives p base code channel body links)
+    completes_unless (first_failed (receive_refusals p cap body links)) p (with_received p base code channel body links)
 
 -- a user message for the process, on a channel of its mask
 abbrev pub completes_what : Pid → PlainProcess → PlainMessage → ℕ → ℕ → ℕ → PlainWhat → Option Completed

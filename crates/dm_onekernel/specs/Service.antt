@@ -54,16 +54,16 @@ serves s id m p (what.Move machine) = None
 serves s id m p (what.Moved outcome) = None
 
 -- took: a message for a server
-abbrev pub switchboard_took : OneKernel → MsgId → switchboard_.Took → OneKernel
+abbrev pub switchboard_took : OneKernel → MsgId → switchboard_.BoardTook → OneKernel
 switchboard_took s id t = with_sent (record (without_message s id) { switchboard = t.switchboard }) t.answer
 
-abbrev pub manager_took : OneKernel → MsgId → manager_.Took → OneKernel
+abbrev pub manager_took : OneKernel → MsgId → manager_.ManagerTook → OneKernel
 manager_took s id t = with_sent (record (without_message s id) { manager = t.manager }) t.message
 
 abbrev pub takes : OneKernel → MsgId → PlainMessage → Option OneKernel
 takes s id m =
-    if pid_eq m.to switchboard then bind (switchboard_.takes s.switchboard m m.what) (λ t. Some (switchboard_took s id t))
-    else if pid_eq m.to manager then bind (manager_.takes s.manager s.machines (length s.images) m m.what) (λ t. Some (manager_took s id t))
+    if pid_eq m.to switchboard then bind (switchboard_.board_takes s.switchboard m m.what) (λ t. Some (switchboard_took s id t))
+    else if pid_eq m.to manager then bind (manager_.manager_takes s.manager s.machines (length s.images) m m.what) (λ t. Some (manager_took s id t))
     else None
 
 -- the kernel of a machine
@@ -74,13 +74,13 @@ is_kernel s p = (p.num == 0) && nat_lt p.home s.machines
 abbrev pub made_one : OneKernel → ℕ → ℕ → ℕ
 made_one s home m = s.made m + (if home == m then 1 else 0)
 
-abbrev pub with_child : OneKernel → Pid → BootImage → List PlainLink → OneKernel
-with_child s child image links = record (with_process s child (Alive (begun s.format image links))) { made = made_one s child.home }
+abbrev pub with_created : OneKernel → Pid → BootImage → List PlainLink → OneKernel
+with_created s child image links = record (with_process s child (Alive (begun s.format image links))) { made = made_one s child.home }
 
 abbrev pub creates_of : OneKernel → MsgId → PlainMessage → Pid → List PlainLink → BootImage → Option OneKernel
 creates_of s id m child links image =
     when (is_kernel s m.to && pid_eq child (pid_of m.to.home (first_number + s.made m.to.home)))
-    (with_sent (with_child (without_message s id) child image links) (Some (pieces.answer_to m (what.Created child))))
+    (with_sent (with_created (without_message s id) child image links) (Some (pieces.answer_to m (what.Created child))))
 
 abbrev pub creates : OneKernel → MsgId → PlainMessage → Pid → PlainWhat → Option OneKernel
 creates s id m child (what.Create image links) = bind (slice_get s.images image) (creates_of s id m child links)

@@ -55,10 +55,10 @@ alive None = None
 alive (Some (Alive p)) = Some p
 alive (Some (Ended because)) = None
 
-abbrev pub ended : Option Life → Option Why
-ended None = None
-ended (Some (Alive p)) = None
-ended (Some (Ended because)) = Some because
+abbrev pub why_ended : Option Life → Option Why
+why_ended None = None
+why_ended (Some (Alive p)) = None
+why_ended (Some (Ended because)) = Some because
 
 -- a process that executes: it is ready and not stopped
 abbrev pub if_ready : PlainProcess → PlainStatus → Option PlainProcess
@@ -70,43 +70,43 @@ abbrev pub running : OneKernel → Pid → Option PlainProcess
 running s p = bind (alive (s.processes p)) (λ x. if_ready x x.status)
 
 -- what the next instruction of a process that executes comes to, if it isn't plain
-pub data Next : Type 0 where
-  Calls : (number : ℕ) → (called : calls.Called) → Next
-  Faults : (fault : Fault) → Next
+pub data Trap : Type 0 where
+  Calls : (number : ℕ) → (called : calls.Called) → Trap
+  Faults : (fault : Fault) → Trap
 
-abbrev pub next_row : Pid → PlainProcess → Row → Option Next
+abbrev pub next_row : Pid → PlainProcess → Row → Option Trap
 next_row p x (row.Plain regs bytes) = None
 next_row p x (row.Calls number regs) = Some (Calls number (calls.call p (record x { regs = regs }) number))
 next_row p x (row.Faults fault) = Some (Faults fault)
 
-abbrev pub next : OneKernel → Pid → Option Next
-next s p = bind (running s p) (λ x. next_row p x (instruction x.regs x.memory))
+abbrev pub next_trap : OneKernel → Pid → Option Trap
+next_trap s p = bind (running s p) (λ x. next_row p x (instruction x.regs x.memory))
 
 -- the process goes on
 abbrev pub goes_on : OneKernel → Pid → PlainProcess → OneKernel
 goes_on s p x = with_process s p (Alive x)
 
 -- call: it replies, and nothing is sent
-abbrev pub replies : OneKernel → Pid → ℕ → Reply → Next → Option OneKernel
+abbrev pub replies : OneKernel → Pid → ℕ → Reply → Trap → Option OneKernel
 replies s p n c (Calls number (calls.Replies reply x)) = when ((n == number) && reply_eq c reply) (goes_on s p x)
 replies s p n c other = None
 
 -- send: the message enters the bag
-abbrev pub sends : OneKernel → Pid → MsgId → Next → Option OneKernel
+abbrev pub sends : OneKernel → Pid → MsgId → Trap → Option OneKernel
 sends s p id (Calls number (calls.Sends m x)) = when (id_eq id m.id) (with_sent (goes_on s p x) (Some m))
 sends s p id other = None
 
 -- wait: a receive begins
-abbrev pub waits : OneKernel → Pid → Next → Option OneKernel
+abbrev pub waits : OneKernel → Pid → Trap → Option OneKernel
 waits s p (Calls number (calls.Waits x)) = Some (goes_on s p x)
 waits s p other = None
 
-abbrev pub outputs : OneKernel → Pid → ℕ → Next → Option OneKernel
+abbrev pub outputs : OneKernel → Pid → ℕ → Trap → Option OneKernel
 outputs s p w (Calls number (calls.Outputs word x)) = when (w == word) (goes_on s p x)
 outputs s p w other = None
 
 -- end: by a call or a fault
-abbrev pub ends : OneKernel → Pid → Why → Next → Option OneKernel
+abbrev pub ends : OneKernel → Pid → Why → Trap → Option OneKernel
 ends s p y (Calls number (calls.Ends because)) = when (why_eq y because) (with_process s p (Ended y))
 ends s p y (Faults fault) = when (why_eq y (why.Fault fault)) (with_process s p (Ended y))
 ends s p y other = None
@@ -135,17 +135,17 @@ says_gone s id m because = when (is_of_memory m.what) (with_sent (without_messag
 -- one step, if it is one
 abbrev pub step : OneKernel → Label → Option OneKernel
 step s (label.Ran p k) = bind (running s p) (λ x. bind (plain_steps k (machine_of x)) (λ m. Some (goes_on s p (with_machine x m))))
-step s (label.Call p n c) = bind (next s p) (replies s p n c)
-step s (label.Send p id) = bind (next s p) (sends s p id)
-step s (label.Wait p) = bind (next s p) (waits s p)
-step s (label.Out p w) = bind (next s p) (outputs s p w)
-step s (label.End p y) = bind (next s p) (ends s p y)
+step s (label.Call p n c) = bind (next_trap s p) (replies s p n c)
+step s (label.Send p id) = bind (next_trap s p) (sends s p id)
+step s (label.Wait p) = bind (next_trap s p) (waits s p)
+step s (label.Out p w) = bind (next_trap s p) (outputs s p w)
+step s (label.End p y) = bind (next_trap s p) (ends s p y)
 step s (label.Receive p id) = bind (completing s p id) (receives s p id)
 step s (label.Refuse p id c) = bind (completing s p id) (refuses s p c)
 step s (label.Served id) = bind (s.bag id) (λ m. bind (alive (s.processes m.to)) (λ p. serves s id m p m.what))
 step s (label.Took id) = bind (s.bag id) (takes s id)
-step s (label.Dropped id) = bind (s.bag id) (λ m. bind (ended (s.processes m.to)) (drops s id m))
-step s (label.Gone id) = bind (s.bag id) (λ m. bind (ended (s.processes m.to)) (says_gone s id m))
+step s (label.Dropped id) = bind (s.bag id) (λ m. bind (why_ended (s.processes m.to)) (drops s id m))
+step s (label.Gone id) = bind (s.bag id) (λ m. bind (why_ended (s.processes m.to)) (says_gone s id m))
 step s (label.Created id child) = bind (s.bag id) (λ m. creates s id m child m.what)
 step s (label.NoSpace id free_slots free_blocks) = bind (s.bag id) (λ m. has_no_room s id m m.what)
 

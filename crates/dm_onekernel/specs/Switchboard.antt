@@ -71,30 +71,30 @@ registers_new names name l None = record { names = names ++ record { name = name
 registers_new names name l (Some taken) = record { names = names; answer = Taken }
 
 -- a reply link serves once, and isn't kept
-abbrev pub registers : List NamedLink → List ℕ → PlainLink → Asked
-registers names name l =
+abbrev pub registers_name : List NamedLink → List ℕ → PlainLink → Asked
+registers_name names name l =
     if is_general l.kind then registers_new names name l (link_named name names) else record { names = names; answer = BadLink }
 
-abbrev pub bad_request : List NamedLink → Asked
-bad_request names = record { names = names; answer = BadRequest }
+abbrev pub board_bad_request : List NamedLink → Asked
+board_bad_request names = record { names = names; answer = BadRequest }
 
 -- a request to register has just the link for the answer and the one to keep, one to look up the first alone
 abbrev pub asks_to_register : List NamedLink → List ℕ → List PlainLink → Asked
-asks_to_register names name (l ∷ []) = if is_name name then registers names name l else bad_request names
-asks_to_register names name [] = bad_request names
-asks_to_register names name (l ∷ k ∷ ks) = bad_request names
+asks_to_register names name (l ∷ []) = if is_name name then registers_name names name l else board_bad_request names
+asks_to_register names name [] = board_bad_request names
+asks_to_register names name (l ∷ k ∷ ks) = board_bad_request names
 
 abbrev pub asks_to_look_up : List NamedLink → List ℕ → List PlainLink → Asked
-asks_to_look_up names name [] = if is_name name then looks_up names name else bad_request names
-asks_to_look_up names name (l ∷ ls) = bad_request names
+asks_to_look_up names name [] = if is_name name then looks_up names name else board_bad_request names
+asks_to_look_up names name (l ∷ ls) = board_bad_request names
 
 -- the request of a body, with the links behind the one for the answer
 abbrev pub asks : List NamedLink → List ℕ → List PlainLink → Asked
-asks names [] others = bad_request names
+asks names [] others = board_bad_request names
 asks names (operation ∷ name) others =
     if operation == 1 then asks_to_register names name others
     else if operation == 2 then asks_to_look_up names name others
-    else bad_request names
+    else board_bad_request names
 
 -- the message that goes over a link of a server's
 abbrev pub goes_over : Pid → ℕ → PlainLink → List ℕ → List PlainLink → PlainMessage
@@ -102,23 +102,23 @@ goes_over server n l body links =
     record { id = id_of server n; to = l.to; sender = server; what = what.User l.code l.channel body links }
 
 -- the switchboard after a message, and what it sends
-pub record Took : Type 0 where
+pub record BoardTook : Type 0 where
   pub switchboard : Switchboard
   pub answer : Option PlainMessage
 
-abbrev pub answers : Switchboard → PlainLink → Asked → Took
-answers b l a =
+abbrev pub board_answers : Switchboard → PlainLink → Asked → BoardTook
+board_answers b l a =
     record {
       switchboard = record { names = a.names; sent = b.sent + 1 };
       answer = Some (goes_over switchboard b.sent l (code_of_answer a.answer ∷ []) (links_of_answer a.answer));
     }
 
 -- a request without links has no effect and no answer
-abbrev pub takes_request : Switchboard → List ℕ → List PlainLink → Took
+abbrev pub takes_request : Switchboard → List ℕ → List PlainLink → BoardTook
 takes_request b body [] = record { switchboard = b; answer = None }
-takes_request b body (l ∷ others) = answers b l (asks b.names body others)
+takes_request b body (l ∷ others) = board_answers b l (asks b.names body others)
 
 -- only user messages are for the switchboard
-abbrev pub takes : Switchboard → PlainMessage → PlainWhat → Option Took
-takes b m (what.User code channel body links) = Some (takes_request b body links)
-takes b m w = None
+abbrev pub board_takes : Switchboard → PlainMessage → PlainWhat → Option BoardTook
+board_takes b m (what.User code channel body links) = Some (takes_request b body links)
+board_takes b m w = None

@@ -1,7 +1,7 @@
 -- Values that a byte stands for, and values that may be absent.
 use Rattle.dm_packet.proofs.Names.{◌≡◌, ℕ, ◌<◌, Bool, true, false, cond, eqb, List, [], ◌∷◌, ◌++◌, Option, None, Some, Result, Ok, refl, sym, ap, subst, ◌∙◌, arith, inl, inr, ◌==◌, ◌⊎◌, if◌then◌else◌, find, IfSome, eqb-true, Outcome}
 use Rattle.dm_packet.proofs.Names.{MessageKind, all_kinds, kind_numbered, number_of, PacketError, PacketKind, ◌>>=◌, Field, number, bit_of, number_of_packet_kind, packet_kind, packet_kind_numbered, bool_coded, code_of_outcome, coded}
-use Rattle.dm_packet.proofs.Names.{if_coded, message_kind, optional, optional_read, optional_spell, outcome, outcome_coded, yes_or_no}
+use Rattle.dm_packet.proofs.Names.{if_coded, message_kind, optional, optional_read, optional_spell, outcome_coded, outcome_field, yes_or_no}
 use Rattle.dm_message.specs.declared.Outcome.TheVariants as ends
 use Rattle.dm_message.specs.declared.kind.MessageKind.TheVariants as kind
 use Rattle.dm_packet.specs.declared.PacketError.TheVariants as bad
@@ -73,7 +73,7 @@ outcome_back n o =
     one_or_later code_of_outcome n 0 ends.Done o (if n == 1 then Some ends.Stayed else if n == 3 then Some ends.Ended else None) refl
     (one_or_later code_of_outcome n 1 ends.Stayed o (if n == 3 then Some ends.Ended else None) refl (one_or_later code_of_outcome n 3 ends.Ended o None refl (none_left o (code_of_outcome o ≡ n))))
 
-pub outcome_is : IsField outcome (λ _. Unit {0})
+pub outcome_is : IsField outcome_field (λ _. Unit {0})
 outcome_is = coded_is outcome_coded code_of_outcome bad.Limit outcome_small outcome_there outcome_back
 
 kind_of_packet_small : (k : PacketKind) → number_of_packet_kind k < 256

@@ -1,7 +1,7 @@
 -- What a field reads is the field that was written, and what was written is read again.
 use Rattle.dm_packet.proofs.Names.{◌≡◌, ℕ, zero, suc, ◌^◌, ◌<◌, Bool, true, false, cond, ltb, List, [], ◌∷◌, ◌++◌, length, take, drop, Result, Ok, Err, refl, sym, ap, subst, ◌∙◌, append_assoc, arith, AllByRecursion, flat_map, ltb-false}
 use Rattle.dm_packet.proofs.Names.{le-ltb, take_at, drop_at, take-append-drop, length-append, length-take, flat_map-cons, big_bytes, big_number, big_from-lt, big_number-reads_back, length-bytes_high_first, PacketError, Missing, ◌>>=◌}
-use Rattle.dm_packet.proofs.Names.{Field, both, counted, made, number, read_times, run, tested, times}
+use Rattle.dm_packet.proofs.Names.{Field, both, counted, made, number, read_times, repeated_field, run, tested}
 use Rattle.dm_packet.proofs.Numbers.{IsBytes, IsBytes-drop, bytes_of_number}
 
 -- what a field took from the front of some bytes
@@ -109,9 +109,9 @@ IsField-run n = record {
 }
 
 times_takes : {X : Type 0} (f : Field X) (Fits : X → Type 0) (is : IsField f Fits) (n : ℕ) (bytes : List ℕ) (xs : List X) (rest : List ℕ) → IsBytes bytes → read_times f.read n bytes ≡ Ok (xs, rest)
-    → Took (times f n) (λ xs. (length xs ≡ n) × AllByRecursion Fits xs) bytes xs rest
+    → Took (repeated_field f n) (λ xs. (length xs ≡ n) × AllByRecursion Fits xs) bytes xs rest
 times_takes {X} f Fits is zero bytes xs rest h e =
-    took_same (times f 0) (λ xs. (length xs ≡ 0) × AllByRecursion Fits xs) bytes ([], bytes) (xs, rest) e
+    took_same (repeated_field f 0) (λ xs. (length xs ≡ 0) × AllByRecursion Fits xs) bytes ([], bytes) (xs, rest) e
     (record { parts = refl; rest_fits = h; fits = (refl, tt) })
 times_takes {X} f Fits is (suc n) bytes xs rest h e =
     let a = bind_ok (f.read bytes) (λ first. read_times f.read n first.1 >>= λ others. Ok (first.0 ∷ others.0, others.1)) (xs, rest) e in
@@ -121,7 +121,7 @@ times_takes {X} f Fits is (suc n) bytes xs rest h e =
     let parts : bytes ≡ flat_map f.spell (a.0.0 ∷ b.0.0) ++ b.0.1 =
     then_parts bytes (f.spell a.0.0) a.0.1 (flat_map f.spell b.0.0) b.0.1 t.parts u.parts
     ∙ ap (λ (front : List ℕ). front ++ b.0.1) (sym (flat_map-cons f.spell a.0.0 b.0.0)) in
-    took_same (times f (suc n)) (λ xs. (length xs ≡ suc n) × AllByRecursion Fits xs) bytes (a.0.0 ∷ b.0.0, b.0.1) (xs, rest) b.2
+    took_same (repeated_field f (suc n)) (λ xs. (length xs ≡ suc n) × AllByRecursion Fits xs) bytes (a.0.0 ∷ b.0.0, b.0.1) (xs, rest) b.2
     (record { parts = parts; rest_fits = u.rest_fits; fits = (ap suc u.fits.0, (t.fits, u.fits.1)) })
 
 times_again : {X : Type 0} (f : Field X) (Fits : X → Type 0) (is : IsField f Fits) (xs : List X) (rest : List ℕ) → AllByRecursion Fits xs → read_times f.read (length xs) (flat_map f.spell xs ++ rest) ≡ Ok (xs, rest)
@@ -131,8 +131,8 @@ times_again f Fits is (x ∷ xs) rest fits =
     ap (λ (front : List ℕ). front ++ rest) (flat_map-cons f.spell x xs) ∙ append_assoc (f.spell x) (flat_map f.spell xs) rest in
     ap (read_times f.read (suc (length xs))) regrouped ∙ rw (is.again x (flat_map f.spell xs ++ rest) fits.0, times_again f Fits is xs rest fits.1) refl
 
-pub IsField-times : {X : Type 0} (f : Field X) (Fits : X → Type 0) → IsField f Fits → (n : ℕ) → IsField (times f n) (λ xs. (length xs ≡ n) × AllByRecursion Fits xs)
-IsField-times f Fits is n = record {
+pub IsField-repeated_field : {X : Type 0} (f : Field X) (Fits : X → Type 0) → IsField f Fits → (n : ℕ) → IsField (repeated_field f n) (λ xs. (length xs ≡ n) × AllByRecursion Fits xs)
+IsField-repeated_field f Fits is n = record {
   takes = λ bytes xs rest h e. times_takes f Fits is n bytes xs rest h e;
   again = λ xs rest fits. rw (sym fits.0) (times_again f Fits is xs rest fits.1);
 }

@@ -1,9 +1,9 @@
 -- Each field of a packet reads what it spells: names, places, links and bytes.
 use Rattle.dm_packet.proofs.Names.{◌≡◌, ℕ, zero, suc, ◌+◌, ◌^◌, ◌<◌, ◌≤◌, Bool, true, false, length, refl, sym, arith, nat_le, ◌&&◌, AllByRecursion, and_parts, ltb-true, nat_tests, Pid, Addr, Kind, General, Reply, Link, IsMachine}
-use Rattle.dm_packet.proofs.Names.{IsLawfulAddr, IsLawfulEnclosed, PacketError, both, number, run, tested, times, addr, are_flags, bytes_within, channel, flags, flags_of, len_from, length_within, link, link_of, links, machine}
-use Rattle.dm_packet.proofs.Names.{number_of_flags, parts_of_link, pid, Fits, FitsPid, FitsAddr, FitsLink}
+use Rattle.dm_packet.proofs.Names.{IsLawfulAddr, IsLawfulEnclosed, PacketError, both, number, run, tested, repeated_field, addr, are_flags, bytes_within, channel, flags, flags_of, len_from, length_within, link, link_of_parts, links}
+use Rattle.dm_packet.proofs.Names.{machine, number_of_flags, parts_of_link, pid, Fits, FitsPid, FitsAddr, FitsLink}
 use Rattle.dm_packet.specs.declared.PacketError.TheVariants as bad
-use Rattle.dm_packet.proofs.Field.{IsField, IsField-both, IsField-counted, IsField-for, IsField-made, IsField-number, IsField-run, IsField-tested, IsField-times}
+use Rattle.dm_packet.proofs.Field.{IsField, IsField-both, IsField-counted, IsField-for, IsField-made, IsField-number, IsField-repeated_field, IsField-run, IsField-tested}
 
 -- a number at most so great
 pub at_most_is : (size most : ℕ) (rule : PacketError) → most < 256 ^ size → IsField (tested (number size) (λ n. nat_le n most) rule) (λ n. n ≤ most)
@@ -85,7 +85,7 @@ len_from_is base =
 abbrev pub IsSpelledLink : Link → Type 0
 IsSpelledLink l = IsLawfulEnclosed l × FitsLink l
 
-sym_kernel : (l : Link) → l.to_kernel ≡ false → link_of (parts_of_link l) ≡ l
+sym_kernel : (l : Link) → l.to_kernel ≡ false → link_of_parts (parts_of_link l) ≡ l
 sym_kernel l e i = record { addr = l.addr; kind = l.kind; to_kernel = sym e i; code = l.code; channel = l.channel; area = l.area }
 
 pub link_is : IsField link IsSpelledLink
@@ -95,14 +95,14 @@ link_is =
     let from_code = IsField-both (number 4) (Fits 4) (IsField-number 4) (λ _. both channel (λ _. both (number 4) len_from)) (λ _ l. (l.0 ≤ 31) × (Fits 4 l.1.0 × (l.1.0 + l.1.1 ≤ 65536))) (λ _. from_channel) in
     let from_flags = IsField-both flags (λ _. Unit {0}) flags_is (λ _. both (number 4) (λ _. both channel (λ _. both (number 4) len_from))) (λ _ l. Fits 4 l.0 × ((l.1.0 ≤ 31) × (Fits 4 l.1.1.0 × (l.1.1.0 + l.1.1.1 ≤ 65536)))) (λ _. from_code) in
     let parts = IsField-both addr IsSpelledAddr addr_is (λ _. both flags (λ _. both (number 4) (λ _. both channel (λ _. both (number 4) len_from)))) (λ _ l. Unit {0} × (Fits 4 l.1.0 × ((l.1.1.0 ≤ 31) × (Fits 4 l.1.1.1.0 × (l.1.1.1.0 + l.1.1.1.1 ≤ 65536))))) (λ _. from_flags) in
-    IsField-made (both addr (λ _. both flags (λ _. both (number 4) (λ _. both channel (λ _. both (number 4) len_from))))) (λ l. IsSpelledAddr l.0 × (Unit {0} × (Fits 4 l.1.1.0 × ((l.1.1.1.0 ≤ 31) × (Fits 4 l.1.1.1.1.0 × (l.1.1.1.1.0 + l.1.1.1.1.1 ≤ 65536)))))) parts link_of parts_of_link IsSpelledLink
+    IsField-made (both addr (λ _. both flags (λ _. both (number 4) (λ _. both channel (λ _. both (number 4) len_from))))) (λ l. IsSpelledAddr l.0 × (Unit {0} × (Fits 4 l.1.1.0 × ((l.1.1.1.0 ≤ 31) × (Fits 4 l.1.1.1.1.0 × (l.1.1.1.1.0 + l.1.1.1.1.1 ≤ 65536)))))) parts link_of_parts parts_of_link IsSpelledLink
     (λ l fits. (refl, (record { link = record { addr = fits.0.0; channel = fits.1.1.1.0; area = fits.1.1.1.1.1 }; not_to_kernel = refl }, (fits.0.1, fits.1.1.0))))
     (λ l fits. let area_fits = fits.0.link.area in (((fits.0.link.addr, fits.1.0), (tt, (fits.1.1, (fits.0.link.channel, ((omega arith), area_fits))))), sym_kernel l fits.0.not_to_kernel))
 
 -- links of a list
 pub links_is : (most : ℕ) → most < 256 → IsField (links most) (λ ls. (length ls ≤ most) × AllByRecursion IsSpelledLink ls)
 links_is most room =
-    IsField-counted (tested (number 1) (λ n. nat_le n most) bad.Limit) (λ n. n ≤ most) (at_most_is 1 most bad.Limit room) (λ n. times link n) (AllByRecursion IsSpelledLink) (λ n. IsField-times link IsSpelledLink link_is n)
+    IsField-counted (tested (number 1) (λ n. nat_le n most) bad.Limit) (λ n. n ≤ most) (at_most_is 1 most bad.Limit room) (λ n. repeated_field link n) (AllByRecursion IsSpelledLink) (λ n. IsField-repeated_field link IsSpelledLink link_is n)
 
 pub length_within_is : (least most : ℕ) → most < 256 ^ 2 → IsField (length_within least most) (λ n. (least ≤ n) × (n ≤ most))
 length_within_is least most room =

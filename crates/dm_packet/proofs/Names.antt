@@ -33,14 +33,14 @@ pub use Rattle.dm_message.specs.declared.Outcome.{Outcome}
 pub use Rattle.dm_message.specs.declared.What.{What}
 pub use Rattle.dm_message.specs.declared.What.TheVariants.{Ask, User}
 pub use Rattle.dm_message.specs.declared.kind.MessageKind.{MessageKind}
-pub use Rattle.dm_packet.specs.Field.{Field, both, counted, made, number, read_times, run, tested, times, ◌>>=◌}
-pub use Rattle.dm_packet.specs.Fields.{addr, are_flags, bit_of, bytes_within, channel, flags, flags_of, len_from, length_within, link, link_of, links, machine, number_of_flags, parts_of_link, pid}
+pub use Rattle.dm_packet.specs.Field.{Field, both, counted, made, number, read_times, repeated_field, run, tested, ◌>>=◌}
+pub use Rattle.dm_packet.specs.Fields.{addr, are_flags, bit_of, bytes_within, channel, flags, flags_of, len_from, length_within, link, link_of_parts, links, machine, number_of_flags, parts_of_link, pid}
 pub use Rattle.dm_packet.specs.Lawful.{IsLawfulPacket, IsRoute}
-pub use Rattle.dm_packet.specs.Packets.{ended, head, head_of, head_parts, id, is_named_right, message, number_of_packet_kind, numbered_message, opening, opening_of, other_machine, packet_kind, packet_kind_numbered, read_ack, read_data}
-pub use Rattle.dm_packet.specs.Packets.{spell_rest, version, with_head}
+pub use Rattle.dm_packet.specs.Packets.{head, head_of, head_parts, id, is_named_right, message, number_of_packet_kind, numbered_message, only_packet, opening, opening_of, other_machine, packet_kind, packet_kind_numbered, read_ack}
+pub use Rattle.dm_packet.specs.Packets.{read_data, spell_rest, version, with_head}
 unfoldable pub use Rattle.dm_packet.specs.Packets.{packet_of, read_message, read_rest, spell_message, spelling}
-pub use Rattle.dm_packet.specs.Whats.{are_blocks_of, ask, asker, at_most, blocks_of, bool_coded, code_of_outcome, coded, create, if_coded, is_server, memory, message_kind, optional, optional_read, optional_spell, outcome, outcome_coded}
-pub use Rattle.dm_packet.specs.Whats.{piece_from, pull_block, pull_state, read, read_as, refuse, state, user, write, yes_or_no}
+pub use Rattle.dm_packet.specs.Whats.{are_blocks_of, ask, asker, at_most, blocks_field, bool_coded, code_of_outcome, coded, create, if_coded, is_server_pid, memory, message_kind, optional, optional_read, optional_spell, outcome_coded}
+pub use Rattle.dm_packet.specs.Whats.{outcome_field, piece_from, pull_block, pull_state, read, read_as, refuse, state, user, write, yes_or_no}
 unfoldable pub use Rattle.dm_packet.specs.Whats.{read_what, spell_what}
 pub use Rattle.dm_packet.specs.Widths.{Fits, FitsAddr, FitsAsker, FitsId, FitsLink, FitsMessage, FitsPacket, FitsPid, FitsWhat}
 pub use Rattle.dm_packet.specs.declared.Packet.{Packet}

@@ -1,7 +1,7 @@
 -- What is read is spelled so, and what is spelled so is read: messages and packets.
 use Rattle.dm_packet.proofs.Names.{◌≡◌, ℕ, ◌^◌, ◌<◌, true, eqb, List, [], ◌++◌, length, Result, Ok, Err, refl, sym, ap, subst, ◌∙◌, append_assoc, arith, ◌≢◌, ◌==◌, IfOk, not, eqb-true, eq-eqb, nat_tests, append-nil, nil_from_length}
 use Rattle.dm_packet.proofs.Names.{IsMachine, MsgId, Message, What, kind_of, IsLawfulMessage, is_answer, PacketError, Packet, Data, Ack, ◌>>=◌, both, number, addr, machine, pid, message_kind, read_what, spell_what, yes_or_no, Head, Opening}
-use Rattle.dm_packet.proofs.Names.{PacketKind, ended, head, head_of, head_parts, id, is_named_right, message, numbered_message, opening, opening_of, other_machine, packet_kind, packet_of, read_ack, read_data, read_message, read_rest}
+use Rattle.dm_packet.proofs.Names.{PacketKind, head, head_of, head_parts, id, is_named_right, message, numbered_message, only_packet, opening, opening_of, other_machine, packet_kind, packet_of, read_ack, read_data, read_message, read_rest}
 use Rattle.dm_packet.proofs.Names.{spell_message, spell_rest, spelling, version, with_head, IsLawfulPacket, IsRoute, Fits, FitsId, FitsMessage, FitsPacket}
 use Rattle.dm_packet.specs.declared.PacketError.TheVariants as bad
 use Rattle.dm_packet.specs.declared.front.PacketKind.TheVariants as kinds
@@ -136,8 +136,8 @@ rest_takes kinds.Ack = ack_takes
 pub packet_takes : (bytes : List ℕ) (p : Packet) → IsBytes bytes → packet_of bytes ≡ Ok p → (bytes ≡ spelling p) × IsLawfulPacket p × FitsPacket p
 unfolding packet_of spelling
 packet_takes bytes p h e =
-    let o = bind_ok (opening.read bytes) (λ o. read_rest o.0.kind o.0.from o.0.to o.1 >>= ended) p e in
-    let r = bind_ok (read_rest o.0.0.kind o.0.0.from o.0.0.to o.0.1) ended p o.2 in
+    let o = bind_ok (opening.read bytes) (λ o. read_rest o.0.kind o.0.from o.0.to o.1 >>= only_packet) p e in
+    let r = bind_ok (read_rest o.0.0.kind o.0.0.from o.0.0.to o.0.1) only_packet p o.2 in
     let g = guard_ok (eqb (length r.0.1) 0) bad.Trailing r.0.0 p r.2 in
     let nothing : r.0.1 ≡ [] = nil_from_length r.0.1 (eqb-true _ _ g.0) in
     let t = opening_is.takes bytes o.0.0 o.0.1 h o.1 in
@@ -157,14 +157,14 @@ packet_again (Data a b seq m) lawful fits =
     let first = opening_is.again (record { kind = kinds.Data; from = a; to = b }) (numbered_message.spell (seq, m)) lawful.0 in
     let second = numbered_message_is.again (seq, m) [] (fits.0, (lawful.1, fits.1)) in
     let no_more = append-nil (numbered_message.spell (seq, m)) in
-    ap (λ (r : Result (Opening × List ℕ) PacketError). r >>= λ o. read_rest o.0.kind o.0.from o.0.to o.1 >>= ended) first
-    ∙ ap (λ (r : Result ((ℕ × Message) × List ℕ) PacketError). (r >>= λ x. Ok (Data a b x.0.0 x.0.1, x.1)) >>= ended) (ap numbered_message.read (sym no_more) ∙ second)
+    ap (λ (r : Result (Opening × List ℕ) PacketError). r >>= λ o. read_rest o.0.kind o.0.from o.0.to o.1 >>= only_packet) first
+    ∙ ap (λ (r : Result ((ℕ × Message) × List ℕ) PacketError). (r >>= λ x. Ok (Data a b x.0.0 x.0.1, x.1)) >>= only_packet) (ap numbered_message.read (sym no_more) ∙ second)
 packet_again (Ack a b count) lawful fits =
     let first = opening_is.again (record { kind = kinds.Ack; from = a; to = b }) ((number 4).spell count) lawful in
     let second = (IsField-number 4).again count [] fits in
     let no_more = append-nil ((number 4).spell count) in
-    ap (λ (r : Result (Opening × List ℕ) PacketError). r >>= λ o. read_rest o.0.kind o.0.from o.0.to o.1 >>= ended) first
-    ∙ ap (λ (r : Result (ℕ × List ℕ) PacketError). (r >>= λ x. Ok (Ack a b x.0, x.1)) >>= ended) (ap (number 4).read (sym no_more) ∙ second)
+    ap (λ (r : Result (Opening × List ℕ) PacketError). r >>= λ o. read_rest o.0.kind o.0.from o.0.to o.1 >>= only_packet) first
+    ∙ ap (λ (r : Result (ℕ × List ℕ) PacketError). (r >>= λ x. Ok (Ack a b x.0, x.1)) >>= only_packet) (ap (number 4).read (sym no_more) ∙ second)
 
 -- what a result that the bytes gave says of them
 pub is_found : (bytes : List ℕ) (r : Result Packet PacketError) → IsBytes bytes → r ≡ packet_of bytes → IfOk r (λ p. IsLawfulPacket p × FitsPacket p × (bytes ≡ spelling p))

@@ -1,8 +1,8 @@
 -- What the messages of each kind carry is read as it is spelled.
 use Rattle.dm_packet.proofs.Names.{◌≡◌, ℕ, ◌+◌, ◌^◌, ◌<◌, ◌≤◌, Bool, true, false, eqb, List, [], ◌∷◌, ◌++◌, length, Option, None, Some, Result, Ok, refl, sym, ap, subst, ◌∙◌, arith, inl, inr, ◌↔◌, ◌&&◌, nat_le, All, AllByRecursion, IfSome}
 use Rattle.dm_packet.proofs.Names.{and_from, and_parts, eq-eqb, eqb-true, le-leb, leb-true, nat_tests, All-from_recursion, recursion_from_All, Pid, Link, IsMachine, IsLawfulAddr, IsLawfulEnclosed, Asker, What, MessageKind, bool_eq, kind_of}
-use Rattle.dm_packet.proofs.Names.{IsLawfulWhat, IsPiece, IsServer, IsSize, PacketError, ◌>>=◌, Field, both, counted, number, run, addr, bytes_within, channel, links, machine, pid, are_blocks_of, ask, asker, at_most, blocks_of, create}
-use Rattle.dm_packet.proofs.Names.{is_server, memory, optional, outcome, piece_from, pull_block, pull_state, read, read_as, read_what, refuse, spell_what, state, user, write, yes_or_no, Fits, FitsAsker, FitsLink, FitsWhat}
+use Rattle.dm_packet.proofs.Names.{IsLawfulWhat, IsPiece, IsServer, IsSize, PacketError, ◌>>=◌, Field, both, counted, number, run, addr, bytes_within, channel, links, machine, pid, are_blocks_of, ask, asker, at_most, blocks_field, create}
+use Rattle.dm_packet.proofs.Names.{is_server_pid, memory, optional, outcome_field, piece_from, pull_block, pull_state, read, read_as, read_what, refuse, spell_what, state, user, write, yes_or_no, Fits, FitsAsker, FitsLink, FitsWhat}
 use Rattle.dm_message.specs.declared.What.TheVariants as what
 use Rattle.dm_message.specs.declared.kind.MessageKind.TheVariants as kind
 use Rattle.dm_packet.specs.declared.PacketError.TheVariants as bad
@@ -24,10 +24,10 @@ piece_from_is base =
     (λ n fits. (omega arith, grind (arith, nat_tests)))
 
 -- the servers' names, as a test and as a fact
-server_test : (p : Pid) → is_server p ≡ true → IsServer p
+server_test : (p : Pid) → is_server_pid p ≡ true → IsServer p
 server_test p e = grind (arith, nat_tests)
 
-server_fact : (p : Pid) → IsServer p → is_server p ≡ true
+server_fact : (p : Pid) → IsServer p → is_server_pid p ≡ true
 server_fact p (e, inl one) = rw (e, one) refl
 server_fact p (e, inr two) = rw (e, two) refl
 
@@ -45,18 +45,18 @@ both_or_neither true b P Q ap pa bq qb h = sym (qb (h.0 (ap refl)))
 both_or_neither false true P Q ap pa bq qb h = pa (h.1 (bq refl))
 both_or_neither false false P Q ap pa bq qb h = refl
 
-blocks_of_is : (p : Pid) → IsField (blocks_of p) (IsSize p)
+blocks_of_is : (p : Pid) → IsField (blocks_field p) (IsSize p)
 blocks_of_is p =
-    IsField-for (blocks_of p) (λ n. (n < 256 ^ 2) × (are_blocks_of p n ≡ true)) (IsSize p)
+    IsField-for (blocks_field p) (λ n. (n < 256 ^ 2) × (are_blocks_of p n ≡ true)) (IsSize p)
     (IsField-tested (number 2) (λ n. n < 256 ^ 2) (IsField-number 2) (are_blocks_of p) bad.Limit)
     (λ n fits.
-    let parts = and_parts (nat_le n 256) (bool_eq (eqb n 0) (is_server p)) fits.1 in
-    let same : eqb n 0 ≡ is_server p = same_from (eqb n 0) (is_server p) parts.1 in
+    let parts = and_parts (nat_le n 256) (bool_eq (eqb n 0) (is_server_pid p)) fits.1 in
+    let same : eqb n 0 ≡ is_server_pid p = same_from (eqb n 0) (is_server_pid p) parts.1 in
     let few : n ≤ 256 = leb-true n 256 parts.0 in
     (few, ((λ e. server_test p (sym same ∙ eq-eqb n 0 e)), (λ is. eqb-true n 0 (same ∙ server_fact p is)))))
     (λ n fits.
-    let same : eqb n 0 ≡ is_server p = both_or_neither (eqb n 0) (is_server p) (n ≡ 0) (IsServer p) (eqb-true n 0) (eq-eqb n 0) (server_test p) (server_fact p) fits.1 in
-    (omega (arith, fits.0), and_from (nat_le n 256) (bool_eq (eqb n 0) (is_server p)) (le-leb n 256 fits.0) (rw same (bool_eq_refl (is_server p)))))
+    let same : eqb n 0 ≡ is_server_pid p = both_or_neither (eqb n 0) (is_server_pid p) (n ≡ 0) (IsServer p) (eqb-true n 0) (eq-eqb n 0) (server_test p) (server_fact p) fits.1 in
+    (omega (arith, fits.0), and_from (nat_le n 256) (bool_eq (eqb n 0) (is_server_pid p)) (le-leb n 256 fits.0) (rw same (bool_eq_refl (is_server_pid p)))))
 
 abbrev IsSpelledAsker : Asker → Type 0
 IsSpelledAsker a = FitsAsker a × IsSpelledAddr a.addr
@@ -98,8 +98,8 @@ ask_is : IsField ask (λ a. IsSpelledPid a.0 × (IsSize a.0 a.1.0 × (Fits 4 a.1
 ask_is =
     let from_size = IsField-both (number 4) (Fits 4) (IsField-number 4) (λ _. optional asker) (λ _ o. IfSome o IsSpelledAsker) (λ _. optional_is asker IsSpelledAsker asker_is) in
     let from_moves = IsField-both (number 4) (Fits 4) (IsField-number 4) (λ _. both (number 4) (λ _. optional asker)) (λ _ a. Fits 4 a.0 × IfSome a.1 IsSpelledAsker) (λ _. from_size) in
-    let from_blocks = λ (p : Pid). IsField-both (blocks_of p) (IsSize p) (blocks_of_is p) (λ _. both (number 4) (λ _. both (number 4) (λ _. optional asker))) (λ _ a. Fits 4 a.0 × (Fits 4 a.1.0 × IfSome a.1.1 IsSpelledAsker)) (λ _. from_moves) in
-    IsField-both pid IsSpelledPid pid_is (λ p. both (blocks_of p) (λ _. both (number 4) (λ _. both (number 4) (λ _. optional asker)))) (λ p a. IsSize p a.0 × (Fits 4 a.1.0 × (Fits 4 a.1.1.0 × IfSome a.1.1.1 IsSpelledAsker))) from_blocks
+    let from_blocks = λ (p : Pid). IsField-both (blocks_field p) (IsSize p) (blocks_of_is p) (λ _. both (number 4) (λ _. both (number 4) (λ _. optional asker))) (λ _ a. Fits 4 a.0 × (Fits 4 a.1.0 × IfSome a.1.1 IsSpelledAsker)) (λ _. from_moves) in
+    IsField-both pid IsSpelledPid pid_is (λ p. both (blocks_field p) (λ _. both (number 4) (λ _. both (number 4) (λ _. optional asker)))) (λ p a. IsSize p a.0 × (Fits 4 a.1.0 × (Fits 4 a.1.1.0 × IfSome a.1.1.1 IsSpelledAsker))) from_blocks
 
 refuse_is : IsField refuse (λ r. IsSpelledPid r.0 × ((r.1.0 ≤ 64) × (r.1.1 ≤ 4096)))
 refuse_is =
@@ -221,7 +221,7 @@ what_takes kind.Memory = as_takes kind.Memory memory (λ m. IsSpelledPid m.0 × 
 what_takes kind.AllTaken = pid_takes kind.AllTaken what.AllTaken (λ p. refl) (λ p. refl) (λ p fits. fits)
 what_takes kind.Restart = pid_takes kind.Restart what.Restart (λ p. refl) (λ p. refl) (λ p fits. fits)
 what_takes kind.Move = machine_takes kind.Move what.Move (λ m. refl) (λ m. refl) (λ m fits. (fits, tt))
-what_takes kind.Moved = as_takes kind.Moved outcome (λ _. Unit {0}) outcome_is what.Moved (λ x. refl) (λ x. refl) (λ x fits. (tt, tt))
+what_takes kind.Moved = as_takes kind.Moved outcome_field (λ _. Unit {0}) outcome_is what.Moved (λ x. refl) (λ x. refl) (λ x fits. (tt, tt))
 what_takes kind.CallOff = pid_takes kind.CallOff what.CallOff (λ p. refl) (λ p. refl) (λ p fits. fits)
 what_takes kind.Bury = pid_takes kind.Bury what.Bury (λ p. refl) (λ p. refl) (λ p fits. fits)
 
@@ -253,6 +253,6 @@ what_again (what.Memory p block bytes) rest lawful fits = as_again memory (λ m.
 what_again (what.AllTaken p) rest lawful fits = as_again pid IsSpelledPid pid_is what.AllTaken p rest (lawful, fits)
 what_again (what.Restart p) rest lawful fits = as_again pid IsSpelledPid pid_is what.Restart p rest (lawful, fits)
 what_again (what.Move m) rest lawful fits = as_again machine IsMachine machine_is what.Move m rest lawful
-what_again (what.Moved end) rest lawful fits = as_again outcome (λ _. Unit {0}) outcome_is what.Moved end rest tt
+what_again (what.Moved end) rest lawful fits = as_again outcome_field (λ _. Unit {0}) outcome_is what.Moved end rest tt
 what_again (what.CallOff p) rest lawful fits = as_again pid IsSpelledPid pid_is what.CallOff p rest (lawful, fits)
 what_again (what.Bury p) rest lawful fits = as_again pid IsSpelledPid pid_is what.Bury p rest (lawful, fits)

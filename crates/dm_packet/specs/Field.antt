@@ -56,8 +56,8 @@ read_times read zero bytes = Ok ([], bytes)
 read_times read (suc n) bytes = read bytes >>= λ first. read_times read n first.1 >>= λ others. Ok (first.0 ∷ others.0, others.1)
 
 -- a field n times
-abbrev pub times : {X : Type 0} → Field X → ℕ → Field (List X)
-times f n = record {
+abbrev pub repeated_field : {X : Type 0} → Field X → ℕ → Field (List X)
+repeated_field f n = record {
   spell = λ xs. flat_map f.spell xs;
   read = λ bytes. read_times f.read n bytes;
 }

@@ -6,7 +6,7 @@ use Rattle.dm_link.specs.declared.Kind.{Kind}
 use Rattle.dm_link.specs.declared.Kind.TheVariants.{General, Reply}
 use Rattle.dm_link.specs.declared.Link.{Link}
 use Rattle.dm_packet.specs.declared.PacketError.TheVariants as bad
-use Rattle.dm_packet.specs.Field.{Field, number, run, tested, both, made, times, counted}
+use Rattle.dm_packet.specs.Field.{Field, number, run, tested, both, made, repeated_field, counted}
 
 -- a machine, 0 to 15
 abbrev pub machine : Field ℕ
@@ -54,8 +54,8 @@ channel = tested (number 1) (λ c. nat_le c 31) bad.Limit
 abbrev pub LinkParts : Type 0
 LinkParts = Addr × ((Kind × Bool × Bool) × (ℕ × (ℕ × (ℕ × ℕ))))
 
-abbrev pub link_of : LinkParts → Link
-link_of l = record {
+abbrev pub link_of_parts : LinkParts → Link
+link_of_parts l = record {
   addr = l.0;
   kind = l.1.0.0;
   to_kernel = false;
@@ -68,11 +68,11 @@ abbrev pub parts_of_link : Link → LinkParts
 parts_of_link l = (l.addr, ((l.kind, l.area.read, l.area.write), (l.code, (l.channel, (l.area.base, l.area.len)))))
 
 abbrev pub link : Field Link
-link = made (both addr (λ _. both flags (λ _. both (number 4) (λ _. both channel (λ _. both (number 4) len_from))))) link_of parts_of_link
+link = made (both addr (λ _. both flags (λ _. both (number 4) (λ _. both channel (λ _. both (number 4) len_from))))) link_of_parts parts_of_link
 
 -- at most so many links
 abbrev pub links : ℕ → Field (List Link)
-links most = counted (tested (number 1) (λ n. nat_le n most) bad.Limit) (λ n. times link n)
+links most = counted (tested (number 1) (λ n. nat_le n most) bad.Limit) (λ n. repeated_field link n)
 
 -- a number of bytes between two limits
 abbrev pub length_within : ℕ → ℕ → Field ℕ

@@ -96,9 +96,9 @@ read_rest kinds.Data from to bytes = read_data from to bytes
 read_rest kinds.Ack from to bytes = read_ack from to bytes
 
 -- nothing follows a packet
-abbrev pub ended : Packet × List ℕ → Result Packet PacketError
-ended p = if length p.1 == 0 then Ok p.0 else Err bad.Trailing
+abbrev pub only_packet : Packet × List ℕ → Result Packet PacketError
+only_packet p = if length p.1 == 0 then Ok p.0 else Err bad.Trailing
 
 -- what the bytes spell, all of them, or the first rule that they break
 unfoldable pub packet_of : List ℕ → Result Packet PacketError
-packet_of bytes = opening.read bytes >>= λ o. read_rest o.0.kind o.0.from o.0.to o.1 >>= ended
+packet_of bytes = opening.read bytes >>= λ o. read_rest o.0.kind o.0.from o.0.to o.1 >>= only_packet

@@ -10,7 +10,7 @@ use Rattle.dm_packet.specs.declared.front.Front.{Front}
 use Rattle.dm_packet.specs.declared.front.Front.TheVariants as front
 use Rattle.dm_packet.specs.declared.front.PacketKind.{PacketKind}
 use Rattle.dm_packet.specs.Field.{◌>>=◌}
-use Rattle.dm_packet.specs.Packets.{ended, read_rest, with_head}
+use Rattle.dm_packet.specs.Packets.{only_packet, read_rest, with_head}
 
 -- it is what reading gives: what the message carries and the bytes behind it, or the rule that is broken
 abbrev pub ReadsInto : Result (Bor (List ℕ)) PacketError → What → Result (What × List ℕ) PacketError → Type 0
@@ -29,4 +29,4 @@ ReadsParts (Err e) what read = read ≡ Err e
 
 -- a packet's front, behind which nothing is read but its own number and message
 abbrev pub read_ended : PacketKind → ℕ → ℕ → List ℕ → Result Packet PacketError
-read_ended kind from to bytes = read_rest kind from to bytes >>= ended
+read_ended kind from to bytes = read_rest kind from to bytes >>= only_packet

@@ -68,15 +68,15 @@ asker = made (both (number 4) (λ _. addr)) (λ a. record { n = a.0; addr = a.1 
 abbrev pub piece_from : ℕ → Field ℕ
 piece_from base = tested (number 2) (λ n. (nat_le 1 n && nat_le n 256) && nat_le (base + n) 65536) bad.Limit
 
-abbrev pub is_server : Pid → Bool
-is_server p = (p.home == 0) && ((p.num == 1) || (p.num == 2))
+abbrev pub is_server_pid : Pid → Bool
+is_server_pid p = (p.home == 0) && ((p.num == 1) || (p.num == 2))
 
 -- a process's blocks, 1 to 256; a server has none
 abbrev pub are_blocks_of : Pid → ℕ → Bool
-are_blocks_of p n = nat_le n 256 && bool_eq (n == 0) (is_server p)
+are_blocks_of p n = nat_le n 256 && bool_eq (n == 0) (is_server_pid p)
 
-abbrev pub blocks_of : Pid → Field ℕ
-blocks_of p = tested (number 2) (are_blocks_of p) bad.Limit
+abbrev pub blocks_field : Pid → Field ℕ
+blocks_field p = tested (number 2) (are_blocks_of p) bad.Limit
 
 abbrev pub at_most : ℕ → ℕ → Field ℕ
 at_most size most = tested (number size) (λ n. nat_le n most) bad.Limit
@@ -95,7 +95,7 @@ abbrev pub create : Field (ℕ × List Link)
 create = both (number 2) (λ _. links 3)
 
 abbrev pub ask : Field (Pid × (ℕ × (ℕ × (ℕ × Option Asker))))
-ask = both pid (λ p. both (blocks_of p) (λ _. both (number 4) (λ _. both (number 4) (λ _. optional asker))))
+ask = both pid (λ p. both (blocks_field p) (λ _. both (number 4) (λ _. both (number 4) (λ _. optional asker))))
 
 abbrev pub refuse : Field (Pid × (ℕ × ℕ))
 refuse = both pid (λ _. both (at_most 1 64) (λ _. at_most 2 4096))
@@ -112,8 +112,8 @@ pull_block = both pid (λ _. number 1)
 abbrev pub memory : Field (Pid × (ℕ × List ℕ))
 memory = both pid (λ _. both (number 1) (λ _. run 256))
 
-abbrev pub outcome : Field Outcome
-outcome = coded outcome_coded code_of_outcome bad.Limit
+abbrev pub outcome_field : Field Outcome
+outcome_field = coded outcome_coded code_of_outcome bad.Limit
 
 -- the one spelling of what a message carries
 unfoldable pub spell_what : What → List ℕ
@@ -140,7 +140,7 @@ spell_what (what.Memory p block bytes) = memory.spell (p, (block, bytes))
 spell_what (what.AllTaken p) = pid.spell p
 spell_what (what.Restart p) = pid.spell p
 spell_what (what.Move m) = machine.spell m
-spell_what (what.Moved end) = outcome.spell end
+spell_what (what.Moved end) = outcome_field.spell end
 spell_what (what.CallOff p) = pid.spell p
 spell_what (what.Bury p) = pid.spell p
 
@@ -173,6 +173,6 @@ read_what kind.Memory bytes = read_as memory (λ x. what.Memory x.0 x.1.0 x.1.1)
 read_what kind.AllTaken bytes = read_as pid what.AllTaken bytes
 read_what kind.Restart bytes = read_as pid what.Restart bytes
 read_what kind.Move bytes = read_as machine what.Move bytes
-read_what kind.Moved bytes = read_as outcome what.Moved bytes
+read_what kind.Moved bytes = read_as outcome_field what.Moved bytes
 read_what kind.CallOff bytes = read_as pid what.CallOff bytes
 read_what kind.Bury bytes = read_as pid what.Bury bytes

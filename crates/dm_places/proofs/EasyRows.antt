@@ -1,7 +1,7 @@
 -- Rows of the rule whose parts need nothing beside, so that a kernel with places goes along.
 use Rattle.dm_places.proofs.Names.{◌≡◌, refl, ℕ, zero, suc, ◌+◌, ◌-◌, ◌/◌, ◌==◌, Bool, true, false, List, [], ◌∷◌, ◌++◌, length, ⊤, if◌then◌else◌, nat_lt, Option, None, Some, Pid, pid_eq, MsgId, MessageKind, Line, plain_kind, PlainMessage, PlainWhat}
-use Rattle.dm_places.proofs.Names.{instruction, Boot, manager, switchboard, OneKernel, bind, PlainProcess, PlainStatus, Ready, Waiting, Moving, Load, About, Forward, Frozen, Here, Known, Of, Pair, Sent, Told, Unknown, View, target_of}
-use Rattle.dm_places.proofs.Names.{Addresses, child_number, is_told_back, Part, Says, Transmits, window, Point, outcome, by_migrates, IsHeardLine, hears_kept}
+use Rattle.dm_places.proofs.Names.{instruction, Boot, manager, switchboard, OneKernel, bind, PlainProcess, PlainStatus, Ready, Waiting, Moving, Load, About, Forward, Frozen, Here, Known, Of, Pair, SentLoad, Told, Unknown, View, target_of}
+use Rattle.dm_places.proofs.Names.{Addresses, child_number, is_told_back, Part, Says, Transmits, pair_window, Point, outcome, by_migrates, IsHeardLine, hears_kept}
 use Rattle.dm_onekernel.specs.Calls as calls
 use Rattle.dm_onekernel.specs.Pieces as pieces
 use Rattle.dm_onekernel.specs.Receiving as receiving
@@ -24,7 +24,7 @@ if_parts : (c : Bool) (ps qs : List Part) → EasyParts ps → EasyParts qs → 
 if_parts true ps qs h k = h
 if_parts false ps qs h k = k
 
-drops_easy : (ids : List MsgId) → EasyParts (rule.drops ids)
+drops_easy : (ids : List MsgId) → EasyParts (rule.drop_parts ids)
 drops_easy [] = tt
 drops_easy (i ∷ is) = (tt, drops_easy is)
 
@@ -38,21 +38,21 @@ called_easy p n queue (calls.Sends m x) = (tt, (tt, tt))
 called_easy p n queue (calls.Ends because) = (tt, drops_easy queue)
 called_easy p n queue _ = (tt, tt)
 
-stops_easy : (p : Pid) (queue : List MsgId) (o : Option kernel.Next) → EasyParts (rule.stops p queue o)
+stops_easy : (p : Pid) (queue : List MsgId) (o : Option kernel.Trap) → EasyParts (rule.stops p queue o)
 stops_easy p queue None = tt
 stops_easy p queue (Some (kernel.Calls n c)) = called_easy p n queue c
 stops_easy p queue (Some (kernel.Faults fault)) = (tt, drops_easy queue)
 
-completes_easy : (p : Pid) (id : MsgId) (o : Option receiving.Completed) → Easy (bind o (λ (c : receiving.Completed). Some (rule.completes p id c)))
+completes_easy : (p : Pid) (id : MsgId) (o : Option receiving.Completed) → Easy (bind o (λ (c : receiving.Completed). Some (rule.completion_parts p id c)))
 completes_easy p id None = tt
 completes_easy p id (Some (receiving.Receives x)) = (tt, tt)
 completes_easy p id (Some (receiving.Refuses reply x)) = (tt, tt)
 
-received_easy : (p : Pid) (x : PlainProcess) (id : MsgId) (o : Option PlainMessage) → Easy (bind o (λ (k : PlainMessage). bind (receiving.completes_with p x k) (λ (c : receiving.Completed). Some (rule.completes p id c))))
+received_easy : (p : Pid) (x : PlainProcess) (id : MsgId) (o : Option PlainMessage) → Easy (bind o (λ (k : PlainMessage). bind (receiving.completes_with p x k) (λ (c : receiving.Completed). Some (rule.completion_parts p id c))))
 received_easy p x id None = tt
 received_easy p x id (Some k) = completes_easy p id (receiving.completes_with p x k)
 
-receives_easy : (s : OneKernel) (p : Pid) (x : PlainProcess) (o : Option MsgId) → Easy (rule.receives s p x o)
+receives_easy : (s : OneKernel) (p : Pid) (x : PlainProcess) (o : Option MsgId) → Easy (rule.reception_parts s p x o)
 receives_easy s p x None = tt
 receives_easy s p x (Some id) = received_easy p x id (s.bag id)
 
@@ -73,7 +73,7 @@ round_easy b pt m None = (tt, tt)
 round_easy b pt m (Some p) = alive_easy pt.kernel b.quantum p (pt.view.queue m p) (kernel.alive (pt.kernel.processes p))
 
 -- a message for a process
-lands_easy : (id : MsgId) (o : Option pieces.Landed) → Easy (rule.lands id o)
+lands_easy : (id : MsgId) (o : Option pieces.Landed) → Easy (rule.landing_parts id o)
 lands_easy id None = tt
 lands_easy id (Some (pieces.Next request x)) = (tt, (tt, tt))
 lands_easy id (Some (pieces.Done reply x)) = (tt, tt)
@@ -139,20 +139,20 @@ resends_easy n v (suc b) =
     let ns = rule.numbers_from (v.pair n b).acked ((v.pair n b).gone - (v.pair n b).acked) in
     easy_append (rule.resends v n b) (if n == b then [] else rule.repeats n b ns) (resends_easy n v b) (if_parts (n == b) [] (rule.repeats n b ns) tt (repeats_easy n b ns))
 
-takes_easy : (a b : ℕ) (ns : List ℕ) → EasyParts (rule.takes a b ns)
+takes_easy : (a b : ℕ) (ns : List ℕ) → EasyParts (rule.taking_parts a b ns)
 takes_easy a b [] = tt
 takes_easy a b (n ∷ ns) = (tt, takes_easy a b ns)
 
 load_easy : (a b : ℕ) (p q : Pair) (l : Load) → EasyParts (rule.comes a b p q l)
 load_easy a b p q (Load.Data n) =
-    let ns = rule.kept_from p.kept (n + 1) window in
+    let ns = rule.kept_from p.kept (n + 1) pair_window in
     if_parts (nat_lt n p.taken) (Says (Line.Old a b n) ∷ Transmits b a (Load.Ack p.taken) ∷ []) (if nat_lt p.taken n then Says (Line.Early a b n) ∷ Transmits b a (Load.Ack p.taken) ∷ [] else rule.takes_on a b n ns)
     (tt, (tt, tt))
     (if_parts (nat_lt p.taken n) (Says (Line.Early a b n) ∷ Transmits b a (Load.Ack p.taken) ∷ []) (rule.takes_on a b n ns) (tt, (tt, tt))
-    (easy_append (rule.takes a b (n ∷ ns)) (Transmits b a (Load.Ack (n + 1 + length ns)) ∷ []) (takes_easy a b (n ∷ ns)) (tt, tt)))
+    (easy_append (rule.taking_parts a b (n ∷ ns)) (Transmits b a (Load.Ack (n + 1 + length ns)) ∷ []) (takes_easy a b (n ∷ ns)) (tt, tt)))
 load_easy a b p q (Load.Ack n) = (tt, repeats_easy b a (rule.let_go q (rule.more n q.acked)))
 
-pub arrives_easy : (a b : ℕ) (p q : Pair) (o : Option Sent) → EasyParts (rule.arrives a b p q o)
+pub arrives_easy : (a b : ℕ) (p q : Pair) (o : Option SentLoad) → EasyParts (rule.arrives a b p q o)
 arrives_easy a b p q None = (tt, tt)
 arrives_easy a b p q (Some s) = load_easy a b p q s.load
 

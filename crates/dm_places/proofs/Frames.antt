@@ -1,8 +1,8 @@
 -- What a step with places leaves as it is.
-use Rattle.dm_places.proofs.Names.{◌≡◌, ℕ, Bool, true, false, List, refl, ap, sym, subst, if◌then◌else◌, slice_get, Option, None, Some, false≢true, Pid, pid_eq, MsgId, Message, What, Process, begun, instruction, Format, BootImage, Label}
-use Rattle.dm_places.proofs.Names.{manager, slots_of, switchboard, bind, memory_of, slots_with, Machine, plain_steps, Landed, Landing, landing, after_serving, answer, gone_answer, serving_answer, Completion, bind-is, Placed, Acted, acted}
-use Rattle.dm_places.proofs.Names.{acts, after_landing, board_took, completed, creates, lands, machine_of, manager_took, ran, running, serves, takes, with_acted, with_child, with_machine, with_process, with_sent, without_message, Changes}
-use Rattle.dm_places.proofs.Names.{StepsChangeLittle, changed, is_named, receiver_in, taken, taken_out}
+use Rattle.dm_places.proofs.Names.{◌≡◌, ℕ, Bool, true, false, List, refl, ap, sym, subst, if◌then◌else◌, slice_get, Option, None, Some, false≢true, Pid, pid_eq, MsgId, Message, What, Process, begun_process, instruction, Format, BootImage}
+use Rattle.dm_places.proofs.Names.{Label, manager, slots_of, switchboard, bind, memory_of, slots_with, Machine, plain_steps, Landed, Landing, landing, after_serving, answer, gone_answer, serving_answer, Completion, bind-is, Placed, Acted}
+use Rattle.dm_places.proofs.Names.{acted, acts, after_landing, board_took, completed, creates, lands, machine_of, manager_took, ran, running, serves, takes, with_acted, with_child, with_machine, with_process, with_sent, without_message}
+use Rattle.dm_places.proofs.Names.{Changes, StepsChangeLittle, changed, is_named, receiver_in, taken, taken_out}
 use Rattle.dm_switchboard.specs.Taking as board
 use Rattle.dm_procman.specs.Taking as manage
 use Rattle.dm_places.specs.PlacedStep.{answers}
@@ -112,7 +112,7 @@ creates_leaves here f images l m id n child (What.Create number links) e =
     let a = answer here 0 n (What.Created child) in
     let (i, is, last) = bind-is (slice_get images number) (λ (i : BootImage). Some (with_sent (with_child (without_message l id) f child i links.items) (Some a))) m e in
     let g : with_sent (with_child (without_message l id) f child i links.items) (Some a) ≡ m = cc in
-    subst (Leaves l (Some child) (Some id)) g (sets_and_takes l id child (Some (begun child (memory_of i) (slots_with (slots_of f) links.items))) (Some a))
+    subst (Leaves l (Some child) (Some id)) g (sets_and_takes l id child (Some (begun_process child (memory_of i) (slots_with (slots_of f) links.items))) (Some a))
 creates_leaves here f images l m id n child w e = cc
 
 -- the servers

@@ -10,7 +10,7 @@ pub use Rattle.dm_linktable.proofs.Plain.{plain_map_retargeted}
 pub use Rattle.dm_schedule.proofs.Names.{if◌then◌else◌, nat_lt}
 pub use Rattle.dm_process.proofs.Names.{Message}
 pub use Rattle.dm_linkupdate.proofs.Names.{Addr, None, Option, Process, Some, Status, applied, relocated, retargeted, retargeted_link, status_after}
-pub use Rattle.dm_statebytes.proofs.Names.{Direction, Regs, begun, direction_numbered, inl, inr, nat_le, slice_set, ◌⊎◌}
+pub use Rattle.dm_statebytes.proofs.Names.{Direction, Regs, begun_process, direction_numbered, inl, inr, nat_le, slice_set, ◌⊎◌}
 pub use Rattle.dm_migrate.proofs.Names.{PlainWhat, What, plain_message, plain_what, sent_on, with_what}
 pub use Rattle.dm_onekernel.specs.Start.{memory_of, zero_regs}
 pub use Rattle.dm_onekernel.specs.Step.{Machine, plain_steps}
@@ -18,8 +18,8 @@ pub use Rattle.dm_onekernel.specs.Switchboard.{goes_over}
 pub use Rattle.dm_onekernel.specs.declared.boot.Format.{Format}
 pub use Rattle.dm_switchboard.proofs.Imports.{ArrayVec, Asked, Named, bytes_eq, is_general, is_name, is_some, named_is_behind, plain_board, plain_link, plain_named, retargeted_named, switchboard}
 pub use Rattle.dm_switchboard.proofs.Plain.{plain_answer, plain_asked, plain_asks, plain_reply}
-pub use Rattle.dm_procman.proofs.Names.{Boot, BootProcess, IsValid, Managing, MsgId, PlainLink, Taken, answer_over, at_home, child_named, child_numbered, child_of, control_link, kernel, manager, message_to, pending_is_behind}
-pub use Rattle.dm_procman.proofs.Names.{pending_numbered, plain_child, plain_manager, plain_pending, retargeted_manager, retargeted_pending, slice_get-map, without_pending, ◌||◌}
+pub use Rattle.dm_procman.proofs.Names.{Boot, BootProcess, IsValid, Managing, MsgId, PlainLink, Taken, answer_over, at_home, child_address, child_at_home, child_named, control_link, kernel, manager, message_to, pending_is_behind}
+pub use Rattle.dm_procman.proofs.Names.{pending_request, plain_child, plain_manager, plain_pending, retargeted_manager, retargeted_pending, slice_get-map, without_pending, ◌||◌}
 pub use Rattle.dm_procman.proofs.Plain.{plain_bear, plain_numbered, plain_pending_numbered, plain_push, plain_without}
 pub use Rattle.dm_procman.specs.Making.{address}
 pub use Rattle.dm_procman.specs.declared.pending.Pending.{Pending}
@@ -49,18 +49,18 @@ pub use Rattle.dm_rule.proofs.Homes.Slots.{emptied_link, past_call, set_link}
 pub use Rattle.dm_rule.proofs.Homes.Steps.{OnlySlots, gives_same, made_is, only_gives_by}
 pub use Rattle.dm_rule.proofs.Letters.{not_kernels}
 pub use Rattle.dm_rule.proofs.Names.{About, Addresses, Again, Answer, Child, Enclosed, Fault, Forward, Frozen, Gets, Here, Holder, Inbox, IsStep, Known, Leads, Line, Load, MessageKind, Name, NamedLink, Of, One, Owner, Owns, Pair, Part}
-pub use Rattle.dm_rule.proofs.Names.{Place, Point, Receiver, Routes, Says, Sender, Sent, Slot, Sort, Sound, Spelled, Spot, Stage, Step, TellsRight, Told, Transmits, Unknown, View, addresses_after, after, after_head, after_label, after_line}
-pub use Rattle.dm_rule.proofs.Names.{after_step, all_follow, answer_link, answers, ascends, at_machine, at_pid, behind, behind_count, belongs_to, bind-is, board_finds, board_keeps, board_takes, child_from, child_links, child_number}
-pub use Rattle.dm_rule.proofs.Names.{enclosed_from, encloses, fills, fills_by, filter_map, first_addresses, first_gives, first_point, first_view, forwarded_for, forwards, gets, given, gives, goes_out, group_of, handled, headed, here}
-pub use Rattle.dm_rule.proofs.Names.{home_of, id_eq-is, id_eq-same, id_eq-swap, is_kernels, is_pid, is_told_back, kernel_after, label_of, leads_to, lines_of, link_to, links_at, made, manager_answers, manager_sends, manager_takes, moved}
-pub use Rattle.dm_rule.proofs.Names.{name_link, nth_child, outcome, own_given, own_gives, own_id, owner_in, owner_of, packet_line, pid_eq-is, pid_eq-same, place_in, place_known, place_named, place_of, place_of_child, place_told, plain_kind}
-pub use Rattle.dm_rule.proofs.Names.{puts, receiver_of, receives_links, receives_what, reply_eq, sends_what, serves_what, slot_after, slot_of, slots_of, slots_with, sort_of, spelled, standing, start-sound, target_of, tells_back, times}
-pub use Rattle.dm_rule.proofs.Names.{unmoved, updated, updated_to, view_after, when-is, why_eq, window}
+pub use Rattle.dm_rule.proofs.Names.{Place, Point, Receiver, Routes, Says, Sender, SentLoad, Slot, Sort, Sound, Spelled, Spot, Stage, Step, TellsRight, Told, Transmits, Unknown, View, acting_place, addresses_after, after, after_head}
+pub use Rattle.dm_rule.proofs.Names.{after_label, after_line, after_step, all_follow, answer_gets, answer_link, ascends, at_machine, at_pid, behind, behind_count, belongs_to, bind-is, board_finds, board_gets, board_keeps, boot_home}
+pub use Rattle.dm_rule.proofs.Names.{call_gets, child_from, child_links, child_number, enclosed_from, encloses, fills, fills_by, filter_map, first_addresses, first_gives, first_point, first_view, forwarded_for, forwards, gets, given, gives}
+pub use Rattle.dm_rule.proofs.Names.{goes_out, group_of, handled, headed, id_eq-is, id_eq-same, id_eq-swap, is_kernels, is_pid, is_told_back, kernel_after, label_of, leads_to, lines_of, link_target, links_at, manager_answers, manager_gets}
+pub use Rattle.dm_rule.proofs.Names.{manager_sends, moved, name_link, nth_child, outcome, own_given, own_gives, own_id, owner_in, owner_of, packet_line, pair_window, pid_eq-is, pid_eq-same, place_in, place_known, place_named, place_of}
+pub use Rattle.dm_rule.proofs.Names.{place_of_child, place_told, plain_kind, puts, receiver_of, receives_links, receives_what, reply_eq, sends_what, serves_what, slot_after, slot_of, slots_of, slots_with, sort_of, spelled, standing}
+pub use Rattle.dm_rule.proofs.Names.{start-sound, target_of, times, told_back_gets, unmoved, updated, updated_to, view_after, when-is, why_eq}
 pub use Rattle.dm_rule.proofs.Pairs.Moves.{or_first, or_first as or_second}
 pub use Rattle.dm_rule.proofs.Requests.{by_migrates}
 pub use Rattle.dm_rule.proofs.Worked.{hi}
 pub use Rattle.dm_rule.specs.Addresses.{board_asks}
-pub use Rattle.dm_rule.specs.Migrating.{answers_in, behind_among, holders_of, numbered, slots_from, slots_in}
+pub use Rattle.dm_rule.specs.Migrating.{answers_in, behind_among, holders_numbered, holders_of, slot_holders, slots_from}
 pub use Rattle.dm_rule.specs.View.{first_told, is_own}
 pub use Rattle.dm_places.specs.Changes.{Changes, StepsChangeLittle, changed, is_named, receiver_in, taken, taken_out}
 pub use Rattle.dm_places.specs.Following.{GroupNeeds, LineNeeds, MirrorsPoint, ServersApart, is_among, sent_all}

@@ -1,7 +1,7 @@
 -- Where a run begins, the boot file's processes with their links mirror the first point.
 use Rattle.dm_places.proofs.Names.{◌≡◌, ℕ, zero, suc, ◌-◌, Bool, true, false, List, [], ◌∷◌, length, refl, ap, ◌∙◌, sym, subst, inl, inr, if◌then◌else◌, map, option_map, slice_get, Option, None, Some, cases_Bool, Pid, Addr, Link, pid_eq}
-use Rattle.dm_places.proofs.Names.{place_of, plain_link, Process, begun, BootImage, BootProcess, Boot, slots_of, Alive, Life, plain_process, memory_of, slots_with, child_of, plain_child, child_numbered, pid_eq-is, first_view}
-use Rattle.dm_places.proofs.Names.{first_addresses, home_of, links_at, nth_child, place_in, unmoved, MirrorsProcess, started, started_at, StartMirrors}
+use Rattle.dm_places.proofs.Names.{place_of, plain_link, Process, begun_process, BootImage, BootProcess, Boot, slots_of, Alive, Life, plain_process, memory_of, slots_with, child_at_home, plain_child, child_address, pid_eq-is, first_view}
+use Rattle.dm_places.proofs.Names.{first_addresses, boot_home, links_at, nth_child, place_in, unmoved, MirrorsProcess, started, started_at, StartMirrors}
 use Rattle.dm_onekernel.specs.Start as one
 use Rattle.dm_onekernel.specs.Step as kernel
 use Rattle.dm_places.proofs.Labels.Creates.{begun_link, begun_plainly}
@@ -9,7 +9,7 @@ use Rattle.dm_places.proofs.Labels.Creates.{begun_link, begun_plainly}
 -- without places
 started_plainly_of : (b : Boot) (p : BootProcess) (o : Option BootImage)
     → kernel.alive (option_map (λ image. Alive (one.begun b.format image (map plain_link p.links))) o)
-    ≡ option_map plain_process (option_map (λ image. begun p.pid (memory_of image) (slots_with (slots_of b.format) p.links)) o)
+    ≡ option_map plain_process (option_map (λ image. begun_process p.pid (memory_of image) (slots_with (slots_of b.format) p.links)) o)
 started_plainly_of b p None = refl
 started_plainly_of b p (Some image) = ap Some (begun_plainly b.format p.pid image p.links)
 
@@ -22,16 +22,16 @@ started_plainly : (b : Boot) (ps : List BootProcess) (q : Pid) → kernel.alive 
 started_plainly b [] q = refl
 started_plainly b (p ∷ ps) q = started_if b p (pid_eq p.pid q) (one.life_at b ps q) (started_at b ps q) (started_plainly b ps q)
 
-children_plainly : (ps : List BootProcess) → map plain_child (map child_of ps) ≡ map (λ (p : BootProcess). p.pid) ps
+children_plainly : (ps : List BootProcess) → map plain_child (map child_at_home ps) ≡ map (λ (p : BootProcess). p.pid) ps
 children_plainly [] = refl
 children_plainly (p ∷ ps) = ap (λ (qs : List Pid). p.pid ∷ qs) (children_plainly ps)
 
 -- its links are the file's
 begun_kept : (b : Boot) (p : BootProcess) (q : Pid) (x : Process) (o : Option BootImage) → p.pid ≡ q → links_at b.processes q ≡ p.links
-    → option_map (λ image. begun p.pid (memory_of image) (slots_with (slots_of b.format) p.links)) o ≡ Some x → MirrorsProcess (first_view b) (first_addresses b) q x
+    → option_map (λ image. begun_process p.pid (memory_of image) (slots_with (slots_of b.format) p.links)) o ≡ Some x → MirrorsProcess (first_view b) (first_addresses b) q x
 begun_kept b p q x None name at e = cc
 begun_kept b p q x (Some image) name at e =
-    let f : begun p.pid (memory_of image) (slots_with (slots_of b.format) p.links) ≡ x = cc in
+    let f : begun_process p.pid (memory_of image) (slots_with (slots_of b.format) p.links) ≡ x = cc in
     subst (MirrorsProcess (first_view b) (first_addresses b) q) f
     (record {
       pid = name;
@@ -51,12 +51,12 @@ started_kept b (p ∷ ps) q x at e = elim (cases_Bool (pid_eq p.pid q)) [
       started_kept b ps q x (at ∙ ap (λ (c : Bool). if c then p.links else links_at ps q) apart) (sym (ap (λ (c : Bool). if c then started b p else started_at b ps q) apart) ∙ e)
 ]
 
-child_kept_of : (ps : List BootProcess) (n : ℕ) (c : Addr) → slice_get (map child_of ps) n ≡ Some c → unmoved (home_of (slice_get ps n)) ≡ place_of c
+child_kept_of : (ps : List BootProcess) (n : ℕ) (c : Addr) → slice_get (map child_at_home ps) n ≡ Some c → unmoved (boot_home (slice_get ps n)) ≡ place_of c
 child_kept_of [] n c e = cc
-child_kept_of (p ∷ ps) zero c e = let f : child_of p ≡ c = cc in ap place_of f
+child_kept_of (p ∷ ps) zero c e = let f : child_at_home p ≡ c = cc in ap place_of f
 child_kept_of (p ∷ ps) (suc n) c e = child_kept_of ps n c e
 
-child_kept : (ps : List BootProcess) (n : ℕ) (c : Addr) → child_numbered (map child_of ps) n ≡ Some c → unmoved (home_of (nth_child ps n)) ≡ place_of c
+child_kept : (ps : List BootProcess) (n : ℕ) (c : Addr) → child_address (map child_at_home ps) n ≡ Some c → unmoved (boot_home (nth_child ps n)) ≡ place_of c
 child_kept ps zero c e = cc
 child_kept ps (suc n) c e = child_kept_of ps n c e
 

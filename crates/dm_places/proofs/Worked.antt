@@ -1,6 +1,6 @@
 -- The steps with places, computed on worked cases.
-use Rattle.dm_places.proofs.Names.{◌≡◌, ℕ, List, [], ◌∷◌, refl, take, drop, option_map, Option, None, Some, Addr, Link, pid_of, link_at, Message, What, Reply, id_of, Process, begun, instruction, One, Label, bind, hi, Placed, placed_start}
-use Rattle.dm_places.proofs.Names.{placed_step}
+use Rattle.dm_places.proofs.Names.{◌≡◌, ℕ, List, [], ◌∷◌, refl, take, drop, option_map, Option, None, Some, Addr, Link, pid_of, link_at, Message, What, Reply, id_of, Process, begun_process, instruction, One, Label, bind, hi, Placed}
+use Rattle.dm_places.proofs.Names.{placed_start, placed_step}
 
 -- labels in order, each on its machine
 abbrev steps : Placed → List (ℕ × Label) → Option Placed
@@ -42,7 +42,7 @@ message_is_gone = refl
 
 -- a process that has come to machine 2 by its fifth move makes a link: it leads there
 abbrev moved_process : Process
-moved_process = record (begun (pid_of 0 3) (20 ∷ 0 ∷ 0 ∷ 3 ∷ []) (None ∷ None ∷ [])) { moves = 5 }
+moved_process = record (begun_process (pid_of 0 3) (20 ∷ 0 ∷ 0 ∷ 3 ∷ []) (None ∷ None ∷ [])) { moves = 5 }
 
 abbrev alone : Placed
 alone = record (placed_start hi) { processes = λ p. Some moved_process }

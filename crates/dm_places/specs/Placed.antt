@@ -23,7 +23,7 @@ use Rattle.dm_onekernel.specs.Step as kernel
 use Rattle.dm_switchboard.specs.Board.{Board, Named, plain_board}
 use Rattle.dm_procman.specs.declared.pending.Pending.{Pending}
 use Rattle.dm_procman.specs.Managing.{Managing, plain_manager}
-use Rattle.dm_procman.specs.Taking.{child_numbered, pending_numbered}
+use Rattle.dm_procman.specs.Taking.{child_address, pending_request}
 use Rattle.dm_rule.specs.View.{View}
 use Rattle.dm_rule.specs.Addresses.{Addresses, Slot, Owner, Receiver, Sender, Enclosed, Child, Name, Answer}
 
@@ -77,8 +77,8 @@ pub record MirrorsPlaces (v : View) (a : Addresses) (l : Placed) : Type 0 where
   pub message : (i : MsgId) (m : Message) → l.bag i ≡ Some m → MirrorsMessage a i m
   pub name : (n : ℕ) (k : Named) → slice_get l.board.names n ≡ Some k → a (Name n) ≡ place_of k.link.addr
   -- children count from 1
-  pub child : (n : ℕ) (c : Addr) → child_numbered l.manager.children n ≡ Some c → a (Child n) ≡ place_of c
-  pub answer : (n : ℕ) (r : Pending) → pending_numbered n l.manager.pending ≡ Some r → a (Answer n) ≡ place_of r.answer.addr
+  pub child : (n : ℕ) (c : Addr) → child_address l.manager.children n ≡ Some c → a (Child n) ≡ place_of c
+  pub answer : (n : ℕ) (r : Pending) → pending_request n l.manager.pending ≡ Some r → a (Answer n) ≡ place_of r.answer.addr
 
 pub record Mirrors (s : OneKernel) (v : View) (a : Addresses) (l : Placed) : Type 0 where
   pub plain : MirrorsKernel s l

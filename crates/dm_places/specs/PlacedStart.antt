@@ -5,7 +5,7 @@ use Rattle.std.specs.declared.option.Option.TheVariants.{None}
 use Rattle.dm_link.specs.declared.Pid.{Pid}
 use Rattle.dm_link.specs.Names.{pid_eq}
 use Rattle.dm_process.specs.declared.process.Process.{Process}
-use Rattle.dm_process.specs.Begun.{begun}
+use Rattle.dm_process.specs.Begun.{begun_process}
 use Rattle.dm_onekernel.specs.declared.boot.BootProcess.{BootProcess}
 use Rattle.dm_onekernel.specs.declared.boot.Boot.{Boot}
 use Rattle.dm_onekernel.specs.Boot.{slots_of}
@@ -15,7 +15,7 @@ use Rattle.dm_places.specs.Placed.{Placed}
 
 -- a process of the boot file as it begins, with the file's links
 abbrev pub started : Boot → BootProcess → Option Process
-started b p = option_map (λ image. begun p.pid (memory_of image) (slots_with (slots_of b.format) p.links)) (slice_get b.images p.image)
+started b p = option_map (λ image. begun_process p.pid (memory_of image) (slots_with (slots_of b.format) p.links)) (slice_get b.images p.image)
 
 abbrev pub started_at : Boot → List BootProcess → Pid → Option Process
 started_at b [] q = None

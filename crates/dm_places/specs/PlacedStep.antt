@@ -14,7 +14,7 @@ use Rattle.dm_message.specs.Ids.{id_eq}
 use Rattle.dm_process.specs.declared.process.Process.{Process}
 use Rattle.dm_process.specs.declared.process.Status.{Status}
 use Rattle.dm_process.specs.declared.process.Status.TheVariants as status
-use Rattle.dm_process.specs.Begun.{begun}
+use Rattle.dm_process.specs.Begun.{begun_process}
 use Rattle.dm_processor.specs.Instructions.{Row, instruction}
 use Rattle.dm_processor.specs.Instructions as row
 use Rattle.dm_onekernel.specs.declared.boot.Format.{Format}
@@ -140,7 +140,7 @@ takes l m =
 
 -- created: a kernel makes a process, and says so
 abbrev pub with_child : Placed → Format → Pid → BootImage → List Link → Placed
-with_child l f child image links = with_process l child (Some (begun child (memory_of image) (slots_with (slots_of f) links)))
+with_child l f child image links = with_process l child (Some (begun_process child (memory_of image) (slots_with (slots_of f) links)))
 
 abbrev pub creates : ℕ → Format → List BootImage → Placed → Message → Pid → What → Option Placed
 creates here f images l m child (what.Create image links) =

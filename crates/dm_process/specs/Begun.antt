@@ -7,8 +7,8 @@ use Rattle.dm_process.specs.declared.process.Process.{Process}
 use Rattle.dm_process.specs.declared.process.Status.TheVariants.{Ready}
 
 -- it has this memory and these links; registers and counts are zero, and no message waits for it
-abbrev pub begun : Pid → List ℕ → List (Option Link) → Process
-begun p memory table =
+abbrev pub begun_process : Pid → List ℕ → List (Option Link) → Process
+begun_process p memory table =
     record {
       pid = p;
       regs = record { r = replicate 16 0; pc = 0 };

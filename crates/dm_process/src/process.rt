@@ -1,6 +1,6 @@
 //! A process.
 ghost use Rattle.std.specs.Prelude.{◌≡◌, ◌*◌, ◌-◌, ◌≤◌, ◌++◌, IfOk, IfSome, is_some, length, option_map, replicate};
-ghost use Rattle.dm_process.specs.Begun.{begun};
+ghost use Rattle.dm_process.specs.Begun.{begun_process};
 ghost use Rattle.dm_process.specs.Directions.{direction_numbered, number_of_direction};
 ghost use Rattle.dm_process.specs.Process.{is_runnable};
 ghost use Rattle.dm_process.specs.Service.{IsServiceOf};
@@ -108,7 +108,7 @@ impl Process {
         requires least { 1 ≤ blocks }
         requires most { blocks ≤ MOST_BLOCKS }
         requires fits { length image.now ≤ BLOCK * blocks }
-        ensures ok { IfOk result (λ p. p ≡ begun pid (image.now ++ replicate (BLOCK * blocks - length image.now) 0) table) }
+        ensures ok { IfOk result (λ p. p ≡ begun_process pid (image.now ++ replicate (BLOCK * blocks - length image.now) 0) table) }
     {
         Ok(Process {
             pid,

@@ -1,6 +1,6 @@
 -- Every instruction keeps the number of the registers and the length of the memory.
 use Rattle.dm_processor.proofs.Names.{ℕ, Bool, true, false, cond, ◌≡◌, ◌+◌, ◌≤◌, List, length, slice_index, Option, Some, None, refl, arith, length-set, common_steps, nat_tests, Regs, UnknownOpcode, Opcode, Li, Lih, Mov, Add, Sub, Mul, And}
-use Rattle.dm_processor.proofs.Names.{Or, Xor, Shl, Shr, Lw, Sw, Lb, Sb, Jmp, Beq, Bne, Bltu, Sys, opcode_of, Row, Faults, effect, instruction, operation_row, word_row, byte_row, with_word, reg, KeepsLengths}
+use Rattle.dm_processor.proofs.Names.{Or, Xor, Shl, Shr, Lw, Sw, Lb, Sb, Jmp, Beq, Bne, Bltu, Sys, opcode_of, Row, Faults, effect, instruction, operation_row, word_row, byte_row, with_word, register_at, KeepsLengths}
 
 -- a word that is written
 length-with_word : (m : List ℕ) (at w : ℕ) → at + 4 ≤ length m → length (with_word m at w) ≡ length m
@@ -27,11 +27,11 @@ effect-lengths Or regs m a b c = (length-set regs.r a _, refl)
 effect-lengths Xor regs m a b c = (length-set regs.r a _, refl)
 effect-lengths Shl regs m a b c = (length-set regs.r a _, refl)
 effect-lengths Shr regs m a b c = (length-set regs.r a _, refl)
-effect-lengths Lw regs m a b c = lengths_word regs m (reg regs b + c) _ (λ h. (length-set regs.r a _, refl))
+effect-lengths Lw regs m a b c = lengths_word regs m (register_at regs b + c) _ (λ h. (length-set regs.r a _, refl))
 effect-lengths Sw regs m a b c =
-    lengths_word regs m (reg regs b + c) _ (λ h. (refl, length-with_word m (reg regs b + c) (reg regs a) h))
-effect-lengths Lb regs m a b c = lengths_byte regs m (reg regs b + c) _ (length-set regs.r a _, refl)
-effect-lengths Sb regs m a b c = lengths_byte regs m (reg regs b + c) _ (refl, length-set m (reg regs b + c) _)
+    lengths_word regs m (register_at regs b + c) _ (λ h. (refl, length-with_word m (register_at regs b + c) (register_at regs a) h))
+effect-lengths Lb regs m a b c = lengths_byte regs m (register_at regs b + c) _ (length-set regs.r a _, refl)
+effect-lengths Sb regs m a b c = lengths_byte regs m (register_at regs b + c) _ (refl, length-set m (register_at regs b + c) _)
 effect-lengths Jmp regs m a b c = (refl, refl)
 effect-lengths Beq regs m a b c = (refl, refl)
 effect-lengths Bne regs m a b c = (refl, refl)

@@ -11,7 +11,7 @@ pub use Rattle.std.proofs.lemmas.List.{drop-append-le, get_or-append-add, get_or
 pub use Rattle.std.proofs.lemmas.Nat.{and_le_l, or_of_32, xor_of_32}
 pub use Rattle.std.specs.List.{concat}
 pub use Rattle.std.specs.Prelude.{bit_and}
-pub use Rattle.dm_processor.specs.Instructions.{Faults, Row, branch_pc, byte_row, effect, operation_row, past, reg, with_reg, with_word, word_at, word_bytes, word_row}
+pub use Rattle.dm_processor.specs.Instructions.{Faults, Row, branch_pc, byte_row, effect, operation_row, past, register_at, with_reg, with_word, word_at, word_bytes, word_row}
 unfoldable pub use Rattle.dm_processor.specs.Instructions.{instruction}
 pub use Rattle.dm_processor.specs.Kept.{AreBytes, AreWords, KeepsLengths, KeepsRanges}
 pub use Rattle.dm_processor.specs.Opcodes.{opcode_of}

@@ -1,7 +1,7 @@
 -- Every instruction keeps registers of 32 bits and bytes of 8.
 use Rattle.dm_processor.proofs.Names.{ℕ, zero, suc, Bool, true, false, cond, ◌+◌, ◌/◌, ◌%◌, ◌^◌, ◌<◌, List, [], ◌∷◌, ◌++◌, take, drop, get_or, slice_index, Option, Some, None, arith, set, div-le_self, nat_tests, and_le_l, or_of_32}
 use Rattle.dm_processor.proofs.Names.{xor_of_32, bit_and, Regs, UnknownOpcode, Opcode, Li, Lih, Mov, Add, Sub, Mul, And, Or, Xor, Shl, Shr, Lw, Sw, Lb, Sb, Jmp, Beq, Bne, Bltu, Sys, opcode_of, Row, Faults, effect, instruction}
-use Rattle.dm_processor.proofs.Names.{operation_row, word_row, byte_row, branch_pc, with_reg, with_word, word_at, word_bytes, past, reg, AreBytes, AreWords, KeepsRanges}
+use Rattle.dm_processor.proofs.Names.{operation_row, word_row, byte_row, branch_pc, with_reg, with_word, word_at, word_bytes, past, register_at, AreBytes, AreWords, KeepsRanges}
 
 -- a list with another item
 set-range : (xs : List ℕ) (n i v : ℕ) → ((k : ℕ) → get_or xs k 0 < n) → v < n → (k : ℕ) → get_or (set xs i v) k 0 < n
@@ -91,13 +91,13 @@ effect-ranges Xor regs m a b c w y i j = (with_reg-range regs a _ w (xor_of_32 _
 effect-ranges Shl regs m a b c w y i j = (with_reg-range regs a _ w (omega arith), y)
 effect-ranges Shr regs m a b c w y i j = (with_reg-range regs a _ w (div-range _ _ (w.0 b)), y)
 effect-ranges Lw regs m a b c w y i j =
-    ranges_word m (reg regs b + c) _ (with_reg-range regs a _ w (word_at-range m (reg regs b + c) y), y)
+    ranges_word m (register_at regs b + c) _ (with_reg-range regs a _ w (word_at-range m (register_at regs b + c) y), y)
 effect-ranges Sw regs m a b c w y i j =
-    ranges_word m (reg regs b + c) _ (past-range regs w, with_word-range m (reg regs b + c) (reg regs a) y)
+    ranges_word m (register_at regs b + c) _ (past-range regs w, with_word-range m (register_at regs b + c) (register_at regs a) y)
 effect-ranges Lb regs m a b c w y i j =
-    ranges_byte m (reg regs b + c) _ (with_reg-range regs a _ w (omega (arith, y (reg regs b + c))), y)
+    ranges_byte m (register_at regs b + c) _ (with_reg-range regs a _ w (omega (arith, y (register_at regs b + c))), y)
 effect-ranges Sb regs m a b c w y i j =
-    ranges_byte m (reg regs b + c) _ (past-range regs w, set-range m (2 ^ 8) (reg regs b + c) (reg regs a % 256) y (omega arith))
+    ranges_byte m (register_at regs b + c) _ (past-range regs w, set-range m (2 ^ 8) (register_at regs b + c) (register_at regs a % 256) y (omega arith))
 effect-ranges Jmp regs m a b c w y i j = ((w.0, omega arith), y)
 effect-ranges Beq regs m a b c w y i j = ((w.0, branch_pc-range _ regs.pc c), y)
 effect-ranges Bne regs m a b c w y i j = ((w.0, branch_pc-range _ regs.pc c), y)

@@ -16,8 +16,8 @@ pub data Row : Type 0 where
   Faults : (fault : Fault) → Row
 
 -- a register
-abbrev pub reg : Regs → ℕ → ℕ
-reg regs k = slice_index regs.r k
+abbrev pub register_at : Regs → ℕ → ℕ
+register_at regs k = slice_index regs.r k
 
 -- the registers when the instruction is over and none has changed
 abbrev pub past : Regs → Regs
@@ -73,24 +73,24 @@ branch_row taken regs bytes c = Plain (at_pc regs (branch_pc taken regs.pc c)) b
 -- the table, with an instruction's last three bytes
 abbrev pub effect : Opcode → Regs → List ℕ → ℕ → ℕ → ℕ → Row
 effect Li regs m a b c = Plain (with_reg regs a (immediate b c)) m
-effect Lih regs m a b c = Plain (with_reg regs a (reg regs a % 65536 + 65536 * immediate b c)) m
-effect Mov regs m a b c = Plain (with_reg regs a (reg regs b)) m
-effect Add regs m a b c = Plain (with_reg regs a ((reg regs b + reg regs c) % 2 ^ 32)) m
-effect Sub regs m a b c = Plain (with_reg regs a ((reg regs b + 2 ^ 32 - reg regs c) % 2 ^ 32)) m
-effect Mul regs m a b c = Plain (with_reg regs a ((reg regs b * reg regs c) % 2 ^ 32)) m
-effect And regs m a b c = Plain (with_reg regs a (bit_and (reg regs b) (reg regs c))) m
-effect Or regs m a b c = Plain (with_reg regs a (bit_or (reg regs b) (reg regs c))) m
-effect Xor regs m a b c = Plain (with_reg regs a (bit_xor (reg regs b) (reg regs c))) m
-effect Shl regs m a b c = Plain (with_reg regs a ((reg regs b * 2 ^ (reg regs c % 32)) % 2 ^ 32)) m
-effect Shr regs m a b c = Plain (with_reg regs a (reg regs b / 2 ^ (reg regs c % 32))) m
-effect Lw regs m a b c = word_row m (reg regs b + c) (Plain (with_reg regs a (word_at m (reg regs b + c))) m)
-effect Sw regs m a b c = word_row m (reg regs b + c) (Plain (past regs) (with_word m (reg regs b + c) (reg regs a)))
-effect Lb regs m a b c = byte_row m (reg regs b + c) (Plain (with_reg regs a (slice_index m (reg regs b + c))) m)
-effect Sb regs m a b c = byte_row m (reg regs b + c) (Plain (past regs) (slice_set m (reg regs b + c) (reg regs a % 256)))
+effect Lih regs m a b c = Plain (with_reg regs a (register_at regs a % 65536 + 65536 * immediate b c)) m
+effect Mov regs m a b c = Plain (with_reg regs a (register_at regs b)) m
+effect Add regs m a b c = Plain (with_reg regs a ((register_at regs b + register_at regs c) % 2 ^ 32)) m
+effect Sub regs m a b c = Plain (with_reg regs a ((register_at regs b + 2 ^ 32 - register_at regs c) % 2 ^ 32)) m
+effect Mul regs m a b c = Plain (with_reg regs a ((register_at regs b * register_at regs c) % 2 ^ 32)) m
+effect And regs m a b c = Plain (with_reg regs a (bit_and (register_at regs b) (register_at regs c))) m
+effect Or regs m a b c = Plain (with_reg regs a (bit_or (register_at regs b) (register_at regs c))) m
+effect Xor regs m a b c = Plain (with_reg regs a (bit_xor (register_at regs b) (register_at regs c))) m
+effect Shl regs m a b c = Plain (with_reg regs a ((register_at regs b * 2 ^ (register_at regs c % 32)) % 2 ^ 32)) m
+effect Shr regs m a b c = Plain (with_reg regs a (register_at regs b / 2 ^ (register_at regs c % 32))) m
+effect Lw regs m a b c = word_row m (register_at regs b + c) (Plain (with_reg regs a (word_at m (register_at regs b + c))) m)
+effect Sw regs m a b c = word_row m (register_at regs b + c) (Plain (past regs) (with_word m (register_at regs b + c) (register_at regs a)))
+effect Lb regs m a b c = byte_row m (register_at regs b + c) (Plain (with_reg regs a (slice_index m (register_at regs b + c))) m)
+effect Sb regs m a b c = byte_row m (register_at regs b + c) (Plain (past regs) (slice_set m (register_at regs b + c) (register_at regs a % 256)))
 effect Jmp regs m a b c = Plain (at_pc regs (immediate b c)) m
-effect Beq regs m a b c = branch_row (reg regs a == reg regs b) regs m c
-effect Bne regs m a b c = branch_row (not (reg regs a == reg regs b)) regs m c
-effect Bltu regs m a b c = branch_row (nat_lt (reg regs a) (reg regs b)) regs m c
+effect Beq regs m a b c = branch_row (register_at regs a == register_at regs b) regs m c
+effect Bne regs m a b c = branch_row (not (register_at regs a == register_at regs b)) regs m c
+effect Bltu regs m a b c = branch_row (nat_lt (register_at regs a) (register_at regs b)) regs m c
 effect Sys regs m a b c = Calls c (past regs)
 
 -- how many of an instruction's last three bytes name registers, from the first on

@@ -32,10 +32,10 @@ opcodes =
     Li ∷ Lih ∷ Mov ∷ Add ∷ Sub ∷ Mul ∷ And ∷ Or ∷ Xor ∷ Shl ∷ Shr ∷ Lw ∷ Sw ∷ Lb ∷ Sb ∷ Jmp ∷ Beq ∷ Bne ∷ Bltu ∷ Sys ∷ []
 
 -- the operation among these that has a number
-abbrev pub numbered : List Opcode → ℕ → Option Opcode
-numbered [] n = None
-numbered (op ∷ ops) n = if n == opcode_number op then Some op else numbered ops n
+abbrev pub opcode_among : List Opcode → ℕ → Option Opcode
+opcode_among [] n = None
+opcode_among (op ∷ ops) n = if n == opcode_number op then Some op else opcode_among ops n
 
 -- the operation that a first byte names
 abbrev pub opcode_of : ℕ → Option Opcode
-opcode_of n = numbered opcodes n
+opcode_of n = opcode_among opcodes n

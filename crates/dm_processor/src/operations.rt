@@ -1,6 +1,6 @@
 //! The operations that touch the memory.
 ghost use Rattle.std.specs.Prelude.{◌≡◌, ◌+◌, ◌%◌, ◌<◌, ◌^◌, ◌≤◌, IfErr, IfOk, drop, length, slice_index, slice_set, take};
-ghost use Rattle.dm_processor.specs.Instructions.{DoesRow, Faults, Plain, Row, byte_row, past, reg, with_reg, with_word, word_at, word_row};
+ghost use Rattle.dm_processor.specs.Instructions.{DoesRow, Faults, Plain, Row, byte_row, past, register_at, with_reg, with_word, word_at, word_row};
 
 use crate::registers::{Fault, REGISTERS, Regs, Stepped};
 use crate::storage::Cells;
@@ -57,7 +57,7 @@ fn byte_address<C: Cells>(cells: &C, at: u64) -> Result<u32, Fault>
 /// The address in a register and a number beside it.
 pub fn address(regs: &Regs, field: u8, beside: u8) -> u64
     requires { field < REGISTERS }
-    ensures place { result ≡ reg regs.now field + beside }
+    ensures place { result ≡ register_at regs.now field + beside }
     ensures small { result < 2 ^ 33 }
 {
     u64::from(regs.read(field)) + u64::from(beside)
@@ -95,7 +95,7 @@ pub fn store_word<C: Cells>(regs: &mut Regs, cells: &mut C, field: u8, at: u64) 
     requires register { field < REGISTERS }
     requires place { at < 2 ^ 33 }
     ensures row { let m = C.bytes cells.old in DoesRow result regs.new (C.bytes cells.new)
-        (word_row m at (Plain (past regs.old) (with_word m at (reg regs.old field)))) regs.old m }
+        (word_row m at (Plain (past regs.old) (with_word m at (register_at regs.old field)))) regs.old m }
 {
     match word_address(cells, at) {
         Ok(at) => {
@@ -121,7 +121,7 @@ pub fn load_byte<C: Cells>(regs: &mut Regs, cells: &C, field: u8, at: u64) -> St
 pub fn store_byte<C: Cells>(regs: &mut Regs, cells: &mut C, field: u8, at: u64) -> Stepped
     requires { field < REGISTERS }
     ensures row { let m = C.bytes cells.old in DoesRow result regs.new (C.bytes cells.new)
-        (byte_row m at (Plain (past regs.old) (slice_set m at (reg regs.old field % 256)))) regs.old m }
+        (byte_row m at (Plain (past regs.old) (slice_set m at (register_at regs.old field % 256)))) regs.old m }
 {
     match byte_address(cells, at) {
         Ok(at) => {

@@ -1,7 +1,7 @@
 //! Registers, and what an instruction ends with.
 ghost use Rattle.std.specs.Prelude.{◌≡◌, ◌<◌, replicate};
 ghost use Rattle.dm_processor.specs.Faults.{fault_code};
-ghost use Rattle.dm_processor.specs.Instructions.{at_pc, branch_pc, past, reg, with_reg};
+ghost use Rattle.dm_processor.specs.Instructions.{at_pc, branch_pc, past, register_at, with_reg};
 
 /// How many registers a process has.
 pub const REGISTERS: usize = 16;
@@ -25,7 +25,7 @@ impl Regs {
     /// A register's value.
     pub(crate) fn read(&self, field: u8) -> u32
         requires { field < REGISTERS }
-        ensures { result ≡ reg self.now field }
+        ensures { result ≡ register_at self.now field }
     {
         self.r[field as usize]
     }

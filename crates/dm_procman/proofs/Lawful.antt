@@ -2,8 +2,8 @@
 use Rattle.dm_procman.proofs.Names.{◌≡◌, ◌≤◌, ℕ, zero, suc, ◌+◌, ◌*◌, Bool, true, false, ◌==◌, ◌&&◌, ◌||◌, nat_lt, nat_le, if◌then◌else◌, List, [], ◌∷◌, ◌++◌, length, map, slice_get, refl, sym, subst, ap, ◌∙◌, arith, common_steps, All-map}
 use Rattle.dm_procman.proofs.Names.{All-push, All, IfSome, IfOk, OnErr, Option, Result, Ok, Err, Pid, Addr, Link, IsMachine, IsLawfulAddr, IsLawfulEnclosed, pid_eq, is_behind, relocated, retargeted, retargeted_link, NoMemory, Message}
 use Rattle.dm_procman.proofs.Names.{MsgId, What, kind_of, IsLawfulMessage, IsLawfulWhat, is_answer, Boot, BootProcess, IsValid, manager, process_is_valid, processes_are_valid, starting_at, switchboard, Pending, IsLawfulManager}
-use Rattle.dm_procman.proofs.Names.{IsLawfulPending, Managing, at_home, child_of, retargeted_manager, retargeted_pending, starting, answer_over, control_link, message_to, kernel, child_named, moves_child, tells_to_move, Taken, answers}
-use Rattle.dm_procman.proofs.Names.{asks_for, bad_request, child_numbered, controls, controls_child, pending_numbered, requests, sends, settled, takes, takes_created, takes_no_room, takes_user, wants_child, with_pending, without_pending}
+use Rattle.dm_procman.proofs.Names.{IsLawfulPending, Managing, at_home, child_at_home, retargeted_manager, retargeted_pending, starting, answer_over, control_link, message_to, kernel, child_named, moves_child, tells_to_move, Taken, answers}
+use Rattle.dm_procman.proofs.Names.{asks_for, bad_request, child_address, controls, controls_child, pending_request, requests, sends, settled, takes, takes_created, takes_no_room, takes_user, wants_child, with_pending, without_pending}
 use Rattle.std.specs.declared.option.Option.TheVariants.{None, Some}
 use Rattle.dm_message.specs.declared.What.TheVariants as what
 use Rattle.dm_procman.specs.declared.moving.MoveError.TheVariants as no
@@ -91,19 +91,19 @@ get_lawful P [] n h = tt {0}
 get_lawful P (x ∷ xs) zero h = all_head P x xs h
 get_lawful P (x ∷ xs) (suc n) h = get_lawful P xs n (all_tail P x xs h)
 
-numbered_lawful : (cs : List Addr) (n : ℕ) → All IsLawfulAddr cs → IfSome (child_numbered cs n) IsLawfulAddr
+numbered_lawful : (cs : List Addr) (n : ℕ) → All IsLawfulAddr cs → IfSome (child_address cs n) IsLawfulAddr
 numbered_lawful cs zero h = tt {0}
 numbered_lawful cs (suc n) h = get_lawful IsLawfulAddr cs n h
 
 user_lawful : (g : Managing) (code : ℕ) (body : List ℕ) (ls : List Link) → IsLawfulManager g → length ls ≤ 4 → All IsLawfulEnclosed ls → IsLawfulTaken (takes_user g code body ls)
 user_lawful g code body ls h few e =
-    either IsLawfulTaken (code == 0) (requests g body ls) (controls g (child_numbered g.children code) body ls)
+    either IsLawfulTaken (code == 0) (requests g body ls) (controls g (child_address g.children code) body ls)
     (λ _. requests_lawful g body ls h few e)
-    (controls_lawful g (child_numbered g.children code) body ls h (numbered_lawful g.children code h.children) e)
+    (controls_lawful g (child_address g.children code) body ls h (numbered_lawful g.children code h.children) e)
 
-pending_lawful : (n : ℕ) (rs : List Pending) → All IsLawfulPending rs → IfSome (pending_numbered n rs) IsLawfulPending
+pending_lawful : (n : ℕ) (rs : List Pending) → All IsLawfulPending rs → IfSome (pending_request n rs) IsLawfulPending
 pending_lawful n [] h = tt {0}
-pending_lawful n (r ∷ rs) h = either (λ o. IfSome o IsLawfulPending) (r.n == n) (Some r) (pending_numbered n rs) (λ _. all_head IsLawfulPending r rs h) (pending_lawful n rs (all_tail IsLawfulPending r rs h))
+pending_lawful n (r ∷ rs) h = either (λ o. IfSome o IsLawfulPending) (r.n == n) (Some r) (pending_request n rs) (λ _. all_head IsLawfulPending r rs h) (pending_lawful n rs (all_tail IsLawfulPending r rs h))
 
 others_lawful : (n : ℕ) (rs : List Pending) → All IsLawfulPending rs → All IsLawfulPending (without_pending n rs)
 others_lawful n [] h = h
@@ -143,8 +143,8 @@ heard_lawful g m t (IsUser code channel body links is) e h l =
     let same : takes_user g code body.items links.items ≡ t = cc row in
     let w = subst IsLawfulWhat is l.what in
     subst IsLawfulTaken same (user_lawful g code body.items links.items h w.2 w.3)
-heard_lawful g m t (IsCreated p is) e h l = created_lawful g m.id.n p (pending_numbered m.id.n g.pending) t (ap (takes g m.id.n) (sym is) ∙ e) h (subst IsLawfulWhat is l.what) (pending_lawful m.id.n g.pending h.pending)
-heard_lawful g m t (IsNoRoom is) e h l = no_room_lawful g m.id.n (pending_numbered m.id.n g.pending) t (ap (takes g m.id.n) (sym is) ∙ e) h (pending_lawful m.id.n g.pending h.pending)
+heard_lawful g m t (IsCreated p is) e h l = created_lawful g m.id.n p (pending_request m.id.n g.pending) t (ap (takes g m.id.n) (sym is) ∙ e) h (subst IsLawfulWhat is l.what) (pending_lawful m.id.n g.pending h.pending)
+heard_lawful g m t (IsNoRoom is) e h l = no_room_lawful g m.id.n (pending_request m.id.n g.pending) t (ap (takes g m.id.n) (sym is) ∙ e) h (pending_lawful m.id.n g.pending h.pending)
 
 pub manager_after : (r : Result (Option Message) NoMemory) (old new : Managing) (m : Message) → IsHeard m.what
     → IfOk r (λ sent. takes old m.id.n m.what ≡ Some (record { manager = new; message = sent })) → OnErr r (new ≡ old)
@@ -192,12 +192,12 @@ home_within m n h le = grind (arith, common_steps, h, le)
 count_within : (n : ℕ) → nat_le n 16 ≡ true → n ≤ 16
 count_within n le = grind (arith, common_steps, le)
 
-starts_lawful : (b : Boot) (earlier ps : List BootProcess) → nat_le (length b.machines) 16 ≡ true → processes_are_valid b earlier ps ≡ true → All IsLawfulAddr (map child_of ps)
+starts_lawful : (b : Boot) (earlier ps : List BootProcess) → nat_le (length b.machines) 16 ≡ true → processes_are_valid b earlier ps ≡ true → All IsLawfulAddr (map child_at_home ps)
 starts_lawful b earlier [] few h = all_none IsLawfulAddr
 starts_lawful b earlier (p ∷ ps) few h =
     let parts = both_true (process_is_valid b (starting_at p.pid.home earlier) p) (processes_are_valid b (earlier ++ p ∷ []) ps) h in
     let home = home_within p.pid.home (length b.machines) (both_true (nat_lt p.pid.home (length b.machines)) _ parts.0).0 few in
-    all_front IsLawfulAddr (child_of p) (map child_of ps) (record { home = home; at = home }) (starts_lawful b (earlier ++ p ∷ []) ps few parts.1)
+    all_front IsLawfulAddr (child_at_home p) (map child_at_home ps) (record { home = home; at = home }) (starts_lawful b (earlier ++ p ∷ []) ps few parts.1)
 
 starting_lawful : (b : Boot) → IsValid b → IsLawfulManager (starting b)
 starting_lawful b v = record {

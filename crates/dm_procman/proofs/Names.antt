@@ -34,10 +34,10 @@ pub use Rattle.dm_onekernel.specs.declared.boot.Boot.{Boot}
 pub use Rattle.dm_onekernel.specs.declared.boot.BootProcess.{BootProcess}
 pub use Rattle.dm_procman.specs.Lawful.{IsLawfulManager, IsLawfulPending}
 pub use Rattle.dm_procman.specs.Making.{answer_over, control_link, message_to}
-pub use Rattle.dm_procman.specs.Managing.{Managing, at_home, child_of, pending_is_behind, plain_child, plain_manager, plain_pending, retargeted_manager, retargeted_pending, starting}
+pub use Rattle.dm_procman.specs.Managing.{Managing, at_home, child_at_home, pending_is_behind, plain_child, plain_manager, plain_pending, retargeted_manager, retargeted_pending, starting}
 pub use Rattle.dm_procman.specs.Moving.{child_named, moves_child, tells_to_move}
 pub use Rattle.dm_procman.specs.Named.{place_named}
 pub use Rattle.dm_procman.specs.Plainly.{plain_taken, plainly_taken}
-pub use Rattle.dm_procman.specs.Taking.{IsForManager, Taken, answers, asks_for, bad_request, child_numbered, controls, controls_child, has_number, pending_numbered, requests, sends, settled, takes, takes_created, takes_no_room, takes_user}
+pub use Rattle.dm_procman.specs.Taking.{IsForManager, Taken, answers, asks_for, bad_request, child_address, controls, controls_child, has_number, pending_request, requests, sends, settled, takes, takes_created, takes_no_room, takes_user}
 pub use Rattle.dm_procman.specs.Taking.{wants_child, with_pending, without_pending}
 pub use Rattle.dm_procman.specs.declared.pending.Pending.{Pending}

@@ -1,7 +1,7 @@
 -- The manager's table and that of the kernel without machines.
 use Rattle.dm_procman.proofs.Names.{◌≡◌, ℕ, zero, suc, ◌+◌, ◌*◌, Bool, true, false, ◌==◌, ◌&&◌, nat_lt, if◌then◌else◌, List, [], ◌∷◌, ◌++◌, length, map, refl, sym, ap, ◌∙◌, arith, length-map, slice_get-map, Option, Result, Ok, Err, IfOk}
 use Rattle.dm_procman.proofs.Names.{option_map, Pid, Addr, Link, retargeted, retargeted_link, PlainLink, plain_link, NoMemory, Message, What, plain_message, plain_what, with_what, Pending, Managing, at_home, plain_child, plain_manager}
-use Rattle.dm_procman.proofs.Names.{plain_pending, retargeted_manager, retargeted_pending, control_link, plain_taken, plainly_taken, Taken, answers, asks_for, bad_request, child_numbered, controls, controls_child, pending_numbered}
+use Rattle.dm_procman.proofs.Names.{plain_pending, retargeted_manager, retargeted_pending, control_link, plain_taken, plainly_taken, Taken, answers, asks_for, bad_request, child_address, controls, controls_child, pending_request}
 use Rattle.dm_procman.proofs.Names.{requests, settled, takes, takes_created, takes_no_room, takes_user, wants_child, without_pending}
 use Rattle.std.specs.declared.option.Option.TheVariants.{None, Some}
 use Rattle.dm_message.specs.declared.What.TheVariants as what
@@ -11,7 +11,7 @@ use Rattle.dm_onekernel.specs.Manager as one
 use Rattle.dm_procman.proofs.Hearing.{IsHeard, IsUser, IsCreated, IsNoRoom}
 
 -- a taken message without places
-abbrev plainly : Taken → Option one.Took
+abbrev plainly : Taken → Option one.ManagerTook
 plainly t = plain_taken t.manager t.message
 
 -- what is done to both choices is done to the choice
@@ -36,7 +36,7 @@ plain_bad g [] = refl
 plain_bad g (l ∷ ls) = refl
 
 plain_asks_for : (g : Managing) (m image : ℕ) (l : Link) (ls : List Link) → plainly (asks_for g m image l ls) ≡ Some (one.asks_for (plain_manager g) m image (plain_link l) (map plain_link ls))
-plain_asks_for g m image l ls = ap (λ (rs : List kernel.Pending). let t : one.Took = one.asks_for (plain_manager g) m image (plain_link l) (map plain_link ls) in let u : one.Took = record { manager = record t.manager { pending = rs }; message = t.message } in Some u) (plain_push g.pending (record { n = g.sent; answer = l }))
+plain_asks_for g m image l ls = ap (λ (rs : List kernel.Pending). let t : one.ManagerTook = one.asks_for (plain_manager g) m image (plain_link l) (map plain_link ls) in let u : one.ManagerTook = record { manager = record t.manager { pending = rs }; message = t.message } in Some u) (plain_push g.pending (record { n = g.sent; answer = l }))
 
 plain_wants : (g : Managing) (m image : ℕ) (ls : List Link) → plainly (wants_child g m image ls) ≡ Some (one.wants_child (plain_manager g) g.machines g.images m image (map plain_link ls))
 plain_wants g m image [] = refl
@@ -44,7 +44,7 @@ plain_wants g m image (l ∷ ls) =
     both plainly (nat_lt m g.machines && nat_lt image g.images) (asks_for g m image l ls) (bad_request g (l ∷ ls)) _ _ (plain_asks_for g m image l ls) (plain_bad g (l ∷ ls))
     ∙ some_both (nat_lt m g.machines && nat_lt image g.images) _ _
 
-plain_requests : (g : Managing) (body : List ℕ) (ls : List Link) → plainly (requests g body ls) ≡ Some (one.requests (plain_manager g) g.machines g.images body (map plain_link ls))
+plain_requests : (g : Managing) (body : List ℕ) (ls : List Link) → plainly (requests g body ls) ≡ Some (one.requests_child (plain_manager g) g.machines g.images body (map plain_link ls))
 plain_requests g [] ls = plain_bad g ls
 plain_requests g (a ∷ []) ls = plain_bad g ls
 plain_requests g (a ∷ b ∷ []) ls = plain_bad g ls
@@ -60,7 +60,7 @@ control_by b c d = if b then Some what.Stop else if c then Some what.Resume else
 abbrev plain_control_by : Bool → Bool → Bool → Option plain.PlainWhat
 plain_control_by b c d = if b then Some plain.Stop else if c then Some plain.Resume else if d then Some plain.Kill else None
 
-plain_controls_by : (g : Managing) (a : Addr) (b c d : Bool) (ls : List Link) → plainly (controls_child g a (control_by b c d) ls) ≡ Some (one.controls_child (plain_manager g) a.pid (plain_control_by b c d) (map plain_link ls))
+plain_controls_by : (g : Managing) (a : Addr) (b c d : Bool) (ls : List Link) → plainly (controls_child g a (control_by b c d) ls) ≡ Some (one.tells_child (plain_manager g) a.pid (plain_control_by b c d) (map plain_link ls))
 plain_controls_by g a true c d ls = refl
 plain_controls_by g a false true d ls = refl
 plain_controls_by g a false false true ls = refl
@@ -74,27 +74,27 @@ plain_controls g (Some c) [] ls = plain_bad g ls
 plain_controls g (Some c) (a ∷ []) ls = plain_controls_by g c (a == 2) (a == 3) (a == 4) ls
 plain_controls g (Some c) (a ∷ b ∷ bs) ls = plain_bad g ls
 
-pub plain_numbered : (cs : List Addr) (n : ℕ) → one.child_numbered (map plain_child cs) n ≡ option_map plain_child (child_numbered cs n)
+pub plain_numbered : (cs : List Addr) (n : ℕ) → one.child_numbered (map plain_child cs) n ≡ option_map plain_child (child_address cs n)
 plain_numbered cs zero = refl
 plain_numbered cs (suc n) = slice_get-map plain_child cs n
 
 pub plain_user : (g : Managing) (code : ℕ) (body : List ℕ) (ls : List Link) → plainly (takes_user g code body ls) ≡ Some (one.takes_user (plain_manager g) g.machines g.images code body (map plain_link ls))
 plain_user g code body ls =
-    both plainly (code == 0) (requests g body ls) (controls g (child_numbered g.children code) body ls) _ _ (plain_requests g body ls)
-    (plain_controls g (child_numbered g.children code) body ls ∙ ap (λ o. Some (one.controls (plain_manager g) o body (map plain_link ls))) (sym (plain_numbered g.children code)))
+    both plainly (code == 0) (requests g body ls) (controls g (child_address g.children code) body ls) _ _ (plain_requests g body ls)
+    (plain_controls g (child_address g.children code) body ls ∙ ap (λ o. Some (one.controls (plain_manager g) o body (map plain_link ls))) (sym (plain_numbered g.children code)))
     ∙ some_both (code == 0) _ _
 
-pub plain_pending_numbered : (n : ℕ) (rs : List Pending) → one.pending_numbered n (map plain_pending rs) ≡ option_map plain_pending (pending_numbered n rs)
+pub plain_pending_numbered : (n : ℕ) (rs : List Pending) → one.pending_numbered n (map plain_pending rs) ≡ option_map plain_pending (pending_request n rs)
 plain_pending_numbered n [] = refl
-plain_pending_numbered n (r ∷ rs) = sym (both (option_map plain_pending) (r.n == n) (Some r) (pending_numbered n rs) _ _ refl (sym (plain_pending_numbered n rs)))
+plain_pending_numbered n (r ∷ rs) = sym (both (option_map plain_pending) (r.n == n) (Some r) (pending_request n rs) _ _ refl (sym (plain_pending_numbered n rs)))
 
 pub plain_without : (n : ℕ) (rs : List Pending) → map plain_pending (without_pending n rs) ≡ one.without_pending n (map plain_pending rs)
 plain_without n [] = refl
 plain_without n (r ∷ rs) = both (map plain_pending) (r.n == n) rs (r ∷ without_pending n rs) _ _ refl (ap (λ xs. plain_pending r ∷ xs) (plain_without n rs))
 
 -- an answer of the manager that is left with these children and requests
-abbrev plain_answers : List Pid → List kernel.Pending → ℕ → Link → ℕ → List PlainLink → Option one.Took
-plain_answers cs rs sent l code links = Some (one.answers (record { children = cs; pending = rs; sent = sent }) (plain_link l) code links)
+abbrev plain_answers : List Pid → List kernel.Pending → ℕ → Link → ℕ → List PlainLink → Option one.ManagerTook
+plain_answers cs rs sent l code links = Some (one.answers_byte (record { children = cs; pending = rs; sent = sent }) (plain_link l) code links)
 
 pub plain_created : (g : Managing) (n : ℕ) (p : Pid) (o : Option Pending) (t : Taken) → takes_created g n p o ≡ Some t → plainly t ≡ one.takes_created (plain_manager g) n p (option_map plain_pending o)
 plain_created g n p None t e = absurd (cc e)
@@ -118,11 +118,11 @@ plain_heard g m t (IsUser code channel body links is) e =
     let same : takes_user g code body.items links.items ≡ t = cc row in
     ap plainly (sym same) ∙ plain_user g code body.items links.items ∙ sym (ap (λ w. plainly_taken g (with_what m (plain_what w))) is)
 plain_heard g m t (IsCreated p is) e =
-    plain_created g m.id.n p (pending_numbered m.id.n g.pending) t (ap (takes g m.id.n) (sym is) ∙ e)
+    plain_created g m.id.n p (pending_request m.id.n g.pending) t (ap (takes g m.id.n) (sym is) ∙ e)
     ∙ ap (one.takes_created (plain_manager g) m.id.n p) (sym (plain_pending_numbered m.id.n g.pending))
     ∙ sym (ap (λ w. plainly_taken g (with_what m (plain_what w))) is)
 plain_heard g m t (IsNoRoom is) e =
-    plain_no_room g m.id.n (pending_numbered m.id.n g.pending) t (ap (takes g m.id.n) (sym is) ∙ e)
+    plain_no_room g m.id.n (pending_request m.id.n g.pending) t (ap (takes g m.id.n) (sym is) ∙ e)
     ∙ ap (one.takes_no_room (plain_manager g) m.id.n) (sym (plain_pending_numbered m.id.n g.pending))
     ∙ sym (ap (λ w. plainly_taken g (with_what m (plain_what w))) is)
 

@@ -33,12 +33,12 @@ plain_manager g = record { children = map plain_child g.children; pending = map 
 abbrev pub at_home : Pid → Addr
 at_home p = record { pid = p; at = p.home; moves = 0 }
 
-abbrev pub child_of : BootProcess → Addr
-child_of p = at_home p.pid
+abbrev pub child_at_home : BootProcess → Addr
+child_at_home p = at_home p.pid
 
 -- the manager at the start: its children are the processes of the boot file
 abbrev pub starting : Boot → Managing
-starting b = record { children = map child_of b.processes; pending = []; sent = 0; machines = length b.machines; images = length b.images }
+starting b = record { children = map child_at_home b.processes; pending = []; sent = 0; machines = length b.machines; images = length b.images }
 
 -- a request's link where it is told that a process is at another place, after so many moves
 abbrev pub retargeted_pending : Pid → ℕ → ℕ → Pending → Pending

@@ -66,23 +66,23 @@ controls g (Some child) (operation ∷ []) links = controls_child g child (contr
 controls g child body links = bad_request g links
 
 -- child number n, from 1
-abbrev pub child_numbered : List Addr → ℕ → Option Addr
-child_numbered children zero = None
-child_numbered children (suc n) = slice_get children n
+abbrev pub child_address : List Addr → ℕ → Option Addr
+child_address children zero = None
+child_address children (suc n) = slice_get children n
 
 -- a user message that came over a link with this code
 abbrev pub takes_user : Managing → ℕ → List ℕ → List Link → Taken
 takes_user g code body links =
-    if code == 0 then requests g body links else controls g (child_numbered g.children code) body links
+    if code == 0 then requests g body links else controls g (child_address g.children code) body links
 
 -- the request has this number
 abbrev pub has_number : ℕ → Pending → Bool
 has_number n r = r.n == n
 
 -- the request of a number, and the others
-abbrev pub pending_numbered : ℕ → List Pending → Option Pending
-pending_numbered n [] = None
-pending_numbered n (r ∷ rs) = if r.n == n then Some r else pending_numbered n rs
+abbrev pub pending_request : ℕ → List Pending → Option Pending
+pending_request n [] = None
+pending_request n (r ∷ rs) = if r.n == n then Some r else pending_request n rs
 
 abbrev pub without_pending : ℕ → List Pending → List Pending
 without_pending n [] = []
@@ -105,13 +105,13 @@ takes_no_room g n (Some r) = Some (answers (settled g n) r.answer 1 [])
 -- user messages, and the answers to pending requests, whose number an answer has
 abbrev pub takes : Managing → ℕ → What → Option Taken
 takes g n (what.User code channel body links) = Some (takes_user g code body.items links.items)
-takes g n (what.Created child) = takes_created g n child (pending_numbered n g.pending)
-takes g n what.NoRoom = takes_no_room g n (pending_numbered n g.pending)
+takes g n (what.Created child) = takes_created g n child (pending_request n g.pending)
+takes g n what.NoRoom = takes_no_room g n (pending_request n g.pending)
 takes g n w = None
 
 -- a user message, or the answer to a pending request
 abbrev pub IsForManager : Managing → ℕ → What → Type 0
 IsForManager g n (what.User code channel body links) = Unit {0}
-IsForManager g n (what.Created child) = IsSome (pending_numbered n g.pending)
-IsForManager g n what.NoRoom = IsSome (pending_numbered n g.pending)
+IsForManager g n (what.Created child) = IsSome (pending_request n g.pending)
+IsForManager g n what.NoRoom = IsSome (pending_request n g.pending)
 IsForManager g n w = ⊥

@@ -6,7 +6,7 @@ ghost use Rattle.dm_link.specs.declared.Pid.{Pid};
 ghost use Rattle.dm_link.specs.Names.{pid_cmp, pid_eq};
 ghost use Rattle.dm_link.specs.Places.{is_behind, retargeted};
 ghost use Rattle.dm_procman.specs.Moving.{child_named};
-ghost use Rattle.dm_procman.specs.Taking.{child_numbered};
+ghost use Rattle.dm_procman.specs.Taking.{child_address};
 
 use crate::moving::retarget_children;
 use dm_link::{Addr, Pid};
@@ -84,7 +84,7 @@ impl Children {
 
     /// Where child number `number` is; they are numbered from 1.
     pub fn numbered(&self, number: u32) -> Option<Addr>
-        ensures { result ≡ child_numbered self.now number }
+        ensures { result ≡ child_address self.now number }
     {
         let index = number.checked_sub(1)?;
         self.at(index as usize)

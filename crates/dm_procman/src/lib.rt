@@ -11,7 +11,7 @@ ghost use Rattle.dm_procman.specs.Lawful.{IsLawfulManager};
 ghost use Rattle.dm_procman.specs.Managing.{pending_is_behind, plain_manager, retargeted_manager, starting};
 ghost use Rattle.dm_procman.specs.Moving.{moves_child};
 ghost use Rattle.dm_procman.specs.Plainly.{plain_taken, plainly_taken};
-ghost use Rattle.dm_procman.specs.Taking.{IsForManager, takes, takes_created, takes_no_room, takes_user, pending_numbered};
+ghost use Rattle.dm_procman.specs.Taking.{IsForManager, takes, takes_created, takes_no_room, takes_user, pending_request};
 
 mod children;
 mod making;
@@ -156,10 +156,10 @@ impl ProcMan {
 
     /// Takes the news that the child of a pending request stands.
     fn take_created(&mut self, number: u32, pid: Pid) -> Result<Option<Message>, NoMemory>
-        requires pending { IsSome (pending_numbered number self.old.pending) }
+        requires pending { IsSome (pending_request number self.old.pending) }
         requires counts { self.old.sent < u32.MAX }
         requires children { length self.old.children < u32.MAX }
-        ensures exact { IfOk result (λ sent. takes_created self.old number pid (pending_numbered number self.old.pending) ≡
+        ensures exact { IfOk result (λ sent. takes_created self.old number pid (pending_request number self.old.pending) ≡
             Some (record { manager = self.new; message = sent })) }
         ensures err { OnErr result (self.new ≡ self.old) }
     {
@@ -176,9 +176,9 @@ impl ProcMan {
 
     /// Takes the news that there was no room for the child of a pending request.
     fn take_no_room(&mut self, number: u32) -> Message
-        requires pending { IsSome (pending_numbered number self.old.pending) }
+        requires pending { IsSome (pending_request number self.old.pending) }
         requires counts { self.old.sent < u32.MAX }
-        ensures { takes_no_room self.old number (pending_numbered number self.old.pending) ≡ Some (record { manager = self.new; message = Some result }) }
+        ensures { takes_no_room self.old number (pending_request number self.old.pending) ≡ Some (record { manager = self.new; message = Some result }) }
     {
         let request = take_pending(&mut self.pending, number);
         self.answer(&request.answer, 1, &[])

@@ -1,6 +1,6 @@
 //! Requests to make a process that wait for an answer.
 ghost use Rattle.std.specs.Prelude.{◌≡◌, IsSome, Some, position};
-ghost use Rattle.dm_procman.specs.Taking.{has_number, pending_numbered, without_pending};
+ghost use Rattle.dm_procman.specs.Taking.{has_number, pending_request, without_pending};
 
 use dm_link::Link;
 
@@ -31,8 +31,8 @@ fn place_of(pending: &[Pending], number: u32) -> Option<usize>
 
 /// Takes the request of this number out of the list.
 pub fn take_pending(pending: &mut Vec<Pending>, number: u32) -> Pending
-    requires { IsSome (pending_numbered number pending.old.items) }
-    ensures request { pending_numbered number pending.old.items ≡ Some result }
+    requires { IsSome (pending_request number pending.old.items) }
+    ensures request { pending_request number pending.old.items ≡ Some result }
     ensures others { pending.new.items ≡ without_pending number pending.old.items }
 {
     let place = place_of(pending.as_slice(), number).unwrap();

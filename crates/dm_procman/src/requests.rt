@@ -1,6 +1,6 @@
 //! Requests of processes: that one be made, that a child be stopped, resumed or killed.
 ghost use Rattle.std.specs.Prelude.{◌≡◌, ◌<◌, ◌≤◌, ◌*◌, ◌+◌, ◌&&◌, IfOk, None, OnErr, Some, length, option_map};
-ghost use Rattle.dm_procman.specs.Taking.{answers, asks_for, bad_request, child_numbered, control_of, controls, requests, sends, wants_child};
+ghost use Rattle.dm_procman.specs.Taking.{answers, asks_for, bad_request, child_address, control_of, controls, requests, sends, wants_child};
 ghost use Rattle.dm_procman.specs.Controls.{what_of};
 ghost use Rattle.dm_procman.specs.Making.{message_to};
 
@@ -157,7 +157,7 @@ impl ProcMan {
     /// Takes a body that came over a link with the number of a child as its code.
     pub(crate) fn control(&mut self, code: u32, body: &[u8], links: &[Link]) -> Option<Message>
         requires { self.old.sent < u32.MAX }
-        ensures { controls self.old (child_numbered self.old.children code) body.now links.now ≡ record { manager = self.new; message = result } }
+        ensures { controls self.old (child_address self.old.children code) body.now links.now ≡ record { manager = self.new; message = result } }
     {
         let Some(child) = self.children.numbered(code) else {
             return self.bad_request(links);

@@ -1,6 +1,6 @@
 //! The manager at the start of a system.
 ghost use Rattle.std.specs.Prelude.{◌≡◌, IfOk, map};
-ghost use Rattle.dm_procman.specs.Managing.{child_of};
+ghost use Rattle.dm_procman.specs.Managing.{child_at_home};
 
 use crate::children::Children;
 use dm_link::Addr;
@@ -10,7 +10,7 @@ use std::alloc::Global;
 
 /// Where the processes of the boot file start, in its order.
 pub fn children_of(alloc: Global, boot: &Boot) -> Result<Children, NoMemory>
-    ensures { IfOk result (λ children. children ≡ map child_of boot.now.processes) }
+    ensures { IfOk result (λ children. children ≡ map child_at_home boot.now.processes) }
 {
     let mut children = Children::new(alloc);
     for process in boot.processes.as_slice() {

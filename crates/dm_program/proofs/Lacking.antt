@@ -1,6 +1,6 @@
 -- What the program promises where memory lacks before anything was done, or the words ask for nothing.
-use Rattle.dm_program.proofs.Names.{◌≡◌, inl, inr, ℕ, List, refl, sym, subst, Option, Some, TheNoMemory, boot_of, IsOfFirst, nothing_drilled, Usage, NoMemory, WordsError, directives_of, Outside, ProgramMeets, Request, Chart, Check, Explain}
-use Rattle.dm_program.proofs.Names.{Run, IsWant, status_of_no, None, Drill, asks_nothing, wants_memory}
+use Rattle.dm_program.proofs.Names.{◌≡◌, inl, inr, ℕ, List, refl, sym, subst, Option, Some, TheNoMemory, boot_of_machines, DrillIsOfFirst, nothing_drilled, Usage, NoMemory, WordsError, directives_of_drill, Outside, ProgramMeets, Request}
+use Rattle.dm_program.proofs.Names.{Chart, Check, Explain, Run, IsWant, status_of_no, None, Drill, asks_nothing, wants_memory}
 use Rattle.dm_words.specs.declared.words.WordsError.TheVariants as why
 
 -- nothing was done
@@ -60,7 +60,7 @@ lacks_meets asked faults (Some (Explain boot schedule)) o shelf lack h nothing =
   sink = h.writes;
 }
 lacks_meets asked faults (Some (Drill d)) o shelf lack h nothing = record {
-  says = subst (λ (after : Option (List ℕ)). IsOfFirst d.trace (boot_of d.machines) (directives_of d) o.before after) (sym h.told) (nothing_drilled d.trace (boot_of d.machines) (directives_of d) o.before);
+  says = subst (λ (after : Option (List ℕ)). DrillIsOfFirst d.trace (boot_of_machines d.machines) (directives_of_drill d) o.before after) (sym h.told) (nothing_drilled d.trace (boot_of_machines d.machines) (directives_of_drill d) o.before);
   completes = λ lasts never. inr (lack, refl);
   wears = λ from to wears never. inr (lack, refl);
   unread = refl;

@@ -19,7 +19,7 @@ use Rattle.dm_commands.specs.Explains.{ExplainMeets}
 use Rattle.dm_commands.specs.Outside.{Outside, around}
 use Rattle.dm_words.specs.Request.{Request, Chart, Check, Drill, Explain, Run}
 use Rattle.dm_commands.specs.Runs.{RunMeets}
-use Rattle.dm_words.specs.Status.{IsWant, code_of, line_of, status_of_no}
+use Rattle.dm_words.specs.Status.{IsWant, code_of, line_of_status, status_of_no}
 use Rattle.dm_words.specs.Words.{request_of}
 
 -- the words ask for nothing: they are refused, unless memory lacks; no file was asked for, nothing was written, and there is
@@ -59,5 +59,5 @@ pub record Finishes {F K E : Type 0} (asked : F → List ℕ → F → Type 0) (
   pub status : Status
   pub world : Option World
   pub meets : GivenMeets asked files reads told writes given shelf shelf' sink sink' world status
-  pub says : Written (said errors) (line_of status) (said errors') (failed errors) (failed errors')
+  pub says : Written (said errors) (line_of_status status) (said errors') (failed errors) (failed errors')
   pub number : exit_status code ≡ code_of status

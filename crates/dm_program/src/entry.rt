@@ -2,7 +2,7 @@
 ghost use Rattle.std.specs.Prelude.{◌≡◌, map, IfErr, IfOk, string_bytes};
 ghost use Rattle.std.specs.Vec.Iter.{into_iter_steps};
 ghost use Rattle.std.specs.Iterator.Runs.{WholeRun};
-ghost use Rattle.dm_memory.specs.Args.{IsWant};
+ghost use Rattle.dm_memory.specs.Args.{ArgsLackMemory};
 ghost use Rattle.dm_program.specs.Program.{Finishes, GivenMeets};
 ghost use Rattle.dm_words.specs.Status.{BlamesShelf, BlamesSink};
 ghost use Rattle.dm_words.specs.Words.{IsTaken};
@@ -24,7 +24,7 @@ pub fn words_of(alloc: Global, args: Result<Args, ArgsError>) -> Result<Vec<Stri
     ensures words { IfOk args (λ a. IfOk result (λ words. WholeRun into_iter_steps a (λ run. words.items ≡ run.items))) }
     ensures lacks { IfOk args (λ _. IfErr result (λ no. no ≡ WordsError.Usage → ⊥)) }
     ensures none { IfErr args (λ _. IfOk result (λ _. ⊥)) }
-    ensures want { IfErr args (λ e. IfErr result (λ no. no ≡ WordsError.Usage → IsWant e → ⊥)) }
+    ensures want { IfErr args (λ e. IfErr result (λ no. no ≡ WordsError.Usage → ArgsLackMemory e → ⊥)) }
     ensures usage { IfErr args (λ e. IfErr result (λ no. e ≡ ArgsError.Unread → no ≡ WordsError.Usage)) }
 {
     match args {

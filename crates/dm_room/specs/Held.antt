@@ -1,6 +1,6 @@
 -- The reservations of a machine that aren't released yet, over any reserving and releasing.
 use Rattle.std.specs.Prelude.{◌≡◌, ℕ, ◌+◌, Bool, true, false, List, [], ◌∷◌, ◌++◌, length, sum, remove, slice_get, Option, Some, None}
-use Rattle.dm_room.specs.Room.{Taken, HasTaken, IsWithin, has_room, free_slots, free_blocks, untaken, with_reserved, with_released}
+use Rattle.dm_room.specs.Room.{Taken, HasTaken, IsWithin, has_room, free_slots, free_blocks, nothing_taken, with_reserved, with_released}
 
 -- the room, and the blocks of each reservation that isn't released yet
 pub record Use : Type 0 where
@@ -13,7 +13,7 @@ pub data Event : Type 0 where
   Release : (place : ℕ) → Event
 
 abbrev pub start : ℕ → ℕ → Use
-start slots blocks = record { room = untaken slots blocks; held = [] }
+start slots blocks = record { room = nothing_taken slots blocks; held = [] }
 
 -- the room is reserved, where there is room
 abbrev pub reserves : Use → ℕ → Bool → Use

@@ -23,8 +23,8 @@ abbrev pub free_blocks : Taken → ℕ
 free_blocks room = room.blocks - room.taken_blocks
 
 -- all of it is free
-abbrev pub untaken : ℕ → ℕ → Taken
-untaken slots blocks = record { slots = slots; blocks = blocks; taken_slots = 0; taken_blocks = 0 }
+abbrev pub nothing_taken : ℕ → ℕ → Taken
+nothing_taken slots blocks = record { slots = slots; blocks = blocks; taken_slots = 0; taken_blocks = 0 }
 
 -- a slot is free, and so many blocks
 abbrev pub has_room : Taken → ℕ → Bool

@@ -34,11 +34,11 @@ impl Model for Room {
 }
 
 impl Room {
-    ghost use Rattle.dm_room.specs.Room.{HasRoom, HasTaken, free_blocks, free_slots, lack, untaken, with_released, with_reserved};
+    ghost use Rattle.dm_room.specs.Room.{HasRoom, HasTaken, free_blocks, free_slots, lack, nothing_taken, with_released, with_reserved};
 
     /// Room for `slots` processes, with `blocks` blocks among them, all free.
     pub fn new(slots: u8, blocks: u16) -> Room
-        ensures { result ≡ untaken slots blocks }
+        ensures { result ≡ nothing_taken slots blocks }
     {
         Room {
             slots,

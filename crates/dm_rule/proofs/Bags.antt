@@ -9,7 +9,7 @@ use Rattle.dm_onekernel.specs.Switchboard as board
 use Rattle.dm_onekernel.specs.Manager as manage
 use Rattle.dm_onekernel.specs.Service as service
 use Rattle.dm_onekernel.specs.Step as step
-use Rattle.dm_laws.proofs.Servers.{board_takes, manager_takes}
+use Rattle.dm_laws.proofs.Servers.{board_takes_lem, manager_takes_lem}
 use Rattle.dm_rule.proofs.Lines.{hidden}
 
 -- one message may go, and one may enter: it is there then, and never was before
@@ -83,18 +83,18 @@ abbrev pub id_in : Option PlainMessage → Option MsgId
 id_in None = None
 id_in (Some m) = Some m.id
 
-abbrev pub board_id : Option board.Took → Option MsgId
+abbrev pub board_id : Option board.BoardTook → Option MsgId
 board_id None = None
 board_id (Some t) = id_in t.answer
 
-abbrev pub manager_id : Option manage.Took → Option MsgId
+abbrev pub manager_id : Option manage.ManagerTook → Option MsgId
 manager_id None = None
 manager_id (Some t) = id_in t.message
 
 abbrev pub took_id : OneKernel → PlainMessage → Option MsgId
 took_id s m =
-    if pid_eq m.to switchboard then board_id (board.takes s.switchboard m m.what)
-    else if pid_eq m.to manager then manager_id (manage.takes s.manager s.machines (length s.images) m m.what)
+    if pid_eq m.to switchboard then board_id (board.board_takes s.switchboard m m.what)
+    else if pid_eq m.to manager then manager_id (manage.manager_takes s.manager s.machines (length s.images) m m.what)
     else None
 
 -- a number that its sender doesn't count yet
@@ -104,7 +104,7 @@ own_fresh r e s p x n is same h =
     let k : counts s (id_of p n) ≡ is_counted n (Some (Alive x)) = counts_process s p (id_of p n) refl server ∙ ap (is_counted n) is in
     unentered r e s (id_of p n) h.entered (k ∙ (let z : nat_lt n x.sent ≡ false = grind (arith, nat_tests) in z))
 
-bag_sends_next : (r e : MsgId → ℕ) (s t : OneKernel) (p : Pid) (id : MsgId) (next : step.Next) → Nexts s p next → step.sends s p id next ≡ Some t → Sound r e s → BagStep e s t None (Some id)
+bag_sends_next : (r e : MsgId → ℕ) (s t : OneKernel) (p : Pid) (id : MsgId) (next : step.Trap) → Nexts s p next → step.sends s p id next ≡ Some t → Sound r e s → BagStep e s t None (Some id)
 bag_sends_next r e s t p id (step.Calls number (Called.Sends m y)) w is h =
     let (z, sent, pending, counted) = w.counts in
     let k = when-is _ (with_sent (step.goes_on s p y) (Some m)) t is in
@@ -115,7 +115,7 @@ bag_sends_next r e s t p id _ w is h = cc
 
 -- a process that sends
 pub bag_sends : (r e : MsgId → ℕ) (s t : OneKernel) (p : Pid) (id : MsgId) → step.step s (Label.Send p id) ≡ Some t → Sound r e s → BagStep e s t None (Some id)
-bag_sends r e s t p id is h = let (x, next, rest) = bind-is (step.next s p) (step.sends s p id) t is in bag_sends_next r e s t p id x (nexts s p x next) rest h
+bag_sends r e s t p id is h = let (x, next, rest) = bind-is (step.next_trap s p) (step.sends s p id) t is in bag_sends_next r e s t p id x (nexts s p x next) rest h
 
 -- nothing goes and nothing enters: steps of processes that send nothing
 quiet_is : (e : MsgId → ℕ) (s t u : OneKernel) → u ≡ t → ((i : MsgId) → u.bag i ≡ s.bag i) → BagStep e s t None None
@@ -127,34 +127,34 @@ bag_ran e s t p k is =
     let (m, plain, last) = bind-is (step.plain_steps k (step.machine_of x)) (λ m. Some (step.goes_on s p (step.with_machine x m))) t rest in
     quiet_is e s t (step.goes_on s p (step.with_machine x m)) (let f : step.goes_on s p (step.with_machine x m) ≡ t = cc in f) (λ i. refl)
 
-replies_quiet : (e : MsgId → ℕ) (s t : OneKernel) (p : Pid) (n : ℕ) (c : _) (next : step.Next) → step.replies s p n c next ≡ Some t → BagStep e s t None None
+replies_quiet : (e : MsgId → ℕ) (s t : OneKernel) (p : Pid) (n : ℕ) (c : _) (next : step.Trap) → step.replies s p n c next ≡ Some t → BagStep e s t None None
 replies_quiet e s t p n c (step.Calls number (Called.Replies reply y)) is = quiet_is e s t (step.goes_on s p y) (when-is _ (step.goes_on s p y) t is).1 (λ i. refl)
 replies_quiet e s t p n c _ is = cc
 
-waits_quiet : (e : MsgId → ℕ) (s t : OneKernel) (p : Pid) (next : step.Next) → step.waits s p next ≡ Some t → BagStep e s t None None
+waits_quiet : (e : MsgId → ℕ) (s t : OneKernel) (p : Pid) (next : step.Trap) → step.waits s p next ≡ Some t → BagStep e s t None None
 waits_quiet e s t p (step.Calls number (Called.Waits y)) is = quiet_is e s t (step.goes_on s p y) (let f : step.goes_on s p y ≡ t = cc in f) (λ i. refl)
 waits_quiet e s t p _ is = cc
 
-outputs_quiet : (e : MsgId → ℕ) (s t : OneKernel) (p : Pid) (w : ℕ) (next : step.Next) → step.outputs s p w next ≡ Some t → BagStep e s t None None
+outputs_quiet : (e : MsgId → ℕ) (s t : OneKernel) (p : Pid) (w : ℕ) (next : step.Trap) → step.outputs s p w next ≡ Some t → BagStep e s t None None
 outputs_quiet e s t p w (step.Calls number (Called.Outputs word y)) is = quiet_is e s t (step.goes_on s p y) (when-is _ (step.goes_on s p y) t is).1 (λ i. refl)
 outputs_quiet e s t p w _ is = cc
 
-ends_quiet : (e : MsgId → ℕ) (s t : OneKernel) (p : Pid) (y : Why) (next : step.Next) → step.ends s p y next ≡ Some t → BagStep e s t None None
+ends_quiet : (e : MsgId → ℕ) (s t : OneKernel) (p : Pid) (y : Why) (next : step.Trap) → step.ends s p y next ≡ Some t → BagStep e s t None None
 ends_quiet e s t p y (step.Calls number (Called.Ends because)) is = quiet_is e s t (with_process s p (Ended y)) (when-is _ (with_process s p (Ended y)) t is).1 (λ i. refl)
 ends_quiet e s t p y (step.Faults fault) is = quiet_is e s t (with_process s p (Ended y)) (when-is _ (with_process s p (Ended y)) t is).1 (λ i. refl)
 ends_quiet e s t p y _ is = cc
 
 pub bag_call : (e : MsgId → ℕ) (s t : OneKernel) (p : Pid) (n : ℕ) (c : _) → step.step s (Label.Call p n c) ≡ Some t → BagStep e s t None None
-bag_call e s t p n c is = let (x, next, rest) = bind-is (step.next s p) (step.replies s p n c) t is in replies_quiet e s t p n c x rest
+bag_call e s t p n c is = let (x, next, rest) = bind-is (step.next_trap s p) (step.replies s p n c) t is in replies_quiet e s t p n c x rest
 
 pub bag_wait : (e : MsgId → ℕ) (s t : OneKernel) (p : Pid) → step.step s (Label.Wait p) ≡ Some t → BagStep e s t None None
-bag_wait e s t p is = let (x, next, rest) = bind-is (step.next s p) (step.waits s p) t is in waits_quiet e s t p x rest
+bag_wait e s t p is = let (x, next, rest) = bind-is (step.next_trap s p) (step.waits s p) t is in waits_quiet e s t p x rest
 
 pub bag_out : (e : MsgId → ℕ) (s t : OneKernel) (p : Pid) (w : ℕ) → step.step s (Label.Out p w) ≡ Some t → BagStep e s t None None
-bag_out e s t p w is = let (x, next, rest) = bind-is (step.next s p) (step.outputs s p w) t is in outputs_quiet e s t p w x rest
+bag_out e s t p w is = let (x, next, rest) = bind-is (step.next_trap s p) (step.outputs s p w) t is in outputs_quiet e s t p w x rest
 
 pub bag_end : (e : MsgId → ℕ) (s t : OneKernel) (p : Pid) (y : Why) → step.step s (Label.End p y) ≡ Some t → BagStep e s t None None
-bag_end e s t p y is = let (x, next, rest) = bind-is (step.next s p) (step.ends s p y) t is in ends_quiet e s t p y x rest
+bag_end e s t p y is = let (x, next, rest) = bind-is (step.next_trap s p) (step.ends s p y) t is in ends_quiet e s t p y x rest
 
 refuses_quiet : (e : MsgId → ℕ) (s t : OneKernel) (p : Pid) (c : _) (done : receiving.Completed) → step.refuses s p c done ≡ Some t → BagStep e s t None None
 refuses_quiet e s t p c (receiving.Receives x) is = cc
@@ -176,8 +176,8 @@ bag_receive e s t p id is = let (x, done, rest) = bind-is (step.completing s p i
 
 pub bag_dropped : (e : MsgId → ℕ) (s t : OneKernel) (id : MsgId) → step.step s (Label.Dropped id) ≡ Some t → BagStep e s t (Some id) None
 bag_dropped e s t id is =
-    let (m, there, rest) = bind-is (s.bag id) (λ v. bind (step.ended (s.processes v.to)) (step.drops s id v)) t is in
-    let (y, gone, last) = bind-is (step.ended (s.processes m.to)) (step.drops s id m) t rest in
+    let (m, there, rest) = bind-is (s.bag id) (λ v. bind (step.why_ended (s.processes v.to)) (step.drops s id v)) t is in
+    let (y, gone, last) = bind-is (step.why_ended (s.processes m.to)) (step.drops s id m) t rest in
     out_is e s t (without_message s id) id (when-is (service.is_dropped m.what) (without_message s id) t last).1 (λ i. refl)
 
 -- an answer takes the place of its request
@@ -213,8 +213,8 @@ memory_asks _ e = cc
 
 pub bag_gone : (r e : MsgId → ℕ) (s t : OneKernel) (id : MsgId) → step.step s (Label.Gone id) ≡ Some t → Sound r e s → BagStep e s t (Some id) (Some (answer_id id))
 bag_gone r e s t id is h =
-    let (m, there, rest) = bind-is (s.bag id) (λ v. bind (step.ended (s.processes v.to)) (step.says_gone s id v)) t is in
-    let (y, gone, last) = bind-is (step.ended (s.processes m.to)) (step.says_gone s id m) t rest in
+    let (m, there, rest) = bind-is (s.bag id) (λ v. bind (step.why_ended (s.processes v.to)) (step.says_gone s id v)) t is in
+    let (y, gone, last) = bind-is (step.why_ended (s.processes m.to)) (step.says_gone s id m) t rest in
     let k = when-is (is_of_memory m.what) (with_sent (without_message s id) (Some (answer_to m PlainWhat.Gone))) t last in
     answers_in r e s t (without_message s id) id m PlainWhat.Gone k.1 (λ i. refl) there (memory_asks m.what k.0) h
 
@@ -229,7 +229,7 @@ bag_no_space r e s t id a b is h = let (m, there, rest) = bind-is (s.bag id) (λ
 creates_in : (r e : MsgId → ℕ) (s t : OneKernel) (id : MsgId) (m : PlainMessage) (child : Pid) (w : PlainWhat) → m.what ≡ w → s.bag id ≡ Some m → service.creates s id m child w ≡ Some t → Sound r e s → BagStep e s t (Some id) (Some (answer_id id))
 creates_in r e s t id m child (PlainWhat.Create image links) w there is h =
     let (i, found, rest) = bind-is (slice_get s.images image) (service.creates_of s id m child links) t is in
-    let u = service.with_child (without_message s id) child i links in
+    let u = service.with_created (without_message s id) child i links in
     answers_in r e s t u id m (PlainWhat.Created child) (when-is _ (with_sent u (Some (answer_to m (PlainWhat.Created child)))) t rest).1 (λ j. refl) there (ap asks w) h
 creates_in r e s t id m child _ w there is h = cc
 
@@ -288,35 +288,35 @@ bag_served r e s t id is h =
     record { m = m; there = there; x = x; alive = alive-is (s.processes m.to) x alive; is = served_in r e s t id m x m.what refl there (alive-is (s.processes m.to) x alive) last h }
 
 -- a server's message is fresh, if it sends one
-board_in : (r e : MsgId → ℕ) (s t : OneKernel) (id : MsgId) (k : board.Took) (o : Option PlainMessage) → k.answer ≡ o → ServerSends switchboard s.switchboard.sent o k.switchboard.sent → with_sent (record (without_message s id) { switchboard = k.switchboard }) o ≡ t → Sound r e s
+board_in : (r e : MsgId → ℕ) (s t : OneKernel) (id : MsgId) (k : board.BoardTook) (o : Option PlainMessage) → k.answer ≡ o → ServerSends switchboard s.switchboard.sent o k.switchboard.sent → with_sent (record (without_message s id) { switchboard = k.switchboard }) o ≡ t → Sound r e s
     → BagStep e s t (Some id) (id_in o)
 board_in r e s t id k None same sends is h = out_is e s t (record (without_message s id) { switchboard = k.switchboard }) id is (λ i. refl)
 board_in r e s t id k (Some m) same sends is h =
     let zero_ : e m.id ≡ 0 = ap e sends.0 ∙ unentered r e s (id_of switchboard s.switchboard.sent) h.entered (let z : nat_lt s.switchboard.sent s.switchboard.sent ≡ false = grind (arith, nat_tests) in z) in
     subst (λ v. BagStep e s v (Some id) (Some m.id)) is (steps_in r e s (record (without_message s id) { switchboard = k.switchboard }) (Some id) m (λ i. refl) zero_ h.entered)
 
-manager_in : (r e : MsgId → ℕ) (s t : OneKernel) (id : MsgId) (k : manage.Took) (o : Option PlainMessage) → k.message ≡ o → ServerSends manager s.manager.sent o k.manager.sent → with_sent (record (without_message s id) { manager = k.manager }) o ≡ t → Sound r e s
+manager_in : (r e : MsgId → ℕ) (s t : OneKernel) (id : MsgId) (k : manage.ManagerTook) (o : Option PlainMessage) → k.message ≡ o → ServerSends manager s.manager.sent o k.manager.sent → with_sent (record (without_message s id) { manager = k.manager }) o ≡ t → Sound r e s
     → BagStep e s t (Some id) (id_in o)
 manager_in r e s t id k None same sends is h = out_is e s t (record (without_message s id) { manager = k.manager }) id is (λ i. refl)
 manager_in r e s t id k (Some m) same sends is h =
     let zero_ : e m.id ≡ 0 = ap e sends.0 ∙ unentered r e s (id_of manager s.manager.sent) h.entered (let z : nat_lt s.manager.sent s.manager.sent ≡ false = grind (arith, nat_tests) in z) in
     subst (λ v. BagStep e s v (Some id) (Some m.id)) is (steps_in r e s (record (without_message s id) { manager = k.manager }) (Some id) m (λ i. refl) zero_ h.entered)
 
-board_took : (r e : MsgId → ℕ) (s t : OneKernel) (id : MsgId) (m : PlainMessage) (o : Option board.Took) → board.takes s.switchboard m m.what ≡ o → bind o (λ k. Some (service.switchboard_took s id k)) ≡ Some t → Sound r e s → BagStep e s t (Some id) (board_id o)
+board_took : (r e : MsgId → ℕ) (s t : OneKernel) (id : MsgId) (m : PlainMessage) (o : Option board.BoardTook) → board.board_takes s.switchboard m m.what ≡ o → bind o (λ k. Some (service.switchboard_took s id k)) ≡ Some t → Sound r e s → BagStep e s t (Some id) (board_id o)
 board_took r e s t id m None is last h = cc
-board_took r e s t id m (Some k) is last h = board_in r e s t id k k.answer refl (board_takes s.switchboard m m.what k is).2 (let f : service.switchboard_took s id k ≡ t = cc in f) h
+board_took r e s t id m (Some k) is last h = board_in r e s t id k k.answer refl (board_takes_lem s.switchboard m m.what k is).2 (let f : service.switchboard_took s id k ≡ t = cc in f) h
 
-manager_took : (r e : MsgId → ℕ) (s t : OneKernel) (id : MsgId) (m : PlainMessage) (o : Option manage.Took) → manage.takes s.manager s.machines (length s.images) m m.what ≡ o → bind o (λ k. Some (service.manager_took s id k)) ≡ Some t → Sound r e s → BagStep e s t (Some id) (manager_id o)
+manager_took : (r e : MsgId → ℕ) (s t : OneKernel) (id : MsgId) (m : PlainMessage) (o : Option manage.ManagerTook) → manage.manager_takes s.manager s.machines (length s.images) m m.what ≡ o → bind o (λ k. Some (service.manager_took s id k)) ≡ Some t → Sound r e s → BagStep e s t (Some id) (manager_id o)
 manager_took r e s t id m None is last h = cc
-manager_took r e s t id m (Some k) is last h = manager_in r e s t id k k.message refl (manager_takes s.manager s.machines (length s.images) m m.what k is).2.sends (let f : service.manager_took s id k ≡ t = cc in f) h
+manager_took r e s t id m (Some k) is last h = manager_in r e s t id k k.message refl (manager_takes_lem s.manager s.machines (length s.images) m m.what k is).2.sends (let f : service.manager_took s id k ≡ t = cc in f) h
 
 took_by : (r e : MsgId → ℕ) (s t : OneKernel) (id : MsgId) (m : PlainMessage) (b c : Bool)
-    → (if b then bind (board.takes s.switchboard m m.what) (λ k. Some (service.switchboard_took s id k))
-    else if c then bind (manage.takes s.manager s.machines (length s.images) m m.what) (λ k. Some (service.manager_took s id k))
+    → (if b then bind (board.board_takes s.switchboard m m.what) (λ k. Some (service.switchboard_took s id k))
+    else if c then bind (manage.manager_takes s.manager s.machines (length s.images) m m.what) (λ k. Some (service.manager_took s id k))
     else None) ≡ Some t → Sound r e s
-    → BagStep e s t (Some id) (if b then board_id (board.takes s.switchboard m m.what) else if c then manager_id (manage.takes s.manager s.machines (length s.images) m m.what) else None)
-took_by r e s t id m true c is h = board_took r e s t id m (board.takes s.switchboard m m.what) refl is h
-took_by r e s t id m false true is h = manager_took r e s t id m (manage.takes s.manager s.machines (length s.images) m m.what) refl is h
+    → BagStep e s t (Some id) (if b then board_id (board.board_takes s.switchboard m m.what) else if c then manager_id (manage.manager_takes s.manager s.machines (length s.images) m m.what) else None)
+took_by r e s t id m true c is h = board_took r e s t id m (board.board_takes s.switchboard m m.what) refl is h
+took_by r e s t id m false true is h = manager_took r e s t id m (manage.manager_takes s.manager s.machines (length s.images) m m.what) refl is h
 took_by r e s t id m false false is h = cc
 
 pub record TookStep (e : MsgId → ℕ) (s t : OneKernel) (id : MsgId) : Type 0 where

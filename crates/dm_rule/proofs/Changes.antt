@@ -1,7 +1,7 @@
 -- A step of the kernel without machines: where it leads, row by row. Whatever holds where each row leads holds where the step leads.
 use Rattle.dm_rule.proofs.Names.{◌≡◌, ℕ, ◌+◌, ◌==◌, ◌&&◌, Bool, true, false, take, drop, refl, ap, ◌∙◌, sym, subst, length, nat_le, if◌then◌else◌, slice_get, Option, None, Some, Pid, pid_of, pid_eq, MsgId, id_eq, Label, Reply, Why}
 use Rattle.dm_rule.proofs.Names.{reply_eq, why_eq, PlainMessage, PlainWhat, BootImage, first_number, switchboard, manager, bind, PlainProcess, PlainStatus, Ready, Alive, OneKernel, with_process, with_sent, without_message, answer_to}
-use Rattle.dm_rule.proofs.Names.{is_of_memory, plain_kind, bind-is, when-is, alive-is, Nexts, nexts, is_dropped, ended-is, Runs, Completing, completing, pending_of}
+use Rattle.dm_rule.proofs.Names.{is_of_memory, plain_kind, bind-is, when-is, alive-is, Nexts, nexts, is_dropped, why_ended-is, Runs, Completing, completing, pending_of}
 use Rattle.dm_onekernel.specs.Kernel.{Ended}
 use Rattle.dm_onekernel.specs.Calls as calls
 use Rattle.dm_onekernel.specs.Manager as manage
@@ -13,8 +13,8 @@ use Rattle.dm_onekernel.specs.Switchboard as board
 use Rattle.dm_rule.proofs.Serving.{is_kill}
 
 -- what a process does next
-pub record Next (s : OneKernel) (p : Pid) (next : kernel.Next) : Type 0 where
-  pub is : kernel.next s p ≡ Some next
+pub record Next (s : OneKernel) (p : Pid) (next : kernel.Trap) : Type 0 where
+  pub is : kernel.next_trap s p ≡ Some next
   pub so : Nexts s p next
 
 -- a message of the bag, whose receiver lives
@@ -53,7 +53,7 @@ pub record Changes (P : OneKernel → Type 0) (s : OneKernel) (l : Label) : Type
   pub sends : (p : Pid) (id : MsgId) (k : ℕ) (m : PlainMessage) (y : PlainProcess) → l ≡ Label.Send p id → id_eq id m.id ≡ true → Next s p (kernel.Calls k (calls.Sends m y)) → P (with_sent (kernel.goes_on s p y) (Some m))
   pub waits : (p : Pid) (k : ℕ) (y : PlainProcess) → l ≡ Label.Wait p → Next s p (kernel.Calls k (calls.Waits y)) → P (kernel.goes_on s p y)
   pub outputs : (p : Pid) (w k v : ℕ) (y : PlainProcess) → l ≡ Label.Out p w → Next s p (kernel.Calls k (calls.Outputs v y)) → P (kernel.goes_on s p y)
-  pub ends : (p : Pid) (y : Why) (next : kernel.Next) → l ≡ Label.End p y → Next s p next → P (with_process s p (Ended y))
+  pub ends : (p : Pid) (y : Why) (next : kernel.Trap) → l ≡ Label.End p y → Next s p next → P (with_process s p (Ended y))
   pub receives : (p : Pid) (id : MsgId) (y : PlainProcess) → l ≡ Label.Receive p id → Completing s p id (receiving.Receives y) → kernel.completing s p id ≡ Some (receiving.Receives y) → P (kernel.goes_on (without_message s id) p y)
   pub refuses : (p : Pid) (id : MsgId) (c d : Reply) (y : PlainProcess) → l ≡ Label.Refuse p id c → Completing s p id (receiving.Refuses d y) → kernel.completing s p id ≡ Some (receiving.Refuses d y) → P (kernel.goes_on s p y)
   pub dropped : (id : MsgId) (m : PlainMessage) (y : Why) → l ≡ Label.Dropped id → Over s id m y → is_dropped m.what ≡ true → P (without_message s id)
@@ -65,10 +65,10 @@ pub record Changes (P : OneKernel → Type 0) (s : OneKernel) (l : Label) : Type
       → P (with_sent (service.changed s id m (record x { memory = pieces.written_at x.memory base bytes })) (Some (answer_to m PlainWhat.Written)))
   pub lands : (id : MsgId) (m : PlainMessage) (x : PlainProcess) (r : PlainMessage) (y : PlainProcess) → l ≡ Label.Served id → Lives s id m x → Mild m → pieces.lands m.to x m x.status ≡ Some (pieces.Next r y) → P (with_sent (service.changed s id m y) (Some r))
   pub done : (id : MsgId) (m : PlainMessage) (x : PlainProcess) (c : Reply) (y : PlainProcess) → l ≡ Label.Served id → Lives s id m x → Mild m → pieces.lands m.to x m x.status ≡ Some (pieces.Done c y) → P (service.changed s id m y)
-  pub board : (id : MsgId) (m : PlainMessage) (k : board.Took) → l ≡ Label.Took id → s.bag id ≡ Some m → pid_eq m.to switchboard ≡ true → board.takes s.switchboard m m.what ≡ Some k → P (service.switchboard_took s id k)
-  pub manager : (id : MsgId) (m : PlainMessage) (k : manage.Took) → l ≡ Label.Took id → s.bag id ≡ Some m → pid_eq m.to manager ≡ true → manage.takes s.manager s.machines (length s.images) m m.what ≡ Some k → P (service.manager_took s id k)
+  pub board : (id : MsgId) (m : PlainMessage) (k : board.BoardTook) → l ≡ Label.Took id → s.bag id ≡ Some m → pid_eq m.to switchboard ≡ true → board.board_takes s.switchboard m m.what ≡ Some k → P (service.switchboard_took s id k)
+  pub manager : (id : MsgId) (m : PlainMessage) (k : manage.ManagerTook) → l ≡ Label.Took id → s.bag id ≡ Some m → pid_eq m.to manager ≡ true → manage.manager_takes s.manager s.machines (length s.images) m m.what ≡ Some k → P (service.manager_took s id k)
   pub creates : (id : MsgId) (child : Pid) (m : PlainMessage) (image : ℕ) (links : _) (i : BootImage) → l ≡ Label.Created id child → Asked s id m image links → slice_get s.images image ≡ Some i → pid_eq child (pid_of m.to.home (first_number + s.made m.to.home)) ≡ true
-      → P (with_sent (service.with_child (without_message s id) child i links) (Some (answer_to m (PlainWhat.Created child))))
+      → P (with_sent (service.with_created (without_message s id) child i links) (Some (answer_to m (PlainWhat.Created child))))
   pub no_room : (id : MsgId) (a b : ℕ) (m : PlainMessage) (image : ℕ) (links : _) → l ≡ Label.NoSpace id a b → Asked s id m image links → P (with_sent (without_message s id) (Some (answer_to m PlainWhat.NoRoom)))
 
 given : (P : OneKernel → Type 0) (u t : OneKernel) → P u → Some u ≡ Some t → P t
@@ -89,23 +89,23 @@ running_is s p x e =
     let k = if_ready_is y y.status x ready in
     record { alive = alive-is (s.processes p) x (is ∙ ap Some k.0); still = sym (ap (λ (v : PlainProcess). pending_of v.status) k.0) ∙ k.1 }
 
-replies_step : (P : OneKernel → Type 0) (s t : OneKernel) (p : Pid) (n : ℕ) (c : Reply) (next : kernel.Next) → Changes P s (Label.Call p n c) → Next s p next → kernel.replies s p n c next ≡ Some t → P t
+replies_step : (P : OneKernel → Type 0) (s t : OneKernel) (p : Pid) (n : ℕ) (c : Reply) (next : kernel.Trap) → Changes P s (Label.Call p n c) → Next s p next → kernel.replies s p n c next ≡ Some t → P t
 replies_step P s t p n c (kernel.Calls k (calls.Replies d y)) h w e = subst P (when-is ((n == k) && reply_eq c d) (kernel.goes_on s p y) t e).1 (h.replies p n k c d y refl w)
 replies_step P s t p n c _ h w e = cc
 
-sends_step : (P : OneKernel → Type 0) (s t : OneKernel) (p : Pid) (id : MsgId) (next : kernel.Next) → Changes P s (Label.Send p id) → Next s p next → kernel.sends s p id next ≡ Some t → P t
+sends_step : (P : OneKernel → Type 0) (s t : OneKernel) (p : Pid) (id : MsgId) (next : kernel.Trap) → Changes P s (Label.Send p id) → Next s p next → kernel.sends s p id next ≡ Some t → P t
 sends_step P s t p id (kernel.Calls k (calls.Sends m y)) h w e = let f = when-is (id_eq id m.id) (with_sent (kernel.goes_on s p y) (Some m)) t e in subst P f.1 (h.sends p id k m y refl f.0 w)
 sends_step P s t p id _ h w e = cc
 
-waits_step : (P : OneKernel → Type 0) (s t : OneKernel) (p : Pid) (next : kernel.Next) → Changes P s (Label.Wait p) → Next s p next → kernel.waits s p next ≡ Some t → P t
+waits_step : (P : OneKernel → Type 0) (s t : OneKernel) (p : Pid) (next : kernel.Trap) → Changes P s (Label.Wait p) → Next s p next → kernel.waits s p next ≡ Some t → P t
 waits_step P s t p (kernel.Calls k (calls.Waits y)) h w e = given P (kernel.goes_on s p y) t (h.waits p k y refl w) e
 waits_step P s t p _ h w e = cc
 
-outputs_step : (P : OneKernel → Type 0) (s t : OneKernel) (p : Pid) (word : ℕ) (next : kernel.Next) → Changes P s (Label.Out p word) → Next s p next → kernel.outputs s p word next ≡ Some t → P t
+outputs_step : (P : OneKernel → Type 0) (s t : OneKernel) (p : Pid) (word : ℕ) (next : kernel.Trap) → Changes P s (Label.Out p word) → Next s p next → kernel.outputs s p word next ≡ Some t → P t
 outputs_step P s t p word (kernel.Calls k (calls.Outputs v y)) h w e = subst P (when-is (word == v) (kernel.goes_on s p y) t e).1 (h.outputs p word k v y refl w)
 outputs_step P s t p word _ h w e = cc
 
-ends_step : (P : OneKernel → Type 0) (s t : OneKernel) (p : Pid) (y : Why) (next : kernel.Next) → Changes P s (Label.End p y) → Next s p next → kernel.ends s p y next ≡ Some t → P t
+ends_step : (P : OneKernel → Type 0) (s t : OneKernel) (p : Pid) (y : Why) (next : kernel.Trap) → Changes P s (Label.End p y) → Next s p next → kernel.ends s p y next ≡ Some t → P t
 ends_step P s t p y (kernel.Calls k (calls.Ends because)) h w e = subst P (when-is (why_eq y because) (with_process s p (Ended y)) t e).1 (h.ends p y (kernel.Calls k (calls.Ends because)) refl w)
 ends_step P s t p y (kernel.Faults fault) h w e = subst P (when-is (why_eq y (Why.Fault fault)) (with_process s p (Ended y)) t e).1 (h.ends p y (kernel.Faults fault) refl w)
 ends_step P s t p y _ h w e = cc
@@ -142,12 +142,12 @@ serves_step P s t id m x PlainWhat.Gone is h w e = lands_step P s t id m x (piec
 serves_step P s t id m x _ is h w e = cc
 
 takes_step : (P : OneKernel → Type 0) (s t : OneKernel) (id : MsgId) (m : PlainMessage) (c d : Bool) → pid_eq m.to switchboard ≡ c → pid_eq m.to manager ≡ d → Changes P s (Label.Took id) → s.bag id ≡ Some m
-    → (if c then bind (board.takes s.switchboard m m.what) (λ k. Some (service.switchboard_took s id k)) else if d then bind (manage.takes s.manager s.machines (length s.images) m m.what) (λ k. Some (service.manager_took s id k)) else None) ≡ Some t → P t
+    → (if c then bind (board.board_takes s.switchboard m m.what) (λ k. Some (service.switchboard_took s id k)) else if d then bind (manage.manager_takes s.manager s.machines (length s.images) m m.what) (λ k. Some (service.manager_took s id k)) else None) ≡ Some t → P t
 takes_step P s t id m true d one two h there e =
-    let (k, took, last) = bind-is (board.takes s.switchboard m m.what) (λ v. Some (service.switchboard_took s id v)) t e in
+    let (k, took, last) = bind-is (board.board_takes s.switchboard m m.what) (λ v. Some (service.switchboard_took s id v)) t e in
     given P (service.switchboard_took s id k) t (h.board id m k refl there one took) last
 takes_step P s t id m false true one two h there e =
-    let (k, took, last) = bind-is (manage.takes s.manager s.machines (length s.images) m m.what) (λ v. Some (service.manager_took s id v)) t e in
+    let (k, took, last) = bind-is (manage.manager_takes s.manager s.machines (length s.images) m m.what) (λ v. Some (service.manager_took s id v)) t e in
     given P (service.manager_took s id k) t (h.manager id m k refl there two took) last
 takes_step P s t id m false false one two h there e = cc
 
@@ -159,7 +159,7 @@ creates_step : (P : OneKernel → Type 0) (s t : OneKernel) (id : MsgId) (m : Pl
 creates_step P s t id m child (PlainWhat.Create image links) is h there e =
     let (i, found, rest) = bind-is (slice_get s.images image) (service.creates_of s id m child links) t e in
     let name = pid_eq child (pid_of m.to.home (first_number + s.made m.to.home)) in
-    let k = when-is (service.is_kernel s m.to && name) (with_sent (service.with_child (without_message s id) child i links) (Some (answer_to m (PlainWhat.Created child)))) t rest in
+    let k = when-is (service.is_kernel s m.to && name) (with_sent (service.with_created (without_message s id) child i links) (Some (answer_to m (PlainWhat.Created child)))) t rest in
     let both = both_of (service.is_kernel s m.to) name k.0 in
     subst P k.1 (h.creates id child m image links i refl (record { there = there; what = is; kernel = both.0 }) found both.1)
 creates_step P s t id m child _ is h there e = cc
@@ -175,23 +175,23 @@ by_step P s t (Label.Ran p k) h e =
     let (x, running, rest) = bind-is (kernel.running s p) (λ (w : PlainProcess). bind (kernel.plain_steps k (kernel.machine_of w)) (λ (m : kernel.Machine). Some (kernel.goes_on s p (kernel.with_machine w m)))) t e in
     let (m, plain, last) = bind-is (kernel.plain_steps k (kernel.machine_of x)) (λ (m : kernel.Machine). Some (kernel.goes_on s p (kernel.with_machine x m))) t rest in
     given P (kernel.goes_on s p (kernel.with_machine x m)) t (h.ran p k x m refl (running_is s p x running)) last
-by_step P s t (Label.Call p n c) h e = let (next, is, rest) = bind-is (kernel.next s p) (kernel.replies s p n c) t e in replies_step P s t p n c next h (record { is = is; so = nexts s p next is }) rest
-by_step P s t (Label.Send p id) h e = let (next, is, rest) = bind-is (kernel.next s p) (kernel.sends s p id) t e in sends_step P s t p id next h (record { is = is; so = nexts s p next is }) rest
-by_step P s t (Label.Wait p) h e = let (next, is, rest) = bind-is (kernel.next s p) (kernel.waits s p) t e in waits_step P s t p next h (record { is = is; so = nexts s p next is }) rest
-by_step P s t (Label.Out p w) h e = let (next, is, rest) = bind-is (kernel.next s p) (kernel.outputs s p w) t e in outputs_step P s t p w next h (record { is = is; so = nexts s p next is }) rest
-by_step P s t (Label.End p y) h e = let (next, is, rest) = bind-is (kernel.next s p) (kernel.ends s p y) t e in ends_step P s t p y next h (record { is = is; so = nexts s p next is }) rest
+by_step P s t (Label.Call p n c) h e = let (next, is, rest) = bind-is (kernel.next_trap s p) (kernel.replies s p n c) t e in replies_step P s t p n c next h (record { is = is; so = nexts s p next is }) rest
+by_step P s t (Label.Send p id) h e = let (next, is, rest) = bind-is (kernel.next_trap s p) (kernel.sends s p id) t e in sends_step P s t p id next h (record { is = is; so = nexts s p next is }) rest
+by_step P s t (Label.Wait p) h e = let (next, is, rest) = bind-is (kernel.next_trap s p) (kernel.waits s p) t e in waits_step P s t p next h (record { is = is; so = nexts s p next is }) rest
+by_step P s t (Label.Out p w) h e = let (next, is, rest) = bind-is (kernel.next_trap s p) (kernel.outputs s p w) t e in outputs_step P s t p w next h (record { is = is; so = nexts s p next is }) rest
+by_step P s t (Label.End p y) h e = let (next, is, rest) = bind-is (kernel.next_trap s p) (kernel.ends s p y) t e in ends_step P s t p y next h (record { is = is; so = nexts s p next is }) rest
 by_step P s t (Label.Receive p id) h e = let (c, is, rest) = bind-is (kernel.completing s p id) (kernel.receives s p id) t e in receives_step P s t p id c h is rest
 by_step P s t (Label.Refuse p id r) h e = let (c, is, rest) = bind-is (kernel.completing s p id) (kernel.refuses s p r) t e in refuses_step P s t p id r c h is rest
 by_step P s t (Label.Dropped id) h e =
-    let (m, there, rest) = bind-is (s.bag id) (λ v. bind (kernel.ended (s.processes v.to)) (kernel.drops s id v)) t e in
-    let (y, over, last) = bind-is (kernel.ended (s.processes m.to)) (kernel.drops s id m) t rest in
+    let (m, there, rest) = bind-is (s.bag id) (λ v. bind (kernel.why_ended (s.processes v.to)) (kernel.drops s id v)) t e in
+    let (y, over, last) = bind-is (kernel.why_ended (s.processes m.to)) (kernel.drops s id m) t rest in
     let k = when-is (is_dropped m.what) (without_message s id) t last in
-    subst P k.1 (h.dropped id m y refl (record { there = there; ended = ended-is (s.processes m.to) y over }) k.0)
+    subst P k.1 (h.dropped id m y refl (record { there = there; ended = why_ended-is (s.processes m.to) y over }) k.0)
 by_step P s t (Label.Gone id) h e =
-    let (m, there, rest) = bind-is (s.bag id) (λ v. bind (kernel.ended (s.processes v.to)) (kernel.says_gone s id v)) t e in
-    let (y, over, last) = bind-is (kernel.ended (s.processes m.to)) (kernel.says_gone s id m) t rest in
+    let (m, there, rest) = bind-is (s.bag id) (λ v. bind (kernel.why_ended (s.processes v.to)) (kernel.says_gone s id v)) t e in
+    let (y, over, last) = bind-is (kernel.why_ended (s.processes m.to)) (kernel.says_gone s id m) t rest in
     let k = when-is (is_of_memory m.what) (with_sent (without_message s id) (Some (answer_to m PlainWhat.Gone))) t last in
-    subst P k.1 (h.gone id m y refl (record { there = there; ended = ended-is (s.processes m.to) y over }) k.0)
+    subst P k.1 (h.gone id m y refl (record { there = there; ended = why_ended-is (s.processes m.to) y over }) k.0)
 by_step P s t (Label.Served id) h e =
     let (m, there, rest) = bind-is (s.bag id) (λ v. bind (kernel.alive (s.processes v.to)) (λ p. service.serves s id v p v.what)) t e in
     let (x, alive, last) = bind-is (kernel.alive (s.processes m.to)) (λ p. service.serves s id m p m.what) t rest in

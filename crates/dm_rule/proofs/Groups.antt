@@ -1,7 +1,7 @@
 -- What deliveries and ticks say keeps that each message stands once; and so does every group.
 use Rattle.dm_rule.proofs.Names.{◌≡◌, ◌≢◌, ℕ, zero, suc, ◌+◌, ◌-◌, ◌≤◌, ◌==◌, Bool, true, false, not, filter, List, [], ◌∷◌, ◌++◌, refl, ap, ◌∙◌, sym, subst, nat_lt, arith, length, ⊤, if◌then◌else◌, slice_get, Option, None, Some}
 use Rattle.dm_rule.proofs.Names.{false≢true, nat_tests, MsgId, bind, OneKernel, Step, Line, Load, View, Pair, view_after, Point, label_of, kernel_after, moved, after_line, Part, Says, Transmits, Spelled, packet_line, spelled, Spot, Queue}
-use Rattle.dm_rule.proofs.Names.{Untaken, ids_at, standing, bind-is, Boot, group_of, IsValid, Sent, after_head, window, first_point, Leads, StandsOnceAlways, first_view, start-sound, inl, inr, Pid, PlainMessage, to_of, migrates}
+use Rattle.dm_rule.proofs.Names.{Untaken, ids_at, standing, bind-is, Boot, group_of, IsValid, SentLoad, after_head, pair_window, first_point, Leads, StandsOnceAlways, first_view, start-sound, inl, inr, Pid, PlainMessage, to_of, migrates}
 use Rattle.dm_rule.proofs.Names.{StandsAsBag, StandsOutside, StandsRight, is_kernels}
 use Rattle.dm_rule.specs.View as view
 use Rattle.dm_rule.proofs.Lines.{Stands-stays, Stands-taken, pair_keeps}
@@ -93,20 +93,20 @@ repeats_net : (a b : ℕ) (ns : List ℕ) → IsNet (rule.repeats a b ns)
 repeats_net a b [] = tt
 repeats_net a b (n ∷ ns) = (tt, repeats_net a b ns)
 
-takes_net : (a b : ℕ) (ns : List ℕ) → IsNet (rule.takes a b ns)
+takes_net : (a b : ℕ) (ns : List ℕ) → IsNet (rule.taking_parts a b ns)
 takes_net a b [] = tt
 takes_net a b (n ∷ ns) = (tt, takes_net a b ns)
 
-data_net : (a b : ℕ) (p : Pair) (n : ℕ) (c d : Bool) → IsNet (if c then Says (Line.Old a b n) ∷ Transmits b a (Load.Ack p.taken) ∷ [] else if d then Says (Line.Early a b n) ∷ Transmits b a (Load.Ack p.taken) ∷ [] else rule.takes_on a b n (rule.kept_from p.kept (n + 1) window))
+data_net : (a b : ℕ) (p : Pair) (n : ℕ) (c d : Bool) → IsNet (if c then Says (Line.Old a b n) ∷ Transmits b a (Load.Ack p.taken) ∷ [] else if d then Says (Line.Early a b n) ∷ Transmits b a (Load.Ack p.taken) ∷ [] else rule.takes_on a b n (rule.kept_from p.kept (n + 1) pair_window))
 data_net a b p n true d = (tt, (tt, tt))
 data_net a b p n false true = (tt, (tt, tt))
-data_net a b p n false false = net-append (rule.takes a b (n ∷ rule.kept_from p.kept (n + 1) window)) (Transmits b a (Load.Ack (n + 1 + length (rule.kept_from p.kept (n + 1) window))) ∷ []) (takes_net a b (n ∷ rule.kept_from p.kept (n + 1) window)) (tt, tt)
+data_net a b p n false false = net-append (rule.taking_parts a b (n ∷ rule.kept_from p.kept (n + 1) pair_window)) (Transmits b a (Load.Ack (n + 1 + length (rule.kept_from p.kept (n + 1) pair_window))) ∷ []) (takes_net a b (n ∷ rule.kept_from p.kept (n + 1) pair_window)) (tt, tt)
 
 comes_net : (a b : ℕ) (p q : Pair) (l : Load) → IsNet (rule.comes a b p q l)
 comes_net a b p q (Load.Data n) = data_net a b p n (nat_lt n p.taken) (nat_lt p.taken n)
 comes_net a b p q (Load.Ack n) = (tt, repeats_net b a (rule.let_go q (rule.more n q.acked)))
 
-pub arrives_net : (a b : ℕ) (p q : Pair) (o : Option Sent) → IsNet (rule.arrives a b p q o)
+pub arrives_net : (a b : ℕ) (p q : Pair) (o : Option SentLoad) → IsNet (rule.arrives a b p q o)
 arrives_net a b p q None = (tt, tt)
 arrives_net a b p q (Some s) = comes_net a b p q s.load
 
@@ -165,10 +165,10 @@ State-group b pt (Step.Turn m) w e fits h =
     (record { within = fits.within; home = fits.home }) refl (record { kernel = refl; queue = λ q. refl; held = λ q. refl }) g.is g.said)
 State-group b pt (Step.Tick m) w e fits h =
     let g = group_is b pt (Step.Tick m) w e in
-    let f : Says (Line.Resent m (rule.outstanding pt.view m pt.kernel.machines)) ∷ rule.resends pt.view m pt.kernel.machines ≡ g.parts = let k = g.is in cc in
+    let f : Says (Line.Resent m (rule.outstanding_count pt.view m pt.kernel.machines)) ∷ rule.resends pt.view m pt.kernel.machines ≡ g.parts = let k = g.is in cc in
     let start = moved pt (Line.Head (Step.Tick m)) pt.kernel in
     State-at None g.rest.point w.point g.point
-    (net_row (Says (Line.Resent m (rule.outstanding pt.view m pt.kernel.machines)) ∷ rule.resends pt.view m pt.kernel.machines) start g.rest (tt, resends_net pt.view m pt.kernel.machines)
+    (net_row (Says (Line.Resent m (rule.outstanding_count pt.view m pt.kernel.machines)) ∷ rule.resends pt.view m pt.kernel.machines) start g.rest (tt, resends_net pt.view m pt.kernel.machines)
     (begun pt (Step.Tick m) h (λ z. tick_off pt.view m z) (λ i. refl)) (ap (spelled start) f ∙ g.said))
 State-group b pt (Step.Deliver a c k) w e fits h =
     let g = group_is b pt (Step.Deliver a c k) w e in

@@ -1,7 +1,7 @@
 -- What a turn says keeps that each message stands once.
 use Rattle.dm_rule.proofs.Names.{◌≡◌, ℕ, ◌+◌, ◌≤◌, ◌==◌, Bool, true, false, List, [], ◌∷◌, refl, ap, ◌∙◌, sym, subst, arith, length, if◌then◌else◌, slice_get, Option, None, Some, Pid, pid_eq, MsgId, Label, PlainMessage, PlainWhat, bind}
 use Rattle.dm_rule.proofs.Names.{OneKernel, Line, at_record, without_id, View, view_after, handled, receiver_of, Point, label_of, kernel_after, moved, Part, Says, Routes, Spelled, spelled, Spot, Queue, times, ids_at, id_eq-same, bind-is}
-use Rattle.dm_rule.proofs.Names.{Boot, BootImage, Why, first_number, switchboard, manager, PlainProcess, PlainStatus, Ready, Waiting, Moving, answer_id, pid_of, forwards_on, says, drops, plain_kind, instruction}
+use Rattle.dm_rule.proofs.Names.{Boot, BootImage, Why, first_number, switchboard, manager, PlainProcess, PlainStatus, Ready, Waiting, Moving, answer_id, pid_of, forwards_on, says, drop_parts, plain_kind, instruction}
 use Rattle.dm_onekernel.specs.Step as kernel
 use Rattle.dm_rule.specs.View as view
 use Rattle.dm_rule.proofs.Lines.{Stands-queued, Stands-dequeued, without_counts}
@@ -28,10 +28,10 @@ line_and_maybe pt l None w e pair fits h = one_line pt l w e h
 line_and_maybe pt l (Some m) w e pair fits h = line_and_route pt l m.id w e pair fits h
 
 -- a process ends, and its queue is dropped
-ends_row : (pt : Point) (p : Pid) (y : Why) (queue : List MsgId) (w : Spelled) → State None pt → pt.view.queue pt.view.acting p ≡ queue → spelled pt (says (Label.End p y) ∷ drops queue) ≡ Some w → State None w.point
+ends_row : (pt : Point) (p : Pid) (y : Why) (queue : List MsgId) (w : Spelled) → State None pt → pt.view.queue pt.view.acting p ≡ queue → spelled pt (says (Label.End p y) ∷ drop_parts queue) ≡ Some w → State None w.point
 ends_row pt p y queue w h is e =
     let l = Label.End p y in
-    let k = says_next pt (Line.Label l) (drops queue) w e in
+    let k = says_next pt (Line.Label l) (drop_parts queue) w e in
     let next = moved pt (Line.Label l) k.s in
     let there = quiet_label pt l k.s None h k.is (bag_end h.e pt.kernel k.s p y k.is) (λ z. ended_off pt.view p z) (λ i. refl) in
     State-at None k.rest.point w.point k.point (all_dropped queue next p k.rest there is k.more)
@@ -49,12 +49,12 @@ called_row pt p n queue (calls.Outputs word x) w h fits is e =
     one_line pt (Line.Label (Label.Out p word)) w e (λ s k. quiet_label pt (Label.Out p word) s None h k (bag_out h.e pt.kernel s p word k) (λ z. refl) (λ i. refl))
 called_row pt p n queue (calls.Ends because) w h fits is e = ends_row pt p because queue w h is e
 
-stops_row : (pt : Point) (p : Pid) (queue : List MsgId) (o : Option kernel.Next) (w : Spelled) → State None pt → PairsFit pt.view → pt.view.queue pt.view.acting p ≡ queue → spelled pt (rule.stops p queue o) ≡ Some w → State None w.point
+stops_row : (pt : Point) (p : Pid) (queue : List MsgId) (o : Option kernel.Trap) (w : Spelled) → State None pt → PairsFit pt.view → pt.view.queue pt.view.acting p ≡ queue → spelled pt (rule.stops p queue o) ≡ Some w → State None w.point
 stops_row pt p queue None w h fits is e = State-at None pt w.point (said pt w e) h
 stops_row pt p queue (Some (kernel.Calls n c)) w h fits is e = called_row pt p n queue c w h fits is e
 stops_row pt p queue (Some (kernel.Faults fault)) w h fits is e = ends_row pt p (Why.Fault fault) queue w h is e
 
-maybe_stops : (pt : Point) (p : Pid) (queue : List MsgId) (full : Bool) (o : Option kernel.Next) (w : Spelled) → State None pt → PairsFit pt.view → pt.view.queue pt.view.acting p ≡ queue → spelled pt (if full then [] else rule.stops p queue o) ≡ Some w → State None w.point
+maybe_stops : (pt : Point) (p : Pid) (queue : List MsgId) (full : Bool) (o : Option kernel.Trap) (w : Spelled) → State None pt → PairsFit pt.view → pt.view.queue pt.view.acting p ≡ queue → spelled pt (if full then [] else rule.stops p queue o) ≡ Some w → State None w.point
 maybe_stops pt p queue true o w h fits is e = State-at None pt w.point (said pt w e) h
 maybe_stops pt p queue false o w h fits is e = stops_row pt p queue o w h fits is e
 
@@ -84,7 +84,7 @@ received_off : (v : View) (p : Pid) (rest : List MsgId) (z : Spot) → ids_at (r
 received_off v p rest (Queue m q) = refl
 received_off v p rest _ = refl
 
-completes_row : (pt : Point) (p : Pid) (id : MsgId) (c : receiving.Completed) (w : Spelled) → State None pt → 1 ≤ times id (pt.view.queue pt.view.acting p) → spelled pt (rule.completes p id c) ≡ Some w → State None w.point
+completes_row : (pt : Point) (p : Pid) (id : MsgId) (c : receiving.Completed) (w : Spelled) → State None pt → 1 ≤ times id (pt.view.queue pt.view.acting p) → spelled pt (rule.completion_parts p id c) ≡ Some w → State None w.point
 completes_row pt p id (receiving.Receives x) w h there e =
     one_line pt (Line.Label (Label.Receive p id)) w e
     (λ s k. by_label pt (Label.Receive p id) s (Some id) None h k (gone_out pt (Label.Receive p id) s id h k refl) (bag_receive h.e pt.kernel s p id k)
@@ -93,12 +93,12 @@ completes_row pt p id (receiving.Receives x) w h there e =
 completes_row pt p id (receiving.Refuses reply x) w h there e =
     one_line pt (Line.Label (Label.Refuse p id reply)) w e (λ s k. quiet_label pt (Label.Refuse p id reply) s None h k (bag_refuse h.e pt.kernel s p id reply k) (λ z. serving_off pt.view p z) (λ i. refl))
 
-receives_row : (pt : Point) (p : Pid) (x : PlainProcess) (mask : ℕ) (o : Option MsgId) (parts : List Part) (w : Spelled) → State None pt → rule.first_awaited pt.kernel mask (pt.view.queue pt.view.acting p) ≡ o → rule.receives pt.kernel p x o ≡ Some parts → spelled pt parts ≡ Some w → State None w.point
+receives_row : (pt : Point) (p : Pid) (x : PlainProcess) (mask : ℕ) (o : Option MsgId) (parts : List Part) (w : Spelled) → State None pt → rule.first_awaited pt.kernel mask (pt.view.queue pt.view.acting p) ≡ o → rule.reception_parts pt.kernel p x o ≡ Some parts → spelled pt parts ≡ Some w → State None w.point
 receives_row pt p x mask None parts w h first is e = cc
 receives_row pt p x mask (Some id) parts w h first is e =
-    let (m, there, rest) = bind-is (pt.kernel.bag id) (λ m. bind (receiving.completes_with p x m) (λ c. Some (rule.completes p id c))) parts is in
-    let (c, done, last) = bind-is (receiving.completes_with p x m) (λ c. Some (rule.completes p id c)) parts rest in
-    let f : rule.completes p id c ≡ parts = cc in
+    let (m, there, rest) = bind-is (pt.kernel.bag id) (λ m. bind (receiving.completes_with p x m) (λ c. Some (rule.completion_parts p id c))) parts is in
+    let (c, done, last) = bind-is (receiving.completes_with p x m) (λ c. Some (rule.completion_parts p id c)) parts rest in
+    let f : rule.completion_parts p id c ≡ parts = cc in
     completes_row pt p id c w h (awaited_stands pt.kernel mask (pt.view.queue pt.view.acting p) id first) (ap (spelled pt) f ∙ e)
 
 serves_row : (pt : Point) (quantum : ℕ) (p : Pid) (x : PlainProcess) (st : PlainStatus) (parts : List Part) (w : Spelled) → State None pt → PairsFit pt.view → rule.serves_status quantum pt.kernel p (pt.view.queue pt.view.acting p) x st ≡ Some parts → spelled pt parts ≡ Some w → State None w.point
@@ -157,7 +157,7 @@ served_routes pt i is m x j w h fits front there alive put e =
     line_and_route pt (Line.Label (Label.Served i)) j w e keeps.2 fits (λ s k. served_label pt i is (Some j) s h front k (subst (BagStep h.e pt.kernel s (Some i)) put (served_put pt i m x s h there alive k)))
 
 lands_row : (pt : Point) (i : MsgId) (is : List MsgId) (m : PlainMessage) (x : PlainProcess) (o : Option pieces.Landed) (parts : List Part) (w : Spelled) (h : State None pt) → PairsFit pt.view → pt.view.inbox pt.view.acting ≡ i ∷ is → pt.kernel.bag i ≡ Some m → kernel.alive (pt.kernel.processes m.to) ≡ Some x
-    → served_id i m x m.what ≡ landed_id o → rule.lands i o ≡ Some parts → spelled pt parts ≡ Some w → State None w.point
+    → served_id i m x m.what ≡ landed_id o → rule.landing_parts i o ≡ Some parts → spelled pt parts ≡ Some w → State None w.point
 lands_row pt i is m x None parts w h fits front there alive put e k = cc
 lands_row pt i is m x (Some (pieces.Next request y)) parts w h fits front there alive put e k =
     let f : says (Label.Served i) ∷ Routes request.id ∷ [] ≡ parts = cc in
@@ -167,10 +167,10 @@ lands_row pt i is m x (Some (pieces.Done reply y)) parts w h fits front there al
     served_alone pt i is m x w h front there alive put (ap (spelled pt) f ∙ k)
 
 killed_row : (pt : Point) (i : MsgId) (is : List MsgId) (m : PlainMessage) (x : PlainProcess) (w : Spelled) (h : State None pt) → pt.view.inbox pt.view.acting ≡ i ∷ is → pt.kernel.bag i ≡ Some m → kernel.alive (pt.kernel.processes m.to) ≡ Some x
-    → served_id i m x m.what ≡ None → spelled pt (says (Label.Served i) ∷ drops (pt.view.queue pt.view.acting m.to)) ≡ Some w → State None w.point
+    → served_id i m x m.what ≡ None → spelled pt (says (Label.Served i) ∷ drop_parts (pt.view.queue pt.view.acting m.to)) ≡ Some w → State None w.point
 killed_row pt i is m x w h front there alive none e =
     let l = Label.Served i in
-    let k = says_next pt (Line.Label l) (drops (pt.view.queue pt.view.acting m.to)) w e in
+    let k = says_next pt (Line.Label l) (drop_parts (pt.view.queue pt.view.acting m.to)) w e in
     let next = moved pt (Line.Label l) k.s in
     let keeps = served_keeps (handled pt.view i) (pt.view.told i) in
     let there_ = served_label pt i is None k.s h front k.is (subst (BagStep h.e pt.kernel k.s (Some i)) none (served_put pt i m x k.s h there alive k.is)) in
@@ -195,8 +195,8 @@ here_row o pt m i is msg x (PlainWhat.User a b c d) parts w h fits front there a
 here_row o pt m i is msg x PlainWhat.Stop parts w h fits front there alive k queue e n = let f : says (Label.Served i) ∷ [] ≡ parts = cc in served_alone pt i is msg x w h front there alive (ap (served_id i msg x) k) (ap (spelled pt) f ∙ n)
 here_row o pt m i is msg x PlainWhat.Resume parts w h fits front there alive k queue e n = let f : says (Label.Served i) ∷ [] ≡ parts = cc in served_alone pt i is msg x w h front there alive (ap (served_id i msg x) k) (ap (spelled pt) f ∙ n)
 here_row o pt m i is msg x PlainWhat.Kill parts w h fits front there alive k queue e n =
-    let f : says (Label.Served i) ∷ drops (o.view.queue m msg.to) ≡ parts = cc in
-    killed_row pt i is msg x w h front there alive (ap (served_id i msg x) k) (ap (λ q. spelled pt (says (Label.Served i) ∷ drops q)) (sym queue) ∙ ap (spelled pt) f ∙ n)
+    let f : says (Label.Served i) ∷ drop_parts (o.view.queue m msg.to) ≡ parts = cc in
+    killed_row pt i is msg x w h front there alive (ap (served_id i msg x) k) (ap (λ q. spelled pt (says (Label.Served i) ∷ drop_parts q)) (sym queue) ∙ ap (spelled pt) f ∙ n)
 here_row o pt m i is msg x (PlainWhat.Read a b) parts w h fits front there alive k queue e n =
     let f : says (Label.Served i) ∷ Routes (answer_id i) ∷ [] ≡ parts = cc in served_routes pt i is msg x (answer_id i) w h fits front there alive (ap (served_id i msg x) k) (ap (spelled pt) f ∙ n)
 here_row o pt m i is msg x (PlainWhat.Write a b) parts w h fits front there alive k queue e n =
@@ -237,13 +237,13 @@ took_row pt i is m o w h fits front there put e =
     let same : q.m ≡ m = let t = q.there in let u : Some q.m ≡ Some m = sym t ∙ there in cc in
     front_label pt (Label.Took i) s i is (id_in o) h front k refl (subst (BagStep h.e pt.kernel s (Some i)) put (subst (λ (n : PlainMessage). BagStep h.e pt.kernel s (Some i) (took_id pt.kernel n)) same q.is)) (λ z. refl) (λ j. refl))
 
-board_row : (pt : Point) (i : MsgId) (is : List MsgId) (m : PlainMessage) (t : Option board.Took) (parts : List Part) (w : Spelled) (h : State None pt) → PairsFit pt.view → pt.view.inbox pt.view.acting ≡ i ∷ is → pt.kernel.bag i ≡ Some m → took_id pt.kernel m ≡ board_id t
+board_row : (pt : Point) (i : MsgId) (is : List MsgId) (m : PlainMessage) (t : Option board.BoardTook) (parts : List Part) (w : Spelled) (h : State None pt) → PairsFit pt.view → pt.view.inbox pt.view.acting ≡ i ∷ is → pt.kernel.bag i ≡ Some m → took_id pt.kernel m ≡ board_id t
     → rule.board_took i t ≡ Some parts → spelled pt parts ≡ Some w → State None w.point
 board_row pt i is m None parts w h fits front there put e n = cc
 board_row pt i is m (Some t) parts w h fits front there put e n = let f : says (Label.Took i) ∷ rule.routes t.answer ≡ parts = cc in took_row pt i is m t.answer w h fits front there put (ap (spelled pt) f ∙ n)
 
-manager_row : (pt : Point) (i : MsgId) (is : List MsgId) (m : PlainMessage) (t : Option manage.Took) (parts : List Part) (w : Spelled) (h : State None pt) → PairsFit pt.view → pt.view.inbox pt.view.acting ≡ i ∷ is → pt.kernel.bag i ≡ Some m → took_id pt.kernel m ≡ manager_id t
-    → rule.manager_took i t ≡ Some parts → spelled pt parts ≡ Some w → State None w.point
+manager_row : (pt : Point) (i : MsgId) (is : List MsgId) (m : PlainMessage) (t : Option manage.ManagerTook) (parts : List Part) (w : Spelled) (h : State None pt) → PairsFit pt.view → pt.view.inbox pt.view.acting ≡ i ∷ is → pt.kernel.bag i ≡ Some m → took_id pt.kernel m ≡ manager_id t
+    → rule.manager_parts i t ≡ Some parts → spelled pt parts ≡ Some w → State None w.point
 manager_row pt i is m None parts w h fits front there put e n = cc
 manager_row pt i is m (Some t) parts w h fits front there put e n = let f : says (Label.Took i) ∷ rule.routes t.message ≡ parts = cc in took_row pt i is m t.message w h fits front there put (ap (spelled pt) f ∙ n)
 
@@ -253,7 +253,7 @@ creates_row : (o pt : Point) (m : ℕ) (i : MsgId) (is : List MsgId) (b : Bool) 
 creates_row o pt m i is true room w h fits front e = created_row pt i is (pid_of m (first_number + o.kernel.made m)) w h fits front e
 creates_row o pt m i is false room w h fits front e = no_space_row pt i is room.slots room.blocks w h fits front e
 
-creates_of : (o pt : Point) (m : ℕ) (i : MsgId) (is : List MsgId) (room : rule.Room) (image : Option BootImage) (parts : List Part) (w : Spelled) (h : State None pt) → PairsFit pt.view → pt.view.inbox pt.view.acting ≡ i ∷ is → rule.creates o m i room image ≡ Some parts → spelled pt parts ≡ Some w → State None w.point
+creates_of : (o pt : Point) (m : ℕ) (i : MsgId) (is : List MsgId) (room : rule.Room) (image : Option BootImage) (parts : List Part) (w : Spelled) (h : State None pt) → PairsFit pt.view → pt.view.inbox pt.view.acting ≡ i ∷ is → rule.creation_parts o m i room image ≡ Some parts → spelled pt parts ≡ Some w → State None w.point
 creates_of o pt m i is room None parts w h fits front e n = cc
 creates_of o pt m i is room (Some g) parts w h fits front e n =
     let f : (if rule.has_room room g.blocks then says (Label.Created i (pid_of m (first_number + o.kernel.made m))) else says (Label.NoSpace i room.slots room.blocks)) ∷ Routes (answer_id i) ∷ [] ≡ parts = cc in
@@ -266,20 +266,20 @@ kernel_row b o pt m i is _ parts w h fits front e n = cc
 -- the receiver is a kernel, a server or a process
 handles_by : (b : Boot) (o pt : Point) (m : ℕ) (i : MsgId) (is : List MsgId) (msg : PlainMessage) (k l n : Bool) (parts : List Part) (w : Spelled) (h : State None pt) → PairsFit pt.view → pt.view.inbox pt.view.acting ≡ i ∷ is → pt.kernel.bag i ≡ Some msg → o.kernel ≡ pt.kernel
     → o.view.queue m msg.to ≡ pt.view.queue pt.view.acting msg.to → pid_eq msg.to switchboard ≡ l → pid_eq msg.to manager ≡ n
-    → (if k then rule.kernel_handles b o m i msg.what else if l then rule.board_took i (board.takes o.kernel.switchboard msg msg.what)
-    else if n then rule.manager_took i (manage.takes o.kernel.manager o.kernel.machines (length o.kernel.images) msg msg.what) else rule.process_handles o m i msg (o.view.known m msg.to)) ≡ Some parts
+    → (if k then rule.kernel_handles b o m i msg.what else if l then rule.board_took i (board.board_takes o.kernel.switchboard msg msg.what)
+    else if n then rule.manager_parts i (manage.manager_takes o.kernel.manager o.kernel.machines (length o.kernel.images) msg msg.what) else rule.process_handles o m i msg (o.view.known m msg.to)) ≡ Some parts
     → spelled pt parts ≡ Some w → State None w.point
 handles_by b o pt m i is msg true l n parts w h fits front there same queue x y e z = kernel_row b o pt m i is msg.what parts w h fits front e z
 handles_by b o pt m i is msg false true n parts w h fits front there same queue x y e z =
-    let t = board.takes o.kernel.switchboard msg msg.what in
-    let put : took_id pt.kernel msg ≡ board_id t = ap (λ (c : Bool). if c then board_id (board.takes pt.kernel.switchboard msg msg.what) else if pid_eq msg.to manager then manager_id (manage.takes pt.kernel.manager pt.kernel.machines (length pt.kernel.images) msg msg.what) else None) x
-    ∙ ap (λ (s : OneKernel). board_id (board.takes s.switchboard msg msg.what)) (sym same) in
+    let t = board.board_takes o.kernel.switchboard msg msg.what in
+    let put : took_id pt.kernel msg ≡ board_id t = ap (λ (c : Bool). if c then board_id (board.board_takes pt.kernel.switchboard msg msg.what) else if pid_eq msg.to manager then manager_id (manage.manager_takes pt.kernel.manager pt.kernel.machines (length pt.kernel.images) msg msg.what) else None) x
+    ∙ ap (λ (s : OneKernel). board_id (board.board_takes s.switchboard msg msg.what)) (sym same) in
     board_row pt i is msg t parts w h fits front there put e z
 handles_by b o pt m i is msg false false true parts w h fits front there same queue x y e z =
-    let t = manage.takes o.kernel.manager o.kernel.machines (length o.kernel.images) msg msg.what in
-    let put : took_id pt.kernel msg ≡ manager_id t = ap (λ (c : Bool). if c then board_id (board.takes pt.kernel.switchboard msg msg.what) else if pid_eq msg.to manager then manager_id (manage.takes pt.kernel.manager pt.kernel.machines (length pt.kernel.images) msg msg.what) else None) x
-    ∙ ap (λ (c : Bool). if c then manager_id (manage.takes pt.kernel.manager pt.kernel.machines (length pt.kernel.images) msg msg.what) else None) y
-    ∙ ap (λ (s : OneKernel). manager_id (manage.takes s.manager s.machines (length s.images) msg msg.what)) (sym same) in
+    let t = manage.manager_takes o.kernel.manager o.kernel.machines (length o.kernel.images) msg msg.what in
+    let put : took_id pt.kernel msg ≡ manager_id t = ap (λ (c : Bool). if c then board_id (board.board_takes pt.kernel.switchboard msg msg.what) else if pid_eq msg.to manager then manager_id (manage.manager_takes pt.kernel.manager pt.kernel.machines (length pt.kernel.images) msg msg.what) else None) x
+    ∙ ap (λ (c : Bool). if c then manager_id (manage.manager_takes pt.kernel.manager pt.kernel.machines (length pt.kernel.images) msg msg.what) else None) y
+    ∙ ap (λ (s : OneKernel). manager_id (manage.manager_takes s.manager s.machines (length s.images) msg msg.what)) (sym same) in
     manager_row pt i is msg t parts w h fits front there put e z
 handles_by b o pt m i is msg false false false parts w h fits front there same queue x y e z = process_row o pt m i is msg (o.view.known m msg.to) parts w h fits front there same queue e z
 

@@ -15,7 +15,7 @@ pub mod Parts
 pub mod Groups
 pub mod Turns
 use Rattle.dm_rule.proofs.Names.{◌≡◌, ℕ, true, refl, ap, ◌∙◌, sym, subst, slice_get, Option, None, Some, Pid, Place, PlainLink, link_at, MsgId, PlainMessage, PlainProcess, NamedLink, Pending, OneKernel, links_in, to_of, sender_of}
-use Rattle.dm_rule.proofs.Names.{enclosed_of, names, ascends, Addresses, Holder, Slot, Owner, Receiver, Sender, Enclosed, Child, Name, Answer, unmoved, link_to, slot_of, owner_in, owner_of, name_link, answer_link}
+use Rattle.dm_rule.proofs.Names.{enclosed_of, names, ascends, Addresses, Holder, Slot, Owner, Receiver, Sender, Enclosed, Child, Name, Answer, unmoved, link_target, slot_of, owner_in, owner_of, name_link, answer_link}
 use Rattle.dm_onekernel.specs.Manager as manage
 use Rattle.dm_onekernel.specs.Step as kernel
 
@@ -61,11 +61,11 @@ HomesAre P s a = (h : Holder) (q : Pid) → names s h ≡ Some q → P q (a h)
 at_home_of : (P : Pid → Place → Type 0) (p q : Pid) (pl : Place) → Some p ≡ Some q → P p pl → P q pl
 at_home_of P p q pl e f = let k : p ≡ q = cc in pid_as P k f
 
-slot_home_of : (P : Pid → Place → Type 0) (a : Addresses) (p : Pid) (k : ℕ) (q : Pid) (o : Option PlainLink) → ((l : PlainLink) → o ≡ Some l → P l.to (a (Slot p k))) → link_to o ≡ Some q → P q (a (Slot p k))
+slot_home_of : (P : Pid → Place → Type 0) (a : Addresses) (p : Pid) (k : ℕ) (q : Pid) (o : Option PlainLink) → ((l : PlainLink) → o ≡ Some l → P l.to (a (Slot p k))) → link_target o ≡ Some q → P q (a (Slot p k))
 slot_home_of P a p k q None h e = cc
 slot_home_of P a p k q (Some l) h e = at_home_of P l.to q (a (Slot p k)) e (h l refl)
 
-slot_home : (P : Pid → Place → Type 0) (a : Addresses) (p : Pid) (k : ℕ) (q : Pid) (o : Option PlainProcess) → ((x : PlainProcess) → o ≡ Some x → HomeProcess P a p x) → link_to (slot_of o k) ≡ Some q → P q (a (Slot p k))
+slot_home : (P : Pid → Place → Type 0) (a : Addresses) (p : Pid) (k : ℕ) (q : Pid) (o : Option PlainProcess) → ((x : PlainProcess) → o ≡ Some x → HomeProcess P a p x) → link_target (slot_of o k) ≡ Some q → P q (a (Slot p k))
 slot_home P a p k q None h e = cc
 slot_home P a p k q (Some x) h e = slot_home_of P a p k q (link_at x.links k) (λ l f. (h x refl).slots k l f) e
 
@@ -81,19 +81,19 @@ sender_home : (P : Pid → Place → Type 0) (a : Addresses) (i : MsgId) (q : Pi
 sender_home P a i q None h e = cc
 sender_home P a i q (Some m) h e = at_home_of P m.sender q (a (Sender i)) e (h m refl).sender
 
-enclosed_home_of : (P : Pid → Place → Type 0) (a : Addresses) (i : MsgId) (k : ℕ) (q : Pid) (o : Option PlainLink) → ((l : PlainLink) → o ≡ Some l → P l.to (a (Enclosed i k))) → link_to o ≡ Some q → P q (a (Enclosed i k))
+enclosed_home_of : (P : Pid → Place → Type 0) (a : Addresses) (i : MsgId) (k : ℕ) (q : Pid) (o : Option PlainLink) → ((l : PlainLink) → o ≡ Some l → P l.to (a (Enclosed i k))) → link_target o ≡ Some q → P q (a (Enclosed i k))
 enclosed_home_of P a i k q None h e = cc
 enclosed_home_of P a i k q (Some l) h e = at_home_of P l.to q (a (Enclosed i k)) e (h l refl)
 
-enclosed_home : (P : Pid → Place → Type 0) (a : Addresses) (i : MsgId) (k : ℕ) (q : Pid) (o : Option PlainMessage) → ((m : PlainMessage) → o ≡ Some m → HomeMessage P a i m) → link_to (enclosed_of o k) ≡ Some q → P q (a (Enclosed i k))
+enclosed_home : (P : Pid → Place → Type 0) (a : Addresses) (i : MsgId) (k : ℕ) (q : Pid) (o : Option PlainMessage) → ((m : PlainMessage) → o ≡ Some m → HomeMessage P a i m) → link_target (enclosed_of o k) ≡ Some q → P q (a (Enclosed i k))
 enclosed_home P a i k q None h e = cc
 enclosed_home P a i k q (Some m) h e = enclosed_home_of P a i k q (slice_get (links_in m.what) k) (λ l f. (h m refl).enclosed k l f) e
 
-name_home : (P : Pid → Place → Type 0) (a : Addresses) (n : ℕ) (q : Pid) (o : Option NamedLink) → ((k : NamedLink) → o ≡ Some k → P k.link.to (a (Name n))) → link_to (name_link o) ≡ Some q → P q (a (Name n))
+name_home : (P : Pid → Place → Type 0) (a : Addresses) (n : ℕ) (q : Pid) (o : Option NamedLink) → ((k : NamedLink) → o ≡ Some k → P k.link.to (a (Name n))) → link_target (name_link o) ≡ Some q → P q (a (Name n))
 name_home P a n q None h e = cc
 name_home P a n q (Some k) h e = at_home_of P k.link.to q (a (Name n)) e (h k refl)
 
-answer_home : (P : Pid → Place → Type 0) (a : Addresses) (n : ℕ) (q : Pid) (o : Option Pending) → ((r : Pending) → o ≡ Some r → P r.answer.to (a (Answer n))) → link_to (answer_link o) ≡ Some q → P q (a (Answer n))
+answer_home : (P : Pid → Place → Type 0) (a : Addresses) (n : ℕ) (q : Pid) (o : Option Pending) → ((r : Pending) → o ≡ Some r → P r.answer.to (a (Answer n))) → link_target (answer_link o) ≡ Some q → P q (a (Answer n))
 answer_home P a n q None h e = cc
 answer_home P a n q (Some r) h e = at_home_of P r.answer.to q (a (Answer n)) e (h r refl)
 
@@ -112,15 +112,15 @@ at_home P s a rooted h numbers = record {
   rooted = rooted;
   pending = numbers;
   processes = λ p x alive. record {
-    slots = λ k l e. h (Slot p k) l.to (ap (λ (o : Option PlainProcess). link_to (slot_of o k)) alive ∙ ap link_to e);
+    slots = λ k l e. h (Slot p k) l.to (ap (λ (o : Option PlainProcess). link_target (slot_of o k)) alive ∙ ap link_target e);
     owner = λ q e. h (Owner p) q (ap owner_of alive ∙ e);
   };
   messages = λ i m there. record {
     receiver = h (Receiver i) m.to (ap to_of there);
     sender = h (Sender i) m.sender (ap sender_of there);
-    enclosed = λ k l e. h (Enclosed i k) l.to (ap (λ (o : Option PlainMessage). link_to (enclosed_of o k)) there ∙ ap link_to e);
+    enclosed = λ k l e. h (Enclosed i k) l.to (ap (λ (o : Option PlainMessage). link_target (enclosed_of o k)) there ∙ ap link_target e);
   };
   children = λ n q e. h (Child n) q e;
-  named = λ n k e. h (Name n) k.link.to (ap (λ (o : Option NamedLink). link_to (name_link o)) e);
-  answers = λ n r e. h (Answer n) r.answer.to (ap (λ (o : Option Pending). link_to (answer_link o)) e);
+  named = λ n k e. h (Name n) k.link.to (ap (λ (o : Option NamedLink). link_target (name_link o)) e);
+  answers = λ n r e. h (Answer n) r.answer.to (ap (λ (o : Option Pending). link_target (answer_link o)) e);
 }

@@ -40,7 +40,7 @@ pub use Rattle.dm_laws.proofs.Names.{PlainStatus, PlainWhat, Ready, Replies, Rep
 pub use Rattle.dm_laws.proofs.Names.{first_number, id_eq, id_of, in_bag, inl, inr, is_of_memory, is_some, life_at, manager, nat_le, option_map, pid_of, plain_link, processes_are_valid, reception, reg, start, starting_at, switchboard, when}
 pub use Rattle.dm_laws.proofs.Names.{with_process, with_sent, without_message, ⊤, ◌⊎◌}
 pub use Rattle.dm_laws.proofs.Runs.{after_step, start-sound}
-pub use Rattle.dm_laws.proofs.Servers.{ServerSends, ended-is}
+pub use Rattle.dm_laws.proofs.Servers.{ServerSends, why_ended-is}
 pub use Rattle.dm_laws.proofs.Services.{LandsSo, lands-is}
 pub use Rattle.dm_laws.proofs.Sound.{Sound, counts_process, not_server}
 pub use Rattle.dm_laws.proofs.Steps.{Completing, Nexts, Runs, alive-is, bind-is, completing, nexts, when-is}
@@ -51,10 +51,10 @@ pub use Rattle.dm_line.specs.Todo.{Next, Todo, all_of}
 pub use Rattle.dm_line.specs.declared.line.Line.{Line}
 pub use Rattle.dm_line.specs.declared.line.Load.{Load}
 pub use Rattle.dm_line.specs.declared.line.Stage.{Stage}
-pub use Rattle.dm_rule.specs.Addresses.{Addresses, Answer, Child, Enclosed, Gets, Holder, Name, Owner, Receiver, Sender, Slot, addresses_after, all_follow, answer_link, answers, belongs_to, board_finds, board_keeps, board_takes, child_from}
-pub use Rattle.dm_rule.specs.Addresses.{child_links, child_number, enclosed_from, encloses, fills, fills_by, first_addresses, first_gives, forwards, gets, given, gives, here, holder_eq, home_of, is_behind, is_pid, is_told_back, lands}
-pub use Rattle.dm_rule.specs.Addresses.{leads_to, link_to, links_at, made, manager_answers, manager_sends, manager_takes, manager_tells, name_link, nth_child, own_given, own_gives, owner_in, owner_of, place_in, place_known, place_named}
-pub use Rattle.dm_rule.specs.Addresses.{place_of_child, place_told, receives_links, receives_what, sends_what, serves_what, slot_after, slot_of, tells_back, unmoved, updated, updated_to}
+pub use Rattle.dm_rule.specs.Addresses.{Addresses, Answer, Child, Enclosed, Gets, Holder, Name, Owner, Receiver, Sender, Slot, acting_place, addresses_after, all_follow, answer_gets, answer_link, belongs_to, board_finds, board_gets}
+pub use Rattle.dm_rule.specs.Addresses.{board_keeps, boot_home, call_gets, child_from, child_links, child_number, enclosed_from, encloses, fills, fills_by, first_addresses, first_gives, forwards, gets, given, gives, holder_eq, is_behind}
+pub use Rattle.dm_rule.specs.Addresses.{is_pid, is_told_back, landing_gets, leads_to, link_target, links_at, manager_answers, manager_gets, manager_sends, manager_tells, name_link, nth_child, own_given, own_gives, owner_in, owner_of}
+pub use Rattle.dm_rule.specs.Addresses.{place_in, place_known, place_named, place_of_child, place_told, receives_links, receives_what, sends_what, serves_what, slot_after, slot_of, told_back_gets, unmoved, updated, updated_to}
 pub use Rattle.dm_rule.specs.Apart.{AllSpare, IsOthers, Spares}
 pub use Rattle.dm_rule.specs.Good.{next_step}
 pub use Rattle.dm_rule.specs.Homes.{Homes, are_for_home, are_home, ascends, enclosed_of, is_for_home, links_in, names, sender_of, to_of}
@@ -62,17 +62,17 @@ pub use Rattle.dm_rule.specs.Laws.{AreStill, IsStep, IsStill, LeadHomeAlways, Le
 pub use Rattle.dm_rule.specs.Migrating.{accepts, behind_count, chunks_of, ended_told, forwards_on, gives_piece, here_told, kernel_told, leaves, migrates, migrates_child, moves_to, pieces_of, process_told, sends_on, server_told, takes_block}
 pub use Rattle.dm_rule.specs.Migrating.{takes_chunk, to_kernel, updates}
 pub use Rattle.dm_rule.specs.Pairs.{HomeStands, PairStands}
-pub use Rattle.dm_rule.specs.Parts.{Again, Owns, Part, Routes, Says, Spelled, Transmits, behind, goes_out, lines_of, packet_line, puts, spelled, window}
-pub use Rattle.dm_rule.specs.Phases.{Alone, HasToken, IsIn, IsToken, Moves, Nowhere, Over, Phase, Rests, comes, is_apart, is_away, is_between, is_due, is_early, is_here, is_over, is_restart, knows, receiver_in, sender_in, token_in}
+pub use Rattle.dm_rule.specs.Parts.{Again, Owns, Part, Routes, Says, Spelled, Transmits, behind, goes_out, lines_of, packet_line, pair_window, puts, spelled}
+pub use Rattle.dm_rule.specs.Phases.{Alone, HasToken, IsIn, IsToken, Moves, Nowhere, Over, Phase, Rests, is_apart, is_away, is_between, is_due, is_early, is_here, is_over, is_restart, kind_comes, knows, receiver_in, sender_in, token_in}
 pub use Rattle.dm_rule.specs.Phases.{told_between}
 pub use Rattle.dm_rule.specs.Point.{Point, after, after_line, first_point, kernel_after, label_of, moved}
 pub use Rattle.dm_rule.specs.Quiet.{IsQuiet, has_mail, is_quiet, pair_is_quiet}
-pub use Rattle.dm_rule.specs.Rule.{Room, arrives, board_took, called, comes_to, completes, creates, drops, ended_handles, executes, first_awaited, first_runnable, fits, free_room, goes_round, group_of, has, has_room, headed, hears}
-pub use Rattle.dm_rule.specs.Rule.{here_handles, kept_from, kernel_handles, kernel_hears, less, let_go, manager_took, more, numbers_from, outcome, outstanding, process_handles, ran, receives, repeats, resends, routes, says, serves_status}
-pub use Rattle.dm_rule.specs.Rule.{stops, takes, takes_on, turns}
+pub use Rattle.dm_rule.specs.Rule.{Room, arrives, board_took, called, comes_to, completion_parts, creation_parts, drop_parts, ended_handles, executes, first_awaited, first_runnable, fits, free_room, goes_round, group_of, has, has_room}
+pub use Rattle.dm_rule.specs.Rule.{headed, hears, here_handles, kept_from, kernel_handles, kernel_hears, less, let_go, manager_parts, more, numbers_from, outcome, outstanding_count, process_handles, ran, reception_parts, repeats, resends}
+pub use Rattle.dm_rule.specs.Rule.{routes, says, serves_status, stops, takes_on, taking_parts, turns}
 pub use Rattle.dm_rule.specs.Spots.{Held, Inbox, Queue, Spot, StandsAsBag, StandsNowhere, StandsOnce, StandsOutside, StandsRight, Untaken, ids_at, standing, times, untaken}
 pub use Rattle.dm_rule.specs.Tells.{TellsRight}
-pub use Rattle.dm_rule.specs.Trails.{AddressesOn, IsOn, LeadsAlong, OwnOn, Stood, Trail, Trailed, Trails, TrailsAlways, Trodden, along, destination, first_trails, first_trodden, leads, leads_on, trails_after}
-pub use Rattle.dm_rule.specs.View.{About, Ended, Forward, Frozen, Here, Incoming, Known, NothingElse, Of, Pair, Sent, Told, Unknown, View, actor, after_head, after_label, after_packet, after_proto, after_put, after_stage, after_taken}
+pub use Rattle.dm_rule.specs.Trails.{AddressesOn, IsOn, LeadsAlong, OwnOn, StoodOnTrail, Trail, Trailed, Trails, TrailsAlways, Trodden, along, destination, first_trails, first_trodden, leads, leads_on, trails_after}
+pub use Rattle.dm_rule.specs.View.{About, Ended, Forward, Frozen, Here, Incoming, Known, NothingElse, Of, Pair, SentLoad, Told, Unknown, View, actor, after_head, after_label, after_packet, after_proto, after_put, after_stage, after_taken}
 pub use Rattle.dm_rule.specs.View.{asks_on, at_least, begins, dropped_for, ended, first_view, follows_up, forward_about, forwarded_for, front_of, front_told, gone_after, gone_to, handled, handled_first, held_for, is_kernels, kills, knowing}
 pub use Rattle.dm_rule.specs.View.{known_at, marked, marked_at, oldest, own_id, queued_for, receiver_of, released, ring_at, routed_on, served_told, taken_id, target_of, view_after, with_pair, with_ring, without_first}

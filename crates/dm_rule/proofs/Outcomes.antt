@@ -35,7 +35,7 @@ by_turns P b o m (i ∷ is) ps box h e = by_front P b o m i is (o.kernel.bag i) 
 pub by_outcome : (P : Step → List Part → Type 0) (b : Boot) (o : Point) (d : Step) (ps : List Part) → Outcomes P b o → rule.outcome b o d ≡ Some ps → P d ps
 by_outcome P b o (Step.Turn m) ps h e = by_turns P b o m (o.view.inbox m) ps refl h e
 by_outcome P b o (Step.Tick m) ps h e =
-    let qs = Says (Line.Resent m (rule.outstanding o.view m o.kernel.machines)) ∷ rule.resends o.view m o.kernel.machines in
+    let qs = Says (Line.Resent m (rule.outstanding_count o.view m o.kernel.machines)) ∷ rule.resends o.view m o.kernel.machines in
     given (P (Step.Tick m)) qs ps (h.ticks m qs (tt, resends_net o.view m o.kernel.machines)) e
 by_outcome P b o (Step.Deliver a c k) ps h e =
     let s = slice_get (o.view.pair a c).wire k in

@@ -6,7 +6,7 @@ pub mod Migrating
 pub mod Turns
 pub mod Comes
 use Rattle.dm_rule.proofs.Names.{◌≡◌, ℕ, ◌≤◌, ◌==◌, ◌&&◌, Bool, true, false, List, [], ◌∷◌, refl, ap, ◌∙◌, sym, subst, arith, ◌≢◌, slice_get, Some, false≢true, nat_tests, Boot, bind, Step, Line, at_pair, View, Pair, first_view, marked}
-use Rattle.dm_rule.proofs.Names.{Point, after_line, first_point, Part, Says, Spelled, spelled, outstanding, resends, arrives, outcome, headed, group_of, PairStands, HomeStands, IsStep, Leads, PairsStandAlways, migrates, Pid}
+use Rattle.dm_rule.proofs.Names.{Point, after_line, first_point, Part, Says, Spelled, spelled, outstanding_count, resends, arrives, outcome, headed, group_of, PairStands, HomeStands, IsStep, Leads, PairsStandAlways, migrates, Pid}
 use Rattle.dm_rule.proofs.Pairs.Stand.{LoadStands, WireStands-at, set_same, set_other}
 use Rattle.dm_rule.proofs.Pairs.Moves.{Paired, marked_goes}
 use Rattle.dm_rule.proofs.Pairs.Lines.{bind-is, line_view, AllFit, keeps}
@@ -62,8 +62,8 @@ turn_keeps b pt m w g h =
 tick_keeps : (b : Boot) (pt : Point) (m : ℕ) (w : Spelled) → Group b pt (Step.Tick m) w → Pairs pt.view → Pairs w.point.view
 tick_keeps b pt m w g h =
     let is : g.begun.view.pair ≡ pt.view.pair = ap (λ (v : View). v.pair) (line_view pt g.begun (Line.Head (Step.Tick m)) g.begins) in
-    let parts : Says (Line.Resent m (outstanding pt.view m pt.kernel.machines)) ∷ resends pt.view m pt.kernel.machines ≡ g.parts = let f = g.follows in cc in
-    let fit : AllFit pt.view.pair (Says (Line.Resent m (outstanding pt.view m pt.kernel.machines)) ∷ resends pt.view m pt.kernel.machines) =
+    let parts : Says (Line.Resent m (outstanding_count pt.view m pt.kernel.machines)) ∷ resends pt.view m pt.kernel.machines ≡ g.parts = let f = g.follows in cc in
+    let fit : AllFit pt.view.pair (Says (Line.Resent m (outstanding_count pt.view m pt.kernel.machines)) ∷ resends pt.view m pt.kernel.machines) =
     (refl, resends_fit pt.view m pt.kernel.machines (λ n. acked_out_by pt.view m n (m == n) refl h)) in
     let fits : AllFit g.begun.view.pair g.parts = subst (λ (f : ℕ → ℕ → Pair). AllFit f g.parts) (sym is) (subst (AllFit pt.view.pair) parts fit) in
     let k : Pairs g.rest.point.view = keeps g.parts g.begun g.rest fits (subst Paired (sym is) h) g.on in

@@ -1,8 +1,8 @@
 -- A turn that serves a process, or handles a message of the bag: what comes of it, row by row. Whatever holds of the parts of each row holds of what comes of the turn.
 use Rattle.dm_rule.proofs.Names.{◌≡◌, ℕ, ◌+◌, ◌==◌, ◌||◌, Bool, true, false, List, [], ◌∷◌, refl, ap, ◌∙◌, subst, length, if◌then◌else◌, slice_get, Option, None, Some, Pid, pid_of, pid_eq, MsgId, MessageKind, Label, Reply, Why, plain_kind}
 use Rattle.dm_rule.proofs.Names.{PlainMessage, PlainWhat, instruction, BootImage, Boot, first_number, switchboard, manager, bind, PlainProcess, PlainStatus, Ready, Waiting, Moving, answer_id, machine_of, with_machine, Line, Known, Unknown}
-use Rattle.dm_rule.proofs.Names.{Here, Frozen, Incoming, Forward, Ended, Addresses, Sender, is_told_back, Point, Part, Says, Routes, Again, Owns, forwards_on, Room, says, drops, called, stops, executes, ran, completes, receives}
-use Rattle.dm_rule.proofs.Names.{first_awaited, serves_status, goes_round, has_room, free_room, creates, kernel_handles, routes, board_took, manager_took, here_handles, ended_handles, process_handles, bind-is}
+use Rattle.dm_rule.proofs.Names.{Here, Frozen, Incoming, Forward, Ended, Addresses, Sender, is_told_back, Point, Part, Says, Routes, Again, Owns, forwards_on, Room, says, drop_parts, called, stops, executes, ran, completion_parts}
+use Rattle.dm_rule.proofs.Names.{reception_parts, first_awaited, serves_status, goes_round, has_room, free_room, creation_parts, kernel_handles, routes, board_took, manager_parts, here_handles, ended_handles, process_handles, bind-is}
 use Rattle.dm_onekernel.specs.Calls as calls
 use Rattle.dm_onekernel.specs.Pieces as pieces
 use Rattle.dm_onekernel.specs.Receiving as receiving
@@ -18,7 +18,7 @@ pub record Stops (Q : List Part → Type 0) (p : Pid) (queue : List MsgId) : Typ
   pub sends : (id : MsgId) → Q (says (Label.Send p id) ∷ Routes id ∷ [])
   pub waits : Q (says (Label.Wait p) ∷ [])
   pub outputs : (word : ℕ) → Q (says (Label.Out p word) ∷ [])
-  pub ends : (y : Why) → Q (says (Label.End p y) ∷ drops queue)
+  pub ends : (y : Why) → Q (says (Label.End p y) ∷ drop_parts queue)
 
 -- it is served: it runs and stops, takes a message of its queue that it waits for, or is refused it
 pub record Serves (P : List Part → Type 0) (o : Point) (m : ℕ) (p : Pid) : Type 1 where
@@ -36,20 +36,20 @@ by_called Q p n queue (calls.Waits x) h = h.waits
 by_called Q p n queue (calls.Outputs word x) h = h.outputs word
 by_called Q p n queue (calls.Ends because) h = h.ends because
 
-by_stops : (Q : List Part → Type 0) (p : Pid) (queue : List MsgId) (full : Bool) (o : Option kernel.Next) → Stops Q p queue → Q (if full then [] else stops p queue o)
+by_stops : (Q : List Part → Type 0) (p : Pid) (queue : List MsgId) (full : Bool) (o : Option kernel.Trap) → Stops Q p queue → Q (if full then [] else stops p queue o)
 by_stops Q p queue true o h = h.over
 by_stops Q p queue false None h = h.over
 by_stops Q p queue false (Some (kernel.Calls n c)) h = by_called Q p n queue c h
 by_stops Q p queue false (Some (kernel.Faults fault)) h = h.ends (Why.Fault fault)
 
-by_receives : (P : List Part → Type 0) (o : Point) (m mask : ℕ) (p : Pid) (x : PlainProcess) (i : Option MsgId) (ps : List Part) → first_awaited o.kernel mask (o.view.queue m p) ≡ i → Serves P o m p → receives o.kernel p x i ≡ Some ps → P ps
+by_receives : (P : List Part → Type 0) (o : Point) (m mask : ℕ) (p : Pid) (x : PlainProcess) (i : Option MsgId) (ps : List Part) → first_awaited o.kernel mask (o.view.queue m p) ≡ i → Serves P o m p → reception_parts o.kernel p x i ≡ Some ps → P ps
 by_receives P o m mask p x None ps is h e = cc
 by_receives P o m mask p x (Some id) ps is h e =
-    let (k, there, more) = bind-is (o.kernel.bag id) (λ k. bind (receiving.completes_with p x k) (λ c. Some (completes p id c))) ps e in
-    let (c, done, last) = bind-is (receiving.completes_with p x k) (λ c. Some (completes p id c)) ps more in
-    given P (completes p id c) ps (by_completes c) last
+    let (k, there, more) = bind-is (o.kernel.bag id) (λ k. bind (receiving.completes_with p x k) (λ c. Some (completion_parts p id c))) ps e in
+    let (c, done, last) = bind-is (receiving.completes_with p x k) (λ c. Some (completion_parts p id c)) ps more in
+    given P (completion_parts p id c) ps (by_completes c) last
   where
-    by_completes : (c : receiving.Completed) → P (completes p id c)
+    by_completes : (c : receiving.Completed) → P (completion_parts p id c)
     by_completes (receiving.Receives y) = h.takes mask id is
     by_completes (receiving.Refuses reply y) = h.refuses id reply
 
@@ -89,14 +89,14 @@ pub record Handles (P : List Part → Type 0) (o : Point) (m : ℕ) (id : MsgId)
   pub queued : To o m msg Here → plain_kind msg.what ≡ MessageKind.User → P (Says (Line.Queued id) ∷ [])
   pub served : To o m msg Here → is_kill (plain_kind msg.what) ≡ false → P (says (Label.Served id) ∷ [])
   pub answers : To o m msg Here → is_kill (plain_kind msg.what) ≡ false → (i : MsgId) → P (says (Label.Served id) ∷ Routes i ∷ [])
-  pub kills : To o m msg Here → is_kill (plain_kind msg.what) ≡ true → P (says (Label.Served id) ∷ drops (o.view.queue m msg.to))
+  pub kills : To o m msg Here → is_kill (plain_kind msg.what) ≡ true → P (says (Label.Served id) ∷ drop_parts (o.view.queue m msg.to))
   pub gone : To o m msg Ended → P (says (Label.Gone id) ∷ Routes (answer_id id) ∷ [])
   pub dropped : To o m msg Ended → P (says (Label.Dropped id) ∷ [])
   pub leaving : (to : ℕ) → To o m msg (Frozen to) → P (Says (Line.Held id) ∷ [])
   pub coming : (from : ℕ) → To o m msg (Incoming from) → P (Says (Line.Held id) ∷ [])
   pub forwarded : (to moves : ℕ) → To o m msg (Forward to moves) → P (forwards_on o.addresses id (plain_kind msg.what) msg.sender to)
 
-by_creates : (P : List Part → Type 0) (o : Point) (m : ℕ) (id : MsgId) (msg : PlainMessage) (r : Room) (i : Option BootImage) (ps : List Part) → IsFixed msg.to → Handles P o m id msg → creates o m id r i ≡ Some ps → P ps
+by_creates : (P : List Part → Type 0) (o : Point) (m : ℕ) (id : MsgId) (msg : PlainMessage) (r : Room) (i : Option BootImage) (ps : List Part) → IsFixed msg.to → Handles P o m id msg → creation_parts o m id r i ≡ Some ps → P ps
 by_creates P o m id msg r None ps fixed h e = cc
 by_creates P o m id msg r (Some i) ps fixed h e =
     let yes = says (Label.Created id (pid_of m (first_number + o.kernel.made m))) in
@@ -111,15 +111,15 @@ by_asked : (P : List Part → Type 0) (b : Boot) (o : Point) (m : ℕ) (id : Msg
 by_asked P b o m id msg (PlainWhat.Create image links) ps fixed h e = by_creates P o m id msg (free_room b o m) (slice_get b.images image) ps fixed h e
 by_asked P b o m id msg _ ps fixed h e = cc
 
-by_board : (P : List Part → Type 0) (id : MsgId) (t : Option board.Took) (ps : List Part) → ((sent : Option PlainMessage) → P (says (Label.Took id) ∷ routes sent)) → board_took id t ≡ Some ps → P ps
+by_board : (P : List Part → Type 0) (id : MsgId) (t : Option board.BoardTook) (ps : List Part) → ((sent : Option PlainMessage) → P (says (Label.Took id) ∷ routes sent)) → board_took id t ≡ Some ps → P ps
 by_board P id None ps h e = cc
 by_board P id (Some t) ps h e = given P (says (Label.Took id) ∷ routes t.answer) ps (h t.answer) e
 
-by_manager : (P : List Part → Type 0) (id : MsgId) (t : Option manage.Took) (ps : List Part) → ((sent : Option PlainMessage) → P (says (Label.Took id) ∷ routes sent)) → manager_took id t ≡ Some ps → P ps
+by_manager : (P : List Part → Type 0) (id : MsgId) (t : Option manage.ManagerTook) (ps : List Part) → ((sent : Option PlainMessage) → P (says (Label.Took id) ∷ routes sent)) → manager_parts id t ≡ Some ps → P ps
 by_manager P id None ps h e = cc
 by_manager P id (Some t) ps h e = given P (says (Label.Took id) ∷ routes t.message) ps (h t.message) e
 
-by_lands : (P : List Part → Type 0) (id : MsgId) (l : Option pieces.Landed) (ps : List Part) → P (says (Label.Served id) ∷ []) → ((i : MsgId) → P (says (Label.Served id) ∷ Routes i ∷ [])) → rule.lands id l ≡ Some ps → P ps
+by_lands : (P : List Part → Type 0) (id : MsgId) (l : Option pieces.Landed) (ps : List Part) → P (says (Label.Served id) ∷ []) → ((i : MsgId) → P (says (Label.Served id) ∷ Routes i ∷ [])) → rule.landing_parts id l ≡ Some ps → P ps
 by_lands P id None ps done next e = cc
 by_lands P id (Some (pieces.Next request x)) ps done next e = given P (says (Label.Served id) ∷ Routes request.id ∷ []) ps (next request.id) e
 by_lands P id (Some (pieces.Done reply x)) ps done next e = given P (says (Label.Served id) ∷ []) ps done e
@@ -128,7 +128,7 @@ by_here : (P : List Part → Type 0) (o : Point) (m : ℕ) (id : MsgId) (msg : P
 by_here P o m id msg x (PlainWhat.User code channel body links) ps is to h e = given P (Says (Line.Queued id) ∷ []) ps (h.queued to (ap plain_kind is)) e
 by_here P o m id msg x PlainWhat.Stop ps is to h e = given P (says (Label.Served id) ∷ []) ps (h.served to (ap (λ w. is_kill (plain_kind w)) is)) e
 by_here P o m id msg x PlainWhat.Resume ps is to h e = given P (says (Label.Served id) ∷ []) ps (h.served to (ap (λ w. is_kill (plain_kind w)) is)) e
-by_here P o m id msg x PlainWhat.Kill ps is to h e = given P (says (Label.Served id) ∷ drops (o.view.queue m msg.to)) ps (h.kills to (ap (λ w. is_kill (plain_kind w)) is)) e
+by_here P o m id msg x PlainWhat.Kill ps is to h e = given P (says (Label.Served id) ∷ drop_parts (o.view.queue m msg.to)) ps (h.kills to (ap (λ w. is_kill (plain_kind w)) is)) e
 by_here P o m id msg x (PlainWhat.Read base len) ps is to h e = given P (says (Label.Served id) ∷ Routes (answer_id id) ∷ []) ps (h.answers to (ap (λ w. is_kill (plain_kind w)) is) (answer_id id)) e
 by_here P o m id msg x (PlainWhat.Write base bytes) ps is to h e = given P (says (Label.Served id) ∷ Routes (answer_id id) ∷ []) ps (h.answers to (ap (λ w. is_kill (plain_kind w)) is) (answer_id id)) e
 by_here P o m id msg x (PlainWhat.Block bytes) ps is to h e = let mild = ap (λ w. is_kill (plain_kind w)) is in by_lands P id (pieces.lands msg.to x msg x.status) ps (h.served to mild) (h.answers to mild) e
@@ -161,13 +161,13 @@ or_either true c d e = refl
 or_either false c d e = e
 
 by_receiver : (P : List Part → Type 0) (b : Boot) (o : Point) (m : ℕ) (id : MsgId) (msg : PlainMessage) (c d g : Bool) (ps : List Part) → msg.to.num == 0 ≡ c → pid_eq msg.to switchboard ≡ d → pid_eq msg.to manager ≡ g → Handles P o m id msg
-    → (if c then kernel_handles b o m id msg.what else if d then board_took id (board.takes o.kernel.switchboard msg msg.what)
-    else if g then manager_took id (manage.takes o.kernel.manager o.kernel.machines (length o.kernel.images) msg msg.what) else process_handles o m id msg (o.view.known m msg.to)) ≡ Some ps → P ps
+    → (if c then kernel_handles b o m id msg.what else if d then board_took id (board.board_takes o.kernel.switchboard msg msg.what)
+    else if g then manager_parts id (manage.manager_takes o.kernel.manager o.kernel.machines (length o.kernel.images) msg msg.what) else process_handles o m id msg (o.view.known m msg.to)) ≡ Some ps → P ps
 by_receiver P b o m id msg true d g ps zero_ one two h e = by_asked P b o m id msg msg.what ps (ap (λ (x : Bool). x || (pid_eq msg.to switchboard || pid_eq msg.to manager)) zero_) h e
 by_receiver P b o m id msg false true g ps zero_ one two h e =
-    by_board P id (board.takes o.kernel.switchboard msg msg.what) ps (h.took (or_either (msg.to.num == 0) (pid_eq msg.to switchboard) (pid_eq msg.to manager) (ap (λ (x : Bool). x || pid_eq msg.to manager) one))) e
+    by_board P id (board.board_takes o.kernel.switchboard msg msg.what) ps (h.took (or_either (msg.to.num == 0) (pid_eq msg.to switchboard) (pid_eq msg.to manager) (ap (λ (x : Bool). x || pid_eq msg.to manager) one))) e
 by_receiver P b o m id msg false false true ps zero_ one two h e =
-    by_manager P id (manage.takes o.kernel.manager o.kernel.machines (length o.kernel.images) msg msg.what) ps
+    by_manager P id (manage.manager_takes o.kernel.manager o.kernel.machines (length o.kernel.images) msg msg.what) ps
     (h.took (or_either (msg.to.num == 0) (pid_eq msg.to switchboard) (pid_eq msg.to manager) (ap (λ (x : Bool). x || pid_eq msg.to manager) one ∙ two))) e
 by_receiver P b o m id msg false false false ps zero_ one two h e =
     by_process P o m id msg (o.view.known m msg.to) ps (record { known = refl; process = ap (λ (x : Bool). x || pid_eq msg.to manager) one ∙ two }) h e
@@ -190,9 +190,9 @@ pub record Loose (L : List Part → Type 0) : Type 0 where
   pub label : (l : Label) (ps : List Part) → L ps → L (says l ∷ ps)
   pub routes : (i : MsgId) (ps : List Part) → L ps → L (Routes i ∷ ps)
 
-pub loose_drops : (L : List Part → Type 0) → Loose L → (ids : List MsgId) → L (drops ids)
+pub loose_drops : (L : List Part → Type 0) → Loose L → (ids : List MsgId) → L (drop_parts ids)
 loose_drops L c [] = c.none
-loose_drops L c (i ∷ is) = c.label (Label.Dropped i) (drops is) (loose_drops L c is)
+loose_drops L c (i ∷ is) = c.label (Label.Dropped i) (drop_parts is) (loose_drops L c is)
 
 pub loose_sent : (L : List Part → Type 0) → Loose L → (sent : Option PlainMessage) → L (routes sent)
 loose_sent L c None = c.none
@@ -205,7 +205,7 @@ loose_stops L c p queue = record {
   sends = λ id. c.label (Label.Send p id) (Routes id ∷ []) (c.routes id [] c.none);
   waits = c.label (Label.Wait p) [] c.none;
   outputs = λ word. c.label (Label.Out p word) [] c.none;
-  ends = λ y. c.label (Label.End p y) (drops queue) (loose_drops L c queue);
+  ends = λ y. c.label (Label.End p y) (drop_parts queue) (loose_drops L c queue);
 }
 
 pub loose_round : (L : List Part → Type 0) → Loose L → (b : Boot) (o : Point) (m : ℕ) (q : Option Pid) (ps : List Part) → L (Says (Line.Idle m) ∷ []) → goes_round b o m q ≡ Some ps → L ps
@@ -228,7 +228,7 @@ loose_handles P L c up b o m id msg ps queued held forwarded =
       queued = λ to user. queued to;
       served = λ to mild. one (Label.Served id);
       answers = λ to mild i. routed (Label.Served id) i;
-      kills = λ to kills. up (says (Label.Served id) ∷ drops (o.view.queue m msg.to)) (c.label (Label.Served id) (drops (o.view.queue m msg.to)) (loose_drops L c (o.view.queue m msg.to)));
+      kills = λ to kills. up (says (Label.Served id) ∷ drop_parts (o.view.queue m msg.to)) (c.label (Label.Served id) (drop_parts (o.view.queue m msg.to)) (loose_drops L c (o.view.queue m msg.to)));
       gone = λ to. routed (Label.Gone id) (answer_id id);
       dropped = λ to. one (Label.Dropped id);
       leaving = λ n to. held;

@@ -285,7 +285,7 @@ net_sayable _ h = absurd h.0
 pub outcome_sayable : (b : Boot) (pt : Point) (d : Step) (ps : List Part) → outcome b pt d ≡ Some ps → AllSayable ps
 outcome_sayable b pt (Step.Turn m) ps is = fit_sayable pt.view.pair ps (turns_fit pt.view.pair b pt m (pt.view.inbox m) ps is)
 outcome_sayable b pt (Step.Tick m) ps is =
-    let qs = Says (Line.Resent m (rule.outstanding pt.view m pt.kernel.machines)) ∷ rule.resends pt.view m pt.kernel.machines in
+    let qs = Says (Line.Resent m (rule.outstanding_count pt.view m pt.kernel.machines)) ∷ rule.resends pt.view m pt.kernel.machines in
     let f : qs ≡ ps = cc in
     subst AllSayable f (refl, net_sayable (rule.resends pt.view m pt.kernel.machines) (resends_net pt.view m pt.kernel.machines))
 outcome_sayable b pt (Step.Deliver a c k) ps is =

@@ -1,7 +1,7 @@
 -- Each turn, delivery and tick keeps that each message stands once.
 use Rattle.dm_rule.proofs.Names.{◌≡◌, ◌≢◌, ℕ, ◌≤◌, ◌==◌, ◌&&◌, Bool, true, false, List, [], ◌∷◌, refl, ap, ◌∙◌, sym, subst, arith, inl, inr, if◌then◌else◌, Option, None, Some, cases_Bool, false≢true, nat_tests, Pid, pid_eq, MsgId}
 use Rattle.dm_rule.proofs.Names.{MessageKind, Line, id_eq, Label, bind, OneKernel, at_machine, at_record, without_front, View, Told, view_after, handled, receiver_of, Point, moved, Spelled, spelled, Spot, Queue, Inbox, times, ids_at}
-use Rattle.dm_rule.proofs.Names.{standing, pid_eq-is, pid_eq-same, id_eq-same, bind-is, is_kernels, drops}
+use Rattle.dm_rule.proofs.Names.{standing, pid_eq-is, pid_eq-same, id_eq-same, bind-is, is_kernels, drop_parts}
 use Rattle.dm_onekernel.specs.Step as kernel
 use Rattle.dm_rule.specs.View as view
 use Rattle.dm_rule.proofs.Standing.{StandsAsBag-elsewhere}
@@ -124,7 +124,7 @@ queue_front : (pt : Point) (s : OneKernel) (j : MsgId) (js : List MsgId) (p : Pi
 queue_front pt s j js p h front is =
     let v = pt.view in
     let one : 1 ≤ times j (v.queue v.acting p) = (let a : times j (v.queue v.acting p) ≡ times j (j ∷ js) = ap (times j) front in let b : one_of j j ≡ 1 = ap (λ (c : Bool). if c then 1 else 0) (id_eq-same j) in omega (arith, a, b)) in
-    let (x, there, rest) = bind-is (pt.kernel.bag j) (λ m. bind (kernel.ended (pt.kernel.processes m.to)) (kernel.drops pt.kernel j m)) s is in
+    let (x, there, rest) = bind-is (pt.kernel.bag j) (λ m. bind (kernel.why_ended (pt.kernel.processes m.to)) (kernel.drops pt.kernel j m)) s is in
     let letter : letters h.own pt.kernel.bag j ≡ Some x.to = letter_of h.r h.e h.own pt.kernel j x there h.sound in
     let mine : x.to ≡ p = h.stands.mine v.acting p j x.to one letter in
     let told : receiver_of (v.told j) ≡ Some p = h.stands.told j x.to letter ∙ ap Some mine in
@@ -155,15 +155,15 @@ queue_told : (pt : Point) (j : MsgId) (js : List MsgId) (p : Pid) (s : OneKernel
 queue_told pt j js p s h front is =
     let v = pt.view in
     let one : 1 ≤ times j (v.queue v.acting p) = (let a : times j (v.queue v.acting p) ≡ times j (j ∷ js) = ap (times j) front in let b : one_of j j ≡ 1 = ap (λ (c : Bool). if c then 1 else 0) (id_eq-same j) in omega (arith, a, b)) in
-    let (x, there, rest) = bind-is (pt.kernel.bag j) (λ m. bind (kernel.ended (pt.kernel.processes m.to)) (kernel.drops pt.kernel j m)) s is in
+    let (x, there, rest) = bind-is (pt.kernel.bag j) (λ m. bind (kernel.why_ended (pt.kernel.processes m.to)) (kernel.drops pt.kernel j m)) s is in
     let letter : letters h.own pt.kernel.bag j ≡ Some x.to = letter_of h.r h.e h.own pt.kernel j x there h.sound in
     h.stands.told j x.to letter ∙ ap Some (h.stands.mine v.acting p j x.to one letter)
 
 -- the whole queue is dropped
-pub all_dropped : (js : List MsgId) (pt : Point) (p : Pid) (w : Spelled) → State None pt → pt.view.queue pt.view.acting p ≡ js → spelled pt (drops js) ≡ Some w → State None w.point
+pub all_dropped : (js : List MsgId) (pt : Point) (p : Pid) (w : Spelled) → State None pt → pt.view.queue pt.view.acting p ≡ js → spelled pt (drop_parts js) ≡ Some w → State None w.point
 all_dropped [] pt p w h front e = State-at None pt w.point (said pt w e) h
 all_dropped (j ∷ js) pt p w h front e =
-    let k = says_next pt (Line.Label (Label.Dropped j)) (drops js) w e in
+    let k = says_next pt (Line.Label (Label.Dropped j)) (drop_parts js) w e in
     let is : kernel.step pt.kernel (Label.Dropped j) ≡ Some k.s = k.is in
     let next = moved pt (Line.Label (Label.Dropped j)) k.s in
     let told = queue_told pt j js p k.s h front is in

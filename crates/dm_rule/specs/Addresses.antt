@@ -24,8 +24,8 @@ use Rattle.dm_rule.specs.Acts.{Act, act_of}
 use Rattle.dm_rule.specs.Acts as act
 use Rattle.dm_rule.specs.View.{View, Told, About, Known, Frozen, Forward}
 use Rattle.dm_rule.specs.View as view
-pub use Rattle.dm_rule.specs.Holders.{Holder, Slot, Owner, Receiver, Sender, Enclosed, Child, Name, Answer, Addresses, is_slot, is_owner, is_receiver, is_sender, is_enclosed, is_child, is_name, is_answer, holder_eq, Gets, gets, given, here, unmoved}
-pub use Rattle.dm_rule.specs.Given.{encloses, enclosed_from, requests, sends_what, sends_next, sends, fills, fills_by, made, slot_after, receives_links, receives_what, receives, answers, lands, serves_what, serves_alive, serves, child_links, creates_what, creates, place_named, board_finds, board_keeps, board_asks, board_takes, manager_controls, manager_tells, manager_sends, manager_answers, manager_takes, takes, gives}
+pub use Rattle.dm_rule.specs.Holders.{Holder, Slot, Owner, Receiver, Sender, Enclosed, Child, Name, Answer, Addresses, is_slot, is_owner, is_receiver, is_sender, is_enclosed, is_child, is_name_holder, is_answer_holder, holder_eq, Gets, gets, given, acting_place, unmoved}
+pub use Rattle.dm_rule.specs.Given.{encloses, enclosed_from, request_gets, sends_what, sends_next, send_gets, fills, fills_by, call_gets, slot_after, receives_links, receives_what, reception_gets, answer_gets, landing_gets, serves_what, serves_alive, service_gets, child_links, creates_what, creation_gets, place_named, board_finds, board_keeps, board_asks, board_gets, manager_controls, manager_tells, manager_sends, manager_answers, manager_gets, taking_gets, gives}
 
 -- a message that goes on, or that step 6 of a migration sends on, follows its receiver
 abbrev pub place_known : Known → ℕ → Place → Place
@@ -44,14 +44,14 @@ all_follow v a p [] = []
 all_follow v a p (i ∷ is) = follows v a i (Some p) ++ all_follow v a p is
 
 -- that update goes to where the message came from, as the next message of the acting machine's kernel
-abbrev pub tells_back : View → Addresses → MsgId → Bool → List Gets
-tells_back v a id true = gets (Receiver (view.own_id v)) (a (Sender id)) ∷ gets (Sender (view.own_id v)) (unmoved v.acting) ∷ []
-tells_back v a id false = []
+abbrev pub told_back_gets : View → Addresses → MsgId → Bool → List Gets
+told_back_gets v a id true = gets (Receiver (view.own_id v)) (a (Sender id)) ∷ gets (Sender (view.own_id v)) (unmoved v.acting) ∷ []
+told_back_gets v a id false = []
 
 -- a message goes on: it follows its receiver, and its sender may be told
 abbrev pub forwards : View → Addresses → MsgId → Option Told → List Gets
 forwards v a id None = []
-forwards v a id (Some t) = follows v a id (Some t.receiver) ++ tells_back v a id (is_told_back t.kind)
+forwards v a id (Some t) = follows v a id (Some t.receiver) ++ told_back_gets v a id (is_told_back t.kind)
 
 -- the number of a child of the manager, counted from n
 abbrev pub child_from : ℕ → Pid → List Pid → Option ℕ
@@ -104,9 +104,9 @@ belongs_to q (Name n) = pid_eq q switchboard
 belongs_to q (Answer n) = pid_eq q manager
 
 -- whom a link leads to, if there is one
-abbrev pub link_to : Option PlainLink → Option Pid
-link_to None = None
-link_to (Some l) = Some l.to
+abbrev pub link_target : Option PlainLink → Option Pid
+link_target None = None
+link_target (Some l) = Some l.to
 
 -- the link in a slot of a process
 abbrev pub slot_of : Option PlainProcess → ℕ → Option PlainLink
@@ -133,14 +133,14 @@ answer_link (Some r) = Some r.answer
 
 -- the process that a holder's address leads to, a row a holder; a message's addresses are updated on its way, not here
 abbrev pub leads_to : OneKernel → Holder → Option Pid
-leads_to s (Slot p k) = link_to (slot_of (kernel.alive (s.processes p)) k)
+leads_to s (Slot p k) = link_target (slot_of (kernel.alive (s.processes p)) k)
 leads_to s (Owner p) = owner_of (kernel.alive (s.processes p))
 leads_to s (Receiver id) = None
 leads_to s (Sender id) = None
 leads_to s (Enclosed id k) = None
 leads_to s (Child n) = manage.child_numbered s.manager.children n
-leads_to s (Name n) = link_to (name_link (slice_get s.switchboard.names n))
-leads_to s (Answer n) = link_to (answer_link (manage.pending_numbered n s.manager.pending))
+leads_to s (Name n) = link_target (name_link (slice_get s.switchboard.names n))
+leads_to s (Answer n) = link_target (answer_link (manage.pending_numbered n s.manager.pending))
 
 abbrev pub is_pid : Pid → Option Pid → Bool
 is_pid p None = false
@@ -182,9 +182,9 @@ abbrev pub links_at : List BootProcess → Pid → List Link
 links_at [] q = []
 links_at (p ∷ ps) q = if pid_eq p.pid q then p.links else links_at ps q
 
-abbrev pub home_of : Option BootProcess → ℕ
-home_of None = 0
-home_of (Some p) = p.pid.home
+abbrev pub boot_home : Option BootProcess → ℕ
+boot_home None = 0
+boot_home (Some p) = p.pid.home
 
 abbrev pub nth_child : List BootProcess → ℕ → Option BootProcess
 nth_child ps zero = None
@@ -197,6 +197,6 @@ first_addresses b (Owner p) = unmoved 0
 first_addresses b (Receiver id) = unmoved 0
 first_addresses b (Sender id) = unmoved 0
 first_addresses b (Enclosed id k) = unmoved 0
-first_addresses b (Child n) = unmoved (home_of (nth_child b.processes n))
+first_addresses b (Child n) = unmoved (boot_home (nth_child b.processes n))
 first_addresses b (Name n) = unmoved 0
 first_addresses b (Answer n) = unmoved 0

@@ -35,10 +35,10 @@ pub record Stood : Type 0 where
   pub standing : Standing
 
 -- how a machine that knows this of a process has it
-abbrev pub has : Known → Option Standing
-has Here = Some standing.Here
-has (Frozen to) = Some standing.Leaving
-has k = None
+abbrev pub standing_of : Known → Option Standing
+standing_of Here = Some standing.Here
+standing_of (Frozen to) = Some standing.Leaving
+standing_of k = None
 
 abbrev pub awaits : Known → Option Standing
 awaits (Incoming from) = Some standing.Arriving
@@ -55,7 +55,7 @@ first_with f v p (suc n) = or (first_with f v p n) (stood_at n (f (v.known n p))
 
 -- a process is here or leaves, or else it arrives
 abbrev pub stood : View → Pid → ℕ → Option Stood
-stood v p n = or (first_with has v p n) (first_with awaits v p n)
+stood v p n = or (first_with standing_of v p n) (first_with awaits v p n)
 
 -- what the lines say of a status: not which request is under way
 abbrev pub doing_of : PlainStatus → Doing
@@ -114,7 +114,7 @@ queue_at v p None = []
 queue_at v p (Some s) = list_line (end.Queue p) (v.queue s.at p)
 
 abbrev pub queue_lines : Point → List EndLine
-queue_lines pt = each_process pt (λ p. queue_at pt.view p (first_with has pt.view p pt.kernel.machines))
+queue_lines pt = each_process pt (λ p. queue_at pt.view p (first_with standing_of pt.view p pt.kernel.machines))
 
 abbrev pub holding_lines : Point → List EndLine
 holding_lines pt = each_machine (λ m. each_process pt (λ p. list_line (end.Holding m p) (pt.view.held m p))) pt.kernel.machines

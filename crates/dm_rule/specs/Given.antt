@@ -24,7 +24,7 @@ use Rattle.dm_onekernel.specs.Switchboard as board
 use Rattle.dm_onekernel.specs.Manager as manage
 use Rattle.dm_onekernel.specs.Step as kernel
 use Rattle.dm_rule.specs.View.{View}
-use Rattle.dm_rule.specs.Holders.{Slot, Owner, Receiver, Sender, Enclosed, Child, Name, Answer, Addresses, Gets, gets, here, unmoved}
+use Rattle.dm_rule.specs.Holders.{Slot, Owner, Receiver, Sender, Enclosed, Child, Name, Answer, Addresses, Gets, gets, acting_place, unmoved}
 
 -- what a message bears, a row a kind: a user's, with what it carries; a request to make a process, with the links that it is to
 -- begin with, or that it was made; a request for a piece of a data move, and an answer after which another may follow
@@ -63,29 +63,29 @@ enclosed_from a id k [] = []
 enclosed_from a id k (l ∷ ls) = a (Enclosed id k) ∷ enclosed_from a id (k + 1) ls
 
 -- a process asks for the first piece of a data move: over its link in slot r1, whose place is then the owner's too
-abbrev pub requests : View → Addresses → Pid → PlainProcess → MsgId → List Gets
-requests v a p x id =
-    gets (Receiver id) (a (Slot p (reg x.regs 1))) ∷ gets (Sender id) (here v p) ∷ gets (Owner p) (a (Slot p (reg x.regs 1))) ∷ []
+abbrev pub request_gets : View → Addresses → Pid → PlainProcess → MsgId → List Gets
+request_gets v a p x id =
+    gets (Receiver id) (a (Slot p (reg x.regs 1))) ∷ gets (Sender id) (acting_place v p) ∷ gets (Owner p) (a (Slot p (reg x.regs 1))) ∷ []
 
 -- a process sends: over its link in slot r1, from where it is; the links that it encloses keep their places; what isn't a user
 -- message begins a data move
 abbrev pub sends_burden : View → Addresses → Pid → PlainProcess → MsgId → Burden → List Gets
 sends_burden v a p x id (Letter code channel body links) =
-    gets (Receiver id) (a (Slot p (reg x.regs 1))) ∷ gets (Sender id) (here v p) ∷ encloses id 0 (map (λ k. a (Slot p k)) (calls.listed x))
-sends_burden v a p x id w = requests v a p x id
+    gets (Receiver id) (a (Slot p (reg x.regs 1))) ∷ gets (Sender id) (acting_place v p) ∷ encloses id 0 (map (λ k. a (Slot p k)) (calls.listed x))
+sends_burden v a p x id w = request_gets v a p x id
 
 abbrev pub sends_what : View → Addresses → Pid → PlainProcess → MsgId → PlainWhat → List Gets
 sends_what v a p x id w = sends_burden v a p x id (burden_of w)
 
 -- only a call that sends gives addresses
-abbrev pub sends_next : View → Addresses → Pid → PlainProcess → MsgId → Option kernel.Next → List Gets
+abbrev pub sends_next : View → Addresses → Pid → PlainProcess → MsgId → Option kernel.Trap → List Gets
 sends_next v a p x id (Some (kernel.Calls number (calls.Sends m y))) = sends_what v a p x id m.what
 sends_next v a p x id next = []
 
 -- the send of a process that executes
-abbrev pub sends : OneKernel → View → Addresses → Pid → MsgId → Option PlainProcess → List Gets
-sends s v a p id None = []
-sends s v a p id (Some x) = sends_next v a p x id (kernel.next s p)
+abbrev pub send_gets : OneKernel → View → Addresses → Pid → MsgId → Option PlainProcess → List Gets
+send_gets s v a p id None = []
+send_gets s v a p id (Some x) = sends_next v a p x id (kernel.next_trap s p)
 
 -- a link goes into a slot, where there is one, with this place
 abbrev pub fills : Pid → Option ℕ → Place → List Gets
@@ -94,7 +94,7 @@ fills p (Some slot) place = gets (Slot p slot) place ∷ []
 
 -- only the calls that make a link or copy one fill a slot; a row a call
 abbrev pub fills_by : View → Addresses → Pid → PlainProcess → calls.CallNumber → List Gets
-fills_by v a p x calls.Make = fills p (first_empty x.links) (here v p)
+fills_by v a p x calls.Make = fills p (first_empty x.links) (acting_place v p)
 fills_by v a p x calls.Copy = fills p (first_empty x.links) (a (Slot p (reg x.regs 1)))
 fills_by v a p x calls.Exit = []
 fills_by v a p x calls.Out = []
@@ -105,9 +105,9 @@ fills_by v a p x calls.Move = []
 fills_by v a p x calls.Unknown = []
 
 -- a call fills a slot only if it is not refused
-abbrev pub made : View → Addresses → Pid → ℕ → Reply → Option PlainProcess → List Gets
-made v a p n reply.Done (Some x) = fills_by v a p x (calls.call_number n)
-made v a p n c x = []
+abbrev pub call_gets : View → Addresses → Pid → ℕ → Reply → Option PlainProcess → List Gets
+call_gets v a p n reply.Done (Some x) = fills_by v a p x (calls.call_number n)
+call_gets v a p n c x = []
 
 -- the slots that so many links go into: the lowest empty ones, in order
 abbrev pub slot_after : List (Option PlainLink) → PlainLink → Option ℕ → List (Option PlainLink)
@@ -129,25 +129,25 @@ abbrev pub receives_what : Addresses → Pid → MsgId → PlainProcess → Plai
 receives_what a p id x w = receives_burden a p id x (burden_of w)
 
 -- a living process takes a message of the bag
-abbrev pub receives : Addresses → Pid → MsgId → Option PlainProcess → Option PlainMessage → List Gets
-receives a p id None m = []
-receives a p id (Some x) None = []
-receives a p id (Some x) (Some m) = receives_what a p id x m.what
+abbrev pub reception_gets : Addresses → Pid → MsgId → Option PlainProcess → Option PlainMessage → List Gets
+reception_gets a p id None m = []
+reception_gets a p id (Some x) None = []
+reception_gets a p id (Some x) (Some m) = receives_what a p id x m.what
 
 -- an answer goes back to where its request came from
-abbrev pub answers : Addresses → MsgId → Place → List Gets
-answers a id sender = gets (Receiver (answer_id id)) (a (Sender id)) ∷ gets (Sender (answer_id id)) sender ∷ []
+abbrev pub answer_gets : Addresses → MsgId → Place → List Gets
+answer_gets a id sender = gets (Receiver (answer_id id)) (a (Sender id)) ∷ gets (Sender (answer_id id)) sender ∷ []
 
 -- the next request of a data move goes to its owner
-abbrev pub lands : View → Addresses → Pid → Option pieces.Landed → List Gets
-lands v a p None = []
-lands v a p (Some (pieces.Done reply x)) = []
-lands v a p (Some (pieces.Next request x)) = gets (Receiver request.id) (a (Owner p)) ∷ gets (Sender request.id) (here v p) ∷ []
+abbrev pub landing_gets : View → Addresses → Pid → Option pieces.Landed → List Gets
+landing_gets v a p None = []
+landing_gets v a p (Some (pieces.Done reply x)) = []
+landing_gets v a p (Some (pieces.Next request x)) = gets (Receiver request.id) (a (Owner p)) ∷ gets (Sender request.id) (acting_place v p) ∷ []
 
 -- what the kernel of a process does with a message for it: an answer, or the next request of its data move
 abbrev pub serves_burden : View → Addresses → MsgId → PlainMessage → PlainProcess → Burden → List Gets
-serves_burden v a id m x Asking = answers a id (here v m.to)
-serves_burden v a id m x Landing = lands v a m.to (pieces.lands m.to x m x.status)
+serves_burden v a id m x Asking = answer_gets a id (acting_place v m.to)
+serves_burden v a id m x Landing = landing_gets v a m.to (pieces.lands m.to x m x.status)
 serves_burden v a id m x w = []
 
 abbrev pub serves_what : View → Addresses → MsgId → PlainMessage → PlainProcess → PlainWhat → List Gets
@@ -159,9 +159,9 @@ serves_alive v a id m None = []
 serves_alive v a id m (Some x) = serves_what v a id m x m.what
 
 -- a message of the bag is served
-abbrev pub serves : OneKernel → View → Addresses → MsgId → Option PlainMessage → List Gets
-serves s v a id None = []
-serves s v a id (Some m) = serves_alive v a id m (kernel.alive (s.processes m.to))
+abbrev pub service_gets : OneKernel → View → Addresses → MsgId → Option PlainMessage → List Gets
+service_gets s v a id None = []
+service_gets s v a id (Some m) = serves_alive v a id m (kernel.alive (s.processes m.to))
 
 -- a child begins with the links that its request brought
 abbrev pub child_links : Addresses → Pid → MsgId → ℕ → List PlainLink → List Gets
@@ -177,9 +177,9 @@ abbrev pub creates_what : Addresses → MsgId → Pid → PlainWhat → List Get
 creates_what a id child w = creates_burden a id child (burden_of w)
 
 -- a kernel makes a process, and answers
-abbrev pub creates : View → Addresses → MsgId → Pid → Option PlainMessage → List Gets
-creates v a id child None = []
-creates v a id child (Some m) = answers a id (unmoved v.acting) ++ creates_what a id child m.what
+abbrev pub creation_gets : View → Addresses → MsgId → Pid → Option PlainMessage → List Gets
+creation_gets v a id child None = []
+creation_gets v a id child (Some m) = answer_gets a id (unmoved v.acting) ++ creates_what a id child m.what
 
 -- the place of a name in the switchboard's list, counted from n
 abbrev pub place_named : List ℕ → List NamedLink → ℕ → ℕ
@@ -207,8 +207,8 @@ board_takes_burden s v a id (Letter code channel body (l ∷ ls)) =
     board_asks v a id (id_of switchboard s.switchboard.sent) s.switchboard.names body (board.asks s.switchboard.names body ls)
 board_takes_burden s v a id w = []
 
-abbrev pub board_takes : OneKernel → View → Addresses → MsgId → PlainWhat → List Gets
-board_takes s v a id w = board_takes_burden s v a id (burden_of w)
+abbrev pub board_gets : OneKernel → View → Addresses → MsgId → PlainWhat → List Gets
+board_gets s v a id w = board_takes_burden s v a id (burden_of w)
 
 -- the manager's message to a child goes over its link to it
 abbrev pub manager_controls : View → Addresses → ℕ → PlainMessage → List Gets
@@ -236,35 +236,35 @@ manager_answers v a n None = []
 manager_answers v a n (Some sent) = gets (Receiver sent.id) (a (Answer n)) ∷ gets (Sender sent.id) (unmoved v.acting) ∷ gets (Enclosed sent.id 0) (unmoved v.acting) ∷ []
 
 -- the manager takes a message: a user's, or a kernel's answer to a request of its own
-abbrev pub manager_takes_burden : OneKernel → View → Addresses → PlainMessage → Burden → Option manage.Took → List Gets
+abbrev pub manager_takes_burden : OneKernel → View → Addresses → PlainMessage → Burden → Option manage.ManagerTook → List Gets
 manager_takes_burden s v a m w None = []
 manager_takes_burden s v a m (Letter code channel body links) (Some t) = manager_sends v a m.id code t.message
 manager_takes_burden s v a m (Made child) (Some t) = gets (Child (length s.manager.children + 1)) (unmoved child.home) ∷ manager_answers v a m.id.n t.message
 manager_takes_burden s v a m w (Some t) = manager_answers v a m.id.n t.message
 
-abbrev pub manager_takes : OneKernel → View → Addresses → PlainMessage → PlainWhat → Option manage.Took → List Gets
-manager_takes s v a m w t = manager_takes_burden s v a m (burden_of w) t
+abbrev pub manager_gets : OneKernel → View → Addresses → PlainMessage → PlainWhat → Option manage.ManagerTook → List Gets
+manager_gets s v a m w t = manager_takes_burden s v a m (burden_of w) t
 
 -- a server takes a message of the bag
-abbrev pub takes : OneKernel → View → Addresses → MsgId → Option PlainMessage → List Gets
-takes s v a id None = []
-takes s v a id (Some m) =
-    if pid_eq m.to switchboard then board_takes s v a id m.what
-    else manager_takes s v a m m.what (manage.takes s.manager s.machines (length s.images) m m.what)
+abbrev pub taking_gets : OneKernel → View → Addresses → MsgId → Option PlainMessage → List Gets
+taking_gets s v a id None = []
+taking_gets s v a id (Some m) =
+    if pid_eq m.to switchboard then board_gets s v a id m.what
+    else manager_gets s v a m m.what (manage.manager_takes s.manager s.machines (length s.images) m m.what)
 
 -- what each label gives, a row a label
 abbrev pub gives : OneKernel → View → Addresses → Label → List Gets
 gives s v a (label.Ran p k) = []
-gives s v a (label.Call p n c) = made v a p n c (kernel.running s p)
-gives s v a (label.Send p id) = sends s v a p id (kernel.running s p)
+gives s v a (label.Call p n c) = call_gets v a p n c (kernel.running s p)
+gives s v a (label.Send p id) = send_gets s v a p id (kernel.running s p)
 gives s v a (label.Wait p) = []
 gives s v a (label.Out p w) = []
 gives s v a (label.End p y) = []
-gives s v a (label.Receive p id) = receives a p id (kernel.alive (s.processes p)) (s.bag id)
+gives s v a (label.Receive p id) = reception_gets a p id (kernel.alive (s.processes p)) (s.bag id)
 gives s v a (label.Refuse p id c) = []
 gives s v a (label.Dropped id) = []
-gives s v a (label.Served id) = serves s v a id (s.bag id)
-gives s v a (label.Gone id) = answers a id (record { at = v.acting; moves = (a (Receiver id)).moves })
-gives s v a (label.Took id) = takes s v a id (s.bag id)
-gives s v a (label.Created id child) = creates v a id child (s.bag id)
-gives s v a (label.NoSpace id f b) = answers a id (unmoved v.acting)
+gives s v a (label.Served id) = service_gets s v a id (s.bag id)
+gives s v a (label.Gone id) = answer_gets a id (record { at = v.acting; moves = (a (Receiver id)).moves })
+gives s v a (label.Took id) = taking_gets s v a id (s.bag id)
+gives s v a (label.Created id child) = creation_gets v a id child (s.bag id)
+gives s v a (label.NoSpace id f b) = answer_gets a id (unmoved v.acting)

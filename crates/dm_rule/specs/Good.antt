@@ -6,7 +6,7 @@ use Rattle.dm_message.specs.declared.MsgId.{MsgId}
 use Rattle.dm_onekernel.specs.declared.boot.Boot.{Boot}
 use Rattle.dm_line.specs.declared.line.Line.{Line}
 use Rattle.dm_line.specs.Todo.{Todo, Next, following}
-use Rattle.dm_rule.specs.View.{View, Sent}
+use Rattle.dm_rule.specs.View.{View, SentLoad}
 use Rattle.dm_rule.specs.Point.{Point}
 use Rattle.dm_rule.specs.Parts.{Spelled}
 use Rattle.dm_rule.specs.Quiet.{has_mail, is_quiet}
@@ -14,7 +14,7 @@ use Rattle.dm_rule.specs.Rule.{group_of}
 use Rattle.dm_rule.specs.Spots.{StandsRight, standing}
 
 -- the first packet of a wire that was never delivered, counted from k
-abbrev pub first_undelivered : ℕ → List Sent → Option ℕ
+abbrev pub first_undelivered : ℕ → List SentLoad → Option ℕ
 first_undelivered k [] = None
 first_undelivered k (s ∷ ss) = if s.delivered then first_undelivered (k + 1) ss else Some k
 

@@ -48,13 +48,13 @@ abbrev pub is_child : ℕ → Holder → Bool
 is_child m (Child n) = m == n
 is_child m h = false
 
-abbrev pub is_name : ℕ → Holder → Bool
-is_name m (Name n) = m == n
-is_name m h = false
+abbrev pub is_name_holder : ℕ → Holder → Bool
+is_name_holder m (Name n) = m == n
+is_name_holder m h = false
 
-abbrev pub is_answer : ℕ → Holder → Bool
-is_answer m (Answer n) = m == n
-is_answer m h = false
+abbrev pub is_answer_holder : ℕ → Holder → Bool
+is_answer_holder m (Answer n) = m == n
+is_answer_holder m h = false
 
 -- two holders are the same
 abbrev pub holder_eq : Holder → Holder → Bool
@@ -64,8 +64,8 @@ holder_eq (Receiver i) h = is_receiver i h
 holder_eq (Sender i) h = is_sender i h
 holder_eq (Enclosed i k) h = is_enclosed i k h
 holder_eq (Child m) h = is_child m h
-holder_eq (Name m) h = is_name m h
-holder_eq (Answer m) h = is_answer m h
+holder_eq (Name m) h = is_name_holder m h
+holder_eq (Answer m) h = is_answer_holder m h
 
 -- a holder gets an address
 pub record Gets : Type 0 where
@@ -82,8 +82,8 @@ given a [] h = a h
 given a (g ∷ gs) h = if holder_eq g.holder h then g.place else given a gs h
 
 -- the acting machine, as far as a process has moved
-abbrev pub here : View → Pid → Place
-here v p = record { at = v.acting; moves = v.moves p }
+abbrev pub acting_place : View → Pid → Place
+acting_place v p = record { at = v.acting; moves = v.moves p }
 
 -- a place at home, where nothing has moved yet
 abbrev pub unmoved : ℕ → Place

@@ -13,7 +13,7 @@ use Rattle.dm_onekernel.specs.Manager as manage
 use Rattle.dm_onekernel.specs.Step as kernel
 use Rattle.dm_rule.specs.Point.{Point}
 use Rattle.dm_rule.specs.Spots.{untaken}
-use Rattle.dm_rule.specs.Addresses.{Holder, Slot, Owner, Receiver, Sender, Enclosed, Child, Name, Answer, unmoved, link_to, slot_of, owner_of, name_link, answer_link}
+use Rattle.dm_rule.specs.Addresses.{Holder, Slot, Owner, Receiver, Sender, Enclosed, Child, Name, Answer, unmoved, link_target, slot_of, owner_of, name_link, answer_link}
 
 -- the links of a message
 abbrev pub links_in : PlainWhat → List PlainLink
@@ -46,14 +46,14 @@ enclosed_of (Some m) k = slice_get (links_in m.what) k
 
 -- whom a holder's address is of
 abbrev pub names : OneKernel → Holder → Option Pid
-names s (Slot p k) = link_to (slot_of (kernel.alive (s.processes p)) k)
+names s (Slot p k) = link_target (slot_of (kernel.alive (s.processes p)) k)
 names s (Owner p) = owner_of (kernel.alive (s.processes p))
 names s (Receiver id) = to_of (s.bag id)
 names s (Sender id) = sender_of (s.bag id)
-names s (Enclosed id k) = link_to (enclosed_of (s.bag id) k)
+names s (Enclosed id k) = link_target (enclosed_of (s.bag id) k)
 names s (Child n) = manage.child_numbered s.manager.children n
-names s (Name n) = link_to (name_link (slice_get s.switchboard.names n))
-names s (Answer n) = link_to (answer_link (manage.pending_numbered n s.manager.pending))
+names s (Name n) = link_target (name_link (slice_get s.switchboard.names n))
+names s (Answer n) = link_target (answer_link (manage.pending_numbered n s.manager.pending))
 
 -- each process of these has this home
 abbrev pub are_home : ℕ → List Pid → Bool

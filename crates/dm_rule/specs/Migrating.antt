@@ -110,22 +110,22 @@ abbrev pub slots_from : Pid → ℕ → List (Option PlainLink) → List Holder
 slots_from q k [] = []
 slots_from q k (l ∷ ls) = Slot q k ∷ slots_from q (k + 1) ls
 
-abbrev pub slots_in : Pid → Option PlainProcess → List Holder
-slots_in q None = []
-slots_in q (Some x) = slots_from q 0 x.links
+abbrev pub slot_holders : Pid → Option PlainProcess → List Holder
+slot_holders q None = []
+slot_holders q (Some x) = slots_from q 0 x.links
 
-abbrev pub numbered : {X : Type 0} → (ℕ → Holder) → ℕ → List X → List Holder
-numbered f n [] = []
-numbered f n (x ∷ xs) = f n ∷ numbered f (n + 1) xs
+abbrev pub holders_numbered : {X : Type 0} → (ℕ → Holder) → ℕ → List X → List Holder
+holders_numbered f n [] = []
+holders_numbered f n (x ∷ xs) = f n ∷ holders_numbered f (n + 1) xs
 
 abbrev pub answers_in : List Pending → List Holder
 answers_in rs = map (λ r. Answer r.n) rs
 
 abbrev pub holders_of : OneKernel → Pid → List Holder
 holders_of s q =
-    if pid_eq q switchboard then numbered Name 0 s.switchboard.names
-    else if pid_eq q manager then numbered Child 1 s.manager.children ++ answers_in s.manager.pending
-    else slots_in q (kernel.alive (s.processes q))
+    if pid_eq q switchboard then holders_numbered Name 0 s.switchboard.names
+    else if pid_eq q manager then holders_numbered Child 1 s.manager.children ++ answers_in s.manager.pending
+    else slot_holders q (kernel.alive (s.processes q))
 
 -- how many of these an update changes
 abbrev pub behind_among : (Holder → Bool) → List Holder → ℕ

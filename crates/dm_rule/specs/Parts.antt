@@ -26,12 +26,12 @@ pub data Part : Type 0 where
   Transmits : (from : ℕ) → (to : ℕ) → (carried : Load) → Part
 
 -- at most so many messages are out and not acknowledged
-abbrev pub window : ℕ
-window = 8
+abbrev pub pair_window : ℕ
+pair_window = 8
 
 -- the message that is routed next on a pair goes out at once: none waits, and the window isn't full
 abbrev pub goes_out : Pair → Bool
-goes_out p = (p.gone == length p.ids) && nat_lt (p.gone - p.acked) window
+goes_out p = (p.gone == length p.ids) && nat_lt (p.gone - p.acked) pair_window
 
 abbrev pub packet_line : View → ℕ → ℕ → Load → Line
 packet_line v a b l = line.Packet a b (length (v.pair a b).wire) l

@@ -77,24 +77,24 @@ abbrev pub is_early : MessageKind → Bool
 is_early k = tells_early (sort_of k)
 
 -- the source holds the process until the destination may restart it, and then forwards
-abbrev pub leaves : MessageKind → ℕ → Known → Bool
-leaves k to (Frozen m) = not (is_restart k) && (to == m)
-leaves k to (Forward m moves) = is_restart k && (to == m)
-leaves k to known = false
+abbrev pub kind_leaves : MessageKind → ℕ → Known → Bool
+kind_leaves k to (Frozen m) = not (is_restart k) && (to == m)
+kind_leaves k to (Forward m moves) = is_restart k && (to == m)
+kind_leaves k to known = false
 
 -- the destination expects it once it has accepted
-abbrev pub comes : MessageKind → ℕ → Known → Bool
-comes k from (Incoming m) = not (is_early k) && (from == m)
-comes k from Unknown = is_early k
-comes k from (Forward m moves) = is_early k
-comes k from known = false
+abbrev pub kind_comes : MessageKind → ℕ → Known → Bool
+kind_comes k from (Incoming m) = not (is_early k) && (from == m)
+kind_comes k from Unknown = is_early k
+kind_comes k from (Forward m moves) = is_early k
+kind_comes k from known = false
 
 -- what a machine may know of a process in this phase
 abbrev pub knows : Phase → ℕ → Known → Bool
 knows Nowhere m k = is_unknown k
 knows (Rests at) m k = if at == m then is_here k else is_away k
 knows (Over at) m k = if at == m then is_over k else is_away k
-knows (Moves kind s d id) m k = if s == m then leaves kind d k else if d == m then comes kind s k else is_away k
+knows (Moves kind s d id) m k = if s == m then kind_leaves kind d k else if d == m then kind_comes kind s k else is_away k
 
 -- where the message goes from and to
 abbrev pub sender_in : MessageKind → ℕ → ℕ → ℕ

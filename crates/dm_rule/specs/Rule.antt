@@ -36,9 +36,9 @@ use Rattle.dm_line.specs.declared.line.Line.TheVariants as line
 use Rattle.dm_line.specs.declared.line.Load.{Load}
 use Rattle.dm_line.specs.declared.line.Load.TheVariants as load
 use Rattle.dm_rule.specs.Given as given
-use Rattle.dm_rule.specs.View.{View, Pair, Sent, Told, About, Of, Known, Unknown, Here, Frozen, Incoming, Forward, Ended}
+use Rattle.dm_rule.specs.View.{View, Pair, SentLoad, Told, About, Of, Known, Unknown, Here, Frozen, Incoming, Forward, Ended}
 use Rattle.dm_rule.specs.Point.{Point, after_line}
-use Rattle.dm_rule.specs.Parts.{Part, Says, Routes, Transmits, Spelled, spelled, window}
+use Rattle.dm_rule.specs.Parts.{Part, Says, Routes, Transmits, Spelled, spelled, pair_window}
 use Rattle.dm_rule.specs.Migrating.{forwards_on, kernel_told, server_told, process_told, migrates}
 
 abbrev pub says : Label → Part
@@ -81,20 +81,20 @@ pub record Ran : Type 0 where
   pub count : ℕ
   pub machine : Machine
 
-abbrev pub one_more : Ran → Ran
-one_more r = record { count = r.count + 1; machine = r.machine }
+abbrev pub ran_one_more : Ran → Ran
+ran_one_more r = record { count = r.count + 1; machine = r.machine }
 
-abbrev pub goes_on : Machine → Option Machine → (Machine → Ran) → Ran
-goes_on m None go = record { count = 0; machine = m }
-goes_on m (Some n) go = one_more (go n)
+abbrev pub ran_further : Machine → Option Machine → (Machine → Ran) → Ran
+ran_further m None go = record { count = 0; machine = m }
+ran_further m (Some n) go = ran_one_more (go n)
 
 abbrev pub ran : ℕ → Machine → Ran
 ran zero m = record { count = 0; machine = m }
-ran (suc k) m = goes_on m (plain_row (instruction m.regs m.bytes)) (ran k)
+ran (suc k) m = ran_further m (plain_row (instruction m.regs m.bytes)) (ran k)
 
 -- the queue of a process that ends goes message by message
-abbrev pub drops : List MsgId → List Part
-drops ids = map (λ i. says (label.Dropped i)) ids
+abbrev pub drop_parts : List MsgId → List Part
+drop_parts ids = map (λ i. says (label.Dropped i)) ids
 
 -- what a call or a fault says, a row an outcome
 abbrev pub called : Pid → ℕ → List MsgId → calls.Called → List Part
@@ -102,12 +102,12 @@ called p n queue (calls.Replies reply x) = says (label.Call p n reply) ∷ []
 called p n queue (calls.Sends m x) = says (label.Send p m.id) ∷ Routes m.id ∷ []
 called p n queue (calls.Waits x) = says (label.Wait p) ∷ []
 called p n queue (calls.Outputs word x) = says (label.Out p word) ∷ []
-called p n queue (calls.Ends because) = says (label.End p because) ∷ drops queue
+called p n queue (calls.Ends because) = says (label.End p because) ∷ drop_parts queue
 
-abbrev pub stops : Pid → List MsgId → Option kernel.Next → List Part
+abbrev pub stops : Pid → List MsgId → Option kernel.Trap → List Part
 stops p queue None = []
 stops p queue (Some (kernel.Calls n c)) = called p n queue c
-stops p queue (Some (kernel.Faults fault)) = says (label.End p (why.Fault fault)) ∷ drops queue
+stops p queue (Some (kernel.Faults fault)) = says (label.End p (why.Fault fault)) ∷ drop_parts queue
 
 -- a ready process runs as far as the quantum allows; where it stops before, the call or fault follows
 abbrev pub executes : ℕ → Pid → List MsgId → PlainProcess → Ran → List Part
@@ -115,17 +115,17 @@ executes quantum p queue x r =
     says (label.Ran p r.count) ∷ (if r.count == quantum then [] else stops p queue (kernel.next_row p (with_machine x r.machine) (instruction r.machine.regs r.machine.bytes)))
 
 -- a waiting process takes the first queued message on its mask, or is refused it
-abbrev pub completes : Pid → MsgId → receiving.Completed → List Part
-completes p id (receiving.Receives x) = says (label.Receive p id) ∷ []
-completes p id (receiving.Refuses reply x) = says (label.Refuse p id reply) ∷ []
+abbrev pub completion_parts : Pid → MsgId → receiving.Completed → List Part
+completion_parts p id (receiving.Receives x) = says (label.Receive p id) ∷ []
+completion_parts p id (receiving.Refuses reply x) = says (label.Refuse p id reply) ∷ []
 
-abbrev pub receives : OneKernel → Pid → PlainProcess → Option MsgId → Option (List Part)
-receives s p x None = None
-receives s p x (Some id) = bind (s.bag id) (λ m. bind (receiving.completes_with p x m) (λ c. Some (completes p id c)))
+abbrev pub reception_parts : OneKernel → Pid → PlainProcess → Option MsgId → Option (List Part)
+reception_parts s p x None = None
+reception_parts s p x (Some id) = bind (s.bag id) (λ m. bind (receiving.completes_with p x m) (λ c. Some (completion_parts p id c)))
 
 abbrev pub serves_status : ℕ → OneKernel → Pid → List MsgId → PlainProcess → PlainStatus → Option (List Part)
 serves_status quantum s p queue x Ready = Some (executes quantum p queue x (ran quantum (machine_of x)))
-serves_status quantum s p queue x (Waiting mask base cap_) = receives s p x (first_awaited s mask queue)
+serves_status quantum s p queue x (Waiting mask base cap_) = reception_parts s p x (first_awaited s mask queue)
 serves_status quantum s p queue x (Moving dir owner base own left pending) = None
 
 -- with an empty inbox the first process of the ring that can be served is served
@@ -183,13 +183,13 @@ abbrev pub has_room : Room → ℕ → Bool
 has_room r blocks = nat_le 1 r.slots && nat_le blocks r.blocks
 
 -- a kernel makes the process, or says what is free
-abbrev pub creates : Point → ℕ → MsgId → Room → Option BootImage → Option (List Part)
-creates pt m id r None = None
-creates pt m id r (Some i) =
+abbrev pub creation_parts : Point → ℕ → MsgId → Room → Option BootImage → Option (List Part)
+creation_parts pt m id r None = None
+creation_parts pt m id r (Some i) =
     Some ((if has_room r i.blocks then says (label.Created id (pid_of m (first_number + pt.kernel.made m))) else says (label.NoSpace id r.slots r.blocks)) ∷ Routes (answer_id id) ∷ [])
 
 abbrev pub kernel_handles : Boot → Point → ℕ → MsgId → PlainWhat → Option (List Part)
-kernel_handles b pt m id (what.Create image links) = creates pt m id (free_room b pt m) (slice_get b.images image)
+kernel_handles b pt m id (what.Create image links) = creation_parts pt m id (free_room b pt m) (slice_get b.images image)
 kernel_handles b pt m id w = None
 
 -- a message that a server sends
@@ -197,31 +197,31 @@ abbrev pub routes : Option PlainMessage → List Part
 routes None = []
 routes (Some m) = Routes m.id ∷ []
 
-abbrev pub board_took : MsgId → Option board.Took → Option (List Part)
+abbrev pub board_took : MsgId → Option board.BoardTook → Option (List Part)
 board_took id None = None
 board_took id (Some t) = Some (says (label.Took id) ∷ routes t.answer)
 
-abbrev pub manager_took : MsgId → Option manage.Took → Option (List Part)
-manager_took id None = None
-manager_took id (Some t) = Some (says (label.Took id) ∷ routes t.message)
+abbrev pub manager_parts : MsgId → Option manage.ManagerTook → Option (List Part)
+manager_parts id None = None
+manager_parts id (Some t) = Some (says (label.Took id) ∷ routes t.message)
 
 -- an answer comes to a data move: its next request goes out, or it is done
-abbrev pub lands : MsgId → Option pieces.Landed → Option (List Part)
-lands id None = None
-lands id (Some (pieces.Next request x)) = Some (says (label.Served id) ∷ Routes request.id ∷ [])
-lands id (Some (pieces.Done reply x)) = Some (says (label.Served id) ∷ [])
+abbrev pub landing_parts : MsgId → Option pieces.Landed → Option (List Part)
+landing_parts id None = None
+landing_parts id (Some (pieces.Next request x)) = Some (says (label.Served id) ∷ Routes request.id ∷ [])
+landing_parts id (Some (pieces.Done reply x)) = Some (says (label.Served id) ∷ [])
 
 -- what a process's kernel does with a message for it, a row a kind
 abbrev pub here_handles : Point → ℕ → MsgId → PlainMessage → PlainProcess → PlainWhat → Option (List Part)
 here_handles pt m id msg x (what.User code channel body links) = Some (Says (line.Queued id) ∷ [])
 here_handles pt m id msg x what.Stop = Some (says (label.Served id) ∷ [])
 here_handles pt m id msg x what.Resume = Some (says (label.Served id) ∷ [])
-here_handles pt m id msg x what.Kill = Some (says (label.Served id) ∷ drops (pt.view.queue m msg.to))
+here_handles pt m id msg x what.Kill = Some (says (label.Served id) ∷ drop_parts (pt.view.queue m msg.to))
 here_handles pt m id msg x (what.Read base len) = Some (says (label.Served id) ∷ Routes (answer_id id) ∷ [])
 here_handles pt m id msg x (what.Write base bytes) = Some (says (label.Served id) ∷ Routes (answer_id id) ∷ [])
-here_handles pt m id msg x (what.Block bytes) = lands id (pieces.lands msg.to x msg x.status)
-here_handles pt m id msg x what.Written = lands id (pieces.lands msg.to x msg x.status)
-here_handles pt m id msg x what.Gone = lands id (pieces.lands msg.to x msg x.status)
+here_handles pt m id msg x (what.Block bytes) = landing_parts id (pieces.lands msg.to x msg x.status)
+here_handles pt m id msg x what.Written = landing_parts id (pieces.lands msg.to x msg x.status)
+here_handles pt m id msg x what.Gone = landing_parts id (pieces.lands msg.to x msg x.status)
 here_handles pt m id msg x (what.Create image links) = None
 here_handles pt m id msg x (what.Created pid) = None
 here_handles pt m id msg x what.NoRoom = None
@@ -258,8 +258,8 @@ process_handles pt m id msg Ended = ended_handles id msg.what
 abbrev pub handles : Boot → Point → ℕ → MsgId → PlainMessage → Option (List Part)
 handles b pt m id msg =
     if msg.to.num == 0 then kernel_handles b pt m id msg.what
-    else if pid_eq msg.to switchboard then board_took id (board.takes pt.kernel.switchboard msg msg.what)
-    else if pid_eq msg.to manager then manager_took id (manage.takes pt.kernel.manager pt.kernel.machines (length pt.kernel.images) msg msg.what)
+    else if pid_eq msg.to switchboard then board_took id (board.board_takes pt.kernel.switchboard msg msg.what)
+    else if pid_eq msg.to manager then manager_parts id (manage.manager_takes pt.kernel.manager pt.kernel.machines (length pt.kernel.images) msg msg.what)
     else process_handles pt m id msg (pt.view.known m msg.to)
 
 -- whether so many blocks and a slot are free, and what is
@@ -298,9 +298,9 @@ abbrev pub repeats : ℕ → ℕ → List ℕ → List Part
 repeats a b ns = map (λ n. Transmits a b (load.Data n)) ns
 
 -- what is out and not acknowledged, on the pairs from a machine to the first n
-abbrev pub outstanding : View → ℕ → ℕ → ℕ
-outstanding v m zero = 0
-outstanding v m (suc b) = outstanding v m b + (if m == b then 0 else (v.pair m b).gone - (v.pair m b).acked)
+abbrev pub outstanding_count : View → ℕ → ℕ → ℕ
+outstanding_count v m zero = 0
+outstanding_count v m (suc b) = outstanding_count v m b + (if m == b then 0 else (v.pair m b).gone - (v.pair m b).acked)
 
 abbrev pub resends : View → ℕ → ℕ → List Part
 resends v m zero = []
@@ -315,18 +315,18 @@ abbrev pub kept_from : List ℕ → ℕ → ℕ → List ℕ
 kept_from kept n zero = []
 kept_from kept n (suc k) = if has n kept then n ∷ kept_from kept (n + 1) k else []
 
-abbrev pub takes : ℕ → ℕ → List ℕ → List Part
-takes a b ns = map (λ n. Says (line.Taken a b n)) ns
+abbrev pub taking_parts : ℕ → ℕ → List ℕ → List Part
+taking_parts a b ns = map (λ n. Says (line.Taken a b n)) ns
 
 abbrev pub takes_on : ℕ → ℕ → ℕ → List ℕ → List Part
-takes_on a b n others = takes a b (n ∷ others) ++ Transmits b a (load.Ack (n + 1 + length others)) ∷ []
+takes_on a b n others = taking_parts a b (n ∷ others) ++ Transmits b a (load.Ack (n + 1 + length others)) ∷ []
 
 -- data number n comes: the acknowledgement says how many have been taken then
 abbrev pub data_comes : ℕ → ℕ → Pair → ℕ → List Part
 data_comes a b p n =
     if nat_lt n p.taken then Says (line.Old a b n) ∷ Transmits b a (load.Ack p.taken) ∷ []
     else if nat_lt p.taken n then Says (line.Early a b n) ∷ Transmits b a (load.Ack p.taken) ∷ []
-    else takes_on a b n (kept_from p.kept (n + 1) window)
+    else takes_on a b n (kept_from p.kept (n + 1) pair_window)
 
 abbrev pub less : ℕ → ℕ → ℕ
 less m n = if nat_le m n then m else n
@@ -336,20 +336,20 @@ more m n = if nat_le m n then n else m
 
 -- an acknowledgement lets messages go that waited, up to the window
 abbrev pub let_go : Pair → ℕ → List ℕ
-let_go p acked = numbers_from p.gone (less (length p.ids - p.gone) (acked + window - p.gone))
+let_go p acked = numbers_from p.gone (less (length p.ids - p.gone) (acked + pair_window - p.gone))
 
 abbrev pub comes : ℕ → ℕ → Pair → Pair → Load → List Part
 comes a b there back (load.Data n) = data_comes a b there n
 comes a b there back (load.Ack n) = Says (line.Acked a b n) ∷ repeats b a (let_go back (more n back.acked))
 
-abbrev pub arrives : ℕ → ℕ → Pair → Pair → Option Sent → List Part
+abbrev pub arrives : ℕ → ℕ → Pair → Pair → Option SentLoad → List Part
 arrives a b there back None = Says line.Nothing ∷ []
 arrives a b there back (Some s) = comes a b there back s.load
 
 -- what follows the head of each directive
 abbrev pub outcome : Boot → Point → Step → Option (List Part)
 outcome b pt (step.Turn m) = turns b pt m (pt.view.inbox m)
-outcome b pt (step.Tick m) = Some (Says (line.Resent m (outstanding pt.view m pt.kernel.machines)) ∷ resends pt.view m pt.kernel.machines)
+outcome b pt (step.Tick m) = Some (Says (line.Resent m (outstanding_count pt.view m pt.kernel.machines)) ∷ resends pt.view m pt.kernel.machines)
 outcome b pt (step.Deliver a c k) = Some (arrives a c (pt.view.pair a c) (pt.view.pair c a) (slice_get (pt.view.pair a c).wire k))
 outcome b pt (step.Migrate p m) = Some (migrates pt p)
 

@@ -74,11 +74,11 @@ pub record Trail (v : View) (t : Trails) (p : Pid) : Type 0 where
   pub kept : (m n c : ℕ) → v.known n p ≢ Unknown → slice_get (t p) c ≡ Some m → v.known m p ≢ Unknown
 
 -- where a process is, or leaves from
-abbrev pub place_in : Pid → Phase → ℕ
-place_in p Nowhere = p.home
-place_in p (Rests at) = at
-place_in p (Over at) = at
-place_in p (Moves k s d id) = s
+abbrev pub phase_place : Pid → Phase → ℕ
+phase_place p Nowhere = p.home
+phase_place p (Rests at) = at
+phase_place p (Over at) = at
+phase_place p (Moves k s d id) = s
 
 -- the machine where its messages were sent on to
 abbrev pub next_if : Bool → ℕ → Option ℕ
@@ -96,8 +96,8 @@ rest_of None = 0
 rest_of (Some d) = 1
 
 -- how long a trail is, and where it ends
-pub record Stood (v : View) (t : Trails) (p : Pid) (phase : Phase) : Type 0 where
-  pub now : slice_get (t p) (v.moves p) ≡ Some (place_in p phase)
+pub record StoodOnTrail (v : View) (t : Trails) (p : Pid) (phase : Phase) : Type 0 where
+  pub now : slice_get (t p) (v.moves p) ≡ Some (phase_place p phase)
   pub next : (d : ℕ) → next_in phase ≡ Some d → slice_get (t p) (v.moves p + 1) ≡ Some d
   pub long : length (t p) ≡ v.moves p + 1 + rest_of (next_in phase)
   pub unmade : phase ≡ Nowhere → v.moves p ≡ 0
@@ -116,7 +116,7 @@ pub record OwnOn (v : View) (a : Addresses) (t : Trails) : Type 0 where
 -- all of it, where the phases of the processes are known
 pub record Trailed (pt : Point) (t : Trails) (of : Pid → Phase) : Type 0 where
   pub trail : (p : Pid) → Trail pt.view t p
-  pub stood : (p : Pid) → Stood pt.view t p (of p)
+  pub stood : (p : Pid) → StoodOnTrail pt.view t p (of p)
   pub links : AddressesOn pt.kernel pt.addresses t
   pub own : OwnOn pt.view pt.addresses t
 

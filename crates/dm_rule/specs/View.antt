@@ -34,7 +34,7 @@ pub data Known : Type 0 where
   Ended : Known
 
 -- a packet of a wire
-pub record Sent : Type 0 where
+pub record SentLoad : Type 0 where
   pub load : Load
   pub delivered : Bool
 
@@ -46,7 +46,7 @@ pub record Pair : Type 0 where
   pub gone : ℕ
   pub acked : ℕ
   pub kept : List ℕ
-  pub wire : List Sent
+  pub wire : List SentLoad
 
 -- what a kernel's own message is about: a machine, a process, or a process and the place where it is
 pub data About : Type 0 where
@@ -228,7 +228,7 @@ abbrev pub after_acked : View → ℕ → ℕ → ℕ → View
 after_acked v a b n = with_pair v b a (record (v.pair b a) { acked = at_least (v.pair b a).acked n })
 
 -- the packet of a delivery is marked
-abbrev pub marked_at : List Sent → ℕ → Option Sent → List Sent
+abbrev pub marked_at : List SentLoad → ℕ → Option SentLoad → List SentLoad
 marked_at wire k None = wire
 marked_at wire k (Some s) = slice_set wire k (record s { delivered = true })
 

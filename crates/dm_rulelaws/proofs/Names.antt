@@ -44,14 +44,14 @@ pub use Rattle.dm_rule.proofs.Names.{About, Addresses, Again, Answer, AreStill, 
 pub use Rattle.dm_rule.proofs.Names.{MessageKind, Moves, Name, NamedLink, Next, Nexts, NothingElse, Of, Owner, Owns, Pair, Part, Phase, Place, Point, Queue, Receiver, Regs, Rests, Routes, Runs, Says, Sender, ServerSends, Slot, Sort, Sound}
 pub use Rattle.dm_rule.proofs.Names.{Spelled, Spot, Stage, StandsAsBag, StandsNowhere, StandsOutside, StandsRight, Step, Todo, Told, Transmits, Unknown, Untaken, View, accepts, after, after_head, after_label, after_line, after_proto}
 pub use Rattle.dm_rule.proofs.Names.{after_put, after_stage, after_step, after_taken, alive-is, all_follow, answer_link, are_for_home, are_home, ascends, asks_on, at_id, at_machine, at_pair, at_record, begins, behind, bind-is, board_finds}
-pub use Rattle.dm_rule.proofs.Names.{board_keeps, board_takes, child_from, child_number, chunks_of, comes, completing, cons_option, counts, dropped_for, enclosed_of, ended, ended_told, filter, filter_map, first_gives, first_point}
-pub use Rattle.dm_rule.proofs.Names.{first_view, fits, follows_up, forward_about, forwarded_for, forwards, forwards_on, free_room, front_of, front_told, gets, given, gives, gives_piece, goes_out, gone_to, group_of, handled, handled_first}
-pub use Rattle.dm_rule.proofs.Names.{headed, hears, held_for, here_told, holder_eq, id_eq-is, id_eq-same, is_apart, is_away, is_behind, is_between, is_counted, is_dropped, is_early, is_for_home, is_general, is_here, is_kernels, is_restart}
-pub use Rattle.dm_rule.proofs.Names.{is_told_back, kernel_after, kernel_hears, kernel_told, kills, known_at, knows, label_of, lands, lands-is, leaves, length-append, lines_of, link_to, links_in, manager_takes, marked, migrates, moved}
-pub use Rattle.dm_rule.proofs.Names.{moved_back, moves_to, name_link, names, next_step, nexts, not_server, oldest, on_mask, outcome, own_given, own_gives, own_id, owner_in, owner_of, packet_line, pending_of, pid_eq-is, pid_eq-same}
+pub use Rattle.dm_rule.proofs.Names.{board_gets, board_keeps, child_from, child_number, chunks_of, completing, cons_option, counts, dropped_for, enclosed_of, ended, ended_told, filter, filter_map, first_gives, first_point, first_view, fits}
+pub use Rattle.dm_rule.proofs.Names.{follows_up, forward_about, forwarded_for, forwards, forwards_on, free_room, front_of, front_told, gets, given, gives, gives_piece, goes_out, gone_to, group_of, handled, handled_first, headed, hears}
+pub use Rattle.dm_rule.proofs.Names.{held_for, here_told, holder_eq, id_eq-is, id_eq-same, is_apart, is_away, is_behind, is_between, is_counted, is_dropped, is_early, is_for_home, is_general, is_here, is_kernels, is_restart, is_told_back}
+pub use Rattle.dm_rule.proofs.Names.{kernel_after, kernel_hears, kernel_told, kills, kind_comes, known_at, knows, label_of, landing_gets, lands-is, leaves, length-append, lines_of, link_target, links_in, manager_gets, marked, migrates}
+pub use Rattle.dm_rule.proofs.Names.{moved, moved_back, moves_to, name_link, names, next_step, nexts, not_server, oldest, on_mask, outcome, own_given, own_gives, own_id, owner_in, owner_of, packet_line, pending_of, pid_eq-is, pid_eq-same}
 pub use Rattle.dm_rule.proofs.Names.{pieces_of, place_known, place_of_child, place_told, plain_kind, process_told, puts, queued_for, receiver_in, receiver_of, reply_code, reply_eq, request_id, right_true, ring_at, routed_on, sender_in}
 pub use Rattle.dm_rule.proofs.Names.{sender_of, sends_on, sent_at, served_told, server_told, serves_what, slice_set, slot_of, slots_of, slots_with, sort_of, spelled, standing, start-sound, stayed, taken_id, takes_block, takes_chunk}
-pub use Rattle.dm_rule.proofs.Names.{target_of, tells_back, times, to_kernel, to_of, told_between, unentered, unmoved, untaken, updated, updated_to, updates, view_after, when-is, why_eq, without, without_front, without_id, ◌||◌}
+pub use Rattle.dm_rule.proofs.Names.{target_of, times, to_kernel, to_of, told_back_gets, told_between, unentered, unmoved, untaken, updated, updated_to, updates, view_after, when-is, why_eq, without, without_front, without_id, ◌||◌}
 pub use Rattle.dm_rule.proofs.Once.{one_of}
 pub use Rattle.dm_rule.proofs.Outcomes.{by_group, by_net, by_outcome, by_parts}
 pub use Rattle.dm_rule.proofs.Pairs.Moves.{or_first}

@@ -1,12 +1,12 @@
 -- A run goes on, group by group, and comes to its end.
 use Rattle.dm_run.proofs.Names.{◌≡◌, ◌<◌, inl, inr, ℕ, true, nat_le, List, [], ◌∷◌, ◌++◌, length, take, drop, refl, ap, ◌∙◌, sym, subst, append_assoc, arith, nat_tests, append-nil, take-append-drop, All, OnOk, All-nil, All-append, Option}
 use Rattle.dm_run.proofs.Names.{None, Some, Result, Ok, Err, Boot, IsValid, Step, Directive, EndLine, Line, Todo, Next, all_of, Leads, Point, first_point, ends_settled, is_at_rest, ends_at_rest, ends_quiet, EndFits, HidesNothing, LineFits}
-use Rattle.dm_run.proofs.Names.{text, text_of_ends, text_of_lines, World, MayStep, IsWorld, state_of, next_step, MayEnd, AreWhole, AreReadBack, gave, WorldState, Said, Says, WornOut, first_world, world_step, GoesOn, RunStands, joined}
-use Rattle.dm_run.proofs.Names.{Stands, IsDirective, RunGoes, appended, Stop, NoMemory, WriteFault, Worn, IsOfFirst, IsOver, HasCome, Offered, Came, Ended}
+use Rattle.dm_run.proofs.Names.{text, text_of_ends, text_of_lines, World, MayStep, IsWorld, world_state, world_next_step, MayEnd, AreWhole, AreReadBack, gave, WorldState, Said, Says, WornOut, first_world, world_step, GoesOn, RunStands}
+use Rattle.dm_run.proofs.Names.{joined, Stands, IsDirective, RunGoes, appended, Stop, NoMemory, WriteFault, Worn, IsOfFirst, IsOver, HasCome, Offered, Came, Ended}
 use Rattle.dm_rule.specs.Ends as rule_ends
 use Rattle.dm_rule.specs.Worn as worn_as
 use Rattle.dm_world.specs.Ends as world_ends
-use Rattle.dm_run.specs.Printed.{IsWorn}
+use Rattle.dm_run.specs.Printed.{RunWears}
 use Rattle.dm_run.proofs.Writing.{appended_twice, some_left}
 use Rattle.dm_run.proofs.Laws.{end_may, run_begins, run_goes_on, next_is_said, end_is_said, machines_stay}
 use Rattle.dm_run.proofs.Finals.{end_hides}
@@ -50,14 +50,14 @@ comes_first b ds before w valid fit e = record {
 }
 
 -- what is left may be said otherwise
-pub comes_as : (b : Boot) (ds : List Directive) (t u : Todo) (before after : Option (List ℕ)) (w : WorldState) → HasCome b ds t before after w → next_step (length b.machines) w t ≡ next_step (length b.machines) w u → HasCome b ds u before after w
+pub comes_as : (b : Boot) (ds : List Directive) (t u : Todo) (before after : Option (List ℕ)) (w : WorldState) → HasCome b ds t before after w → world_next_step (length b.machines) w t ≡ world_next_step (length b.machines) w u → HasCome b ds u before after w
 comes_as b ds t u before after w h e = record { groups = h.groups; end = h.end; left = h.left; stands = h.stands; follows = h.follows ∙ e; fits = h.fits; written = h.written }
 
-goes : (b : Boot) (ds : List Directive) (t : Todo) (before after : Option (List ℕ)) (w : WorldState) (n : Next) → IsValid b → (h : HasCome b ds t before after w) → next_step (length b.machines) w t ≡ Some n → RunGoes b ds h.groups h.end w n
+goes : (b : Boot) (ds : List Directive) (t : Todo) (before after : Option (List ℕ)) (w : WorldState) (n : Next) → IsValid b → (h : HasCome b ds t before after w) → world_next_step (length b.machines) w t ≡ Some n → RunGoes b ds h.groups h.end w n
 goes b ds t before after w n valid h is = run_goes_on b ds h.groups h.end h.left w n valid h.stands (h.follows ∙ is)
 
 -- the next directive may be done
-pub may_go : (b : Boot) (ds : List Directive) (t : Todo) (before after : Option (List ℕ)) (w : WorldState) (n : Next) → IsValid b → HasCome b ds t before after w → next_step (length b.machines) w t ≡ Some n → MayStep b w n.step
+pub may_go : (b : Boot) (ds : List Directive) (t : Todo) (before after : Option (List ℕ)) (w : WorldState) (n : Next) → IsValid b → HasCome b ds t before after w → world_next_step (length b.machines) w t ≡ Some n → MayStep b w n.step
 may_go b ds t before after w n valid h is = (goes b ds t before after w n valid h is).may
 
 -- a group was printed
@@ -70,7 +70,7 @@ grown_by : (b : Boot) (ds : List Directive) (t : Todo) (before after : Option (L
 grown_by b ds t before after w n said valid h g on e =
     subst (λ (x : Said). Grown b ds n.left h.groups x.lines x.state) e (record { end = g.group.point; stands = on })
 
-pub grown : (b : Boot) (ds : List Directive) (t : Todo) (before after : Option (List ℕ)) (w : WorldState) (n : Next) (said : Said) → IsValid b → (h : HasCome b ds t before after w) → next_step (length b.machines) w t ≡ Some n → world_step b w n.step ≡ Some (Says said)
+pub grown : (b : Boot) (ds : List Directive) (t : Todo) (before after : Option (List ℕ)) (w : WorldState) (n : Next) (said : Said) → IsValid b → (h : HasCome b ds t before after w) → world_next_step (length b.machines) w t ≡ Some n → world_step b w n.step ≡ Some (Says said)
     → AreReadBack (gave b w n.step) → AreWhole w n.step → Grown b ds n.left h.groups said.lines said.state
 grown b ds t before after w n said valid h is happens again whole =
     let k = goes b ds t before after w n valid h is in
@@ -80,8 +80,8 @@ grown b ds t before after w n said valid h is happens again whole =
     ]
 
 -- it stopped as worn
-pub worn_there : (b : Boot) (ds : List Directive) (t : Todo) (before now : Option (List ℕ)) (w : WorldState) (n : Next) (from to : ℕ) → IsValid b → HasCome b ds t before now w → next_step (length b.machines) w t ≡ Some n → world_step b w n.step ≡ Some (WornOut from to)
-    → AreWhole w n.step → IsWorn b ds before now from to
+pub worn_there : (b : Boot) (ds : List Directive) (t : Todo) (before now : Option (List ℕ)) (w : WorldState) (n : Next) (from to : ℕ) → IsValid b → HasCome b ds t before now w → world_next_step (length b.machines) w t ≡ Some n → world_step b w n.step ≡ Some (WornOut from to)
+    → AreWhole w n.step → RunWears b ds before now from to
 worn_there b ds t before now w n from to valid h is happens whole =
     let k = goes b ds t before now w n valid h is in
     elim (k.steps whole) [
@@ -127,10 +127,10 @@ pub fits_last : (gs : List (List Line)) (g : List Line) → All LineFits (joined
 fits_last gs g h k = subst (All LineFits) (sym (joined_last gs g)) (All-append LineFits (joined gs) g h k)
 
 -- the lines of a group were offered
-pub came_on : (A : Type 0) (b : Boot) (ds : List Directive) (t : Todo) (n : Next) (before now after : Option (List ℕ)) (w : WorldState) (u : World) (ls : List Line) (r : Result A Stop) → IsValid b → IsWorld u → u.boot ≡ b → HasCome b ds t before now w → next_step (length b.machines) w t ≡ Some n
-    → world_step b w n.step ≡ Some (Says (record { state = state_of u; lines = ls })) → AreReadBack (gave b w n.step) → AreWhole w n.step → All LineFits ls → Offered now (text_of_lines ls) after r → Came b ds n.left before after u r
+pub came_on : (A : Type 0) (b : Boot) (ds : List Directive) (t : Todo) (n : Next) (before now after : Option (List ℕ)) (w : WorldState) (u : World) (ls : List Line) (r : Result A Stop) → IsValid b → IsWorld u → u.boot ≡ b → HasCome b ds t before now w → world_next_step (length b.machines) w t ≡ Some n
+    → world_step b w n.step ≡ Some (Says (record { state = world_state u; lines = ls })) → AreReadBack (gave b w n.step) → AreWhole w n.step → All LineFits ls → Offered now (text_of_lines ls) after r → Came b ds n.left before after u r
 came_on A b ds t n before now after w u ls (Ok x) valid one same h is happens again whole fit o =
-    let g = grown b ds t before now w n (record { state = state_of u; lines = ls }) valid h is happens again whole in
+    let g = grown b ds t before now w n (record { state = world_state u; lines = ls }) valid h is happens again whole in
     record {
       groups = h.groups ++ ls ∷ [];
       end = g.end;
@@ -142,7 +142,7 @@ came_on A b ds t n before now after w u ls (Ok x) valid one same h is happens ag
     }
 came_on A b ds t n before now after w u ls (Err (NoMemory lack)) valid one same h is happens again whole fit o = lacks_there b ds t before now after w h o
 came_on A b ds t n before now after w u ls (Err WriteFault) valid one same h is happens again whole fit o =
-    let g = grown b ds t before now w n (record { state = state_of u; lines = ls }) valid h is happens again whole in
+    let g = grown b ds t before now w n (record { state = world_state u; lines = ls }) valid h is happens again whole in
     record {
       groups = h.groups ++ ls ∷ [];
       end = g.end;
@@ -186,35 +186,35 @@ ends_hide : (b : Boot) (ds : List Directive) (before now : Option (List ℕ)) (w
 ends_hide b ds before now w valid h = stands_hide b h.stands.steps h.end w valid h.stands.leads h.stands.stands
 
 -- the lines at the end were offered
-pub ended_by : (A : Type 0) (b : Boot) (ds : List Directive) (before now after : Option (List ℕ)) (w : World) (es : List EndLine) (r : Result A Stop) → IsValid b → IsWorld w → w.boot ≡ b → HasCome b ds (all_of []) before now (state_of w) → es ≡ world_ends.end_lines (length b.machines) (state_of w)
+pub ended_by : (A : Type 0) (b : Boot) (ds : List Directive) (before now after : Option (List ℕ)) (w : World) (es : List EndLine) (r : Result A Stop) → IsValid b → IsWorld w → w.boot ≡ b → HasCome b ds (all_of []) before now (world_state w) → es ≡ world_ends.end_lines (length b.machines) (world_state w)
     → (All HidesNothing es → All EndFits es) → Offered now (text_of_ends es) after r → Ended b ds before after w r
 ended_by A b ds before now after w es (Ok x) valid one same h e fit o =
-    let said : es ≡ rule_ends.end_lines h.end = e ∙ end_is_said b h.stands.steps (state_of w) h.end valid h.stands.leads h.stands.stands in
-    let fits : All EndFits es = fit (subst (All HidesNothing) (sym e) (ends_hide b ds before now (state_of w) valid h)) in
+    let said : es ≡ rule_ends.end_lines h.end = e ∙ end_is_said b h.stands.steps (world_state w) h.end valid h.stands.leads h.stands.stands in
+    let fits : All EndFits es = fit (subst (All HidesNothing) (sym e) (ends_hide b ds before now (world_state w) valid h)) in
     record {
       groups = h.groups;
       end = h.end;
       left = h.left;
       good = h.stands.good;
-      over = is_over b ds before now (state_of w) valid h;
+      over = is_over b ds before now (world_state w) valid h;
       fits = h.fits;
       ends_fit = subst (All EndFits) said fits;
       written = more_written before now after (text_of_lines (joined h.groups)) (text_of_ends es) h.written o ∙ ap (λ (l : List EndLine). appended before (text_of_lines (joined h.groups) ++ text_of_ends l)) said;
       stands = (one, same, h.stands.stands);
-      rests = at_rest b ds before now (state_of w) valid h;
+      rests = at_rest b ds before now (world_state w) valid h;
     }
-ended_by A b ds before now after w es (Err (NoMemory lack)) valid one same h e fit o = lacks_there b ds (all_of []) before now after (state_of w) h o
+ended_by A b ds before now after w es (Err (NoMemory lack)) valid one same h e fit o = lacks_there b ds (all_of []) before now after (world_state w) h o
 ended_by A b ds before now after w es (Err WriteFault) valid one same h e fit o =
-    let said : es ≡ rule_ends.end_lines h.end = e ∙ end_is_said b h.stands.steps (state_of w) h.end valid h.stands.leads h.stands.stands in
+    let said : es ≡ rule_ends.end_lines h.end = e ∙ end_is_said b h.stands.steps (world_state w) h.end valid h.stands.leads h.stands.stands in
     record {
       groups = h.groups;
       end = h.end;
       left = h.left;
       good = h.stands.good;
       last = es;
-      last_is = inr (is_over b ds before now (state_of w) valid h, said);
+      last_is = inr (is_over b ds before now (world_state w) valid h, said);
       fits = h.fits;
-      last_fits = fit (subst (All HidesNothing) (sym e) (ends_hide b ds before now (state_of w) valid h));
+      last_fits = fit (subst (All HidesNothing) (sym e) (ends_hide b ds before now (world_state w) valid h));
       begun = text_of_lines (joined h.groups) ++ take o.count (text_of_ends es);
       others = drop o.count (text_of_ends es);
       prefix = cut_text (text_of_lines (joined h.groups)) (text_of_ends es) o.count;

@@ -1,8 +1,8 @@
 -- The lines at the end hide nothing: no process and no server has a link to a kernel.
 use Rattle.dm_run.proofs.Names.{◌≡◌, ◌<◌, ℕ, zero, suc, ◌+◌, ◌*◌, ◌/◌, ◌==◌, Bool, true, false, if◌then◌else◌, List, [], ◌∷◌, ◌++◌, length, take, drop, refl, arith, ⊤, All, IfSome, All-nil, All-cons, All-append, All-head, All-tail, Option}
-use Rattle.dm_run.proofs.Names.{None, Some, Addr, Link, Pid, pid_of, MsgId, Process, SlotIsLawful, Regs, Here, Frozen, Incoming, Forward, Named, IsLawfulNamed, Pending, first_number, switchboard, manager, Known, Servers, IsLawfulKnown}
-use Rattle.dm_run.proofs.Names.{IsLawfulPair, IsLawfulState, Arrival, restarted, Wanted, Chunk, Block, Nothing, EndLine, Standing, or, trimmed, block_line, memory_lines, each_machine, home_with, list_line, HidesNothing, WorldState}
-use Rattle.dm_run.proofs.Names.{of_known}
+use Rattle.dm_run.proofs.Names.{None, Some, Addr, Link, Pid, pid_of, MsgId, Process, SlotIsLawful, Regs, Here, Frozen, Incoming, Forward, Named, IsLawfulNamed, Pending, first_number, switchboard, manager, KernelKnown, Servers}
+use Rattle.dm_run.proofs.Names.{IsLawfulKnown, IsLawfulPair, IsLawfulState, Arrival, restarted, Wanted, Chunk, Block, Nothing, EndLine, Standing, or, trimmed, block_line, memory_lines, each_machine, home_with, list_line, HidesNothing}
+use Rattle.dm_run.proofs.Names.{WorldState, of_known}
 use Rattle.dm_records.specs.declared.record.Record.TheVariants.{Ended}
 use Rattle.dm_line.specs.declared.end_line.EndLine.TheVariants as end
 use Rattle.dm_line.specs.declared.end_line.Standing.TheVariants as standing
@@ -54,7 +54,7 @@ abbrev SomeHide : Option (List EndLine) → Type 0
 SomeHide None = ⊤
 SomeHide (Some ls) = Hide ls
 
-record_hides : (m : ℕ) (p : Pid) (r : Option Known) → ((k : Known) → r ≡ Some k → IsLawfulKnown k) → SomeHide (ends.record_lines m p r)
+record_hides : (m : ℕ) (p : Pid) (r : Option KernelKnown) → ((k : KernelKnown) → r ≡ Some k → IsLawfulKnown k) → SomeHide (ends.record_lines m p r)
 record_hides m p None h = tt
 record_hides m p (Some (Here x)) h = alive_hides m p standing.Here x (lawful_hides x.table (h (Here x) refl).links)
 record_hides m p (Some (Frozen leaving)) h = alive_hides m p standing.Leaving leaving.process (lawful_hides leaving.process.table (h (Frozen leaving) refl).process.links)
@@ -71,7 +71,7 @@ whole_hides m p a (Chunk k) = tt
 whole_hides m p a (Block k) = tt
 whole_hides m p a Nothing = come_hides m p (restarted a) (restarted_hides a)
 
-awaited_hides : (m : ℕ) (p : Pid) (r : Option Known) → SomeHide (ends.awaited_lines m p r)
+awaited_hides : (m : ℕ) (p : Pid) (r : Option KernelKnown) → SomeHide (ends.awaited_lines m p r)
 awaited_hides m p None = tt
 awaited_hides m p (Some (Here x)) = tt
 awaited_hides m p (Some (Frozen leaving)) = tt
@@ -83,7 +83,7 @@ listed_hides : (f : List MsgId → EndLine) (ids : List MsgId) → ((is : List M
 listed_hides f [] h = none_hide
 listed_hides f (i ∷ is) h = and_hide (f (i ∷ is)) [] (h (i ∷ is)) none_hide
 
-queue_hides : (p : Pid) (r : Option Known) → SomeHide (ends.record_queue p r)
+queue_hides : (p : Pid) (r : Option KernelKnown) → SomeHide (ends.record_queue p r)
 queue_hides p None = tt
 queue_hides p (Some (Here x)) = listed_hides (end.Queue p) (ends.names_of x.queue) (λ is. tt)
 queue_hides p (Some (Frozen leaving)) = listed_hides (end.Queue p) (ends.names_of leaving.process.queue) (λ is. tt)

@@ -9,12 +9,12 @@ pub use Rattle.dm_processor.proofs.Names.{List, [], drop, get_or, length, nat_te
 pub use Rattle.dm_stream.proofs.Names.{Ack, Data, inl, inr, subst, ◌≢◌, ◌⊎◌}
 pub use Rattle.dm_linktable.proofs.Names.{Link, ◌&&◌, ◌==◌}
 pub use Rattle.dm_packet.proofs.Field.{ok_is}
-pub use Rattle.dm_packet.proofs.Names.{Addr, All, Field, IfSome, MessageKind, MsgId, OnOk, addr, append-nil, append_assoc, both, channel, flags, len_from, length-append, link, link_of, nat_le, not, number, optional_read, packet_of}
+pub use Rattle.dm_packet.proofs.Names.{Addr, All, Field, IfSome, MessageKind, MsgId, OnOk, addr, append-nil, append_assoc, both, channel, flags, len_from, length-append, link, link_of_parts, nat_le, not, number, optional_read, packet_of}
 pub use Rattle.dm_packet.proofs.Names.{take-append-drop, ◌>>=◌}
 pub use Rattle.dm_packet.specs.Fields.{LinkParts}
 pub use Rattle.dm_process.proofs.Names.{add-one}
 pub use Rattle.dm_linkupdate.proofs.Names.{None, Process, SlotIsLawful}
-pub use Rattle.dm_statebytes.proofs.Names.{Front, PacketError, Regs, bind_ok, by_rule, ended, front, length-drop, mask, read_slots, shell, shell_with, slots, table}
+pub use Rattle.dm_statebytes.proofs.Names.{Front, PacketError, Regs, bind_ok, by_rule, front, length-drop, mask, only_shell, read_slots, shell, shell_with, slots, table}
 pub use Rattle.dm_statebytes.specs.Shell.{read_shell}
 unfoldable pub use Rattle.dm_statebytes.specs.Shell.{shell_of_bytes}
 pub use Rattle.dm_migrate.proofs.Names.{All-append, All-cons, Arrival, Err, Ok, Result, Shell, StateBytesError, restarted, revived, revived_from, take_rest}
@@ -27,7 +27,7 @@ pub use Rattle.dm_rule.proofs.Names.{About, Directive, IsStep, Leads, Line, Next
 pub use Rattle.dm_rule.proofs.Names.{headed, kernel_after, label_of, lines_of, moved, outcome, receiver_of, spelled, view_after}
 pub use Rattle.dm_rule.specs.Worn.{IsWorn}
 pub use Rattle.dm_places.proofs.Names.{Pending}
-pub use Rattle.dm_kernel.proofs.Names.{All-head, All-tail, Block, Chunk, Forward, Frozen, Here, Incoming, IsLawfulKnown, IsLawfulPair, IsLawfulState, Known, Nothing, Wanted}
+pub use Rattle.dm_kernel.proofs.Names.{All-head, All-tail, Block, Chunk, Forward, Frozen, Here, Incoming, IsLawfulKnown, IsLawfulPair, IsLawfulState, KernelKnown, Nothing, Wanted}
 pub use Rattle.dm_rulelaws.proofs.Decided.{shorter_begins}
 pub use Rattle.dm_rulelaws.proofs.Names.{IsRun}
 pub use Rattle.dm_movelaws.proofs.Names.{EndLine, Standing, block_line, each_machine, home_with, list_line, memory_lines, or, trimmed}
@@ -41,8 +41,8 @@ pub use Rattle.dm_text.proofs.Names.{EndFits, LineFits, text}
 pub use Rattle.dm_text.specs.Fits.{HidesNothing}
 unfoldable pub use Rattle.dm_text.specs.Text.{text_of_ends, text_of_lines}
 pub use Rattle.dm_node.proofs.Names.{Acts, Goes, IsErrAnd, OrNoMemory, Packet, Servers}
-pub use Rattle.dm_world.proofs.Names.{Answers, AreReadBack, Falls, Happened, IsWorld, IsWornOut, MayStep, MeetsSome, NextIs, Round, Said, Says, SettleGoes, WorldState, WornOut, acted, after_mark, bytes_at, delivers, drop_all, has_mail}
-pub use Rattle.dm_world.proofs.Names.{is_quiet, next_step, reads, room_of, state_of, turned, turns_at, turns_of, undelivered, world_step}
+pub use Rattle.dm_world.proofs.Names.{Answers, AreReadBack, Falls, Happened, IsWorld, IsWornOut, MayStep, MeetsSome, NextIs, Round, Said, Says, SettleGoes, WorldState, WornOut, acted, after_mark, bytes_at, delivers, drop_all, reads}
+pub use Rattle.dm_world.proofs.Names.{room_of, turned, turns_at, turns_of, world_has_mail, world_is_quiet, world_next_step, world_state, world_step, world_undelivered}
 pub use Rattle.dm_world.specs.Cursor.{IsSettling, left, todo_of}
 unfoldable pub use Rattle.dm_world.specs.Cursor.{room}
 pub use Rattle.dm_world.specs.Ends.{MayEnd}

@@ -1,7 +1,7 @@
 -- The links that state bytes spell hide nothing: none leads to a kernel.
 use Rattle.dm_run.proofs.Names.{◌≡◌, ℕ, zero, suc, ◌/◌, ◌%◌, ◌==◌, Bool, true, false, List, [], ◌∷◌, length, refl, sym, ap, subst, ⊤, if◌then◌else◌, All, All-nil, All-cons, Option, None, Some, Result, Ok, Err, Link, Process, PacketError}
-use Rattle.dm_run.proofs.Names.{Field, ◌>>=◌, both, number, LinkParts, addr, channel, flags, len_from, link, link_of, optional_read, bind_ok, ok_is, StateBytesError, Shell, Front, by_rule, ended, front, read_shell, shell, shell_of_bytes}
-use Rattle.dm_run.proofs.Names.{shell_with, mask, read_slots, slots, table, Arrival, restarted, revived, revived_from}
+use Rattle.dm_run.proofs.Names.{Field, ◌>>=◌, both, number, LinkParts, addr, channel, flags, len_from, link, link_of_parts, optional_read, bind_ok, ok_is, StateBytesError, Shell, Front, by_rule, only_shell, front, read_shell, shell}
+use Rattle.dm_run.proofs.Names.{shell_of_bytes, shell_with, mask, read_slots, slots, table, Arrival, restarted, revived, revived_from}
 use Rattle.dm_packet.specs.declared.PacketError.TheVariants as bad
 
 -- what a slot holds, if anything, leads to no kernel
@@ -17,8 +17,8 @@ link_parts = both addr (λ _. both flags (λ _. both (number 4) (λ _. both chan
 
 link_hides : (bytes : List ℕ) (r : Link × List ℕ) → link.read bytes ≡ Ok r → r.0.to_kernel ≡ false
 link_hides bytes r e =
-    let a = bind_ok (link_parts.read bytes) (λ x. Ok (link_of x.0, x.1)) r e in
-    let f : (link_of a.0.0, a.0.1) ≡ r = ok_is (link_of a.0.0, a.0.1) r a.2 in
+    let a = bind_ok (link_parts.read bytes) (λ x. Ok (link_of_parts x.0, x.1)) r e in
+    let f : (link_of_parts a.0.0, a.0.1) ≡ r = ok_is (link_of_parts a.0.0, a.0.1) r a.2 in
     ap (λ (x : Link × List ℕ). x.0.to_kernel) (sym f)
 
 slot_hides : (holds : Bool) (bytes : List ℕ) (r : Option Link × List ℕ) → optional_read link holds bytes ≡ Ok r → SlotHides r.0
@@ -75,7 +75,7 @@ ended_same t s false e = absurd cc
 
 read_hides : (cap : ℕ) (bytes : List ℕ) (s : Shell) → read_shell bytes cap ≡ Ok s → TableHides s.table
 read_hides cap bytes s e =
-    let a = bind_ok ((shell cap).read bytes) ended s e in
+    let a = bind_ok ((shell cap).read bytes) only_shell s e in
     let f : a.0.0 ≡ s = ended_same a.0 s (length a.0.1 == 0) a.2 in
     subst (λ (x : Shell). TableHides x.table) f (shell_hides cap bytes a.0 a.1)
 

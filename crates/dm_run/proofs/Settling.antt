@@ -1,8 +1,8 @@
 -- Each group of a directive leaves less of it: so a directive ends, a settle too.
 use Rattle.dm_run.proofs.Names.{◌≡◌, ◌≤◌, ◌<◌, ℕ, zero, suc, ◌+◌, ◌*◌, ◌^◌, nat_le, true, List, [], ◌∷◌, ◌++◌, length, refl, ap, ◌∙◌, sym, subst, inl, inr, arith, nat_tests, Option, Some, Boot, IsValid, Step, Directive, Line, Round, Settle}
 use Rattle.dm_run.proofs.Names.{sum_below, Next, Todo, all_of, IsKept, IsStep, Leads, Spelled, Point, first_point, group_of, View, stands_once_always, turns_left, IsSettleStep, turns_in, turns_left_few, turns_fall, Cursor, One, Passing}
-use Rattle.dm_run.proofs.Names.{Place, Packets, Turns, End, Falls, IsSettling, SettleGoes, left, room, room_of, todo_of, turns_at, turns_of, has_mail, is_quiet, next_step, undelivered, WorldState, Said, Says, WornOut, world_step, GoesOn}
-use Rattle.dm_run.proofs.Names.{RunStands, RunGoes, Stands, machines_stay, next_fits, undelivered_said, mail_is_said, HasCome, IsAfter, rounds_of}
+use Rattle.dm_run.proofs.Names.{Place, Packets, Turns, End, Falls, IsSettling, SettleGoes, left, room, room_of, todo_of, turns_at, turns_of, world_has_mail, world_is_quiet, world_next_step, world_undelivered, WorldState, Said, Says}
+use Rattle.dm_run.proofs.Names.{WornOut, world_step, GoesOn, RunStands, RunGoes, Stands, machines_stay, next_fits, undelivered_said, mail_is_said, HasCome, IsAfter, rounds_of}
 use Rattle.dm_schedule.specs.declared.Step.TheVariants as step
 use Rattle.dm_settlelaws.specs.Left as settle
 use Rattle.dm_run.proofs.Counted.{counts}
@@ -27,7 +27,7 @@ pub record IsOnWay (b : Boot) (w : WorldState) (c : Cursor) (most : ℕ) : Type 
   pub end : Point
   pub todo : Todo
   pub stands : RunStands b ds groups end todo w
-  pub follows : next_step (length b.machines) w todo ≡ next_step (length b.machines) w (todo_of (length b.machines) c rest)
+  pub follows : world_next_step (length b.machines) w todo ≡ world_next_step (length b.machines) w (todo_of (length b.machines) c rest)
   pub within : ahead b w c end.view + w.groups ≤ most
 
 -- a sum of so many numbers, each at most m
@@ -77,7 +77,7 @@ turns_few b (Passing Settle place) es pt w valid leads stands = let h = settle_m
 
 -- before the first group of a directive, whatever was done with the groups before it
 pub on_way_begins : (b : Boot) (d : Directive) (ds rest : List Directive) (groups : List (List Line)) (end : Point) (todo : Todo) (w : WorldState) (c : Cursor) → IsValid b → rounds_of c < 2 ^ 32 → RunStands b ds groups end todo w
-    → next_step (length b.machines) w todo ≡ next_step (length b.machines) w (all_of (d ∷ rest)) → next_step (length b.machines) w (all_of (d ∷ rest)) ≡ next_step (length b.machines) w (todo_of (length b.machines) c rest) → IsOnWay b w c (w.groups + 2 ^ 90)
+    → world_next_step (length b.machines) w todo ≡ world_next_step (length b.machines) w (all_of (d ∷ rest)) → world_next_step (length b.machines) w (all_of (d ∷ rest)) ≡ world_next_step (length b.machines) w (todo_of (length b.machines) c rest) → IsOnWay b w c (w.groups + 2 ^ 90)
 on_way_begins b d ds rest groups end todo w c valid rounds stands follows same =
     let n = length b.machines in
     let few = few_machines b valid in
@@ -97,7 +97,7 @@ on_way_begins b d ds rest groups end todo w c valid rounds stands follows same =
 
 -- and where they were printed
 pub on_way_first : (b : Boot) (d : Directive) (ds rest : List Directive) (before now : Option (List ℕ)) (w : WorldState) (c : Cursor) → IsValid b → rounds_of c < 2 ^ 32 → HasCome b ds (all_of (d ∷ rest)) before now w
-    → next_step (length b.machines) w (all_of (d ∷ rest)) ≡ next_step (length b.machines) w (todo_of (length b.machines) c rest) → IsOnWay b w c (w.groups + 2 ^ 90)
+    → world_next_step (length b.machines) w (all_of (d ∷ rest)) ≡ world_next_step (length b.machines) w (todo_of (length b.machines) c rest) → IsOnWay b w c (w.groups + 2 ^ 90)
 on_way_first b d ds rest before now w c valid rounds h same = on_way_begins b d ds rest h.groups h.end h.left w c valid rounds h.stands h.follows same
 
 -- where the machines do what the rule says, a step of a settle is one by what was printed
@@ -165,14 +165,14 @@ falls_ahead b es pt next w u (Passing Settle place) after e s valid d (settling,
     omega (arith, fewer, there, same)
 
 -- one more group of it
-way_by : (b : Boot) (w u : WorldState) (c after : Cursor) (e : Step) (lines : List Line) (most : ℕ) → IsValid b → (way : IsOnWay b w c most) → (f : next_step (length b.machines) w way.todo ≡ Some (record { step = e; left = todo_of (length b.machines) after way.rest }))
+way_by : (b : Boot) (w u : WorldState) (c after : Cursor) (e : Step) (lines : List Line) (most : ℕ) → IsValid b → (way : IsOnWay b w c most) → (f : world_next_step (length b.machines) w way.todo ≡ Some (record { step = e; left = todo_of (length b.machines) after way.rest }))
     → Falls (length b.machines) w c e after → world_step b w e ≡ Some (Says (record { state = u; lines = lines })) → (g : GoesOn b w way.end e) → RunStands b way.ds (way.groups ++ g.said.lines ∷ []) g.group.point (todo_of (length b.machines) after way.rest) g.said.state → IsOnWay b u after most
 way_by b w u c after e lines most valid way f falls happens g on =
     let n = length b.machines in
     let same : g.said ≡ record { state = u; lines = lines } = let h = g.happens in cc in
     let state : g.said.state ≡ u = ap (λ (x : Said). x.state) same in
     let later : RunStands b way.ds (way.groups ++ g.said.lines ∷ []) g.group.point (todo_of n after way.rest) u = subst (λ (x : WorldState). RunStands b way.ds (way.groups ++ g.said.lines ∷ []) g.group.point (todo_of n after way.rest) x) state on in
-    let fits = (next_fits n (undelivered w) (has_mail w) (is_quiet n w) way.todo (record { step = e; left = todo_of n after way.rest }) way.stands.todo f).step in
+    let fits = (next_fits n (world_undelivered w) (world_has_mail w) (world_is_quiet n w) way.todo (record { step = e; left = todo_of n after way.rest }) way.stands.todo f).step in
     let done : IsDone b way.stands.steps way.end g.group.point w u e g.said = record {
       leads = way.stands.leads;
       stands = way.stands.stands;

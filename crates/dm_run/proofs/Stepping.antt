@@ -1,6 +1,6 @@
 -- One more elementary directive of a directive.
 use Rattle.dm_run.proofs.Names.{◌≡◌, ◌≢◌, ◌≤◌, ◌<◌, ℕ, ◌+◌, nat_le, true, List, [], ◌∷◌, length, drop, get_or, add-one, refl, ap, ◌∙◌, sym, subst, arith, nat_tests, drop_all, drop-cons, All, All-nil, All-cons, All-head, All-tail, Option}
-use Rattle.dm_run.proofs.Names.{None, Some, false≢true, IsErr, IsErrAnd, Result, Ok, Err, World, Stop, Boot, IsValid, Step, Directive, Todo, Next, all_of, Cursor, NextIs, todo_of, MayStep, next_step, WorldState, IsDirective, Blames}
+use Rattle.dm_run.proofs.Names.{None, Some, false≢true, IsErr, IsErrAnd, Result, Ok, Err, World, Stop, Boot, IsValid, Step, Directive, Todo, Next, all_of, Cursor, NextIs, todo_of, MayStep, world_next_step, WorldState, IsDirective, Blames}
 use Rattle.dm_run.proofs.Names.{BlamesBy, Came, Ended, HasCome, IsAfter, IsFor, Stopped}
 use Rattle.dm_schedule.specs.declared.Directive.TheVariants as directive
 use Rattle.dm_run.proofs.Comes.{comes_as, may_go}
@@ -8,7 +8,7 @@ use Rattle.dm_run.proofs.Counted.{counts}
 
 -- a group was printed for a directive, and brought the run on
 abbrev pub Brings : Boot → WorldState → WorldState → Option (List ℕ) → Option (List ℕ) → Step → Type 0
-Brings b w u now after e = (ds : List Directive) (t : Todo) (n : Next) (before : Option (List ℕ)) → HasCome b ds t before now w → next_step (length b.machines) w t ≡ Some n → n.step ≡ e → HasCome b ds n.left before after u
+Brings b w u now after e = (ds : List Directive) (t : Todo) (n : Next) (before : Option (List ℕ)) → HasCome b ds t before now w → world_next_step (length b.machines) w t ≡ Some n → n.step ≡ e → HasCome b ds n.left before after u
 
 -- the steps of a directive have brought a run so far
 abbrev pub Brought : Boot → Directive → WorldState → WorldState → Option (List ℕ) → Option (List ℕ) → Cursor → Type 0
@@ -16,7 +16,7 @@ Brought b d first w start now c = (ds rest : List Directive) (before : Option (L
 
 -- this step comes next, whatever is behind
 abbrev pub Follows : Boot → WorldState → Cursor → Step → Cursor → Type 0
-Follows b w c e next = (rest : List Directive) → next_step (length b.machines) w (todo_of (length b.machines) c rest) ≡ Some (record { step = e; left = todo_of (length b.machines) next rest })
+Follows b w c e next = (rest : List Directive) → world_next_step (length b.machines) w (todo_of (length b.machines) c rest) ≡ Some (record { step = e; left = todo_of (length b.machines) next rest })
 
 pub brings_on : (a b : Boot) (d : Directive) (first w u : WorldState) (start now after : Option (List ℕ)) (c next : Cursor) (e : Step) → a ≡ b → Brought b d first w start now c → Follows a w c e next → Brings a w u now after e → Brought b d first u start after next
 brings_on a b d first w u start now after c next e same come follows brings ds rest before h =
@@ -35,7 +35,7 @@ one_group_more a w u e after = counts a w e (record { state = u; lines = after.l
 
 -- a group came to no end
 abbrev pub Stops : Boot → WorldState → World → Option (List ℕ) → Option (List ℕ) → Step → Stop → Type 0
-Stops b w u now after e s = (ds : List Directive) (t : Todo) (n : Next) (before : Option (List ℕ)) → HasCome b ds t before now w → next_step (length b.machines) w t ≡ Some n → n.step ≡ e → Stopped b ds before after (Some u) s
+Stops b w u now after e s = (ds : List Directive) (t : Todo) (n : Next) (before : Option (List ℕ)) → HasCome b ds t before now w → world_next_step (length b.machines) w t ≡ Some n → n.step ≡ e → Stopped b ds before after (Some u) s
 
 pub stops_on : (a b : Boot) (d : Directive) (first w : WorldState) (u : World) (start now after : Option (List ℕ)) (c next : Cursor) (e : Step) (s : Stop) → a ≡ b → Brought b d first w start now c → Follows a w c e next → Stops a w u now after e s
     → (ds rest : List Directive) (before : Option (List ℕ)) → HasCome b ds (all_of (d ∷ rest)) before start first → Stopped b ds before after (Some u) s
@@ -51,7 +51,7 @@ came_err b ds t before after u (Err y) e h p = subst (λ (x : Stop). Stopped b d
 -- where no step of a directive is left, the run stands before the directives behind it
 pub none_on : (a b : Boot) (d : Directive) (first w : WorldState) (start now : Option (List ℕ)) (c : Cursor) → a ≡ b → Brought b d first w start now c → ((rest : List Directive) → NextIs (length a.machines) w c rest None) → (ds rest : List Directive) (before : Option (List ℕ)) → HasCome b ds (all_of (d ∷ rest)) before start first → HasCome b ds (all_of rest) before now w
 none_on a b d first w start now c same come none ds rest before h =
-    let f : next_step (length b.machines) w (todo_of (length b.machines) c rest) ≡ next_step (length b.machines) w (all_of rest) = subst (λ (x : Boot). next_step (length x.machines) w (todo_of (length x.machines) c rest) ≡ next_step (length x.machines) w (all_of rest)) same (none rest) in
+    let f : world_next_step (length b.machines) w (todo_of (length b.machines) c rest) ≡ world_next_step (length b.machines) w (all_of rest) = subst (λ (x : Boot). world_next_step (length x.machines) w (todo_of (length x.machines) c rest) ≡ world_next_step (length x.machines) w (all_of rest)) same (none rest) in
     comes_as b ds (todo_of (length b.machines) c rest) (all_of rest) before now w (come ds rest before h) f
 
 -- directive by directive

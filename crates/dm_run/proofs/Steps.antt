@@ -1,7 +1,7 @@
 -- A world is stepped, directive by directive.
 use Rattle.dm_run.proofs.Names.{◌≡◌, ℕ, inl, inr, false, List, [], ◌∷◌, ◌++◌, length, refl, ap, ◌∙◌, sym, subst, Some, All, Option, IfErr, IsErr, IsErrAnd, Result, Ok, Err, false≢true, Boot, IsValid, Step, Directive, EndLine, Line, Todo}
-use Rattle.dm_run.proofs.Names.{all_of, IsStep, Point, first_point, IsWorn, HidesNothing, OrNoMemory, World, MayEnd, MayStep, Answers, IsWorld, state_of, AreReadBack, gave, AreWhole, WorldState, Said, Says, WornOut, first_world, world_step}
-use Rattle.dm_run.proofs.Names.{GoesOn, RunStands, Ran, RanGoes, IsDirective, HasCome, IsFor, IsRunning, RanOn, RunsOn, StopsWorn}
+use Rattle.dm_run.proofs.Names.{all_of, IsStep, Point, first_point, IsWorn, HidesNothing, OrNoMemory, World, MayEnd, MayStep, Answers, IsWorld, world_state, AreReadBack, gave, AreWhole, WorldState, Said, Says, WornOut, first_world}
+use Rattle.dm_run.proofs.Names.{world_step, GoesOn, RunStands, Ran, RanGoes, IsDirective, HasCome, IsFor, IsRunning, RanOn, RunsOn, StopsWorn}
 use Rattle.dm_rule.specs.Ends as rule_ends
 use Rattle.dm_node.specs.declared.stop.Stop.{Stop}
 use Rattle.dm_node.specs.declared.stop.Stop.TheVariants as stop
@@ -12,19 +12,19 @@ use Rattle.dm_run.proofs.Laws.{end_is_said, end_may, ran_begins, ran_goes_on, ru
 use Rattle.dm_run.proofs.Stepping.{are_directives}
 
 -- a world as the boot file has it
-pub running_first : (w : World) (b : Boot) → IsValid b → IsWorld w → w.stopped ≡ false → w.boot ≡ b → state_of w ≡ first_world b → IsRunning w
+pub running_first : (w : World) (b : Boot) → IsValid b → IsWorld w → w.stopped ≡ false → w.boot ≡ b → world_state w ≡ first_world b → IsRunning w
 running_first w b valid world going same first = record {
   world = world;
   going = going;
   steps = [];
   groups = [];
   point = first_point b;
-  ran = subst (λ (x : Boot). Ran x [] [] (first_point b) (state_of w)) (sym same) (subst (Ran b [] [] (first_point b)) (sym first) (ran_begins b valid));
+  ran = subst (λ (x : Boot). Ran x [] [] (first_point b) (world_state w)) (sym same) (subst (Ran b [] [] (first_point b)) (sym first) (ran_begins b valid));
 }
 
 -- the directive may be done
-pub may_step : (w : World) (e : Step) → (r : IsRunning w) → IsStep (length w.boot.machines) e → MayStep w.boot (state_of w) e
-may_step w e r fits = (ran_goes_on w.boot r.steps r.groups r.point (state_of w) e r.world.valid r.ran fits).may
+pub may_step : (w : World) (e : Step) → (r : IsRunning w) → IsStep (length w.boot.machines) e → MayStep w.boot (world_state w) e
+may_step w e r fits = (ran_goes_on w.boot r.steps r.groups r.point (world_state w) e r.world.valid r.ran fits).may
 
 ran_by : (b : Boot) (es : List Step) (gs : List (List Line)) (pt : Point) (w : WorldState) (e : Step) (said : Said) → (k : RanGoes b es gs pt w e) → AreReadBack (gave b w e) → (g : GoesOn b w pt e) → g.said ≡ said → RanOn b es gs pt e said.lines said.state
 ran_by b es gs pt w e said k again g is =
@@ -45,7 +45,7 @@ runs_on b w e said valid fits happens again whole es gs pt r =
     ]
 
 -- and the world runs on
-pub running_on : (old new : World) (e : Step) (lines : List Line) → IsRunning old → IsWorld new → new.stopped ≡ false → new.boot ≡ old.boot → RunsOn (state_of old) old.boot e lines (state_of new) → IsRunning new
+pub running_on : (old new : World) (e : Step) (lines : List Line) → IsRunning old → IsWorld new → new.stopped ≡ false → new.boot ≡ old.boot → RunsOn (world_state old) old.boot e lines (world_state new) → IsRunning new
 running_on old new e lines r world going same on =
     let k = on r.steps r.groups r.point r.ran in
     record {
@@ -54,7 +54,7 @@ running_on old new e lines r world going same on =
       steps = r.steps ++ e ∷ [];
       groups = r.groups ++ lines ∷ [];
       point = k.spelled.point;
-      ran = subst (λ (x : Boot). Ran x (r.steps ++ e ∷ []) (r.groups ++ lines ∷ []) k.spelled.point (state_of new)) (sym same) k.ran;
+      ran = subst (λ (x : Boot). Ran x (r.steps ++ e ∷ []) (r.groups ++ lines ∷ []) k.spelled.point (world_state new)) (sym same) k.ran;
     }
 
 -- or it stopped as worn
@@ -81,24 +81,24 @@ if_err (Ok x) e P h p = absurd (false≢true h.0)
 if_err (Err y) e P h p = subst P (sym h.1) p
 
 -- the lines at the end can be said
-pub may_end_there : (w : World) → (r : IsRunning w) → MayEnd (length w.boot.machines) (state_of w)
-may_end_there w r = end_may w.boot r.steps (state_of w) r.point r.world.valid r.ran.leads r.ran.stands
+pub may_end_there : (w : World) → (r : IsRunning w) → MayEnd (length w.boot.machines) (world_state w)
+may_end_there w r = end_may w.boot r.steps (world_state w) r.point r.world.valid r.ran.leads r.ran.stands
 
 pub ends_so : (b : Boot) (w : WorldState) (ends : List EndLine) (es : List Step) (gs : List (List Line)) (pt : Point) → IsValid b → ends ≡ world_ends.end_lines (length b.machines) w → Ran b es gs pt w → ends ≡ rule_ends.end_lines pt
 ends_so b w ends es gs pt valid e r = e ∙ end_is_said b es w pt valid r.leads r.stands
 
-pub ends_hide_there : (w : World) → (r : IsRunning w) → All HidesNothing (world_ends.end_lines (length w.boot.machines) (state_of w))
-ends_hide_there w r = stands_hide w.boot r.steps r.point (state_of w) r.world.valid r.ran.leads r.ran.stands
+pub ends_hide_there : (w : World) → (r : IsRunning w) → All HidesNothing (world_ends.end_lines (length w.boot.machines) (world_state w))
+ends_hide_there w r = stands_hide w.boot r.steps r.point (world_state w) r.world.valid r.ran.leads r.ran.stands
 
 -- a world that has done directives runs on
-pub running_come : (b : Boot) (ds : List Directive) (t : Todo) (before after : Option (List ℕ)) (w : World) → IsValid b → All (IsFor (length b.machines)) ds → IsWorld w → w.stopped ≡ false → w.boot ≡ b → HasCome b ds t before after (state_of w) → IsRunning w
+pub running_come : (b : Boot) (ds : List Directive) (t : Todo) (before after : Option (List ℕ)) (w : World) → IsValid b → All (IsFor (length b.machines)) ds → IsWorld w → w.stopped ≡ false → w.boot ≡ b → HasCome b ds t before after (world_state w) → IsRunning w
 running_come b ds t before after w valid each world going same h =
-    let k = run_is_ran b ds h.groups h.end h.left (state_of w) valid (are_directives (length b.machines) ds each) h.stands in
+    let k = run_is_ran b ds h.groups h.end h.left (world_state w) valid (are_directives (length b.machines) ds each) h.stands in
     record {
       world = world;
       going = going;
       steps = k.0;
       groups = h.groups;
       point = h.end;
-      ran = subst (λ (x : Boot). Ran x k.0 h.groups h.end (state_of w)) (sym same) k.1;
+      ran = subst (λ (x : Boot). Ran x k.0 h.groups h.end (world_state w)) (sym same) k.1;
     }

@@ -22,14 +22,14 @@ use Rattle.dm_world.specs.declared.world.World.{World}
 use Rattle.dm_world.specs.Readable.{AreReadBack, gave}
 use Rattle.dm_world.specs.Whole.{AreWhole}
 use Rattle.dm_world.specs.World.{WorldState, Says, first_world, world_step}
-use Rattle.dm_world.specs.Next.{next_step}
-use Rattle.dm_world.specs.Meets.{IsWorld, state_of}
+use Rattle.dm_world.specs.Next.{world_next_step}
+use Rattle.dm_world.specs.Meets.{IsWorld, world_state}
 use Rattle.dm_mirror.specs.Run.{RunStands, joined}
 use Rattle.dm_outside.specs.Outside.{RoseOrFull, appended}
 use Rattle.dm_run.specs.declared.stop.Stop.{Stop}
 use Rattle.dm_run.specs.declared.stop.Stop.TheVariants.{NoMemory, WriteFault, Worn}
 use Rattle.dm_run.specs.Appended.{IsCutShort}
-use Rattle.dm_run.specs.Printed.{IsWhole, IsOfFirst, IsBegun, IsWorn}
+use Rattle.dm_run.specs.Printed.{IsWhole, IsOfFirst, IsBegun, RunWears}
 
 -- a directive for so many machines, and a number of rounds in its range
 abbrev pub IsFor : ℕ → Directive → Type 0
@@ -45,7 +45,7 @@ pub record HasCome (b : Boot) (ds : List Directive) (t : Todo) (before after : O
   pub end : Point
   pub left : Todo
   pub stands : RunStands b ds groups end left w
-  pub follows : next_step (length b.machines) w left ≡ next_step (length b.machines) w t
+  pub follows : world_next_step (length b.machines) w left ≡ world_next_step (length b.machines) w t
   pub fits : All LineFits (joined groups)
   pub written : after ≡ appended before (text_of_lines (joined groups))
 
@@ -54,7 +54,7 @@ pub record IsDue (w : World) (d : Directive) (after : Option (List ℕ)) : Type 
   pub ds : List Directive
   pub rest : List Directive
   pub before : Option (List ℕ)
-  pub come : HasCome w.boot ds (all_of (d ∷ rest)) before after (state_of w)
+  pub come : HasCome w.boot ds (all_of (d ∷ rest)) before after (world_state w)
 
 -- bytes were appended, or nothing was for want of memory, or the sink failed and fewer were
 abbrev pub Offered : {A : Type 0} → Option (List ℕ) → List ℕ → Option (List ℕ) → Result A Stop → Type 0
@@ -67,11 +67,11 @@ Offered old bytes new (Err (Worn from to)) = ⊥
 abbrev pub Stopped : Boot → List Directive → Option (List ℕ) → Option (List ℕ) → Option World → Stop → Type 0
 Stopped b ds before after w (NoMemory lack) = IsOfFirst b ds before after
 Stopped b ds before after w WriteFault = IsBegun b ds before after w
-Stopped b ds before after w (Worn from to) = IsWorn b ds before after from to
+Stopped b ds before after w (Worn from to) = RunWears b ds before after from to
 
 -- a run has come so far, or to no end
 abbrev pub Came : {A : Type 0} → Boot → List Directive → Todo → Option (List ℕ) → Option (List ℕ) → World → Result A Stop → Type 0
-Came b ds t before after w (Ok _) = HasCome b ds t before after (state_of w)
+Came b ds t before after w (Ok _) = HasCome b ds t before after (world_state w)
 Came b ds t before after w (Err s) = Stopped b ds before after (Some w) s
 
 -- a run has come to its end, or to none
@@ -90,7 +90,7 @@ pub record IsAfter (b : Boot) (old : WorldState) (e : Step) (new : WorldState) :
 pub record IsAtStart (w : World) : Type 0 where
   pub world : IsWorld w
   pub going : w.stopped ≡ false
-  pub first : state_of w ≡ first_world w.boot
+  pub first : world_state w ≡ first_world w.boot
 
 -- a count of faults is as it was, unless the sink is blamed: then it rose
 abbrev pub BlamesBy : ℕ → ℕ → Stop → Type 0

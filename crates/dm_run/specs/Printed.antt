@@ -16,7 +16,7 @@ use Rattle.dm_settlelaws.specs.Passes.{ends_settled, is_at_rest}
 use Rattle.dm_text.specs.Fits.{EndFits, LineFits}
 use Rattle.dm_text.specs.Text.{text_of_ends, text_of_lines}
 use Rattle.dm_world.specs.declared.world.World.{World}
-use Rattle.dm_world.specs.Meets.{IsWorld, state_of}
+use Rattle.dm_world.specs.Meets.{IsWorld, world_state}
 use Rattle.dm_mirror.specs.Run.{IsGood, joined}
 use Rattle.dm_mirror.specs.Stands.{Stands}
 use Rattle.dm_outside.specs.Outside.{appended}
@@ -24,7 +24,7 @@ use Rattle.dm_outside.specs.Outside.{appended}
 -- there is a world: it is one of this boot file, with all its machines, and it stands for where the lines lead
 abbrev pub StandsFor : Boot → Point → Option World → Type 0
 StandsFor b end None = ⊥
-StandsFor b end (Some w) = IsWorld w × (w.boot ≡ b) × Stands b (state_of w) end
+StandsFor b end (Some w) = IsWorld w × (w.boot ≡ b) × Stands b (world_state w) end
 
 -- no directive is left
 abbrev pub IsOver : Point → Todo → Type 0
@@ -82,7 +82,7 @@ pub record WearsAfter (b : Boot) (ds : List Directive) (groups : List (List Line
   pub worn : rule.IsWorn b end next.step from to
 
 -- the text of such groups was appended
-pub record IsWorn (b : Boot) (ds : List Directive) (old new : Option (List ℕ)) (from to : ℕ) : Type 0 where
+pub record RunWears (b : Boot) (ds : List Directive) (old new : Option (List ℕ)) (from to : ℕ) : Type 0 where
   pub groups : List (List Line)
   pub wears : WearsAfter b ds groups from to
   pub fits : All LineFits (joined groups)

@@ -13,7 +13,7 @@ use Rattle.dm_rule.specs.Worn.{IsWorn}
 use Rattle.dm_node.specs.declared.stop.Stop.{Stop}
 use Rattle.dm_node.specs.declared.stop.Stop.TheVariants as stop
 use Rattle.dm_world.specs.declared.world.World.{World}
-use Rattle.dm_world.specs.Meets.{IsWorld, state_of}
+use Rattle.dm_world.specs.Meets.{IsWorld, world_state}
 use Rattle.dm_world.specs.World.{WorldState}
 use Rattle.dm_mirror.specs.Ran.{Ran}
 
@@ -24,7 +24,7 @@ pub record IsRunning (w : World) : Type 0 where
   pub steps : List Step
   pub groups : List (List Line)
   pub point : Point
-  pub ran : Ran w.boot steps groups point (state_of w)
+  pub ran : Ran w.boot steps groups point (world_state w)
 
 -- the lines are the rule's group of this directive, and the world stands where they lead
 pub record RanOn (b : Boot) (es : List Step) (gs : List (List Line)) (pt : Point) (e : Step) (lines : List Line) (w : WorldState) : Type 0 where

@@ -5,8 +5,8 @@ ghost use Rattle.dm_schedule.specs.declared.Directive.{Directive as TheDirective
 ghost use Rattle.dm_line.specs.Todo.{Todo, Next, all_of};
 ghost use Rattle.dm_world.specs.May.{MayStep};
 ghost use Rattle.dm_world.specs.Ends.{MayEnd};
-ghost use Rattle.dm_world.specs.Meets.{IsWorld, state_of};
-ghost use Rattle.dm_world.specs.Next.{next_step};
+ghost use Rattle.dm_world.specs.Meets.{IsWorld, world_state};
+ghost use Rattle.dm_world.specs.Next.{world_next_step};
 ghost use Rattle.dm_world.specs.World.{first_world};
 ghost use Rattle.dm_run.specs.Coming.{Blames, Came, Ended, HasCome, IsAfter, IsDue, IsFor, IsAtStart, rounds_of};
 ghost use Rattle.dm_run.specs.Printed.{Lasts};
@@ -77,7 +77,7 @@ fn run_directive<K: Sink>(
     requires due { IsDue world.old directive.now (K.told out.old) }
     requires groups { world.old.groups + 2 ^ 90 ≤ 2 ^ 126 }
     ensures came { (ds rest : List TheDirective) (before : Option (List ℕ)) →
-        HasCome world.old.boot ds (all_of (directive.now ∷ rest)) before (K.told out.old) (state_of world.old) →
+        HasCome world.old.boot ds (all_of (directive.now ∷ rest)) before (K.told out.old) (world_state world.old) →
         Came world.old.boot ds (all_of rest) before (K.told out.new) world.new result }
     ensures world { OnOk result (IsWorld world.new) }
     ensures running { OnOk result (world.new.stopped ≡ false) }
@@ -109,13 +109,13 @@ fn one_group<K: Sink>(
 ) -> Result<(), Stop>
     requires world { IsWorld world.old }
     requires running { world.old.stopped ≡ false }
-    requires may { MayStep world.old.boot (state_of world.old) step.now }
+    requires may { MayStep world.old.boot (world_state world.old) step.now }
     requires groups { world.old.groups < 2 ^ 127 }
     ensures came { (ds : List TheDirective) (t : Todo) (n : Next) (before : Option (List ℕ)) →
-        HasCome world.old.boot ds t before (K.told out.old) (state_of world.old) →
-        next_step (length world.old.boot.machines) (state_of world.old) t ≡ Some n → n.step ≡ step.now →
+        HasCome world.old.boot ds t before (K.told out.old) (world_state world.old) →
+        world_next_step (length world.old.boot.machines) (world_state world.old) t ≡ Some n → n.step ≡ step.now →
         Came world.old.boot ds n.left before (K.told out.new) world.new result }
-    ensures after { OnOk result (IsAfter world.old.boot (state_of world.old) step.now (state_of world.new)) }
+    ensures after { OnOk result (IsAfter world.old.boot (world_state world.old) step.now (world_state world.new)) }
     ensures world { OnOk result (IsWorld world.new) }
     ensures running { OnOk result (world.new.stopped ≡ false) }
     ensures boot { OnOk result (world.new.boot ≡ world.old.boot) }
@@ -136,9 +136,9 @@ fn one_group<K: Sink>(
 /// Writes the lines at the end of a run.
 fn say_end<K: Sink>(world: &World, page: &mut Vec<u8>, out: &mut K) -> Result<(), Stop>
     requires valid { IsWorld world.now }
-    requires may { MayEnd (length world.now.boot.machines) (state_of world.now) }
+    requires may { MayEnd (length world.now.boot.machines) (world_state world.now) }
     ensures ended { (ds : List TheDirective) (before : Option (List ℕ)) →
-        HasCome world.now.boot ds (all_of []) before (K.told out.old) (state_of world.now) →
+        HasCome world.now.boot ds (all_of []) before (K.told out.old) (world_state world.now) →
         Ended world.now.boot ds before (K.told out.new) world.now result }
     ensures blames { Blames (K.faults out.old) (K.faults out.new) result }
     ensures writes { K.faults out.old ≤ K.faults out.new }

@@ -5,7 +5,7 @@ ghost use Rattle.dm_onekernel.specs.Boot.{IsValid};
 ghost use Rattle.dm_rule.specs.Laws.{IsStep};
 ghost use Rattle.dm_text.specs.Fits.{EndFits, LineFits};
 ghost use Rattle.dm_world.specs.Local.{ActsAlone, acts_on};
-ghost use Rattle.dm_world.specs.Meets.{state_of};
+ghost use Rattle.dm_world.specs.Meets.{world_state};
 ghost use Rattle.dm_run.specs.Coming.{IsAtStart};
 ghost use Rattle.dm_run.specs.Running.{EndsSo, IsRunning, RunsOn, StopsWorn};
 
@@ -35,13 +35,13 @@ pub fn step_on(world: &mut World, step: &Step) -> Result<Vec<Line>, Stop>
     requires running { IsRunning world.old }
     requires step { IsStep (length world.old.boot.machines) step.now }
     requires groups { world.old.groups < 2 ^ 127 }
-    ensures runs_on { IfOk result (λ lines. RunsOn (state_of world.old) world.old.boot step.now lines.items (state_of world.new)) }
+    ensures runs_on { IfOk result (λ lines. RunsOn (world_state world.old) world.old.boot step.now lines.items (world_state world.new)) }
     ensures running { OnOk result (IsRunning world.new) }
     ensures groups { OnOk result (world.new.groups ≡ world.old.groups + 1) }
     ensures fits { IfOk result (λ lines. All LineFits lines.items) }
-    ensures alone { OnOk result (ActsAlone (acts_on step.now) (state_of world.old) (state_of world.new)) }
+    ensures alone { OnOk result (ActsAlone (acts_on step.now) (world_state world.old) (world_state world.new)) }
     ensures boot { world.new.boot ≡ world.old.boot }
-    ensures worn { IfErr result (λ stop. StopsWorn world.old.boot (state_of world.old) step.now stop) }
+    ensures worn { IfErr result (λ stop. StopsWorn world.old.boot (world_state world.old) step.now stop) }
     ensures stopped { OnErr result (world.new.stopped ≡ true) }
 {
     let lines = world.step(step)?;
@@ -52,7 +52,7 @@ pub fn step_on(world: &mut World, step: &Step) -> Result<Vec<Line>, Stop>
 /// The lines at the end of a run: where everything stands then.
 pub fn end_lines(world: &World) -> Result<Vec<EndLine>, NoMemory>
     requires { IsRunning world.now }
-    ensures ends { IfOk result (λ ends. EndsSo world.now.boot (state_of world.now) ends.items) }
+    ensures ends { IfOk result (λ ends. EndsSo world.now.boot (world_state world.now) ends.items) }
     ensures fits { IfOk result (λ ends. All EndFits ends.items) }
 {
     let ends = world.end_lines()?;

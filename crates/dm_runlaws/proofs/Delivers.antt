@@ -1,26 +1,26 @@
 -- A delivery leaves one packet fewer on its wire that was never delivered.
 use Rattle.dm_runlaws.proofs.Names.{◌≡◌, ◌≢◌, ℕ, suc, ◌+◌, ◌==◌, ◌&&◌, Bool, true, false, not, filter, nat_lt, List, [], ◌∷◌, ◌++◌, length, refl, ap, ◌∙◌, sym, subst, inl, inr, arith, ⊤, if◌then◌else◌, slice_get, Option, None, Some}
-use Rattle.dm_runlaws.proofs.Names.{cases_Bool, nat_tests, Boot, Step, Line, Load, first_undelivered, undelivered, Part, Says, Routes, Again, Owns, Transmits, Spelled, spelled, window, Point, moved, group_of, View, Pair, Sent, view_after}
-use Rattle.dm_runlaws.proofs.Names.{after_head, after_packet, marked, marked_at, gone_after, at_least, IsNetLine, group_is, onward, says_view, transmits_view, said, mark_next}
+use Rattle.dm_runlaws.proofs.Names.{cases_Bool, nat_tests, Boot, Step, Line, Load, first_undelivered, undelivered, Part, Says, Routes, Again, Owns, Transmits, Spelled, spelled, pair_window, Point, moved, group_of, View, Pair, SentLoad}
+use Rattle.dm_runlaws.proofs.Names.{view_after, after_head, after_packet, marked, marked_at, gone_after, at_least, IsNetLine, group_is, onward, says_view, transmits_view, said, mark_next}
 use Rattle.dm_rule.specs.Rule as rule
 use Rattle.dm_runlaws.proofs.Wires.{set_keeps, taken_keeps}
 
 -- how many packets of a wire were never delivered
-abbrev pub waiting : List Sent → ℕ
+abbrev pub waiting : List SentLoad → ℕ
 waiting [] = 0
 waiting (s ∷ ss) = (if s.delivered then 0 else 1) + waiting ss
 
-abbrev pub wire_on : View → ℕ → ℕ → List Sent
+abbrev pub wire_on : View → ℕ → ℕ → List SentLoad
 wire_on v a b = (v.pair a b).wire
 
 abbrev pub waits : View → ℕ → ℕ → ℕ
 waits v a b = waiting (wire_on v a b)
 
 -- the first of them is marked
-pub record Marks (ss : List Sent) (n : ℕ) : Type 0 where
+pub record Marks (ss : List SentLoad) (n : ℕ) : Type 0 where
   pub fewer : suc (waiting (marked_at ss n (slice_get ss n))) ≡ waiting ss
 
-marks_behind : (s : Sent) (ss : List Sent) (n : ℕ) → s.delivered ≡ true → Marks ss n → Marks (s ∷ ss) (suc n)
+marks_behind : (s : SentLoad) (ss : List SentLoad) (n : ℕ) → s.delivered ≡ true → Marks ss n → Marks (s ∷ ss) (suc n)
 marks_behind s ss n seen h =
     let before : waiting (s ∷ ss) ≡ 0 + waiting ss = ap (λ (c : Bool). (if c then 0 else 1) + waiting ss) seen in
     let after_ : waiting (marked_at (s ∷ ss) (suc n) (slice_get ss n)) ≡ 0 + waiting (marked_at ss n (slice_get ss n)) =
@@ -28,12 +28,12 @@ marks_behind s ss n seen h =
     let f = h.fewer in
     record { fewer = omega (arith, before, after_, f) }
 
-marks_first : (s : Sent) (ss : List Sent) → s.delivered ≡ false → Marks (s ∷ ss) 0
+marks_first : (s : SentLoad) (ss : List SentLoad) → s.delivered ≡ false → Marks (s ∷ ss) 0
 marks_first s ss new =
     let before : waiting (s ∷ ss) ≡ 1 + waiting ss = ap (λ (c : Bool). (if c then 0 else 1) + waiting ss) new in
     record { fewer = omega (arith, before) }
 
-first_at : (k : ℕ) (ss : List Sent) (j : ℕ) → first_undelivered k ss ≡ Some j → (n : ℕ) × (j ≡ k + n) × Marks ss n
+first_at : (k : ℕ) (ss : List SentLoad) (j : ℕ) → first_undelivered k ss ≡ Some j → (n : ℕ) × (j ≡ k + n) × Marks ss n
 first_at k [] j e = cc
 first_at k (s ∷ ss) j e = elim (cases_Bool s.delivered) [
   | inl seen ↦
@@ -45,7 +45,7 @@ first_at k (s ∷ ss) j e = elim (cases_Bool s.delivered) [
       (0, omega (arith, g), marks_first s ss new)
 ]
 
-pub first_marks : (ss : List Sent) (k : ℕ) → first_undelivered 0 ss ≡ Some k → Marks ss k
+pub first_marks : (ss : List SentLoad) (k : ℕ) → first_undelivered 0 ss ≡ Some k → Marks ss k
 first_marks ss k e =
     let (n, at, h) = first_at 0 ss k e in
     let f : n ≡ k = omega (arith, at) in
@@ -83,23 +83,23 @@ repeats_back : (a c : ℕ) (ns : List ℕ) → AllBack a c (rule.repeats c a ns)
 repeats_back a c [] = tt
 repeats_back a c (n ∷ ns) = ((refl, refl), repeats_back a c ns)
 
-takes_back : (a c : ℕ) (ns : List ℕ) → AllBack a c (rule.takes a c ns)
+takes_back : (a c : ℕ) (ns : List ℕ) → AllBack a c (rule.taking_parts a c ns)
 takes_back a c [] = tt
 takes_back a c (n ∷ ns) = (tt, takes_back a c ns)
 
 data_back : (a c : ℕ) (p : Pair) (n : ℕ) (x y : Bool)
-    → AllBack a c (if x then Says (Line.Old a c n) ∷ Transmits c a (Load.Ack p.taken) ∷ [] else if y then Says (Line.Early a c n) ∷ Transmits c a (Load.Ack p.taken) ∷ [] else rule.takes_on a c n (rule.kept_from p.kept (n + 1) window))
+    → AllBack a c (if x then Says (Line.Old a c n) ∷ Transmits c a (Load.Ack p.taken) ∷ [] else if y then Says (Line.Early a c n) ∷ Transmits c a (Load.Ack p.taken) ∷ [] else rule.takes_on a c n (rule.kept_from p.kept (n + 1) pair_window))
 data_back a c p n true y = (tt, ((refl, refl), tt))
 data_back a c p n false true = (tt, ((refl, refl), tt))
 data_back a c p n false false =
-    let ns = n ∷ rule.kept_from p.kept (n + 1) window in
-    both_back a c (rule.takes a c ns) (Transmits c a (Load.Ack (n + 1 + length (rule.kept_from p.kept (n + 1) window))) ∷ []) (takes_back a c ns) ((refl, refl), tt)
+    let ns = n ∷ rule.kept_from p.kept (n + 1) pair_window in
+    both_back a c (rule.taking_parts a c ns) (Transmits c a (Load.Ack (n + 1 + length (rule.kept_from p.kept (n + 1) pair_window))) ∷ []) (takes_back a c ns) ((refl, refl), tt)
 
 comes_back : (a c : ℕ) (p q : Pair) (l : Load) → AllBack a c (rule.comes a c p q l)
 comes_back a c p q (Load.Data n) = data_back a c p n (nat_lt n p.taken) (nat_lt p.taken n)
 comes_back a c p q (Load.Ack n) = (tt, repeats_back a c (rule.let_go q (rule.more n q.acked)))
 
-arrives_back : (a c : ℕ) (p q : Pair) (o : Option Sent) → AllBack a c (rule.arrives a c p q o)
+arrives_back : (a c : ℕ) (p q : Pair) (o : Option SentLoad) → AllBack a c (rule.arrives a c p q o)
 arrives_back a c p q None = (tt, tt)
 arrives_back a c p q (Some s) = comes_back a c p q s.load
 
@@ -129,4 +129,4 @@ fewer_wait b pt a c k w apart first e =
     let start = moved pt (Line.Head (Step.Deliver a c k)) pt.kernel in
     let same : wire_on w.point.view a c ≡ marked_at (wire_on pt.view a c) k s =
     ap (λ (q : Point). wire_on q.view a c) (sym g.point) ∙ parts_wire a c qs start g.rest apart (arrives_back a c (pt.view.pair a c) (pt.view.pair c a) s) (ap (spelled start) f ∙ g.said) ∙ head_wire pt.view a c k in
-    ap (λ (ss : List Sent). suc (waiting ss)) same ∙ (first_marks (wire_on pt.view a c) k first).fewer
+    ap (λ (ss : List SentLoad). suc (waiting ss)) same ∙ (first_marks (wire_on pt.view a c) k first).fewer

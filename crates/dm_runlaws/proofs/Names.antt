@@ -10,9 +10,9 @@ pub use Rattle.dm_linkupdate.proofs.Names.{None}
 pub use Rattle.dm_procman.proofs.Names.{Boot, IsValid}
 pub use Rattle.dm_laws.proofs.Names.{false≢true, option_map, replay, ⊤}
 pub use Rattle.dm_datamove.proofs.Names.{All-nil}
-pub use Rattle.dm_rule.proofs.Names.{Again, AreStill, Directive, IsStep, IsStill, Leads, Line, Load, Next, Owns, Pair, Part, Point, Routes, Says, Sent, Spelled, Step, Todo, Transmits, View, actor, after, after_head, after_line}
-pub use Rattle.dm_rule.proofs.Names.{after_packet, after_put, all_of, at_least, at_pair, bind-is, filter, first_point, gone_after, group_of, has_mail, is_quiet, marked, marked_at, moved, next_step, oldest, routed_on, spelled, view_after}
-pub use Rattle.dm_rule.proofs.Names.{window, with_pair}
+pub use Rattle.dm_rule.proofs.Names.{Again, AreStill, Directive, IsStep, IsStill, Leads, Line, Load, Next, Owns, Pair, Part, Point, Routes, Says, SentLoad, Spelled, Step, Todo, Transmits, View, actor, after, after_head, after_line}
+pub use Rattle.dm_rule.proofs.Names.{after_packet, after_put, all_of, at_least, at_pair, bind-is, filter, first_point, gone_after, group_of, has_mail, is_quiet, marked, marked_at, moved, next_step, oldest, pair_window, routed_on, spelled}
+pub use Rattle.dm_rule.proofs.Names.{view_after, with_pair}
 pub use Rattle.dm_rule.specs.Worn.{IsWorn}
 pub use Rattle.dm_places.proofs.Names.{Placed}
 pub use Rattle.dm_kernel.proofs.Names.{All-head, All-tail}
@@ -25,11 +25,12 @@ pub use Rattle.dm_settlelaws.proofs.Falls.LeftFalls.{left_falls}
 pub use Rattle.dm_settlelaws.proofs.Falls.Less.{Falls, by_left}
 pub use Rattle.dm_settlelaws.proofs.FewSteps.FewPuts.{few_puts}
 pub use Rattle.dm_settlelaws.proofs.Grows.{one_longer}
-pub use Rattle.dm_settlelaws.proofs.Names.{IsKept, IsLess, IsSettleStep, Left, Pass, Settle, SettlesBy, Two, begin_pass, below, count-append, first_undelivered, group_after, here_or_later, in_pass, is_over, leads_append, left, next}
-pub use Rattle.dm_settlelaws.proofs.Names.{next_delivery, next_directive, next_pass, next_turn, pairs_of, pass_begun, passes_quiet, quiet_passes, says_put, says_view, settles, stands_once_always, takes_turn, transmits_view, undelivered}
+pub use Rattle.dm_settlelaws.proofs.Names.{IsKept, IsLess, IsSettleStep, Left, Pass, Settle, SettlesBy, Two, begin_pass, below, count-append, first_undelivered, group_after, here_or_later, in_pass, is_over, leads_append, left}
+pub use Rattle.dm_settlelaws.proofs.Names.{next_and_left, next_delivery, next_directive, next_pass, next_turn, pairs_of, pass_begun, passes_quiet, quiet_passes, says_put, says_view, settles, stands_once_always, takes_turn, transmits_view}
+pub use Rattle.dm_settlelaws.proofs.Names.{undelivered}
 pub use Rattle.dm_settlelaws.proofs.PassHas.{settles_always}
 pub use Rattle.dm_settlelaws.proofs.Rests.EndsQuiet.{or_is, pass_stays, settles_is, unless_is}
-pub use Rattle.dm_node.specs.Out.{packet_of}
+pub use Rattle.dm_node.specs.Out.{packet_of_load}
 pub use Rattle.dm_world.proofs.Names.{Round, WorldState, bytes_at, is_pair}
 pub use Rattle.dm_mirror.proofs.Deliver.Events.{mark_next}
 pub use Rattle.dm_mirror.proofs.Deliver.Outs.{bytes_marked}
@@ -40,7 +41,7 @@ pub use Rattle.dm_mirror.proofs.Names.{AreMessages, GoesOn, History, IsDirective
 pub use Rattle.dm_mirror.proofs.Next.{IsBelow, all_below, all_pairs, next_fits}
 pub use Rattle.dm_mirror.proofs.Staying.{kernel_stays}
 pub use Rattle.dm_mirror.specs.Run.{IsGood}
-pub use Rattle.dm_mirror.specs.Stands.{id_of}
+pub use Rattle.dm_mirror.specs.Stands.{message_id}
 pub use Rattle.dm_runlaws.specs.Order.{GoodInOrder, MoveNothing}
 pub use Rattle.dm_runlaws.specs.Packets.{GoesTo, HasNumber, PacketsAgree, PacketsSpell, Spells, number_in, number_of}
 pub use Rattle.dm_runlaws.specs.Settling.{SettleFew, puts_in}

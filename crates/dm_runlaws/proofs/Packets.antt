@@ -1,8 +1,8 @@
 -- All packets of a number spell the message that was routed under it.
 use Rattle.dm_runlaws.proofs.Names.{◌≡◌, ◌≢◌, ℕ, zero, suc, ◌+◌, ◌-◌, ◌<◌, ◌≤◌, ◌==◌, ◌&&◌, Bool, true, false, not, filter, List, [], ◌∷◌, ◌++◌, map, drop, refl, ap, ◌∙◌, sym, subst, inl, inr, arith, if◌then◌else◌, slice_get, option_map}
-use Rattle.dm_runlaws.proofs.Names.{Option, None, Some, cases_Bool, nat_tests, Message, MsgId, spelling, bytes_at, is_pair, load_at, Boot, Step, Line, bind-is, IsStep, Point, after, after_line, View, Pair, Sent, view_after, routed_on}
-use Rattle.dm_runlaws.proofs.Names.{marked, marked_at, gone_after, at_least, actor, pair_same, line_view, Placed, group_after, packet_of, WorldState, PutsFrom, marked_by, GoesOn, AreMessages, History, PairStands, Stands, StandsWith}
-use Rattle.dm_runlaws.proofs.Names.{bytes_of, line_of, load_of, id_of, acts_locally, machines_group, plainly_is, kernel_stays, HasNumber, number_in, number_of, GoesTo, Spells, PacketsSpell, PacketsAgree, head_less, bytes_marked}
+use Rattle.dm_runlaws.proofs.Names.{Option, None, Some, cases_Bool, nat_tests, Message, MsgId, spelling, bytes_at, is_pair, load_at, Boot, Step, Line, bind-is, IsStep, Point, after, after_line, View, Pair, SentLoad, view_after, routed_on}
+use Rattle.dm_runlaws.proofs.Names.{marked, marked_at, gone_after, at_least, actor, pair_same, line_view, Placed, group_after, packet_of_load, WorldState, PutsFrom, marked_by, GoesOn, AreMessages, History, PairStands, Stands, StandsWith}
+use Rattle.dm_runlaws.proofs.Names.{bytes_of, line_of, load_of, message_id, acts_locally, machines_group, plainly_is, kernel_stays, HasNumber, number_in, number_of, GoesTo, Spells, PacketsSpell, PacketsAgree, head_less, bytes_marked}
 use Rattle.dm_packet.specs.declared.Packet.TheVariants as packet
 use Rattle.dm_wire.specs.Sent as wire
 use Rattle.dm_stream.specs.Packets as stream
@@ -35,8 +35,8 @@ carries_some : (ps : List (stream.Packet Message)) (k n : ℕ) (o : Option (stre
 carries_some ps k n (Some p) is e = carries_load ps k n p p.load is refl e
 carries_some ps k n None is e = cc
 
-carries : (ps : List (stream.Packet Message)) (ws : List Sent) (k n : ℕ) → map line_of ps ≡ ws → number_of (slice_get ws k) ≡ Some n → Carries ps k n
-carries ps ws k n are e = carries_some ps k n (slice_get ps k) refl (ap number_of (sym (at_map line_of ps k)) ∙ ap (λ (xs : List Sent). number_of (slice_get xs k)) are ∙ e)
+carries : (ps : List (stream.Packet Message)) (ws : List SentLoad) (k n : ℕ) → map line_of ps ≡ ws → number_of (slice_get ws k) ≡ Some n → Carries ps k n
+carries ps ws k n are e = carries_some ps k n (slice_get ps k) refl (ap number_of (sym (at_map line_of ps k)) ∙ ap (λ (xs : List SentLoad). number_of (slice_get xs k)) are ∙ e)
 
 carried_at : (ps : List (stream.Packet Message)) (k n : ℕ) (c : Carries ps k n) → load_at ps k ≡ Some (stream.Data n c.message)
 unfolding load_at
@@ -44,7 +44,7 @@ carried_at ps k n c = ap stream.load_in c.there ∙ ap Some c.load
 
 carried_bytes : (a c : ℕ) (ps : List (stream.Packet Message)) (ws : List wire.Sent) (k n : ℕ) (h : Carries ps k n) → ws ≡ map (bytes_of a c) ps → bytes_at ws k ≡ Some (spelling (packet.Data a c n h.message))
 carried_bytes a c ps ws k n h are =
-    ap (λ (xs : List wire.Sent). bytes_at xs k) are ∙ ap (option_map (λ (s : wire.Sent). s.bytes)) (at_map (bytes_of a c) ps k ∙ ap (option_map (bytes_of a c)) h.there) ∙ ap (λ (l : stream.Load Message). Some (spelling (packet_of a c l))) h.load
+    ap (λ (xs : List wire.Sent). bytes_at xs k) are ∙ ap (option_map (λ (s : wire.Sent). s.bytes)) (at_map (bytes_of a c) ps k ∙ ap (option_map (bytes_of a c)) h.there) ∙ ap (λ (l : stream.Load Message). Some (spelling (packet_of_load a c l))) h.load
 
 -- one pair
 record OfPair (b : Boot) (pt : Point) (l : Placed) (w : WorldState) (h : History) (a c k n : ℕ) : Type 0 where
@@ -58,9 +58,9 @@ of_pair b pt l w h a c k n s e =
     record { message = x.message; given = s.stream.sent.data_given k n x.message (carried_at (h.packets a c) k n x); bytes = carried_bytes a c (h.packets a c) (w.wires a c) k n x s.bytes }
 
 -- a message that wasn't taken is in the bag
-routed_there : (bag : MsgId → Option Message) (ids : List MsgId) (ms : List Message) (t n : ℕ) (m : Message) → map id_of ms ≡ ids → AreMessages bag (drop t ids) (drop t ms) → t ≤ n → slice_get ms n ≡ Some m → (slice_get ids n ≡ Some m.id) × (bag m.id ≡ Some m)
+routed_there : (bag : MsgId → Option Message) (ids : List MsgId) (ms : List Message) (t n : ℕ) (m : Message) → map message_id ms ≡ ids → AreMessages bag (drop t ids) (drop t ms) → t ≤ n → slice_get ms n ≡ Some m → (slice_get ids n ≡ Some m.id) × (bag m.id ≡ Some m)
 routed_there bag ids ms t n m names are le there =
-    let name : slice_get ids n ≡ Some m.id = ap (λ (xs : List MsgId). slice_get xs n) (sym names) ∙ at_map id_of ms n ∙ ap (option_map id_of) there in
+    let name : slice_get ids n ≡ Some m.id = ap (λ (xs : List MsgId). slice_get xs n) (sym names) ∙ at_map message_id ms n ∙ ap (option_map message_id) there in
     let place : n ≡ t + (n - t) = omega (arith, le) in
     let id_at : slice_get (map bag (drop t ids)) (n - t) ≡ Some (bag m.id) = at_map bag (drop t ids) (n - t) ∙ ap (option_map bag) (at_drop t ids (n - t) n place ∙ name) in
     let message_at : slice_get (map Some (drop t ms)) (n - t) ≡ Some (Some m) = at_map Some (drop t ms) (n - t) ∙ ap (option_map Some) (at_drop t ms (n - t) n place ∙ there) in
@@ -84,15 +84,15 @@ agree_pair b pt l w h a c j k n s e f =
     y.bytes ∙ ap (λ (z : Message). Some (spelling (packet.Data a c n z))) m ∙ sym x.bytes
 
 -- the numbers of a wire stay, line by line
-push_at : (ws : List Sent) (s : Sent) (k n : ℕ) → number_of (slice_get ws k) ≡ Some n → number_of (slice_get (ws ++ s ∷ []) k) ≡ Some n
+push_at : (ws : List SentLoad) (s : SentLoad) (k n : ℕ) → number_of (slice_get ws k) ≡ Some n → number_of (slice_get (ws ++ s ∷ []) k) ≡ Some n
 push_at [] s k n e = cc
 push_at (x ∷ ws) s zero n e = e
 push_at (x ∷ ws) s (suc k) n e = push_at ws s k n e
 
-mark_at : (ws : List Sent) (i : ℕ) (o : Option Sent) (k n : ℕ) → slice_get ws i ≡ o → number_of (slice_get ws k) ≡ Some n → number_of (slice_get (marked_at ws i o) k) ≡ Some n
+mark_at : (ws : List SentLoad) (i : ℕ) (o : Option SentLoad) (k n : ℕ) → slice_get ws i ≡ o → number_of (slice_get ws k) ≡ Some n → number_of (slice_get (marked_at ws i o) k) ≡ Some n
 mark_at ws i None k n at e = e
 mark_at [] i (Some s) k n at e = cc
-mark_at (x ∷ ws) zero (Some s) zero n at e = let f : x ≡ s = cc in ap (λ (y : Sent). number_in y.load) (sym f) ∙ e
+mark_at (x ∷ ws) zero (Some s) zero n at e = let f : x ≡ s = cc in ap (λ (y : SentLoad). number_in y.load) (sym f) ∙ e
 mark_at (x ∷ ws) zero (Some s) (suc k) n at e = e
 mark_at (x ∷ ws) (suc i) (Some s) zero n at e = e
 mark_at (x ∷ ws) (suc i) (Some s) (suc k) n at e = mark_at ws i (Some s) k n at e
@@ -101,7 +101,7 @@ abbrev Has : View → ℕ → ℕ → ℕ → ℕ → Type 0
 Has v a c k n = number_of (slice_get (v.pair a c).wire k) ≡ Some n
 
 has_same : (v w : View) (a c k n : ℕ) → (w.pair a c).wire ≡ (v.pair a c).wire → Has v a c k n → Has w a c k n
-has_same v w a c k n e h = ap (λ (ws : List Sent). number_of (slice_get ws k)) e ∙ h
+has_same v w a c k n e h = ap (λ (ws : List SentLoad). number_of (slice_get ws k)) e ∙ h
 
 -- a pair is set to one with a wire that keeps its numbers
 set_has : (v : View) (x y : ℕ) (p : Pair) (a c k n : ℕ) → (number_of (slice_get (v.pair x y).wire k) ≡ Some n → number_of (slice_get p.wire k) ≡ Some n) → Has v a c k n → number_of (slice_get (if (x == a) && (y == c) then p else v.pair a c).wire k) ≡ Some n

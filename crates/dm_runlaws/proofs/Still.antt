@@ -1,7 +1,7 @@
 -- Where no directive moves a process, neither does any elementary one of it.
-use Rattle.dm_runlaws.proofs.Names.{◌≡◌, ℕ, zero, suc, Bool, true, false, List, [], ◌∷◌, ◌++◌, length, refl, ap, ◌∙◌, sym, subst, ⊤, if◌then◌else◌, Option, None, Some, All-nil, Boot, Step, Directive, Line, Pass, Two, Todo, Next, next}
-use Rattle.dm_runlaws.proofs.Names.{all_of, below, pairs_of, here_or_later, next_delivery, pass_begun, takes_turn, next_turn, in_pass, or, begin_pass, settles, next_directive, next_pass, is_over, following, next_step, undelivered, IsRun}
-use Rattle.dm_runlaws.proofs.Names.{IsStep, IsStill, AreStill, Point, first_point, has_mail, is_quiet, LeadsBy, receives_in_order, IsTwo, IsTodo, joined, machines_group, next_fits, MoveNothing, GoodInOrder}
+use Rattle.dm_runlaws.proofs.Names.{◌≡◌, ℕ, zero, suc, Bool, true, false, List, [], ◌∷◌, ◌++◌, length, refl, ap, ◌∙◌, sym, subst, ⊤, if◌then◌else◌, Option, None, Some, All-nil, Boot, Step, Directive, Line, Pass, Two, Todo, Next}
+use Rattle.dm_runlaws.proofs.Names.{next_and_left, all_of, below, pairs_of, here_or_later, next_delivery, pass_begun, takes_turn, next_turn, in_pass, or, begin_pass, settles, next_directive, next_pass, is_over, following, next_step}
+use Rattle.dm_runlaws.proofs.Names.{undelivered, IsRun, IsStep, IsStill, AreStill, Point, first_point, has_mail, is_quiet, LeadsBy, receives_in_order, IsTwo, IsTodo, joined, machines_group, next_fits, MoveNothing, GoodInOrder}
 
 -- what follows moves nothing, and neither does what is left then
 abbrev NextStill : Option Next → Type 0
@@ -20,7 +20,7 @@ delivery_still : (first : ℕ → ℕ → Option ℕ) (ps : List Two) → FirstS
 delivery_still first [] = tt
 delivery_still first (p ∷ ps) = here_still p ps (first p.from p.to) (next_delivery first ps) (delivery_still first ps)
 
-turn_or_later : (t : Todo) (m : ℕ) (ms : List ℕ) (b : Bool) (o : Option Next) → MoveNothing t.directives → NextStill o → NextStill (if b then next (Step.Turn m) (record t { pairs = []; machines = ms }) else o)
+turn_or_later : (t : Todo) (m : ℕ) (ms : List ℕ) (b : Bool) (o : Option Next) → MoveNothing t.directives → NextStill o → NextStill (if b then next_and_left (Step.Turn m) (record t { pairs = []; machines = ms }) else o)
 turn_or_later t m ms true o h later = (tt, h)
 turn_or_later t m ms false o h later = later
 

@@ -14,7 +14,7 @@ use Rattle.dm_line.specs.declared.line.Load.{Load}
 use Rattle.dm_line.specs.declared.line.Load.TheVariants as load
 use Rattle.dm_rule.specs.Laws.{IsStep, Leads}
 use Rattle.dm_rule.specs.Point.{Point, first_point}
-use Rattle.dm_rule.specs.View.{Sent}
+use Rattle.dm_rule.specs.View.{SentLoad}
 use Rattle.dm_world.specs.World.{WorldState}
 use Rattle.dm_mirror.specs.Own.{told_of}
 use Rattle.dm_mirror.specs.Run.{GoesOn}
@@ -25,7 +25,7 @@ abbrev pub number_in : Load → Option ℕ
 number_in (load.Data n) = Some n
 number_in (load.Ack n) = None
 
-abbrev pub number_of : Option Sent → Option ℕ
+abbrev pub number_of : Option SentLoad → Option ℕ
 number_of None = None
 number_of (Some s) = number_in s.load
 

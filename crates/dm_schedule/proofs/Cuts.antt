@@ -1,6 +1,6 @@
 -- Cutting a text at its line feeds, and a line at its blanks.
 use Rattle.dm_schedule.proofs.Names.{ℕ, zero, suc, Bool, true, false, not, ◌==◌, ◌&&◌, nat_lt, ◌≡◌, ◌+◌, ◌-◌, ◌<◌, ◌≤◌, List, [], ◌∷◌, length, take, drop, get_or, length-drop, add-zero, refl, ap, sym, ◌∙◌, arith, position, position_or_len}
-use Rattle.dm_schedule.proofs.Names.{Some, None, if◌then◌else◌, take_all, length-take-le, get_or-drop, nat_tests, drop-length, position-Some, ends_line, is_return, line_ends, lines, is_blank, pieces, words, onto_first}
+use Rattle.dm_schedule.proofs.Names.{Some, None, if◌then◌else◌, take_all, length-take-le, get_or-drop, nat_tests, drop-length, position-Some, ends_line, is_return, line_ends, lines, is_blank, pieces_between_blanks, words, onto_first}
 
 -- by the first item, where the first that passes would stand behind the end
 none_passes-first : (test : ℕ → Bool) (x : ℕ) (xs : List ℕ) (k : ℕ) (b : Bool) → test x ≡ b → length (x ∷ xs) ≤ position_or_len test (x ∷ xs) → k < length (x ∷ xs) → (length xs ≤ position_or_len test xs → (k : ℕ) → k < length xs → test (get_or xs k 0) ≡ false) → test (get_or (x ∷ xs) k 0) ≡ false
@@ -43,21 +43,21 @@ drop-more x xs i =
     ap (λ (k : ℕ). drop k (x ∷ xs)) e
 
 -- behind the first blank, the rest is cut
-pieces-at : (xs : List ℕ) (i : ℕ) → i < length xs → is_blank (get_or xs i 0) ≡ true → ((k : ℕ) → k < i → is_blank (get_or xs k 0) ≡ false) → pieces xs ≡ take i xs ∷ pieces (drop (i + 1) xs)
-pieces-at [] i h p q = absurd (omega arith)
-pieces-at (x ∷ xs) zero h p q = rw p refl
-pieces-at (x ∷ xs) (suc i) h p q =
-    let e : pieces xs ≡ take i xs ∷ pieces (drop (i + 1) xs) = pieces-at xs i (omega arith) p (λ k l. q (suc k) (omega arith)) in
+pieces_between_blanks-at : (xs : List ℕ) (i : ℕ) → i < length xs → is_blank (get_or xs i 0) ≡ true → ((k : ℕ) → k < i → is_blank (get_or xs k 0) ≡ false) → pieces_between_blanks xs ≡ take i xs ∷ pieces_between_blanks (drop (i + 1) xs)
+pieces_between_blanks-at [] i h p q = absurd (omega arith)
+pieces_between_blanks-at (x ∷ xs) zero h p q = rw p refl
+pieces_between_blanks-at (x ∷ xs) (suc i) h p q =
+    let e : pieces_between_blanks xs ≡ take i xs ∷ pieces_between_blanks (drop (i + 1) xs) = pieces_between_blanks-at xs i (omega arith) p (λ k l. q (suc k) (omega arith)) in
     let f : is_blank x ≡ false = q 0 (omega arith) in
     let g : drop (suc i + 1) (x ∷ xs) ≡ drop (i + 1) xs = drop-more x xs i in
     rw (f, e, g) refl
 
 -- without a blank, there is one piece
-pieces-none : (x : ℕ) (xs : List ℕ) → ((k : ℕ) → k < length (x ∷ xs) → is_blank (get_or (x ∷ xs) k 0) ≡ false) → pieces (x ∷ xs) ≡ (x ∷ xs) ∷ []
-pieces-none x [] q = let f : is_blank x ≡ false = q 0 (omega arith) in rw f refl
-pieces-none x (y ∷ xs) q =
+pieces_between_blanks-none : (x : ℕ) (xs : List ℕ) → ((k : ℕ) → k < length (x ∷ xs) → is_blank (get_or (x ∷ xs) k 0) ≡ false) → pieces_between_blanks (x ∷ xs) ≡ (x ∷ xs) ∷ []
+pieces_between_blanks-none x [] q = let f : is_blank x ≡ false = q 0 (omega arith) in rw f refl
+pieces_between_blanks-none x (y ∷ xs) q =
     let f : is_blank x ≡ false = q 0 (omega arith) in
-    let e : pieces (y ∷ xs) ≡ (y ∷ xs) ∷ [] = pieces-none y xs (λ k l. q (suc k) (omega arith)) in
+    let e : pieces_between_blanks (y ∷ xs) ≡ (y ∷ xs) ∷ [] = pieces_between_blanks-none y xs (λ k l. q (suc k) (omega arith)) in
     rw (f, e) refl
 
 -- a blank before the words
@@ -101,7 +101,7 @@ words-first xs i e l =
     let h = position-Some is_blank xs i 0 e in
     let f : length (take i xs) ≡ i = length-take-le i xs (omega (arith, h.0)) in
     let g : not (length (take i xs) == 0) ≡ true = grind (arith, nat_tests, f) in
-    rw (pieces-at xs i h.0 h.1 h.2, g) refl
+    rw (pieces_between_blanks-at xs i h.0 h.1 h.2, g) refl
 
 -- or it is all
 words-all : (xs : List ℕ) → ((k : ℕ) → k < length xs → is_blank (get_or xs k 0) ≡ false) → 0 < length xs → words xs ≡ xs ∷ words []
@@ -109,7 +109,7 @@ unfolding words
 words-all [] q l = absurd (omega arith)
 words-all (x ∷ xs) q l =
     let g : not (length (x ∷ xs) == 0) ≡ true = grind (arith, nat_tests) in
-    rw (pieces-none x xs q, g) refl
+    rw (pieces_between_blanks-none x xs q, g) refl
 
 pub words-whole : (xs : List ℕ) → position is_blank xs ≡ None → 0 < length xs → words xs ≡ xs ∷ words []
 words-whole xs e l = words-all xs (position-None is_blank xs e) l

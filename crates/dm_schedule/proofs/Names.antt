@@ -8,10 +8,10 @@ pub use Rattle.std.proofs.lemmas.List.Quantifiers.{position-Some}
 pub use Rattle.std.specs.List.{position, position_or_len}
 pub use Rattle.std.specs.Prelude.{Err, None, Ok, Option, Some, if◌then◌else◌, option_to_list}
 unfoldable pub use Rattle.dm_schedule.specs.Keywords.{keyword_of}
-pub use Rattle.dm_schedule.specs.Lines.{ends_line, is_blank, is_return, line_ends, onto_first, pieces}
+pub use Rattle.dm_schedule.specs.Lines.{ends_line, is_blank, is_return, line_ends, onto_first, pieces_between_blanks}
 unfoldable pub use Rattle.dm_schedule.specs.Lines.{lines, words}
 pub use Rattle.dm_schedule.specs.Numbers.{going_on}
-unfoldable pub use Rattle.dm_schedule.specs.Numbers.{number_of, process_of}
+unfoldable pub use Rattle.dm_schedule.specs.Numbers.{number_of_word, process_of}
 pub use Rattle.dm_schedule.specs.Schedule.{Accepted, Refused, Schedule, also, number_of_fault}
 unfoldable pub use Rattle.dm_schedule.specs.Schedule.{directive_of, directives_of, line_directive, lines_from}
 pub use Rattle.dm_schedule.specs.declared.Directive.{Directive}

@@ -10,18 +10,18 @@ abbrev pub keywords : List Keyword
 keywords = Turn ∷ Tick ∷ Deliver ∷ Migrate ∷ Round ∷ Spin ∷ Settle ∷ []
 
 -- the word that a keyword is
-abbrev pub word_of : Keyword → List ℕ
-word_of Turn = codes "turn"
-word_of Tick = codes "tick"
-word_of Deliver = codes "deliver"
-word_of Migrate = codes "migrate"
-word_of Round = codes "round"
-word_of Spin = codes "spin"
-word_of Settle = codes "settle"
+abbrev pub word_of_keyword : Keyword → List ℕ
+word_of_keyword Turn = codes "turn"
+word_of_keyword Tick = codes "tick"
+word_of_keyword Deliver = codes "deliver"
+word_of_keyword Migrate = codes "migrate"
+word_of_keyword Round = codes "round"
+word_of_keyword Spin = codes "spin"
+word_of_keyword Settle = codes "settle"
 
 -- the keyword that a word is, if it is one
 unfoldable pub keyword_of : List ℕ → Option Keyword
-keyword_of word = find (λ k. bytes_eq word (word_of k)) keywords
+keyword_of word = find (λ k. bytes_eq word (word_of_keyword k)) keywords
 
 -- what an operand is: a machine, a process, the place of a packet, or a number of rounds
 pub data Operand : Type 0 where

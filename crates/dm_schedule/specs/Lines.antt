@@ -31,10 +31,10 @@ abbrev pub is_blank : ℕ → Bool
 is_blank c = (c == 32) || (c == 9)
 
 -- the pieces of a line between its blanks
-abbrev pub pieces : List ℕ → List (List ℕ)
-pieces [] = []
-pieces (c ∷ cs) = if is_blank c then [] ∷ pieces cs else onto_first c (pieces cs)
+abbrev pub pieces_between_blanks : List ℕ → List (List ℕ)
+pieces_between_blanks [] = []
+pieces_between_blanks (c ∷ cs) = if is_blank c then [] ∷ pieces_between_blanks cs else onto_first c (pieces_between_blanks cs)
 
 -- the words of a line: its pieces that aren't empty
 unfoldable pub words : List ℕ → List (List ℕ)
-words line = filter (λ word. not (length word == 0)) (pieces line)
+words line = filter (λ word. not (length word == 0)) (pieces_between_blanks line)

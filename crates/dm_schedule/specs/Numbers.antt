@@ -15,14 +15,14 @@ going_on n [] = Some n
 going_on n (c ∷ cs) = if is_digit c then going_on (n * 10 + (c - 48)) cs else None
 
 -- the number that a word is: one to ten digits
-unfoldable pub number_of : List ℕ → Option ℕ
-number_of word = if nat_le 1 (length word) && nat_le (length word) 10 then going_on 0 word else None
+unfoldable pub number_of_word : List ℕ → Option ℕ
+number_of_word word = if nat_le 1 (length word) && nat_le (length word) 10 then going_on 0 word else None
 
 -- the name that two numbers make, if both are there
-abbrev pub named : Option ℕ → Option ℕ → Option Pid
-named None num = None
-named (Some home) None = None
-named (Some home) (Some num) = Some (pid_of home num)
+abbrev pub pid_from_numbers : Option ℕ → Option ℕ → Option Pid
+pid_from_numbers None num = None
+pid_from_numbers (Some home) None = None
+pid_from_numbers (Some home) (Some num) = Some (pid_of home num)
 
 -- a point
 abbrev pub is_point : ℕ → Bool
@@ -30,4 +30,4 @@ is_point c = c == 46
 
 -- the name of a process that a word is: a number, a point and a number
 unfoldable pub process_of : List ℕ → Option Pid
-process_of word = option_and_then (λ i. named (number_of (take i word)) (number_of (drop (i + 1) word))) (position is_point word)
+process_of word = option_and_then (λ i. pid_from_numbers (number_of_word (take i word)) (number_of_word (drop (i + 1) word))) (position is_point word)

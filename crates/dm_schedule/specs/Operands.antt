@@ -4,7 +4,7 @@ use Rattle.dm_link.specs.declared.Pid.{Pid}
 use Rattle.dm_schedule.specs.declared.LineFault.{LineFault}
 use Rattle.dm_schedule.specs.declared.LineFault.TheVariants.{WrongCount, NotANumber, OutOfRange}
 use Rattle.dm_schedule.specs.Keywords.{Operand, Machine, Process, Packet, Rounds}
-use Rattle.dm_schedule.specs.Numbers.{number_of, process_of}
+use Rattle.dm_schedule.specs.Numbers.{number_of_word, process_of}
 
 -- the values of an operand
 abbrev pub Value : Operand → Type 0
@@ -25,7 +25,7 @@ within fits (Some x) = if fits x then Ok x else Err OutOfRange
 
 -- a machine: below the number of machines
 abbrev pub machine_in : ℕ → List ℕ → Result ℕ LineFault
-machine_in machines word = within (λ m. nat_lt m machines) (number_of word)
+machine_in machines word = within (λ m. nat_lt m machines) (number_of_word word)
 
 -- a process: its home is below the number of machines, its number below 2^32
 abbrev pub process_in : ℕ → List ℕ → Result Pid LineFault
@@ -33,11 +33,11 @@ process_in machines word = within (λ p. nat_lt p.home machines && nat_le p.num 
 
 -- the place of a packet: below 2^32
 abbrev pub packet_in : List ℕ → Result ℕ LineFault
-packet_in word = within (λ k. nat_le k 4294967295) (number_of word)
+packet_in word = within (λ k. nat_le k 4294967295) (number_of_word word)
 
 -- a number of rounds: 1 to 65,536
 abbrev pub rounds_in : List ℕ → Result ℕ LineFault
-rounds_in word = within (λ n. nat_le 1 n && nat_le n 65536) (number_of word)
+rounds_in word = within (λ n. nat_le 1 n && nat_le n 65536) (number_of_word word)
 
 -- the value of an operand that is written as a word, with so many machines
 abbrev pub value_of : ℕ → (o : Operand) → List ℕ → Result (Value o) LineFault

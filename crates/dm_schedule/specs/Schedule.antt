@@ -27,20 +27,20 @@ number_of_fault OutOfRange = 4
 number_of_fault SameMachine = 5
 
 -- the directive of a keyword and its operands; packets go from one machine to another
-abbrev pub made : (k : Keyword) → Values (operands k) → Result Directive LineFault
-made Turn v = Ok (directive.One (step.Turn v.0))
-made Tick v = Ok (directive.One (step.Tick v.0))
-made Deliver v = if v.0 == v.1.0 then Err SameMachine else Ok (directive.One (step.Deliver v.0 v.1.0 v.1.1.0))
-made Migrate v = Ok (directive.One (step.Migrate v.0 v.1.0))
-made Round v = Ok directive.Round
-made Spin v = Ok (directive.Spin v.0)
-made Settle v = Ok directive.Settle
+abbrev pub directive_made : (k : Keyword) → Values (operands k) → Result Directive LineFault
+directive_made Turn v = Ok (directive.One (step.Turn v.0))
+directive_made Tick v = Ok (directive.One (step.Tick v.0))
+directive_made Deliver v = if v.0 == v.1.0 then Err SameMachine else Ok (directive.One (step.Deliver v.0 v.1.0 v.1.1.0))
+directive_made Migrate v = Ok (directive.One (step.Migrate v.0 v.1.0))
+directive_made Round v = Ok directive.Round
+directive_made Spin v = Ok (directive.Spin v.0)
+directive_made Settle v = Ok directive.Settle
 
 -- the directive of a keyword, if there is one, and the words behind it
 unfoldable pub directive_of : ℕ → Option Keyword → List (List ℕ) → Result Directive LineFault
 directive_of machines None ws = Err UnknownWord
 directive_of machines (Some k) ws =
-    if length ws == length (operands k) then values_of machines (operands k) ws >>= made k else Err WrongCount
+    if length ws == length (operands k) then values_of machines (operands k) ws >>= directive_made k else Err WrongCount
 
 -- a number sign stands first
 abbrev pub begins_comment : List ℕ → Bool
@@ -59,16 +59,16 @@ also d (Accepted ds) = Accepted (d ∷ ds)
 also d (Refused line fault) = Refused line fault
 
 -- what a line with this number says, and then what the lines behind it say
-abbrev pub with_line : ℕ → Result (Option Directive) LineFault → Schedule → Schedule
-with_line line (Ok None) rest = rest
-with_line line (Ok (Some d)) rest = also d rest
-with_line line (Err fault) rest = Refused line fault
+abbrev pub line_and_rest : ℕ → Result (Option Directive) LineFault → Schedule → Schedule
+line_and_rest line (Ok None) rest = rest
+line_and_rest line (Ok (Some d)) rest = also d rest
+line_and_rest line (Err fault) rest = Refused line fault
 
 -- what lines say that are numbered from a number on
 unfoldable pub lines_from : ℕ → ℕ → List (List ℕ) → Schedule
 lines_from machines line [] = Accepted []
 lines_from machines line (l ∷ ls) =
-    with_line line (line_directive machines (words l)) (lines_from machines (line + 1) ls)
+    line_and_rest line (line_directive machines (words l)) (lines_from machines (line + 1) ls)
 
 -- the directives of a text, with so many machines
 unfoldable pub directives_of : List ℕ → ℕ → Schedule

@@ -1,6 +1,6 @@
 //! The words that lines begin with.
 ghost use Rattle.std.specs.Prelude.{◌≡◌};
-ghost use Rattle.dm_schedule.specs.Keywords.{keyword_of, word_of};
+ghost use Rattle.dm_schedule.specs.Keywords.{keyword_of, word_of_keyword};
 
 /// What a line is to do.
 #[derive(Clone, Copy, Debug, PartialEq, Eq)]
@@ -28,7 +28,7 @@ const KEYWORDS: [Keyword; 7] = [
 impl Keyword {
     /// The word that this keyword is.
     fn word(self) -> &'static [u8]
-        ensures { result.now ≡ word_of self }
+        ensures { result.now ≡ word_of_keyword self }
     {
         match self {
             Keyword::Turn => b"turn",

@@ -2,7 +2,7 @@
 ghost use Rattle.std.specs.Prelude.{◌≡◌, ◌≤◌, ◌&&◌, length, nat_le, option_map};
 ghost use Rattle.std.specs.List.{position};
 ghost use Rattle.dm_link.specs.Names.{pid_of};
-ghost use Rattle.dm_schedule.specs.Numbers.{going_on, is_point, number_of, process_of};
+ghost use Rattle.dm_schedule.specs.Numbers.{going_on, is_point, number_of_word, process_of};
 
 /// The most digits of a number.
 const MOST_DIGITS: usize = 10;
@@ -30,9 +30,9 @@ fn can_have(digits: usize) -> bool
 }
 
 /// The number that a word is: one to ten digits.
-#[tactic(auto, unfolding(crate::specs::Numbers::number_of))]
+#[tactic(auto, unfolding(crate::specs::Numbers::number_of_word))]
 pub fn number(word: &[u8]) -> Option<u64>
-    ensures { result ≡ number_of word.now }
+    ensures { result ≡ number_of_word word.now }
 {
     if can_have(word.len()) {
         digits_value(word)

@@ -13,19 +13,19 @@ pub use Rattle.dm_laws.proofs.Names.{Alive, Boot, BootImage, IsValid, Label, Lif
 pub use Rattle.dm_laws.proofs.Names.{inl, inr, is_some, manager, nat_le, pid_of, switchboard, ⊤, ◌⊎◌}
 pub use Rattle.dm_line.proofs.Names.{eqb_tells}
 pub use Rattle.dm_line.specs.Each.{sum_below}
-pub use Rattle.dm_line.specs.Todo.{Two, begin_pass, below, here_or_later, in_pass, is_over, next, next_delivery, next_directive, next_pass, next_turn, pairs_of, pairs_with, pass_begun, settles, takes_turn}
+pub use Rattle.dm_line.specs.Todo.{Two, begin_pass, below, here_or_later, in_pass, is_over, next_and_left, next_delivery, next_directive, next_pass, next_turn, pairs_of, pairs_with, pass_begun, settles, takes_turn}
 pub use Rattle.dm_line.specs.declared.pass.Pass.{Pass}
 pub use Rattle.dm_line.specs.declared.pass.Pass.TheVariants.{Settle}
 pub use Rattle.dm_rule.proofs.Groups.{GroupIs, stands_once_always}
 pub use Rattle.dm_rule.proofs.Homes.Calls.{or-left}
 pub use Rattle.dm_rule.proofs.Names.{About, Addresses, Again, Child, Directive, Forward, Held, Here, Inbox, IsQuiet, IsStep, Known, Leads, Line, Load, MessageKind, Name, NamedLink, Next, NothingElse, Of, Owns, Pair, PairStands, Part, Point}
-pub use Rattle.dm_rule.proofs.Names.{Receiver, Room, Routes, Says, Sender, Sent, Slot, Spelled, Spot, Stage, StandsOutside, StandsRight, Step, TellsRight, Todo, Told, Transmits, Untaken, View, accepts, after, after_line, all_of, arrives}
-pub use Rattle.dm_rule.proofs.Names.{asks_on, at_id, at_least, at_machine, at_pair, behind, behind_count, bind-is, board_took, chunks_of, comes_to, creates, dropped_for, drops, ended_handles, ended_told, filter, first_point, first_view}
-pub use Rattle.dm_rule.proofs.Names.{fits, follows_up, forwarded_for, forwards_on, free_room, goes_out, gone_after, group_of, handled, has, has_mail, has_room, hears, held_for, here_handles, here_told, id_eq-is, id_eq-same, is_between}
-pub use Rattle.dm_rule.proofs.Names.{is_kernels, is_quiet, is_told_back, kept_from, kernel_handles, kernel_hears, kernel_told, kills, leads, leads_on, leaves, less, let_go, lines_of, manager_took, marked, marked_at, migrates, more, moved}
-pub use Rattle.dm_rule.proofs.Names.{next_step, numbers_from, oldest, outcome, outstanding, own_id, packet_line, pieces_of, place_told, plain_kind, process_handles, process_told, puts, queued_for, receiver_of, repeats, resends, right_true}
-pub use Rattle.dm_rule.proofs.Names.{routed_on, routes, says, sends_on, served_told, server_told, slice_set, spelled, standing, taken_id, takes, takes_block, takes_chunk, takes_on, target_of, times, to_kernel, to_of, turns, untaken}
-pub use Rattle.dm_rule.proofs.Names.{view_after, window, without_first, without_front, ◌||◌}
+pub use Rattle.dm_rule.proofs.Names.{Receiver, Room, Routes, Says, Sender, SentLoad, Slot, Spelled, Spot, Stage, StandsOutside, StandsRight, Step, TellsRight, Todo, Told, Transmits, Untaken, View, accepts, after, after_line, all_of}
+pub use Rattle.dm_rule.proofs.Names.{arrives, asks_on, at_id, at_least, at_machine, at_pair, behind, behind_count, bind-is, board_took, chunks_of, comes_to, creation_parts, drop_parts, dropped_for, ended_handles, ended_told, filter}
+pub use Rattle.dm_rule.proofs.Names.{first_point, first_view, fits, follows_up, forwarded_for, forwards_on, free_room, goes_out, gone_after, group_of, handled, has, has_mail, has_room, hears, held_for, here_handles, here_told, id_eq-is}
+pub use Rattle.dm_rule.proofs.Names.{id_eq-same, is_between, is_kernels, is_quiet, is_told_back, kept_from, kernel_handles, kernel_hears, kernel_told, kills, leads, leads_on, leaves, less, let_go, lines_of, manager_parts, marked, marked_at}
+pub use Rattle.dm_rule.proofs.Names.{migrates, more, moved, next_step, numbers_from, oldest, outcome, outstanding_count, own_id, packet_line, pair_window, pieces_of, place_told, plain_kind, process_handles, process_told, puts, queued_for}
+pub use Rattle.dm_rule.proofs.Names.{receiver_of, repeats, resends, right_true, routed_on, routes, says, sends_on, served_told, server_told, slice_set, spelled, standing, taken_id, takes_block, takes_chunk, takes_on, taking_parts}
+pub use Rattle.dm_rule.proofs.Names.{target_of, times, to_kernel, to_of, turns, untaken, view_after, without_first, without_front, ◌||◌}
 pub use Rattle.dm_rule.proofs.Pairs.{Pairs, Pairs-always, Pairs-group, Pairs-start, acked_out_by, pair_home, pairs_stand_always}
 pub use Rattle.dm_rule.proofs.Pairs.Comes.{less-left}
 pub use Rattle.dm_rule.proofs.Pairs.Lines.{AllFit-later, Fits, Onward, fitting_goes, one_view, says_view, transmits_view, two_views}
@@ -48,9 +48,9 @@ pub use Rattle.dm_movelaws.proofs.At.RestPairs.{routed_always}
 pub use Rattle.dm_movelaws.proofs.Ends.Parts.{count-append}
 pub use Rattle.dm_movelaws.proofs.Ends.Sources.{line_ids}
 pub use Rattle.dm_movelaws.proofs.Names.{AllFit, AtRest, ByHolder, ByOwn, EndLine, IsNamed, Standing, Stood, alive_lines, based_always, block_line, child_lines, count, doing_of, drop-nil, each_machine, each_process, end_lines, first_with}
-pub use Rattle.dm_movelaws.proofs.Names.{forwarded_acting, handles, holding_lines, home_with, homes_with, inbox_lines, is_moving, lands, line_view, link_lines, list_line, memory_lines, migrates_fit, more_front, name_lines, onward, or}
-pub use Rattle.dm_movelaws.proofs.Names.{pair_same, pending_lines, process_lines, queue_at, queue_lines, queued_acting, run_always, server_lines, set_is, set_other, slot_line, state_lines, stood, stood_at, stream_lines, taken_pair, touches}
-pub use Rattle.dm_movelaws.proofs.Names.{trimmed, turns_fit}
+pub use Rattle.dm_movelaws.proofs.Names.{forwarded_acting, handles, holding_lines, home_with, homes_with, inbox_lines, is_moving, landing_parts, line_view, link_lines, list_line, memory_lines, migrates_fit, more_front, name_lines, onward}
+pub use Rattle.dm_movelaws.proofs.Names.{or, pair_same, pending_lines, process_lines, queue_at, queue_lines, queued_acting, run_always, server_lines, set_is, set_other, slot_line, state_lines, stood, stood_at, stream_lines, taken_pair}
+pub use Rattle.dm_movelaws.proofs.Names.{touches, trimmed, turns_fit}
 pub use Rattle.dm_movelaws.proofs.Promise.Finds.{leads_append}
 pub use Rattle.dm_movelaws.proofs.ProtocolMoves.{protocol_moves}
 pub use Rattle.dm_movelaws.proofs.Trail.Rows.{or_first}
@@ -58,6 +58,6 @@ pub use Rattle.dm_movelaws.proofs.Trail.Standing.{addresses_lead}
 pub use Rattle.dm_movelaws.specs.Protocol.{IsOfMove}
 pub use Rattle.dm_settlelaws.specs.Laws.{EndsAtRest, EndsQuiet, EndsResting, FewPuts, LeftFalls, PairsRestAlways, SettlesAlways, TurnsFall, TurnsLeftFew}
 pub use Rattle.dm_settlelaws.specs.Left.{IsLess, Left, Messages, Numbers, Packets, Releases, left, lets_go, load_left, numbers_left, one_each, one_let_go, pair_left, told_lets_go, turns_left, weight, weight_of, weight_to, wire_left}
-pub use Rattle.dm_settlelaws.specs.Passes.{IsSettleStep, SettleGoes, ends_settled, is_at_rest, is_settle, stands_here}
+pub use Rattle.dm_settlelaws.specs.Passes.{IsSettleStep, SettleGoes, ends_settled, is_at_rest, is_settle_directive, stands_here}
 pub use Rattle.dm_settlelaws.specs.Puts.{OnlyLight, SettlesBy, is_light, is_light_kind, says_put}
 pub use Rattle.dm_settlelaws.specs.Rests.{HasCome, HasPacket, PairRests}

@@ -1,8 +1,8 @@
 -- Where not all is quiet a pass of a settle has something to do.
 use Rattle.dm_settlelaws.proofs.Names.{◌≡◌, ◌≢◌, ◌⊎◌, ℕ, zero, suc, ◌<◌, ◌≤◌, ◌==◌, Bool, true, false, List, [], ◌∷◌, ◌++◌, length, nat_lt, refl, ap, ◌∙◌, sym, subst, inl, inr, arith, if◌then◌else◌, Option, None, Some, false≢true}
-use Rattle.dm_settlelaws.proofs.Names.{leb_tells, nat_tests, Boot, Directive, Step, Load, Pass, Settle, Next, Todo, Two, all_of, begin_pass, below, here_or_later, in_pass, is_over, next, next_delivery, next_directive, next_pass, next_turn}
-use Rattle.dm_settlelaws.proofs.Names.{or, pairs_of, pairs_with, pass_begun, settles, takes_turn, first_undelivered, next_step, undelivered, Leads, PairStands, Point, first_point, IsQuiet, has_mail, is_quiet, Pair, View, pairs_stand_always}
-use Rattle.dm_settlelaws.proofs.Names.{passes_quiet, quiet_passes, SettlesAlways, IsSettleStep, SettleGoes, PairRests}
+use Rattle.dm_settlelaws.proofs.Names.{leb_tells, nat_tests, Boot, Directive, Step, Load, Pass, Settle, Next, Todo, Two, all_of, begin_pass, below, here_or_later, in_pass, is_over, next_and_left, next_delivery, next_directive, next_pass}
+use Rattle.dm_settlelaws.proofs.Names.{next_turn, or, pairs_of, pairs_with, pass_begun, settles, takes_turn, first_undelivered, next_step, undelivered, Leads, PairStands, Point, first_point, IsQuiet, has_mail, is_quiet, Pair, View}
+use Rattle.dm_settlelaws.proofs.Names.{pairs_stand_always, passes_quiet, quiet_passes, SettlesAlways, IsSettleStep, SettleGoes, PairRests}
 use Rattle.dm_settlelaws.proofs.Rests.RestsAlways.{pairs_rest_always}
 use Rattle.dm_settlelaws.proofs.Wires.{all_come}
 
@@ -26,7 +26,7 @@ pub delivery_found : (v : View) (ps : List Two) → IsDelivery v (next_delivery 
 delivery_found v [] d e = cc
 delivery_found v (p ∷ ps) d e = here_delivery v p ps (undelivered v p.from p.to) (next_delivery (undelivered v) ps) refl (delivery_found v ps) d e
 
-turn_or : (v : View) (t : Todo) (m : ℕ) (ms : List ℕ) (b : Bool) (o : Option Next) → has_mail v m ≡ b → FoundBy v t o → FoundBy v t (if b then next (Step.Turn m) (record t { pairs = []; machines = ms }) else o)
+turn_or : (v : View) (t : Todo) (m : ℕ) (ms : List ℕ) (b : Bool) (o : Option Next) → has_mail v m ≡ b → FoundBy v t o → FoundBy v t (if b then next_and_left (Step.Turn m) (record t { pairs = []; machines = ms }) else o)
 turn_or v t m ms false o is h n e = h n e
 turn_or v t m ms true o is h n e =
     let k : Next = record { step = Step.Turn m; left = record t { pairs = []; machines = ms } } in
@@ -98,7 +98,7 @@ none_of first a c (x ∷ xs) ys apart e (inl same) g =
 none_of first a c (x ∷ xs) ys apart e (inr h) g = none_of first a c xs ys apart (none_two first (pairs_with x ys) (pairs_of xs ys) e).1 h g
 
 -- no turn of some machines
-no_turn_by : (takes : ℕ → Bool) (t : Todo) (m x : ℕ) (xs : List ℕ) (b : Bool) → takes x ≡ b → (if b then next (Step.Turn x) (record t { pairs = []; machines = xs }) else next_turn takes t xs) ≡ None → (x ≡ m) ⊎ Has m xs
+no_turn_by : (takes : ℕ → Bool) (t : Todo) (m x : ℕ) (xs : List ℕ) (b : Bool) → takes x ≡ b → (if b then next_and_left (Step.Turn x) (record t { pairs = []; machines = xs }) else next_turn takes t xs) ≡ None → (x ≡ m) ⊎ Has m xs
     → (next_turn takes t xs ≡ None → Has m xs → takes m ≡ false) → takes m ≡ false
 no_turn_by takes t m x xs true is e h more = cc
 no_turn_by takes t m x xs false is e (inl same) more = subst (λ (j : ℕ). takes j ≡ false) same is

@@ -10,7 +10,7 @@ use Rattle.dm_line.specs.declared.line.Load.{Load}
 use Rattle.dm_line.specs.declared.line.Load.TheVariants as load
 use Rattle.dm_line.specs.Each.{sum_below}
 use Rattle.dm_rule.specs.Spots.{untaken}
-use Rattle.dm_rule.specs.View.{Pair, Sent, Told, View}
+use Rattle.dm_rule.specs.View.{Pair, SentLoad, Told, View}
 
 -- a message that lets go what was held back, once it is handled: a restart or a refusal
 abbrev pub releases : Sort → Bool
@@ -54,7 +54,7 @@ abbrev pub load_left : Load → ℕ
 load_left (load.Data n) = 2
 load_left (load.Ack n) = 1
 
-abbrev pub wire_left : List Sent → ℕ
+abbrev pub wire_left : List SentLoad → ℕ
 wire_left [] = 0
 wire_left (s ∷ ss) = (if s.delivered then 0 else load_left s.load) + wire_left ss
 

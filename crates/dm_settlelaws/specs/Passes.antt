@@ -38,15 +38,15 @@ pub record SettleGoes (n : ℕ) (v : View) (t : Todo) : Type 0 where
   pub behind : next.left.directives ≡ t.directives
 
 -- the last directive is a settle
-abbrev pub is_settle : Directive → Bool
-is_settle (directive.One s) = false
-is_settle directive.Round = false
-is_settle (directive.Spin n) = false
-is_settle directive.Settle = true
+abbrev pub is_settle_directive : Directive → Bool
+is_settle_directive (directive.One s) = false
+is_settle_directive directive.Round = false
+is_settle_directive (directive.Spin n) = false
+is_settle_directive directive.Settle = true
 
 abbrev pub ends_settled : List Directive → Bool
 ends_settled [] = false
-ends_settled (d ∷ []) = is_settle d
+ends_settled (d ∷ []) = is_settle_directive d
 ends_settled (d ∷ e ∷ ds) = ends_settled (e ∷ ds)
 
 -- a line of the end that says of nothing that it is on its way, and of no process that it leaves or comes

@@ -1,6 +1,6 @@
 -- Names read piece by piece: what stands behind the first separator has no other one, where it can be read.
 use Rattle.dm_shape.proofs.Imports.{◌≡◌, ℕ, zero, suc, ◌+◌, ◌-◌, ◌*◌, ◌^◌, ◌<◌, ◌≤◌, ◌==◌, nat_le, Bool, true, false, ◌&&◌, ◌||◌, if◌then◌else◌, List, [], ◌∷◌, ◌++◌, length, refl, ap, sym, ◌∙◌, subst, arith, Some, None, Option, nat_tests}
-use Rattle.dm_shape.proofs.Imports.{Pid, pid_of, MsgId, ◌<*>◌, longer, pieces, number_after, below, is_padded, read_number, read_u8, read_u32, read_pid, pid_in, named, numbered, id_in, free, free-append, pieces-free}
+use Rattle.dm_shape.proofs.Imports.{Pid, pid_of, MsgId, ◌<*>◌, longer, pieces, number_after, if_below, is_padded, read_number, read_u8, read_u32, read_pid, pid_in, message_named, message_numbered, id_in, free, free-append, pieces-free}
 
 -- nothing comes of nothing
 pub of_none : {A B : Type 0} (o : Option (A → B)) (x : Option A) → x ≡ None → (o <*> x) ≡ None
@@ -31,7 +31,7 @@ if_none false o e = e
 -- a word with such a byte is no number
 pub unfree_none : (sep limit : ℕ) (w : List ℕ) → IsApart sep → free sep w ≡ false → read_number limit w ≡ None
 unfolding read_number
-unfree_none sep limit w apart h = if_none (length w == 0 || is_padded w) (below limit (number_after 0 w)) (ap (λ o. below limit o) (unfree_after sep 0 w apart h))
+unfree_none sep limit w apart h = if_none (length w == 0 || is_padded w) (if_below limit (number_after 0 w)) (ap (λ o. if_below limit o) (unfree_after sep 0 w apart h))
 
 -- texts with such a byte have two pieces or more
 pub data IsCut : List (List ℕ) → Type 0 where
@@ -144,12 +144,12 @@ unfree-append sep s a h e = by_test (free sep a) refl
         both f g = cc
     by_test false f = f
 
-numbered_cut : (p : Option Pid) (rest : List ℕ) (ps : List (List ℕ)) → pieces 33 rest ≡ ps → free 35 rest ≡ false → numbered p ps ≡ None
+numbered_cut : (p : Option Pid) (rest : List ℕ) (ps : List (List ℕ)) → pieces 33 rest ≡ ps → free 35 rest ≡ false → message_numbered p ps ≡ None
 numbered_cut p rest [] is e = refl
 numbered_cut p rest (n ∷ []) is e =
-    of_none (Some (named false) <*> p) (read_u32 n) (unfree_none 35 (2 ^ 32) n refl (ap (λ w. free 35 w) (sym (one_piece 33 rest n is)) ∙ e))
+    of_none (Some (message_named false) <*> p) (read_u32 n) (unfree_none 35 (2 ^ 32) n refl (ap (λ w. free 35 w) (sym (one_piece 33 rest n is)) ∙ e))
 numbered_cut p rest (n ∷ [] ∷ []) is e =
-    of_none (Some (named true) <*> p) (read_u32 n) (unfree_none 35 (2 ^ 32) n refl (unfree-append 35 33 n refl (ap (λ w. free 35 w) (sym (two_pieces 33 rest n [] is)) ∙ e)))
+    of_none (Some (message_named true) <*> p) (read_u32 n) (unfree_none 35 (2 ^ 32) n refl (unfree-append 35 33 n refl (ap (λ w. free 35 w) (sym (two_pieces 33 rest n [] is)) ∙ e)))
 numbered_cut p rest (n ∷ [] ∷ a ∷ others) is e = refl
 numbered_cut p rest (n ∷ (b ∷ bs) ∷ others) is e = refl
 
@@ -158,21 +158,21 @@ id_cut from (a ∷ b ∷ others) h = refl
 id_cut from (a ∷ []) h = elim h [ ]
 id_cut from [] h = elim h [ ]
 
-pub id_behind : (from rest : List ℕ) → id_in (from ∷ pieces 35 rest) ≡ numbered (read_pid from) (pieces 33 rest)
+pub id_behind : (from rest : List ℕ) → id_in (from ∷ pieces 35 rest) ≡ message_numbered (read_pid from) (pieces 33 rest)
 id_behind from rest = by_test (free 35 rest) refl
   where
-    by_test : (t : Bool) → free 35 rest ≡ t → id_in (from ∷ pieces 35 rest) ≡ numbered (read_pid from) (pieces 33 rest)
+    by_test : (t : Bool) → free 35 rest ≡ t → id_in (from ∷ pieces 35 rest) ≡ message_numbered (read_pid from) (pieces 33 rest)
     by_test true e = ap (λ ps. id_in (from ∷ ps)) (pieces-free 35 rest e)
     by_test false e = id_cut from (pieces 35 rest) (unfree_cut 35 rest e) ∙ sym (numbered_cut (read_pid from) rest (pieces 33 rest) refl e)
 
 -- where something stands behind the mark of an answer, no message is named
-marked_more : (p : Option Pid) (n : List ℕ) (t : Bool) (b : ℕ) (ps : List (List ℕ)) → (ps ≡ [] → ⊥) → numbered p (n ∷ (if t then [] ∷ ps else longer b ps)) ≡ None
+marked_more : (p : Option Pid) (n : List ℕ) (t : Bool) (b : ℕ) (ps : List (List ℕ)) → (ps ≡ [] → ⊥) → message_numbered p (n ∷ (if t then [] ∷ ps else longer b ps)) ≡ None
 marked_more p n true b [] h = absurd (h refl)
 marked_more p n true b (q ∷ qs) h = refl
 marked_more p n false b [] h = refl
 marked_more p n false b (q ∷ qs) h = refl
 
-pub numbered_more : (p : Option Pid) (n rest : List ℕ) → (length rest == 0) ≡ false → numbered p (n ∷ pieces 33 rest) ≡ None
+pub numbered_more : (p : Option Pid) (n rest : List ℕ) → (length rest == 0) ≡ false → message_numbered p (n ∷ pieces 33 rest) ≡ None
 unfolding pieces
 numbered_more p n [] e = absurd (cc)
 numbered_more p n (b ∷ bs) e = marked_more p n (b == 33) b (pieces 33 bs) (some_piece 33 bs)
@@ -180,7 +180,7 @@ numbered_more p n (b ∷ bs) e = marked_more p n (b == 33) b (pieces 33 bs) (som
 no_bytes : (k : ℕ) → 0 < k → (k == 0) ≡ true → ⊥
 no_bytes k h e = let f : k ≡ 0 = grind (arith, nat_tests, e) in omega arith
 
-pub numbered_last : (p : Option Pid) (n rest : List ℕ) → (length rest == 0) ≡ true → numbered p (n ∷ pieces 33 rest) ≡ (Some (named true) <*> p <*> read_u32 n)
+pub numbered_last : (p : Option Pid) (n rest : List ℕ) → (length rest == 0) ≡ true → message_numbered p (n ∷ pieces 33 rest) ≡ (Some (message_named true) <*> p <*> read_u32 n)
 unfolding pieces
 numbered_last p n [] e = refl
 numbered_last p n (b ∷ bs) e = absurd (no_bytes (length (b ∷ bs)) (omega arith) e)

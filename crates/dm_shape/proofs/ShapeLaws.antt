@@ -1,8 +1,8 @@
 -- Printed lines have shapes, and heads are read as what they are.
 use Rattle.dm_shape.proofs.Imports.{◌≡◌, ℕ, Bool, true, false, if◌then◌else◌, List, [], ◌∷◌, ◌++◌, refl, ap, sym, ◌∙◌, subst, Some, None, codes, is_some, list_any, bytes_eq, Option, append_cancel_right, bytes_eq-Decides, Pid, Step, Line}
-use Rattle.dm_shape.proofs.Imports.{EndLine, end_words, LineFits, EndFits, StepFits, head_words, ◌<*>◌, pieces, read_u8, read_u64, read_pid, is, of1, of2, of3, words, spaced, spelled, text, end_text, end_words_are, words-are, line_bytes}
-use Rattle.dm_shape.proofs.Imports.{spelled_bytes, pieces_of_words, read_u8_back, read_u64_back, read_pid_back, AreWords, IsFull, head_in, head_named, head_of, IsLine, LinesHaveShapes, EndsHaveShapes, HeadsHaveShapes, HeadsAreRead}
-use Rattle.dm_shape.proofs.Imports.{has_shape, is_of_shape, is_row, row_of, shapes, is_of}
+use Rattle.dm_shape.proofs.Imports.{EndLine, end_words, LineFits, EndFits, StepFits, head_words, ◌<*>◌, pieces, read_u8, read_u64, read_pid, is, of1, of2, of3, line_words, spaced, spelled_line, text, end_text, end_words_are, line_words-are}
+use Rattle.dm_shape.proofs.Imports.{line_bytes, spelled_bytes, pieces_of_words, read_u8_back, read_u64_back, read_pid_back, AreWords, IsFull, head_in, head_named, head_step, IsLine, LinesHaveShapes, EndsHaveShapes, HeadsHaveShapes}
+use Rattle.dm_shape.proofs.Imports.{HeadsAreRead, has_shape, is_of_shape, is_row, row_of, all_shapes, is_of}
 use Rattle.dm_schedule.specs.declared.Step.TheVariants as step
 use Rattle.dm_line.specs.declared.line.Line.TheVariants as line
 use Rattle.dm_shape.specs.declared.shape.Shape.TheVariants as shape
@@ -12,10 +12,10 @@ use Rattle.dm_shape.proofs.Listed.{has_row, listed}
 use Rattle.dm_shape.proofs.NamesRead.{some_piece}
 
 -- a text without line feed is its words
-pub bytes_are : (ws : List (List ℕ)) (bytes : List ℕ) → IsLine bytes (spelled ws) → bytes ≡ line_bytes ws
+pub bytes_are : (ws : List (List ℕ)) (bytes : List ℕ) → IsLine bytes (spelled_line ws) → bytes ≡ line_bytes ws
 bytes_are ws bytes e = append_cancel_right bytes (line_bytes ws) (codes "\n") (e ∙ spelled_bytes ws)
 
-pub words_of_line : (w : List ℕ) (ws : List (List ℕ)) (bytes : List ℕ) → AreWords (w ∷ ws) → IsLine bytes (spelled (w ∷ ws)) → pieces 32 bytes ≡ w ∷ ws
+pub words_of_line : (w : List ℕ) (ws : List (List ℕ)) (bytes : List ℕ) → AreWords (w ∷ ws) → IsLine bytes (spelled_line (w ∷ ws)) → pieces 32 bytes ≡ w ∷ ws
 words_of_line w ws bytes h e = ap (pieces 32) (bytes_are (w ∷ ws) bytes e) ∙ pieces_of_words w ws h
 
 by_words : (bytes : List ℕ) (ws : List (List ℕ)) → pieces 32 bytes ≡ ws → has_shape bytes ≡ has_row ws
@@ -23,7 +23,7 @@ unfolding has_shape is_of_shape
 by_words bytes ws e = ap has_row e
 
 -- a line of these words
-shape_of_words : (ws : List (List ℕ)) (bytes : List ℕ) → AreWords ws → has_row ws ≡ true → IsLine bytes (spelled ws) → has_shape bytes ≡ true
+shape_of_words : (ws : List (List ℕ)) (bytes : List ℕ) → AreWords ws → has_row ws ≡ true → IsLine bytes (spelled_line ws) → has_shape bytes ≡ true
 shape_of_words [] bytes h r e = absurd (no_row r)
   where
     no_row : has_row [] ≡ true → ⊥
@@ -31,13 +31,13 @@ shape_of_words [] bytes h r e = absurd (no_row r)
 shape_of_words (w ∷ ws) bytes h r e = by_words bytes (w ∷ ws) (words_of_line w ws bytes h e) ∙ r
 
 pub lines_have : LinesHaveShapes
-lines_have l bytes h e = shape_of_words (words l) bytes (words-are l h) (line_has_row l h) e
+lines_have l bytes h e = shape_of_words (line_words l) bytes (line_words-are l h) (line_has_row l h) e
 
 pub ends_have : EndsHaveShapes
 ends_have l bytes h f e = shape_of_words (end_words l) bytes (end_words_are l h) (end_has_row l h f) e
 
-by_head : (bytes : List ℕ) (ws : List (List ℕ)) → pieces 32 bytes ≡ ws → head_of bytes ≡ head_in ws
-unfolding head_of
+by_head : (bytes : List ℕ) (ws : List (List ℕ)) → pieces 32 bytes ≡ ws → head_step bytes ≡ head_in ws
+unfolding head_step
 by_head bytes ws e = ap head_in e
 
 head_read : (e : Step) → StepFits e → head_in (head_words e) ≡ Some e
@@ -46,12 +46,12 @@ head_read (step.Tick m) h = rw (read_u8_back m h) refl
 head_read (step.Deliver a b k) h = rw (read_u8_back a h.0, read_u8_back b h.1, read_u64_back k h.2) refl
 head_read (step.Migrate p m) h = rw (read_pid_back p h.0, read_u8_back m h.1) refl
 
-head_of_words : (ws : List (List ℕ)) (e : Step) (bytes : List ℕ) → AreWords ws → head_in ws ≡ Some e → IsLine bytes (spelled ws) → head_of bytes ≡ Some e
+head_of_words : (ws : List (List ℕ)) (e : Step) (bytes : List ℕ) → AreWords ws → head_in ws ≡ Some e → IsLine bytes (spelled_line ws) → head_step bytes ≡ Some e
 head_of_words [] e bytes h r is = absurd (cc)
 head_of_words (w ∷ ws) e bytes h r is = by_head bytes (w ∷ ws) (words_of_line w ws bytes h is) ∙ r
 
 pub heads_read : HeadsAreRead
-heads_read e bytes h is = head_of_words (head_words e) e bytes (words-are (line.Head e) h) (head_read e h) is
+heads_read e bytes h is = head_of_words (head_words e) e bytes (line_words-are (line.Head e) h) (head_read e h) is
 
 -- values that make one are there
 made_here : {A B : Type 0} (o : Option (A → B)) (x : Option A) (b : B) → (o <*> x) ≡ Some b → is_some x ≡ true
@@ -143,5 +143,5 @@ head_in_row [] e h = absurd (cc)
 head_in_row (w ∷ ws) e h = head_row w ws e h
 
 pub heads_have : HeadsHaveShapes
-unfolding head_of
+unfolding head_step
 heads_have bytes e h = by_words bytes (pieces 32 bytes) refl ∙ head_in_row (pieces 32 bytes) e h

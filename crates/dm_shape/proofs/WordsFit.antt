@@ -2,7 +2,7 @@
 use Rattle.dm_shape.proofs.Imports.{◌≡◌, ◌≢◌, ℕ, zero, suc, ◌+◌, ◌-◌, ◌*◌, ◌/◌, ◌%◌, ◌^◌, ◌<◌, ◌≤◌, ◌==◌, nat_lt, nat_le, nat_eq, Bool, true, false, not, ◌&&◌, List, [], ◌∷◌, ◌++◌, length, drop, get_or, refl, ap, sym, ◌∙◌, arith, Some}
 use Rattle.dm_shape.proofs.Imports.{codes, is_some, decimal, All, list_all, ends_with, nat_tests, Pid, Kind, MsgId, MessageKind, word_of, Direction, FromArea, IntoArea, reply_code, why_code, Reply, Why, Load, Stage, Standing, standing_word}
 use Rattle.dm_shape.proofs.Imports.{direction_word, go_word, hex, hex_digit, kind_word, rights_word, PidFits, IdFits, IsByte, read_number, stage_word, pid_word, id_word, read_u8_back, read_u32_back, read_u64_back, read_u128_back}
-use Rattle.dm_shape.proofs.Imports.{read_pid_back, read_id_back, is_digit, spells, is_block, is_of, choose}
+use Rattle.dm_shape.proofs.Imports.{read_pid_back, read_id_back, is_hex_digit, spells, is_block, is_of, choose}
 use lib.Pointwise.{pointwise}
 use Rattle.dm_link.specs.declared.Kind.TheVariants as kind_
 use Rattle.dm_message.specs.declared.kind.MessageKind.TheVariants as kind
@@ -186,10 +186,10 @@ direction_fits FromArea = refl
 direction_fits IntoArea = refl
 
 -- bytes in hexadecimal
-digit_is : (n : ℕ) → n < 16 → is_digit (hex_digit n) ≡ true
+digit_is : (n : ℕ) → n < 16 → is_hex_digit (hex_digit n) ≡ true
 digit_is n h = grind (arith, nat_tests)
 
-hex_digits : (bs : List ℕ) → All IsByte bs → list_all is_digit (hex bs) ≡ true
+hex_digits : (bs : List ℕ) → All IsByte bs → list_all is_hex_digit (hex bs) ≡ true
 hex_digits [] h = refl
 hex_digits (b ∷ bs) h =
     let first : b < 2 ^ 8 = h 0 b (omega arith) in

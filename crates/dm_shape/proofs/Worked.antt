@@ -1,5 +1,5 @@
 -- Texts that are lines, and texts that are none.
-use Rattle.dm_shape.proofs.Imports.{◌≡◌, true, false, refl, Some, None, codes, pieces, read_number, read_pid, read_id, head_of, has_shape, is_of_shape, is_of}
+use Rattle.dm_shape.proofs.Imports.{◌≡◌, true, false, refl, Some, None, codes, pieces, read_number, read_pid, read_id, head_step, has_shape, is_of_shape, is_of}
 use Rattle.dm_schedule.specs.declared.Step.TheVariants as step
 
 line_1 : has_shape (codes "lacks 0.3 300 0") ≡ true
@@ -266,34 +266,34 @@ other_40 : has_shape (codes "Turn 0") ≡ false
 unfolding has_shape is_of_shape is_of pieces read_number read_pid read_id
 other_40 = refl
 
-head_1 : head_of (codes "turn 3") ≡ Some (step.Turn 3)
-unfolding head_of pieces read_number read_pid
+head_1 : head_step (codes "turn 3") ≡ Some (step.Turn 3)
+unfolding head_step pieces read_number read_pid
 head_1 = refl
 
-head_2 : head_of (codes "tick 255") ≡ Some (step.Tick 255)
-unfolding head_of pieces read_number read_pid
+head_2 : head_step (codes "tick 255") ≡ Some (step.Tick 255)
+unfolding head_step pieces read_number read_pid
 head_2 = refl
 
-head_3 : head_of (codes "deliver 0 1 18446744073709551615") ≡ Some (step.Deliver 0 1 18446744073709551615)
-unfolding head_of pieces read_number read_pid
+head_3 : head_step (codes "deliver 0 1 18446744073709551615") ≡ Some (step.Deliver 0 1 18446744073709551615)
+unfolding head_step pieces read_number read_pid
 head_3 = refl
 
-head_4 : head_of (codes "deliver 0 1 18446744073709551616") ≡ None
-unfolding head_of pieces read_number read_pid
+head_4 : head_step (codes "deliver 0 1 18446744073709551616") ≡ None
+unfolding head_step pieces read_number read_pid
 head_4 = refl
 
-head_5 : head_of (codes "migrate 1.3 2") ≡ Some (step.Migrate (record { home = 1; num = 3 }) 2)
-unfolding head_of pieces read_number read_pid
+head_5 : head_step (codes "migrate 1.3 2") ≡ Some (step.Migrate (record { home = 1; num = 3 }) 2)
+unfolding head_step pieces read_number read_pid
 head_5 = refl
 
-head_6 : head_of (codes "migrate 1.3") ≡ None
-unfolding head_of pieces read_number read_pid
+head_6 : head_step (codes "migrate 1.3") ≡ None
+unfolding head_step pieces read_number read_pid
 head_6 = refl
 
-head_7 : head_of (codes "round") ≡ None
-unfolding head_of pieces read_number read_pid
+head_7 : head_step (codes "round") ≡ None
+unfolding head_step pieces read_number read_pid
 head_7 = refl
 
-head_8 : head_of (codes "final") ≡ None
-unfolding head_of pieces read_number read_pid
+head_8 : head_step (codes "final") ≡ None
+unfolding head_step pieces read_number read_pid
 head_8 = refl

@@ -20,5 +20,5 @@ head_in [] = None
 head_in (w ∷ ws) = head_named w ws
 
 -- the directive of a line without line feed, if it is the head of a group; the number of a packet may be any below 2 ^ 64
-unfoldable pub head_of : List ℕ → Option Step
-head_of line = head_in (pieces 32 line)
+unfoldable pub head_step : List ℕ → Option Step
+head_step line = head_in (pieces 32 line)

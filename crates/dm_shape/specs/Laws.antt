@@ -8,7 +8,7 @@ use Rattle.dm_line.specs.declared.end_line.EndLine.{EndLine}
 use Rattle.dm_text.specs.Fits.{LineFits, EndFits, StepFits}
 use Rattle.dm_text.specs.Text.{text, end_text}
 use Rattle.dm_shape.specs.Full.{IsFull}
-use Rattle.dm_shape.specs.Heads.{head_of}
+use Rattle.dm_shape.specs.Heads.{head_step}
 use Rattle.dm_shape.specs.Shapes.{has_shape}
 
 -- a text is that of a line, which has its line feed behind it
@@ -25,8 +25,8 @@ EndsHaveShapes = (e : EndLine) (bytes : List ℕ) → EndFits e → IsFull e →
 
 -- whatever is read as the head of a group has a shape
 abbrev pub HeadsHaveShapes : Type 0
-HeadsHaveShapes = (bytes : List ℕ) (e : Step) → head_of bytes ≡ Some e → has_shape bytes ≡ true
+HeadsHaveShapes = (bytes : List ℕ) (e : Step) → head_step bytes ≡ Some e → has_shape bytes ≡ true
 
 -- the head of a group is read as what it is
 abbrev pub HeadsAreRead : Type 0
-HeadsAreRead = (e : Step) (bytes : List ℕ) → StepFits e → IsLine bytes (text (line.Head e)) → head_of bytes ≡ Some e
+HeadsAreRead = (e : Step) (bytes : List ℕ) → StepFits e → IsLine bytes (text (line.Head e)) → head_step bytes ≡ Some e

@@ -12,15 +12,15 @@ use Rattle.dm_shape.specs.declared.shape.Shape.TheVariants as shape
 use Rattle.dm_shape.specs.Sorts.{is_of}
 
 -- a name, words of these sorts behind it, and, where it lists, names of messages, one or more
-pub record Row : Type 0 where
+pub record ShapeRow : Type 0 where
   pub name : List ℕ
   pub sorts : List Sort
   pub lists : Bool
 
-abbrev pub row : List ℕ → List Sort → Row
+abbrev pub row : List ℕ → List Sort → ShapeRow
 row name sorts = record { name = name; sorts = sorts; lists = false }
 
-abbrev pub listing : List ℕ → List Sort → Row
+abbrev pub listing : List ℕ → List Sort → ShapeRow
 listing name sorts = record { name = name; sorts = sorts; lists = true }
 
 abbrev pub choose : Choice → Sort
@@ -38,7 +38,7 @@ link_sorts =
     ∷ choose choice.Code ∷ sort.Number ∷ choose choice.Channel ∷ sort.Number ∷ choose choice.Area ∷ sort.Number ∷ sort.Number ∷ choose choice.Rights ∷ []
 
 -- the row of each shape
-abbrev pub row_of : Shape → Row
+abbrev pub row_of : Shape → ShapeRow
 row_of shape.Turn = row (codes "turn") (sort.Machine ∷ [])
 row_of shape.Tick = row (codes "tick") (sort.Machine ∷ [])
 row_of shape.Deliver = row (codes "deliver") (sort.Machine ∷ sort.Machine ∷ sort.Packet ∷ [])
@@ -100,8 +100,8 @@ row_of shape.Inbox = listing (codes "inbox") (sort.Machine ∷ [])
 row_of shape.Stream = listing (codes "stream") (sort.Machine ∷ sort.Machine ∷ [])
 row_of shape.Groups = row (codes "end") (sort.Groups ∷ [])
 
-abbrev pub shapes : List Shape
-shapes =
+abbrev pub all_shapes : List Shape
+all_shapes =
     shape.Turn ∷ shape.Tick ∷ shape.Deliver ∷ shape.Migrate ∷ shape.Ran ∷ shape.Call ∷ shape.Send ∷ shape.Wait
     ∷ shape.Out ∷ shape.End ∷ shape.Receive ∷ shape.Refuse ∷ shape.Dropped ∷ shape.Served ∷ shape.Gone ∷ shape.Took
     ∷ shape.Created ∷ shape.NoSpace ∷ shape.Idle ∷ shape.Put ∷ shape.Packet ∷ shape.Taken ∷ shape.Old ∷ shape.Early
@@ -124,7 +124,7 @@ fit (s ∷ ss) lists [] = false
 fit (s ∷ ss) lists (w ∷ ws) = if is_of s w then fit ss lists ws else false
 
 -- the words of a line are those of a row
-abbrev pub is_row : Row → List (List ℕ) → Bool
+abbrev pub is_row : ShapeRow → List (List ℕ) → Bool
 is_row r [] = false
 is_row r (w ∷ ws) = if bytes_eq w r.name then fit r.sorts r.lists ws else false
 
@@ -134,4 +134,4 @@ is_of_shape s line = is_row (row_of s) (pieces 32 line)
 
 -- it is a line of the format
 unfoldable pub has_shape : List ℕ → Bool
-has_shape line = list_any (λ s. is_of_shape s line) shapes
+has_shape line = list_any (λ s. is_of_shape s line) all_shapes

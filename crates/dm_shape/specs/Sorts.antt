@@ -9,12 +9,12 @@ use Rattle.dm_shape.specs.declared.sort.Sort.TheVariants as sort
 use Rattle.dm_shape.specs.Choices.{one_of, words_of}
 
 -- a digit of 0-9 a-f
-abbrev pub is_digit : ℕ → Bool
-is_digit c = (nat_le 48 c && nat_le c 57) || (nat_le 97 c && nat_le c 102)
+abbrev pub is_hex_digit : ℕ → Bool
+is_hex_digit c = (nat_le 48 c && nat_le c 57) || (nat_le 97 c && nat_le c 102)
 
 -- bytes, two digits each: at least one, and at most so many
 abbrev pub spells : ℕ → List ℕ → Bool
-spells most word = list_all is_digit word && (length word % 2 == 0) && nat_lt 0 (length word) && nat_le (length word) (2 * most)
+spells most word = list_all is_hex_digit word && (length word % 2 == 0) && nat_lt 0 (length word) && nat_le (length word) (2 * most)
 
 -- what stands in a block: 1 to 256 bytes, the last not 0
 abbrev pub is_block : List ℕ → Bool

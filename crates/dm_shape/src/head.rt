@@ -3,7 +3,7 @@ ghost use Rattle.std.specs.Prelude.{◌≡◌, option_map};
 ghost use Rattle.dm_schedule.specs.declared.Step.TheVariants as step;
 ghost use Rattle.dm_text.specs.Reading.{read_pid, read_u64, read_u8};
 ghost use Rattle.dm_text.specs.Rows.{of1, of2, of3};
-ghost use Rattle.dm_shape.specs.Heads.{head_of};
+ghost use Rattle.dm_shape.specs.Heads.{head_step};
 ghost use Rattle.dm_shape.specs.Pieces.{behind};
 ghost use Rattle.dm_shape.specs.Words.{alone, pair, triple};
 
@@ -12,9 +12,9 @@ use crate::split::split;
 use dm_schedule::Step;
 
 /// The directive that a text without line feed names, if it is the head of a group: for any machines, and any packet.
-#[tactic(auto, unfolding(crate::specs::Heads::head_of))]
+#[tactic(auto, unfolding(crate::specs::Heads::head_step))]
 pub fn head(line: &[u8]) -> Option<Step>
-    ensures { result ≡ head_of line.now }
+    ensures { result ≡ head_step line.now }
 {
     let (name, words) = split(line, b' ');
     if name == "turn".as_bytes() {

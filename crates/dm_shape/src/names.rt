@@ -1,7 +1,7 @@
 //! Numbers of fixed sizes, and names of processes and messages, as they are printed.
 ghost use Rattle.std.specs.Prelude.{◌≡◌, Some};
 ghost use Rattle.dm_link.specs.Names.{pid_of};
-ghost use Rattle.dm_text.specs.Reading.{◌<*>◌, named, numbered, pieces, read_id, read_pid, read_u32, read_u64, read_u8};
+ghost use Rattle.dm_text.specs.Reading.{◌<*>◌, message_named, message_numbered, pieces, read_id, read_pid, read_u32, read_u64, read_u8};
 
 use crate::number::number;
 use crate::split::split;
@@ -68,7 +68,7 @@ pub fn message(word: &[u8]) -> Option<MsgId>
 /// The message of this sender, and of this number or the answer to it.
 #[tactic(auto, unfolding(dm_text::specs::Reading::pieces))]
 fn numbered(from: &[u8], n: &[u8]) -> Option<MsgId>
-    ensures { result ≡ numbered (read_pid from.now) (pieces 33 n.now) }
+    ensures { result ≡ message_numbered (read_pid from.now) (pieces 33 n.now) }
 {
     let (n, mark) = split(n, b'!');
     match mark {
@@ -85,7 +85,7 @@ fn numbered(from: &[u8], n: &[u8]) -> Option<MsgId>
 
 /// The message of this sender and number, or the answer to it.
 fn message_of(from: &[u8], n: &[u8], answer: bool) -> Option<MsgId>
-    ensures { result ≡ Some (named answer) <*> read_pid from.now <*> read_u32 n.now }
+    ensures { result ≡ Some (message_named answer) <*> read_pid from.now <*> read_u32 n.now }
 {
     let from = process(from)?;
     let n = count(n)?;

@@ -1,6 +1,6 @@
 //! Numbers as they are printed.
 ghost use Rattle.std.specs.Prelude.{◌≡◌, ◌+◌, ◌*◌, ◌<◌, ◌≤◌, IfSome, Some};
-ghost use Rattle.dm_text.specs.Reading.{below, is_padded, read_number};
+ghost use Rattle.dm_text.specs.Reading.{if_below, is_padded, read_number};
 ghost use Rattle.dm_shape.specs.Digits.{digit_of};
 
 /// The number that a word spells in decimal, without a 0 in front, if it is at most `most`.
@@ -40,7 +40,7 @@ fn digit_of(byte: u8) -> Option<u8>
 
 /// A number with one more digit, if it is at most `most` then.
 fn with_digit(n: u128, digit: u8, most: u128) -> Option<u128>
-    ensures { result ≡ below (most + 1) (Some (10 * n + digit)) }
+    ensures { result ≡ if_below (most + 1) (Some (10 * n + digit)) }
 {
     let next = n.checked_mul(10)?.checked_add(u128::from(digit))?;
     if next <= most { Some(next) } else { None }

@@ -3,7 +3,7 @@ ghost use Rattle.std.specs.Prelude.{◌≡◌, ◌<◌};
 ghost use Rattle.std.specs.List.{list_all, list_any};
 ghost use Rattle.std.specs.Str.{bytes_eq};
 ghost use Rattle.dm_message.specs.Kinds.{all_kinds, word_of};
-ghost use Rattle.dm_shape.specs.Sorts.{is_block, is_digit, is_of, spells};
+ghost use Rattle.dm_shape.specs.Sorts.{is_block, is_hex_digit, is_of, spells};
 
 use crate::choice::Choice;
 use crate::names::{byte, count, message, process, wide};
@@ -104,14 +104,14 @@ fn is_one_of_kinds(word: &[u8], kinds: &[MessageKind]) -> bool
 
 /// Whether a byte is a digit of `0-9 a-f`.
 fn is_digit(byte: u8) -> bool
-    ensures { result ≡ is_digit byte }
+    ensures { result ≡ is_hex_digit byte }
 {
     byte.is_ascii_digit() || (b'a'..=b'f').contains(&byte)
 }
 
 /// Whether each byte of a word is such a digit.
 fn are_digits(word: &[u8]) -> bool
-    ensures { result ≡ list_all is_digit word.now }
+    ensures { result ≡ list_all is_hex_digit word.now }
 {
     word.iter().all(|byte| is_digit(*byte))
 }

@@ -10,7 +10,7 @@ pub use Rattle.dm_processor.proofs.Names.{◌≡◌, ◌≤◌}
 pub use Rattle.dm_processor.specs.declared.registers.Regs.{Regs}
 pub use Rattle.dm_linktable.proofs.Names.{Err, Link, Ok, Pid, Result, eqb, link_at, replicate, set, subst, ◌==◌}
 pub use Rattle.dm_packet.proofs.Coded.{coded_is, none_left, one_or_later, yes_or_no_is}
-pub use Rattle.dm_packet.proofs.Field.{IsField, IsField-both, IsField-for, IsField-made, IsField-number, IsField-tested, IsField-times, Took, bind_ok, guard_ok, then_parts, took_same}
+pub use Rattle.dm_packet.proofs.Field.{IsField, IsField-both, IsField-for, IsField-made, IsField-number, IsField-repeated_field, IsField-tested, Took, bind_ok, guard_ok, then_parts, took_same}
 pub use Rattle.dm_packet.proofs.Fields.{IsSpelledAddr, IsSpelledLink, IsSpelledPid, addr_is, length_within_is, link_is, pid_is}
 pub use Rattle.dm_packet.proofs.Loop.{goes_on, with_front}
 pub use Rattle.dm_packet.proofs.Names.{Addr, All, All-from_recursion, AllByRecursion, Fits, General, IfOk, IfSome, IsLawfulMessage, IsMachine, Message, OnOk, Reply, addr, append-nil, append_assoc, bit_of, both, eq-eqb, eqb-true}
@@ -19,7 +19,7 @@ pub use Rattle.dm_packet.proofs.Names.{take_at_read, yes_or_no, ◌>>=◌, ◌�
 pub use Rattle.dm_packet.proofs.Numbers.{IsBytes}
 pub use Rattle.dm_packet.proofs.Writes.{all_next, next_has_room, pieces_next, then_put}
 pub use Rattle.dm_packet.specs.declared.PacketError.{PacketError}
-pub use Rattle.dm_process.specs.Begun.{begun}
+pub use Rattle.dm_process.specs.Begun.{begun_process}
 pub use Rattle.dm_process.specs.Directions.{direction_numbered, number_of_direction}
 pub use Rattle.dm_process.specs.Lawful.{IsLawfulProcess, IsLawfulStatus, SlotIsLawful}
 pub use Rattle.dm_process.specs.declared.process.Direction.{Direction}
@@ -28,8 +28,8 @@ pub use Rattle.dm_process.specs.declared.process.Process.{Process}
 pub use Rattle.dm_process.specs.declared.process.Status.{Status}
 pub use Rattle.dm_process.specs.declared.process.Status.TheVariants.{Moving, Ready, Waiting}
 pub use Rattle.dm_statebytes.specs.Lawful.{IsLawfulShell}
-pub use Rattle.dm_statebytes.specs.Shell.{Front, blocks, by_rule, ended, front, front_of, regs, shell, shell_of, shell_with, version}
-unfoldable pub use Rattle.dm_statebytes.specs.Shell.{registers, shell_of_bytes, spelling}
+pub use Rattle.dm_statebytes.specs.Shell.{Front, blocks, by_rule, front, only_shell, regs, shell, shell_front, shell_of, shell_version, shell_with}
+unfoldable pub use Rattle.dm_statebytes.specs.Shell.{registers, shell_of_bytes, shell_spelling}
 pub use Rattle.dm_statebytes.specs.Statuses.{cap_from, direction, is_left, left_from, moving, number_of_status_kind, read_status, spell_status, status, status_kind, status_kind_numbered, waiting}
 pub use Rattle.dm_statebytes.specs.Table.{held, mask, mask_of, read_slots, slot, slots, spell_slot, table}
 pub use Rattle.dm_statebytes.specs.Widths.{FitsShell, FitsSlot, FitsStatus}

@@ -1,15 +1,15 @@
 -- A process is read as it is spelled.
 use Rattle.dm_statebytes.proofs.Names.{◌≡◌, ℕ, ◌*◌, ◌^◌, ◌<◌, ◌≤◌, true, eqb, List, [], ◌∷◌, ◌++◌, length, Option, None, Some, Result, Ok, Err, refl, sym, ap, subst, ◌∙◌, arith, ◌⊎◌, ◌==◌, IfOk, AllByRecursion, eqb-true, eq-eqb, append-nil}
 use Rattle.dm_statebytes.proofs.Names.{nil_from_length, All-from_recursion, recursion_from_All, Link, Regs, SlotIsLawful, PacketError, ◌>>=◌, both, number, pid, yes_or_no, Fits, IsBytes, IsField, IsField-both, IsField-for, IsField-made}
-use Rattle.dm_statebytes.proofs.Names.{IsField-number, IsField-tested, IsField-times, bind_ok, guard_ok, IsSpelledPid, length_within_is, pid_is, yes_or_no_is, StateBytesError, Shell, IsLawfulShell, Front, blocks, by_rule, ended, front}
-use Rattle.dm_statebytes.proofs.Names.{front_of, registers, regs, shell, shell_of_bytes, shell_with, spelling, version, status, table, FitsShell, FitsSlot}
+use Rattle.dm_statebytes.proofs.Names.{IsField-number, IsField-tested, IsField-repeated_field, bind_ok, guard_ok, IsSpelledPid, length_within_is, pid_is, yes_or_no_is, StateBytesError, Shell, IsLawfulShell, Front, blocks, by_rule}
+use Rattle.dm_statebytes.proofs.Names.{only_shell, front, shell_front, registers, regs, shell, shell_of_bytes, shell_with, shell_spelling, shell_version, status, table, FitsShell, FitsSlot}
 use Rattle.dm_packet.specs.declared.PacketError.TheVariants as bad
 use Rattle.dm_statebytes.proofs.Statuses.{IsSpelledStatus, status_is}
 use Rattle.dm_statebytes.proofs.Tables.{IsSpelledTable, SlotIsSpelled, table_is}
 
-version_is : IsField version (λ v. v ≡ 3)
+version_is : IsField shell_version (λ v. v ≡ 3)
 version_is =
-    IsField-for version (λ v. (v < 256 ^ 1) × (eqb v 3 ≡ true)) (λ v. v ≡ 3) (IsField-tested (number 1) (λ v. v < 256 ^ 1) (IsField-number 1) (λ v. v == 3) bad.Version)
+    IsField-for shell_version (λ v. (v < 256 ^ 1) × (eqb v 3 ≡ true)) (λ v. v ≡ 3) (IsField-tested (number 1) (λ v. v < 256 ^ 1) (IsField-number 1) (λ v. v == 3) bad.Version)
     (λ v fits. eqb-true v 3 fits.1)
     (λ v e. (omega (arith, e), eq-eqb v 3 e))
 
@@ -21,7 +21,7 @@ blocks_is = length_within_is 1 256 (omega arith)
 
 registers_is : IsField registers (λ r. (length r ≡ 16) × AllByRecursion (Fits 4) r)
 unfolding registers
-registers_is = IsField-times (number 4) (Fits 4) (IsField-number 4) 16
+registers_is = IsField-repeated_field (number 4) (Fits 4) (IsField-number 4) 16
 
 abbrev IsSpelledRegs : Regs → Type 0
 IsSpelledRegs r = ((length r.r ≡ 16) × AllByRecursion (Fits 4) r.r) × Fits 4 r.pc
@@ -44,7 +44,7 @@ front_is =
     let from_stopped = λ (n : ℕ). IsField-both (yes_or_no bad.Flags) (λ _. Unit {0}) (yes_or_no_is bad.Flags) (λ _. both (status (256 * n)) (λ _. both (number 4) (λ _. both (number 4) (λ _. regs)))) (λ _ f. IsSpelledStatus (256 * n) f.0 × (Fits 4 f.1.0 × (Fits 4 f.1.1.0 × IsSpelledRegs f.1.1.1))) (λ _. from_status n) in
     let from_blocks = IsField-both blocks IsCount blocks_is (λ n. both (yes_or_no bad.Flags) (λ _. both (status (256 * n)) (λ _. both (number 4) (λ _. both (number 4) (λ _. regs))))) (λ n f. Unit {0} × (IsSpelledStatus (256 * n) f.1.0 × (Fits 4 f.1.1.0 × (Fits 4 f.1.1.1.0 × IsSpelledRegs f.1.1.1.1)))) from_stopped in
     let from_pid = IsField-both pid IsSpelledPid pid_is (λ _. both blocks (λ n. both (yes_or_no bad.Flags) (λ _. both (status (256 * n)) (λ _. both (number 4) (λ _. both (number 4) (λ _. regs)))))) (λ _ f. IsCount f.0 × (Unit {0} × (IsSpelledStatus (256 * f.0) f.1.1.0 × (Fits 4 f.1.1.1.0 × (Fits 4 f.1.1.1.1.0 × IsSpelledRegs f.1.1.1.1.1))))) (λ _. from_blocks) in
-    IsField-both version (λ v. v ≡ 3) version_is (λ _. both pid (λ _. both blocks (λ n. both (yes_or_no bad.Flags) (λ _. both (status (256 * n)) (λ _. both (number 4) (λ _. both (number 4) (λ _. regs))))))) (λ _ f. IsSpelledPid f.0 × (IsCount f.1.0 × (Unit {0} × (IsSpelledStatus (256 * f.1.0) f.1.1.1.0 × (Fits 4 f.1.1.1.1.0 × (Fits 4 f.1.1.1.1.1.0 × IsSpelledRegs f.1.1.1.1.1.1)))))) (λ _. from_pid)
+    IsField-both shell_version (λ v. v ≡ 3) version_is (λ _. both pid (λ _. both blocks (λ n. both (yes_or_no bad.Flags) (λ _. both (status (256 * n)) (λ _. both (number 4) (λ _. both (number 4) (λ _. regs))))))) (λ _ f. IsSpelledPid f.0 × (IsCount f.1.0 × (Unit {0} × (IsSpelledStatus (256 * f.1.0) f.1.1.1.0 × (Fits 4 f.1.1.1.1.0 × (Fits 4 f.1.1.1.1.1.0 × IsSpelledRegs f.1.1.1.1.1.1)))))) (λ _. from_pid)
 
 -- slots, seen place by place
 
@@ -95,7 +95,7 @@ made_of cap s fits =
       },
     )
 
-parts_of : (cap : ℕ) (s : Shell) → IsSpelledShell cap s → IsWhole cap (front_of s, s.table)
+parts_of : (cap : ℕ) (s : Shell) → IsSpelledShell cap s → IsWhole cap (shell_front s, s.table)
 parts_of cap s fits =
     let lawful = fits.0 in
     let widths = fits.1 in
@@ -103,13 +103,13 @@ parts_of cap s fits =
     let r : IsSpelledRegs s.regs = ((lawful.registers, recursion_from_All (Fits 4) s.regs.r widths.registers), widths.pc) in
     ((refl, ((lawful.home, widths.pid), (lawful.blocks, (tt, ((lawful.status, widths.status), (widths.sent, (widths.moves, r))))))), (lawful.slots, slots))
 
-same_version : (s : Front × List (Option Link)) → s.0.0 ≡ 3 → (front_of (shell_with s), s.1) ≡ s
+same_version : (s : Front × List (Option Link)) → s.0.0 ≡ 3 → (shell_front (shell_with s), s.1) ≡ s
 same_version s e i = ((sym e i, s.0.1), s.1)
 
 pub shell_is : (cap : ℕ) → (cap ≡ 32) ⊎ (cap ≡ 128) → IsField (shell cap) (IsSpelledShell cap)
 shell_is cap known =
     let whole = IsField-both front IsFront front_is (λ _. table cap) (λ _. IsSpelledTable cap) (λ _. table_is cap known) in
-    IsField-made (both front (λ _. table cap)) (IsWhole cap) whole shell_with (λ s. (front_of s, s.table)) (IsSpelledShell cap)
+    IsField-made (both front (λ _. table cap)) (IsWhole cap) whole shell_with (λ s. (shell_front s, s.table)) (IsSpelledShell cap)
     (λ s fits. (same_version s fits.0.0, made_of cap s fits))
     (λ s fits. (parts_of cap s fits, refl))
 
@@ -120,28 +120,28 @@ by_rule_ok : (r : Result Shell PacketError) (s : Shell) → by_rule r ≡ fine s
 by_rule_ok (Ok t) s e = cc
 by_rule_ok (Err d) s e = absurd cc
 
-ended_ok : (t : Shell × List ℕ) (s : Shell) → ended t ≡ Ok s → (t.1 ≡ []) × (t.0 ≡ s)
+ended_ok : (t : Shell × List ℕ) (s : Shell) → only_shell t ≡ Ok s → (t.1 ≡ []) × (t.0 ≡ s)
 ended_ok t s e = let g = guard_ok (eqb (length t.1) 0) bad.Trailing t.0 s e in (nil_from_length t.1 (eqb-true _ _ g.0), g.1)
 
 -- what some bytes are read as is lawful, and they are its spelling
-pub shell_takes : (bytes : List ℕ) (cap : ℕ) (s : Shell) → (cap ≡ 32) ⊎ (cap ≡ 128) → IsBytes bytes → shell_of_bytes bytes cap ≡ Ok s → (bytes ≡ spelling s) × IsLawfulShell cap s × FitsShell s
-unfolding shell_of_bytes spelling
+pub shell_takes : (bytes : List ℕ) (cap : ℕ) (s : Shell) → (cap ≡ 32) ⊎ (cap ≡ 128) → IsBytes bytes → shell_of_bytes bytes cap ≡ Ok s → (bytes ≡ shell_spelling s) × IsLawfulShell cap s × FitsShell s
+unfolding shell_of_bytes shell_spelling
 shell_takes bytes cap s known h e =
-    let whole = by_rule_ok ((shell cap).read bytes >>= ended) s e in
-    let a = bind_ok ((shell cap).read bytes) ended s whole in
+    let whole = by_rule_ok ((shell cap).read bytes >>= only_shell) s e in
+    let a = bind_ok ((shell cap).read bytes) only_shell s whole in
     let end = ended_ok a.0 s a.2 in
     let t = (shell_is cap known).takes bytes a.0.0 a.0.1 h a.1 in
     let parts : bytes ≡ (shell cap).spell a.0.0 = t.parts ∙ ap (λ (rest : List ℕ). (shell cap).spell a.0.0 ++ rest) end.0 ∙ append-nil ((shell cap).spell a.0.0) in
     subst (λ (x : Shell). (bytes ≡ (shell cap).spell x) × IsLawfulShell cap x × FitsShell x) end.1 (parts, t.fits.0, t.fits.1)
 
 -- the spelling of a lawful process is read as that process
-pub shell_again : (cap : ℕ) (s : Shell) → (cap ≡ 32) ⊎ (cap ≡ 128) → IsLawfulShell cap s → FitsShell s → shell_of_bytes (spelling s) cap ≡ Ok s
-unfolding shell_of_bytes spelling
+pub shell_again : (cap : ℕ) (s : Shell) → (cap ≡ 32) ⊎ (cap ≡ 128) → IsLawfulShell cap s → FitsShell s → shell_of_bytes (shell_spelling s) cap ≡ Ok s
+unfolding shell_of_bytes shell_spelling
 shell_again cap s known lawful fits =
     let no_more = append-nil ((shell cap).spell s) in
-    ap (λ (r : Result (Shell × List ℕ) PacketError). by_rule (r >>= ended)) (ap (shell cap).read (sym no_more) ∙ (shell_is cap known).again s [] (lawful, fits))
+    ap (λ (r : Result (Shell × List ℕ) PacketError). by_rule (r >>= only_shell)) (ap (shell cap).read (sym no_more) ∙ (shell_is cap known).again s [] (lawful, fits))
 
 -- what a result that the bytes gave says of them
-pub is_found : (bytes : List ℕ) (cap : ℕ) (r : Result Shell StateBytesError) → (cap ≡ 32) ⊎ (cap ≡ 128) → IsBytes bytes → r ≡ shell_of_bytes bytes cap → IfOk r (λ s. IsLawfulShell cap s × (bytes ≡ spelling s))
+pub is_found : (bytes : List ℕ) (cap : ℕ) (r : Result Shell StateBytesError) → (cap ≡ 32) ⊎ (cap ≡ 128) → IsBytes bytes → r ≡ shell_of_bytes bytes cap → IfOk r (λ s. IsLawfulShell cap s × (bytes ≡ shell_spelling s))
 is_found bytes cap (Ok s) known h e = let t = shell_takes bytes cap s known h (sym e) in (t.1, t.0)
 is_found bytes cap (Err d) known h e = tt

@@ -1,6 +1,6 @@
 -- How long the state bytes of a process are.
 use Rattle.dm_statebytes.proofs.Names.{◌≡◌, ℕ, ◌+◌, ◌*◌, ◌≤◌, List, [], ◌∷◌, ◌++◌, length, Option, None, Some, Result, Ok, Err, sym, ap, subst, ◌∙◌, arith, inl, inr, ◌⊎◌, OnOk, flat_map, length-append, flat_map-cons, Link, Status, Ready}
-use Rattle.dm_statebytes.proofs.Names.{Waiting, Moving, number, IsBytes, StateBytesError, Shell, IsLawfulShell, front, front_of, registers, shell_of_bytes, spelling, spell_status, mask_of, spell_slot}
+use Rattle.dm_statebytes.proofs.Names.{Waiting, Moving, number, IsBytes, StateBytesError, Shell, IsLawfulShell, front, shell_front, registers, shell_of_bytes, shell_spelling, spell_status, mask_of, spell_slot}
 use Rattle.dm_statebytes.proofs.Shells.{shell_takes}
 
 slot_size : (o : Option Link) → length (spell_slot o) ≤ 24
@@ -31,7 +31,7 @@ status_size size (Moving dir owner base own left pending) = (omega arith, omega 
 abbrev pub IsSize : ℕ → Type 0
 IsSize n = (102 ≤ n) × (n ≤ 3201)
 
-pub front_size : (s : Shell) → length s.regs.r ≡ 16 → (86 ≤ length (front.spell (front_of s))) × (length (front.spell (front_of s)) ≤ 113)
+pub front_size : (s : Shell) → length s.regs.r ≡ 16 → (86 ≤ length (front.spell (shell_front s))) × (length (front.spell (shell_front s)) ≤ 113)
 front_size s sixteen =
     let st = spell_status (256 * s.blocks) s.status in
     let r = registers.spell s.regs.r in
@@ -39,17 +39,17 @@ front_size s sixteen =
     let counts = (number 4).spell s.sent ++ ((number 4).spell s.moves ++ (r ++ pc)) in
     let regs_len : length (r ++ pc) ≡ 68 = length-append r pc ∙ omega (arith, registers_size s.regs.r sixteen) in
     let counts_len : length counts ≡ 76 = omega (arith, regs_len) in
-    let front_len : length (front.spell (front_of s)) ≡ 9 + (length st + 76) = omega (arith, length-append st counts, counts_len) in
+    let front_len : length (front.spell (shell_front s)) ≡ 9 + (length st + 76) = omega (arith, length-append st counts, counts_len) in
     let bounds = status_size (256 * s.blocks) s.status in
     (omega (arith, front_len, bounds.0), omega (arith, front_len, bounds.1))
 
-pub shell_size : (s : Shell) → length s.regs.r ≡ 16 → length s.table ≤ 128 → IsSize (length (spelling s))
-unfolding spelling
+pub shell_size : (s : Shell) → length s.regs.r ≡ 16 → length s.table ≤ 128 → IsSize (length (shell_spelling s))
+unfolding shell_spelling
 shell_size s sixteen few =
     let links = flat_map spell_slot s.table in
     let mask = (number 16).spell (mask_of s.table) in
     let table_len : length (mask ++ links) ≡ 16 + length links = omega arith in
-    let whole : length (spelling s) ≡ length (front.spell (front_of s)) + length (mask ++ links) = length-append (front.spell (front_of s)) (mask ++ links) in
+    let whole : length (shell_spelling s) ≡ length (front.spell (shell_front s)) + length (mask ++ links) = length-append (front.spell (shell_front s)) (mask ++ links) in
     let bounds = front_size s sixteen in
     (omega (arith, whole, table_len, bounds.0), omega (arith, whole, table_len, bounds.1, slots_size s.table))
 
@@ -57,7 +57,7 @@ few_slots : (cap : ℕ) → (cap ≡ 32) ⊎ (cap ≡ 128) → cap ≤ 128
 few_slots cap (inl e) = omega (arith, e)
 few_slots cap (inr e) = omega (arith, e)
 
-pub lawful_size : (cap : ℕ) (s : Shell) → (cap ≡ 32) ⊎ (cap ≡ 128) → IsLawfulShell cap s → IsSize (length (spelling s))
+pub lawful_size : (cap : ℕ) (s : Shell) → (cap ≡ 32) ⊎ (cap ≡ 128) → IsLawfulShell cap s → IsSize (length (shell_spelling s))
 lawful_size cap s known lawful = shell_size s lawful.registers (omega (arith, lawful.slots, few_slots cap known))
 
 pub is_short : (bytes : List ℕ) (cap : ℕ) (r : Result Shell StateBytesError) → (cap ≡ 32) ⊎ (cap ≡ 128) → IsBytes bytes → r ≡ shell_of_bytes bytes cap → OnOk r (length bytes ≤ 3201)

@@ -1,6 +1,6 @@
 -- The definitions, computed on worked bytes.
 use Rattle.dm_statebytes.proofs.Names.{◌≡◌, ℕ, true, false, List, [], ◌∷◌, ◌++◌, slice_set, Option, None, Some, Result, Ok, Err, refl, General, Reply, IntoArea, Ready, Waiting, Moving, StateBytesError, Shell, registers, shell_of_bytes}
-use Rattle.dm_statebytes.proofs.Names.{spelling}
+use Rattle.dm_statebytes.proofs.Names.{shell_spelling}
 use Rattle.std.proofs.Common.{replicate}
 use Rattle.dm_statebytes.specs.declared.StateBytesError.TheVariants as carry
 
@@ -20,8 +20,8 @@ fresh = record {
 abbrev fresh_bytes : List ℕ
 fresh_bytes = (3 ∷ 0 ∷ 0 ∷ 0 ∷ 0 ∷ 3 ∷ 0 ∷ 1 ∷ 0 ∷ 0 ∷ 0 ∷ 0 ∷ 0 ∷ 0 ∷ []) ++ replicate 88 0
 
-pub fresh_is_spelled : spelling fresh ≡ fresh_bytes
-unfolding registers spelling
+pub fresh_is_spelled : shell_spelling fresh ≡ fresh_bytes
+unfolding registers shell_spelling
 fresh_is_spelled = refl
 
 pub fresh_is_read : shell_of_bytes fresh_bytes 32 ≡ Ok fresh
@@ -51,8 +51,8 @@ moving_bytes =
     ++ (0 ∷ 0 ∷ 1 ∷ 2 ∷ 0 ∷ 0 ∷ 0 ∷ 0 ∷ 0 ∷ 0 ∷ 0 ∷ 0 ∷ 0 ∷ 0 ∷ 0 ∷ 0 ∷ 0 ∷ 0 ∷ 0 ∷ 0 ∷ 0 ∷ 0 ∷ 0 ∷ 0 ∷ 0 ∷ 0 ∷ 0 ∷ 0 ∷ 0 ∷ 0 ∷ 0 ∷ 0 ∷ 0 ∷ 0 ∷ 0 ∷ 0 ∷ 0 ∷ 0 ∷ 0 ∷ 0 ∷ 0 ∷ 0 ∷ 0 ∷ 0 ∷ 0 ∷ 0 ∷ 0 ∷ 0 ∷ 0 ∷ 0 ∷ 0 ∷ 0 ∷ 0 ∷ 0 ∷ 0 ∷ 0 ∷ 0 ∷ 0 ∷ 0 ∷ 0 ∷ 0 ∷ 0 ∷ 0 ∷ 255 ∷ 0 ∷ 0 ∷ 0 ∷ 8 ∷ 0 ∷ 0 ∷ 0 ∷ 0 ∷ 0 ∷ 0 ∷ 0 ∷ 0 ∷ 0 ∷ 0 ∷ 0 ∷ 0 ∷ 0 ∷ 0 ∷ 0 ∷ 34 ∷ [])
     ++ (0 ∷ 0 ∷ 0 ∷ 0 ∷ 3 ∷ 1 ∷ 0 ∷ 0 ∷ 0 ∷ 2 ∷ 5 ∷ 0 ∷ 0 ∷ 0 ∷ 7 ∷ 31 ∷ 0 ∷ 0 ∷ 0 ∷ 16 ∷ 0 ∷ 0 ∷ 1 ∷ 0 ∷ 0 ∷ 0 ∷ 0 ∷ 0 ∷ 4 ∷ 0 ∷ 0 ∷ 0 ∷ 0 ∷ 0 ∷ 0 ∷ 0 ∷ 0 ∷ 0 ∷ 0 ∷ 0 ∷ 0 ∷ 0 ∷ 0 ∷ 0 ∷ 0 ∷ 0 ∷ 0 ∷ 0 ∷ [])
 
-pub moving_is_spelled : spelling moving ≡ moving_bytes
-unfolding registers spelling
+pub moving_is_spelled : shell_spelling moving ≡ moving_bytes
+unfolding registers shell_spelling
 moving_is_spelled = refl
 
 pub moving_is_read : shell_of_bytes moving_bytes 32 ≡ Ok moving
@@ -109,8 +109,8 @@ waiting = record fresh { status = Waiting 16909060 72 184 }
 abbrev waiting_bytes : List ℕ
 waiting_bytes = (3 ∷ 0 ∷ 0 ∷ 0 ∷ 0 ∷ 3 ∷ 0 ∷ 1 ∷ 0 ∷ 1 ∷ 1 ∷ 2 ∷ 3 ∷ 4 ∷ 0 ∷ 0 ∷ 0 ∷ 72 ∷ 0 ∷ 0 ∷ 0 ∷ 184 ∷ []) ++ replicate 92 0
 
-pub waiting_is_spelled : spelling waiting ≡ waiting_bytes
-unfolding registers spelling
+pub waiting_is_spelled : shell_spelling waiting ≡ waiting_bytes
+unfolding registers shell_spelling
 waiting_is_spelled = refl
 
 pub waiting_is_read : shell_of_bytes waiting_bytes 32 ≡ Ok waiting

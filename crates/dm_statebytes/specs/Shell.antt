@@ -8,7 +8,7 @@ use Rattle.dm_process.specs.declared.process.Process.{Process}
 use Rattle.dm_process.specs.declared.process.Status.{Status}
 use Rattle.dm_packet.specs.declared.PacketError.{PacketError}
 use Rattle.dm_packet.specs.declared.PacketError.TheVariants as bad
-use Rattle.dm_packet.specs.Field.{Field, ◌>>=◌, number, tested, both, made, times}
+use Rattle.dm_packet.specs.Field.{Field, ◌>>=◌, number, tested, both, made, repeated_field}
 use Rattle.dm_packet.specs.Fields.{length_within, pid}
 use Rattle.dm_packet.specs.Whats.{yes_or_no}
 use Rattle.dm_statebytes.specs.declared.StateBytesError.{StateBytesError}
@@ -30,15 +30,15 @@ shell_of p = record {
   table = p.table;
 }
 
-abbrev pub version : Field ℕ
-version = tested (number 1) (λ v. v == 3) bad.Version
+abbrev pub shell_version : Field ℕ
+shell_version = tested (number 1) (λ v. v == 3) bad.Version
 
 abbrev pub blocks : Field ℕ
 blocks = length_within 1 256
 
 -- sixteen registers
 unfoldable pub registers : Field (List ℕ)
-registers = times (number 4) 16
+registers = repeated_field (number 4) 16
 
 -- the registers and the program counter
 abbrev pub regs : Field Regs
@@ -49,10 +49,10 @@ abbrev pub Front : Type 0
 Front = ℕ × (Pid × (ℕ × (Bool × (Status × (ℕ × (ℕ × Regs))))))
 
 abbrev pub front : Field Front
-front = both version (λ _. both pid (λ _. both blocks (λ n. both (yes_or_no bad.Flags) (λ _. both (status (256 * n)) (λ _. both (number 4) (λ _. both (number 4) (λ _. regs)))))))
+front = both shell_version (λ _. both pid (λ _. both blocks (λ n. both (yes_or_no bad.Flags) (λ _. both (status (256 * n)) (λ _. both (number 4) (λ _. both (number 4) (λ _. regs)))))))
 
-abbrev pub front_of : Shell → Front
-front_of s = (3, (s.pid, (s.blocks, (s.stopped, (s.status, (s.sent, (s.moves, s.regs)))))))
+abbrev pub shell_front : Shell → Front
+shell_front s = (3, (s.pid, (s.blocks, (s.stopped, (s.status, (s.sent, (s.moves, s.regs)))))))
 
 abbrev pub shell_with : Front × List (Option Link) → Shell
 shell_with s = record {
@@ -68,18 +68,18 @@ shell_with s = record {
 
 -- a process with a table of so many slots
 abbrev pub shell : ℕ → Field Shell
-shell cap = made (both front (λ _. table cap)) shell_with (λ s. (front_of s, s.table))
+shell cap = made (both front (λ _. table cap)) shell_with (λ s. (shell_front s, s.table))
 
 -- the one spelling of a process
-unfoldable pub spelling : Shell → List ℕ
-spelling s = (shell (length s.table)).spell s
+unfoldable pub shell_spelling : Shell → List ℕ
+shell_spelling s = (shell (length s.table)).spell s
 
 -- nothing follows a process
-abbrev pub ended : Shell × List ℕ → Result Shell PacketError
-ended s = if length s.1 == 0 then Ok s.0 else Err bad.Trailing
+abbrev pub only_shell : Shell × List ℕ → Result Shell PacketError
+only_shell s = if length s.1 == 0 then Ok s.0 else Err bad.Trailing
 
 abbrev pub read_shell : List ℕ → ℕ → Result Shell PacketError
-read_shell bytes cap = (shell cap).read bytes >>= ended
+read_shell bytes cap = (shell cap).read bytes >>= only_shell
 
 abbrev pub by_rule : Result Shell PacketError → Result Shell StateBytesError
 by_rule (Ok s) = Ok s

@@ -5,7 +5,7 @@ ghost use Rattle.std.specs.Prelude.{◌≡◌, ◌⊎◌, ◌≤◌, IfOk, None,
 ghost use Rattle.dm_process.specs.Lawful.{IsLawfulProcess};
 ghost use Rattle.dm_statebytes.specs.Lawful.{IsLawfulShell};
 ghost use Rattle.dm_statebytes.specs.Rules.{number_of_rule, rule_of};
-ghost use Rattle.dm_statebytes.specs.Shell.{shell_of, shell_of_bytes, spelling};
+ghost use Rattle.dm_statebytes.specs.Shell.{shell_of, shell_of_bytes, shell_spelling};
 ghost use Rattle.dm_statebytes.specs.Widths.{FitsShell};
 
 mod reading;
@@ -107,7 +107,7 @@ fn rule_of(bad: PacketError) -> StateBytesError
 /// The state bytes of a process, 102 to 3,201.
 pub fn pack(alloc: Global, process: &Process) -> Result<Vec<u8>, NoMemory>
     requires lawful { IsLawfulProcess process.now }
-    ensures ok { IfOk result (λ v. v.items ≡ spelling (shell_of process.now)) }
+    ensures ok { IfOk result (λ v. v.items ≡ shell_spelling (shell_of process.now)) }
     ensures size { IfOk result (λ v. (LEAST_STATE ≤ length v.items) × (length v.items ≤ MOST_STATE)) }
     ensures lawful { IsLawfulShell (length process.now.table) (shell_of process.now) }
     // What is packed is unpacked at the table's number of slots.
@@ -129,9 +129,9 @@ pub fn unpack(bytes: &[u8], cap: u8, empty: Table) -> Result<Shell, StateBytesEr
     // Which process, and which rule.
     ensures exact { result ≡ shell_of_bytes bytes.now cap }
     // What is read is lawful, and spelled so and in no other way.
-    ensures found { IfOk result (λ s. IsLawfulShell cap s × (bytes.now ≡ spelling s)) }
+    ensures found { IfOk result (λ s. IsLawfulShell cap s × (bytes.now ≡ shell_spelling s)) }
     // What is spelled so is read, where its numbers fit their fields, as those of a process that stands in memory do.
-    ensures only { (s : Shell) → IsLawfulShell cap s → FitsShell s → bytes.now ≡ spelling s → result ≡ Ok s }
+    ensures only { (s : Shell) → IsLawfulShell cap s → FitsShell s → bytes.now ≡ shell_spelling s → result ≡ Ok s }
     ensures size { OnOk result (length bytes.now ≤ MOST_STATE) }
 {
     state_at(bytes, cap, empty)

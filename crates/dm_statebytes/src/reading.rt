@@ -2,7 +2,7 @@
 ghost use Rattle.std.specs.Prelude.{◌≡◌, ◌⊎◌, ◌==◌, None, replicate};
 ghost use Rattle.dm_packet.specs.Field.{number};
 ghost use Rattle.dm_packet.specs.Reads.{Reads};
-ghost use Rattle.dm_statebytes.specs.Shell.{blocks, read_shell, registers, regs, shell, shell_of_bytes, version};
+ghost use Rattle.dm_statebytes.specs.Shell.{blocks, read_shell, registers, regs, shell, shell_of_bytes, shell_version};
 ghost use Rattle.dm_statebytes.specs.Statuses.{cap_from, direction, left_from, moving, read_status, status, status_kind, waiting};
 ghost use Rattle.dm_statebytes.specs.Table.{mask, read_slots, table};
 
@@ -192,7 +192,7 @@ fn blocks_at(bytes: &[u8]) -> Result<(u16, &[u8]), PacketError>
 }
 
 fn version_at(bytes: &[u8]) -> Result<(u8, &[u8]), PacketError>
-    ensures { Reads result (version.read bytes.now) }
+    ensures { Reads result (shell_version.read bytes.now) }
 {
     let (version, rest) = byte_at(bytes)?;
     if version != 3 {

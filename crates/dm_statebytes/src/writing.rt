@@ -5,7 +5,7 @@ ghost use Rattle.dm_packet.specs.Field.{number};
 ghost use Rattle.dm_packet.specs.Fields.{link as link_field};
 ghost use Rattle.dm_packet.specs.Widths.{Fits, FitsAddr, FitsLink, FitsPid};
 ghost use Rattle.dm_packet.specs.Writes.{HasRoom, Puts};
-ghost use Rattle.dm_statebytes.specs.Shell.{front, front_of, regs as regs_field, shell_of};
+ghost use Rattle.dm_statebytes.specs.Shell.{front, regs as regs_field, shell_front, shell_of};
 ghost use Rattle.dm_statebytes.specs.Statuses.{moving, spell_status, status_kind, waiting};
 ghost use Rattle.dm_statebytes.specs.Table.{mask_of, spell_slot};
 ghost use Rattle.dm_statebytes.specs.Widths.{FitsSlot, FitsStatus};
@@ -131,7 +131,7 @@ fn counts_of(process: &Process) -> (u32, u32)
 pub fn put_front(out: &mut Buffer, process: &Process)
     requires empty { out.old.items ≡ [] }
     requires registers { length process.now.regs.r ≡ REGISTERS }
-    ensures put { Puts out.old out.new (front.spell (front_of (shell_of process.now))) }
+    ensures put { Puts out.old out.new (front.spell (shell_front (shell_of process.now))) }
     ensures pid { FitsPid process.now.pid }
     ensures status { FitsStatus process.now.status }
     ensures sent { Fits 4 process.now.sent }

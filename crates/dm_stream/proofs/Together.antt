@@ -1,7 +1,7 @@
 -- All that stands of a stream, together, and what follows.
 use Rattle.dm_stream.proofs.Names.{◌≡◌, sym, nat_lt, ℕ, ◌∙◌, ◌+◌, ◌-◌, ◌^◌, ◌<◌, ◌≤◌, true, List, [], ◌∷◌, length, slice_get, Option, Some, None, is_some, refl, inl, inr, arith, IsSome, cases_Bool, nat_tests, common_steps, gets, Receiving}
 use Rattle.dm_stream.proofs.Names.{place, kept_under, Load, Data, Ack, marked, load_at, HasCome, Stream, Event, Give, GoOut, GoAgain, Deliver, TakeKept, Acknowledge, DeliverBack, OtherAck, OtherData, happens, arrives, run, start, IsThere}
-use Rattle.dm_stream.proofs.Names.{Stands}
+use Rattle.dm_stream.proofs.Names.{StreamStands}
 use Rattle.dm_stream.proofs.Counts as counts
 use Rattle.dm_stream.proofs.Counts.{Counts, Within}
 use Rattle.dm_stream.proofs.Packets.{load-marked, load-none}
@@ -102,7 +102,7 @@ module _ {M : Type 0} where
   kept-there : (r : Receiving M) (n : ℕ) → r.count ≤ n → is_some (place r.kept (n - r.count)) ≡ true → IsSome (kept_under r n)
   kept-there r n le s = grind (arith, nat_tests)
 
-  pub Holds-stands : (w : Stream M) → Stands w → Holds w
+  pub Holds-stands : (w : Stream M) → StreamStands w → Holds w
   Holds-stands w h = record {
     counts = record {
       acked_taken = h.in_order.acked_taken;
@@ -147,8 +147,8 @@ module _ {M : Type 0} where
         inr (kept-there w.receiver n le (h.came c.0 n c.1.0 c.1.1.0 c.1.1.1 le))
   ]
 
-  pub Stands-holds : (w : Stream M) → Holds w → Stands w
-  Stands-holds w h = record {
+  pub StreamStands-holds : (w : Stream M) → Holds w → StreamStands w
+  StreamStands-holds w h = record {
     in_order = record {
       taken = h.genuine.taken;
       kept = kept-genuine w h.genuine;
@@ -179,8 +179,8 @@ module _ {M : Type 0} where
   }
 
   -- one step
-  pub Stands-happens : (w : Stream M) (e : Event M) → Stands w → Stands (happens w e)
-  Stands-happens w e h = Stands-holds (happens w e) (Holds-happens w e (Holds-stands w h))
+  pub StreamStands-happens : (w : Stream M) (e : Event M) → StreamStands w → StreamStands (happens w e)
+  StreamStands-happens w e h = StreamStands-holds (happens w e) (Holds-happens w e (Holds-stands w h))
 
   none-kept : (i : ℕ) (m : M) → place (start {M = M} 0).receiver.kept i ≡ Some m → ⊥
   none-kept i m is = grind (arith, gets, common_steps)
@@ -195,12 +195,12 @@ module _ {M : Type 0} where
     small = small;
   }
 
-  pub Stands-start : (numbers : ℕ) → numbers < 2 ^ 32 → Stands (start {M = M} numbers)
-  Stands-start numbers small = Stands-holds (start numbers) (Holds-start numbers small)
+  pub StreamStands-start : (numbers : ℕ) → numbers < 2 ^ 32 → StreamStands (start {M = M} numbers)
+  StreamStands-start numbers small = StreamStands-holds (start numbers) (Holds-start numbers small)
 
-  Stands-run : (es : List (Event M)) (w : Stream M) → Stands w → Stands (run es w)
-  Stands-run [] w h = h
-  Stands-run (e ∷ es) w h = Stands-run es (happens w e) (Stands-happens w e h)
+  StreamStands-run : (es : List (Event M)) (w : Stream M) → StreamStands w → StreamStands (run es w)
+  StreamStands-run [] w h = h
+  StreamStands-run (e ∷ es) w h = StreamStands-run es (happens w e) (StreamStands-happens w e h)
 
-  pub stands : (numbers : ℕ) (es : List (Event M)) → numbers < 2 ^ 32 → Stands (run es (start numbers))
-  stands numbers es small = Stands-run es (start numbers) (Stands-start numbers small)
+  pub stands : (numbers : ℕ) (es : List (Event M)) → numbers < 2 ^ 32 → StreamStands (run es (start numbers))
+  stands numbers es small = StreamStands-run es (start numbers) (StreamStands-start numbers small)

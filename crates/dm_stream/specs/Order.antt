@@ -45,7 +45,7 @@ module _ {M : Type 0} where
     pub places : length w.receiver.kept ≡ 8
 
   -- a pair's sender, receiver, packets and their marks fit each other: so it is at the start, and after each event
-  pub record Stands (w : Stream M) : Type 0 where
+  pub record StreamStands (w : Stream M) : Type 0 where
     pub in_order : IsInOrder w
     pub sent : IsSent w
     pub heard : IsHeard w

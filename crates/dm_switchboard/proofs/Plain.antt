@@ -48,7 +48,7 @@ plain_registers_new : (ks : List Named) (name : List ℕ) (l : Link) (kept : Opt
 plain_registers_new ks name l None = λ i. record { names = sym (plain_push ks (record { name = name; link = l })) i; answer = one.Registered }
 plain_registers_new ks name l (Some k) = refl
 
-plain_registers : (ks : List Named) (name : List ℕ) (l : Link) → one.registers (map plain_named ks) name (plain_link l) ≡ plain_asked (registers ks name l)
+plain_registers : (ks : List Named) (name : List ℕ) (l : Link) → one.registers_name (map plain_named ks) name (plain_link l) ≡ plain_asked (registers ks name l)
 plain_registers ks name l =
     both (is_general l.kind) _ (plain_asked (registers_new ks name l (link_named name ks))) _ (plain_asked (record { names = ks; reply = reply.BadLink }))
     (ap (one.registers_new (map plain_named ks) name (plain_link l)) (plain_link_named name ks) ∙ plain_registers_new ks name l (link_named name ks)) refl
@@ -92,7 +92,7 @@ plain_request b body (l ∷ ls) t e =
     let a : Asked = asks b.names body ls in
     ap (λ (t : Taken). plain_taken t.board t.took) (sym e)
     ∙ (λ i. Some (record { switchboard = record { names = map plain_named a.names; sent = b.sent + 1 }; answer = plain_answer b.sent l a.reply i }))
-    ∙ ap (λ p. Some (one.answers (plain_board b) (plain_link l) p)) (sym (plain_asks b.names body ls))
+    ∙ ap (λ p. Some (one.board_answers (plain_board b) (plain_link l) p)) (sym (plain_asks b.names body ls))
 
 -- a user message has the row of the kernel without machines
 pub plain_after : (r : Result Took NoMemory) (old new : Board) (m : Message) (code channel : ℕ) (body : ArrayVec ℕ) (links : ArrayVec Link) (bs : List ℕ) (ls : List Link)

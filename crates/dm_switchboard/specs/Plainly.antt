@@ -8,9 +8,9 @@ use Rattle.dm_switchboard.specs.declared.Took.{Took}
 use Rattle.dm_switchboard.specs.Board.{Board, plain_board}
 
 -- the board and the answer, as the kernel without machines has them
-abbrev pub plain_taken : Board → Took → Option one.Took
+abbrev pub plain_taken : Board → Took → Option one.BoardTook
 plain_taken b t = Some (record { switchboard = plain_board b; answer = bind t.answer plain_message })
 
 -- what the kernel without machines makes of the message
-abbrev pub plainly_taken : Board → Option PlainMessage → Option one.Took
-plainly_taken b m = bind m (λ m. one.takes (plain_board b) m m.what)
+abbrev pub plainly_taken : Board → Option PlainMessage → Option one.BoardTook
+plainly_taken b m = bind m (λ m. one.board_takes (plain_board b) m m.what)

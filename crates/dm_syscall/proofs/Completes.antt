@@ -9,7 +9,7 @@ use Rattle.dm_process.specs.declared.process.Status.TheVariants as status
 use Rattle.dm_onekernel.specs.Receiving as kernel
 use Rattle.dm_syscall.proofs.PlainCalls.{first_of}
 
-abbrev plain_placed : Placed → kernel.Placed
+abbrev plain_placed : Placed → kernel.RegsAndLinks
 plain_placed t = record { regs = t.regs; links = map plain_slot t.table }
 
 into_plainly : (t : Placed) (r : ℕ) (l : Link) (o : Option ℕ) → kernel.place_into (plain_placed t) r (plain_link l) o ≡ plain_placed (place_into t r l o)
@@ -28,7 +28,7 @@ abbrev plain : Completion → kernel.Completed
 plain d = plain_completed d.completed d.process
 
 receives_plainly : (p : Process) (place : ℕ) (id : MsgId) (base code channel : ℕ) (body : List ℕ) (links : List Link)
-    → plain (receives p place id base code channel body links) ≡ kernel.Receives (kernel.receives (plain_process p) base code channel body (map plain_link links))
+    → plain (receives p place id base code channel body links) ≡ kernel.Receives (kernel.with_received (plain_process p) base code channel body (map plain_link links))
 receives_plainly p place id base code channel body links =
     let t : Placed = record { regs = received_regs p.regs code channel (length body) (length links); table = p.table } in
     let n : length links ≡ length (map plain_link links) = sym (length-map links plain_link) in
@@ -37,7 +37,7 @@ receives_plainly p place id base code channel body links =
     sym (places_plainly t 5 links)
     ∙ ap (λ n. kernel.place_links (record { regs = received_regs p.regs code channel (length body) n; links = map plain_slot p.table }) 5 (map plain_link links)) n
     in
-    ap (λ (t : kernel.Placed). kernel.Receives (record (plain_process p) { regs = t.regs; memory = written_at p.memory base body; links = t.links; status = Ready })) e
+    ap (λ (t : kernel.RegsAndLinks). kernel.Receives (record (plain_process p) { regs = t.regs; memory = written_at p.memory base body; links = t.links; status = Ready })) e
 
 unless_plainly : (o : Option Reply) (p : Process) (d : Completion) (x : _) → plain d ≡ kernel.Receives x → plain (completes_unless o p d) ≡ kernel.completes_unless o (plain_process p) x
 unless_plainly None p d x e = e
@@ -59,7 +59,7 @@ what_plainly p place mask base cap id to sender (what.User code channel body lin
     ∙ ap Some
     (sym
     (unless_plainly (first_failed (receive_refusals (plain_process p) cap body.items (map plain_link links.items))) p (receives p place id base code channel body.items links.items)
-    (kernel.receives (plain_process p) base code channel body.items (map plain_link links.items))
+    (kernel.with_received (plain_process p) base code channel body.items (map plain_link links.items))
     (receives_plainly p place id base code channel body.items links.items))
     ∙ ap plain f)
 what_plainly p place mask base cap id to sender w d m on e same here = absurd (cc)

@@ -52,7 +52,7 @@ copies_plainly : (p : Process) (o : Option Link) → plain (copies p o) ≡ Some
 copies_plainly p None = refl
 copies_plainly p (Some l) = if_plainly (is_reply l.kind) _ _ _ _ refl (puts_first p l)
 
-drops_plainly : (p : Process) (o : Option Link) → plain (drops p o) ≡ Some (kernel.drops (plain_process p) (plain_slot o))
+drops_plainly : (p : Process) (o : Option Link) → plain (drops p o) ≡ Some (kernel.drop_call (plain_process p) (plain_slot o))
 drops_plainly p None = refl
 drops_plainly p (Some l) =
     ap
@@ -64,11 +64,11 @@ cons_plainly : (o : Option Link) (ls : List Link) (ks : List PlainLink) → map 
 cons_plainly None ls ks e = e
 cons_plainly (Some l) ls ks e = ap (λ ks. plain_link l ∷ ks) e
 
-enclosed_plainly : (table : List (Option Link)) (slots : List ℕ) → map plain_link (links_in table slots) ≡ kernel.links_of (map plain_slot table) slots
+enclosed_plainly : (table : List (Option Link)) (slots : List ℕ) → map plain_link (links_in table slots) ≡ kernel.links_in_slots (map plain_slot table) slots
 enclosed_plainly table [] = refl
 enclosed_plainly table (s ∷ ss) =
-    cons_plainly (link_at table s) (links_in table ss) (kernel.links_of (map plain_slot table) ss) (enclosed_plainly table ss)
-    ∙ ap (λ o. cons_option o (kernel.links_of (map plain_slot table) ss)) (sym (slot_at table s))
+    cons_plainly (link_at table s) (links_in table ss) (kernel.links_in_slots (map plain_slot table) ss) (enclosed_plainly table ss)
+    ∙ ap (λ o. cons_option o (kernel.links_in_slots (map plain_slot table) ss)) (sym (slot_at table s))
 
 -- the table without reply links, without places
 if_set : (b : Bool) (table : List (Option Link)) (s : ℕ) → (if b then set (map plain_slot table) s None else map plain_slot table) ≡ map plain_slot (if b then set table s None else table)
@@ -91,15 +91,15 @@ sent_plainly here p l =
     (record (kernel.message_over p.pid (plain_process p) (plain_link l)) { what = what.User l.code l.channel (take (reg p.regs 3) (drop (reg p.regs 2) p.memory)) (enclosed_plainly p.table (listed p) i) })
     (record (kernel.after_send (plain_process p)) { links = emptied_plainly p.table (reg p.regs 1 ∷ listed p) i }))
 
-sends_plainly : (here : ℕ) (p : Process) (o : Option Link) → plain (sends here p o) ≡ Some (kernel.sends p.pid (plain_process p) (plain_slot o))
+sends_plainly : (here : ℕ) (p : Process) (o : Option Link) → plain (sends here p o) ≡ Some (kernel.send_call p.pid (plain_process p) (plain_slot o))
 sends_plainly here p None = refl
 sends_plainly here p (Some l) = unless_plainly (first_failed (send_refusals (plain_process p))) p _ _ (sent_plainly here p l)
 
-waits_plainly : (p : Process) → plain (waits p) ≡ Some (kernel.waits (plain_process p))
+waits_plainly : (p : Process) → plain (waits p) ≡ Some (kernel.receive_call (plain_process p))
 waits_plainly p = if_plainly (is_outside (plain_process p) (reg p.regs 2) (reg p.regs 3)) _ _ _ _ refl refl
 
 begins_plainly : (here : ℕ) (p : Process) (l : Link) (dir : Direction)
-    → plain (begins here p (whole p l dir)) ≡ Some (kernel.begins (pieces.requests p.pid (plain_process p) dir l.addr.pid (l.area.base + reg p.regs 3) (reg p.regs 4) (reg p.regs 5)))
+    → plain (begins here p (whole p l dir)) ≡ Some (kernel.begins_move (pieces.requests p.pid (plain_process p) dir l.addr.pid (l.area.base + reg p.regs 3) (reg p.regs 4) (reg p.regs 5)))
 begins_plainly here p l direction.FromArea = refl
 begins_plainly here p l direction.IntoArea = refl
 
@@ -110,7 +110,7 @@ over_plainly : (here : ℕ) (p : Process) (l : Link) (o : Option Direction) → 
 over_plainly here p l None = refl
 over_plainly here p l (Some dir) = unless_plainly (first_failed (move_refusals (plain_process p) (plain_link l) dir)) p _ _ (bytes_plainly here p l dir)
 
-moves_plainly : (here : ℕ) (p : Process) (o : Option Link) → plain (moves here p o) ≡ Some (kernel.moves p.pid (plain_process p) (plain_slot o))
+moves_plainly : (here : ℕ) (p : Process) (o : Option Link) → plain (moves here p o) ≡ Some (kernel.move_call p.pid (plain_process p) (plain_slot o))
 moves_plainly here p None = refl
 moves_plainly here p (Some l) = over_plainly here p l (direction_numbered (reg p.regs 2))
 
@@ -123,10 +123,10 @@ does_plainly here p Exit = refl
 does_plainly here p Out = refl
 does_plainly here p Make = makes_plainly here p
 does_plainly here p Copy = copies_plainly p (link_at p.table (reg p.regs 1)) ∙ with_slot p (kernel.copies (plain_process p))
-does_plainly here p Drop = drops_plainly p (link_at p.table (reg p.regs 1)) ∙ with_slot p (kernel.drops (plain_process p))
-does_plainly here p Send = sends_plainly here p (link_at p.table (reg p.regs 1)) ∙ with_slot p (kernel.sends p.pid (plain_process p))
+does_plainly here p Drop = drops_plainly p (link_at p.table (reg p.regs 1)) ∙ with_slot p (kernel.drop_call (plain_process p))
+does_plainly here p Send = sends_plainly here p (link_at p.table (reg p.regs 1)) ∙ with_slot p (kernel.send_call p.pid (plain_process p))
 does_plainly here p Receive = waits_plainly p
-does_plainly here p Move = moves_plainly here p (link_at p.table (reg p.regs 1)) ∙ with_slot p (kernel.moves p.pid (plain_process p))
+does_plainly here p Move = moves_plainly here p (link_at p.table (reg p.regs 1)) ∙ with_slot p (kernel.move_call p.pid (plain_process p))
 does_plainly here p Unknown = refl
 
 pub call_plainly : (here : ℕ) (p q : Process) (n : ℕ) (c : Called) → c ≡ (calls here p n).called → q ≡ (calls here p n).process

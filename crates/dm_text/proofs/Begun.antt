@@ -1,5 +1,5 @@
 -- A line that is put word by word.
-use Rattle.dm_text.proofs.Names.{◌≡◌, ℕ, List, [], ◌∷◌, ◌++◌, ◌∙◌, ap, sym, append_assoc, append-nil, codes, decimal, spaced, spelled}
+use Rattle.dm_text.proofs.Names.{◌≡◌, ℕ, List, [], ◌∷◌, ◌++◌, ◌∙◌, ap, sym, append_assoc, append-nil, codes, decimal, spaced, spelled_line}
 use Rattle.dm_text.proofs.Spacing.{spaced-append}
 
 -- behind the text of before, a line has its name and these words
@@ -44,7 +44,7 @@ pair_more before name ws v w t now h e =
     ∙ ap (λ s. t ++ (codes " " ++ (v ++ (codes " " ++ s)))) (sym (append-nil w)))
 
 -- its end
-pub ended : (before name : List ℕ) (ws : List (List ℕ)) (t now : List ℕ) → Begun before name ws t → now ≡ t ++ codes "\n" → now ≡ before ++ spelled (name ∷ ws)
+pub ended : (before name : List ℕ) (ws : List (List ℕ)) (t now : List ℕ) → Begun before name ws t → now ≡ t ++ codes "\n" → now ≡ before ++ spelled_line (name ∷ ws)
 ended before name ws t now h e =
     e
     ∙ ap (λ s. s ++ codes "\n") h.is

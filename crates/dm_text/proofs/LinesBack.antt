@@ -1,9 +1,9 @@
 -- The text of lines spells those lines, and no others.
-use Rattle.dm_text.proofs.Names.{◌≡◌, ℕ, suc, ◌==◌, if◌then◌else◌, Bool, true, false, List, [], ◌∷◌, ◌++◌, length, refl, ap, sym, ◌∙◌, append_assoc, arith, Some, None, All, Option, EndLine, Line, end_words, words, spaced, spelled}
+use Rattle.dm_text.proofs.Names.{◌≡◌, ℕ, suc, ◌==◌, if◌then◌else◌, Bool, true, false, List, [], ◌∷◌, ◌++◌, length, refl, ap, sym, ◌∙◌, append_assoc, arith, Some, None, All, Option, EndLine, Line, end_words, line_words, spaced, spelled_line}
 use Rattle.dm_text.proofs.Names.{text_of_lines, text_of_ends, pieces, line_of, line_of_words, lines_from, lines_in, lines_of, end_of, end_of_words, ends_from, Trace, at_end, trace_from, trace_in, trace_of, LineFits, EndFits}
 use Rattle.std.proofs.Common.{append-nil}
 use Rattle.dm_text.proofs.Pieces.{free, free-above, free-append, above-le, AreWords, pieces-free, pieces-next}
-use Rattle.dm_text.proofs.LineBack.{words-are, words-back}
+use Rattle.dm_text.proofs.LineBack.{line_words-are, line_words-back}
 use Rattle.dm_text.proofs.EndsBack.{end_words_are, end_back, not_of_group}
 
 -- words with one space between
@@ -11,7 +11,7 @@ abbrev pub line_bytes : List (List ℕ) → List ℕ
 line_bytes [] = []
 line_bytes (w ∷ ws) = w ++ spaced ws
 
-pub spelled_bytes : (ws : List (List ℕ)) → spelled ws ≡ line_bytes ws ++ 10 ∷ []
+pub spelled_bytes : (ws : List (List ℕ)) → spelled_line ws ≡ line_bytes ws ++ 10 ∷ []
 spelled_bytes [] = refl
 spelled_bytes (w ∷ ws) = refl
 
@@ -33,8 +33,8 @@ unfolding line_of
 words_read [] l h e = absurd (cc)
 words_read (w ∷ ws) l h e = ap (λ ps. line_of_words ps) (pieces_of_words w ws h) ∙ e
 
-line-back : (l : Line) → LineFits l → line_of (line_bytes (words l)) ≡ Some l
-line-back l h = words_read (words l) l (words-are l h) (words-back l h)
+line-back : (l : Line) → LineFits l → line_of (line_bytes (line_words l)) ≡ Some l
+line-back l h = words_read (line_words l) l (line_words-are l h) (line_words-back l h)
 
 end_read : (ws : List (List ℕ)) (e : EndLine) → AreWords ws → end_of_words ws ≡ Some e → end_of (line_bytes ws) ≡ Some e
 unfolding end_of
@@ -58,15 +58,15 @@ before_lines w l [] ls e f = absurd (cc)
 before_lines w l (p ∷ ps) ls e f = rw (e, f) refl
 
 -- words as a line, before a text
-pub pieces_of_line : (ws : List (List ℕ)) (t : List ℕ) → AreWords ws → pieces 10 (spelled ws ++ t) ≡ line_bytes ws ∷ pieces 10 t
+pub pieces_of_line : (ws : List (List ℕ)) (t : List ℕ) → AreWords ws → pieces 10 (spelled_line ws ++ t) ≡ line_bytes ws ∷ pieces 10 t
 pieces_of_line ws t h =
     ap (λ s. pieces 10 (s ++ t)) (spelled_bytes ws)
     ∙ ap (λ s. pieces 10 s) (append_assoc (line_bytes ws) (10 ∷ []) t)
     ∙ pieces-next 10 (line_bytes ws) t (free_bytes ws h)
 
-pieces_of_lines : (l : Line) (ls : List Line) → LineFits l → pieces 10 (text_of_lines (l ∷ ls)) ≡ line_bytes (words l) ∷ pieces 10 (text_of_lines ls)
+pieces_of_lines : (l : Line) (ls : List Line) → LineFits l → pieces 10 (text_of_lines (l ∷ ls)) ≡ line_bytes (line_words l) ∷ pieces 10 (text_of_lines ls)
 unfolding text_of_lines
-pieces_of_lines l ls h = pieces_of_line (words l) (text_of_lines ls) (words-are l h)
+pieces_of_lines l ls h = pieces_of_line (line_words l) (text_of_lines ls) (line_words-are l h)
 
 pub lines-back : (ls : List Line) → All LineFits ls → lines_of (text_of_lines ls) ≡ Some ls
 unfolding lines_of text_of_lines pieces
@@ -74,7 +74,7 @@ lines-back [] h = refl
 lines-back (l ∷ ls) h =
     let here : LineFits l = h 0 l (omega arith) in
     let rest : All LineFits ls = λ k d b. h (suc k) d (omega arith) in
-    ap (λ ps. lines_in ps) (pieces_of_lines l ls here) ∙ before_lines (line_bytes (words l)) l (pieces 10 (text_of_lines ls)) ls (line-back l here) (lines-back ls rest)
+    ap (λ ps. lines_in ps) (pieces_of_lines l ls here) ∙ before_lines (line_bytes (line_words l)) l (pieces 10 (text_of_lines ls)) ls (line-back l here) (lines-back ls rest)
 
 -- the lines at the end of some pieces, of which the last stands after the last line feed
 abbrev pub ends_in : List (List ℕ) → Option (List EndLine)
@@ -123,9 +123,9 @@ trace-back (l ∷ ls) es h k =
     let here : LineFits l = h 0 l (omega arith) in
     let rest : All LineFits ls = λ i d b. h (suc i) d (omega arith) in
     let t : List ℕ = text_of_lines ls ++ text_of_ends es in
-    ap (λ s. trace_in (pieces 10 s)) (append_assoc (spelled (words l)) (text_of_lines ls) (text_of_ends es))
-    ∙ ap (λ ps. trace_in ps) (pieces_of_line (words l) t (words-are l here))
-    ∙ before_trace (line_bytes (words l)) l (pieces 10 t) (record { lines = ls; ends = es }) (line-back l here) (trace-back ls es rest k)
+    ap (λ s. trace_in (pieces 10 s)) (append_assoc (spelled_line (line_words l)) (text_of_lines ls) (text_of_ends es))
+    ∙ ap (λ ps. trace_in ps) (pieces_of_line (line_words l) t (line_words-are l here))
+    ∙ before_trace (line_bytes (line_words l)) l (pieces 10 t) (record { lines = ls; ends = es }) (line-back l here) (trace-back ls es rest k)
 
 lines_same : (a b : List Line) → Some a ≡ Some b → a ≡ b
 lines_same a b h = cc

@@ -40,10 +40,10 @@ unfoldable pub use Rattle.dm_text.specs.GroupsOf.{read_stage}
 pub use Rattle.dm_text.specs.Labels.{head_words, label_words}
 pub use Rattle.dm_text.specs.LinesOf.{Trace, at_end, end_of_words, ends_from, led_or_ended, line_of_words, lines_from, lines_in, trace_from, trace_in}
 unfoldable pub use Rattle.dm_text.specs.LinesOf.{end_of, line_of, lines_of, trace_of}
-pub use Rattle.dm_text.specs.Reading.{is_padded, named, number_after, numbered, read_u32, reply_with, why_with}
+pub use Rattle.dm_text.specs.Reading.{is_padded, message_named, message_numbered, number_after, read_u32, reply_with, why_with}
 unfoldable pub use Rattle.dm_text.specs.Reading.{pieces, read_id, read_kind, read_number, read_pid, read_reply, read_why}
 pub use Rattle.dm_text.specs.Rows.{all_read}
-pub use Rattle.dm_text.specs.Text.{end_text, spaced, spelled, stage_word, text, words}
+pub use Rattle.dm_text.specs.Text.{end_text, line_words, spaced, spelled_line, stage_word, text}
 unfoldable pub use Rattle.dm_text.specs.Text.{text_of_ends, text_of_lines}
 pub use Rattle.dm_text.specs.Words.{id_word, mark, pid_word}
 pub use Rattle.dm_text.specs.Written.{Keeps, word_text}

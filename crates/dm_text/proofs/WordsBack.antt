@@ -1,6 +1,6 @@
 -- Names, kinds and codes, read back from their words.
 use Rattle.dm_text.proofs.Names.{◌≡◌, ℕ, ◌^◌, ◌<◌, ◌≤◌, Bool, true, false, [], ◌∷◌, ◌++◌, refl, ◌∙◌, append_assoc, arith, Some, decimal, append-nil, Pid, MsgId, MessageKind, word_of, reply_code, why_code, Why, pid_word, id_word, mark}
-use Rattle.dm_text.proofs.Names.{pieces, read_number, read_pid, read_id, read_kind, read_reply, read_why, reply_with, why_with, numbered, named, PidFits, IdFits}
+use Rattle.dm_text.proofs.Names.{pieces, read_number, read_pid, read_id, read_kind, read_reply, read_why, reply_with, why_with, message_numbered, message_named, PidFits, IdFits}
 use Rattle.dm_message.specs.declared.kind.MessageKind.TheVariants as kind
 use Rattle.dm_processor.specs.declared.registers.Fault.TheVariants as fault
 use Rattle.dm_onekernel.specs.declared.label.Reply.{Reply}
@@ -72,7 +72,7 @@ free_mark : (b : Bool) → free 35 (mark b) ≡ true
 free_mark true = refl
 free_mark false = refl
 
-numbered_back : (p : Pid) (n : ℕ) (b : Bool) → n < 2 ^ 32 → numbered (Some p) (pieces 33 (decimal n ++ mark b)) ≡ Some (named b p n)
+numbered_back : (p : Pid) (n : ℕ) (b : Bool) → n < 2 ^ 32 → message_numbered (Some p) (pieces 33 (decimal n ++ mark b)) ≡ Some (message_named b p n)
 numbered_back p n true h =
     let f : free 33 (decimal n) ≡ true = free-above 33 (decimal n) (word_decimal 33 n (omega arith) (below_u32 n h)) in
     rw (pieces-next 33 (decimal n) [] f, pieces-free 33 [] refl, read_u32_back n h) refl

@@ -38,9 +38,9 @@ number_after n [] = Some n
 number_after n (b ∷ bs) = if nat_le 48 b && nat_le b 57 then number_after (10 * n + (b - 48)) bs else None
 
 -- the number, if it is below a limit
-abbrev pub below : ℕ → Option ℕ → Option ℕ
-below limit None = None
-below limit (Some n) = if nat_lt n limit then Some n else None
+abbrev pub if_below : ℕ → Option ℕ → Option ℕ
+if_below limit None = None
+if_below limit (Some n) = if nat_lt n limit then Some n else None
 
 -- a digit 0 with others after it
 abbrev pub is_padded : List ℕ → Bool
@@ -48,7 +48,7 @@ is_padded w = slice_index w 0 == 48 && nat_lt 1 (length w)
 
 -- the number below a limit that a word spells in decimal, with no 0 in front
 unfoldable pub read_number : ℕ → List ℕ → Option ℕ
-read_number limit w = if length w == 0 || is_padded w then None else below limit (number_after 0 w)
+read_number limit w = if length w == 0 || is_padded w then None else if_below limit (number_after 0 w)
 
 -- a machine, or another number of one byte
 abbrev pub read_u8 : List ℕ → Option ℕ
@@ -76,18 +76,18 @@ unfoldable pub read_pid : List ℕ → Option Pid
 read_pid w = pid_in (pieces 46 w)
 
 -- the message of this name
-abbrev pub named : Bool → Pid → ℕ → MsgId
-named answer p n = record { from = p; n = n; answer = answer }
+abbrev pub message_named : Bool → Pid → ℕ → MsgId
+message_named answer p n = record { from = p; n = n; answer = answer }
 
 -- the message of this sender, from the parts of its number: an answer has a mark after it
-abbrev pub numbered : Option Pid → List (List ℕ) → Option MsgId
-numbered p (n ∷ []) = Some (named false) <*> p <*> read_u32 n
-numbered p (n ∷ [] ∷ []) = Some (named true) <*> p <*> read_u32 n
-numbered p _ = None
+abbrev pub message_numbered : Option Pid → List (List ℕ) → Option MsgId
+message_numbered p (n ∷ []) = Some (message_named false) <*> p <*> read_u32 n
+message_numbered p (n ∷ [] ∷ []) = Some (message_named true) <*> p <*> read_u32 n
+message_numbered p _ = None
 
 -- the message of these parts of its name: the sender, and the number
 abbrev pub id_in : List (List ℕ) → Option MsgId
-id_in (p ∷ n ∷ []) = numbered (read_pid p) (pieces 33 n)
+id_in (p ∷ n ∷ []) = message_numbered (read_pid p) (pieces 33 n)
 id_in _ = None
 
 -- the message that a word names, as in 0.3#1 or 0.3#1!

@@ -3,7 +3,7 @@ ghost use Rattle.std.specs.Prelude.{◌≡◌, ◌∷◌, ◌++◌, [], OnErr, O
 ghost use Rattle.std.specs.Fmt.{decimal};
 ghost use Rattle.dm_line.specs.declared.end_line.EndLine.TheVariants as end;
 ghost use Rattle.dm_text.specs.Ends.{direction_word, doing_words, end_words, go_word, hex, kind_word, link_words, rights_word, standing_word};
-ghost use Rattle.dm_text.specs.Text.{spaced, spelled};
+ghost use Rattle.dm_text.specs.Text.{spaced, spelled_line};
 ghost use Rattle.dm_text.specs.Words.{pid_word};
 ghost use Rattle.dm_text.specs.Written.{Keeps, word_text};
 
@@ -100,7 +100,7 @@ fn put_link(into: &mut Vec<u8>, link: &Link) -> Result<(), NoMemory>
 
 /// Writes a line of a name, further words and a link.
 fn put_linked(into: &mut Vec<u8>, name: &str, words: &[Word], link: &Link) -> Result<(), NoMemory>
-    ensures ok { OnOk result (into.new.items ≡ into.old.items ++ spelled (name.now ∷ (map word_text words.now ++ link_words link.now))) }
+    ensures ok { OnOk result (into.new.items ≡ into.old.items ++ spelled_line (name.now ∷ (map word_text words.now ++ link_words link.now))) }
     ensures err { OnErr result (Keeps into.old.items into.new.items) }
 {
     extend_from_slice(into, name.as_bytes())?;
@@ -112,7 +112,7 @@ fn put_linked(into: &mut Vec<u8>, name: &str, words: &[Word], link: &Link) -> Re
 
 /// Writes the line of a process's registers.
 fn put_registers(into: &mut Vec<u8>, pid: Pid, r: &[u32; 16], pc: u32) -> Result<(), NoMemory>
-    ensures ok { OnOk result (into.new.items ≡ into.old.items ++ spelled (end_words (end.Registers pid r.now pc))) }
+    ensures ok { OnOk result (into.new.items ≡ into.old.items ++ spelled_line (end_words (end.Registers pid r.now pc))) }
     ensures err { OnErr result (Keeps into.old.items into.new.items) }
 {
     extend_from_slice(into, b"registers")?;
@@ -167,7 +167,7 @@ fn put_process(
     doing: Doing,
     back: [Word; 2],
 ) -> Result<(), NoMemory>
-    ensures ok { OnOk result (into.new.items ≡ into.old.items ++ spelled
+    ensures ok { OnOk result (into.new.items ≡ into.old.items ++ spelled_line
         (codes "process" ∷ (map word_text front.entry ++ (doing_words doing ++ map word_text back.entry)))) }
     ensures err { OnErr result (Keeps into.old.items into.new.items) }
 {
@@ -189,7 +189,7 @@ fn put_living(
     stopped: bool,
     sent: u32,
 ) -> Result<(), NoMemory>
-    ensures ok { OnOk result (into.new.items ≡ into.old.items ++ spelled (end_words (end.Process pid at standing doing stopped sent))) }
+    ensures ok { OnOk result (into.new.items ≡ into.old.items ++ spelled_line (end_words (end.Process pid at standing doing stopped sent))) }
     ensures err { OnErr result (Keeps into.old.items into.new.items) }
 {
     let place = Name(standing_name(standing));
@@ -204,7 +204,7 @@ fn put_living(
 
 /// Writes the line of a process that has ended.
 fn put_ended(into: &mut Vec<u8>, pid: Pid, why: Why) -> Result<(), NoMemory>
-    ensures ok { OnOk result (into.new.items ≡ into.old.items ++ spelled (end_words (end.Ended pid why))) }
+    ensures ok { OnOk result (into.new.items ≡ into.old.items ++ spelled_line (end_words (end.Ended pid why))) }
     ensures err { OnErr result (Keeps into.old.items into.new.items) }
 {
     put_line(
@@ -216,7 +216,7 @@ fn put_ended(into: &mut Vec<u8>, pid: Pid, why: Why) -> Result<(), NoMemory>
 
 /// Writes the line of a block.
 fn put_memory(into: &mut Vec<u8>, pid: Pid, block: u8, bytes: &[u8]) -> Result<(), NoMemory>
-    ensures ok { OnOk result (into.new.items ≡ into.old.items ++ spelled (codes "memory" ∷ pid_word pid ∷ decimal block ∷ hex bytes.now ∷ [])) }
+    ensures ok { OnOk result (into.new.items ≡ into.old.items ++ spelled_line (codes "memory" ∷ pid_word pid ∷ decimal block ∷ hex bytes.now ∷ [])) }
     ensures err { OnErr result (Keeps into.old.items into.new.items) }
 {
     put_line(into, "memory", &[Process(pid), Byte(block), Bytes(bytes)])
@@ -224,7 +224,7 @@ fn put_memory(into: &mut Vec<u8>, pid: Pid, block: u8, bytes: &[u8]) -> Result<(
 
 /// Writes the line of a link of a process.
 fn put_held_link(into: &mut Vec<u8>, pid: Pid, slot: u8, link: &Link) -> Result<(), NoMemory>
-    ensures ok { OnOk result (into.new.items ≡ into.old.items ++ spelled (end_words (end.Link pid slot link.now))) }
+    ensures ok { OnOk result (into.new.items ≡ into.old.items ++ spelled_line (end_words (end.Link pid slot link.now))) }
     ensures err { OnErr result (Keeps into.old.items into.new.items) }
 {
     put_linked(into, "link", &[Process(pid), Byte(slot)], link)
@@ -232,7 +232,7 @@ fn put_held_link(into: &mut Vec<u8>, pid: Pid, slot: u8, link: &Link) -> Result<
 
 /// Writes the line of a child of the manager.
 fn put_child(into: &mut Vec<u8>, number: u32, pid: Pid, at: u8) -> Result<(), NoMemory>
-    ensures ok { OnOk result (into.new.items ≡ into.old.items ++ spelled (end_words (end.Child number pid at))) }
+    ensures ok { OnOk result (into.new.items ≡ into.old.items ++ spelled_line (end_words (end.Child number pid at))) }
     ensures err { OnErr result (Keeps into.old.items into.new.items) }
 {
     put_line(
@@ -244,7 +244,7 @@ fn put_child(into: &mut Vec<u8>, number: u32, pid: Pid, at: u8) -> Result<(), No
 
 /// Writes the line of a server.
 fn put_server(into: &mut Vec<u8>, pid: Pid, sent: u32) -> Result<(), NoMemory>
-    ensures ok { OnOk result (into.new.items ≡ into.old.items ++ spelled (end_words (end.Server pid sent))) }
+    ensures ok { OnOk result (into.new.items ≡ into.old.items ++ spelled_line (end_words (end.Server pid sent))) }
     ensures err { OnErr result (Keeps into.old.items into.new.items) }
 {
     put_line(into, "server", &[Process(pid), Number(sent)])
@@ -252,7 +252,7 @@ fn put_server(into: &mut Vec<u8>, pid: Pid, sent: u32) -> Result<(), NoMemory>
 
 /// Writes the line of a message that waits for the manager.
 fn put_pending(into: &mut Vec<u8>, id: MsgId) -> Result<(), NoMemory>
-    ensures ok { OnOk result (into.new.items ≡ into.old.items ++ spelled (end_words (end.Pending id))) }
+    ensures ok { OnOk result (into.new.items ≡ into.old.items ++ spelled_line (end_words (end.Pending id))) }
     ensures err { OnErr result (Keeps into.old.items into.new.items) }
 {
     put_line(into, "pending", &[Message(id)])
@@ -260,7 +260,7 @@ fn put_pending(into: &mut Vec<u8>, id: MsgId) -> Result<(), NoMemory>
 
 /// Writes the line of a queue.
 fn put_queue(into: &mut Vec<u8>, pid: Pid, ids: &[MsgId]) -> Result<(), NoMemory>
-    ensures ok { OnOk result (into.new.items ≡ into.old.items ++ spelled (end_words (end.Queue pid ids.now))) }
+    ensures ok { OnOk result (into.new.items ≡ into.old.items ++ spelled_line (end_words (end.Queue pid ids.now))) }
     ensures err { OnErr result (Keeps into.old.items into.new.items) }
 {
     put_listed(into, "queue", &[Process(pid)], ids)
@@ -268,7 +268,7 @@ fn put_queue(into: &mut Vec<u8>, pid: Pid, ids: &[MsgId]) -> Result<(), NoMemory
 
 /// Writes the line of the messages that wait for a migration.
 fn put_holding(into: &mut Vec<u8>, m: u8, pid: Pid, ids: &[MsgId]) -> Result<(), NoMemory>
-    ensures ok { OnOk result (into.new.items ≡ into.old.items ++ spelled (end_words (end.Holding m pid ids.now))) }
+    ensures ok { OnOk result (into.new.items ≡ into.old.items ++ spelled_line (end_words (end.Holding m pid ids.now))) }
     ensures err { OnErr result (Keeps into.old.items into.new.items) }
 {
     put_listed(into, "holding", &[Byte(m), Process(pid)], ids)
@@ -276,7 +276,7 @@ fn put_holding(into: &mut Vec<u8>, m: u8, pid: Pid, ids: &[MsgId]) -> Result<(),
 
 /// Writes the line of an inbox.
 fn put_inbox(into: &mut Vec<u8>, m: u8, ids: &[MsgId]) -> Result<(), NoMemory>
-    ensures ok { OnOk result (into.new.items ≡ into.old.items ++ spelled (end_words (end.Inbox m ids.now))) }
+    ensures ok { OnOk result (into.new.items ≡ into.old.items ++ spelled_line (end_words (end.Inbox m ids.now))) }
     ensures err { OnErr result (Keeps into.old.items into.new.items) }
 {
     put_listed(into, "inbox", &[Byte(m)], ids)
@@ -284,7 +284,7 @@ fn put_inbox(into: &mut Vec<u8>, m: u8, ids: &[MsgId]) -> Result<(), NoMemory>
 
 /// Writes the line of what was routed and not taken.
 fn put_stream(into: &mut Vec<u8>, a: u8, b: u8, ids: &[MsgId]) -> Result<(), NoMemory>
-    ensures ok { OnOk result (into.new.items ≡ into.old.items ++ spelled (end_words (end.Stream a b ids.now))) }
+    ensures ok { OnOk result (into.new.items ≡ into.old.items ++ spelled_line (end_words (end.Stream a b ids.now))) }
     ensures err { OnErr result (Keeps into.old.items into.new.items) }
 {
     put_listed(into, "stream", &[Byte(a), Byte(b)], ids)
@@ -292,7 +292,7 @@ fn put_stream(into: &mut Vec<u8>, a: u8, b: u8, ids: &[MsgId]) -> Result<(), NoM
 
 /// Writes a line at the end of a run.
 pub(crate) fn put_end(into: &mut Vec<u8>, end: &EndLine) -> Result<(), NoMemory>
-    ensures ok { OnOk result (into.new.items ≡ into.old.items ++ spelled (end_words end.now)) }
+    ensures ok { OnOk result (into.new.items ≡ into.old.items ++ spelled_line (end_words end.now)) }
     ensures err { OnErr result (Keeps into.old.items into.new.items) }
 {
     match *end {

@@ -3,7 +3,7 @@ ghost use Rattle.std.specs.Prelude.{◌≡◌, ◌+◌, ◌≤◌, ◌∷◌, �
 ghost use Rattle.std.specs.Fmt.{decimal};
 ghost use Rattle.dm_message.specs.Kinds.{word_of};
 ghost use Rattle.dm_onekernel.specs.Codes.{reply_code};
-ghost use Rattle.dm_text.specs.Text.{spelled};
+ghost use Rattle.dm_text.specs.Text.{spelled_line};
 ghost use Rattle.dm_text.specs.Words.{id_word, pid_word};
 
 use crate::within::{
@@ -18,7 +18,7 @@ use dm_onekernel::Reply;
 pub(crate) fn put_alone<const N: usize>(into: &mut Vec<u8>, name: &[u8; N])
     requires short { N ≤ 16 }
     requires room { vec_len into.old + LINE_ROOM ≤ vec_capacity into.old }
-    ensures { into.new.items ≡ into.old.items ++ spelled (name.now ∷ []) }
+    ensures { into.new.items ≡ into.old.items ++ spelled_line (name.now ∷ []) }
 {
     put_bytes(into, name);
     end_line(into);
@@ -28,7 +28,7 @@ pub(crate) fn put_alone<const N: usize>(into: &mut Vec<u8>, name: &[u8; N])
 pub(crate) fn put_machine<const N: usize>(into: &mut Vec<u8>, name: &[u8; N], m: u8)
     requires short { N ≤ 16 }
     requires room { vec_len into.old + LINE_ROOM ≤ vec_capacity into.old }
-    ensures { into.new.items ≡ into.old.items ++ spelled (name.now ∷ decimal m ∷ []) }
+    ensures { into.new.items ≡ into.old.items ++ spelled_line (name.now ∷ decimal m ∷ []) }
 {
     put_bytes(into, name);
     put_spaced_number(into, u64::from(m));
@@ -39,7 +39,7 @@ pub(crate) fn put_machine<const N: usize>(into: &mut Vec<u8>, name: &[u8; N], m:
 pub(crate) fn put_process<const N: usize>(into: &mut Vec<u8>, name: &[u8; N], pid: Pid)
     requires short { N ≤ 16 }
     requires room { vec_len into.old + LINE_ROOM ≤ vec_capacity into.old }
-    ensures { into.new.items ≡ into.old.items ++ spelled (name.now ∷ pid_word pid ∷ []) }
+    ensures { into.new.items ≡ into.old.items ++ spelled_line (name.now ∷ pid_word pid ∷ []) }
 {
     put_bytes(into, name);
     put_spaced_pid(into, pid);
@@ -50,7 +50,7 @@ pub(crate) fn put_process<const N: usize>(into: &mut Vec<u8>, name: &[u8; N], pi
 pub(crate) fn put_message<const N: usize>(into: &mut Vec<u8>, name: &[u8; N], id: MsgId)
     requires short { N ≤ 16 }
     requires room { vec_len into.old + LINE_ROOM ≤ vec_capacity into.old }
-    ensures { into.new.items ≡ into.old.items ++ spelled (name.now ∷ id_word id ∷ []) }
+    ensures { into.new.items ≡ into.old.items ++ spelled_line (name.now ∷ id_word id ∷ []) }
 {
     put_bytes(into, name);
     put_spaced_id(into, id);
@@ -66,7 +66,7 @@ pub(crate) fn put_process_number<const N: usize>(
 )
     requires short { N ≤ 16 }
     requires room { vec_len into.old + LINE_ROOM ≤ vec_capacity into.old }
-    ensures { into.new.items ≡ into.old.items ++ spelled (name.now ∷ pid_word pid ∷ decimal n ∷ []) }
+    ensures { into.new.items ≡ into.old.items ++ spelled_line (name.now ∷ pid_word pid ∷ decimal n ∷ []) }
 {
     put_bytes(into, name);
     put_spaced_pid(into, pid);
@@ -83,7 +83,7 @@ pub(crate) fn put_process_message<const N: usize>(
 )
     requires short { N ≤ 16 }
     requires room { vec_len into.old + LINE_ROOM ≤ vec_capacity into.old }
-    ensures { into.new.items ≡ into.old.items ++ spelled (name.now ∷ pid_word pid ∷ id_word id ∷ []) }
+    ensures { into.new.items ≡ into.old.items ++ spelled_line (name.now ∷ pid_word pid ∷ id_word id ∷ []) }
 {
     put_bytes(into, name);
     put_spaced_pid(into, pid);
@@ -100,7 +100,7 @@ pub(crate) fn put_message_number<const N: usize>(
 )
     requires short { N ≤ 16 }
     requires room { vec_len into.old + LINE_ROOM ≤ vec_capacity into.old }
-    ensures { into.new.items ≡ into.old.items ++ spelled (name.now ∷ id_word id ∷ decimal n ∷ []) }
+    ensures { into.new.items ≡ into.old.items ++ spelled_line (name.now ∷ id_word id ∷ decimal n ∷ []) }
 {
     put_bytes(into, name);
     put_spaced_id(into, id);
@@ -112,7 +112,7 @@ pub(crate) fn put_message_number<const N: usize>(
 pub(crate) fn put_machine_number<const N: usize>(into: &mut Vec<u8>, name: &[u8; N], m: u8, n: u32)
     requires short { N ≤ 16 }
     requires room { vec_len into.old + LINE_ROOM ≤ vec_capacity into.old }
-    ensures { into.new.items ≡ into.old.items ++ spelled (name.now ∷ decimal m ∷ decimal n ∷ []) }
+    ensures { into.new.items ≡ into.old.items ++ spelled_line (name.now ∷ decimal m ∷ decimal n ∷ []) }
 {
     put_bytes(into, name);
     put_spaced_number(into, u64::from(m));
@@ -130,7 +130,7 @@ pub(crate) fn put_pair_number<const N: usize>(
 )
     requires short { N ≤ 16 }
     requires room { vec_len into.old + LINE_ROOM ≤ vec_capacity into.old }
-    ensures { into.new.items ≡ into.old.items ++ spelled (name.now ∷ decimal a ∷ decimal b ∷ decimal n ∷ []) }
+    ensures { into.new.items ≡ into.old.items ++ spelled_line (name.now ∷ decimal a ∷ decimal b ∷ decimal n ∷ []) }
 {
     put_bytes(into, name);
     put_spaced_pair(into, a, b);
@@ -148,7 +148,7 @@ pub(crate) fn put_process_room<const N: usize>(
 )
     requires short { N ≤ 16 }
     requires room { vec_len into.old + LINE_ROOM ≤ vec_capacity into.old }
-    ensures { into.new.items ≡ into.old.items ++ spelled (name.now ∷ pid_word pid ∷ decimal slots ∷ decimal blocks ∷ []) }
+    ensures { into.new.items ≡ into.old.items ++ spelled_line (name.now ∷ pid_word pid ∷ decimal slots ∷ decimal blocks ∷ []) }
 {
     put_bytes(into, name);
     put_spaced_pid(into, pid);
@@ -167,7 +167,7 @@ pub(crate) fn put_message_room<const N: usize>(
 )
     requires short { N ≤ 16 }
     requires room { vec_len into.old + LINE_ROOM ≤ vec_capacity into.old }
-    ensures { into.new.items ≡ into.old.items ++ spelled (name.now ∷ id_word id ∷ decimal slots ∷ decimal blocks ∷ []) }
+    ensures { into.new.items ≡ into.old.items ++ spelled_line (name.now ∷ id_word id ∷ decimal slots ∷ decimal blocks ∷ []) }
 {
     put_bytes(into, name);
     put_spaced_id(into, id);
@@ -179,7 +179,7 @@ pub(crate) fn put_message_room<const N: usize>(
 /// Puts the line of a call.
 pub(crate) fn put_call(into: &mut Vec<u8>, pid: Pid, n: u8, reply: Reply)
     requires { vec_len into.old + LINE_ROOM ≤ vec_capacity into.old }
-    ensures { into.new.items ≡ into.old.items ++ spelled (codes "call" ∷ pid_word pid ∷ decimal n ∷ decimal (reply_code reply) ∷ []) }
+    ensures { into.new.items ≡ into.old.items ++ spelled_line (codes "call" ∷ pid_word pid ∷ decimal n ∷ decimal (reply_code reply) ∷ []) }
 {
     put_bytes(into, b"call");
     put_spaced_pid(into, pid);
@@ -191,7 +191,7 @@ pub(crate) fn put_call(into: &mut Vec<u8>, pid: Pid, n: u8, reply: Reply)
 /// Puts the line of a refused receive.
 pub(crate) fn put_refuse(into: &mut Vec<u8>, pid: Pid, id: MsgId, reply: Reply)
     requires { vec_len into.old + LINE_ROOM ≤ vec_capacity into.old }
-    ensures { into.new.items ≡ into.old.items ++ spelled (codes "refuse" ∷ pid_word pid ∷ id_word id ∷ decimal (reply_code reply) ∷ []) }
+    ensures { into.new.items ≡ into.old.items ++ spelled_line (codes "refuse" ∷ pid_word pid ∷ id_word id ∷ decimal (reply_code reply) ∷ []) }
 {
     put_bytes(into, b"refuse");
     put_spaced_pid(into, pid);
@@ -203,7 +203,7 @@ pub(crate) fn put_refuse(into: &mut Vec<u8>, pid: Pid, id: MsgId, reply: Reply)
 /// Puts the line of a process that was made.
 pub(crate) fn put_created(into: &mut Vec<u8>, id: MsgId, pid: Pid)
     requires { vec_len into.old + LINE_ROOM ≤ vec_capacity into.old }
-    ensures { into.new.items ≡ into.old.items ++ spelled (codes "created" ∷ id_word id ∷ pid_word pid ∷ []) }
+    ensures { into.new.items ≡ into.old.items ++ spelled_line (codes "created" ∷ id_word id ∷ pid_word pid ∷ []) }
 {
     put_bytes(into, b"created");
     put_spaced_id(into, id);
@@ -214,7 +214,7 @@ pub(crate) fn put_created(into: &mut Vec<u8>, id: MsgId, pid: Pid)
 /// Puts the line of a message that is routed.
 pub(crate) fn put_routed(into: &mut Vec<u8>, a: u8, b: u8, id: MsgId, kind: MessageKind, pid: Pid)
     requires { vec_len into.old + LINE_ROOM ≤ vec_capacity into.old }
-    ensures { into.new.items ≡ into.old.items ++ spelled
+    ensures { into.new.items ≡ into.old.items ++ spelled_line
         (codes "put" ∷ decimal a ∷ decimal b ∷ id_word id ∷ word_of kind ∷ pid_word pid ∷ []) }
 {
     put_bytes(into, b"put");
@@ -228,7 +228,7 @@ pub(crate) fn put_routed(into: &mut Vec<u8>, a: u8, b: u8, id: MsgId, kind: Mess
 /// Puts the line of step 6 of a migration.
 pub(crate) fn put_sent_on(into: &mut Vec<u8>, pid: Pid, n: u32)
     requires { vec_len into.old + LINE_ROOM ≤ vec_capacity into.old }
-    ensures { into.new.items ≡ into.old.items ++ spelled (codes "step" ∷ codes "6" ∷ pid_word pid ∷ decimal n ∷ []) }
+    ensures { into.new.items ≡ into.old.items ++ spelled_line (codes "step" ∷ codes "6" ∷ pid_word pid ∷ decimal n ∷ []) }
 {
     put_bytes(into, b"step 6");
     put_spaced_pid(into, pid);

@@ -2,7 +2,7 @@
 ghost use Rattle.std.specs.Prelude.{◌≡◌, [], ◌<◌, ◌≤◌, ◌∷◌, ◌++◌, OnErr, OnOk, codes, map};
 ghost use Rattle.std.specs.Fmt.{decimal};
 ghost use Rattle.dm_text.specs.Ends.{hex, hex_digit};
-ghost use Rattle.dm_text.specs.Text.{spaced, spelled};
+ghost use Rattle.dm_text.specs.Text.{spaced, spelled_line};
 ghost use Rattle.dm_text.specs.Words.{id_word, pid_word};
 ghost use Rattle.dm_text.specs.Written.{Keeps, word_text};
 
@@ -158,7 +158,7 @@ pub(crate) fn put_numbers(into: &mut Vec<u8>, numbers: &[u32]) -> Result<(), NoM
 
 /// Writes a line of a name and further words.
 pub(crate) fn put_line(into: &mut Vec<u8>, name: &str, words: &[Word]) -> Result<(), NoMemory>
-    ensures ok { OnOk result (into.new.items ≡ into.old.items ++ spelled (name.now ∷ map word_text words.now)) }
+    ensures ok { OnOk result (into.new.items ≡ into.old.items ++ spelled_line (name.now ∷ map word_text words.now)) }
     ensures err { OnErr result (Keeps into.old.items into.new.items) }
 {
     extend_from_slice(into, name.as_bytes())?;
@@ -174,7 +174,7 @@ pub(crate) fn put_listed(
     words: &[Word],
     ids: &[MsgId],
 ) -> Result<(), NoMemory>
-    ensures ok { OnOk result (into.new.items ≡ into.old.items ++ spelled (name.now ∷ (map word_text words.now ++ map id_word ids.now))) }
+    ensures ok { OnOk result (into.new.items ≡ into.old.items ++ spelled_line (name.now ∷ (map word_text words.now ++ map id_word ids.now))) }
     ensures err { OnErr result (Keeps into.old.items into.new.items) }
 {
     extend_from_slice(into, name.as_bytes())?;
@@ -186,7 +186,7 @@ pub(crate) fn put_listed(
 
 /// Writes a line of a name and a number.
 pub(crate) fn put_count(into: &mut Vec<u8>, name: &str, count: u128) -> Result<(), NoMemory>
-    ensures ok { OnOk result (into.new.items ≡ into.old.items ++ spelled (name.now ∷ decimal count ∷ [])) }
+    ensures ok { OnOk result (into.new.items ≡ into.old.items ++ spelled_line (name.now ∷ decimal count ∷ [])) }
     ensures err { OnErr result (Keeps into.old.items into.new.items) }
 {
     let mut buffer = Buffer::new();

@@ -1,6 +1,6 @@
 -- The words, as the command takes them.
 use Rattle.dm_words.proofs.Names.{◌≡◌, List, [], ◌∷◌, codes, true, false, arith, refl, ap, sym, subst, ◌∙◌, None, if◌then◌else◌, option_map, ap₂, ne_eqb, option_and_then, Option, App, HasMatchesOf, Kinds, Text, fault_of, first_value}
-use Rattle.dm_words.proofs.Names.{is_simple, is_simple_and_free, rows_of, subcommand_of, subcommand_rows_of, Row, first_of, is_empty, ArgMatches, Found, clap_on_literals, first_value-rows, explain_request, explaining, both, two_files}
+use Rattle.dm_words.proofs.Names.{is_simple, is_simple_and_free, rows_of, subcommand_of, subcommand_rows_of, Row, first_of, is_empty, ArgMatches, Found, clap_on_literals, first_value-rows, explain_request, explaining, both_files, two_files}
 use Rattle.dm_words.proofs.Names.{Request, demosmp, request_at, request_of, Some}
 
 -- no option of the command has a rule on another
@@ -44,10 +44,10 @@ not_taken a words is k =
 
 -- what the getters of the matches read
 pub no_first : (asked : Text → Text → Request) (one other : Text) (f : Found) (first : Option Text) → first ≡ first_value f one → first ≡ None → two_files asked one other (rows_of f) ≡ None
-no_first asked one other f first is none = ap (λ o. both asked o (first_of other (rows_of f))) (sym (first_value-rows f one) ∙ sym is ∙ none)
+no_first asked one other f first is none = ap (λ o. both_files asked o (first_of other (rows_of f))) (sym (first_value-rows f one) ∙ sym is ∙ none)
 
-pub both_found : (asked : Text → Text → Request) (one other : Text) (f : Found) (first second : Option Text) → first ≡ first_value f one → second ≡ first_value f other → two_files asked one other (rows_of f) ≡ both asked first second
-both_found asked one other f first second is also = sym (ap₂ (both asked) (is ∙ first_value-rows f one) (also ∙ first_value-rows f other))
+pub both_found : (asked : Text → Text → Request) (one other : Text) (f : Found) (first second : Option Text) → first ≡ first_value f one → second ≡ first_value f other → two_files asked one other (rows_of f) ≡ both_files asked first second
+both_found asked one other f first second is also = sym (ap₂ (both_files asked) (is ∙ first_value-rows f one) (also ∙ first_value-rows f other))
 
 pub no_explain : (f : Found) (first : Option Text) → first ≡ first_value f (codes "boot") → first ≡ None → explain_request (rows_of f) ≡ None
 no_explain f first is none = ap (λ o. explaining o (first_of (codes "schedule") (rows_of f))) (sym (first_value-rows f (codes "boot")) ∙ sym is ∙ none)

@@ -6,8 +6,8 @@ use Rattle.dm_words.proofs.Names.{flag_met, idle, is_empty, is_pending, has_row,
 use Rattle.dm_words.proofs.Names.{reacted, reading_by, refused, settled, settled_rows, short_met, short_or_plain, stop_after, subcommand, subcommand_met, subcommand_or_other, takes_several, takes_values, to_positional, trailing, used}
 use Rattle.dm_words.proofs.Names.{used_as, used_by_id, value, values_or_missing, waits, walk, walk_from, walked, walked_from, with_default, with_values, without, word_met, done, check_kinds, or_else, range_kinds, is_given, action_fault}
 use Rattle.dm_words.proofs.Names.{bundle_step_fault, check_fault, defaults_fault, entered_fault, flag_word_fault, flags_fault, level_fault, long_fault, option_fault, other_fault, positional_fault, react_fault, settle_fault, short_fault}
-use Rattle.dm_words.proofs.Names.{step_fault, stray_fault, use_fault, walk_fault, word_fault, Shape, argument_words, built, entered, label_of, labels_of, rows_at, ValueSource, DefaultValue, CommandLine, Reading, drawn_by, lines_of}
-use Rattle.dm_words.proofs.Names.{machines_of, seed_of, trace_of, explaining, both, Request, Chart, Check, Explain, Run, run_command, AreTaken, IsTaken, demosmp, request_at, request_of, Some, Drill}
+use Rattle.dm_words.proofs.Names.{step_fault, stray_fault, use_fault, walk_fault, word_fault, Shape, argument_words, built, entered, label_of, labels_of, rows_at, ValueSource, DefaultValue, CommandLine, Reading, drawn_by, lines_asked}
+use Rattle.dm_words.proofs.Names.{machines_asked, seed_of, trace_of, explaining, both_files, Request, Chart, Check, Explain, Run, run_command, AreTaken, IsTaken, demosmp, request_at, request_of, Some, Drill}
 use Rattle.clap.specs.Walk.{Text}
 use Rattle.clap.specs.Kinds.{Kinds}
 use Rattle.clap.specs.Faults.{fault_of}
@@ -346,17 +346,17 @@ names_first s one words each checks e =
 run_asks : Asks run_built
 run_asks words e values =
     let names = names_both run_built (codes "boot") (codes "schedule") words each_of_run (λ rows. refl) e in
-    (Run names.first.0 names.second.0, ap₂ (both (λ boot schedule. Run boot schedule)) names.first.1 names.second.1)
+    (Run names.first.0 names.second.0, ap₂ (both_files (λ boot schedule. Run boot schedule)) names.first.1 names.second.1)
 
 check_asks : Asks check_built
 check_asks words e values =
     let names = names_both check_built (codes "boot") (codes "trace") words each_of_check (λ rows. refl) e in
-    (Check names.first.0 names.second.0, ap₂ (both (λ boot trace. Check boot trace)) names.first.1 names.second.1)
+    (Check names.first.0 names.second.0, ap₂ (both_files (λ boot trace. Check boot trace)) names.first.1 names.second.1)
 
 chart_asks : Asks chart_built
 chart_asks words e values =
     let names = names_both chart_built (codes "boot") (codes "schedule") words each_of_chart (λ rows. refl) e in
-    (Chart names.first.0 names.second.0, ap₂ (both (λ boot schedule. Chart boot schedule)) names.first.1 names.second.1)
+    (Chart names.first.0 names.second.0, ap₂ (both_files (λ boot schedule. Chart boot schedule)) names.first.1 names.second.1)
 
 explain_asks : Asks explain_built
 explain_asks words e values =
@@ -374,7 +374,7 @@ all_there trace None machines lines e = cc
 drill_asks : Asks drill_built
 drill_asks words e values =
     let rows : List Row = (rows_at drill_built words).1 in
-    all_there (trace_of rows) (seed_of rows) (machines_of rows) (lines_of rows) values
+    all_there (trace_of rows) (seed_of rows) (machines_asked rows) (lines_asked rows) values
 
 -- ---- the command line
 

@@ -41,11 +41,11 @@ lines_in word = option_and_then (if_within 1 10000) (read_u32 word)
 abbrev pub seed_of : List Row → Option ℕ
 seed_of rows = option_and_then seed_in (first_of (codes "seed") rows)
 
-abbrev pub machines_of : List Row → Option ℕ
-machines_of rows = option_and_then machines_in (first_of (codes "machines") rows)
+abbrev pub machines_asked : List Row → Option ℕ
+machines_asked rows = option_and_then machines_in (first_of (codes "machines") rows)
 
-abbrev pub lines_of : List Row → Option ℕ
-lines_of rows = option_and_then lines_in (first_of (codes "lines") rows)
+abbrev pub lines_asked : List Row → Option ℕ
+lines_asked rows = option_and_then lines_in (first_of (codes "lines") rows)
 
 -- whether the flag is there
 abbrev pub is_set : List ℕ → Bool
@@ -56,7 +56,7 @@ trace_of rows = option_map_or is_set (first_of (codes "trace") rows) false
 
 -- each number is there, and in its range
 abbrev pub has_numbers : List Row → Bool
-has_numbers rows = is_some (seed_of rows) && (is_some (machines_of rows) && is_some (lines_of rows))
+has_numbers rows = is_some (seed_of rows) && (is_some (machines_asked rows) && is_some (lines_asked rows))
 
 -- what is drawn then
 abbrev pub drawn_by : Bool → Option ℕ → Option ℕ → Option ℕ → Option Request
@@ -67,7 +67,7 @@ drawn_by trace None machines lines = None
 
 -- what its matches ask for
 abbrev pub drill_request : List Row → Option Request
-drill_request rows = drawn_by (trace_of rows) (seed_of rows) (machines_of rows) (lines_of rows)
+drill_request rows = drawn_by (trace_of rows) (seed_of rows) (machines_asked rows) (lines_asked rows)
 
 -- the ranges of its numbers
 pub record IsWithin (d : TheDrill) : Type 0 where

@@ -15,11 +15,11 @@ abbrev pub free_option : List ℕ → Rule
 free_option name = record (new_rule name) { long = Some name }
 
 -- what two files are named for, where both are there
-abbrev pub both : (List ℕ → List ℕ → Request) → Option (List ℕ) → Option (List ℕ) → Option Request
-both asked (Some one) (Some other) = Some (asked one other)
-both asked (Some one) None = None
-both asked None other = None
+abbrev pub both_files : (List ℕ → List ℕ → Request) → Option (List ℕ) → Option (List ℕ) → Option Request
+both_files asked (Some one) (Some other) = Some (asked one other)
+both_files asked (Some one) None = None
+both_files asked None other = None
 
 -- the files that these two options name
 abbrev pub two_files : (List ℕ → List ℕ → Request) → List ℕ → List ℕ → List Row → Option Request
-two_files asked one other rows = both asked (first_of one rows) (first_of other rows)
+two_files asked one other rows = both_files asked (first_of one rows) (first_of other rows)

@@ -30,17 +30,17 @@ input_text Schedule = codes "schedule"
 input_text Trace = codes "trace"
 
 -- the line that the program says at its end
-abbrev pub text_of : Status → List ℕ
-text_of Done = []
-text_of Usage = codes "usage: demosmp run --boot FILE --schedule FILE"
-text_of (ReadFault input) = codes "read fault"
-text_of (NoMemory lack) = codes "no memory"
-text_of WriteFault = codes "write fault"
-text_of (BootRefused number place) = codes "boot refused: " ++ decimal number ++ codes " at " ++ decimal place
-text_of (ScheduleRefused line why) = codes "schedule refused: line " ++ decimal line ++ codes ", why " ++ decimal why
-text_of (TooLong input) = codes "too long: " ++ input_text input
-text_of (Worn from to) = codes "worn: " ++ decimal from ++ codes " to " ++ decimal to
-text_of (TraceRefused line why) = codes "trace refused: line " ++ decimal line ++ codes ", why " ++ decimal why
+abbrev pub text_of_status : Status → List ℕ
+text_of_status Done = []
+text_of_status Usage = codes "usage: demosmp run --boot FILE --schedule FILE"
+text_of_status (ReadFault input) = codes "read fault"
+text_of_status (NoMemory lack) = codes "no memory"
+text_of_status WriteFault = codes "write fault"
+text_of_status (BootRefused number place) = codes "boot refused: " ++ decimal number ++ codes " at " ++ decimal place
+text_of_status (ScheduleRefused line why) = codes "schedule refused: line " ++ decimal line ++ codes ", why " ++ decimal why
+text_of_status (TooLong input) = codes "too long: " ++ input_text input
+text_of_status (Worn from to) = codes "worn: " ++ decimal from ++ codes " to " ++ decimal to
+text_of_status (TraceRefused line why) = codes "trace refused: line " ++ decimal line ++ codes ", why " ++ decimal why
 
 -- a text that isn't empty, with a line feed
 abbrev pub as_line : List ℕ → List ℕ
@@ -48,8 +48,8 @@ as_line [] = []
 as_line (x ∷ xs) = (x ∷ xs) ++ 10 ∷ []
 
 -- what the program writes of its status on standard error
-abbrev pub line_of : Status → List ℕ
-line_of s = as_line (text_of s)
+abbrev pub line_of_status : Status → List ℕ
+line_of_status s = as_line (text_of_status s)
 
 -- the status of words that name no files
 abbrev pub status_of_no : WordsError → Status

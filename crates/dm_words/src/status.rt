@@ -1,6 +1,6 @@
 //! How the program ends.
 ghost use Rattle.std.specs.Prelude.{◌≡◌, ◌+◌, ◌≤◌, ◌++◌, length, decimal};
-ghost use Rattle.dm_words.specs.Status.{code_of, line_of, text_of};
+ghost use Rattle.dm_words.specs.Status.{code_of, line_of_status, text_of_status};
 
 use arrayvec::ArrayString;
 use dm_memory::NoMemory;
@@ -67,7 +67,7 @@ impl Status {
 
 /// The line of a status with its line feed, nothing where all is done. It takes no memory.
 pub fn status_line(status: &Status) -> ArrayString<96>
-    ensures { result.bytes ≡ line_of status.now }
+    ensures { result.bytes ≡ line_of_status status.now }
 {
     let mut line = status_text(status);
     if !line.is_empty() {
@@ -78,7 +78,7 @@ pub fn status_line(status: &Status) -> ArrayString<96>
 
 /// What a status says in one line, nothing where all is done.
 pub fn status_text(status: &Status) -> ArrayString<96>
-    ensures text { result.bytes ≡ text_of status.now }
+    ensures text { result.bytes ≡ text_of_status status.now }
     ensures short { length result.bytes ≤ LONGEST_TEXT }
 {
     match *status {
@@ -110,7 +110,7 @@ pub fn words(s: &str) -> ArrayString<96>
 /// What a refused boot file is told.
 fn boot_refused(number: u8, place: u64) -> ArrayString<96>
     ensures short { length result.bytes ≤ LONGEST_TEXT }
-    ensures text { result.bytes ≡ text_of (Status.BootRefused number place) }
+    ensures text { result.bytes ≡ text_of_status (Status.BootRefused number place) }
 {
     let mut text = words("boot refused: ");
     push_number(&mut text, number as u64);
@@ -122,7 +122,7 @@ fn boot_refused(number: u8, place: u64) -> ArrayString<96>
 /// What a refused schedule is told.
 fn schedule_refused(line: u64, why: u8) -> ArrayString<96>
     ensures short { length result.bytes ≤ LONGEST_TEXT }
-    ensures text { result.bytes ≡ text_of (Status.ScheduleRefused line why) }
+    ensures text { result.bytes ≡ text_of_status (Status.ScheduleRefused line why) }
 {
     let mut text = words("schedule refused: line ");
     push_number(&mut text, line);
@@ -134,7 +134,7 @@ fn schedule_refused(line: u64, why: u8) -> ArrayString<96>
 /// What a refused trace is told.
 fn trace_refused(line: u64, why: u8) -> ArrayString<96>
     ensures short { length result.bytes ≤ LONGEST_TEXT }
-    ensures text { result.bytes ≡ text_of (Status.TraceRefused line why) }
+    ensures text { result.bytes ≡ text_of_status (Status.TraceRefused line why) }
 {
     let mut text = words("trace refused: line ");
     push_number(&mut text, line);
@@ -146,7 +146,7 @@ fn trace_refused(line: u64, why: u8) -> ArrayString<96>
 /// What is told of two machines that count as many messages as they may.
 fn worn(from: u8, to: u8) -> ArrayString<96>
     ensures short { length result.bytes ≤ LONGEST_TEXT }
-    ensures text { result.bytes ≡ text_of (Status.Worn from to) }
+    ensures text { result.bytes ≡ text_of_status (Status.Worn from to) }
 {
     let mut text = words("worn: ");
     push_number(&mut text, from as u64);

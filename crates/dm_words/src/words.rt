@@ -6,7 +6,7 @@ ghost use Rattle.clap.specs.declared.builder.command.Command.{Command as TheComm
 ghost use Rattle.dm_words.specs.Status.{status_of_no};
 ghost use Rattle.dm_words.specs.CheckWords.{check_command as check_shape, check_request as check_asked};
 ghost use Rattle.clap.specs.Walk.{first_of};
-ghost use Rattle.dm_words.specs.DrillWords.{drill_command as drill_shape, drill_request as drill_asked, flag_option, lines_in, lines_of, machines_in, machines_of, number_option, seed_of, trace_of};
+ghost use Rattle.dm_words.specs.DrillWords.{drill_command as drill_shape, drill_request as drill_asked, flag_option, lines_in, lines_asked, machines_in, machines_asked, number_option, seed_of, trace_of};
 ghost use Rattle.dm_words.specs.ChartWords.{chart_command as chart_shape, chart_request as chart_asked};
 ghost use Rattle.dm_words.specs.ExplainWords.{explain_command as explain_shape, explain_request as explain_asked};
 ghost use Rattle.dm_words.specs.FileWords.{file_option, free_option};
@@ -288,7 +288,7 @@ fn seed(matches: &ArgMatches<'_>) -> Option<u32>
 
 /// The number of the option `--machines`, if it is in its range.
 fn machines(matches: &ArgMatches<'_>) -> Option<u8>
-    ensures number { result ≡ machines_of (rows_of (found_of matches.now)) }
+    ensures number { result ≡ machines_asked (rows_of (found_of matches.now)) }
     ensures least { IfSome result (λ n. 2 ≤ n) }
     ensures most { IfSome result (λ n. n ≤ MACHINES) }
 {
@@ -314,7 +314,7 @@ fn machines_in(word: &str) -> Option<u8>
 
 /// The number of the option `--lines`, if it is in its range.
 fn lines(matches: &ArgMatches<'_>) -> Option<u32>
-    ensures number { result ≡ lines_of (rows_of (found_of matches.now)) }
+    ensures number { result ≡ lines_asked (rows_of (found_of matches.now)) }
     ensures most { IfSome result (λ n. n ≤ MOST_LINES) }
 {
     match value(matches, "lines") {

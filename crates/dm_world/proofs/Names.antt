@@ -34,7 +34,7 @@ pub use Rattle.dm_line.specs.declared.pass.Pass.TheVariants.{Round, Settle}
 pub use Rattle.dm_kernel.proofs.Names.{All-head, All-tail, Global, IsLawfulState, Line, Vec, images_are_valid, ⊤}
 pub use Rattle.dm_node.proofs.Here.{opened_here}
 pub use Rattle.dm_node.proofs.Names.{Acted, Acts, ActsLawfully, All-rest, AnswersSome, FreezesWhole, Gave, Goes, HasStreams, IsLawfulOut, MayAct, MayArrive, MayArrivePacket, MayAskMove, MayTurn, NodeState, Packet, Worn, arrives_packet}
-pub use Rattle.dm_node.proofs.Names.{at_machine, get_or_from_slice_get, here, leb_tells, opened, tick, with_items, with_items_is}
+pub use Rattle.dm_node.proofs.Names.{at_machine, get_or_from_slice_get, here, leb_tells, node_opened, tick, with_items, with_items_is}
 pub use Rattle.dm_node.proofs.Sends.{arrives_lawfully, asks_lawfully, ticks_lawfully, turns_lawfully}
 pub use Rattle.dm_node.specs.Acts.{asks_move, turn}
 pub use Rattle.dm_node.specs.Lawful.{IsFrom}
@@ -51,9 +51,9 @@ pub use Rattle.dm_world.specs.Ends.{SaysSome, awaited_lines, child_lines, first_
 pub use Rattle.dm_world.specs.Ends.{record_queue, stream_line}
 pub use Rattle.dm_world.specs.Local.{ActsAlone, acts_on, bytes_of}
 pub use Rattle.dm_world.specs.May.{MayDeliver, MayRead, MayStep, sent_by}
-pub use Rattle.dm_world.specs.Meets.{ActedAt, ActedSome, Answers, AreNodes, IsNode, IsSendable, IsWorld, IsWornOut, Meets, MeetsSome, Spoke, TurnAnswers, node_or, state_of}
+pub use Rattle.dm_world.specs.Meets.{ActedAt, ActedSome, Answers, AreNodes, IsNode, IsSendable, IsWorld, IsWornOut, Meets, MeetsSome, Spoke, TurnAnswers, node_or, world_state}
 unfoldable pub use Rattle.dm_world.specs.Meets.{node_in}
-pub use Rattle.dm_world.specs.Next.{all_heard, first_unseen, has_mail, is_quiet, next_step, undelivered}
+pub use Rattle.dm_world.specs.Next.{all_heard, first_unseen, world_has_mail, world_is_quiet, world_next_step, world_undelivered}
 pub use Rattle.dm_world.specs.Readable.{AreReadBack, gave_bytes, gave_read, gave_some}
 pub use Rattle.dm_world.specs.World.{Happened, Said, Says, WorldState, WornOut, acted, arrives, delivers, reads, turned, world_step}
 pub use Rattle.dm_world.specs.declared.cursor.Cursor.{Cursor}

@@ -1,12 +1,12 @@
 -- The machines of the code: one of them acts, and the others stay.
 use Rattle.dm_world.proofs.Names.{◌≡◌, ◌≢◌, ℕ, suc, ◌+◌, ◌<◌, ◌≤◌, Bool, List, [], ◌∷◌, ◌++◌, length, refl, sym, ap, subst, ◌∙◌, inl, inr, arith, length-set, get_or, get_or-set_same, get_or-set_other, length-append, get_or-append_seam}
 use Rattle.dm_world.proofs.Names.{get_or_append_left, set, ◌⊎◌, if◌then◌else◌, slice_get, slice_index_or, All, Option, None, Some, Err, eqb_tells, leb_tells, leb-true, All-weaker, get_or_from_slice_get, slice_get-get_or, slice_get_cases}
-use Rattle.dm_world.proofs.Names.{slice_get_past, slice_get_within, Boot, Packet, Data, Ack, at_machine, Node, Stop, Out, NodeState, here, opened, Acted, Acts, Goes, Worn, arrives_packet, MayArrivePacket, arrives_lawfully, ActsLawfully}
-use Rattle.dm_world.proofs.Names.{IsLawfulOut, AnswersSome, Gave, GaveSome, World, ActedAt, ActedSome, AreNodes, IsNode, IsSendable, IsWorld, TurnAnswers, node_in, node_or}
+use Rattle.dm_world.proofs.Names.{slice_get_past, slice_get_within, Boot, Packet, Data, Ack, at_machine, Node, Stop, Out, NodeState, here, node_opened, Acted, Acts, Goes, Worn, arrives_packet, MayArrivePacket, arrives_lawfully}
+use Rattle.dm_world.proofs.Names.{ActsLawfully, IsLawfulOut, AnswersSome, Gave, GaveSome, World, ActedAt, ActedSome, AreNodes, IsNode, IsSendable, IsWorld, TurnAnswers, node_in, node_or}
 use Rattle.dm_packet.specs.declared.Packet.TheVariants as packet
 use Rattle.dm_node.specs.declared.stop.Stop.TheVariants as stop
 use Rattle.dm_node.specs.declared.out.Out.TheVariants as out
-use Rattle.dm_node.specs.Meets.{state_of}
+use Rattle.dm_node.specs.Meets.{node_state}
 
 -- a list with one place written
 pub set_get_same : {X : Type 0} (xs : List X) (i : ℕ) (v : X) → i < length xs → slice_get (set xs i v) i ≡ Some v
@@ -24,33 +24,33 @@ set_get_other xs i j v apart =
     ]
 
 -- the machine at a place
-pub node_there : (b : Boot) (nodes : List Node) (m : ℕ) (n : Node) → slice_get nodes m ≡ Some n → node_in b nodes m ≡ state_of n
+pub node_there : (b : Boot) (nodes : List Node) (m : ℕ) (n : Node) → slice_get nodes m ≡ Some n → node_in b nodes m ≡ node_state n
 unfolding node_in
 node_there b nodes m n e = ap (node_or b m) e
 
-pub node_past : (b : Boot) (nodes : List Node) (m : ℕ) → slice_get nodes m ≡ None → node_in b nodes m ≡ opened b m
+pub node_past : (b : Boot) (nodes : List Node) (m : ℕ) → slice_get nodes m ≡ None → node_in b nodes m ≡ node_opened b m
 unfolding node_in
 node_past b nodes m e = ap (node_or b m) e
 
-pub node_at : (b : Boot) (nodes : List Node) (i m : ℕ) (d : Node) → i ≡ m → m < length nodes → state_of (slice_index_or nodes i d) ≡ node_in b nodes m
+pub node_at : (b : Boot) (nodes : List Node) (i m : ℕ) (d : Node) → i ≡ m → m < length nodes → node_state (slice_index_or nodes i d) ≡ node_in b nodes m
 node_at b nodes i m d e h =
-    subst (λ (k : ℕ). state_of (slice_index_or nodes k d) ≡ node_in b nodes m) (sym e) (sym (node_there b nodes m (slice_index_or nodes m d) (slice_get-get_or nodes m d h)))
+    subst (λ (k : ℕ). node_state (slice_index_or nodes k d) ≡ node_in b nodes m) (sym e) (sym (node_there b nodes m (slice_index_or nodes m d) (slice_get-get_or nodes m d h)))
 
 pub is_node_at : (nodes : List Node) (i m : ℕ) (d : Node) → i ≡ m → m < length nodes → AreNodes nodes → IsNode m (slice_index_or nodes i d)
 is_node_at nodes i m d e h are = subst (λ (k : ℕ). IsNode m (slice_index_or nodes k d)) (sym e) (are.each m (slice_index_or nodes m d) (slice_get-get_or nodes m d h))
 
 -- one machine is written
-pub node_set : (b : Boot) (nodes : List Node) (m : ℕ) (x : Node) → m < length nodes → (c : ℕ) → node_in b (set nodes m x) c ≡ at_machine (node_in b nodes) m (state_of x) c
+pub node_set : (b : Boot) (nodes : List Node) (m : ℕ) (x : Node) → m < length nodes → (c : ℕ) → node_in b (set nodes m x) c ≡ at_machine (node_in b nodes) m (node_state x) c
 unfolding node_in
 node_set b nodes m x h c =
     elim (eqb_tells m c) [
       | inl e ↦
           ap (λ (k : ℕ). node_or b c (slice_get (set nodes m x) k)) (sym e.1)
           ∙ ap (node_or b c) (set_get_same nodes m x h)
-          ∙ sym (ap (λ (t : Bool). if t then state_of x else node_or b c (slice_get nodes c)) e.0)
+          ∙ sym (ap (λ (t : Bool). if t then node_state x else node_or b c (slice_get nodes c)) e.0)
       | inr e ↦
           ap (node_or b c) (set_get_other nodes m c x (λ same. e.1 (sym same)))
-          ∙ sym (ap (λ (t : Bool). if t then state_of x else node_or b c (slice_get nodes c)) e.0)
+          ∙ sym (ap (λ (t : Bool). if t then node_state x else node_or b c (slice_get nodes c)) e.0)
     ]
 
 some_same : {X : Type 0} (x y : X) → Some x ≡ Some y → x ≡ y
@@ -69,7 +69,7 @@ are_set nodes m x h are is =
     }
 
 -- a machine that acts lawfully keeps its number
-pub kept_here : (n : Node) (m : ℕ) (a : Acted) → state_of n ≡ a.state → ActsLawfully m a → n.kernel.here ≡ m
+pub kept_here : (n : Node) (m : ℕ) (a : Acted) → node_state n ≡ a.state → ActsLawfully m a → n.kernel.here ≡ m
 kept_here n m a e h = ap here e ∙ h.here
 
 pub acted : (b : Boot) (nodes : List Node) (i m : ℕ) (x : Node) (outs : List Out) (a : Acted) → i ≡ m → m < length nodes → AreNodes nodes → Gave x [] outs a → ActsLawfully m a
@@ -166,16 +166,16 @@ are_pushed nodes x m size are is =
           ];
     }
 
-pub opened_pushed : (b : Boot) (nodes : List Node) (x : Node) (m : ℕ) → length nodes ≡ m → ((c : ℕ) (n : Node) → slice_get nodes c ≡ Some n → state_of n ≡ opened b c) → state_of x ≡ opened b m
-    → (c : ℕ) (n : Node) → slice_get (nodes ++ x ∷ []) c ≡ Some n → state_of n ≡ opened b c
+pub opened_pushed : (b : Boot) (nodes : List Node) (x : Node) (m : ℕ) → length nodes ≡ m → ((c : ℕ) (n : Node) → slice_get nodes c ≡ Some n → node_state n ≡ node_opened b c) → node_state x ≡ node_opened b m
+    → (c : ℕ) (n : Node) → slice_get (nodes ++ x ∷ []) c ≡ Some n → node_state n ≡ node_opened b c
 opened_pushed b nodes x m size all is c n there =
     elim (last_or nodes x n c there) [
       | inl r ↦ all c n r.1
-      | inr r ↦ ap state_of (sym r.1) ∙ is ∙ ap (opened b) (sym (r.0 ∙ size))
+      | inr r ↦ ap node_state (sym r.1) ∙ is ∙ ap (node_opened b) (sym (r.0 ∙ size))
     ]
 
 -- the machines of the boot file
-pub all_opened : (b : Boot) (nodes : List Node) → ((c : ℕ) (n : Node) → slice_get nodes c ≡ Some n → state_of n ≡ opened b c) → (m : ℕ) → node_in b nodes m ≡ opened b m
+pub all_opened : (b : Boot) (nodes : List Node) → ((c : ℕ) (n : Node) → slice_get nodes c ≡ Some n → node_state n ≡ node_opened b c) → (m : ℕ) → node_in b nodes m ≡ node_opened b m
 all_opened b nodes h m =
     elim ((slice_get_cases nodes m).1) [
       | inl r ↦ node_there b nodes m r.0 r.2 ∙ h m r.0 r.2

@@ -1,8 +1,8 @@
 -- What comes next of a pass, and where it is over.
 use Rattle.dm_world.proofs.Names.{◌≡◌, ◌≢◌, ℕ, zero, suc, ◌+◌, ◌-◌, ◌*◌, ◌<◌, ◌≤◌, ◌==◌, ◌&&◌, not, Bool, true, false, List, [], ◌∷◌, drop, length, refl, sym, ap, subst, ◌∙◌, arith, ⊤, ◌||◌, if◌then◌else◌, IsSome, Option, None, Some}
 use Rattle.dm_world.proofs.Names.{false≢true, nat_tests, Step, Directive, Pass, Round, Settle, Next, Todo, Two, below, begin_pass, in_pass, is_over, next_delivery, next_directive, next_pass, next_turn, or, settles, takes_turn, Cursor}
-use Rattle.dm_world.proofs.Names.{Passing, Place, Packets, Turns, End, FirstIs, FirstTurnIs, InPassIs, NextIs, NextPassIs, RoundGoes, as_next, found_at, machines_left, pairs_at, pairs_left, todo_at, turn_at, all_heard, has_mail, is_quiet}
-use Rattle.dm_world.proofs.Names.{next_step, undelivered, WorldState}
+use Rattle.dm_world.proofs.Names.{Passing, Place, Packets, Turns, End, FirstIs, FirstTurnIs, InPassIs, NextIs, NextPassIs, RoundGoes, as_next, found_at, machines_left, pairs_at, pairs_left, todo_at, turn_at, all_heard, world_has_mail}
+use Rattle.dm_world.proofs.Names.{world_is_quiet, world_next_step, world_undelivered, WorldState}
 use Rattle.dm_schedule.specs.declared.Step.TheVariants as step
 use Rattle.dm_world.proofs.Passing.{drop-below, past_below, rows_are_pairs}
 
@@ -19,35 +19,35 @@ some_or n ds (Some r) o h = refl
 pub one_fewer : (n : ℕ) (w : WorldState) (k : ℕ) (ds : List Directive) (r : Option (Step × Cursor)) → 0 < k → InPassIs n w (Round (k - 1)) (Packets 0 0) ds r → RoundGoes (Round (k - 1)) r → NextPassIs n w (Round k) ds r
 one_fewer n w k ds r some h goes e =
     let is : k ≡ suc (k - 1) = omega (arith, some) in
-    let quiet = is_quiet n w in
-    ap (λ (j : ℕ). next_pass n (undelivered w) (has_mail w) quiet (Round j) ds) is
-    ∙ begins n (undelivered w) (has_mail w) (Round (k - 1)) ds
+    let quiet = world_is_quiet n w in
+    ap (λ (j : ℕ). next_pass n (world_undelivered w) (world_has_mail w) quiet (Round j) ds) is
+    ∙ begins n (world_undelivered w) (world_has_mail w) (Round (k - 1)) ds
     ∙ h
-    ∙ some_or n ds r (next_directive n (undelivered w) (has_mail w) quiet ds) goes
+    ∙ some_or n ds r (next_directive n (world_undelivered w) (world_has_mail w) quiet ds) goes
 
 pub settle_next : (n : ℕ) (w : WorldState) (ds : List Directive) (r : Option (Step × Cursor)) → InPassIs n w Settle (Packets 0 0) ds r → NextPassIs n w Settle ds r
 settle_next n w ds r h e =
-    let begin = begin_pass n (undelivered w) (has_mail w) Settle ds in
-    let behind = next_directive n (undelivered w) (has_mail w) (is_quiet n w) ds in
-    ap (λ (q : Bool). settles q begin behind) e ∙ ap (λ (o : Option Next). or o behind) (begins n (undelivered w) (has_mail w) Settle ds ∙ h)
+    let begin = begin_pass n (world_undelivered w) (world_has_mail w) Settle ds in
+    let behind = next_directive n (world_undelivered w) (world_has_mail w) (world_is_quiet n w) ds in
+    ap (λ (q : Bool). settles q begin behind) e ∙ ap (λ (o : Option Next). or o behind) (begins n (world_undelivered w) (world_has_mail w) Settle ds ∙ h)
 
-pub takes_next : (n : ℕ) (w : WorldState) (p : Pass) (k : ℕ) → k < n → takes_turn p (has_mail w) k ≡ true → FirstTurnIs n w p k (Some k)
+pub takes_next : (n : ℕ) (w : WorldState) (p : Pass) (k : ℕ) → k < n → takes_turn p (world_has_mail w) k ≡ true → FirstTurnIs n w p k (Some k)
 takes_next n w p k small e t =
-    ap (next_turn (takes_turn p (has_mail w)) t) (drop-below n k small)
-    ∙ ap (λ (b : Bool). if b then Some (record { step = step.Turn k; left = record t { pairs = []; machines = drop (k + 1) (below n) } }) else next_turn (takes_turn p (has_mail w)) t (drop (k + 1) (below n))) e
+    ap (next_turn (takes_turn p (world_has_mail w)) t) (drop-below n k small)
+    ∙ ap (λ (b : Bool). if b then Some (record { step = step.Turn k; left = record t { pairs = []; machines = drop (k + 1) (below n) } }) else next_turn (takes_turn p (world_has_mail w)) t (drop (k + 1) (below n))) e
 
-pub passes_over : (n : ℕ) (w : WorldState) (p : Pass) (k : ℕ) (t : Todo) → k < n → takes_turn p (has_mail w) k ≡ false
-    → next_turn (takes_turn p (has_mail w)) t (drop k (below n)) ≡ next_turn (takes_turn p (has_mail w)) t (drop (k + 1) (below n))
+pub passes_over : (n : ℕ) (w : WorldState) (p : Pass) (k : ℕ) (t : Todo) → k < n → takes_turn p (world_has_mail w) k ≡ false
+    → next_turn (takes_turn p (world_has_mail w)) t (drop k (below n)) ≡ next_turn (takes_turn p (world_has_mail w)) t (drop (k + 1) (below n))
 passes_over n w p k t small e =
-    ap (next_turn (takes_turn p (has_mail w)) t) (drop-below n k small)
-    ∙ ap (λ (b : Bool). if b then Some (record { step = step.Turn k; left = record t { pairs = []; machines = drop (k + 1) (below n) } }) else next_turn (takes_turn p (has_mail w)) t (drop (k + 1) (below n))) e
+    ap (next_turn (takes_turn p (world_has_mail w)) t) (drop-below n k small)
+    ∙ ap (λ (b : Bool). if b then Some (record { step = step.Turn k; left = record t { pairs = []; machines = drop (k + 1) (below n) } }) else next_turn (takes_turn p (world_has_mail w)) t (drop (k + 1) (below n))) e
 
 pub none_left : (n : ℕ) (w : WorldState) (p : Pass) (k : ℕ) → n ≤ k → FirstTurnIs n w p k None
-none_left n w p k h t = ap (next_turn (takes_turn p (has_mail w)) t) (past_below n k h)
+none_left n w p k h t = ap (next_turn (takes_turn p (world_has_mail w)) t) (past_below n k h)
 
 -- from an earlier machine on, where those between take no turn
 abbrev pub PassedTo : ℕ → WorldState → Pass → ℕ → ℕ → Type 0
-PassedTo n w p m k = (t : Todo) → next_turn (takes_turn p (has_mail w)) t (drop m (below n)) ≡ next_turn (takes_turn p (has_mail w)) t (drop k (below n))
+PassedTo n w p m k = (t : Todo) → next_turn (takes_turn p (world_has_mail w)) t (drop m (below n)) ≡ next_turn (takes_turn p (world_has_mail w)) t (drop k (below n))
 
 -- in a round none is passed over
 abbrev pub Stays : Pass → ℕ → ℕ → Type 0

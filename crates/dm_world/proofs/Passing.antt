@@ -1,7 +1,7 @@
 -- The pairs of machines, passed one after the other.
 use Rattle.dm_world.proofs.Names.{◌≡◌, ◌≢◌, ℕ, zero, suc, ◌+◌, ◌<◌, ◌≤◌, Bool, true, false, List, [], ◌∷◌, ◌++◌, length, drop, refl, sym, ap, ◌∙◌, inl, inr, arith, length-append, if◌then◌else◌, cond, not, position, position_from, Option}
 use Rattle.dm_world.proofs.Names.{None, Some, eqb_tells, leb_tells, position_from-zero, drop-append-le, drop_all, drop_at, Sent, is_unseen, Two, below, here_or_later, next_delivery, pairs_of, pairs_with, pairs_at, row_at, first_unseen}
-use Rattle.dm_world.proofs.Names.{undelivered, WorldState}
+use Rattle.dm_world.proofs.Names.{world_undelivered, WorldState}
 use Rattle.dm_schedule.specs.declared.Step.TheVariants as step
 
 -- the machines, ascending
@@ -88,31 +88,31 @@ pub first_unseen_is : (ps : List Sent) → first_unseen 0 ps ≡ position is_uns
 first_unseen_is ps = unseen_from 0 ps ∙ sym (position_from-zero is_unseen ps)
 
 -- a pair of a row has no such packet, or is the first that has one
-pub row_none : (n : ℕ) (w : WorldState) (a b : ℕ) (rest : List Two) → b < n → a ≢ b → undelivered w a b ≡ None
-    → next_delivery (undelivered w) (row_at n a b rest) ≡ next_delivery (undelivered w) (row_at n a (b + 1) rest)
+pub row_none : (n : ℕ) (w : WorldState) (a b : ℕ) (rest : List Two) → b < n → a ≢ b → world_undelivered w a b ≡ None
+    → next_delivery (world_undelivered w) (row_at n a b rest) ≡ next_delivery (world_undelivered w) (row_at n a (b + 1) rest)
 row_none n w a b rest h apart none =
-    ap (next_delivery (undelivered w)) (row_pair n a b rest h apart)
-    ∙ ap (λ o. here_or_later (record { from = a; to = b }) (row_at n a (b + 1) rest) o (next_delivery (undelivered w) (row_at n a (b + 1) rest))) none
+    ap (next_delivery (world_undelivered w)) (row_pair n a b rest h apart)
+    ∙ ap (λ o. here_or_later (record { from = a; to = b }) (row_at n a (b + 1) rest) o (next_delivery (world_undelivered w) (row_at n a (b + 1) rest))) none
 
-pub row_some : (n : ℕ) (w : WorldState) (a b k : ℕ) (rest : List Two) → b < n → a ≢ b → undelivered w a b ≡ Some k
-    → next_delivery (undelivered w) (row_at n a b rest) ≡ Some (step.Deliver a b k, row_at n a b rest)
+pub row_some : (n : ℕ) (w : WorldState) (a b k : ℕ) (rest : List Two) → b < n → a ≢ b → world_undelivered w a b ≡ Some k
+    → next_delivery (world_undelivered w) (row_at n a b rest) ≡ Some (step.Deliver a b k, row_at n a b rest)
 row_some n w a b k rest h apart some =
-    ap (next_delivery (undelivered w)) (row_pair n a b rest h apart)
-    ∙ ap (λ o. here_or_later (record { from = a; to = b }) (row_at n a (b + 1) rest) o (next_delivery (undelivered w) (row_at n a (b + 1) rest))) some
+    ap (next_delivery (world_undelivered w)) (row_pair n a b rest h apart)
+    ∙ ap (λ o. here_or_later (record { from = a; to = b }) (row_at n a (b + 1) rest) o (next_delivery (world_undelivered w) (row_at n a (b + 1) rest))) some
     ∙ ap (λ ps. Some (step.Deliver a b k, ps)) (sym (row_pair n a b rest h apart))
 
 -- no pair of a row has such a packet
-pub row_nothing : (w : WorldState) (a : ℕ) (bs : List ℕ) (rest : List Two) → ((b : ℕ) → undelivered w a b ≡ None)
-    → next_delivery (undelivered w) (pairs_with a bs ++ rest) ≡ next_delivery (undelivered w) rest
+pub row_nothing : (w : WorldState) (a : ℕ) (bs : List ℕ) (rest : List Two) → ((b : ℕ) → world_undelivered w a b ≡ None)
+    → next_delivery (world_undelivered w) (pairs_with a bs ++ rest) ≡ next_delivery (world_undelivered w) rest
 row_nothing w a [] rest h = refl
 row_nothing w a (b ∷ bs) rest h =
     elim (eqb_tells a b) [
       | inl t ↦
-          ap (λ (c : Bool). next_delivery (undelivered w) ((if c then pairs_with a bs else record { from = a; to = b } ∷ pairs_with a bs) ++ rest)) t.0
+          ap (λ (c : Bool). next_delivery (world_undelivered w) ((if c then pairs_with a bs else record { from = a; to = b } ∷ pairs_with a bs) ++ rest)) t.0
           ∙ row_nothing w a bs rest h
       | inr t ↦
-          ap (λ (c : Bool). next_delivery (undelivered w) ((if c then pairs_with a bs else record { from = a; to = b } ∷ pairs_with a bs) ++ rest)) t.0
-          ∙ ap (λ o. here_or_later (record { from = a; to = b }) (pairs_with a bs ++ rest) o (next_delivery (undelivered w) (pairs_with a bs ++ rest))) (h b)
+          ap (λ (c : Bool). next_delivery (world_undelivered w) ((if c then pairs_with a bs else record { from = a; to = b } ∷ pairs_with a bs) ++ rest)) t.0
+          ∙ ap (λ o. here_or_later (record { from = a; to = b }) (pairs_with a bs ++ rest) o (next_delivery (world_undelivered w) (pairs_with a bs ++ rest))) (h b)
           ∙ row_nothing w a bs rest h
     ]
 

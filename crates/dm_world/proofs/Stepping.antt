@@ -1,7 +1,7 @@
 -- A machine has acted, and what it gave is said: that is the world's step.
 use Rattle.dm_world.proofs.Names.{◌≡◌, ℕ, ◌+◌, List, [], ◌∷◌, length, sym, ap, subst, ◌∙◌, Vec, with_items, with_items_is, Global, Option, None, Some, Err, Packet, Sent, bytes_at, after_mark, packets_on, Boot, IsValid, Line, Step, Node}
-use Rattle.dm_world.proofs.Names.{Stop, Out, arrives_packet, Acted, Acts, Goes, Worn, IsWornSome, spoken, World, ActedAt, ActedSome, Answers, AreNodes, IsWorld, IsWornOut, Meets, MeetsSome, TurnAnswers, node_in, state_of, Says, WorldState}
-use Rattle.dm_world.proofs.Names.{WornOut, acted, delivers, turned}
+use Rattle.dm_world.proofs.Names.{Stop, Out, arrives_packet, Acted, Acts, Goes, Worn, IsWornSome, spoken, World, ActedAt, ActedSome, Answers, AreNodes, IsWorld, IsWornOut, Meets, MeetsSome, TurnAnswers, node_in, world_state, Says}
+use Rattle.dm_world.proofs.Names.{WorldState, WornOut, acted, delivers, turned}
 use Rattle.dm_line.specs.declared.line.Line.TheVariants as line
 use Rattle.dm_node.specs.declared.stop.Stop.TheVariants as stop
 use Rattle.dm_node.specs.declared.out.Out.TheVariants as out
@@ -19,7 +19,7 @@ with_wires w before = record { nodes = w.nodes; wires = before; groups = w.group
 
 pub stepped : (old now : World) (ys : List Node) (before : ℕ → ℕ → List Sent) (e : Step) (m : ℕ) (outs : List Out) (said : List Line) (a : Acted)
     → ActedAt old.boot old.nodes.items ys m outs a → now.nodes.items ≡ ys → Grouped old now before e outs said
-    → Meets (state_of now) said (Says (acted (with_wires (state_of old) before) e m a))
+    → Meets (world_state now) said (Says (acted (with_wires (world_state old) before) e m a))
 stepped old now ys before e m outs said a h are g =
     let nodes = λ (c : ℕ). ap (λ (b : Boot). node_in b now.nodes.items c) g.boot ∙ ap (λ ns. node_in old.boot ns c) are ∙ h.nodes c in
     let wires = λ (x y : ℕ). g.wires x y ∙ ap (λ o. (spoken before o).wires x y) h.outs in
@@ -39,7 +39,7 @@ world_stays old now ys m outs a h acts are boot =
 
 -- a turn, which may not have taken place
 pub turn_stepped : (old now : World) (ys : List Node) (e : Step) (m : ℕ) (outs : List Out) (said : List Line) (o : Option Acts) → ActedSome old.boot old.nodes.items ys m outs o
-    → now.nodes.items ≡ ys → Grouped old now (packets_on old.wires) e outs said → MeetsSome (state_of now) said (turned (state_of old) e m o)
+    → now.nodes.items ≡ ys → Grouped old now (packets_on old.wires) e outs said → MeetsSome (world_state now) said (turned (world_state old) e m o)
 turn_stepped old now ys e m outs said None h are g = absurd h
 turn_stepped old now ys e m outs said (Some (Goes a)) h are g = stepped old now ys (packets_on old.wires) e m outs said a h are g
 turn_stepped old now ys e m outs said (Some (Worn from to)) h are g = absurd h
@@ -61,7 +61,7 @@ written v ys e = with_items_is v ys (e ∙ sym v.ok.0)
 
 -- there was no such packet
 pub found_nothing : (old now : World) (e : Step) (a c k : ℕ) (outs : List Out) (said : List Line) → outs ≡ out.Says line.Nothing ∷ [] → now.nodes ≡ old.nodes
-    → Grouped old now (packets_on old.wires) e outs said → MeetsSome (state_of now) said (delivers (state_of old) e a c k None)
+    → Grouped old now (packets_on old.wires) e outs said → MeetsSome (world_state now) said (delivers (world_state old) e a c k None)
 found_nothing old now e a c k outs said is are g =
     let nodes = λ (m : ℕ). ap (λ (b : Boot). node_in b now.nodes.items m) g.boot ∙ ap (λ v. node_in old.boot v.items m) are in
     let wires = λ (x y : ℕ). g.wires x y ∙ ap (λ o. (spoken (packets_on old.wires) o).wires x y) is in
@@ -71,12 +71,12 @@ found_nothing old now e a c k outs said is are g =
     }
 
 -- the packet came
-pub took : (old now : World) (ys : List Node) (before : ℕ → ℕ → List Sent) (e : Step) (a c k : ℕ) (p : Packet) (outs : List Out) (said : List Line) → Arriving (state_of old) e a c k p
+pub took : (old now : World) (ys : List Node) (before : ℕ → ℕ → List Sent) (e : Step) (a c k : ℕ) (p : Packet) (outs : List Out) (said : List Line) → Arriving (world_state old) e a c k p
     → ((x y : ℕ) → before x y ≡ after_mark (packets_on old.wires) a c k x y)
     → ActedAt old.boot old.nodes.items ys c outs (arrives_packet (node_in old.boot old.nodes.items c) p) → now.nodes.items ≡ ys → Grouped old now before e outs said
-    → MeetsSome (state_of now) said (delivers (state_of old) e a c k (bytes_at (packets_on old.wires a c) k))
+    → MeetsSome (world_state now) said (delivers (world_state old) e a c k (bytes_at (packets_on old.wires a c) k))
 took old now ys before e a c k p outs said h marks acts are g =
     let d = arrives_packet (node_in old.boot old.nodes.items c) p in
     let same : before ≡ after_mark (packets_on old.wires) a c k = λ i. λ x y. marks x y i in
-    subst (MeetsSome (state_of now) said) (sym h.step)
-    (subst (λ f. Meets (state_of now) said (Says (acted (with_wires (state_of old) f) e c d))) same (stepped old now ys before e c outs said d acts are g))
+    subst (MeetsSome (world_state now) said) (sym h.step)
+    (subst (λ f. Meets (world_state now) said (Says (acted (with_wires (world_state old) f) e c d))) same (stepped old now ys before e c outs said d acts are g))

@@ -16,7 +16,7 @@ use Rattle.dm_world.specs.declared.cursor.Cursor.{Cursor}
 use Rattle.dm_world.specs.declared.cursor.Cursor.TheVariants.{One, Passing}
 use Rattle.dm_world.specs.declared.cursor.Place.{Place}
 use Rattle.dm_world.specs.declared.cursor.Place.TheVariants.{Packets, Turns, End}
-use Rattle.dm_world.specs.Next.{has_mail, is_quiet, next_step, undelivered}
+use Rattle.dm_world.specs.Next.{world_has_mail, world_is_quiet, world_next_step, world_undelivered}
 use Rattle.dm_world.specs.World.{Said, Says, WorldState, world_step}
 
 -- the ordered pairs of n machines from this one on
@@ -48,31 +48,31 @@ as_next n ds (Some r) = Some (record { step = r.0; left = todo_of n r.1 ds })
 
 -- the step that comes next and what is left behind it, or none is left of the directive
 abbrev pub NextIs : ℕ → WorldState → Cursor → List Directive → Option (Step × Cursor) → Type 0
-NextIs n w c ds r = next_step n w (todo_of n c ds) ≡ or (as_next n ds r) (next_step n w (all_of ds))
+NextIs n w c ds r = world_next_step n w (todo_of n c ds) ≡ or (as_next n ds r) (world_next_step n w (all_of ds))
 
 -- the same of the pass itself, and of the passes behind it
 abbrev pub InPassIs : ℕ → WorldState → Pass → Place → List Directive → Option (Step × Cursor) → Type 0
-InPassIs n w p place ds r = in_pass (has_mail w) (todo_at n p place ds) (next_delivery (undelivered w) (pairs_left n place)) ≡ as_next n ds r
+InPassIs n w p place ds r = in_pass (world_has_mail w) (todo_at n p place ds) (next_delivery (world_undelivered w) (pairs_left n place)) ≡ as_next n ds r
 
 abbrev pub NextPassIs : ℕ → WorldState → Pass → List Directive → Option (Step × Cursor) → Type 0
 NextPassIs n w p ds r =
-    is_over p (is_quiet n w) ≡ false → next_pass n (undelivered w) (has_mail w) (is_quiet n w) p ds ≡ or (as_next n ds r) (next_directive n (undelivered w) (has_mail w) (is_quiet n w) ds)
+    is_over p (world_is_quiet n w) ≡ false → next_pass n (world_undelivered w) (world_has_mail w) (world_is_quiet n w) p ds ≡ or (as_next n ds r) (next_directive n (world_undelivered w) (world_has_mail w) (world_is_quiet n w) ds)
 
 -- the first packet that was never delivered, of the pairs from this one on
 abbrev pub found_at : ℕ → ℕ × ℕ × ℕ → Step × List Two
 found_at n p = (step.Deliver p.0 p.1 p.2, pairs_at n p.0 p.1)
 
 abbrev pub FirstIs : ℕ → WorldState → List Two → Option (ℕ × ℕ × ℕ) → Type 0
-FirstIs n w ps None = next_delivery (undelivered w) ps ≡ None
-FirstIs n w ps (Some p) = next_delivery (undelivered w) ps ≡ Some (found_at n p)
+FirstIs n w ps None = next_delivery (world_undelivered w) ps ≡ None
+FirstIs n w ps (Some p) = next_delivery (world_undelivered w) ps ≡ Some (found_at n p)
 
 -- of the pairs from machine a to the machines from c on, with others behind them
 abbrev pub row_at : ℕ → ℕ → ℕ → List Two → List Two
 row_at n a c rest = pairs_with a (drop c (below n)) ++ rest
 
 abbrev pub RowIs : ℕ → WorldState → ℕ → ℕ → List Two → Option (ℕ × ℕ) → Type 0
-RowIs n w a c rest None = next_delivery (undelivered w) (row_at n a c rest) ≡ next_delivery (undelivered w) rest
-RowIs n w a c rest (Some p) = next_delivery (undelivered w) (row_at n a c rest) ≡ Some (step.Deliver a p.0 p.1, row_at n a p.0 rest)
+RowIs n w a c rest None = next_delivery (world_undelivered w) (row_at n a c rest) ≡ next_delivery (world_undelivered w) rest
+RowIs n w a c rest (Some p) = next_delivery (world_undelivered w) (row_at n a c rest) ≡ Some (step.Deliver a p.0 p.1, row_at n a p.0 rest)
 
 -- the first machine from this one on that takes its turn in a pass
 abbrev pub turn_at : ℕ → Option ℕ → Todo → Option Next
@@ -80,12 +80,12 @@ turn_at n None t = None
 turn_at n (Some k) t = Some (record { step = step.Turn k; left = record t { pairs = []; machines = drop (k + 1) (below n) } })
 
 abbrev pub FirstTurnIs : ℕ → WorldState → Pass → ℕ → Option ℕ → Type 0
-FirstTurnIs n w p m o = (t : Todo) → next_turn (takes_turn p (has_mail w)) t (drop m (below n)) ≡ turn_at n o t
+FirstTurnIs n w p m o = (t : Todo) → next_turn (takes_turn p (world_has_mail w)) t (drop m (below n)) ≡ turn_at n o t
 
 pub record TakesTurn (n : ℕ) (w : WorldState) (p : Pass) (m k : ℕ) : Type 0 where
   pub from : m ≤ k
   pub within : k < n
-  pub takes : takes_turn p (has_mail w) k ≡ true
+  pub takes : takes_turn p (world_has_mail w) k ≡ true
 
 -- a round isn't over before the turns
 abbrev pub RoundGoes : {A : Type 0} → Pass → Option A → Type 0
@@ -132,7 +132,7 @@ pub record IsFresh (n : ℕ) (w : WorldState) (a c k : ℕ) : Type 0 where
   pub from : a < n
   pub to : c < n
   pub apart : a ≢ c
-  pub first : undelivered w a c ≡ Some k
+  pub first : world_undelivered w a c ≡ Some k
   pub short : length (w.wires a c) < 2 ^ 64
 
 -- a settle goes on with a packet that was never delivered, or with the turn of a machine that has mail
@@ -142,7 +142,7 @@ IsSettling (Passing (Round k) place) = ⊥
 IsSettling (Passing Settle place) = ⊤
 
 abbrev pub SettleGoes : ℕ → WorldState → Cursor → Step → Cursor → Type 0
-SettleGoes n w c (step.Turn m) after = (m < n) × (has_mail w m ≡ true) × LeavesNoMore n w c (step.Turn m) after
+SettleGoes n w c (step.Turn m) after = (m < n) × (world_has_mail w m ≡ true) × LeavesNoMore n w c (step.Turn m) after
 SettleGoes n w c (step.Deliver a b k) after = IsFresh n w a b k × LeavesFewer n w c (step.Deliver a b k) after
 SettleGoes n w c (step.Tick m) after = ⊥
 SettleGoes n w c (step.Migrate p m) after = ⊥

@@ -29,7 +29,7 @@ use Rattle.dm_line.specs.declared.end_line.Doing.{Doing}
 use Rattle.dm_line.specs.declared.end_line.Doing.TheVariants as doing
 use Rattle.dm_line.specs.Todo.{or}
 use Rattle.dm_line.specs.Ends.{memory_lines, each_machine, home_with, list_line}
-use Rattle.dm_kernel.specs.State.{Known}
+use Rattle.dm_kernel.specs.State.{KernelKnown}
 use Rattle.dm_kernel.specs.declared.kernel.Servers.{Servers}
 use Rattle.dm_world.specs.World.{WorldState}
 
@@ -58,7 +58,7 @@ abbrev pub alive_lines : ℕ → Pid → Standing → Process → List EndLine
 alive_lines m p s x = end.Process p m s (doing_of x.status) x.stopped x.sent ∷ state_lines p x
 
 -- what a machine says of a process that is here, leaves or has ended there
-abbrev pub record_lines : ℕ → Pid → Option Known → Option (List EndLine)
+abbrev pub record_lines : ℕ → Pid → Option KernelKnown → Option (List EndLine)
 record_lines m p None = None
 record_lines m p (Some (Here x)) = Some (alive_lines m p standing.Here x)
 record_lines m p (Some (Frozen leaving)) = Some (alive_lines m p standing.Leaving leaving.process)
@@ -77,7 +77,7 @@ come_lines m p None = None
 come_lines m p (Some x) = Some (alive_lines m p standing.Arriving x)
 
 -- what a machine says of a process that it awaits
-abbrev pub awaited_lines : ℕ → Pid → Option Known → Option (List EndLine)
+abbrev pub awaited_lines : ℕ → Pid → Option KernelKnown → Option (List EndLine)
 awaited_lines m p None = None
 awaited_lines m p (Some (Here x)) = None
 awaited_lines m p (Some (Frozen leaving)) = None
@@ -88,7 +88,7 @@ awaited_lines m p (Some (Ended y)) = None
 abbrev pub names_of : List Message → List MsgId
 names_of ms = map (λ (m : Message). m.id) ms
 
-abbrev pub record_queue : Pid → Option Known → Option (List EndLine)
+abbrev pub record_queue : Pid → Option KernelKnown → Option (List EndLine)
 record_queue p None = None
 record_queue p (Some (Here x)) = Some (list_line (end.Queue p) (names_of x.queue))
 record_queue p (Some (Frozen leaving)) = Some (list_line (end.Queue p) (names_of leaving.process.queue))
@@ -97,7 +97,7 @@ record_queue p (Some (Forward machine moves)) = None
 record_queue p (Some (Ended y)) = None
 
 -- the messages that a machine holds for a process that leaves or comes
-abbrev pub held_for : Option Known → List Message
+abbrev pub held_for : Option KernelKnown → List Message
 held_for None = []
 held_for (Some (Here x)) = []
 held_for (Some (Frozen leaving)) = leaving.held

@@ -17,7 +17,7 @@ use Rattle.dm_node.specs.declared.stop.Stop.{Stop}
 use Rattle.dm_node.specs.declared.stop.Stop.TheVariants as stop
 use Rattle.dm_node.specs.declared.out.Out.{Out}
 use Rattle.dm_node.specs.declared.out.Out.TheVariants as out
-use Rattle.dm_node.specs.State.{NodeState, opened}
+use Rattle.dm_node.specs.State.{NodeState, node_opened}
 use Rattle.dm_node.specs.Out.{Acted, Acts, Goes, Worn}
 use Rattle.dm_node.specs.Meets as node
 use Rattle.dm_node.specs.Meets.{HasStreams, IsWornSome}
@@ -27,14 +27,14 @@ use Rattle.dm_world.specs.World.{WorldState, Happened, Says, WornOut}
 
 -- machine m of these; those past the end are as the boot file has them
 abbrev pub node_or : Boot → ℕ → Option Node → NodeState
-node_or b m None = opened b m
-node_or b m (Some n) = node.state_of n
+node_or b m None = node_opened b m
+node_or b m (Some n) = node.node_state n
 
 unfoldable pub node_in : Boot → List Node → ℕ → NodeState
 node_in b nodes m = node_or b m (slice_get nodes m)
 
-abbrev pub state_of : World → WorldState
-state_of w = record { nodes = node_in w.boot w.nodes.items; wires = packets_on w.wires; groups = w.groups }
+abbrev pub world_state : World → WorldState
+world_state w = record { nodes = node_in w.boot w.nodes.items; wires = packets_on w.wires; groups = w.groups }
 
 -- machine m has its streams and its number
 pub record IsNode (m : ℕ) (n : Node) : Type 0 where

@@ -12,21 +12,21 @@ abbrev pub first_unseen : ℕ → List Sent → Option ℕ
 first_unseen k [] = None
 first_unseen k (p ∷ ps) = if p.seen then first_unseen (k + 1) ps else Some k
 
-abbrev pub undelivered : WorldState → ℕ → ℕ → Option ℕ
-undelivered w a c = first_unseen 0 (w.wires a c)
+abbrev pub world_undelivered : WorldState → ℕ → ℕ → Option ℕ
+world_undelivered w a c = first_unseen 0 (w.wires a c)
 
 -- whether a machine's inbox has a message
-abbrev pub has_mail : WorldState → ℕ → Bool
-has_mail w m = nat_lt 0 (length (w.nodes m).kernel.inbox)
+abbrev pub world_has_mail : WorldState → ℕ → Bool
+world_has_mail w m = nat_lt 0 (length (w.nodes m).kernel.inbox)
 
 -- whether all that machine a gave to its stream to machine c, if that is another, is acknowledged
 abbrev pub all_heard : WorldState → ℕ → ℕ → Bool
 all_heard w a c = (a == c) || (length ((w.nodes a).senders c).unacked == 0)
 
 -- whether nothing is on its way between so many machines: no inbox has a message, and no stream keeps one
-abbrev pub is_quiet : ℕ → WorldState → Bool
-is_quiet n w = all_below n (λ a. not (has_mail w a) && all_below n (all_heard w a))
+abbrev pub world_is_quiet : ℕ → WorldState → Bool
+world_is_quiet n w = all_below n (λ a. not (world_has_mail w a) && all_below n (all_heard w a))
 
 -- with so many machines
-abbrev pub next_step : ℕ → WorldState → Todo → Option Next
-next_step machines w t = following machines (undelivered w) (has_mail w) (is_quiet machines w) t
+abbrev pub world_next_step : ℕ → WorldState → Todo → Option Next
+world_next_step machines w t = following machines (world_undelivered w) (world_has_mail w) (world_is_quiet machines w) t

@@ -18,7 +18,7 @@ use Rattle.dm_schedule.specs.declared.Step.TheVariants as step
 use Rattle.dm_line.specs.declared.line.Line.{Line}
 use Rattle.dm_line.specs.declared.line.Line.TheVariants as line
 use Rattle.dm_line.specs.Sets.{at_machine}
-use Rattle.dm_node.specs.State.{NodeState, opened}
+use Rattle.dm_node.specs.State.{NodeState, node_opened}
 use Rattle.dm_node.specs.Out.{Acted, Acts, Goes, Worn}
 use Rattle.dm_node.specs.Acts as node
 use Rattle.dm_node.specs.Wired.{Spoken, spoken}
@@ -73,4 +73,4 @@ world_step b w (step.Migrate p m) = turned w (step.Migrate p m) 0 (node.asks_mov
 
 -- the world as the boot file has it
 abbrev pub first_world : Boot → WorldState
-first_world b = record { nodes = opened b; wires = λ x y. []; groups = 0 }
+first_world b = record { nodes = node_opened b; wires = λ x y. []; groups = 0 }

@@ -3,8 +3,8 @@ ghost use Rattle.std.specs.Prelude.{◌≡◌, ◌∷◌, ◌+◌, ◌<◌, ◌�
 ghost use Rattle.dm_schedule.specs.declared.Directive.{Directive as TheDirective};
 ghost use Rattle.dm_line.specs.Todo.{Two, all_of, following, is_over, takes_turn};
 ghost use Rattle.dm_world.specs.Cursor.{Falls, FirstIs, FirstTurnIs, InPassIs, IsFresh, NextIs, NextPassIs, RoundGoes, RowIs, TakesTurn, pairs_at, todo_of};
-ghost use Rattle.dm_world.specs.Meets.{IsWorld, state_of};
-ghost use Rattle.dm_world.specs.Next.{has_mail, is_quiet};
+ghost use Rattle.dm_world.specs.Meets.{IsWorld, world_state};
+ghost use Rattle.dm_world.specs.Next.{world_has_mail, world_is_quiet};
 
 use crate::world::World;
 use dm_line::pass::Pass;
@@ -61,9 +61,9 @@ impl World {
     /// settle looks each time whether anything is on its way. It takes no memory.
     pub fn next(&self, cursor: Cursor) -> Option<(Step, Cursor)>
         requires { IsWorld self.now }
-        ensures next { (ds : List TheDirective) → NextIs (length self.now.boot.machines) (state_of self.now) cursor ds result }
+        ensures next { (ds : List TheDirective) → NextIs (length self.now.boot.machines) (world_state self.now) cursor ds result }
         // At most so many steps are left as `left` says; a settle delivers new packets, and lets machines with mail act.
-        ensures falls { IfSome result (λ r. Falls (length self.now.boot.machines) (state_of self.now) cursor r.0 r.1) }
+        ensures falls { IfSome result (λ r. Falls (length self.now.boot.machines) (world_state self.now) cursor r.0 r.1) }
     {
         match cursor {
             Cursor::One(step) => Some((step, Cursor::behind(Pass::Round(0)))),
@@ -74,8 +74,8 @@ impl World {
     /// What comes next of a pass from this place on, and of those behind it.
     fn next_of(&self, pass: Pass, place: Place) -> Option<(Step, Cursor)>
         requires { IsWorld self.now }
-        ensures next { (ds : List TheDirective) → NextIs (length self.now.boot.machines) (state_of self.now) (Cursor.Passing pass place) ds result }
-        ensures falls { IfSome result (λ r. Falls (length self.now.boot.machines) (state_of self.now) (Cursor.Passing pass place) r.0 r.1) }
+        ensures next { (ds : List TheDirective) → NextIs (length self.now.boot.machines) (world_state self.now) (Cursor.Passing pass place) ds result }
+        ensures falls { IfSome result (λ r. Falls (length self.now.boot.machines) (world_state self.now) (Cursor.Passing pass place) r.0 r.1) }
     {
         if self.is_over(pass) {
             return None;
@@ -89,7 +89,7 @@ impl World {
     /// Whether the directive of a pass is over in the midst of it: a settle is where nothing is on its way.
     fn is_over(&self, pass: Pass) -> bool
         requires { IsWorld self.now }
-        ensures { result ≡ is_over pass (is_quiet (length self.now.boot.machines) (state_of self.now)) }
+        ensures { result ≡ is_over pass (world_is_quiet (length self.now.boot.machines) (world_state self.now)) }
     {
         match pass {
             Pass::Round(_) => false,
@@ -100,8 +100,8 @@ impl World {
     /// What comes next where a pass is over, of those behind it.
     fn next_pass(&self, pass: Pass) -> Option<(Step, Cursor)>
         requires { IsWorld self.now }
-        ensures next { (ds : List TheDirective) → NextPassIs (length self.now.boot.machines) (state_of self.now) pass ds result }
-        ensures falls { IfSome result (λ r. Falls (length self.now.boot.machines) (state_of self.now) (Cursor.Passing pass Place.End) r.0 r.1) }
+        ensures next { (ds : List TheDirective) → NextPassIs (length self.now.boot.machines) (world_state self.now) pass ds result }
+        ensures falls { IfSome result (λ r. Falls (length self.now.boot.machines) (world_state self.now) (Cursor.Passing pass Place.End) r.0 r.1) }
     {
         match pass {
             Pass::Round(rounds) => self.next_round(rounds),
@@ -113,9 +113,9 @@ impl World {
     fn next_round(&self, rounds: u32) -> Option<(Step, Cursor)>
         requires { IsWorld self.now }
         ensures next { (ds : List TheDirective) →
-            NextPassIs (length self.now.boot.machines) (state_of self.now) (Pass.Round rounds) ds result }
+            NextPassIs (length self.now.boot.machines) (world_state self.now) (Pass.Round rounds) ds result }
         ensures falls { IfSome result
-            (λ r. Falls (length self.now.boot.machines) (state_of self.now) (Cursor.Passing (Pass.Round rounds) Place.End) r.0 r.1) }
+            (λ r. Falls (length self.now.boot.machines) (world_state self.now) (Cursor.Passing (Pass.Round rounds) Place.End) r.0 r.1) }
     {
         if rounds == 0 {
             None
@@ -127,8 +127,8 @@ impl World {
     /// What comes next of a pass from this place on.
     fn next_at(&self, pass: Pass, place: Place) -> Option<(Step, Cursor)>
         requires { IsWorld self.now }
-        ensures next { (ds : List TheDirective) → InPassIs (length self.now.boot.machines) (state_of self.now) pass place ds result }
-        ensures falls { IfSome result (λ r. Falls (length self.now.boot.machines) (state_of self.now) (Cursor.Passing pass place) r.0 r.1) }
+        ensures next { (ds : List TheDirective) → InPassIs (length self.now.boot.machines) (world_state self.now) pass place ds result }
+        ensures falls { IfSome result (λ r. Falls (length self.now.boot.machines) (world_state self.now) (Cursor.Passing pass place) r.0 r.1) }
     {
         match place {
             Place::Packets { from, to } => self.next_packet(pass, from, to),
@@ -141,10 +141,10 @@ impl World {
     fn next_packet(&self, pass: Pass, from: u8, to: u8) -> Option<(Step, Cursor)>
         requires { IsWorld self.now }
         ensures next { (ds : List TheDirective) →
-            InPassIs (length self.now.boot.machines) (state_of self.now) pass (Place.Packets from to) ds result }
+            InPassIs (length self.now.boot.machines) (world_state self.now) pass (Place.Packets from to) ds result }
         ensures goes { RoundGoes pass result }
         ensures falls { IfSome result
-            (λ r. Falls (length self.now.boot.machines) (state_of self.now) (Cursor.Passing pass (Place.Packets from to)) r.0 r.1) }
+            (λ r. Falls (length self.now.boot.machines) (world_state self.now) (Cursor.Passing pass (Place.Packets from to)) r.0 r.1) }
     {
         match self.first_packet(from, to) {
             Some((a, b, k)) => Some((
@@ -161,9 +161,9 @@ impl World {
     /// What comes next of a pass where the machines from `m` on are left.
     fn next_turn(&self, pass: Pass, m: u8) -> Option<(Step, Cursor)>
         requires { IsWorld self.now }
-        ensures next { (ds : List TheDirective) → InPassIs (length self.now.boot.machines) (state_of self.now) pass (Place.Turns m) ds result }
+        ensures next { (ds : List TheDirective) → InPassIs (length self.now.boot.machines) (world_state self.now) pass (Place.Turns m) ds result }
         ensures goes { m < length self.now.boot.machines → RoundGoes pass result }
-        ensures falls { IfSome result (λ r. Falls (length self.now.boot.machines) (state_of self.now) (Cursor.Passing pass (Place.Turns m)) r.0 r.1) }
+        ensures falls { IfSome result (λ r. Falls (length self.now.boot.machines) (world_state self.now) (Cursor.Passing pass (Place.Turns m)) r.0 r.1) }
     {
         match self.first_turn(pass, m) {
             Some(turn) => Some((
@@ -180,9 +180,9 @@ impl World {
     /// The first machine from `m` on that takes its turn in a pass.
     fn first_turn(&self, pass: Pass, m: u8) -> Option<u8>
         requires { IsWorld self.now }
-        ensures first { FirstTurnIs (length self.now.boot.machines) (state_of self.now) pass m result }
+        ensures first { FirstTurnIs (length self.now.boot.machines) (world_state self.now) pass m result }
         ensures goes { m < length self.now.boot.machines → RoundGoes pass result }
-        ensures takes { IfSome result (λ k. TakesTurn (length self.now.boot.machines) (state_of self.now) pass m k) }
+        ensures takes { IfSome result (λ k. TakesTurn (length self.now.boot.machines) (world_state self.now) pass m k) }
     {
         for k in m..self.machines() {
             if self.takes_turn(pass, k) {
@@ -196,7 +196,7 @@ impl World {
     fn takes_turn(&self, pass: Pass, m: u8) -> bool
         requires world { IsWorld self.now }
         requires within { m < length self.now.boot.machines }
-        ensures { result ≡ takes_turn pass (has_mail (state_of self.now)) m }
+        ensures { result ≡ takes_turn pass (world_has_mail (world_state self.now)) m }
     {
         match pass {
             Pass::Round(_) => true,
@@ -207,8 +207,8 @@ impl World {
     /// The first packet that was never delivered, of the pairs from this one on: its pair and its number.
     fn first_packet(&self, from: u8, to: u8) -> Option<(u8, u8, u64)>
         requires { IsWorld self.now }
-        ensures first { FirstIs (length self.now.boot.machines) (state_of self.now) (pairs_at (length self.now.boot.machines) from to) result }
-        ensures fresh { IfSome result (λ p. IsFresh (length self.now.boot.machines) (state_of self.now) p.0 p.1 p.2) }
+        ensures first { FirstIs (length self.now.boot.machines) (world_state self.now) (pairs_at (length self.now.boot.machines) from to) result }
+        ensures fresh { IfSome result (λ p. IsFresh (length self.now.boot.machines) (world_state self.now) p.0 p.1 p.2) }
     {
         let machines = self.machines();
         let mut to = to;
@@ -225,8 +225,8 @@ impl World {
     fn first_in_row(&self, from: u8, to: u8) -> Option<(u8, u64)>
         requires world { IsWorld self.now }
         requires from { from < length self.now.boot.machines }
-        ensures first { (rest : List Two) → RowIs (length self.now.boot.machines) (state_of self.now) from to rest result }
-        ensures fresh { IfSome result (λ p. IsFresh (length self.now.boot.machines) (state_of self.now) from p.0 p.1) }
+        ensures first { (rest : List Two) → RowIs (length self.now.boot.machines) (world_state self.now) from to rest result }
+        ensures fresh { IfSome result (λ p. IsFresh (length self.now.boot.machines) (world_state self.now) from p.0 p.1) }
     {
         if !self.wires.is_pending(from) {
             return None;

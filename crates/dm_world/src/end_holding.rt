@@ -4,7 +4,7 @@ ghost use Rattle.dm_records.specs.Records.{at};
 ghost use Rattle.dm_line.specs.Ends.{each_machine, home_with, list_line};
 ghost use Rattle.dm_line.specs.declared.end_line.EndLine.TheVariants as end;
 ghost use Rattle.dm_world.specs.Ends.{MayEnd, held_for, held_line, homes_with, names_of};
-ghost use Rattle.dm_world.specs.Meets.{IsWorld, state_of};
+ghost use Rattle.dm_world.specs.Meets.{IsWorld, world_state};
 
 use crate::end_messages::ids_of_held;
 use crate::world::World;
@@ -20,9 +20,9 @@ impl World {
     /// What each machine holds.
     pub(crate) fn say_holding(&self, lines: &mut Vec<EndLine>) -> Result<(), NoMemory>
         requires world { IsWorld self.now }
-        requires may { MayEnd (length self.now.boot.machines) (state_of self.now) }
+        requires may { MayEnd (length self.now.boot.machines) (world_state self.now) }
         ensures { OnOk result (lines.new.items ≡ lines.old.items ++
-            each_machine (λ m. homes_with (state_of self.now) (held_line (state_of self.now) m) (length self.now.boot.machines))
+            each_machine (λ m. homes_with (world_state self.now) (held_line (world_state self.now) m) (length self.now.boot.machines))
             (length self.now.boot.machines)) }
     {
         for m in 0..self.machines() {
@@ -34,10 +34,10 @@ impl World {
     /// What machine `m` holds, by the process's home and number.
     fn say_holding_on(&self, m: u8, lines: &mut Vec<EndLine>) -> Result<(), NoMemory>
         requires world { IsWorld self.now }
-        requires may { MayEnd (length self.now.boot.machines) (state_of self.now) }
+        requires may { MayEnd (length self.now.boot.machines) (world_state self.now) }
         requires within { m < length self.now.boot.machines }
         ensures { OnOk result (lines.new.items ≡ lines.old.items ++
-            homes_with (state_of self.now) (held_line (state_of self.now) m) (length self.now.boot.machines)) }
+            homes_with (world_state self.now) (held_line (world_state self.now) m) (length self.now.boot.machines)) }
     {
         for home in 0..self.machines() {
             self.say_holding_of(m, home, lines)?;
@@ -48,11 +48,11 @@ impl World {
     /// What machine `m` holds for processes of a home.
     fn say_holding_of(&self, m: u8, home: u8, lines: &mut Vec<EndLine>) -> Result<(), NoMemory>
         requires world { IsWorld self.now }
-        requires may { MayEnd (length self.now.boot.machines) (state_of self.now) }
+        requires may { MayEnd (length self.now.boot.machines) (world_state self.now) }
         requires within { m < length self.now.boot.machines }
         requires home { home < length self.now.boot.machines }
         ensures { OnOk result (lines.new.items ≡ lines.old.items ++
-            home_with (held_line (state_of self.now) m) home ((state_of self.now).nodes home).kernel.made) }
+            home_with (held_line (world_state self.now) m) home ((world_state self.now).nodes home).kernel.made) }
     {
         for place in 0..self.made(home) {
             let pid = Pid {
@@ -68,7 +68,7 @@ impl World {
     fn say_held(&self, m: u8, pid: Pid, lines: &mut Vec<EndLine>) -> Result<(), NoMemory>
         requires world { IsWorld self.now }
         requires within { m < length self.now.boot.machines }
-        ensures { OnOk result (lines.new.items ≡ lines.old.items ++ held_line (state_of self.now) m pid) }
+        ensures { OnOk result (lines.new.items ≡ lines.old.items ++ held_line (world_state self.now) m pid) }
     {
         say_held_here(self.machine(m), m, pid, lines)
     }

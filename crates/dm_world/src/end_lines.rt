@@ -6,7 +6,7 @@ ghost use Rattle.dm_node.specs.Meets.{HasStreams};
 ghost use Rattle.dm_line.specs.Ends.{each_machine, home_with, list_line};
 ghost use Rattle.dm_line.specs.declared.end_line.EndLine.TheVariants as end;
 ghost use Rattle.dm_world.specs.Ends.{MayEnd, SaysSome, awaited_lines, end_lines, first_awaited, first_had, homes_with, names_of, process_lines, queue_of, record_lines, record_queue, stream_line};
-ghost use Rattle.dm_world.specs.Meets.{IsWorld, state_of};
+ghost use Rattle.dm_world.specs.Meets.{IsWorld, world_state};
 
 use crate::end_messages::{ids_of, ids_of_inbox, untaken_ids};
 use crate::end_process::{say_alive, say_arriving};
@@ -25,8 +25,8 @@ impl World {
     /// The lines at the end of a run: where everything stands then.
     pub fn end_lines(&self) -> Result<Vec<EndLine>, NoMemory>
         requires world { IsWorld self.now }
-        requires may { MayEnd (length self.now.boot.machines) (state_of self.now) }
-        ensures { IfOk result (λ lines. lines.items ≡ end_lines (length self.now.boot.machines) (state_of self.now)) }
+        requires may { MayEnd (length self.now.boot.machines) (world_state self.now) }
+        ensures { IfOk result (λ lines. lines.items ≡ end_lines (length self.now.boot.machines) (world_state self.now)) }
     {
         let mut lines = Vec::new(self.alloc);
         push(&mut lines, EndLine::Final)?;
@@ -44,7 +44,7 @@ impl World {
     pub(crate) fn machine(&self, m: u8) -> &Node
         requires world { IsWorld self.now }
         requires within { m < length self.now.boot.machines }
-        ensures state { node.state_of result.now ≡ (state_of self.now).nodes m }
+        ensures state { node.node_state result.now ≡ (world_state self.now).nodes m }
         ensures streams { HasStreams result.now }
     {
         &self.nodes[usize::from(m)]
@@ -53,9 +53,9 @@ impl World {
     /// How many processes a machine made.
     pub(crate) fn made(&self, home: u8) -> u32
         requires world { IsWorld self.now }
-        requires may { MayEnd (length self.now.boot.machines) (state_of self.now) }
+        requires may { MayEnd (length self.now.boot.machines) (world_state self.now) }
         requires within { home < length self.now.boot.machines }
-        ensures all { result ≡ ((state_of self.now).nodes home).kernel.made }
+        ensures all { result ≡ ((world_state self.now).nodes home).kernel.made }
         ensures numbered { FIRST_NUMBER + result ≤ 2 ^ 32 }
     {
         self.machine(home).kernel().count_made()
@@ -64,9 +64,9 @@ impl World {
     /// The lines of each process that was ever made, by home and by number.
     fn say_processes(&self, lines: &mut Vec<EndLine>) -> Result<(), NoMemory>
         requires world { IsWorld self.now }
-        requires may { MayEnd (length self.now.boot.machines) (state_of self.now) }
+        requires may { MayEnd (length self.now.boot.machines) (world_state self.now) }
         ensures { OnOk result (lines.new.items ≡ lines.old.items ++
-            homes_with (state_of self.now) (process_lines (length self.now.boot.machines) (state_of self.now)) (length self.now.boot.machines)) }
+            homes_with (world_state self.now) (process_lines (length self.now.boot.machines) (world_state self.now)) (length self.now.boot.machines)) }
     {
         for home in 0..self.machines() {
             self.say_home(home, lines)?;
@@ -77,10 +77,10 @@ impl World {
     /// The lines of each process that a machine made.
     fn say_home(&self, home: u8, lines: &mut Vec<EndLine>) -> Result<(), NoMemory>
         requires world { IsWorld self.now }
-        requires may { MayEnd (length self.now.boot.machines) (state_of self.now) }
+        requires may { MayEnd (length self.now.boot.machines) (world_state self.now) }
         requires within { home < length self.now.boot.machines }
         ensures { OnOk result (lines.new.items ≡ lines.old.items ++
-            home_with (process_lines (length self.now.boot.machines) (state_of self.now)) home ((state_of self.now).nodes home).kernel.made) }
+            home_with (process_lines (length self.now.boot.machines) (world_state self.now)) home ((world_state self.now).nodes home).kernel.made) }
     {
         for place in 0..self.made(home) {
             let pid = Pid {
@@ -95,7 +95,7 @@ impl World {
     /// The lines of a process, by the first machine that has it, or else by the first that awaits it.
     fn say_process(&self, pid: Pid, lines: &mut Vec<EndLine>) -> Result<(), NoMemory>
         requires { IsWorld self.now }
-        ensures { OnOk result (lines.new.items ≡ lines.old.items ++ process_lines (length self.now.boot.machines) (state_of self.now) pid) }
+        ensures { OnOk result (lines.new.items ≡ lines.old.items ++ process_lines (length self.now.boot.machines) (world_state self.now) pid) }
     {
         if self.say_had(pid, lines)? {
             return Ok(());
@@ -107,7 +107,7 @@ impl World {
     /// The lines of a process, by the first machine that has it; whether there is one.
     fn say_had(&self, pid: Pid, lines: &mut Vec<EndLine>) -> Result<bool, NoMemory>
         requires { IsWorld self.now }
-        ensures { IfOk result (λ said. SaysSome said lines.old.items lines.new.items (first_had (length self.now.boot.machines) (state_of self.now) pid)) }
+        ensures { IfOk result (λ said. SaysSome said lines.old.items lines.new.items (first_had (length self.now.boot.machines) (world_state self.now) pid)) }
     {
         for m in 0..self.machines() {
             if say_known(self.machine(m), m, pid, lines)? {
@@ -120,7 +120,7 @@ impl World {
     /// The lines of a process, by the first machine that awaits it; whether there is one.
     fn say_awaited(&self, pid: Pid, lines: &mut Vec<EndLine>) -> Result<bool, NoMemory>
         requires { IsWorld self.now }
-        ensures { IfOk result (λ said. SaysSome said lines.old.items lines.new.items (first_awaited (length self.now.boot.machines) (state_of self.now) pid)) }
+        ensures { IfOk result (λ said. SaysSome said lines.old.items lines.new.items (first_awaited (length self.now.boot.machines) (world_state self.now) pid)) }
     {
         for m in 0..self.machines() {
             if say_expected(self.machine(m), m, pid, lines)? {
@@ -133,9 +133,9 @@ impl World {
     /// The queue of each process that was ever made, by home and by number.
     fn say_queues(&self, lines: &mut Vec<EndLine>) -> Result<(), NoMemory>
         requires world { IsWorld self.now }
-        requires may { MayEnd (length self.now.boot.machines) (state_of self.now) }
+        requires may { MayEnd (length self.now.boot.machines) (world_state self.now) }
         ensures { OnOk result (lines.new.items ≡ lines.old.items ++
-            homes_with (state_of self.now) (queue_of (length self.now.boot.machines) (state_of self.now)) (length self.now.boot.machines)) }
+            homes_with (world_state self.now) (queue_of (length self.now.boot.machines) (world_state self.now)) (length self.now.boot.machines)) }
     {
         for home in 0..self.machines() {
             self.say_home_queues(home, lines)?;
@@ -146,10 +146,10 @@ impl World {
     /// The queue of each process that a machine made.
     fn say_home_queues(&self, home: u8, lines: &mut Vec<EndLine>) -> Result<(), NoMemory>
         requires world { IsWorld self.now }
-        requires may { MayEnd (length self.now.boot.machines) (state_of self.now) }
+        requires may { MayEnd (length self.now.boot.machines) (world_state self.now) }
         requires within { home < length self.now.boot.machines }
         ensures { OnOk result (lines.new.items ≡ lines.old.items ++
-            home_with (queue_of (length self.now.boot.machines) (state_of self.now)) home ((state_of self.now).nodes home).kernel.made) }
+            home_with (queue_of (length self.now.boot.machines) (world_state self.now)) home ((world_state self.now).nodes home).kernel.made) }
     {
         for place in 0..self.made(home) {
             let pid = Pid {
@@ -164,7 +164,7 @@ impl World {
     /// The queue of a process, on the machine where it is.
     fn say_queue(&self, pid: Pid, lines: &mut Vec<EndLine>) -> Result<(), NoMemory>
         requires { IsWorld self.now }
-        ensures { OnOk result (lines.new.items ≡ lines.old.items ++ queue_of (length self.now.boot.machines) (state_of self.now) pid) }
+        ensures { OnOk result (lines.new.items ≡ lines.old.items ++ queue_of (length self.now.boot.machines) (world_state self.now) pid) }
     {
         for m in 0..self.machines() {
             if say_known_queue(self.machine(m), pid, lines)? {
@@ -178,7 +178,7 @@ impl World {
     fn say_inboxes(&self, lines: &mut Vec<EndLine>) -> Result<(), NoMemory>
         requires { IsWorld self.now }
         ensures { OnOk result (lines.new.items ≡ lines.old.items ++
-            each_machine (λ m. list_line (end.Inbox m) (names_of ((state_of self.now).nodes m).kernel.inbox)) (length self.now.boot.machines)) }
+            each_machine (λ m. list_line (end.Inbox m) (names_of ((world_state self.now).nodes m).kernel.inbox)) (length self.now.boot.machines)) }
     {
         for m in 0..self.machines() {
             say_inbox(self.machine(m), m, lines)?;
@@ -190,7 +190,7 @@ impl World {
     fn say_streams(&self, lines: &mut Vec<EndLine>) -> Result<(), NoMemory>
         requires { IsWorld self.now }
         ensures { OnOk result (lines.new.items ≡ lines.old.items ++
-            each_machine (λ a. each_machine (λ c. stream_line (state_of self.now) a c) (length self.now.boot.machines)) (length self.now.boot.machines)) }
+            each_machine (λ a. each_machine (λ c. stream_line (world_state self.now) a c) (length self.now.boot.machines)) (length self.now.boot.machines)) }
     {
         for from in 0..self.machines() {
             self.say_streams_from(from, lines)?;
@@ -203,7 +203,7 @@ impl World {
         requires world { IsWorld self.now }
         requires within { from < length self.now.boot.machines }
         ensures { OnOk result (lines.new.items ≡ lines.old.items ++
-            each_machine (λ c. stream_line (state_of self.now) from c) (length self.now.boot.machines)) }
+            each_machine (λ c. stream_line (world_state self.now) from c) (length self.now.boot.machines)) }
     {
         for to in 0..self.machines() {
             self.say_stream(from, to, lines)?;
@@ -216,7 +216,7 @@ impl World {
         requires world { IsWorld self.now }
         requires from { from < length self.now.boot.machines }
         requires to { to < length self.now.boot.machines }
-        ensures { OnOk result (lines.new.items ≡ lines.old.items ++ stream_line (state_of self.now) from to) }
+        ensures { OnOk result (lines.new.items ≡ lines.old.items ++ stream_line (world_state self.now) from to) }
     {
         if from == to {
             return Ok(());

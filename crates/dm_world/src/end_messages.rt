@@ -52,8 +52,8 @@ pub fn untaken_ids(sender: &Node, receiver: &Node, a: u8, c: u8) -> Result<Items
     requires from { a < MACHINES }
     requires to { c < MACHINES }
     ensures { IfOk result (λ ids. ids ≡
-        names_of (drop (((node.state_of receiver.now).receivers a).count - ((node.state_of sender.now).senders c).acked)
-        ((node.state_of sender.now).senders c).unacked)) }
+        names_of (drop (((node.node_state receiver.now).receivers a).count - ((node.node_state sender.now).senders c).acked)
+        ((node.node_state sender.now).senders c).unacked)) }
 {
     let stream = sender.sender(c);
     let taken = receiver.count(a).saturating_sub(stream.acknowledged());

@@ -1,8 +1,8 @@
 //! Whether anything is on its way.
 ghost use Rattle.std.specs.Prelude.{◌≡◌, ◌<◌, ◌==◌, length};
 ghost use Rattle.dm_line.specs.Each.{all_below};
-ghost use Rattle.dm_world.specs.Meets.{IsWorld, state_of};
-ghost use Rattle.dm_world.specs.Next.{all_heard, has_mail, is_quiet};
+ghost use Rattle.dm_world.specs.Meets.{IsWorld, world_state};
+ghost use Rattle.dm_world.specs.Next.{all_heard, world_has_mail, world_is_quiet};
 
 use crate::world::World;
 
@@ -11,7 +11,7 @@ impl World {
     /// acknowledged. It looks at each inbox and each stream once, and takes no memory.
     pub fn is_quiet(&self) -> bool
         requires { IsWorld self.now }
-        ensures { result ≡ is_quiet (length self.now.boot.machines) (state_of self.now) }
+        ensures { result ≡ world_is_quiet (length self.now.boot.machines) (world_state self.now) }
     {
         for m in 0..self.machines() {
             if self.has_mail(m) || !self.all_heard(m) {
@@ -25,7 +25,7 @@ impl World {
     pub(crate) fn has_mail(&self, m: u8) -> bool
         requires world { IsWorld self.now }
         requires within { m < length self.now.boot.machines }
-        ensures { result ≡ has_mail (state_of self.now) m }
+        ensures { result ≡ world_has_mail (world_state self.now) m }
     {
         self.machine(m).kernel().inbox().len() > 0
     }
@@ -34,7 +34,7 @@ impl World {
     fn all_heard(&self, m: u8) -> bool
         requires world { IsWorld self.now }
         requires within { m < length self.now.boot.machines }
-        ensures { result ≡ all_below (length self.now.boot.machines) (all_heard (state_of self.now) m) }
+        ensures { result ≡ all_below (length self.now.boot.machines) (all_heard (world_state self.now) m) }
     {
         for to in 0..self.machines() {
             if m != to && !self.is_heard(m, to) {
@@ -49,7 +49,7 @@ impl World {
         requires world { IsWorld self.now }
         requires within { m < length self.now.boot.machines }
         requires to { to < length self.now.boot.machines }
-        ensures { result ≡ (length (((state_of self.now).nodes m).senders to).unacked == 0) }
+        ensures { result ≡ (length (((world_state self.now).nodes m).senders to).unacked == 0) }
     {
         let sender = self.machine(m).sender(to);
         sender.given() == sender.acknowledged()

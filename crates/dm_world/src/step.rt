@@ -16,7 +16,7 @@ ghost use Rattle.dm_node.specs.Wired.{spoken};
 ghost use Rattle.dm_line.specs.declared.line.Line.TheVariants as line;
 ghost use Rattle.dm_world.specs.Local.{ActsAlone, acts_on};
 ghost use Rattle.dm_world.specs.May.{MayDeliver, MayStep};
-ghost use Rattle.dm_world.specs.Meets.{ActedAt, AreNodes, IsSendable, IsWorld, TurnAnswers, node_in, state_of};
+ghost use Rattle.dm_world.specs.Meets.{ActedAt, AreNodes, IsSendable, IsWorld, TurnAnswers, node_in, world_state};
 ghost use Rattle.dm_world.specs.Readable.{AreReadBack};
 ghost use Rattle.dm_world.specs.Stepped.{StepMeets};
 
@@ -39,10 +39,10 @@ impl World {
     pub fn step(&mut self, step: &Step) -> Result<Vec<Line>, Stop>
         requires world { IsWorld self.old }
         requires running { self.old.stopped ≡ false }
-        requires may { MayStep self.old.boot (state_of self.old) step.now }
+        requires may { MayStep self.old.boot (world_state self.old) step.now }
         requires groups { self.old.groups < 2 ^ 127 }
         ensures meets { StepMeets self.old self.new step.now result }
-        ensures alone { OnOk result (ActsAlone (acts_on step.now) (state_of self.old) (state_of self.new)) }
+        ensures alone { OnOk result (ActsAlone (acts_on step.now) (world_state self.old) (world_state self.new)) }
         ensures running { OnOk result (self.new.stopped ≡ false) }
         ensures stopped { OnErr result (self.new.stopped ≡ true) }
     {
@@ -58,7 +58,7 @@ impl World {
     /// Lets the machine of a directive act.
     fn act(&mut self, step: &Step) -> Result<Vec<Line>, Stop>
         requires world { IsWorld self.old }
-        requires may { MayStep self.old.boot (state_of self.old) step.now }
+        requires may { MayStep self.old.boot (world_state self.old) step.now }
         requires groups { self.old.groups < 2 ^ 127 }
         ensures meets { StepMeets self.old self.new step.now result }
         ensures stopped { self.new.stopped ≡ self.old.stopped }
@@ -74,7 +74,7 @@ impl World {
     /// A machine takes a turn.
     fn turn(&mut self, m: u8) -> Result<Vec<Line>, Stop>
         requires world { IsWorld self.old }
-        requires may { MayStep self.old.boot (state_of self.old) (directive.Turn m) }
+        requires may { MayStep self.old.boot (world_state self.old) (directive.Turn m) }
         requires groups { self.old.groups < 2 ^ 127 }
         ensures meets { StepMeets self.old self.new (directive.Turn m) result }
         ensures stopped { self.new.stopped ≡ self.old.stopped }
@@ -88,7 +88,7 @@ impl World {
     /// The manager, on machine 0, is asked to have a process move.
     fn ask_move(&mut self, pid: Pid, to: u8) -> Result<Vec<Line>, Stop>
         requires world { IsWorld self.old }
-        requires may { MayStep self.old.boot (state_of self.old) (directive.Migrate pid to) }
+        requires may { MayStep self.old.boot (world_state self.old) (directive.Migrate pid to) }
         requires groups { self.old.groups < 2 ^ 127 }
         ensures meets { StepMeets self.old self.new (directive.Migrate pid to) result }
         ensures stopped { self.new.stopped ≡ self.old.stopped }
@@ -102,7 +102,7 @@ impl World {
     /// A machine sends again what is out and not acknowledged.
     fn tick(&mut self, m: u8) -> Result<Vec<Line>, Stop>
         requires world { IsWorld self.old }
-        requires may { MayStep self.old.boot (state_of self.old) (directive.Tick m) }
+        requires may { MayStep self.old.boot (world_state self.old) (directive.Tick m) }
         requires groups { self.old.groups < 2 ^ 127 }
         ensures meets { StepMeets self.old self.new (directive.Tick m) result }
         ensures stopped { self.new.stopped ≡ self.old.stopped }
@@ -116,7 +116,7 @@ impl World {
     /// A packet arrives, if there is one with this number.
     fn deliver(&mut self, a: u8, b: u8, k: u64) -> Result<Vec<Line>, Stop>
         requires world { IsWorld self.old }
-        requires may { MayStep self.old.boot (state_of self.old) (directive.Deliver a b k) }
+        requires may { MayStep self.old.boot (world_state self.old) (directive.Deliver a b k) }
         requires groups { self.old.groups < 2 ^ 127 }
         ensures meets { StepMeets self.old self.new (directive.Deliver a b k) result }
         ensures stopped { self.new.stopped ≡ self.old.stopped }
@@ -130,7 +130,7 @@ impl World {
     /// The packet with this number arrives.
     fn take(&mut self, a: u8, b: u8, k: u64, packet: Envelope) -> Result<Vec<Line>, Stop>
         requires world { IsWorld self.old }
-        requires may { MayStep self.old.boot (state_of self.old) (directive.Deliver a b k) }
+        requires may { MayStep self.old.boot (world_state self.old) (directive.Deliver a b k) }
         requires groups { self.old.groups < 2 ^ 127 }
         requires packet { option_map packet_of (bytes_at (packets_on self.old.wires a b) k) ≡ Some (Ok packet) }
         ensures meets { StepMeets self.old self.new (directive.Deliver a b k) result }

@@ -3,8 +3,8 @@ ghost use Rattle.std.specs.Prelude.{◌≡◌, ◌<◌, ◌≤◌, ℕ, IfOk, So
 ghost use Rattle.dm_onekernel.specs.Boot.{IsValid};
 ghost use Rattle.dm_node.specs.declared.node.Node.{Node as TheNode};
 ghost use Rattle.dm_node.specs.Meets as node;
-ghost use Rattle.dm_node.specs.State.{opened};
-ghost use Rattle.dm_world.specs.Meets.{AreNodes, IsNode, IsWorld, state_of};
+ghost use Rattle.dm_node.specs.State.{node_opened};
+ghost use Rattle.dm_world.specs.Meets.{AreNodes, IsNode, IsWorld, world_state};
 ghost use Rattle.dm_world.specs.World.{first_world};
 
 use dm_line::line::Line;
@@ -37,7 +37,7 @@ impl World {
     /// The system of a boot file, before its first directive.
     pub fn boot(alloc: Global, boot: Boot) -> Result<World, NoMemory>
         requires { IsValid boot }
-        ensures state { IfOk result (λ w. state_of w ≡ first_world boot) }
+        ensures state { IfOk result (λ w. world_state w ≡ first_world boot) }
         ensures world { IfOk result IsWorld }
         ensures boot { IfOk result (λ w. w.boot ≡ boot) }
         ensures running { IfOk result (λ w. w.stopped ≡ false) }
@@ -77,7 +77,7 @@ fn open_all(alloc: Global, boot: &Boot) -> Result<Vec<Node>, NoMemory>
     requires { IsValid boot.now }
     ensures size { IfOk result (λ nodes. length nodes.items ≡ length boot.now.machines) }
     ensures nodes { IfOk result (λ nodes. AreNodes nodes.items) }
-    ensures opened { IfOk result (λ nodes. (m : ℕ) (n : TheNode) → slice_get nodes.items m ≡ Some n → node.state_of n ≡ opened boot.now m) }
+    ensures opened { IfOk result (λ nodes. (m : ℕ) (n : TheNode) → slice_get nodes.items m ≡ Some n → node.node_state n ≡ node_opened boot.now m) }
 {
     let machines = boot.machines.len() as u8;
     let mut nodes = Vec::new(alloc);

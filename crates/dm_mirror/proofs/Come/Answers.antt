@@ -1,8 +1,8 @@
 -- A machine is asked to take a process: there is room for it, or what is free is said.
 use Rattle.dm_mirror.proofs.Names.{◌≡◌, ◌≢◌, ℕ, ◌+◌, ◌/◌, ◌<◌, ◌==◌, ◌&&◌, Bool, true, false, nat_le, List, [], length, map, refl, ap, ◌∙◌, sym, subst, inl, inr, arith, if◌then◌else◌, slice_get, Option, None, Some, cases_Bool, false≢true}
 use Rattle.dm_mirror.proofs.Names.{All-nil, Pid, pid_eq, Message, MsgId, What, Record, Line, Stage, MessageKind, kind_of, IsLawfulMessage, Process, Taken, free_blocks, free_slots, with_reserved, incoming_of, Chunk, expected, CanMove}
-use Rattle.dm_mirror.proofs.Names.{HasChunk, state_of, coming, Boot, BootMachine, slots_of, plain_process, PlainProcess, pid_eq-is, pid_eq-same, kernel_told, Moves, comes, knows, leaves, Point, Room, fits, free_room, taken_at, taken_by}
-use Rattle.dm_mirror.proofs.Names.{at_pid, at_record, Known, Unknown, Frozen, Incoming, Forward, front_of, without_first, is_server, has_nothing_held, Placed, room_of, accepts, with_expected, kernel_handles, KernelState}
+use Rattle.dm_mirror.proofs.Names.{HasChunk, state_of, coming, Boot, BootMachine, slots_of, plain_process, PlainProcess, pid_eq-is, pid_eq-same, kernel_told, Moves, kind_comes, knows, kind_leaves, Point, Room, fits, free_room, taken_at}
+use Rattle.dm_mirror.proofs.Names.{taken_by, at_pid, at_record, Known, Unknown, Frozen, Incoming, Forward, front_of, without_first, is_server, has_nothing_held, Placed, room_of, accepts, with_expected, kernel_handles, KernelState}
 use Rattle.dm_mirror.proofs.Names.{KnownStands, KernelStands, RoomStands, AllRecords, Carries, source_knows, and_false}
 use Rattle.dm_room.specs.Room as room_
 use Rattle.dm_onekernel.specs.Step as kernel
@@ -22,14 +22,14 @@ room_as : (t : Taken) (r : Room) (n : ℕ) → (free_slots t ≡ r.slots) × (fr
 room_as t r n h = λ i. nat_le 1 (h.0 i) && nat_le n (h.1 i)
 
 -- the machine that it leaves holds it back
-frozen_is : (d : ℕ) (n : Known) → leaves MessageKind.Ask d n ≡ true → (to : ℕ) × (n ≡ Frozen to)
+frozen_is : (d : ℕ) (n : Known) → kind_leaves MessageKind.Ask d n ≡ true → (to : ℕ) × (n ≡ Frozen to)
 frozen_is d (Frozen to) e = (to, refl)
 frozen_is d _ e = absurd (false≢true e)
 
 frozen_unknown : (to : ℕ) → Frozen to ≢ Unknown
 frozen_unknown to e = cc
 
-leaves_by : (pt : Point) (l : Placed) (p : Pid) (queue held_ : List MsgId) (to : ℕ) (r : Option machine.Known) → KnownStands pt l p queue held_ (Frozen to) r → (x : Process) × (q : List Message) × (l.processes p ≡ Some (record x { queue = q })) × CanMove x
+leaves_by : (pt : Point) (l : Placed) (p : Pid) (queue held_ : List MsgId) (to : ℕ) (r : Option machine.KernelKnown) → KnownStands pt l p queue held_ (Frozen to) r → (x : Process) × (q : List Message) × (l.processes p ≡ Some (record x { queue = q })) × CanMove x
 leaves_by pt l p queue held_ to (Some (Record.Frozen d)) h = (d.process, h.here.0.0, h.here.0.1, h.whole)
 leaves_by pt l p queue held_ to _ h = absurd h
 
@@ -70,7 +70,7 @@ record Absent (n : Known) : Type 0 where
   held : has_nothing_held n ≡ true
   room : rule.takes_room n ≡ 0
 
-absent : (s : ℕ) (n : Known) → comes MessageKind.Ask s n ≡ true → Absent n
+absent : (s : ℕ) (n : Known) → kind_comes MessageKind.Ask s n ≡ true → Absent n
 absent s Unknown e = record { held = refl; room = refl }
 absent s (Forward at_ moves) e = record { held = refl; room = refl }
 absent s _ e = absurd (false≢true e)
@@ -146,7 +146,7 @@ accepts_row b m pt l records k y p c a is handles some_ whole table =
     let v = pt.view in
     let x = a.process in
     let r = free_room b pt m in
-    let none = absent a.source (v.known m p) (ap (λ (j : MessageKind). comes j a.source (v.known m p)) (sym is) ∙ comes_known b m pt l k y p a) in
+    let none = absent a.source (v.known m p) (ap (λ (j : MessageKind). kind_comes j a.source (v.known m p)) (sym is) ∙ comes_known b m pt l k y p a) in
     let box = without_first (v.inbox m) in
     let from = front_of (v.inbox m) in
     let now = at_record v.known m p (Incoming from) in
@@ -194,7 +194,7 @@ accepts_row b m pt l records k y p c a is handles some_ whole table =
       plain = refl;
       encloses = refl;
       gives = λ w i q. refl;
-      carries = subst (λ (o : Option machine.Known). Carries p x (asked p) (incoming_of o) (What.PullState p 0)) (sym there)
+      carries = subst (λ (o : Option machine.KernelKnown). Carries p x (asked p) (incoming_of o) (What.PullState p 0)) (sym there)
           (refl, (one, first), refl);
     })
 

@@ -26,7 +26,7 @@ before b m pt l records k y p c a w late wants =
     let e = expects b m pt l records k y p c a late in
     let h = e.comes_ in
     let same : h.process ≡ a.process = same_process h.process a.process (sym h.there ∙ a.there) in
-    let is_wanted : e.arrival.wanted ≡ w = subst (λ (o : Option machine.Known). Wants (incoming_of o) w) e.is wants in
+    let is_wanted : e.arrival.wanted ≡ w = subst (λ (o : Option machine.KernelKnown). Wants (incoming_of o) w) e.is wants in
     search (subst (λ (z : Process). CanMove (record z { queue = [] })) same h.whole, h.pieces ∙ (λ i. coming (same i) None e.arrival.held (is_wanted i)))
 
 asked_more : (f : Pid → ℕ) (p : Pid) (n : ℕ) → at_pid f p n p ≡ n

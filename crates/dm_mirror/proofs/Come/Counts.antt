@@ -2,7 +2,7 @@
 use Rattle.dm_mirror.proofs.Names.{◌≡◌, ℕ, ◌+◌, ◌*◌, ◌/◌, ◌<◌, ◌≤◌, ◌==◌, Bool, true, false, not, List, [], ◌∷◌, ◌++◌, length, map, refl, ap, ◌∙◌, sym, nat_lt, nat_le, arith, if◌then◌else◌, option_map, flat_map, Option, None, Some}
 use Rattle.dm_mirror.proofs.Names.{length-append, flat_map-cons, nat_tests, Link, plain_link, Process, IsLawfulProcess, Status, number, Shell, registers, shell_of, spell_status, mask_of, spell_slot, numbers_size, Chunk, Block, Nothing}
 use Rattle.dm_mirror.proofs.Names.{after_block, after_chunk, is_last, state_of, HasPiece, plain_process, plain_status, chunks_of, link_size, links_size, pieces_of, state_size, status_size, IsAsked, chunks}
-use Rattle.dm_statebytes.specs.Shell.{front, front_of, spelling}
+use Rattle.dm_statebytes.specs.Shell.{front, shell_front, shell_spelling}
 use Rattle.dm_rule.proofs.QuietTests.{eq_is}
 
 -- the bytes of a status, of the links, and of what stands before them
@@ -24,11 +24,11 @@ registers_length : (xs : List ℕ) → length xs ≡ 16 → length (registers.sp
 unfolding registers
 registers_length xs e = omega (arith, e, numbers_size xs)
 
-front_length : (s : Shell) → length s.regs.r ≡ 16 → length (front.spell (front_of s)) ≡ 86 + status_size (plain_status s.status)
+front_length : (s : Shell) → length s.regs.r ≡ 16 → length (front.spell (shell_front s)) ≡ 86 + status_size (plain_status s.status)
 front_length s sixteen = grind (arith, nat_tests, length-append, registers_length, status_length)
 
-shell_length : (s : Shell) → length s.regs.r ≡ 16 → length (spelling s) ≡ 102 + status_size (plain_status s.status) + links_size (map (option_map plain_link) s.table)
-unfolding spelling
+shell_length : (s : Shell) → length s.regs.r ≡ 16 → length (shell_spelling s) ≡ 102 + status_size (plain_status s.status) + links_size (map (option_map plain_link) s.table)
+unfolding shell_spelling
 shell_length s sixteen = grind (arith, nat_tests, flat_map, length-append, front_length, slots_length)
 
 -- the state bytes of a process are as many as the rule says

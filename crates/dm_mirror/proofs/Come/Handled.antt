@@ -1,6 +1,6 @@
 -- What a machine and the rule do with a message about a process that comes, and where the lines of it lead.
 use Rattle.dm_mirror.proofs.Names.{◌≡◌, ℕ, ◌+◌, ◌/◌, ◌==◌, Bool, true, false, List, [], ◌∷◌, length, refl, ap, ◌∙◌, sym, subst, if◌then◌else◌, Option, Some, false≢true, Pid, Message, MsgId, MessageKind, Record, Step, Line, Stage, arith, nat_tests}
-use Rattle.dm_mirror.proofs.Names.{kind_of, Arrival, Boot, bind, plain_process, PlainProcess, id_eq-same, kernel_told, Part, comes, is_away, is_between, is_early, leaves, Point, after, fits, free_room, kernel_hears, outcome, at_pid}
+use Rattle.dm_mirror.proofs.Names.{kind_of, Arrival, Boot, bind, plain_process, PlainProcess, id_eq-same, kernel_told, Part, kind_comes, is_away, is_between, is_early, kind_leaves, Point, after, fits, free_room, kernel_hears, outcome, at_pid}
 use Rattle.dm_mirror.proofs.Names.{at_record, without_front, About, Known, Incoming, Of, Told, after_proto, front_of, handled, without_first, Placed, kernel_handles, KernelState, Turned, turn, turns, about_of}
 use Rattle.dm_mirror.proofs.Names.{ComesStand, KnownStands, AllRecords, apart_is, expects_is}
 use Rattle.dm_rule.specs.Rule as rule
@@ -17,19 +17,19 @@ pub outcome_kernel : (b : Boot) (m : ℕ) (pt : Point) (l : Placed) (records : A
     → kernel_told pt m y.id p (fits (free_room b pt m) (length a.process.memory / 256)) (plain_process a.process) (kind_of y.what) ≡ o → outcome b pt (Step.Turn m) ≡ o
 outcome_kernel b m pt l records k y p c a o e = search if_true
 
-pub comes_known : (b : Boot) (m : ℕ) (pt : Point) (l : Placed) (k : KernelState) (y : Message) (p : Pid) (a : Arrives b m pt l k y p) → comes (kind_of y.what) a.source (pt.view.known m p) ≡ true
+pub comes_known : (b : Boot) (m : ℕ) (pt : Point) (l : Placed) (k : KernelState) (y : Message) (p : Pid) (a : Arrives b m pt l k y p) → kind_comes (kind_of y.what) a.source (pt.view.known m p) ≡ true
 comes_known b m pt l k y p a = grind (arith, nat_tests, apart_is, eq_self)
 
 pub known_incoming : (b : Boot) (m : ℕ) (pt : Point) (l : Placed) (k : KernelState) (y : Message) (p : Pid) (a : Arrives b m pt l k y p) → is_early (kind_of y.what) ≡ false → pt.view.known m p ≡ Incoming a.source
 known_incoming b m pt l k y p a late = expects_is (kind_of y.what) a.source (pt.view.known m p) late (comes_known b m pt l k y p a)
 
 -- it expects the process
-pub record Expects (l : Placed) (p : Pid) (held_ : List MsgId) (r : Option machine.Known) : Type 0 where
+pub record Expects (l : Placed) (p : Pid) (held_ : List MsgId) (r : Option machine.KernelKnown) : Type 0 where
   pub arrival : Arrival
   pub is : r ≡ Some (Record.Incoming arrival)
   pub comes_ : ComesStand l p held_ arrival
 
-expects_by : (pt : Point) (l : Placed) (p : Pid) (queue held_ : List MsgId) (s : ℕ) (r : Option machine.Known) → KnownStands pt l p queue held_ (Incoming s) r → Expects l p held_ r
+expects_by : (pt : Point) (l : Placed) (p : Pid) (queue held_ : List MsgId) (s : ℕ) (r : Option machine.KernelKnown) → KnownStands pt l p queue held_ (Incoming s) r → Expects l p held_ r
 expects_by pt l p queue held_ s (Some (Record.Incoming a)) h = record { arrival = a; is = refl; comes_ = h }
 expects_by pt l p queue held_ s _ h = absurd h
 

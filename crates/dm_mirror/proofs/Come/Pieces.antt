@@ -67,10 +67,10 @@ pub record Piece (b : Boot) (m : ℕ) (pt : Point) (l : Placed) (records : AllRe
   pub asked_off : (q : Pid) → pid_eq p q ≡ false → asked q ≡ pt.view.asked q
   pub is_asked : IsAsked a.process (asked p) wanted
 
-set_self : (f : Pid → Option machine.Known) (p : Pid) (r : machine.Known) → with_record f p r p ≡ Some r
+set_self : (f : Pid → Option machine.KernelKnown) (p : Pid) (r : machine.KernelKnown) → with_record f p r p ≡ Some r
 set_self f p r = ap (λ (d : Bool). if d then Some r else f p) (pid_eq-same p)
 
-set_off : (f : Pid → Option machine.Known) (p q : Pid) (r : machine.Known) → pid_eq p q ≡ false → with_record f p r q ≡ f q
+set_off : (f : Pid → Option machine.KernelKnown) (p q : Pid) (r : machine.KernelKnown) → pid_eq p q ≡ false → with_record f p r q ≡ f q
 set_off f p q r off = ap (λ (d : Bool). if d then Some r else f q) off
 
 pub turns_piece : (b : Boot) (m : ℕ) (pt : Point) (l : Placed) (records : AllRecords) (k : KernelState) (y : Message) (p : Pid) (c : Comes b m pt l records k y p) (a : Arrives b m pt l k y p) → Piece b m pt l records k y p c a → TurnsAt b m pt l records k
@@ -88,7 +88,7 @@ turns_piece b m pt l records k y p c a h =
       asked = h.asked;
       turn = turn_kernel b m pt l records k y p c a (Some (record { state = state; parts = part.Says h.line ∷ part.Routes (machine.own k y.sender (pull a.process.pid h.wanted)) ∷ [] }))
           (h.takes
-          ∙ ap (λ (o : Option machine.Known). bind (incoming_of o) (takes_piece s y p)) h.is
+          ∙ ap (λ (o : Option machine.KernelKnown). bind (incoming_of o) (takes_piece s y p)) h.is
           ∙ ap (took_piece s y p) h.took
           ∙ ap (λ (x : Line). Some (record { state = state; parts = part.Says x ∷ part.Routes (machine.own k y.sender (pull a.process.pid h.wanted)) ∷ [] })) h.says);
       outcome = outcome_kernel b m pt l records k y p c a (Some (Part.Says h.line ∷ to_kernel (kind_of (pull a.process.pid h.wanted)) y.id.from.home ∷ [])) h.told;
@@ -115,6 +115,6 @@ turns_piece b m pt l records k y p c a h =
       plain = pull_plain a.process.pid h.wanted;
       encloses = pull_encloses a.process.pid h.wanted;
       gives = λ v i q. pull_gives a.process.pid h.wanted pt.kernel v pt.addresses i q;
-      carries = subst (λ (o : Option machine.Known). Carries p a.process (h.asked p) (incoming_of o) (pull a.process.pid h.wanted)) (sym (set_self k.records p (Record.Incoming now)))
+      carries = subst (λ (o : Option machine.KernelKnown). Carries p a.process (h.asked p) (incoming_of o) (pull a.process.pid h.wanted)) (sym (set_self k.records p (Record.Incoming now)))
           (pull_carries p a.process (h.asked p) h.arrival.held h.wanted a.named h.is_asked);
     })

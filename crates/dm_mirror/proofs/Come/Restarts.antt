@@ -1,7 +1,7 @@
 -- A process that has come goes on: it is here, at the ring's back, and what was held for it comes before the inbox.
 use Rattle.dm_mirror.proofs.Names.{◌≡◌, ◌≢◌, ◌⊎◌, ℕ, ◌+◌, ◌/◌, ◌≤◌, ◌==◌, ◌&&◌, Bool, true, false, List, [], ◌∷◌, ◌++◌, length, map, refl, ap, ◌∙◌, sym, subst, inl, inr, arith, if◌then◌else◌, slice_get, Option, None, Some, cases_Bool, nat_tests}
 use Rattle.dm_mirror.proofs.Names.{false≢true, Pid, pid_eq, Message, MsgId, What, Record, Line, Stage, Part, MessageKind, kind_of, Process, incoming_of, with_record, Nothing, restarted, ComesByPieces, by_pieces, Boot, bind, plain_process}
-use Rattle.dm_mirror.proofs.Names.{pid_eq-is, pid_eq-same, kernel_told, Moves, comes, is_away, is_early, knows, leaves, Point, moved, Room, fits, free_room, taken_at, taken_by, at_machine, at_record, Spot, Held, Inbox, standing, times}
+use Rattle.dm_mirror.proofs.Names.{pid_eq-is, pid_eq-same, kernel_told, Moves, kind_comes, is_away, is_early, knows, kind_leaves, Point, moved, Room, fits, free_room, taken_at, taken_by, at_machine, at_record, Spot, Held, Inbox, standing, times}
 use Rattle.dm_mirror.proofs.Names.{Known, Unknown, Here, Frozen, Incoming, Forward, Ended, Of, View, without_first, once_at, times-append, is_server, has_no_queue, Placed, restarted_mirrors, mirrors_view, room_of, restarts, restarts_as}
 use Rattle.dm_mirror.proofs.Names.{kernel_handles, KernelState, AreMessages, KnownStands, KernelStands, RoomStands, AllRecords, Carries, TokensStand, destination_of, and_false, least_of, at_record_at}
 use Rattle.dm_migrate.specs.Way as way
@@ -22,7 +22,7 @@ abbrev pub back_point : Point → ℕ → Pid → Point
 back_point pt m p = moved (begun pt m) (Line.Migration Stage.Restarted p) pt.kernel
 
 -- what is known of another process
-known_apart : (pt next : Point) (l placed : Placed) (p : Pid) (queue held_ : List MsgId) (k : Known) (r : Option machine.Known) → placed.processes p ≡ l.processes p → placed.bag ≡ l.bag → next.kernel.processes p ≡ pt.kernel.processes p
+known_apart : (pt next : Point) (l placed : Placed) (p : Pid) (queue held_ : List MsgId) (k : Known) (r : Option machine.KernelKnown) → placed.processes p ≡ l.processes p → placed.bag ≡ l.bag → next.kernel.processes p ≡ pt.kernel.processes p
     → KnownStands pt l p queue held_ k r → KnownStands next placed p queue held_ k r
 known_apart pt next l placed p queue held_ Unknown None same bag life h = tt
 known_apart pt next l placed p queue held_ Here (Some (Record.Here x)) same bag life h = ((h.0.0, same ∙ h.0.1), ap (λ f. map f queue) bag ∙ h.1)
@@ -31,7 +31,7 @@ known_apart pt next l placed p queue held_ (Frozen to) (Some (Record.Frozen d)) 
 known_apart pt next l placed p queue held_ (Incoming from) (Some (Record.Incoming a)) same bag life h =
     record { process = h.process; there = same ∙ h.there; whole = h.whole; pieces = h.pieces; held = ap (λ f. map f held_) bag ∙ h.held }
 known_apart pt next l placed p queue held_ (Forward at_ moves) (Some (Record.Forward to count)) same bag life h = h
-known_apart pt next l placed p queue held_ Ended (Some (Record.Ended y)) same bag life h = ap kernel.ended life ∙ h
+known_apart pt next l placed p queue held_ Ended (Some (Record.Ended y)) same bag life h = ap kernel.why_ended life ∙ h
 known_apart pt next l placed p queue held_ k r same bag life h = absurd h
 
 record_off : {X : Type 0} (f : ℕ → Pid → X) (m n : ℕ) (p q : Pid) (x : X) → pid_eq p q ≡ false → at_record f m p x n q ≡ f n q
@@ -47,7 +47,7 @@ set_self : {X : Type 0} (f : Pid → X) (p : Pid) (x : X) → (if pid_eq p p the
 set_self f p x = ap (λ (d : Bool). if d then x else f p) (pid_eq-same p)
 
 -- no other machine has the process
-forward_only : (d : ℕ) (n : Known) → leaves MessageKind.Restart d n ≡ true → has_process n ≡ false
+forward_only : (d : ℕ) (n : Known) → kind_leaves MessageKind.Restart d n ≡ true → has_process n ≡ false
 forward_only d (Frozen to) e = absurd (false≢true e)
 forward_only d Here e = absurd (false≢true e)
 forward_only d (Incoming from) e = absurd (false≢true e)
@@ -60,9 +60,9 @@ away_only (Incoming from) e = absurd (false≢true e)
 away_only _ e = refl
 
 elsewhere_by : (s d n : ℕ) (i : Option MsgId) (k : Known) (at_source at_destination : Bool) → (s == n) ≡ at_source → (d == n) ≡ at_destination → at_destination ≡ false → knows (Moves MessageKind.Restart s d i) n k ≡ true → has_process k ≡ false
-elsewhere_by s d n i k true at_destination e f off h = forward_only d k (sym (ap (λ (t : Bool). if t then leaves MessageKind.Restart d k else if d == n then comes MessageKind.Restart s k else is_away k) e) ∙ h)
+elsewhere_by s d n i k true at_destination e f off h = forward_only d k (sym (ap (λ (t : Bool). if t then kind_leaves MessageKind.Restart d k else if d == n then kind_comes MessageKind.Restart s k else is_away k) e) ∙ h)
 elsewhere_by s d n i k false at_destination e f off h =
-    away_only k (sym (ap (λ (t : Bool). if t then leaves MessageKind.Restart d k else if d == n then comes MessageKind.Restart s k else is_away k) e ∙ ap (λ (t : Bool). if t then comes MessageKind.Restart s k else is_away k) (f ∙ off)) ∙ h)
+    away_only k (sym (ap (λ (t : Bool). if t then kind_leaves MessageKind.Restart d k else if d == n then kind_comes MessageKind.Restart s k else is_away k) e ∙ ap (λ (t : Bool). if t then kind_comes MessageKind.Restart s k else is_away k) (f ∙ off)) ∙ h)
 
 not_elsewhere : (b : Boot) (m : ℕ) (pt : Point) (l : Placed) (k : KernelState) (y : Message) (p : Pid) (a : Arrives b m pt l k y p) (n : ℕ) → kind_of y.what ≡ MessageKind.Restart → n ≢ m → has_process (pt.view.known n p) ≡ false
 not_elsewhere b m pt l k y p a n is apart = grind (arith, nat_tests, elsewhere_by, eq_off)
@@ -111,7 +111,7 @@ tokens_back b m pt l records k y p c a o s records_off q i t z told between abou
           let r : at_machine records m s.records n q ≡ records n q = others_known records m n s k q c.mine (records_off q off) (m == n) refl in
           search (
             set_off l.processes p q o off ∙ h.there,
-            subst (λ (x : Option machine.Known). Carries q h.process (v.asked q) (incoming_of x) h.message.what) (sym r) h.carries,
+            subst (λ (x : Option machine.KernelKnown). Carries q h.process (v.asked q) (incoming_of x) h.message.what) (sym r) h.carries,
           )
     ]
   where
@@ -190,7 +190,7 @@ turns_restart b m pt l records k y p q c e =
       turn = turn_kernel b m pt l records k y p c a (Some (record { state = state; parts = part.Says (Line.Migration Stage.Restarted p) ∷ [] }))
           (ap (kernel_handles b s y) e
           ∙ ap (λ (z : Pid). bind (incoming_of (k.records z)) (restarts s z)) carried.0
-          ∙ ap (λ (o : Option machine.Known). bind (incoming_of o) (restarts s p)) h.is
+          ∙ ap (λ (o : Option machine.KernelKnown). bind (incoming_of o) (restarts s p)) h.is
           ∙ ap (restarts_as s p h.arrival) whole);
       outcome = outcome_kernel b m pt l records k y p c a (Some (Part.Says (Line.Migration Stage.Restarted p) ∷ []))
           (ap (kernel_told pt m y.id p (fits (free_room b pt m) (length x.memory / 256)) (plain_process x)) is);

@@ -19,7 +19,7 @@ abbrev pub come_point : Point → View → Point
 come_point pt v = record { kernel = pt.kernel; view = v; addresses = pt.addresses }
 
 -- what is known of a process that stays
-pub known_same : (pt : Point) (v : View) (l : Placed) (p : Pid) (queue held : List MsgId) (k : Known) (r : Option machine.Known) → KnownStands pt l p queue held k r → KnownStands (come_point pt v) l p queue held k r
+pub known_same : (pt : Point) (v : View) (l : Placed) (p : Pid) (queue held : List MsgId) (k : Known) (r : Option machine.KernelKnown) → KnownStands pt l p queue held k r → KnownStands (come_point pt v) l p queue held k r
 known_same pt v l p queue held Unknown None h = tt
 known_same pt v l p queue held Here (Some (Record.Here x)) h = h
 known_same pt v l p queue held (Frozen to) (Some (Record.Frozen d)) h = h
@@ -121,7 +121,7 @@ tokens_kept b m pt l records k y p c a box known asked s is_box asked_off record
           let n = destination_of i t in
           let r : at_machine records m s.records n q ≡ records n q = others_known records m n s k q c.mine (records_off q off) (m == n) refl in
           search
-          (subst (λ (o : Option machine.Known). Carries q h.process (asked q) (incoming_of o) h.message.what) (sym r) (subst (λ (j : ℕ). Carries q h.process j (incoming_of (records n q)) h.message.what) (sym (asked_off q off)) h.carries))
+          (subst (λ (o : Option machine.KernelKnown). Carries q h.process (asked q) (incoming_of o) h.message.what) (sym r) (subst (λ (j : ℕ). Carries q h.process j (incoming_of (records n q)) h.message.what) (sym (asked_off q off)) h.carries))
     ]
 
 known_by : (b : Boot) (m : ℕ) (pt : Point) (l : Placed) (records : AllRecords) (k : KernelState) (y : Message) (p : Pid) (c : Comes b m pt l records k y p) (a : Arrives b m pt l k y p) (h : Answer b m pt l records k y p c a) (q : Pid) → is_server q ≡ false
@@ -167,7 +167,7 @@ may_answer b m pt l records k y p c a h =
       carried = λ between q about.
           let e : p ≡ q = of_same p q (sym h.about ∙ about) in
           subst (λ (z : Pid). IsCarried l (h.asked z) (at_machine records m h.state.records) z x) e (search
-          (subst (λ (o : Option machine.Known). Carries p a.process (h.asked p) (incoming_of o) h.what) (sym known) h.carries));
+          (subst (λ (o : Option machine.KernelKnown). Carries p a.process (h.asked p) (incoming_of o) h.what) (sym known) h.carries));
     }
   where
     of_same : (i j : Pid) → Of i ≡ Of j → i ≡ j

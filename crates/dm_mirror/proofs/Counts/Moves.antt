@@ -1,6 +1,6 @@
 -- No process has moved more often than messages were routed in all.
-use Rattle.dm_mirror.proofs.Names.{◌≡◌, ℕ, ◌+◌, ◌≤◌, ◌==◌, ◌&&◌, Bool, true, false, refl, ap, ◌∙◌, sym, arith, if◌then◌else◌, false≢true, nat_tests, Pid, pid_eq, MessageKind, Boot, pid_eq-is, Phase, Rests, comes, is_between, knows, leaves}
-use Rattle.dm_mirror.proofs.Names.{Point, at_pid, at_record, View, Known, rests_here, InPhases, stands_first, Run}
+use Rattle.dm_mirror.proofs.Names.{◌≡◌, ℕ, ◌+◌, ◌≤◌, ◌==◌, ◌&&◌, Bool, true, false, refl, ap, ◌∙◌, sym, arith, if◌then◌else◌, false≢true, nat_tests, Pid, pid_eq, MessageKind, Boot, pid_eq-is, Phase, Rests, kind_comes, is_between, knows}
+use Rattle.dm_mirror.proofs.Names.{kind_leaves, Point, at_pid, at_record, View, Known, rests_here, InPhases, stands_first, Run}
 use Rattle.dm_mirror.proofs.Counts.AtEnds.{PutsOne}
 use Rattle.dm_mirror.proofs.Counts.Own.{PairsWithin}
 use Rattle.dm_mirror.proofs.Counts.Sorts.{FrontRestarts}
@@ -33,19 +33,19 @@ moves_put n v w more same h = record {
 }
 
 -- a process restarts
-forward_at : (d : ℕ) (n : Known) → leaves MessageKind.Restart d n ≡ true → (k : ℕ) × (j : ℕ) × (n ≡ Known.Forward k j)
+forward_at : (d : ℕ) (n : Known) → kind_leaves MessageKind.Restart d n ≡ true → (k : ℕ) × (j : ℕ) × (n ≡ Known.Forward k j)
 forward_at d (Known.Forward k j) e = (k, j, refl)
 forward_at d _ e = absurd (false≢true e)
 
-incoming_from : (s : ℕ) (n : Known) → comes MessageKind.Restart s n ≡ true → n ≡ Known.Incoming s
+incoming_from : (s : ℕ) (n : Known) → kind_comes MessageKind.Restart s n ≡ true → n ≡ Known.Incoming s
 incoming_from s (Known.Incoming from) e = grind (arith, nat_tests)
 incoming_from s _ e = absurd (false≢true e)
 
 may_move : (b : Boot) (pt : Point) (m : ℕ) (p : Pid) (n : ℕ) → Run b pt → FrontRestarts pt m p → MovesFew n pt.view → pt.view.moves p + 1 ≤ total pt.view n
 may_move b pt m p n run f h =
     let c = is_moved b pt m f.id f.told p run f.told_is (ap is_between f.kind_is) f.about (stands_first pt.view m f.id f.rest f.box) in
-    let (k, j, at_s) = forward_at c.d (pt.view.known c.s p) (ap (λ (x : MessageKind). leaves x c.d (pt.view.known c.s p)) (sym f.kind_is) ∙ c.source) in
-    let at_d = incoming_from c.s (pt.view.known c.d p) (ap (λ (x : MessageKind). comes x c.s (pt.view.known c.d p)) (sym f.kind_is) ∙ c.destination) in
+    let (k, j, at_s) = forward_at c.d (pt.view.known c.s p) (ap (λ (x : MessageKind). kind_leaves x c.d (pt.view.known c.s p)) (sym f.kind_is) ∙ c.source) in
+    let at_d = incoming_from c.s (pt.view.known c.d p) (ap (λ (x : MessageKind). kind_comes x c.s (pt.view.known c.d p)) (sym f.kind_is) ∙ c.destination) in
     h.moving p c.d c.s k j at_d at_s
 
 rests_alone : (v : View) (m d s : ℕ) (p : Pid) → InPhases v → v.known m p ≡ Known.Here → v.known d p ≡ Known.Incoming s → ⊥

@@ -196,7 +196,7 @@ within_group b pt (Step.Turn m) w n some same after_ fit e pairs run h =
     fresh_within b pt.view m n w.point after_ fit run (subst (λ (q : Point). Fresh pt.view m q.view) g.point fresh) h
 within_group b pt (Step.Tick m) w n some same after_ fit e pairs run h =
     let g = group_is b pt (Step.Tick m) w e in
-    let qs = Says (Line.Resent m (rule.outstanding pt.view m pt.kernel.machines)) ∷ rule.resends pt.view m pt.kernel.machines in
+    let qs = Says (Line.Resent m (rule.outstanding_count pt.view m pt.kernel.machines)) ∷ rule.resends pt.view m pt.kernel.machines in
     let f : qs ≡ g.parts = let k = g.is in cc in
     let start = moved pt (Line.Head (Step.Tick m)) pt.kernel in
     subst (λ (q : Point). PairsWithin n q.view) g.point

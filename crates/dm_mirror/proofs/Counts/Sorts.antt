@@ -104,7 +104,7 @@ migrates_mute pt p = by_migrates AreMute pt p (refl, refl, tt) (refl, refl, tt) 
 
 pub outcome_sort : (b : Boot) (pt : Point) (d : Step) → SortIf pt (actor d) (outcome b pt d)
 outcome_sort b pt (Step.Turn m) = turns_sort b pt m (pt.view.inbox m) refl
-outcome_sort b pt (Step.Tick m) = Pays (net_paid (Says (Line.Resent m (rule.outstanding pt.view m pt.kernel.machines)) ∷ rule.resends pt.view m pt.kernel.machines) pt.kernel (tt, resends_net pt.view m pt.kernel.machines))
+outcome_sort b pt (Step.Tick m) = Pays (net_paid (Says (Line.Resent m (rule.outstanding_count pt.view m pt.kernel.machines)) ∷ rule.resends pt.view m pt.kernel.machines) pt.kernel (tt, resends_net pt.view m pt.kernel.machines))
 outcome_sort b pt (Step.Deliver a c k) =
     let there = slice_get (pt.view.pair a c).wire k in
     Pays (net_paid (rule.arrives a c (pt.view.pair a c) (pt.view.pair c a) there) pt.kernel (arrives_net a c (pt.view.pair a c) (pt.view.pair c a) there))

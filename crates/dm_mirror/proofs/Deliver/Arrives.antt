@@ -218,7 +218,7 @@ module _ (b : Boot) (w : WorldState) (pt : Point) (l : Placed) (h : History) (a 
         lawful = (s.nodes c c_in).lawful.inbox;
         there_stands = there_pair_is;
         there_receiver = refl;
-        there_said = two_same pt.view.pair a c mark ∙ ap (λ (o : Option view.Sent). record (pt.view.pair a c) { wire = view.marked_at (pt.view.pair a c).wire k o }) e;
+        there_said = two_same pt.view.pair a c mark ∙ ap (λ (o : Option view.SentLoad). record (pt.view.pair a c) { wire = view.marked_at (pt.view.pair a c).wire k o }) e;
         back_stands = back_pair_is;
         back_said = two_other pt.view.pair a c mark c a (back_other a c apart);
         alone = search;

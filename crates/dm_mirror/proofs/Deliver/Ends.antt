@@ -1,9 +1,9 @@
 -- Both ends of a pair's stream, its wire and what the lines say of it, as values; and a stream's events on them.
-use Rattle.dm_mirror.proofs.Names.{◌≡◌, ℕ, List, drop, map, take, ◌∙◌, sym, subst, is_some, All, Message, IsLawfulMessage, Sending, Receiving, kept_under, Stream, Event, happens, Stands-happens, Sent, Boot, Pair, Point, has, Placed}
+use Rattle.dm_mirror.proofs.Names.{◌≡◌, ℕ, List, drop, map, take, ◌∙◌, sym, subst, is_some, All, Message, IsLawfulMessage, Sending, Receiving, kept_under, Stream, Event, happens, StreamStands-happens, Sent, Boot, Pair, Point, has, Placed}
 use Rattle.dm_mirror.proofs.Names.{WorldState, AreMessages, History, PairStands, bytes_of, line_of}
 use Rattle.dm_stream.specs.Packets.{Packet}
 use Rattle.dm_stream.specs.Order as order
-use Rattle.dm_mirror.specs.Stands.{id_of}
+use Rattle.dm_mirror.specs.Stands.{message_id}
 
 -- what the sender and the receiver know, what was given, and all packets of both wires
 pub record Ends : Type 0 where
@@ -34,8 +34,8 @@ ends_of w h a c = record {
 
 -- the pair of machine a with machine c
 pub record PairIs (b : Boot) (l : Placed) (a c : ℕ) (x : Ends) (wire : List Sent) (p : Pair) : Type 0 where
-  pub stream : order.Stands (stream_with x)
-  pub ids : map id_of x.given ≡ p.ids
+  pub stream : order.StreamStands (stream_with x)
+  pub ids : map message_id x.given ≡ p.ids
   pub untaken : AreMessages l.bag (drop p.taken p.ids) (drop p.taken x.given)
   pub taken : x.receiver.count ≡ p.taken
   pub gone : x.sender.gone ≡ p.gone
@@ -94,10 +94,10 @@ holds_stands b pt l w h a c x wire p e s =
     pair_stands b pt l w h a c (subst (λ (y : Pair). PairIs b l a c (ends_of w h a c) (w.wires a c) y) (sym e.on_pair) second)
 
 -- an event leads from ends that stand to these: what was taken is what the receiver has counted
-pub event_stands : (x y : Ends) (e : Event Message) (t : Stream Message) → happens (stream_with x) e ≡ t → order.Stands (stream_with x) → y.sender ≡ t.sender → y.receiver ≡ t.receiver → y.given ≡ t.given → y.out ≡ t.out → y.back ≡ t.back → order.Stands (stream_with y)
+pub event_stands : (x y : Ends) (e : Event Message) (t : Stream Message) → happens (stream_with x) e ≡ t → order.StreamStands (stream_with x) → y.sender ≡ t.sender → y.receiver ≡ t.receiver → y.given ≡ t.given → y.out ≡ t.out → y.back ≡ t.back → order.StreamStands (stream_with y)
 event_stands x y e t is h s r g o k =
-    let next : order.Stands t = subst order.Stands is (Stands-happens (stream_with x) e h) in
+    let next : order.StreamStands t = subst order.StreamStands is (StreamStands-happens (stream_with x) e h) in
     let counted : take y.receiver.count y.given ≡ take t.receiver.count t.given = λ i. take ((r i).count) (g i) in
     let took : take y.receiver.count y.given ≡ t.taken = counted ∙ sym next.in_order.taken in
     let same : stream_with y ≡ t = λ i. record { sender = s i; receiver = r i; given = g i; taken = took i; out = o i; back = k i } in
-    subst order.Stands (sym same) next
+    subst order.StreamStands (sym same) next

@@ -8,27 +8,27 @@ use Rattle.dm_stream.specs.Stream.{arrives, hears, goes_out}
 use Rattle.dm_wire.specs.Sent as wire
 use Rattle.dm_line.specs.declared.line.Load.TheVariants as load
 use Rattle.dm_rule.specs.View as view
-use Rattle.dm_mirror.specs.Stands.{id_of}
+use Rattle.dm_mirror.specs.Stands.{message_id}
 use Rattle.dm_mirror.proofs.Deliver.Ends.{Ends, PairIs, event_stands, stream_with}
 use Rattle.dm_mirror.proofs.Deliver.Kept.{off, kept_taken, kept_early, after_taken_is, after_old_is, after_early_is, after_next_is}
 
 -- a mark on the wire, as the lines say it and as bytes
-pub mark_next : (s : view.Sent) (ss : List view.Sent) (k : ℕ) (o : Option view.Sent) → view.marked_at (s ∷ ss) (suc k) o ≡ s ∷ view.marked_at ss k o
+pub mark_next : (s : view.SentLoad) (ss : List view.SentLoad) (k : ℕ) (o : Option view.SentLoad) → view.marked_at (s ∷ ss) (suc k) o ≡ s ∷ view.marked_at ss k o
 mark_next s ss k None = refl
 mark_next s ss k (Some t) = refl
 
 lines_marked : (xs : List (Packet Message)) (k : ℕ) → map line_of (marked xs k) ≡ view.marked_at (map line_of xs) k (slice_get (map line_of xs) k)
 lines_marked [] k = refl
 lines_marked (x ∷ xs) zero = refl
-lines_marked (x ∷ xs) (suc k) = ap (λ (ss : List view.Sent). line_of x ∷ ss) (lines_marked xs k) ∙ sym (mark_next (line_of x) (map line_of xs) k (slice_get (map line_of xs) k))
+lines_marked (x ∷ xs) (suc k) = ap (λ (ss : List view.SentLoad). line_of x ∷ ss) (lines_marked xs k) ∙ sym (mark_next (line_of x) (map line_of xs) k (slice_get (map line_of xs) k))
 
 bytes_marked : (a c : ℕ) (xs : List (Packet Message)) (k : ℕ) → wire.marked (map (bytes_of a c) xs) k ≡ map (bytes_of a c) (marked xs k)
 bytes_marked a c [] k = refl
 bytes_marked a c (x ∷ xs) zero = refl
 bytes_marked a c (x ∷ xs) (suc k) = ap (λ (ss : List Sent). bytes_of a c x ∷ ss) (bytes_marked a c xs k)
 
-packets_marked : (xs : List (Packet Message)) (ss : List view.Sent) (k : ℕ) → map line_of xs ≡ ss → map line_of (marked xs k) ≡ view.marked_at ss k (slice_get ss k)
-packets_marked xs ss k e = lines_marked xs k ∙ ap (λ (s : List view.Sent). view.marked_at s k (slice_get s k)) e
+packets_marked : (xs : List (Packet Message)) (ss : List view.SentLoad) (k : ℕ) → map line_of xs ≡ ss → map line_of (marked xs k) ≡ view.marked_at ss k (slice_get ss k)
+packets_marked xs ss k e = lines_marked xs k ∙ ap (λ (s : List view.SentLoad). view.marked_at s k (slice_get s k)) e
 
 wire_marked : (a c : ℕ) (w : List Sent) (xs : List (Packet Message)) (k : ℕ) → w ≡ map (bytes_of a c) xs → wire.marked w k ≡ map (bytes_of a c) (marked xs k)
 wire_marked a c w xs k e = ap (λ (s : List Sent). wire.marked s k) e ∙ bytes_marked a c xs k
@@ -41,8 +41,8 @@ delivered_back : (s : Stream Message) (k : ℕ) (o : Option (Load Message)) → 
 delivered_back s k o e = ap (hears (record s { back = marked s.back k })) e
 
 -- the message that is next to be taken
-pub oldest_is : (given : List Message) (ids : List MsgId) (t : ℕ) (m : Message) → map id_of given ≡ ids → slice_get given t ≡ Some m → slice_get ids t ≡ Some m.id
-oldest_is given ids t m e is = ap (λ (xs : List MsgId). slice_get xs t) (sym e) ∙ slice_get-map id_of given t ∙ ap (option_map id_of) is
+pub oldest_is : (given : List Message) (ids : List MsgId) (t : ℕ) (m : Message) → map message_id given ≡ ids → slice_get given t ≡ Some m → slice_get ids t ≡ Some m.id
+oldest_is given ids t m e is = ap (λ (xs : List MsgId). slice_get xs t) (sym e) ∙ slice_get-map message_id given t ∙ ap (option_map message_id) is
 
 pub message_is : (bag : MsgId → Option Message) (ids : List MsgId) (given : List Message) (t : ℕ) (i : MsgId) (m : Message) → AreMessages bag (drop t ids) (drop t given) → slice_get ids t ≡ Some i → slice_get given t ≡ Some m → bag i ≡ Some m
 message_is bag ids given t i m h e is =
@@ -152,7 +152,7 @@ module _ (b : Boot) (l : Placed) (a c : ℕ) (x : Ends) (w : List Sent) (p : Pai
       → PairIs b l a c (record x { out = x.out ++ just_put (Ack n) ∷ [] }) (w ++ wire.just_put (spelling (packet.Ack a c n)) ∷ []) (record p { gone = gone_after (load.Ack n) p.gone; wire = p.wire ++ record { load = load.Ack n; delivered = false } ∷ [] })
   other_acknowledges n h = search (
     event_stands x (record x { out = x.out ++ just_put (Ack n) ∷ [] }) (OtherAck n) (happens (stream_with x) (OtherAck n)) (refl) h.stream refl refl refl refl refl,
-    map-append line_of x.out (just_put (Ack n) ∷ []) ∙ ap (λ (s : List view.Sent). s ++ record { load = load.Ack n; delivered = false } ∷ []) h.packets,
+    map-append line_of x.out (just_put (Ack n) ∷ []) ∙ ap (λ (s : List view.SentLoad). s ++ record { load = load.Ack n; delivered = false } ∷ []) h.packets,
     ap (λ (s : List Sent). s ++ wire.just_put (spelling (packet.Ack a c n)) ∷ []) h.bytes ∙ sym (map-append (bytes_of a c) x.out (just_put (Ack n) ∷ [])),
   )
 
@@ -162,7 +162,7 @@ module _ (b : Boot) (l : Placed) (a c : ℕ) (x : Ends) (w : List Sent) (p : Pai
   due_goes n m e is h = search (
     event_stands x (record x { sender = with_sent x.sender; out = x.out ++ just_put (Data n m) ∷ [] }) (GoOut) (goes_out (stream_with x) (Some (n, m))) (ap (goes_out (stream_with x)) e) h.stream refl refl refl refl refl,
     ap (λ (i : ℕ). i + 1) h.gone ∙ gone_is n p.gone (is ∙ h.gone),
-    map-append line_of x.out (just_put (Data n m) ∷ []) ∙ ap (λ (s : List view.Sent). s ++ record { load = load.Data n; delivered = false } ∷ []) h.packets,
+    map-append line_of x.out (just_put (Data n m) ∷ []) ∙ ap (λ (s : List view.SentLoad). s ++ record { load = load.Data n; delivered = false } ∷ []) h.packets,
     ap (λ (s : List Sent). s ++ wire.just_put (spelling (packet.Data a c n m)) ∷ []) h.bytes ∙ sym (map-append (bytes_of a c) x.out (just_put (Data n m) ∷ [])),
   )
 

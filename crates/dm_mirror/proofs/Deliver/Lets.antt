@@ -4,7 +4,7 @@ use Rattle.dm_mirror.proofs.Names.{Some, cases_Bool, nat_tests, length-map, slic
 use Rattle.dm_mirror.proofs.Names.{Pair, gone_after, Point, moved, less, numbers_from, repeats, Placed, NodeState, here, with_sender, Sends, before, lets_go, lets_next, WorldState, History, StandsWith}
 use Rattle.dm_wire.specs.Wire.{after_put}
 use Rattle.dm_rule.specs.Parts as rule
-use Rattle.dm_mirror.specs.Stands.{id_of}
+use Rattle.dm_mirror.specs.Stands.{message_id}
 use Rattle.dm_mirror.proofs.Deliver.Ends.{PairIs, ends_of}
 use Rattle.dm_mirror.proofs.Deliver.Events.{gone_is}
 use Rattle.dm_mirror.proofs.Deliver.Kept.{less_test, not_less_test}
@@ -66,7 +66,7 @@ module _ (b : Boot) (l : Placed) (a c : ℕ) (apart : a ≢ c) where
       record {
         unacked = k.stream.in_order.unacked;
         acked_gone = omega (arith, k.stream.in_order.acked_taken, k.stream.in_order.taken_gone);
-        ids = ap length (sym k.ids) ∙ length-map (h.given c a) id_of;
+        ids = ap length (sym k.ids) ∙ length-map (h.given c a) message_id;
         gone = k.gone;
         acked = k.acked;
         wire = wire_length b l c a (ends_of w h c a) (w.wires c a) (pt.view.pair c a) k;

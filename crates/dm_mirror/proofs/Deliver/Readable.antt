@@ -1,9 +1,9 @@
 -- Where each packet of a wire can be read, and what is out and not acknowledged is read as it was put, a delivery reads what
 -- was put; of a message that was acknowledged long ago, its number.
 use Rattle.dm_mirror.proofs.Names.{◌≡◌, ◌≢◌, ℕ, ◌+◌, ◌-◌, ◌^◌, ◌<◌, ◌≤◌, ◌==◌, eqb, nat_le, nat_lt, Bool, true, not, List, length, drop, refl, ap, ◌∙◌, sym, subst, arith, if◌then◌else◌, slice_get, option_map, Ok, Option, None, Some, Result}
-use Rattle.dm_mirror.proofs.Names.{eqb-true, eq-eqb, nat_tests, IsMachine, Message, PacketError, PacketKind, Packet, Opening, ◌>>=◌, number, machine, IsRoute, ended, message, numbered_message, opening, other_machine, packet_kind, packet_of}
-use Rattle.dm_mirror.proofs.Names.{read_rest, spell_message, spelling, version, IsField, IsField-both, IsField-for, IsField-made, IsField-number, IsField-tested, guard_ok, machine_is, packet_kind_is, Sending, outstanding, Data, load_in}
-use Rattle.dm_mirror.proofs.Names.{MayCome-stands, get-drop, bytes_at, Boot, IsValid, Point, Placed, WorldState, History, StandsWith, IsReadable}
+use Rattle.dm_mirror.proofs.Names.{eqb-true, eq-eqb, nat_tests, IsMachine, Message, PacketError, PacketKind, Packet, Opening, ◌>>=◌, number, machine, IsRoute, only_packet, message, numbered_message, opening, other_machine, packet_kind}
+use Rattle.dm_mirror.proofs.Names.{packet_of, read_rest, spell_message, spelling, version, IsField, IsField-both, IsField-for, IsField-made, IsField-number, IsField-tested, guard_ok, machine_is, packet_kind_is, Sending, outstanding, Data}
+use Rattle.dm_mirror.proofs.Names.{load_in, MayCome-stands, get-drop, bytes_at, Boot, IsValid, Point, Placed, WorldState, History, StandsWith, IsReadable}
 use Rattle.std.specs.Prelude.{Err}
 use Rattle.dm_packet.specs.Field.{both}
 use Rattle.dm_stream.specs.Sending as sending
@@ -26,7 +26,7 @@ abbrev data_of : ℕ → ℕ → (ℕ × Message) × List ℕ → Result (Packet
 data_of a c x = Ok (Packet.Data a c x.0.0 x.0.1, x.1)
 
 abbrev with_number : ℕ → ℕ → ℕ → Result (Message × List ℕ) PacketError → Result Packet PacketError
-with_number a c n r = ((r >>= numbered_of n) >>= data_of a c) >>= ended
+with_number a c n r = ((r >>= numbered_of n) >>= data_of a c) >>= only_packet
 
 read_on : (a c n : ℕ) (m : Message) → IsRoute a c → n < 256 ^ 4 → packet_of (spelling (Packet.Data a c n m)) ≡ with_number a c n (message.read (spell_message m))
 unfolding packet_of read_rest spelling
@@ -51,9 +51,9 @@ few b m n valid are lt = let most : nat_le (length b.machines) 16 ≡ true = val
 outstanding_is : (s : Sending Message) (given : List Message) (n : ℕ) (m : Message) → s.unacked ≡ drop s.acked given → s.acked ≤ n → n < s.gone → slice_get given n ≡ Some m → outstanding s (n - s.acked) ≡ Some (n, m)
 outstanding_is s given n m e above below is = grind (arith, nat_tests, slice_get, get-drop, nat_lt, less_test)
 
-put_is : (a c : ℕ) (o : Option (stream.Packet Message)) (carried : Load Message) → load_in o ≡ Some carried → option_map (bytes_for a c) o ≡ Some (spelling (out.packet_of a c carried))
+put_is : (a c : ℕ) (o : Option (stream.Packet Message)) (carried : Load Message) → load_in o ≡ Some carried → option_map (bytes_for a c) o ≡ Some (spelling (out.packet_of_load a c carried))
 put_is a c None carried e = cc
-put_is a c (Some p) carried e = let f : p.load ≡ carried = cc in ap (λ (z : Load Message). Some (spelling (out.packet_of a c z))) f
+put_is a c (Some p) carried e = let f : p.load ≡ carried = cc in ap (λ (z : Load Message). Some (spelling (out.packet_of_load a c z))) f
 
 pub reads_as : (b : Boot) (w : WorldState) (pt : Point) (l : Placed) (h : History) (a c k : ℕ) → IsValid b → StandsWith b w pt l h → a < pt.kernel.machines → c < pt.kernel.machines → a ≢ c → pt.kernel.machines ≡ length b.machines → IsReadable w → ReadsAs w h a c k
 reads_as b w pt l h a c k valid s a_in c_in apart machines_are readable n m e =

@@ -8,7 +8,7 @@ use Rattle.dm_mirror.proofs.Deliver.Ends.{Ends, PairIs}
 
 -- the bytes of the packet with this number
 abbrev pub bytes_for : ℕ → ℕ → stream.Packet Message → List ℕ
-bytes_for a c p = spelling (node.packet_of a c p.load)
+bytes_for a c p = spelling (node.packet_of_load a c p.load)
 
 -- what is read of the packet of a delivery that carries a message: its number, and where it wasn't taken yet, the message
 pub record IsReadAs (w : WorldState) (a c n : ℕ) (m : Message) : Type 0 where
@@ -27,7 +27,7 @@ pub bytes_are : (b : Boot) (l : Placed) (a c : ℕ) (x : Ends) (sent : List Sent
 bytes_are b l a c x sent p k h = grind (arith, nat_tests, option_map, slice_get-map, of_some, slice_get)
 
 pub lines_are : (b : Boot) (l : Placed) (a c : ℕ) (x : Ends) (sent : List Sent) (p : Pair) (k : ℕ) → PairIs b l a c x sent p → slice_get p.wire k ≡ option_map line_of (slice_get x.out k)
-lines_are b l a c x sent p k h = ap (λ (ss : List view.Sent). slice_get ss k) (sym h.packets) ∙ slice_get-map line_of x.out k
+lines_are b l a c x sent p k h = ap (λ (ss : List view.SentLoad). slice_get ss k) (sym h.packets) ∙ slice_get-map line_of x.out k
 
 pub load_is : (ps : List (stream.Packet Message)) (k : ℕ) (o : Option (stream.Packet Message)) → slice_get ps k ≡ o → load_at ps k ≡ load_in o
 unfolding load_at

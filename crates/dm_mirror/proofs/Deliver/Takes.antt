@@ -1,6 +1,6 @@
 -- The messages that were kept are taken once their turn has come, and all that was taken is acknowledged.
 use Rattle.dm_mirror.proofs.Names.{◌≡◌, ◌≢◌, ℕ, zero, suc, ◌+◌, ◌<◌, ◌≤◌, ◌==◌, ◌&&◌, Bool, true, false, not, List, [], ◌∷◌, ◌++◌, length, refl, ap, ◌∙◌, sym, subst, is_some, arith, if◌then◌else◌, Option, None, Some, nat_tests, length-map}
-use Rattle.dm_mirror.proofs.Names.{Message, Packet, Line, Load, spelling, Receiving, after_next, kept_under, next, Ack, just_put, Boot, at_machine, at_pair, Part, Pair, oldest, Point, moved, has, kept_from, takes, taken_pair, Placed}
+use Rattle.dm_mirror.proofs.Names.{Message, Packet, Line, Load, spelling, Receiving, after_next, kept_under, next, Ack, just_put, Boot, at_machine, at_pair, Part, Pair, oldest, Point, moved, has, kept_from, taking_parts, taken_pair, Placed}
 use Rattle.dm_mirror.proofs.Names.{NodeState, here, with_message, with_receiver, Sends, takes_kept, takes_next, then_acknowledges, WorldState, History, StandsWith, bytes_of, line_of}
 use Rattle.dm_wire.specs.Sent as wire
 use Rattle.dm_wire.specs.Wire.{after_put}
@@ -36,13 +36,13 @@ module _ (b : Boot) (l : Placed) (a c : ℕ) (apart : a ≢ c) where
 
   -- what the parts are: those that take what was kept from m on, and the acknowledgement
   abbrev pub taken_parts : List ℕ → ℕ → ℕ → List Part
-  taken_parts ks m fuel = takes a c (kept_from ks m fuel) ++ rule.Transmits c a (Load.Ack (m + length (kept_from ks m fuel))) ∷ []
+  taken_parts ks m fuel = taking_parts a c (kept_from ks m fuel) ++ rule.Transmits c a (Load.Ack (m + length (kept_from ks m fuel))) ∷ []
 
   no_more : (w : WorldState) (pt : Point) (h : History) (s : StandsWith b w pt l h) (a_in : a < pt.kernel.machines) (c_in : c < pt.kernel.machines) (ks : List ℕ) (m fuel : ℕ) → m ≡ ((w.nodes c).receivers a).count → kept_from ks m fuel ≡ []
       → Follows b c w pt l (record { state = w.nodes c; outs = node.acknowledges (w.nodes c) a }) (taken_parts ks m fuel)
   no_more w pt h s a_in c_in ks m fuel e none =
       let f : Follows b c w pt l (record { state = w.nodes c; outs = node.acknowledges (w.nodes c) a }) (rule.Transmits c a (Load.Ack (m + 0)) ∷ []) = acknowledged w pt h s a_in c_in (m + 0) (omega (arith, e)) in
-      subst (λ (ns : List ℕ). Follows b c w pt l (record { state = w.nodes c; outs = node.acknowledges (w.nodes c) a }) (takes a c ns ++ rule.Transmits c a (Load.Ack (m + length ns)) ∷ [])) (sym none) f
+      subst (λ (ns : List ℕ). Follows b c w pt l (record { state = w.nodes c; outs = node.acknowledges (w.nodes c) a }) (taking_parts a c ns ++ rule.Transmits c a (Load.Ack (m + length ns)) ∷ [])) (sym none) f
 
   -- the number that is next is kept where a message is
   has_next : (w : WorldState) (pt : Point) (h : History) (s : StandsWith b w pt l h) (a_in : a < pt.kernel.machines) (c_in : c < pt.kernel.machines) (ks : List ℕ) (m : ℕ) → m ≡ ((w.nodes c).receivers a).count → has m ks ≡ has m (pt.view.pair a c).kept
@@ -82,8 +82,8 @@ module _ (b : Boot) (l : Placed) (a c : ℕ) (apart : a ≢ c) where
       let whole : Follows b c w pt l (then_acknowledges (takes_next (w.nodes c) a (Some x) (λ n. takes_kept fuel n a)) a) (rule.Says (Line.Taken a c m) ∷ taken_parts ks (m + 1) fuel) =
       says_on b c w pt q l n (Line.Taken a (here (w.nodes c)) r.count) (Line.Taken a c m) (then_acknowledges (takes_kept fuel n a) a) (taken_parts ks (m + 1) fuel) same_line refl rest_here in
       let long : m + 1 + length others ≡ m + length (m ∷ others) = omega arith in
-      let whole_long = subst (λ (i : ℕ). Follows b c w pt l (then_acknowledges (takes_next (w.nodes c) a (Some x) (λ n. takes_kept fuel n a)) a) (takes a c (m ∷ others) ++ rule.Transmits c a (Load.Ack i) ∷ [])) long whole in
-      subst (λ (t : Bool). Follows b c w pt l (then_acknowledges (takes_next (w.nodes c) a (Some x) (λ n. takes_kept fuel n a)) a) (takes a c (if t then m ∷ others else []) ++ rule.Transmits c a (Load.Ack (m + length (if t then m ∷ others else []))) ∷ [])) (sym found) whole_long
+      let whole_long = subst (λ (i : ℕ). Follows b c w pt l (then_acknowledges (takes_next (w.nodes c) a (Some x) (λ n. takes_kept fuel n a)) a) (taking_parts a c (m ∷ others) ++ rule.Transmits c a (Load.Ack i) ∷ [])) long whole in
+      subst (λ (t : Bool). Follows b c w pt l (then_acknowledges (takes_next (w.nodes c) a (Some x) (λ n. takes_kept fuel n a)) a) (taking_parts a c (if t then m ∷ others else []) ++ rule.Transmits c a (Load.Ack (m + length (if t then m ∷ others else []))) ∷ [])) (sym found) whole_long
 
   takes_by : (fuel : ℕ) (w : WorldState) (pt : Point) (h : History) (s : StandsWith b w pt l h) (a_in : a < pt.kernel.machines) (c_in : c < pt.kernel.machines) (ks : List ℕ) (m : ℕ) → m ≡ ((w.nodes c).receivers a).count
       → ((i : ℕ) → m ≤ i → has i ks ≡ has i (pt.view.pair a c).kept) → (o : Option Message) → next ((w.nodes c).receivers a) ≡ o → TakesFollow fuel

@@ -57,14 +57,14 @@ queue_by b w pt l h p at g below others =
     ap lines_in (first_at (first_says f) f at pt.kernel.machines refl (λ m. refl) below (λ m less apart. no_queue b w pt l h p m g (others m apart) less))
 
 with_at : (pt : Point) (p : Pid) (at : ℕ) → at < pt.kernel.machines → ((m : ℕ) → m ≢ at → is_silent (pt.view.known m p) ≡ true)
-    → first_with rule.has pt.view p pt.kernel.machines ≡ stood_at at (rule.has (pt.view.known at p))
+    → first_with rule.standing_of pt.view p pt.kernel.machines ≡ stood_at at (rule.standing_of (pt.view.known at p))
 with_at pt p at below others =
-    first_at (first_with rule.has pt.view p) (λ m. stood_at m (rule.has (pt.view.known m p))) at pt.kernel.machines refl (λ m. refl) below
+    first_at (first_with rule.standing_of pt.view p) (λ m. stood_at m (rule.standing_of (pt.view.known m p))) at pt.kernel.machines refl (λ m. refl) below
     (λ m less apart. ap (stood_at m) (silent_has (pt.view.known m p) (others m apart)))
 
 -- a machine that knows something is one of them
-has_known : (k : Known) (s : Standing) → rule.has k ≡ Some s → k ≢ Unknown
-has_known k s e is = let f : rule.has Unknown ≡ Some s = sym (ap rule.has is) ∙ e in cc
+has_known : (k : Known) (s : Standing) → rule.standing_of k ≡ Some s → k ≢ Unknown
+has_known k s e is = let f : rule.standing_of Unknown ≡ Some s = sym (ap rule.standing_of is) ∙ e in cc
 
 within_has : (b : Boot) (pt : Point) (p : Pid) (a : HasIt pt.view p) → Run b pt → a.at < pt.kernel.machines
 within_has b pt p a run = run.found.known_within a.at p (has_known (pt.view.known a.at p) a.standing a.known)
@@ -97,7 +97,7 @@ has_said b w pt l h p a g =
     ∙ (ap (rule.alive_lines pt.addresses p (plain_process x)) (sym stood) ∙ ap (rule.process_lines pt p) (sym (alive_of b w pt l h p (record x { queue = i.rest }) g i.placed))))
 
 has_queue : (b : Boot) (w : WorldState) (pt : Point) (l : Placed) (h : History) (p : Pid) (a : HasIt pt.view p) → IsOfHome b w pt l h p
-    → world.queue_of pt.kernel.machines w p ≡ rule.queue_at pt.view p (first_with rule.has pt.view p pt.kernel.machines)
+    → world.queue_of pt.kernel.machines w p ≡ rule.queue_at pt.view p (first_with rule.standing_of pt.view p pt.kernel.machines)
 has_queue b w pt l h p a g =
     let below = within_has b pt p a g.run in
     let i = at_machine b w pt l h p a g in
@@ -112,7 +112,7 @@ over_machine b w pt l h p a g =
     has_ended pt l p (pt.view.queue a.at p) (pt.view.held a.at p) ((w.nodes a.at).kernel.records p)
     (subst (λ (k : Known). KnownStands pt l p (pt.view.queue a.at p) (pt.view.held a.at p) k ((w.nodes a.at).kernel.records p)) a.known (knows_ b w pt l h p a.at g (within_over b pt p a g.run)))
 
-ended_is : (o : Option Life) (y : Why) → kernel.ended o ≡ Some y → o ≡ Some (Life.Ended y)
+ended_is : (o : Option Life) (y : Why) → kernel.why_ended o ≡ Some y → o ≡ Some (Life.Ended y)
 ended_is (Some (Life.Ended z)) y e = ap (λ (x : Why). Some (Life.Ended x)) (some_same z y e)
 ended_is _ y e = cc
 
@@ -123,13 +123,13 @@ over_said b w pt l h p a g =
     ∙ ap (rule.process_lines pt p) (sym (ended_is (pt.kernel.processes p) e.why e.due))
 
 over_queue : (b : Boot) (w : WorldState) (pt : Point) (l : Placed) (h : History) (p : Pid) (a : OverAt pt.view p) → IsOfHome b w pt l h p
-    → world.queue_of pt.kernel.machines w p ≡ rule.queue_at pt.view p (first_with rule.has pt.view p pt.kernel.machines)
+    → world.queue_of pt.kernel.machines w p ≡ rule.queue_at pt.view p (first_with rule.standing_of pt.view p pt.kernel.machines)
 over_queue b w pt l h p a g =
     let below = within_over b pt p a g.run in
     let e = over_machine b w pt l h p a g in
     queue_by b w pt l h p a.at g below a.others
-    ∙ (ap (λ (r : Option machine.Known). lines_in (record_queue p r)) e.is
-    ∙ ap (rule.queue_at pt.view p) (sym (with_at pt p a.at below a.others ∙ ap (λ (k : Known). stood_at a.at (rule.has k)) a.known)))
+    ∙ (ap (λ (r : Option machine.KernelKnown). lines_in (record_queue p r)) e.is
+    ∙ ap (rule.queue_at pt.view p) (sym (with_at pt p a.at below a.others ∙ ap (λ (k : Known). stood_at a.at (rule.standing_of k)) a.known)))
 
 -- a process that comes: nobody has it
 none_has : (pt : Point) (p : Pid) (a : ComesTo pt.view p) (m : ℕ) → is_silent (pt.view.known m p) ≡ true
@@ -149,7 +149,7 @@ all_come b w pt l h p a g c is =
     let none : plain_what m.what ≡ None = carried_own p t.process (pt.view.asked p) (incoming_of ((w.nodes a.to).kernel.records p)) m.what t.carries in
     let own = g.stands.own a.id m t.is (ap (with_what m) none) in
     let same : told_of m ≡ record { kind = MessageKind.Restart; receiver = pid_of a.to 0; about = About.Of p } = some_same (told_of m) (record { kind = MessageKind.Restart; receiver = pid_of a.to 0; about = About.Of p }) (sym own.told ∙ told) in
-    subst (λ (o : Option machine.Known). Wants (incoming_of o) Nothing) is
+    subst (λ (o : Option machine.KernelKnown). Wants (incoming_of o) Nothing) is
     (restart_wants p t.process (pt.view.asked p) (incoming_of ((w.nodes a.to).kernel.records p)) m.what (ap (λ (x : Told). x.kind) same) t.carries)
 
 to_said : (b : Boot) (w : WorldState) (pt : Point) (l : Placed) (h : History) (p : Pid) (a : ComesTo pt.view p) → IsOfHome b w pt l h p → world.process_lines pt.kernel.machines w p ≡ rule.process_lines pt p (pt.kernel.processes p)
@@ -168,8 +168,8 @@ to_said b w pt l h p a g =
     ∙ (ap (awaited_lines a.to p) i.is ∙ ap (come_lines a.to p) (come_all l p (pt.view.held a.to p) c i.comes (all_come b w pt l h p a g c i.is))) in
     let places = g.stands.mirrors.places.process p x there_ in
     let there : Option Stood = Some (record { at = a.to; standing = Standing.Arriving }) in
-    let has : first_with rule.has pt.view p n ≡ None =
-    first_none (first_with rule.has pt.view p) (λ m. stood_at m (rule.has (pt.view.known m p))) n refl (λ m. refl) (λ m less. ap (stood_at m) (silent_has (pt.view.known m p) (none_has pt p a m))) in
+    let has : first_with rule.standing_of pt.view p n ≡ None =
+    first_none (first_with rule.standing_of pt.view p) (λ m. stood_at m (rule.standing_of (pt.view.known m p))) n refl (λ m. refl) (λ m less. ap (stood_at m) (silent_has (pt.view.known m p) (none_has pt p a m))) in
     let awaits : first_with rule.awaits pt.view p n ≡ there =
     first_at (first_with rule.awaits pt.view p) (λ m. stood_at m (rule.awaits (pt.view.known m p))) a.to n refl (λ m. refl) below (λ m less apart. ap (stood_at m) (away_awaits (pt.view.known m p) (a.others m apart)))
     ∙ ap (λ (k : Known). stood_at a.to (rule.awaits k)) a.known in
@@ -180,12 +180,12 @@ to_said b w pt l h p a g =
     ∙ (ap (rule.alive_lines pt.addresses p (plain_process x)) (sym stood) ∙ ap (rule.process_lines pt p) (sym (alive_of b w pt l h p x g there_)))))
 
 to_queue : (b : Boot) (w : WorldState) (pt : Point) (l : Placed) (h : History) (p : Pid) (a : ComesTo pt.view p) → IsOfHome b w pt l h p
-    → world.queue_of pt.kernel.machines w p ≡ rule.queue_at pt.view p (first_with rule.has pt.view p pt.kernel.machines)
+    → world.queue_of pt.kernel.machines w p ≡ rule.queue_at pt.view p (first_with rule.standing_of pt.view p pt.kernel.machines)
 to_queue b w pt l h p a g =
     let n = pt.kernel.machines in
     let f : ℕ → Option (List EndLine) = λ m. record_queue p ((w.nodes m).kernel.records p) in
-    let has : first_with rule.has pt.view p n ≡ None =
-    first_none (first_with rule.has pt.view p) (λ m. stood_at m (rule.has (pt.view.known m p))) n refl (λ m. refl) (λ m less. ap (stood_at m) (silent_has (pt.view.known m p) (none_has pt p a m))) in
+    let has : first_with rule.standing_of pt.view p n ≡ None =
+    first_none (first_with rule.standing_of pt.view p) (λ m. stood_at m (rule.standing_of (pt.view.known m p))) n refl (λ m. refl) (λ m less. ap (stood_at m) (silent_has (pt.view.known m p) (none_has pt p a m))) in
     ap lines_in (first_none (first_says f) f n refl (λ m. refl) (λ m less. no_queue b w pt l h p m g (none_has pt p a m) less)) ∙ ap (rule.queue_at pt.view p) (sym has)
 
 -- each process that was made is somewhere
@@ -204,7 +204,7 @@ process_said b w pt l h p g made = elim (somewhere b w pt l h p g made) [
 ]
 
 pub queue_said : (b : Boot) (w : WorldState) (pt : Point) (l : Placed) (h : History) (p : Pid) → IsOfHome b w pt l h p → is_some (pt.kernel.processes p) ≡ true
-    → world.queue_of pt.kernel.machines w p ≡ rule.queue_at pt.view p (first_with rule.has pt.view p pt.kernel.machines)
+    → world.queue_of pt.kernel.machines w p ≡ rule.queue_at pt.view p (first_with rule.standing_of pt.view p pt.kernel.machines)
 queue_said b w pt l h p g made = elim (somewhere b w pt l h p g made) [
   | inl a ↦ has_queue b w pt l h p a g
   | inr c ↦ elim c [

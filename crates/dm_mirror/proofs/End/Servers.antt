@@ -6,7 +6,7 @@ use Rattle.dm_message.specs.Ids as message
 use Rattle.dm_rule.specs.Ends as rule
 use Rattle.dm_rule.specs.Spots as spots
 use Rattle.dm_world.specs.Ends as world
-use Rattle.dm_mirror.specs.Stands.{id_of}
+use Rattle.dm_mirror.specs.Stands.{message_id}
 
 -- the names of the switchboard
 names_same : (a : Addresses) (n : ℕ) (ks : List Named) → ((j : ℕ) (k : Named) → slice_get ks j ≡ Some k → a (Name (n + j)) ≡ place_of k.link.addr) → world.name_lines ks ≡ rule.name_lines a n (map plain_named ks)
@@ -61,7 +61,7 @@ untaken_said b pt l w h a c p =
     ap (λ (ms : List Message). world.names_of (drop (r.count - s.acked) ms)) order.unacked
     ∙ (ap world.names_of (drop-drop (r.count - s.acked) s.acked given)
     ∙ (ap (λ (n : ℕ). world.names_of (drop n given)) (counted ∙ p.taken)
-    ∙ (sym (drop-map id_of (pt.view.pair a c).taken given) ∙ ap (drop (pt.view.pair a c).taken) p.ids)))
+    ∙ (sym (drop-map message_id (pt.view.pair a c).taken given) ∙ ap (drop (pt.view.pair a c).taken) p.ids)))
 
 home_untaken : (pt : Point) (a : ℕ) → HomeStands (pt.view.pair a a) → spots.untaken (pt.view.pair a a) ≡ []
 home_untaken pt a h = drop_all (pt.view.pair a a).taken (pt.view.pair a a).ids (let k = h.taken in omega (arith, k))

@@ -1,7 +1,7 @@
 -- Where a process is, by its phase: one machine has it, or it has ended on one, or it comes to one and nobody has it.
 use Rattle.dm_mirror.proofs.Names.{◌≡◌, ◌≢◌, ◌⊎◌, ℕ, ◌==◌, Bool, true, false, refl, ap, ◌∙◌, sym, subst, inl, inr, arith, if◌then◌else◌, Option, None, Some, cases_Bool, false≢true, nat_tests, Pid, MsgId, MessageKind, Standing, Phase}
-use Rattle.dm_mirror.proofs.Names.{Nowhere, Rests, Over, Moves, IsIn, IsToken, comes, is_away, is_due, is_here, is_restart, is_unknown, knows, leaves, View, Known, Unknown, Here, Frozen, Incoming, Forward, Ended, eq_self, is_it, left_true}
-use Rattle.dm_mirror.proofs.Names.{not_false}
+use Rattle.dm_mirror.proofs.Names.{Nowhere, Rests, Over, Moves, IsIn, IsToken, kind_comes, is_away, is_due, is_here, is_restart, is_unknown, knows, kind_leaves, View, Known, Unknown, Here, Frozen, Incoming, Forward, Ended, eq_self, is_it}
+use Rattle.dm_mirror.proofs.Names.{left_true, not_false}
 use Rattle.dm_rule.specs.Ends as rule
 use Rattle.dm_rule.specs.Phases.{is_over}
 
@@ -16,7 +16,7 @@ is_silent _ = true
 pub record HasIt (v : View) (p : Pid) : Type 0 where
   pub at : ℕ
   pub standing : Standing
-  pub known : rule.has (v.known at p) ≡ Some standing
+  pub known : rule.standing_of (v.known at p) ≡ Some standing
   pub others : (m : ℕ) → m ≢ at → is_silent (v.known m p) ≡ true
 
 -- it has ended on one
@@ -39,7 +39,7 @@ unknown_is : (k : Known) → is_unknown k ≡ true → k ≡ Unknown
 unknown_is Unknown e = refl
 unknown_is _ e = cc
 
-here_has : (k : Known) → is_here k ≡ true → rule.has k ≡ Some Standing.Here
+here_has : (k : Known) → is_here k ≡ true → rule.standing_of k ≡ Some Standing.Here
 here_has Here e = refl
 here_has _ e = cc
 
@@ -53,22 +53,22 @@ away_silent (Frozen to) e = cc
 away_silent Ended e = cc
 away_silent _ e = refl
 
-comes_silent : (k : MessageKind) (s : ℕ) (x : Known) → comes k s x ≡ true → is_silent x ≡ true
+comes_silent : (k : MessageKind) (s : ℕ) (x : Known) → kind_comes k s x ≡ true → is_silent x ≡ true
 comes_silent k s Here e = cc
 comes_silent k s (Frozen to) e = cc
 comes_silent k s Ended e = cc
 comes_silent k s _ e = refl
 
-leaves_has : (k : MessageKind) (d : ℕ) (x : Known) → is_restart k ≡ false → leaves k d x ≡ true → rule.has x ≡ Some Standing.Leaving
+leaves_has : (k : MessageKind) (d : ℕ) (x : Known) → is_restart k ≡ false → kind_leaves k d x ≡ true → rule.standing_of x ≡ Some Standing.Leaving
 leaves_has k d (Frozen to) off e = refl
 leaves_has k d (Forward at moves) off e = absurd (false≢true (sym off ∙ left_true (is_restart k) (d == at) e))
 leaves_has k d _ off e = cc
 
-restart_away : (d : ℕ) (x : Known) → leaves MessageKind.Restart d x ≡ true → is_away x ≡ true
+restart_away : (d : ℕ) (x : Known) → kind_leaves MessageKind.Restart d x ≡ true → is_away x ≡ true
 restart_away d (Forward at moves) e = refl
 restart_away d _ e = cc
 
-restart_comes : (s : ℕ) (x : Known) → comes MessageKind.Restart s x ≡ true → (from : ℕ) × (x ≡ Incoming from)
+restart_comes : (s : ℕ) (x : Known) → kind_comes MessageKind.Restart s x ≡ true → (from : ℕ) × (x ≡ Incoming from)
 restart_comes s (Incoming from) e = (from, refl)
 restart_comes s _ e = cc
 
@@ -91,7 +91,7 @@ over_has v p at h = record {
   others = λ m apart. away_silent (v.known m p) (sym (ap (λ (c : Bool). if c then is_over (v.known m p) else is_away (v.known m p)) (off at m apart)) ∙ h.known m);
 }
 
-other_silent : (k : MessageKind) (s : ℕ) (x : Known) (c : Bool) → (if c then comes k s x else is_away x) ≡ true → is_silent x ≡ true
+other_silent : (k : MessageKind) (s : ℕ) (x : Known) (c : Bool) → (if c then kind_comes k s x else is_away x) ≡ true → is_silent x ≡ true
 other_silent k s x true e = comes_silent k s x e
 other_silent k s x false e = away_silent x e
 
@@ -100,23 +100,23 @@ moves_has v p k s d id early h = record {
   at = s;
   standing = Standing.Leaving;
   known = leaves_has k d (v.known s p) early
-      (sym (ap (λ (c : Bool). if c then leaves k d (v.known s p) else if d == s then comes k s (v.known s p) else is_away (v.known s p)) (eq_self s)) ∙ h.known s);
+      (sym (ap (λ (c : Bool). if c then kind_leaves k d (v.known s p) else if d == s then kind_comes k s (v.known s p) else is_away (v.known s p)) (eq_self s)) ∙ h.known s);
   others = λ m apart. other_silent k s (v.known m p) (d == m)
-      (sym (ap (λ (c : Bool). if c then leaves k d (v.known m p) else if d == m then comes k s (v.known m p) else is_away (v.known m p)) (off s m apart)) ∙ h.known m);
+      (sym (ap (λ (c : Bool). if c then kind_leaves k d (v.known m p) else if d == m then kind_comes k s (v.known m p) else is_away (v.known m p)) (off s m apart)) ∙ h.known m);
 }
 
 -- the destination, and another machine
-to_known : (s d : ℕ) (x : Known) → (s == d) ≡ false → knows (Moves MessageKind.Restart s d None) d x ≡ true → comes MessageKind.Restart s x ≡ true
+to_known : (s d : ℕ) (x : Known) → (s == d) ≡ false → knows (Moves MessageKind.Restart s d None) d x ≡ true → kind_comes MessageKind.Restart s x ≡ true
 to_known s d x apart e =
-    sym (ap (λ (c : Bool). if c then leaves MessageKind.Restart d x else if d == d then comes MessageKind.Restart s x else is_away x) apart ∙ ap (λ (c : Bool). if c then comes MessageKind.Restart s x else is_away x) (eq_self d)) ∙ e
+    sym (ap (λ (c : Bool). if c then kind_leaves MessageKind.Restart d x else if d == d then kind_comes MessageKind.Restart s x else is_away x) apart ∙ ap (λ (c : Bool). if c then kind_comes MessageKind.Restart s x else is_away x) (eq_self d)) ∙ e
 
-by_away : (s d : ℕ) (x : Known) (c : Bool) → (if c then leaves MessageKind.Restart d x else is_away x) ≡ true → is_away x ≡ true
+by_away : (s d : ℕ) (x : Known) (c : Bool) → (if c then kind_leaves MessageKind.Restart d x else is_away x) ≡ true → is_away x ≡ true
 by_away s d x true e = restart_away d x e
 by_away s d x false e = e
 
 other_known : (s d m : ℕ) (x : Known) → m ≢ d → knows (Moves MessageKind.Restart s d None) m x ≡ true → is_away x ≡ true
 other_known s d m x apart e =
-    by_away s d x (s == m) (sym (ap (λ (t : Bool). if s == m then leaves MessageKind.Restart d x else if t then comes MessageKind.Restart s x else is_away x) (off d m apart)) ∙ e)
+    by_away s d x (s == m) (sym (ap (λ (t : Bool). if s == m then kind_leaves MessageKind.Restart d x else if t then kind_comes MessageKind.Restart s x else is_away x) (off d m apart)) ∙ e)
 
 restart_to : (v : View) (p : Pid) (s d : ℕ) (id : MsgId) → IsIn v p (Moves MessageKind.Restart s d (Some id)) → ComesTo v p
 restart_to v p s d id h =

@@ -63,7 +63,7 @@ own_named : (b : Boot) (m : ℕ) (pt : Point) (l : Placed) (records : AllRecords
 own_named b m pt l records k y c = λ i. record { from = pid_of (c.stands.here i) 0; n = c.counted i; answer = false }
 
 -- what the machine knows
-forward_of : (pt : Point) (l : Placed) (p : Pid) (queue held_ : List MsgId) (at moves : ℕ) (r : Option machine.Known) → KnownStands pt l p queue held_ (Forward at moves) r → r ≡ Some (Record.Forward at moves)
+forward_of : (pt : Point) (l : Placed) (p : Pid) (queue held_ : List MsgId) (at moves : ℕ) (r : Option machine.KernelKnown) → KnownStands pt l p queue held_ (Forward at moves) r → r ≡ Some (Record.Forward at moves)
 forward_of pt l p queue held_ at moves (Some (Record.Forward to count)) h = λ i. Some (Record.Forward (h.0 i) (h.1 i))
 forward_of pt l p queue held_ at moves r h = absurd h
 
@@ -208,7 +208,7 @@ forward_row b m pt l records k y c at moves back is knows has =
       board = λ off. refl;
       manager = λ off. refl;
       here = same.here;
-      records_ = λ q off. ap (λ (f : Pid → Option machine.Known). f q) same.records;
+      records_ = λ q off. ap (λ (f : Pid → Option machine.KernelKnown). f q) same.records;
       ring = same.ring;
       inbox = inbox_is k c.rest back;
       made = same.made;
@@ -216,11 +216,11 @@ forward_row b m pt l records k y c at moves back is knows has =
       servers = same.servers ∙ c.stands.servers;
       sent = same.sent;
       single = own_most y (machine.own_id k) k.here at moves back;
-      keeps = λ server. ap (λ (f : Pid → Option machine.Known). f p) same.records;
-      known = λ server. subst (KnownStands (handled_point pt m y.id pt.view.held topic next.addresses) placed p (pt.view.queue m p) (pt.view.held m p) (pt.view.known m p)) (ap (λ (f : Pid → Option machine.Known). f p) (sym same.records))
+      keeps = λ server. ap (λ (f : Pid → Option machine.KernelKnown). f p) same.records;
+      known = λ server. subst (KnownStands (handled_point pt m y.id pt.view.held topic next.addresses) placed p (pt.view.queue m p) (pt.view.held m p) (pt.view.known m p)) (ap (λ (f : Pid → Option machine.KernelKnown). f p) (sym same.records))
           (known_on pt (handled_point pt m y.id pt.view.held topic next.addresses) l placed p (pt.view.queue m p) (pt.view.held m p) (pt.view.known m p) (k.records p) refl refl
           (λ j least. bag_off j (apart_at b m pt l records k y c (Queue m p) j (queue_apart m m p) least)) (λ j least. bag_off j (apart_at b m pt l records k y c (Held m p) j (held_apart m m p) least)) (c.stands.known p server));
-      wants = λ u h. subst (λ (f : Pid → Option machine.Known). Wants (incoming_of (f p)) u) (sym same.records) h;
+      wants = λ u h. subst (λ (f : Pid → Option machine.KernelKnown). Wants (incoming_of (f p)) u) (sym same.records) h;
       still = front_still b m pt l records k y c is.number;
       may = all_may b m pt l records (at_machine records m state.records) k y c at moves back is knows has;
     })

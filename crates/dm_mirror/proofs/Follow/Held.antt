@@ -46,7 +46,7 @@ record_others f m p q x apart = ap (λ (c : Bool). if c && pid_eq p q then x els
 abbrev held_list : Point → ℕ → Pid → MsgId → ℕ → Pid → List MsgId
 held_list pt m p i = at_record pt.view.held m p (pt.view.held m p ++ i ∷ [])
 
-held_row : (b : Boot) (m : ℕ) (pt : Point) (l : Placed) (records : AllRecords) (k : KernelState) (y : Message) (c : Fronts b m pt l records k y) (w : Known) (r new : machine.Known) → IsProcess y.to.pid → pt.view.known m y.to.pid ≡ w → k.records y.to.pid ≡ Some r
+held_row : (b : Boot) (m : ℕ) (pt : Point) (l : Placed) (records : AllRecords) (k : KernelState) (y : Message) (c : Fronts b m pt l records k y) (w : Known) (r new : machine.KernelKnown) → IsProcess y.to.pid → pt.view.known m y.to.pid ≡ w → k.records y.to.pid ≡ Some r
     → machine_handle.process_handles (record k { inbox = c.rest }) y (Some r) ≡ Some (record { state = with_known (record k { inbox = c.rest }) y.to.pid new; parts = Part.Says (Line.Held y.id) ∷ [] })
     → ((x : PlainMessage) → process_handles pt m y.id x w ≡ Some (rule.Says (Line.Held y.id) ∷ [])) → process_told pt m y.id c.told w ≡ Some (rule.Says (Line.Held y.id) ∷ [])
     → KnownStands (handled_point pt m y.id (held_list pt m y.to.pid y.id) (begun pt m).view.topic pt.addresses) l y.to.pid (pt.view.queue m y.to.pid) (pt.view.held m y.to.pid ++ y.id ∷ []) w (Some new)
@@ -92,27 +92,27 @@ held_row b m pt l records k y c w r new is knows there turn bag own known wants 
       known = λ server. subst (KnownStands (handled_point pt m y.id held topic pt.addresses) l p (pt.view.queue m p) (held m p) (pt.view.known m p)) (sym (set_self k.records p new))
           (subst (λ (j : Known). KnownStands (handled_point pt m y.id held topic pt.addresses) l p (pt.view.queue m p) (held m p) j (Some new)) (sym knows)
           (subst (λ (h : List MsgId). KnownStands (handled_point pt m y.id held topic pt.addresses) l p (pt.view.queue m p) h w (Some new)) (sym (record_self pt.view.held m p (pt.view.held m p ++ y.id ∷ []))) known));
-      wants = λ u h. subst (λ (o : Option machine.Known). Wants (incoming_of o) u) (sym (set_self k.records p new)) (wants u (subst (λ (o : Option machine.Known). Wants (incoming_of o) u) there h));
+      wants = λ u h. subst (λ (o : Option machine.KernelKnown). Wants (incoming_of o) u) (sym (set_self k.records p new)) (wants u (subst (λ (o : Option machine.KernelKnown). Wants (incoming_of o) u) there h));
       still = front_still b m pt l records k y c is.number;
       may = tt;
     })
 
 -- what the machine has of a process that leaves, or comes
-record Leaves (l : Placed) (p : Pid) (queue held_ : List MsgId) (to : ℕ) (r : Option machine.Known) : Type 0 where
+record Leaves (l : Placed) (p : Pid) (queue held_ : List MsgId) (to : ℕ) (r : Option machine.KernelKnown) : Type 0 where
   leaving : Departure
   is : r ≡ Some (Record.Frozen leaving)
   stands : LeavesStand l p queue held_ to leaving
 
-leaves_of : (pt : Point) (l : Placed) (p : Pid) (queue held_ : List MsgId) (to : ℕ) (r : Option machine.Known) → KnownStands pt l p queue held_ (Frozen to) r → Leaves l p queue held_ to r
+leaves_of : (pt : Point) (l : Placed) (p : Pid) (queue held_ : List MsgId) (to : ℕ) (r : Option machine.KernelKnown) → KnownStands pt l p queue held_ (Frozen to) r → Leaves l p queue held_ to r
 leaves_of pt l p queue held_ to (Some (Record.Frozen d)) h = record { leaving = d; is = refl; stands = h }
 leaves_of pt l p queue held_ to r h = absurd h
 
-record Comes (l : Placed) (p : Pid) (held_ : List MsgId) (r : Option machine.Known) : Type 0 where
+record Comes (l : Placed) (p : Pid) (held_ : List MsgId) (r : Option machine.KernelKnown) : Type 0 where
   arriving : Arrival
   is : r ≡ Some (Record.Incoming arriving)
   stands : ComesStand l p held_ arriving
 
-comes_of : (pt : Point) (l : Placed) (p : Pid) (queue held_ : List MsgId) (from : ℕ) (r : Option machine.Known) → KnownStands pt l p queue held_ (Incoming from) r → Comes l p held_ r
+comes_of : (pt : Point) (l : Placed) (p : Pid) (queue held_ : List MsgId) (from : ℕ) (r : Option machine.KernelKnown) → KnownStands pt l p queue held_ (Incoming from) r → Comes l p held_ r
 comes_of pt l p queue held_ from (Some (Record.Incoming a)) h = record { arriving = a; is = refl; stands = h }
 comes_of pt l p queue held_ from r h = absurd h
 

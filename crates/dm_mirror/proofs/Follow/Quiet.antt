@@ -88,16 +88,16 @@ pub no_plain : (y : Message) (x : PlainMessage) → plain_what y.what ≡ None �
 no_plain y x none e = let f : None ≡ Some x = sym (ap (with_what y) none) ∙ e in cc
 
 -- a process that has ended
-pub record Gone (l : Placed) (p : Pid) (r : Option machine.Known) : Type 0 where
+pub record Gone (l : Placed) (p : Pid) (r : Option machine.KernelKnown) : Type 0 where
   pub because : Why
   pub is : r ≡ Some (Record.Ended because)
   pub none : l.processes p ≡ None
 
-not_alive : (o : Option Life) (y : Why) → kernel.ended o ≡ Some y → kernel.alive o ≡ None
+not_alive : (o : Option Life) (y : Why) → kernel.why_ended o ≡ Some y → kernel.alive o ≡ None
 not_alive (Some (Life.Alive x)) y e = cc
 not_alive _ y e = refl
 
-gone_of : (pt : Point) (l : Placed) (p : Pid) (queue held_ : List MsgId) (r : Option machine.Known) → Mirrors pt.kernel pt.view pt.addresses l → KnownStands pt l p queue held_ Ended r → Gone l p r
+gone_of : (pt : Point) (l : Placed) (p : Pid) (queue held_ : List MsgId) (r : Option machine.KernelKnown) → Mirrors pt.kernel pt.view pt.addresses l → KnownStands pt l p queue held_ Ended r → Gone l p r
 gone_of pt l p queue held_ (Some (Record.Ended y)) mirrors h = record { because = y; is = refl; none = no_process (l.processes p) (sym (mirrors.plain.processes p) ∙ not_alive (pt.kernel.processes p) y h) }
 gone_of pt l p queue held_ r mirrors h = absurd h
 

@@ -14,7 +14,7 @@ pub last_row : {X : Type 0} (x y z w : X) (a b c : Bool) → a ≡ false → b �
 last_row x y z w a b c e f g = ap (λ (t : Bool). if t then x else if b then y else if c then z else w) e ∙ ap (λ (t : Bool). if t then y else if c then z else w) f ∙ ap (λ (t : Bool). if t then z else w) g
 
 -- the machine does what it knows of the process, and so does the rule
-pub machine_process : (b : Boot) (s : KernelState) (y : Message) (r : Option machine.Known) (o : Option Turned) → IsProcess y.to.pid → s.records y.to.pid ≡ r → machine_handle.process_handles s y r ≡ o → handles b s y ≡ o
+pub machine_process : (b : Boot) (s : KernelState) (y : Message) (r : Option machine.KernelKnown) (o : Option Turned) → IsProcess y.to.pid → s.records y.to.pid ≡ r → machine_handle.process_handles s y r ≡ o → handles b s y ≡ o
 machine_process b s y r o is e h =
     last_row _ _ _ _ (y.to.pid.num == 0) (pid_eq y.to.pid switchboard) (pid_eq y.to.pid manager) is.number is.board is.manager_ ∙ ap (machine_handle.process_handles s y) e ∙ h
 
@@ -35,8 +35,8 @@ rule_process b m pt l records k y c w o (Some x) is e plain bag own =
     ap (comes_to b pt m y.id) (plain_there b m pt l records k y c ∙ plain) ∙ bag_process b pt m y.id x w o (subst IsProcess to is) (ap (pt.view.known m) (sym to) ∙ e) (bag x refl)
 
 -- the record of a process is set
-pub set_self : (records : Pid → Option machine.Known) (p : Pid) (r : machine.Known) → with_record records p r p ≡ Some r
+pub set_self : (records : Pid → Option machine.KernelKnown) (p : Pid) (r : machine.KernelKnown) → with_record records p r p ≡ Some r
 set_self records p r = ap (λ (c : Bool). if c then Some r else records p) (pid_eq-same p)
 
-pub set_other : (records : Pid → Option machine.Known) (p : Pid) (r : machine.Known) (q : Pid) → pid_eq p q ≡ false → with_record records p r q ≡ records q
+pub set_other : (records : Pid → Option machine.KernelKnown) (p : Pid) (r : machine.KernelKnown) (q : Pid) → pid_eq p q ≡ false → with_record records p r q ≡ records q
 set_other records p r q off = ap (λ (c : Bool). if c then Some r else records q) off

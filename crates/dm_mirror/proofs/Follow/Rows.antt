@@ -116,14 +116,14 @@ record_wants b m pt l records k y c h p u w = elim (cases_Bool (pid_eq h.process
   | inl same ↦
       let e : p ≡ h.process = sym (pid_eq-is h.process p same) in
       subst (λ (q : Pid). Wants (incoming_of (h.state.records q)) u) (sym e) (h.wants u (subst (λ (q : Pid). Wants (incoming_of (k.records q)) u) e w))
-  | inr off ↦ subst (λ (o : Option machine.Known). Wants (incoming_of o) u) (sym (h.records_ p off)) w
+  | inr off ↦ subst (λ (o : Option machine.KernelKnown). Wants (incoming_of o) u) (sym (h.records_ p off)) w
 ]
 
 all_wants : (b : Boot) (m : ℕ) (pt : Point) (l : Placed) (records : AllRecords) (k : KernelState) (y : Message) (c : Fronts b m pt l records k y) (h : Follows b m pt l records k y c) (p : Pid) (n : ℕ) (u : Wanted) (e : Bool) → (m == n) ≡ e
     → Wants (incoming_of (records n p)) u → Wants (incoming_of ((if e then h.state.records else records n) p)) u
 all_wants b m pt l records k y c h p n u true is w =
     let same : n ≡ m = grind (arith, nat_tests) in
-    record_wants b m pt l records k y c h p u (subst (λ (f : Pid → Option machine.Known). Wants (incoming_of (f p)) u) (ap records same ∙ c.mine) w)
+    record_wants b m pt l records k y c h p u (subst (λ (f : Pid → Option machine.KernelKnown). Wants (incoming_of (f p)) u) (ap records same ∙ c.mine) w)
 all_wants b m pt l records k y c h p n u false is w = w
 
 tokens_follow : (b : Boot) (m : ℕ) (pt : Point) (l : Placed) (records : AllRecords) (k : KernelState) (y : Message) (c : Fronts b m pt l records k y) (h : Follows b m pt l records k y c)

@@ -44,12 +44,12 @@ pub update_told : (b : Boot) (m : ℕ) (pt : Point) (l : Placed) (records : AllR
 update_told b m pt l records k y c about e = (c.own y.id y c.there (ap (λ (w : What). with_what y (plain_what w)) e)).told
 
 -- what the machine has of a process that is here
-record IsHere (l : Placed) (p : Pid) (queue : List MsgId) (r : Option machine.Known) : Type 0 where
+record IsHere (l : Placed) (p : Pid) (queue : List MsgId) (r : Option machine.KernelKnown) : Type 0 where
   process : Process
   is : r ≡ Some (Record.Here process)
   stands : HereStands l p queue process
 
-here_of : (pt : Point) (l : Placed) (p : Pid) (queue held_ : List MsgId) (r : Option machine.Known) → KnownStands pt l p queue held_ Here r → IsHere l p queue r
+here_of : (pt : Point) (l : Placed) (p : Pid) (queue held_ : List MsgId) (r : Option machine.KernelKnown) → KnownStands pt l p queue held_ Here r → IsHere l p queue r
 here_of pt l p queue held_ (Some (Record.Here x)) h = record { process = x; is = refl; stands = h }
 here_of pt l p queue held_ r h = absurd h
 
@@ -118,7 +118,7 @@ updated_here_turn b m pt l records k y c about fixed knows e =
       known = λ server. subst (KnownStands (handled_point pt m y.id held topic a) placed p (pt.view.queue m p) (pt.view.held m p) (pt.view.known m p)) (sym (set_self k.records p (Record.Here next)))
           (subst (λ (j : Known). KnownStands (handled_point pt m y.id held topic a) placed p (pt.view.queue m p) (pt.view.held m p) j (Some (Record.Here next))) (sym knows)
           ((here.stands.0.0, ap (λ (t : Bool). if t then Some (applied r about.at about.moves z) else l.processes p) (pid_eq-same p)), here.stands.1));
-      wants = λ u h. absurd (subst (λ (o : Option machine.Known). Wants (incoming_of o) u) here.is h);
+      wants = λ u h. absurd (subst (λ (o : Option machine.KernelKnown). Wants (incoming_of o) u) here.is h);
       still = front_still b m pt l records k y c is.number;
       may = tt;
     })

@@ -23,7 +23,7 @@ use Rattle.dm_mirror.proofs.Turning.{Row, has_process, is_elsewhere}
 abbrev made_point : Point → ℕ → MsgId → Pid → OneKernel → Point
 made_point pt m i child next = seen_point pt m (Label.Created i child) next (after_label (begun pt m).view (Label.Created i child))
 
-made_known : (b : Boot) (m : ℕ) (pt : Point) (l : Placed) (k : KernelState) (y : Message) (w : PlainWhat) (c : Taking b m pt l k y w) (next : Point) (on : Placed) (p : Pid) (held : List MsgId) (x : Process) (r : Option state.Known) → pt.view.known m p ≡ Known.Unknown → r ≡ Some (Record.Here x) → x.queue ≡ [] → on.processes p ≡ Some x
+made_known : (b : Boot) (m : ℕ) (pt : Point) (l : Placed) (k : KernelState) (y : Message) (w : PlainWhat) (c : Taking b m pt l k y w) (next : Point) (on : Placed) (p : Pid) (held : List MsgId) (x : Process) (r : Option state.KernelKnown) → pt.view.known m p ≡ Known.Unknown → r ≡ Some (Record.Here x) → x.queue ≡ [] → on.processes p ≡ Some x
     → (known : Known) → known ≡ Known.Here → KnownStands next on p (pt.view.queue m p) held known r
 made_known b m pt l k y w c next on p held x r none is empty there known here =
     let waits : pt.view.queue m p ≡ [] = c.run.based.lists.queue m p (ap has_no_queue none) in
@@ -50,7 +50,7 @@ created_row b m pt l k y image ls g c num found some valid =
     let first = one.begun s.format g ls in
     let free = free_of k.room (slice_get b.machines m) (taken_at pt m s.machines) c.stands.room in
     let a = answer m 0 y (What.Created child) in
-    let u = service.with_child (without_message s y.id) child g ls in
+    let u = service.with_created (without_message s y.id) child g ls in
     let next = with_sent u (Some (answer_to x (PlainWhat.Created child))) in
     let there : slice_get s.images image ≡ Some g = ap (λ (gs : List BootImage). slice_get gs image) c.run.based.images ∙ found in
     let on = placed.with_sent (placed.with_child (placed.without_message l y.id) s.format child g links) (Some a) in
@@ -157,7 +157,7 @@ room_for r None = false
 room_for r (Some g) = rule.has_room r g.blocks
 
 asks_row : (b : Boot) (m : ℕ) (pt : Point) (l : Placed) (k : KernelState) (y : Message) (image : ℕ) (ls : List PlainLink) (ps : List Part) (o : Option BootImage) (d : Bool) → Taking b m pt l k y (PlainWhat.Create image ls) → (y.to.pid.num == 0) ≡ true → slice_get b.images image ≡ o
-    → room_for (rule.free_room b pt m) o ≡ d → rule.creates pt m y.id (rule.free_room b pt m) o ≡ Some ps → Row b m pt l k
+    → room_for (rule.free_room b pt m) o ≡ d → rule.creation_parts pt m y.id (rule.free_room b pt m) o ≡ Some ps → Row b m pt l k
 asks_row b m pt l k y image ls ps None d c num found room goes = absurd (let f : None ≡ Some ps = goes in cc)
 asks_row b m pt l k y image ls ps (Some g) true c num found room goes = created_row b m pt l k y image ls g c num found room (valid_at b.images image g found c.valid.images)
 asks_row b m pt l k y image ls ps (Some g) false c num found room goes = no_room_row b m pt l k y image ls g c num found room

@@ -123,7 +123,7 @@ drops_are bag (j ∷ js) (z ∷ zs) names h =
 drops_are bag [] (z ∷ zs) names h = cc
 drops_are bag (j ∷ js) [] names h = cc
 
-pub rule_drops : (ids : List MsgId) → rule.drops ids ≡ map rule_part.Says (map drop_line ids) ++ []
+pub rule_drops : (ids : List MsgId) → rule.drop_parts ids ≡ map rule_part.Says (map drop_line ids) ++ []
 rule_drops [] = refl
 rule_drops (j ∷ js) = ap (λ (ps : List rule_part.Part). rule.says (Label.Dropped j) ∷ ps) (rule_drops js)
 

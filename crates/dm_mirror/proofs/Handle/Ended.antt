@@ -27,7 +27,7 @@ pub record IsEnded (b : Boot) (m : ℕ) (pt : Point) (l : Placed) (k : KernelSta
   pub why : Why
   pub there : k.records p ≡ Some (Record.Ended why)
 
-ended_record : (pt : Point) (l : Placed) (p : Pid) (queue held : List MsgId) (r : Option state.Known) → KnownStands pt l p queue held view.Ended r → (y : Why) × (r ≡ Some (Record.Ended y))
+ended_record : (pt : Point) (l : Placed) (p : Pid) (queue held : List MsgId) (r : Option state.KernelKnown) → KnownStands pt l p queue held view.Ended r → (y : Why) × (r ≡ Some (Record.Ended y))
 ended_record pt l p queue held (Some (Record.Ended y)) h = (y, refl)
 ended_record pt l p queue held r h = absurd h
 

@@ -28,14 +28,14 @@ pub record IsHere (b : Boot) (m : ℕ) (pt : Point) (l : Placed) (k : KernelStat
   pub known : pt.view.known m p ≡ view.Here
   pub pid : x.pid ≡ p
 
-record Found (pt : Point) (l : Placed) (p : Pid) (queue : List MsgId) (r : Option state.Known) : Type 0 where
+record Found (pt : Point) (l : Placed) (p : Pid) (queue : List MsgId) (r : Option state.KernelKnown) : Type 0 where
   x : Process
   q : List Message
   there : r ≡ Some (Record.Here x)
   placed : l.processes p ≡ Some (with_queue x q)
   waits : AreMessages l.bag queue x.queue
 
-here_record : (pt : Point) (l : Placed) (p : Pid) (queue held : List MsgId) (r : Option state.Known) → KnownStands pt l p queue held view.Here r → Found pt l p queue r
+here_record : (pt : Point) (l : Placed) (p : Pid) (queue held : List MsgId) (r : Option state.KernelKnown) → KnownStands pt l p queue held view.Here r → Found pt l p queue r
 here_record pt l p queue held (Some (Record.Here x)) h = record { x = x; q = h.0.0; there = refl; placed = h.0.1; waits = h.1 }
 here_record pt l p queue held r h = absurd h
 
@@ -79,7 +79,7 @@ pub record Served (b : Boot) (m : ℕ) (pt : Point) (l : Placed) (k : KernelStat
   pub plain : (a : Message) → o ≡ Some a → is_some (plain_message a) ≡ true
   pub quiet : (v : View) (p : Pid) → view.kills (plain_kind w) v (Some p) ≡ v
 
-pub here_known : (next : Point) (on : Placed) (p : Pid) (queue held : List MsgId) (z : Process) (q : List Message) (r : Option state.Known) (n : Known) → r ≡ Some (Record.Here z) → n ≡ view.Here → on.processes p ≡ Some (with_queue z q) → AreMessages on.bag queue z.queue → KnownStands next on p queue held n r
+pub here_known : (next : Point) (on : Placed) (p : Pid) (queue held : List MsgId) (z : Process) (q : List Message) (r : Option state.KernelKnown) (n : Known) → r ≡ Some (Record.Here z) → n ≡ view.Here → on.processes p ≡ Some (with_queue z q) → AreMessages on.bag queue z.queue → KnownStands next on p queue held n r
 here_known next on p queue held z q r n is here there waits =
     subst (λ (v : Known). KnownStands next on p queue held v r) (sym here) (subst (KnownStands next on p queue held view.Here) (sym is) ((q, there), waits))
 

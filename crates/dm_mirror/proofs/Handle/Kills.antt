@@ -57,7 +57,7 @@ elsewhere_queue : (m : ℕ) (p : Pid) (s : Spot) → is_elsewhere m s ≡ true �
 elsewhere_queue m p s is e = false≢true (sym (ap not (eq_self m)) ∙ ap (is_elsewhere m) (sym e) ∙ is)
 
 -- what is known of it then
-ended_known : (next : Point) (on : Placed) (p : Pid) (queue held : List MsgId) (z : Why) (r : Option state.Known) (n : Known) → r ≡ Some (Record.Ended z) → n ≡ view.Ended → kernel.ended (next.kernel.processes p) ≡ Some z → KnownStands next on p queue held n r
+ended_known : (next : Point) (on : Placed) (p : Pid) (queue held : List MsgId) (z : Why) (r : Option state.KernelKnown) (n : Known) → r ≡ Some (Record.Ended z) → n ≡ view.Ended → kernel.why_ended (next.kernel.processes p) ≡ Some z → KnownStands next on p queue held n r
 ended_known next on p queue held z r n is gone ended = subst (λ (v : Known). KnownStands next on p queue held v r) (sym gone) (subst (KnownStands next on p queue held view.Ended) (sym is) ended)
 
 -- what it took is free again
@@ -180,7 +180,7 @@ kill_row b m pt l k y c h =
             lives = others_live;
             bag = λ q j off least. g.bag j (in_queue pt m p (Queue m q) j b l k y w c (other_queue m p q off) least) ∙ kept (Queue m q) j (queue_apart m m q) least;
             holds = λ q j off least. g.bag j (in_queue pt m p (Held m q) j b l k y w c (held_no_queue m m p q) least) ∙ kept (Held m q) j (held_apart m m q) least;
-            mine = λ off. ended_known g.next g.on p (g.next.view.queue m p) (g.next.view.held m p) Why.Killed (end.records p) (g.next.view.known m p) (ap (λ (d : Bool). if d then Some (Record.Ended Why.Killed) else k.records p) (pid_eq-same p)) known (ap kernel.ended life);
+            mine = λ off. ended_known g.next g.on p (g.next.view.queue m p) (g.next.view.held m p) Why.Killed (end.records p) (g.next.view.known m p) (ap (λ (d : Bool). if d then Some (Record.Ended Why.Killed) else k.records p) (pid_eq-same p)) known (ap kernel.why_ended life);
             keeps = λ server. absurd (false≢true (sym (not_server p h.process) ∙ server));
           }) c.stands
           (ap (without p) c.stands.ring ∙ sym (g.ring m ∙ machine_self pt.view.ring m (without p (pt.view.ring m))))

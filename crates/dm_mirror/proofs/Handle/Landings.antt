@@ -35,11 +35,11 @@ goes_same here x r =
     if_same x (r.left - piece_of r.left == 0) (landing.done Reply.Done x) (landing.asks here x (landing.behind r)) (record { queue = refl; memory = refl }) (record { queue = refl; memory = refl })
 
 goes_lands : (here : ℕ) (p : Pid) (x y : Process) (o : Option Landing) (r : Rest) (c : pieces.Landed) → o ≡ Some (landing.goes_on here y r) → y.pid ≡ p → y.queue ≡ x.queue → length y.memory ≡ length x.memory
-    → pieces.goes_on p (plain_process y) r.dir r.owner.pid r.base r.own r.left (piece_of r.left) ≡ c → Lands p x o c
+    → pieces.move_goes_on p (plain_process y) r.dir r.owner.pid r.base r.own r.left (piece_of r.left) ≡ c → Lands p x o c
 goes_lands here p x y o r c e pid queue memory f =
     let g = goes_same here y r in
     search (
-      goes_on_plainly here y r ∙ ap (λ (q : Pid). Some (pieces.goes_on q (plain_process y) r.dir r.owner.pid r.base r.own r.left (piece_of r.left))) pid ∙ ap Some f,
+      goes_on_plainly here y r ∙ ap (λ (q : Pid). Some (pieces.move_goes_on q (plain_process y) r.dir r.owner.pid r.base r.own r.left (piece_of r.left))) pid ∙ ap Some f,
       g.queue ∙ queue,
       ap length g.memory ∙ memory,
     )
@@ -58,13 +58,13 @@ lands_what_of here p x Direction.FromArea owner base own left w (PlainWhat.Block
     let r : Rest = record { dir = Direction.FromArea; owner = owner; base = base; own = own; left = left } in
     let b = block_what w bytes is in
     let y : Process = record x { memory = written_at x.memory own b.body.items } in
-    let f = some_is ((length bytes == piece_of left) && nat_le (own + left) (length x.memory)) (pieces.goes_on p (record (plain_process x) { memory = written_at x.memory own bytes }) Direction.FromArea owner.pid base own left (piece_of left)) c e in
+    let f = some_is ((length bytes == piece_of left) && nat_le (own + left) (length x.memory)) (pieces.move_goes_on p (record (plain_process x) { memory = written_at x.memory own bytes }) Direction.FromArea owner.pid base own left (piece_of left)) c e in
     let fits : own + length b.body.items ≤ length x.memory = subst (λ (bs : List ℕ). own + length bs ≤ length x.memory) (sym b.bytes_are) (piece_within left own (length x.memory) (length bytes) f.0) in
     goes_lands here p x y (landing.lands_what here x r Direction.FromArea w) r c (ap (landing.lands_what here x r Direction.FromArea) b.is) pid refl (length-written x.memory own b.body.items fits)
-    (ap (λ (bs : List ℕ). pieces.goes_on p (record (plain_process x) { memory = written_at x.memory own bs }) Direction.FromArea owner.pid base own left (piece_of left)) b.bytes_are ∙ f.1)
+    (ap (λ (bs : List ℕ). pieces.move_goes_on p (record (plain_process x) { memory = written_at x.memory own bs }) Direction.FromArea owner.pid base own left (piece_of left)) b.bytes_are ∙ f.1)
 lands_what_of here p x Direction.IntoArea owner base own left w PlainWhat.Written c is pid e =
     let r : Rest = record { dir = Direction.IntoArea; owner = owner; base = base; own = own; left = left } in
-    let f = some_is (nat_le (own + left) (length x.memory)) (pieces.goes_on p (plain_process x) Direction.IntoArea owner.pid base own left (piece_of left)) c e in
+    let f = some_is (nat_le (own + left) (length x.memory)) (pieces.move_goes_on p (plain_process x) Direction.IntoArea owner.pid base own left (piece_of left)) c e in
     goes_lands here p x x (landing.lands_what here x r Direction.IntoArea w) r c (ap (landing.lands_what here x r Direction.IntoArea) (written_what w is)) pid refl refl f.1
 lands_what_of here p x Direction.FromArea owner base own left w PlainWhat.Gone c is pid e =
     let r : Rest = record { dir = Direction.FromArea; owner = owner; base = base; own = own; left = left } in
@@ -102,7 +102,7 @@ Lands_as w = (s : OneKernel) (i : MsgId) (x : PlainMessage) (z : PlainProcess) �
 landed_row : (b : Boot) (m : ℕ) (pt : Point) (l : Placed) (k : KernelState) (y : Message) (w : PlainWhat) (c : Taking b m pt l k y w) (h : IsHere b m pt l k y.to.pid) (f : pieces.Landed) (d : Landing) (e : Landed) → d.landed ≡ e
     → Lands_as w → placed.serves m (placed.without_message l y.id) y (with_queue h.x h.queue) y.what ≡ placed.lands m (placed.without_message l y.id) y (with_queue h.x h.queue)
     → here_handles (record k { inbox = c.rest }) y h.x y.what ≡ machine.lands (record k { inbox = c.rest }) y (landing.landing k.here h.x y.what h.x.status)
-    → rule.here_handles pt m y.id (plainly y w) (plain_process h.x) w ≡ rule.lands y.id (pieces.lands y.to.pid (plain_process h.x) (plainly y w) (plain_process h.x).status)
+    → rule.here_handles pt m y.id (plainly y w) (plain_process h.x) w ≡ rule.landing_parts y.id (pieces.lands y.to.pid (plain_process h.x) (plainly y w) (plain_process h.x).status)
     → ((v : View) (p : Pid) → view.kills (plain_kind w) v (Some p) ≡ v) → landing.landing m h.x y.what h.x.status ≡ Some d → pieces.lands y.to.pid (plain_process h.x) (plainly y w) (plain_process h.x).status ≡ Some f
     → plain_landed d.landed d.process ≡ Some f → d.process.queue ≡ h.x.queue → length d.process.memory ≡ length h.x.memory → Row b m pt l k
 landed_row b m pt l k y w c h f d (Landed.Done r) e serves_as placed_as turn_as outcome_as quiet lands plain_lands plain queue memory =
@@ -121,7 +121,7 @@ landed_row b m pt l k y w c h f d (Landed.Done r) e serves_as placed_as turn_as 
       serves = serves_as s y.id x px ∙ ap (λ (o : Option pieces.Landed). bind o (λ (n : pieces.Landed). Some (service.landed s y.id x n))) is;
       placed_is = placed_as ∙ lands_match m (placed.without_message l y.id) y h.x h.queue d lands ∙ ap (λ (n : Landed). Some (after_landing (placed.without_message l y.id) y.to.pid n (with_queue z h.queue))) e;
       turn = turn_as ∙ ap (λ (n : ℕ). machine.lands k0 y (landing.landing n h.x y.what h.x.status)) c.stands.here ∙ ap (machine.lands k0 y) lands ∙ ap (machine.lands_as k0 y z) e;
-      outcome = outcome_as ∙ ap (rule.lands y.id) is;
+      outcome = outcome_as ∙ ap (rule.landing_parts y.id) is;
       queue = queue;
       memory = memory;
       fresh = λ a g. cc;
@@ -148,7 +148,7 @@ landed_row b m pt l k y w c h f d (Landed.Next n) e serves_as placed_as turn_as 
       serves = serves_as s y.id x px ∙ ap (λ (o : Option pieces.Landed). bind o (λ (g : pieces.Landed). Some (service.landed s y.id x g))) is;
       placed_is = placed_as ∙ lands_match m (placed.without_message l y.id) y h.x h.queue d lands ∙ ap (λ (g : Landed). Some (after_landing (placed.without_message l y.id) p g (with_queue z h.queue))) e;
       turn = turn_as ∙ ap (λ (g : ℕ). machine.lands k0 y (landing.landing g h.x y.what h.x.status)) c.stands.here ∙ ap (machine.lands k0 y) lands ∙ ap (machine.lands_as k0 y z) e;
-      outcome = outcome_as ∙ ap (rule.lands y.id) is ∙ ap (λ (i : MsgId). Some (rule.says (Label.Served y.id) ∷ Routes i ∷ [])) (sym name);
+      outcome = outcome_as ∙ ap (rule.landing_parts y.id) is ∙ ap (λ (i : MsgId). Some (rule.says (Label.Served y.id) ∷ Routes i ∷ [])) (sym name);
       queue = queue;
       memory = memory;
       fresh = λ a g. let same : n ≡ a = cc in ap (λ (v : Message). s.bag v.id) (sym same) ∙ ap s.bag (name ∙ so.0.id) ∙ own_fresh b m pt l k y w c p px h.life;
@@ -156,14 +156,14 @@ landed_row b m pt l k y w c h f d (Landed.Next n) e serves_as placed_as turn_as 
       quiet = quiet;
     })
 
-lands_some : (i : MsgId) (o : Option pieces.Landed) (ps : List Part) → rule.lands i o ≡ Some ps → (f : pieces.Landed) × (o ≡ Some f)
+lands_some : (i : MsgId) (o : Option pieces.Landed) (ps : List Part) → rule.landing_parts i o ≡ Some ps → (f : pieces.Landed) × (o ≡ Some f)
 lands_some i None ps e = cc
 lands_some i (Some f) ps e = (f, refl)
 
 land_row : (b : Boot) (m : ℕ) (pt : Point) (l : Placed) (k : KernelState) (y : Message) (w : PlainWhat) (ps : List Part) (c : Taking b m pt l k y w) (h : IsHere b m pt l k y.to.pid) → Lands_as w
     → placed.serves m (placed.without_message l y.id) y (with_queue h.x h.queue) y.what ≡ placed.lands m (placed.without_message l y.id) y (with_queue h.x h.queue)
     → here_handles (record k { inbox = c.rest }) y h.x y.what ≡ machine.lands (record k { inbox = c.rest }) y (landing.landing k.here h.x y.what h.x.status)
-    → rule.here_handles pt m y.id (plainly y w) (plain_process h.x) w ≡ rule.lands y.id (pieces.lands y.to.pid (plain_process h.x) (plainly y w) (plain_process h.x).status)
+    → rule.here_handles pt m y.id (plainly y w) (plain_process h.x) w ≡ rule.landing_parts y.id (pieces.lands y.to.pid (plain_process h.x) (plainly y w) (plain_process h.x).status)
     → ((v : View) (p : Pid) → view.kills (plain_kind w) v (Some p) ≡ v) → rule.here_handles pt m y.id (plainly y w) (plain_process h.x) w ≡ Some ps → Row b m pt l k
 land_row b m pt l k y w ps c h serves_as placed_as turn_as outcome_as quiet goes =
     let px = plain_process h.x in

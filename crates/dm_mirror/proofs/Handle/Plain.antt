@@ -66,6 +66,6 @@ controls_plain g (Some child) _ ls = bad_plain g ls
 pub user_plain : (g : Managing) (code : ℕ) (body : List ℕ) (ls : List Link) → IsPlain (manage.takes_user g code body ls).message
 user_plain g code body ls = user_if (code == 0)
   where
-    user_if : (c : Bool) → IsPlain (if c then manage.requests g body ls else manage.controls g (manage.child_numbered g.children code) body ls).message
+    user_if : (c : Bool) → IsPlain (if c then manage.requests g body ls else manage.controls g (manage.child_address g.children code) body ls).message
     user_if true = requests_plain g body ls
-    user_if false = controls_plain g (manage.child_numbered g.children code) body ls
+    user_if false = controls_plain g (manage.child_address g.children code) body ls

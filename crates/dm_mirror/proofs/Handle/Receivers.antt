@@ -32,20 +32,20 @@ to_process b s y h = search
 
 -- the rule's
 abbrev rule_board : Point → MsgId → PlainMessage → Option (List Part)
-rule_board pt i x = rule.board_took i (board.takes pt.kernel.switchboard x x.what)
+rule_board pt i x = rule.board_took i (board.board_takes pt.kernel.switchboard x x.what)
 
 abbrev rule_manager : Point → MsgId → PlainMessage → Option (List Part)
-rule_manager pt i x = rule.manager_took i (manage.takes pt.kernel.manager pt.kernel.machines (length pt.kernel.images) x x.what)
+rule_manager pt i x = rule.manager_parts i (manage.manager_takes pt.kernel.manager pt.kernel.machines (length pt.kernel.images) x x.what)
 
 pub rule_to_kernel : (b : Boot) (pt : Point) (m : ℕ) (i : MsgId) (x : PlainMessage) → (x.to.num == 0) ≡ true → rule.handles b pt m i x ≡ rule.kernel_handles b pt m i x.what
 rule_to_kernel b pt m i x num =
     ap (λ (c : Bool). if c then rule.kernel_handles b pt m i x.what else if pid_eq x.to switchboard then rule_board pt i x else if pid_eq x.to manager then rule_manager pt i x else rule.process_handles pt m i x (pt.view.known m x.to)) num
 
-pub rule_to_board : (b : Boot) (pt : Point) (m : ℕ) (i : MsgId) (x : PlainMessage) → (x.to.num == 0) ≡ false → pid_eq x.to switchboard ≡ true → rule.handles b pt m i x ≡ rule.board_took i (board.takes pt.kernel.switchboard x x.what)
+pub rule_to_board : (b : Boot) (pt : Point) (m : ℕ) (i : MsgId) (x : PlainMessage) → (x.to.num == 0) ≡ false → pid_eq x.to switchboard ≡ true → rule.handles b pt m i x ≡ rule.board_took i (board.board_takes pt.kernel.switchboard x x.what)
 rule_to_board b pt m i x num one = grind (arith, nat_tests)
 
 pub rule_to_manager : (b : Boot) (pt : Point) (m : ℕ) (i : MsgId) (x : PlainMessage) → (x.to.num == 0) ≡ false → pid_eq x.to switchboard ≡ false → pid_eq x.to manager ≡ true
-    → rule.handles b pt m i x ≡ rule.manager_took i (manage.takes pt.kernel.manager pt.kernel.machines (length pt.kernel.images) x x.what)
+    → rule.handles b pt m i x ≡ rule.manager_parts i (manage.manager_takes pt.kernel.manager pt.kernel.machines (length pt.kernel.images) x x.what)
 rule_to_manager b pt m i x num one two = search
 
 pub rule_to_process : (b : Boot) (pt : Point) (m : ℕ) (i : MsgId) (x : PlainMessage) → IsProcess x.to → rule.handles b pt m i x ≡ rule.process_handles pt m i x (pt.view.known m x.to)

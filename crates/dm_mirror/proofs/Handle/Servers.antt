@@ -1,9 +1,9 @@
 -- Messages that a server takes, and what it sends.
 use Rattle.dm_mirror.proofs.Names.{◌≡◌, ℕ, ◌+◌, ◌==◌, ◌||◌, Bool, true, false, List, [], ◌∷◌, ◌++◌, length, refl, ap, ◌∙◌, sym, subst, nat_lt, arith, if◌then◌else◌, option_map, Option, None, Some, false≢true, nat_tests, Pid, pid_eq}
 use Rattle.dm_mirror.proofs.Names.{PlainLink, MsgId, Message, id_eq, Label, PlainMessage, PlainWhat, plain_message, Boot, switchboard, manager, Life, Manager, OneKernel, bind, plain_board, plain_request, Pending, control_link, Managing}
-use Rattle.dm_mirror.proofs.Names.{at_home, plain_manager, plain_pending, plain_created, plain_no_room, plain_pending_numbered, plain_user, counts, unentered, ServerSends, board_takes, manager_takes, Part, Point, blocks_of, bag_none}
-use Rattle.dm_mirror.proofs.Names.{is_server, IsPending, WhatFits, begun, home_of, StepNeeds, Placed, MirrorsKernel, board_took, manager_took, of_map, parts, plainly, user_what, created_what, no_room_what, Servers, handles, board_handles}
-use Rattle.dm_mirror.proofs.Names.{manager_handles, KernelState, turned, servers_at, server_fixed, zero_num, pending_is}
+use Rattle.dm_mirror.proofs.Names.{at_home, plain_manager, plain_pending, plain_created, plain_no_room, plain_pending_numbered, plain_user, counts, unentered, ServerSends, board_takes_lem, manager_takes_lem, Part, Point, blocks_of}
+use Rattle.dm_mirror.proofs.Names.{bag_none, is_server, IsPending, WhatFits, begun, home_of, StepNeeds, Placed, MirrorsKernel, board_took, manager_took, of_map, parts, plainly, user_what, created_what, no_room_what, Servers, handles}
+use Rattle.dm_mirror.proofs.Names.{board_handles, manager_handles, KernelState, turned, servers_at, server_fixed, zero_num, pending_is}
 use Rattle.dm_onekernel.specs.Kernel as kernels
 use Rattle.dm_onekernel.specs.Manager as one
 use Rattle.dm_onekernel.specs.Service as service
@@ -136,8 +136,8 @@ user_row b m pt l k y code channel bytes ls c num is =
     let u = user_what y.what code channel bytes ls c.says in
     let t = board.takes_request l.board u.body.items u.links.items in
     let v : Servers = record { board = l.board; manager = l.manager } in
-    let kk : boards.Took = record { switchboard = plain_board t.board; answer = bind t.took.answer plain_message } in
-    let takes : boards.takes s.switchboard x w ≡ Some kk =
+    let kk : boards.BoardTook = record { switchboard = plain_board t.board; answer = bind t.took.answer plain_message } in
+    let takes : boards.board_takes s.switchboard x w ≡ Some kk =
     (λ i. Some (boards.takes_request (sym c.mirrors.plain.board i) (sym u.bytes_are i) (sym u.links_are i))) ∙ sym (plain_request l.board u.body.items u.links.items t refl) in
     let taken : board.takes l.board y.what ≡ Some t = ap (board.takes l.board) u.is in
     took_row b m pt l k y w c (record {
@@ -148,8 +148,8 @@ user_row b m pt l k y code channel bytes ls c num is =
       home = at;
       server = server;
       step = ap (λ (o : Option PlainMessage). bind o (service.takes s y.id)) c.front.there
-          ∙ ap (λ (d : Bool). if d then bind (boards.takes s.switchboard x x.what) (λ (z : boards.Took). Some (service.switchboard_took s y.id z)) else if pid_eq x.to manager then bind (one.takes s.manager s.machines (length s.images) x x.what) (λ (z : one.Took). Some (service.manager_took s y.id z)) else None) is
-          ∙ ap (λ (o : Option boards.Took). bind o (λ (z : boards.Took). Some (service.switchboard_took s y.id z))) takes;
+          ∙ ap (λ (d : Bool). if d then bind (boards.board_takes s.switchboard x x.what) (λ (z : boards.BoardTook). Some (service.switchboard_took s y.id z)) else if pid_eq x.to manager then bind (one.manager_takes s.manager s.machines (length s.images) x x.what) (λ (z : one.ManagerTook). Some (service.manager_took s y.id z)) else None) is
+          ∙ ap (λ (o : Option boards.BoardTook). bind o (λ (z : boards.BoardTook). Some (service.switchboard_took s y.id z))) takes;
       placed_is = ap (λ (o : Option Message). bind o (placed.takes (placed.without_message l y.id))) c.there
           ∙ ap (λ (d : Bool). if d then bind (board.takes l.board y.what) (λ (z : board.Taken). Some (board_took (placed.without_message l y.id) z)) else if pid_eq y.to.pid manager then bind (manage.takes l.manager y.id.n y.what) (λ (z : manage.Taken). Some (manager_took (placed.without_message l y.id) z)) else None) is
           ∙ ap (λ (o : Option board.Taken). bind o (λ (z : board.Taken). Some (board_took (placed.without_message l y.id) z))) taken;
@@ -163,12 +163,12 @@ user_row b m pt l k y code channel bytes ls c num is =
       servers_is = sym (servers_zero (record (placed.without_message l y.id) { board = t.board }) m at);
       plain = board_plain l.board u.body.items u.links.items;
       fresh = λ q e.
-          let sends = subst (λ (o : Option PlainMessage). ServerSends switchboard s.switchboard.sent o kk.switchboard.sent) e (board_takes s.switchboard x w kk takes).2 in
+          let sends = subst (λ (o : Option PlainMessage). ServerSends switchboard s.switchboard.sent o kk.switchboard.sent) e (board_takes_lem s.switchboard x w kk takes).2 in
           ap (counts s) sends.0 ∙ (let z : nat_lt s.switchboard.sent s.switchboard.sent ≡ false = grind (arith, nat_tests) in z);
     })
 
 pub board_row : (b : Boot) (m : ℕ) (pt : Point) (l : Placed) (k : KernelState) (y : Message) (w : PlainWhat) (ps : List Part) → Taking b m pt l k y w → (y.to.pid.num == 0) ≡ false → pid_eq y.to.pid switchboard ≡ true
-    → rule.board_took y.id (boards.takes pt.kernel.switchboard (plainly y w) w) ≡ Some ps → Row b m pt l k
+    → rule.board_took y.id (boards.board_takes pt.kernel.switchboard (plainly y w) w) ≡ Some ps → Row b m pt l k
 board_row b m pt l k y (PlainWhat.User code channel bytes ls) ps c num is goes = user_row b m pt l k y code channel bytes ls c num is
 board_row b m pt l k y w ps c num is goes = absurd (let f : None ≡ Some ps = goes in cc)
 
@@ -177,7 +177,7 @@ manager_home : (p : Pid) (m : ℕ) → pid_eq p manager ≡ true → p.home ≡ 
 manager_home p m e home = let z : p.home ≡ 0 = grind (arith, nat_tests) in sym home ∙ z
 
 manager_by : (b : Boot) (m : ℕ) (pt : Point) (l : Placed) (k : KernelState) (y : Message) (w : PlainWhat) (t : manage.Taken) → Taking b m pt l k y w → (y.to.pid.num == 0) ≡ false → pid_eq y.to.pid switchboard ≡ false → pid_eq y.to.pid manager ≡ true
-    → manage.takes l.manager y.id.n y.what ≡ Some t → one.takes pt.kernel.manager pt.kernel.machines (length pt.kernel.images) (plainly y w) w ≡ Some (record { manager = plain_manager t.manager; message = bind t.message plain_message }) → IsPlain t.message → Row b m pt l k
+    → manage.takes l.manager y.id.n y.what ≡ Some t → one.manager_takes pt.kernel.manager pt.kernel.machines (length pt.kernel.images) (plainly y w) w ≡ Some (record { manager = plain_manager t.manager; message = bind t.message plain_message }) → IsPlain t.message → Row b m pt l k
 manager_by b m pt l k y w t c num off is taken takes plain =
     let s = pt.kernel in
     let x = plainly y w in
@@ -185,7 +185,7 @@ manager_by b m pt l k y w t c num off is taken takes plain =
     let server : is_server y.to.pid ≡ true = ap (λ (d : Bool). d || pid_eq y.to.pid manager) off ∙ is in
     let at = manager_home y.to.pid m is (home_of b m pt y.id x (server_fixed y.to.pid server) c.front) in
     let v : Servers = record { board = l.board; manager = l.manager } in
-    let kk : one.Took = record { manager = plain_manager t.manager; message = bind t.message plain_message } in
+    let kk : one.ManagerTook = record { manager = plain_manager t.manager; message = bind t.message plain_message } in
     took_row b m pt l k y w c (record {
       u = record (service.without_message s y.id) { manager = kk.manager };
       on = record (placed.without_message l y.id) { manager = t.manager };
@@ -194,15 +194,15 @@ manager_by b m pt l k y w t c num off is taken takes plain =
       home = at;
       server = server;
       step = ap (λ (o : Option PlainMessage). bind o (service.takes s y.id)) c.front.there
-          ∙ ap (λ (d : Bool). if d then bind (boards.takes s.switchboard x x.what) (λ (z : boards.Took). Some (service.switchboard_took s y.id z)) else if pid_eq x.to manager then bind (one.takes s.manager s.machines (length s.images) x x.what) (λ (z : one.Took). Some (service.manager_took s y.id z)) else None) off
-          ∙ ap (λ (d : Bool). if d then bind (one.takes s.manager s.machines (length s.images) x x.what) (λ (z : one.Took). Some (service.manager_took s y.id z)) else None) is
-          ∙ ap (λ (o : Option one.Took). bind o (λ (z : one.Took). Some (service.manager_took s y.id z))) takes;
+          ∙ ap (λ (d : Bool). if d then bind (boards.board_takes s.switchboard x x.what) (λ (z : boards.BoardTook). Some (service.switchboard_took s y.id z)) else if pid_eq x.to manager then bind (one.manager_takes s.manager s.machines (length s.images) x x.what) (λ (z : one.ManagerTook). Some (service.manager_took s y.id z)) else None) off
+          ∙ ap (λ (d : Bool). if d then bind (one.manager_takes s.manager s.machines (length s.images) x x.what) (λ (z : one.ManagerTook). Some (service.manager_took s y.id z)) else None) is
+          ∙ ap (λ (o : Option one.ManagerTook). bind o (λ (z : one.ManagerTook). Some (service.manager_took s y.id z))) takes;
       placed_is = ap (λ (o : Option Message). bind o (placed.takes (placed.without_message l y.id))) c.there
           ∙ ap (λ (d : Bool). if d then bind (board.takes l.board y.what) (λ (z : board.Taken). Some (board_took (placed.without_message l y.id) z)) else if pid_eq y.to.pid manager then bind (manage.takes l.manager y.id.n y.what) (λ (z : manage.Taken). Some (manager_took (placed.without_message l y.id) z)) else None) off
           ∙ ap (λ (d : Bool). if d then bind (manage.takes l.manager y.id.n y.what) (λ (z : manage.Taken). Some (manager_took (placed.without_message l y.id) z)) else None) is
           ∙ ap (λ (o : Option manage.Taken). bind o (λ (z : manage.Taken). Some (manager_took (placed.without_message l y.id) z))) taken;
       turn = to_manager b k0 y num off is ∙ ap (manager_handles k0 y) (c.stands.servers ∙ servers_zero l m at) ∙ ap (machine.manager_took k0 y v) taken;
-      outcome = rule_to_manager b pt m y.id x num off is ∙ ap (rule.manager_took y.id) takes;
+      outcome = rule_to_manager b pt m y.id x num off is ∙ ap (rule.manager_parts y.id) takes;
       machines = refl;
       made = λ n. refl;
       lives = λ q. refl;
@@ -211,17 +211,17 @@ manager_by b m pt l k y w t c num off is taken takes plain =
       servers_is = sym (servers_zero (record (placed.without_message l y.id) { manager = t.manager }) m at);
       plain = plain;
       fresh = λ q e.
-          let sends = subst (λ (o : Option PlainMessage). ServerSends manager s.manager.sent o kk.manager.sent) e (manager_takes s.manager s.machines (length s.images) x w kk takes).2.sends in
+          let sends = subst (λ (o : Option PlainMessage). ServerSends manager s.manager.sent o kk.manager.sent) e (manager_takes_lem s.manager s.machines (length s.images) x w kk takes).2.sends in
           ap (counts s) sends.0 ∙ (let z : nat_lt s.manager.sent s.manager.sent ≡ false = grind (arith, nat_tests) in z);
     })
 
-numbered : (s : OneKernel) (l : Placed) (n : ℕ) → MirrorsKernel s l → one.pending_numbered n s.manager.pending ≡ option_map plain_pending (manage.pending_numbered n l.manager.pending)
+numbered : (s : OneKernel) (l : Placed) (n : ℕ) → MirrorsKernel s l → one.pending_numbered n s.manager.pending ≡ option_map plain_pending (manage.pending_request n l.manager.pending)
 numbered s l n h = ap (λ (g : Manager). one.pending_numbered n g.pending) (sym h.manager) ∙ plain_pending_numbered n l.manager.pending
 
-asked : (s : OneKernel) (l : Placed) (i : MsgId) → MirrorsKernel s l → IsPending s i → (r : Pending) × (manage.pending_numbered i.n l.manager.pending ≡ Some r)
+asked : (s : OneKernel) (l : Placed) (i : MsgId) → MirrorsKernel s l → IsPending s i → (r : Pending) × (manage.pending_request i.n l.manager.pending ≡ Some r)
 asked s l i h p =
     let (r, there) = pending_is (one.pending_numbered i.n s.manager.pending) p.pending in
-    let (z, found, same) = of_map plain_pending (manage.pending_numbered i.n l.manager.pending) r (sym there ∙ numbered s l i.n h) in
+    let (z, found, same) = of_map plain_pending (manage.pending_request i.n l.manager.pending) r (sym there ∙ numbered s l i.n h) in
     (z, found)
 
 abbrev created_of : Managing → ℕ → Pid → Pending → manage.Taken
@@ -231,7 +231,7 @@ abbrev no_room_of : Managing → ℕ → Pending → manage.Taken
 no_room_of g n r = manage.answers (manage.settled g n) r.answer 1 []
 
 pub manager_row : (b : Boot) (m : ℕ) (pt : Point) (l : Placed) (k : KernelState) (y : Message) (w : PlainWhat) (ps : List Part) → Taking b m pt l k y w → (y.to.pid.num == 0) ≡ false → pid_eq y.to.pid switchboard ≡ false → pid_eq y.to.pid manager ≡ true → WhatFits pt.kernel y.id (plainly y w) w
-    → rule.manager_took y.id (one.takes pt.kernel.manager pt.kernel.machines (length pt.kernel.images) (plainly y w) w) ≡ Some ps → Row b m pt l k
+    → rule.manager_parts y.id (one.manager_takes pt.kernel.manager pt.kernel.machines (length pt.kernel.images) (plainly y w) w) ≡ Some ps → Row b m pt l k
 manager_row b m pt l k y (PlainWhat.User code channel bytes ls) ps c num off is fits goes =
     let h = c.mirrors.plain in
     let u = user_what y.what code channel bytes ls c.says in
@@ -244,19 +244,19 @@ manager_row b m pt l k y (PlainWhat.Created child) ps c num off is fits goes =
     let h = c.mirrors.plain in
     let (r, found) = asked s l y.id h fits.2 in
     let t = created_of l.manager y.id.n child r in
-    let taken : manage.takes_created l.manager y.id.n child (manage.pending_numbered y.id.n l.manager.pending) ≡ Some t = ap (manage.takes_created l.manager y.id.n child) found in
+    let taken : manage.takes_created l.manager y.id.n child (manage.pending_request y.id.n l.manager.pending) ≡ Some t = ap (manage.takes_created l.manager y.id.n child) found in
     manager_by b m pt l k y (PlainWhat.Created child) t c num off is (ap (manage.takes l.manager y.id.n) (created_what y.what child c.says) ∙ taken)
-    (ap (one.takes_created s.manager y.id.n child) (numbered s l y.id.n h) ∙ ap (λ (g : Manager). one.takes_created g y.id.n child (option_map plain_pending (manage.pending_numbered y.id.n l.manager.pending))) (sym h.manager)
-    ∙ sym (plain_created l.manager y.id.n child (manage.pending_numbered y.id.n l.manager.pending) t taken))
+    (ap (one.takes_created s.manager y.id.n child) (numbered s l y.id.n h) ∙ ap (λ (g : Manager). one.takes_created g y.id.n child (option_map plain_pending (manage.pending_request y.id.n l.manager.pending))) (sym h.manager)
+    ∙ sym (plain_created l.manager y.id.n child (manage.pending_request y.id.n l.manager.pending) t taken))
     (answers_plain (record (manage.settled l.manager y.id.n) { children = l.manager.children ++ at_home child ∷ [] }) r.answer 0 (control_link (length l.manager.children + 1) ∷ []))
 manager_row b m pt l k y PlainWhat.NoRoom ps c num off is fits goes =
     let s = pt.kernel in
     let h = c.mirrors.plain in
     let (r, found) = asked s l y.id h fits.2 in
     let t = no_room_of l.manager y.id.n r in
-    let taken : manage.takes_no_room l.manager y.id.n (manage.pending_numbered y.id.n l.manager.pending) ≡ Some t = ap (manage.takes_no_room l.manager y.id.n) found in
+    let taken : manage.takes_no_room l.manager y.id.n (manage.pending_request y.id.n l.manager.pending) ≡ Some t = ap (manage.takes_no_room l.manager y.id.n) found in
     manager_by b m pt l k y PlainWhat.NoRoom t c num off is (ap (manage.takes l.manager y.id.n) (no_room_what y.what c.says) ∙ taken)
-    (ap (one.takes_no_room s.manager y.id.n) (numbered s l y.id.n h) ∙ ap (λ (g : Manager). one.takes_no_room g y.id.n (option_map plain_pending (manage.pending_numbered y.id.n l.manager.pending))) (sym h.manager)
-    ∙ sym (plain_no_room l.manager y.id.n (manage.pending_numbered y.id.n l.manager.pending) t taken))
+    (ap (one.takes_no_room s.manager y.id.n) (numbered s l y.id.n h) ∙ ap (λ (g : Manager). one.takes_no_room g y.id.n (option_map plain_pending (manage.pending_request y.id.n l.manager.pending))) (sym h.manager)
+    ∙ sym (plain_no_room l.manager y.id.n (manage.pending_request y.id.n l.manager.pending) t taken))
     (answers_plain (manage.settled l.manager y.id.n) r.answer 1 [])
 manager_row b m pt l k y w ps c num off is fits goes = absurd (let f : None ≡ Some ps = goes in cc)

@@ -21,14 +21,14 @@ pub record LivesHere (m : ℕ) (pt : Point) (l : Placed) (k : KernelState) (p : 
 pub known_here : (next : Point) (placed : Placed) (m : ℕ) (n : KernelState) (p : Pid) (y : Process) (queue : List Message) → n.records p ≡ Some (Record.Here y) → next.view.known m p ≡ view.Here → placed.processes p ≡ Some (with_queue y queue)
     → AreMessages placed.bag (next.view.queue m p) y.queue → KnownStands next placed p (next.view.queue m p) (next.view.held m p) (next.view.known m p) (n.records p)
 known_here next placed m n p y queue e known there messages =
-    subst (λ (r : Option machine.Known). KnownStands next placed p (next.view.queue m p) (next.view.held m p) (next.view.known m p) r) (sym e)
+    subst (λ (r : Option machine.KernelKnown). KnownStands next placed p (next.view.queue m p) (next.view.held m p) (next.view.known m p) r) (sym e)
     (subst (λ (w : view.Known). KnownStands next placed p (next.view.queue m p) (next.view.held m p) w (Some (Record.Here y))) (sym known) ((queue, there), messages))
 
 pub known_ended : (next : Point) (placed : Placed) (m : ℕ) (n : KernelState) (p : Pid) (y : Why) → n.records p ≡ Some (Record.Ended y) → next.view.known m p ≡ view.Ended → next.kernel.processes p ≡ Some (Life.Ended y)
     → KnownStands next placed p (next.view.queue m p) (next.view.held m p) (next.view.known m p) (n.records p)
 known_ended next placed m n p y e known life =
-    subst (λ (r : Option machine.Known). KnownStands next placed p (next.view.queue m p) (next.view.held m p) (next.view.known m p) r) (sym e)
-    (subst (λ (w : view.Known). KnownStands next placed p (next.view.queue m p) (next.view.held m p) w (Some (Record.Ended y))) (sym known) (ap kernel.ended life))
+    subst (λ (r : Option machine.KernelKnown). KnownStands next placed p (next.view.queue m p) (next.view.held m p) (next.view.known m p) r) (sym e)
+    (subst (λ (w : view.Known). KnownStands next placed p (next.view.queue m p) (next.view.held m p) w (Some (Record.Ended y))) (sym known) (ap kernel.why_ended life))
 
 blocks_same : (x y : Process) → length y.memory ≡ length x.memory → blocks_of (Some (plain_process y)) ≡ blocks_of (Some (plain_process x))
 blocks_same x y e = ap (λ (n : ℕ). n / 256) e

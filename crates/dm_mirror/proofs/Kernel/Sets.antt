@@ -167,7 +167,7 @@ pub messages_on : (f g : MsgId → Option Message) (ids : List MsgId) (ms : List
 messages_on f g ids ms same h = map_same f g ids same ∙ h
 
 -- what a machine knows of a process that stays
-pub known_at : (pt next : Point) (l placed : Placed) (q : Pid) (ids held_ : List MsgId) (w : Known) (r : Option machine.Known) → placed.processes q ≡ l.processes q → next.kernel.processes q ≡ pt.kernel.processes q
+pub known_at : (pt next : Point) (l placed : Placed) (q : Pid) (ids held_ : List MsgId) (w : Known) (r : Option machine.KernelKnown) → placed.processes q ≡ l.processes q → next.kernel.processes q ≡ pt.kernel.processes q
     → ((i : MsgId) → 1 ≤ times i ids → placed.bag i ≡ l.bag i) → ((i : MsgId) → 1 ≤ times i held_ → placed.bag i ≡ l.bag i) → KnownStands pt l q ids held_ w r → KnownStands next placed q ids held_ w r
 known_at pt next l placed q ids held_ Unknown None p e b c h = tt
 known_at pt next l placed q ids held_ Here (Some (Record.Here x)) p e b c h = ((h.0.0, p ∙ h.0.1), messages_on l.bag placed.bag ids x.queue b h.1)
@@ -176,7 +176,7 @@ known_at pt next l placed q ids held_ (Frozen to) (Some (Record.Frozen d)) p e b
 known_at pt next l placed q ids held_ (Incoming from) (Some (Record.Incoming a)) p e b c h = search
     (p ∙ h.there, messages_on l.bag placed.bag held_ a.held c h.held)
 known_at pt next l placed q ids held_ (Forward at moves) (Some (Record.Forward to count)) p e b c h = h
-known_at pt next l placed q ids held_ Ended (Some (Record.Ended y)) p e b c h = ap kernel.ended e ∙ h
+known_at pt next l placed q ids held_ Ended (Some (Record.Ended y)) p e b c h = ap kernel.why_ended e ∙ h
 known_at pt next l placed q ids held_ w r p e b c h = absurd h
 
 -- what a machine keeps where process p changes
@@ -204,7 +204,7 @@ set_stands b m t p pt next l placed k n g s queues helds server known ring inbox
         in
         let ids : next.view.queue m q ≡ pt.view.queue m q = g.view.lists (Queue m q) (queues q apart) in
         let same : next.view.known m q ≡ pt.view.known m q = g.view.known m q (right_off (m == m) (pid_eq p q) apart) in
-        subst (λ (r : Option machine.Known). KnownStands next placed q (next.view.queue m q) (next.view.held m q) (next.view.known m q) r) (sym (s.records q apart))
+        subst (λ (r : Option machine.KernelKnown). KnownStands next placed q (next.view.queue m q) (next.view.held m q) (next.view.known m q) r) (sym (s.records q apart))
         (subst (λ (z : Known). KnownStands next placed q (next.view.queue m q) (next.view.held m q) z (k.records q)) (sym same)
         (subst (λ (z : List MsgId). KnownStands next placed q (next.view.queue m q) z (pt.view.known m q) (k.records q)) (sym (g.view.held m q))
         (subst (λ (z : List MsgId). KnownStands next placed q z (pt.view.held m q) (pt.view.known m q) (k.records q)) (sym ids) w)))

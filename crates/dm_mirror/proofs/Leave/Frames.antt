@@ -8,21 +8,21 @@ use Rattle.dm_mirror.proofs.Handle.Frames.{map_same}
 pub use Rattle.dm_mirror.proofs.Kernel.Sets.{known_at as known_stays}
 
 -- a process that is here, and one that leaves
-pub record IsHere (l : Placed) (p : Pid) (queue : List MsgId) (r : Option machine.Known) : Type 0 where
+pub record IsHere (l : Placed) (p : Pid) (queue : List MsgId) (r : Option machine.KernelKnown) : Type 0 where
   pub process : Process
   pub is : r ≡ Some (Record.Here process)
   pub stands : HereStands l p queue process
 
-pub here_is : (pt : Point) (l : Placed) (p : Pid) (queue held : List MsgId) (r : Option machine.Known) → KnownStands pt l p queue held Here r → IsHere l p queue r
+pub here_is : (pt : Point) (l : Placed) (p : Pid) (queue held : List MsgId) (r : Option machine.KernelKnown) → KnownStands pt l p queue held Here r → IsHere l p queue r
 here_is pt l p queue held (Some (Record.Here x)) h = record { process = x; is = refl; stands = h }
 here_is pt l p queue held _ h = absurd h
 
-pub record IsLeaving (l : Placed) (p : Pid) (queue held : List MsgId) (to : ℕ) (r : Option machine.Known) : Type 0 where
+pub record IsLeaving (l : Placed) (p : Pid) (queue held : List MsgId) (to : ℕ) (r : Option machine.KernelKnown) : Type 0 where
   pub departure : Departure
   pub is : r ≡ Some (Record.Frozen departure)
   pub stands : LeavesStand l p queue held to departure
 
-pub leaving_is : (pt : Point) (l : Placed) (p : Pid) (queue held : List MsgId) (to : ℕ) (r : Option machine.Known) → KnownStands pt l p queue held (Frozen to) r → IsLeaving l p queue held to r
+pub leaving_is : (pt : Point) (l : Placed) (p : Pid) (queue held : List MsgId) (to : ℕ) (r : Option machine.KernelKnown) → KnownStands pt l p queue held (Frozen to) r → IsLeaving l p queue held to r
 leaving_is pt l p queue held to (Some (Record.Frozen d)) h = record { departure = d; is = refl; stands = h }
 leaving_is pt l p queue held to _ h = absurd h
 
@@ -81,7 +81,7 @@ tokens_one v w l placed before after p c h q i t z told between about st =
           search (
             c.processes q apart ∙ x.there,
             g.1 ∙ x.is,
-            subst (λ (n : ℕ). Carries q x.process n (incoming_of (after d q)) x.message.what) (sym (c.asked q apart)) (subst (λ (r : Option machine.Known). Carries q x.process (v.asked q) (incoming_of r) x.message.what) (sym (c.records d q apart)) x.carries),
+            subst (λ (n : ℕ). Carries q x.process n (incoming_of (after d q)) x.message.what) (sym (c.asked q apart)) (subst (λ (r : Option machine.KernelKnown). Carries q x.process (v.asked q) (incoming_of r) x.message.what) (sym (c.records d q apart)) x.carries),
           )
     ]
 

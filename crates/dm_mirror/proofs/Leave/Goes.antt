@@ -143,7 +143,7 @@ goes b m pt l records k y p h made =
       routes = map On on;
       late = Leaves p restart;
       turn = turn_hears b m pt l records k z h (turned state (Part.Says (Line.SentOn p n) ∷ map part_of (map On on) ++ sends))
-          (owns.to_kernel b s z num ∙ ap (λ (r : Option machine.Known). bind (frozen_of r) (leaves s p)) d.is ∙ ap (λ (ps : List Part). turned state (Part.Says (Line.SentOn p n) ∷ ps ++ sends)) (sym (on_parts on)));
+          (owns.to_kernel b s z num ∙ ap (λ (r : Option machine.KernelKnown). bind (frozen_of r) (leaves s p)) d.is ∙ ap (λ (ps : List Part). turned state (Part.Says (Line.SentOn p n) ∷ ps ++ sends)) (sym (on_parts on)));
       outcome = outcome_hears b m pt l records k z h (Some (rule.Says (Line.SentOn p n) ∷ map rule_part_of (map On on) ++ last))
           (to_kernel_hears b pt m y.id (told_of z) num
           ∙ leaves_alive b m pt l p (record x { queue = d.stands.here.0.0 }) y.id MessageKind.AllTaken (Some (rule.Says (Line.SentOn p n) ∷ map rule_part_of (map On on) ++ last)) there (h.mirrors.plain.processes p)
@@ -187,7 +187,7 @@ goes b m pt l records k y p h made =
         ap kernel_at h.stands.here,
         bag_absent l to moves ids restart.id (ap l.bag id_is ∙ absent_next b pt l m h.run h.mirrors h.own),
         ap v.told id_is ∙ untold_next b pt m h.run,
-        subst (λ (r : Option machine.Known). Wants (incoming_of r) Wanted.Nothing) (sym (ap (λ (f : Pid → Option machine.Known). f p) (machine_off records m to state.records apart))) (subst (λ (r : ℕ). Wants (incoming_of (records r p)) Wanted.Nothing) from_is c.carries.1),
+        subst (λ (r : Option machine.KernelKnown). Wants (incoming_of r) Wanted.Nothing) (sym (ap (λ (f : Pid → Option machine.KernelKnown). f p) (machine_off records m to state.records apart))) (subst (λ (r : ℕ). Wants (incoming_of (records r p)) Wanted.Nothing) from_is c.carries.1),
       ));
       own = own_on v end.view l to moves ids refl h.own;
       tokens = tokens_one v end.view l placed records after_records p

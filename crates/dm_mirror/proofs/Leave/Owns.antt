@@ -87,7 +87,7 @@ three_off false false true e = cc
 three_off false true c e = cc
 three_off true b c e = cc
 
-pub to_process : (b : Boot) (s : KernelState) (y : Message) (r : Option machine.Known) → is_fixed y.to.pid ≡ false → s.records y.to.pid ≡ r → handles b s y ≡ process_handles s y r
+pub to_process : (b : Boot) (s : KernelState) (y : Message) (r : Option machine.KernelKnown) → is_fixed y.to.pid ≡ false → s.records y.to.pid ≡ r → handles b s y ≡ process_handles s y r
 to_process b s y r loose is = grind (arith, nat_tests, three_off)
 
 pub process_hears : (b : Boot) (pt : Point) (m : ℕ) (i : MsgId) (t : Told) (n : Known) → is_fixed t.receiver ≡ false → pt.view.known m t.receiver ≡ n → hears b pt m i (Some t) ≡ process_told pt m i t n
@@ -97,5 +97,5 @@ pub to_kernel_hears : (b : Boot) (pt : Point) (m : ℕ) (i : MsgId) (t : Told) �
 to_kernel_hears b pt m i t num = grind (arith, nat_tests)
 
 -- the records of all machines, where those of machine m are these
-pub records_as : (records : AllRecords) (m n : ℕ) (f g : Pid → Option machine.Known) (q : Pid) → records m ≡ f → g q ≡ f q → at_machine records m g n q ≡ records n q
+pub records_as : (records : AllRecords) (m n : ℕ) (f g : Pid → Option machine.KernelKnown) (q : Pid) → records m ≡ f → g q ≡ f q → at_machine records m g n q ≡ records n q
 records_as records m n f g q is same = grind (arith, nat_tests, eqb_tells, machine_self, machine_off)

@@ -114,7 +114,7 @@ gives b m pt l records k y p w h g piece c turn hears proto x there carries =
           ap kernel_at h.stands.here,
           ap l.bag id_is ∙ absent_next b pt l m h.run h.mirrors h.own,
           ap v.told id_is ∙ untold_next b pt m h.run,
-          subst (λ (n : ℕ). Carries p x (v.asked p) (incoming_of (after_records n p)) w) (sym to_is) (subst (λ (r : Option machine.Known). Carries p x (v.asked p) (incoming_of r) w) (sym same_there) carries),
+          subst (λ (n : ℕ). Carries p x (v.asked p) (incoming_of (after_records n p)) w) (sym to_is) (subst (λ (r : Option machine.KernelKnown). Carries p x (v.asked p) (incoming_of r) w) (sym same_there) carries),
         )),
         tt,
       );
@@ -155,7 +155,7 @@ gives_chunk b m pt l records k y p chunk h =
     let told = c.carries in
     gives b m pt l records k z p (chunk_of x.pid (state_of x) chunk) h g
     (record { about = ap Of name; plain = refl; encloses = refl; gives = λ o v a i q. refl; of_source = refl }) c
-    (ap (λ (r : Option machine.Known). bind (frozen_of r) (λ (e : Departure). gives_piece s z (chunk_of e.process.pid (state_of e.process) chunk))) d.is)
+    (ap (λ (r : Option machine.KernelKnown). bind (frozen_of r) (λ (e : Departure). gives_piece s z (chunk_of e.process.pid (state_of e.process) chunk))) d.is)
     (leaves_alive b m pt l p c.process y.id MessageKind.PullState (Some (migrating.gives_piece y.id MessageKind.State)) c.there (h.mirrors.plain.processes p) refl)
     refl c.process c.there (ap (λ (u : Process). chunk_of u.pid (state_of u) chunk) same, told.1, told.2)
 
@@ -172,7 +172,7 @@ gives_block b m pt l records k y p block h =
     let told = c.carries in
     gives b m pt l records k z p (block_of x.pid x.memory block) h g
     (record { about = ap Of name; plain = refl; encloses = refl; gives = λ o v a i q. refl; of_source = refl }) c
-    (ap (λ (r : Option machine.Known). bind (frozen_of r) (λ (e : Departure). gives_piece s z (block_of e.process.pid e.process.memory block))) d.is)
+    (ap (λ (r : Option machine.KernelKnown). bind (frozen_of r) (λ (e : Departure). gives_piece s z (block_of e.process.pid e.process.memory block))) d.is)
     (leaves_alive b m pt l p c.process y.id MessageKind.PullBlock (Some (migrating.gives_piece y.id MessageKind.Memory)) c.there (h.mirrors.plain.processes p) refl)
     refl c.process c.there (ap (λ (u : Process). block_of u.pid u.memory block) same, told.1, told.2)
 

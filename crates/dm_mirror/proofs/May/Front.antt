@@ -1,6 +1,6 @@
 -- The message at the front of a machine's inbox is one that the machine can handle: for a kernel, a server, or a process.
 use Rattle.dm_mirror.proofs.Names.{◌≡◌, ◌≢◌, ℕ, ◌+◌, ◌<◌, ◌≤◌, ◌==◌, ◌||◌, Bool, true, false, List, [], ◌∷◌, length, map, refl, ap, ◌∙◌, sym, subst, is_some, arith, if◌then◌else◌, length-map, Option, None, Some, nat_tests, Pid, pid_eq}
-use Rattle.dm_mirror.proofs.Names.{Message, MsgId, MessageKind, kind_of, PlainMessage, PlainWhat, plain_message, plain_what, with_what, Pending, plain_child, plain_manager, plain_pending, IsForManager, pending_numbered, Boot, first_number}
+use Rattle.dm_mirror.proofs.Names.{Message, MsgId, MessageKind, kind_of, PlainMessage, PlainWhat, plain_message, plain_what, with_what, Pending, plain_child, plain_manager, plain_pending, IsForManager, pending_request, Boot, first_number}
 use Rattle.dm_mirror.proofs.Names.{manager, switchboard, Manager, OneKernel, Switchboard, Inbox, Unknown, Point, WhatFits, is_server, is_fixed, Run, front, ForOther, ForOthers, ForProcess, ForWhom, for_whom, home_of, told_receiver, Placed}
 use Rattle.dm_mirror.proofs.Names.{Mirrors, create_what, created_what, no_room_what, user_what, FitsBoard, FitsKernel, FitsManager, KernelState, managed_fits, user_fits, MadeStands, servers_at}
 use Rattle.dm_onekernel.specs.Kernel as one
@@ -117,13 +117,13 @@ pending_plainly_if : (n : ℕ) (r : Pending) (c : Bool) (o : Option one.Pending)
 pending_plainly_if n r true o p e = refl
 pending_plainly_if n r false o p e = e
 
-pending_plainly : (n : ℕ) (ps : List Pending) → is_some (manage.pending_numbered n (map plain_pending ps)) ≡ is_some (pending_numbered n ps)
+pending_plainly : (n : ℕ) (ps : List Pending) → is_some (manage.pending_numbered n (map plain_pending ps)) ≡ is_some (pending_request n ps)
 pending_plainly n [] = refl
-pending_plainly n (r ∷ rs) = pending_plainly_if n r (r.n == n) (manage.pending_numbered n (map plain_pending rs)) (pending_numbered n rs) (pending_plainly n rs)
+pending_plainly n (r ∷ rs) = pending_plainly_if n r (r.n == n) (manage.pending_numbered n (map plain_pending rs)) (pending_request n rs) (pending_plainly n rs)
 
-is_pending : (s : OneKernel) (l : Placed) (i : MsgId) (n : ℕ) → n ≡ i.n → plain_manager l.manager ≡ s.manager → is_some (manage.pending_numbered i.n s.manager.pending) ≡ true → is_some (pending_numbered n l.manager.pending) ≡ true
+is_pending : (s : OneKernel) (l : Placed) (i : MsgId) (n : ℕ) → n ≡ i.n → plain_manager l.manager ≡ s.manager → is_some (manage.pending_numbered i.n s.manager.pending) ≡ true → is_some (pending_request n l.manager.pending) ≡ true
 is_pending s l i n same e pending =
-    ap (λ j. is_some (pending_numbered j l.manager.pending)) same ∙ sym (pending_plainly i.n l.manager.pending) ∙ ap (λ (g : Manager). is_some (manage.pending_numbered i.n g.pending)) e ∙ pending
+    ap (λ j. is_some (pending_request j l.manager.pending)) same ∙ sym (pending_plainly i.n l.manager.pending) ∙ ap (λ (g : Manager). is_some (manage.pending_numbered i.n g.pending)) e ∙ pending
 
 managed_row : (s : OneKernel) (l : Placed) (i : MsgId) (x : Message) (p : PlainMessage) (w : PlainWhat) → plain_what x.what ≡ Some w → is_managed w ≡ true → WhatFits s i p w → x.id ≡ i → plain_manager l.manager ≡ s.manager → IsForManager l.manager x.id.n x.what
 managed_row s l i x p (PlainWhat.User code channel body links) e c fits id g = subst (IsForManager l.manager x.id.n) (sym (user_what x.what code channel body links e).is) tt

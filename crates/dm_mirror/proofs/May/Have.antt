@@ -79,7 +79,7 @@ here_so b pt l m k p x mirrors h server is =
     record { known = known; queue = q; there = there; life = life_is pt l p (record x { queue = q }) mirrors there }
 
 -- the servers have no records
-pub not_server_by : (b : Boot) (pt : Point) (l : Placed) (m : ℕ) (k : KernelState) (p : Pid) (r : machine.Known) (c : Bool) → is_server p ≡ c → KernelStands b pt l m k → k.records p ≡ Some r → is_server p ≡ false
+pub not_server_by : (b : Boot) (pt : Point) (l : Placed) (m : ℕ) (k : KernelState) (p : Pid) (r : machine.KernelKnown) (c : Bool) → is_server p ≡ c → KernelStands b pt l m k → k.records p ≡ Some r → is_server p ≡ false
 not_server_by b pt l m k p r false e h is = e
 not_server_by b pt l m k p r true e h is = absurd (let f : None ≡ Some r = sym (h.no_server p e) ∙ is in cc)
 

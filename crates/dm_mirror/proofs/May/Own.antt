@@ -61,7 +61,7 @@ own_ended q (What.Move machine_) e num = absurd (false≢true e)
 own_ended q (What.Moved outcome) e num = absurd (false≢true e)
 own_ended q _ e num = tt
 
-own_row : (b : Boot) (pt : Point) (l : Placed) (m : ℕ) (k : KernelState) (i : MsgId) (x : Message) (o : Option machine.Known) → Mirrors pt.kernel pt.view pt.addresses l → KernelStands b pt l m k → CountsFew pt → k.sent < 4294967295 → OwnFront pt l m i x
+own_row : (b : Boot) (pt : Point) (l : Placed) (m : ℕ) (k : KernelState) (i : MsgId) (x : Message) (o : Option machine.KernelKnown) → Mirrors pt.kernel pt.view pt.addresses l → KernelStands b pt l m k → CountsFew pt → k.sent < 4294967295 → OwnFront pt l m i x
     → (x.to.pid.num == 0) ≡ false → is_server x.to.pid ≡ false → k.records x.to.pid ≡ o → FitsKnown k x o
 own_row b pt l m k i x None mirrors h counts sent f num server is =
     let p = x.to.pid in

@@ -2,8 +2,8 @@
 -- coming, and the message carries what is asked for.
 use Rattle.dm_mirror.proofs.Names.{◌≡◌, ℕ, ◌*◌, ◌/◌, ◌≤◌, ◌==◌, ◌&&◌, not, Bool, true, false, List, length, refl, ap, ◌∙◌, sym, subst, arith, if◌then◌else◌, length-map, Option, None, Some, false≢true, All-nil, Pid, Message, MsgId, What}
 use Rattle.dm_mirror.proofs.Names.{MessageKind, Record, kind_of, IsLawfulMessage, Process, IsLawfulProcess, frozen_of, incoming_of, Wanted, IsAskOfProcess, Arrival, CanMove, Departure, ask_of, HasBlock, HasChunk, state_of, Boot, Phase}
-use Rattle.dm_mirror.proofs.Names.{Moves, comes, is_apart, is_away, is_between, is_early, is_of_source, is_restart, knows, leaves, receiver_in, sender_in, told_between, Point, Inbox, standing, View, Known, Unknown, Here, Frozen, Incoming}
-use Rattle.dm_mirror.proofs.Names.{Forward, Of, Told, token_at, token_is, is_server, Run, Placed, IsSuch, KernelState, about_of, AreMessages, ComesStand, KernelStands, KnownStands, LeavesStand, Carries, TokensStand, Wants}
+use Rattle.dm_mirror.proofs.Names.{Moves, kind_comes, is_apart, is_away, is_between, is_early, is_of_source, is_restart, knows, kind_leaves, receiver_in, sender_in, told_between, Point, Inbox, standing, View, Known, Unknown, Here, Frozen}
+use Rattle.dm_mirror.proofs.Names.{Incoming, Forward, Of, Told, token_at, token_is, is_server, Run, Placed, IsSuch, KernelState, about_of, AreMessages, ComesStand, KernelStands, KnownStands, LeavesStand, Carries, TokensStand, Wants}
 use Rattle.dm_mirror.proofs.Names.{destination_of, eq_self, apart_is, inbox_is, about_same}
 use Rattle.dm_migrate.specs.Way.{moved}
 use Rattle.dm_kernel.specs.State as machine
@@ -14,16 +14,16 @@ use Rattle.dm_mirror.proofs.Turning.{is_moving}
 pub record IsMoved (pt : Point) (m : ℕ) (p : Pid) (k : MessageKind) : Type 0 where
   pub s : ℕ
   pub d : ℕ
-  pub source : leaves k d (pt.view.known s p) ≡ true
-  pub destination : comes k s (pt.view.known d p) ≡ true
+  pub source : kind_leaves k d (pt.view.known s p) ≡ true
+  pub destination : kind_comes k s (pt.view.known d p) ≡ true
   pub here : m ≡ receiver_in k s d
 
-source_knows : (k : MessageKind) (s d : ℕ) (n : Known) → (if s == s then leaves k d n else if d == s then comes k s n else is_away n) ≡ true → leaves k d n ≡ true
-source_knows k s d n e = sym (ap (λ (c : Bool). if c then leaves k d n else if d == s then comes k s n else is_away n) (eq_self s)) ∙ e
+source_knows : (k : MessageKind) (s d : ℕ) (n : Known) → (if s == s then kind_leaves k d n else if d == s then kind_comes k s n else is_away n) ≡ true → kind_leaves k d n ≡ true
+source_knows k s d n e = sym (ap (λ (c : Bool). if c then kind_leaves k d n else if d == s then kind_comes k s n else is_away n) (eq_self s)) ∙ e
 
-destination_knows : (k : MessageKind) (s d : ℕ) (n : Known) → (s == d) ≡ false → (if s == d then leaves k d n else if d == d then comes k s n else is_away n) ≡ true → comes k s n ≡ true
+destination_knows : (k : MessageKind) (s d : ℕ) (n : Known) → (s == d) ≡ false → (if s == d then kind_leaves k d n else if d == d then kind_comes k s n else is_away n) ≡ true → kind_comes k s n ≡ true
 destination_knows k s d n off e =
-    sym (ap (λ (c : Bool). if c then leaves k d n else if d == d then comes k s n else is_away n) off ∙ ap (λ (c : Bool). if c then comes k s n else is_away n) (eq_self d)) ∙ e
+    sym (ap (λ (c : Bool). if c then kind_leaves k d n else if d == d then kind_comes k s n else is_away n) off ∙ ap (λ (c : Bool). if c then kind_comes k s n else is_away n) (eq_self d)) ∙ e
 
 abbrev pub kind_in : Option Told → MessageKind
 kind_in None = MessageKind.Bury
@@ -50,12 +50,12 @@ is_moved b pt m i t p run told between about first =
     apart_of v q k s d i f e h = sym (ap is_apart e) ∙ h
 
 -- the source holds the process until it may restart, and the destination expects it once it has accepted
-pub frozen_at : (k : MessageKind) (d : ℕ) (n : Known) → leaves k d n ≡ true → is_restart k ≡ false → (to : ℕ) × (n ≡ Frozen to)
+pub frozen_at : (k : MessageKind) (d : ℕ) (n : Known) → kind_leaves k d n ≡ true → is_restart k ≡ false → (to : ℕ) × (n ≡ Frozen to)
 frozen_at k d (Frozen to) e r = (to, refl)
 frozen_at k d (Forward m moves) e r = absurd (false≢true (sym (ap (λ (c : Bool). c && (d == m)) r) ∙ e))
 frozen_at k d _ e r = absurd (false≢true e)
 
-incoming_at : (k : MessageKind) (s : ℕ) (n : Known) → comes k s n ≡ true → is_early k ≡ false → (from : ℕ) × (n ≡ Incoming from)
+incoming_at : (k : MessageKind) (s : ℕ) (n : Known) → kind_comes k s n ≡ true → is_early k ≡ false → (from : ℕ) × (n ≡ Incoming from)
 incoming_at k s (Incoming from) e r = (from, refl)
 incoming_at k s Unknown e r = absurd (false≢true (sym r ∙ e))
 incoming_at k s (Forward m moves) e r = absurd (false≢true (sym r ∙ e))
@@ -78,7 +78,7 @@ pub record Leaves (pt : Point) (l : Placed) (n : ℕ) (k : KernelState) (p : Pid
   pub is : k.records p ≡ Some (Record.Frozen departure)
   pub stands : LeavesStand l p (pt.view.queue n p) (pt.view.held n p) to departure
 
-leaving : (pt : Point) (l : Placed) (n : ℕ) (k : KernelState) (p : Pid) (to : ℕ) (o : Option machine.Known) → pt.view.known n p ≡ Frozen to → k.records p ≡ o → KnownStands pt l p (pt.view.queue n p) (pt.view.held n p) (Frozen to) o → Leaves pt l n k p
+leaving : (pt : Point) (l : Placed) (n : ℕ) (k : KernelState) (p : Pid) (to : ℕ) (o : Option machine.KernelKnown) → pt.view.known n p ≡ Frozen to → k.records p ≡ o → KnownStands pt l p (pt.view.queue n p) (pt.view.held n p) (Frozen to) o → Leaves pt l n k p
 leaving pt l n k p to (Some (Record.Frozen d)) known is h = record { to = to; known = known; departure = d; is = is; stands = h }
 leaving pt l n k p to _ known is h = absurd h
 
@@ -92,7 +92,7 @@ pub record Comes (pt : Point) (l : Placed) (n : ℕ) (k : KernelState) (p : Pid)
   pub is : k.records p ≡ Some (Record.Incoming arrival)
   pub stands : ComesStand l p (pt.view.held n p) arrival
 
-coming_to : (pt : Point) (l : Placed) (n : ℕ) (k : KernelState) (p : Pid) (from : ℕ) (o : Option machine.Known) → k.records p ≡ o → KnownStands pt l p (pt.view.queue n p) (pt.view.held n p) (Incoming from) o → Comes pt l n k p
+coming_to : (pt : Point) (l : Placed) (n : ℕ) (k : KernelState) (p : Pid) (from : ℕ) (o : Option machine.KernelKnown) → k.records p ≡ o → KnownStands pt l p (pt.view.queue n p) (pt.view.held n p) (Incoming from) o → Comes pt l n k p
 coming_to pt l n k p from (Some (Record.Incoming a)) is h = record { arrival = a; is = is; stands = h }
 coming_to pt l n k p from _ is h = absurd h
 

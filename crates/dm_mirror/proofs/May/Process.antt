@@ -89,7 +89,7 @@ known_some pt l p ids held_ Known.Unknown h = refl
 known_some pt l p ids held_ _ h = absurd h
 
 -- what the machine knows of it
-process_row : (b : Boot) (pt : Point) (l : Placed) (m : ℕ) (k : KernelState) (i : MsgId) (x : Message) (p : PlainMessage) (o : Option machine.Known) → Mirrors pt.kernel pt.view pt.addresses l → KernelStands b pt l m k → k.sent < 4294967295 → FrontSo pt m i x p
+process_row : (b : Boot) (pt : Point) (l : Placed) (m : ℕ) (k : KernelState) (i : MsgId) (x : Message) (p : PlainMessage) (o : Option machine.KernelKnown) → Mirrors pt.kernel pt.view pt.addresses l → KernelStands b pt l m k → k.sent < 4294967295 → FrontSo pt m i x p
     → (p.to.num == 0) ≡ false → pid_eq p.to manager ≡ false → is_server p.to ≡ false → k.records p.to ≡ o → FitsKnown k x o
 process_row b pt l m k i x p None mirrors h sent f num other server is =
     f.known (ap (λ (c : Bool). c || is_server p.to) num ∙ server) (known_some pt l p.to (pt.view.queue m p.to) (pt.view.held m p.to) (pt.view.known m p.to) (subst (KnownStands pt l p.to (pt.view.queue m p.to) (pt.view.held m p.to) (pt.view.known m p.to)) is (h.known p.to server)))

@@ -54,7 +54,7 @@ module _ (b : Boot) (pt : Point) (l u : Placed) (a : Addresses) (e : MoreBag l u
   comes_more : (p : Pid) (held : List MsgId) (x : Arrival) → ComesStand l p held x → ComesStand u p held x
   comes_more p held x h = record { process = h.process; there = e.processes p ∙ h.there; whole = h.whole; pieces = h.pieces; held = messages_more l.bag u.bag e.bag held x.held h.held }
 
-  known_more : (p : Pid) (queue held : List MsgId) (k : Known) (r : Option machine.Known) → KnownStands pt l p queue held k r → KnownStands next u p queue held k r
+  known_more : (p : Pid) (queue held : List MsgId) (k : Known) (r : Option machine.KernelKnown) → KnownStands pt l p queue held k r → KnownStands next u p queue held k r
   known_more p queue held Unknown None h = h
   known_more p queue held Here (Some (Record.Here x)) h = here_more p queue x h
   known_more p queue held (Frozen to) (Some (Record.Frozen d)) h = leaves_more p queue held to d h

@@ -86,7 +86,7 @@ token_kept v u l k r s p i t more asked records h =
     search (
       more.processes p ∙ h.there,
       more.bag i h.message h.is,
-      subst (λ (n : ℕ). Carries p h.process n (incoming_of (s d p)) h.message.what) (sym asked) (subst (λ (f : Pid → Option machine.Known). Carries p h.process (v.asked p) (incoming_of (f p)) h.message.what) (sym (records d)) h.carries),
+      subst (λ (n : ℕ). Carries p h.process n (incoming_of (s d p)) h.message.what) (sym asked) (subst (λ (f : Pid → Option machine.KernelKnown). Carries p h.process (v.asked p) (incoming_of (f p)) h.message.what) (sym (records d)) h.carries),
     )
 
 first_kind : (o : Option Told) (u t : Told) → Some (first_told o u) ≡ Some t → is_between u.kind ≡ false → ((s : Told) → o ≡ Some s → is_between s.kind ≡ false) → is_between t.kind ≡ false
@@ -139,7 +139,7 @@ route_tokens pt l r s m (Own x) may records sane fits mirrors h =
     subst (λ (z : Told). TokenStands (after_put pt.view m x.to.at x.id (kind_of x.what) x.to.pid) (with_message l x.id (Some x)) s p x.id z) is
     (search (
       bag_here l x,
-      subst (λ (f : Pid → Option machine.Known). Carries p c.process (pt.view.asked p) (incoming_of (f p)) x.what) (sym (records (destination_of x.id (told_of x)))) c.carries,
+      subst (λ (f : Pid → Option machine.KernelKnown). Carries p c.process (pt.view.asked p) (incoming_of (f p)) x.what) (sym (records (destination_of x.id (told_of x)))) c.carries,
     )))
 
 -- the world stands for the point behind the put

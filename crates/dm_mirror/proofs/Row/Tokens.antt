@@ -1,8 +1,8 @@
 -- What the one message of a migration under way carries stays, where a row is no migration's.
 use Rattle.dm_mirror.proofs.Names.{◌≡◌, ℕ, ◌≤◌, ◌==◌, ◌&&◌, Bool, true, false, not, refl, ap, ◌∙◌, sym, subst, if◌then◌else◌, Option, None, Some, false≢true, Pid, pid_of, Message, MsgId, What, MessageKind, kind_of, plain_message}
-use Rattle.dm_mirror.proofs.Names.{plain_what, with_what, Process, incoming_of, Arrival, Phase, Moves, comes, is_apart, is_away, is_between, is_early, is_of_source, is_restart, knows, leaves, receiver_in, sender_in, told_between, Point}
-use Rattle.dm_mirror.proofs.Names.{Spot, standing, View, Known, Unknown, Here, Frozen, Incoming, Forward, Of, Told, is_kernels, InPhases, token_is, token_at, Placed, AllOwnStand, told_of, AllRecords, Carries, TokenStands, TokensStand}
-use Rattle.dm_mirror.proofs.Names.{destination_of, left_true, right_true}
+use Rattle.dm_mirror.proofs.Names.{plain_what, with_what, Process, incoming_of, Arrival, Phase, Moves, kind_comes, is_apart, is_away, is_between, is_early, is_of_source, is_restart, knows, kind_leaves, receiver_in, sender_in, told_between}
+use Rattle.dm_mirror.proofs.Names.{Point, Spot, standing, View, Known, Unknown, Here, Frozen, Incoming, Forward, Of, Told, is_kernels, InPhases, token_is, token_at, Placed, AllOwnStand, told_of, AllRecords, Carries, TokenStands}
+use Rattle.dm_mirror.proofs.Names.{TokensStand, destination_of, left_true, right_true}
 use Rattle.dm_kernel.specs.State as machine
 use Rattle.dm_mirror.proofs.Turning.{has_process, is_moving}
 use Rattle.dm_mirror.proofs.Kernel.Sets.{eq_self, not_is, off_if, on_if}
@@ -37,22 +37,22 @@ early_leaves : (k : MessageKind) → is_early k ≡ true → is_restart k ≡ fa
 early_leaves MessageKind.Restart e = absurd (false≢true e)
 early_leaves k e = refl
 
-source_moving : (k : MessageKind) (d : ℕ) (x : Known) → is_early k ≡ true → leaves k d x ≡ true → is_moving x ≡ true
+source_moving : (k : MessageKind) (d : ℕ) (x : Known) → is_early k ≡ true → kind_leaves k d x ≡ true → is_moving x ≡ true
 source_moving k d (Frozen to) early h = refl
 source_moving k d (Forward at moves) early h = absurd (false≢true (sym (early_leaves k early) ∙ left_true (is_restart k) (d == at) h))
 source_moving k d _ early h = absurd (false≢true h)
 
-destination_moving : (k : MessageKind) (s : ℕ) (x : Known) → is_early k ≡ false → comes k s x ≡ true → is_moving x ≡ true
+destination_moving : (k : MessageKind) (s : ℕ) (x : Known) → is_early k ≡ false → kind_comes k s x ≡ true → is_moving x ≡ true
 destination_moving k s Unknown late h = absurd (false≢true (sym late ∙ h))
 destination_moving k s (Incoming from) late h = refl
 destination_moving k s (Forward at moves) late h = absurd (false≢true (sym late ∙ h))
 destination_moving k s _ late h = absurd (false≢true h)
 
-at_source : (k : MessageKind) (s d : ℕ) (i : MsgId) (x : Known) → knows (Moves k s d (Some i)) s x ≡ true → leaves k d x ≡ true
-at_source k s d i x h = sym (on_if (s == s) (leaves k d x) (if d == s then comes k s x else is_away x) (eq_self s)) ∙ h
+at_source : (k : MessageKind) (s d : ℕ) (i : MsgId) (x : Known) → knows (Moves k s d (Some i)) s x ≡ true → kind_leaves k d x ≡ true
+at_source k s d i x h = sym (on_if (s == s) (kind_leaves k d x) (if d == s then kind_comes k s x else is_away x) (eq_self s)) ∙ h
 
-at_destination : (k : MessageKind) (s d : ℕ) (i : MsgId) (x : Known) → (s == d) ≡ false → knows (Moves k s d (Some i)) d x ≡ true → comes k s x ≡ true
-at_destination k s d i x apart h = sym (off_if (s == d) (leaves k d x) (if d == d then comes k s x else is_away x) apart ∙ on_if (d == d) (comes k s x) (is_away x) (eq_self d)) ∙ h
+at_destination : (k : MessageKind) (s d : ℕ) (i : MsgId) (x : Known) → (s == d) ≡ false → knows (Moves k s d (Some i)) d x ≡ true → kind_comes k s x ≡ true
+at_destination k s d i x apart h = sym (off_if (s == d) (kind_leaves k d x) (if d == d then kind_comes k s x else is_away x) apart ∙ on_if (d == d) (kind_comes k s x) (is_away x) (eq_self d)) ∙ h
 
 -- the machine that it comes to
 destination_if : (c : Bool) (s d : ℕ) → (if c then (if c then d else s) else (if c then s else d)) ≡ d
@@ -118,7 +118,7 @@ token_keeps pt l records next placed after p i t g own h told s =
     let is : t ≡ told_of x = cc in
     let same : is_early (kind_of x.what) ≡ false → incoming_of (records (destination_of i t) p) ≡ incoming_of (after (destination_of i t) p) =
     λ late. (let at = h.comes_ (ap (λ (u : Told). is_early u.kind) is ∙ late) in
-    ap (λ (r : Option machine.Known). incoming_of r) (g.records_ (destination_of i t) p (subst (λ (n : ℕ). is_moving (pt.view.known n p) ≡ true) at h.moving))) in
+    ap (λ (r : Option machine.KernelKnown). incoming_of r) (g.records_ (destination_of i t) p (subst (λ (n : ℕ). is_moving (pt.view.known n p) ≡ true) at h.moving))) in
     search (
       g.process h.at p h.moving ∙ s.there,
       g.own i x none s.is,

@@ -44,10 +44,10 @@ row_leaves b m pt l records k run same r = record {
     | inl e ↦
         let moved = r.moving p (subst (λ (q : ℕ). is_moving (pt.view.known q p) ≡ true) e.1 is) in
         let here : records m p ≡ at_machine records m r.state.records m p =
-        ap (λ (f : Pid → Option machine.Known). f p) same ∙ sym moved.1 ∙ ap (λ (f : Pid → Option machine.Known). f p) (sym (on_if (m == m) r.state.records (records m) (eq_self m)))
+        ap (λ (f : Pid → Option machine.KernelKnown). f p) same ∙ sym moved.1 ∙ ap (λ (f : Pid → Option machine.KernelKnown). f p) (sym (on_if (m == m) r.state.records (records m) (eq_self m)))
         in
         subst (λ (q : ℕ). records q p ≡ at_machine records m r.state.records q p) (sym e.1) here
-    | inr e ↦ ap (λ (f : Pid → Option machine.Known). f p) (sym (off_if (m == n) r.state.records (records n) (eq_apart m n e.1)))
+    | inr e ↦ ap (λ (f : Pid → Option machine.KernelKnown). f p) (sym (off_if (m == n) r.state.records (records n) (eq_apart m n e.1)))
   ];
   told = r.elsewhere.told;
   lines = (let h = still_keeps (rule_routed r.route) r.says (begun pt m) r.next r.still (row_walks b pt m r.says r.route run.based.phased run.based.known r.still r.outcome) r.after in record { asked = h.asked; stood = h.stood });

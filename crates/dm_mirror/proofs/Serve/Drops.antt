@@ -20,7 +20,7 @@ drop_line i = Line.Label (Label.Dropped i)
 abbrev pub drop_lines : List MsgId → List Line
 drop_lines ids = map drop_line ids
 
-pub rule_drops : (ids : List MsgId) → rule.drops ids ≡ map rule_part.Says (drop_lines ids)
+pub rule_drops : (ids : List MsgId) → rule.drop_parts ids ≡ map rule_part.Says (drop_lines ids)
 rule_drops [] = refl
 rule_drops (i ∷ is) = ap (λ (ps : List rule_part.Part). rule.says (Label.Dropped i) ∷ ps) (rule_drops is)
 

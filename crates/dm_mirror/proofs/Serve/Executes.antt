@@ -24,7 +24,7 @@ abbrev ActsCalled : (b : Boot) (m : ℕ) (pt : Point) (l : Placed) (k : KernelSt
 ActsCalled b m pt l k p z c n w cl = Acts b m pt l k p (serve.called_with (with_here (moved_round k p) p z) p c n z w) (Some (rule.says (Label.Ran p c) ∷ rule.called p n (pt.view.queue m p) cl))
 
 message_acts : (b : Boot) (m : ℕ) (pt : Point) (l : Placed) (k : KernelState) (p : Pid) (x y z : Process) (c n : ℕ) (w : Message) (cl : calls.Called) (s : Served b m pt l k p x) → Ran m pt l p x s.at.queue c y → plain_sent (plain_message w) z ≡ Some cl
-    → kernel.next (ran_kernel pt p y) p ≡ Some (kernel.Calls n cl) → placed.acts m (ran_placed l p y s.at.queue) p ≡ Some (placed.with_sent (placed.with_process (ran_placed l p y s.at.queue) p (Some (with_queue z s.at.queue))) (Some w))
+    → kernel.next_trap (ran_kernel pt p y) p ≡ Some (kernel.Calls n cl) → placed.acts m (ran_placed l p y s.at.queue) p ≡ Some (placed.with_sent (placed.with_process (ran_placed l p y s.at.queue) p (Some (with_queue z s.at.queue))) (Some w))
     → z.queue ≡ x.queue → length z.memory ≡ length x.memory
     → Acts b m pt l k p (turned (with_here (moved_round k p) p z) (machine.says (Label.Ran p c) ∷ machine.says (Label.Send p w.id) ∷ Part.Routes w ∷ [])) (Some (rule.says (Label.Ran p c) ∷ rule.called p n (pt.view.queue m p) cl))
 message_acts b m pt l k p x y z c n w cl s r plain next with_ queue memory =
@@ -35,7 +35,7 @@ message_acts b m pt l k p x y z c n w cl s r plain next with_ queue memory =
     (ap (λ (v : calls.Called). Some (rule.says (Label.Ran p c) ∷ rule.called p n (pt.view.queue m p) v)) f) (sends_acts b m pt l k p x y z c n w u s r says (next ∙ ap (λ (v : calls.Called). Some (kernel.Calls n v)) f) with_ queue memory)
 
 called_acts : (b : Boot) (m : ℕ) (pt : Point) (l : Placed) (k : KernelState) (p : Pid) (x y z : Process) (c n : ℕ) (w : Called) (cl : calls.Called) (s : Served b m pt l k p x) → Ran m pt l p x s.at.queue c y → plain_called w z ≡ Some cl
-    → kernel.next (ran_kernel pt p y) p ≡ Some (kernel.Calls n cl) → placed.acts m (ran_placed l p y s.at.queue) p ≡ Some (placed.with_acted (ran_placed l p y s.at.queue) p (acted_with s.at.queue (placed.after_call w z)))
+    → kernel.next_trap (ran_kernel pt p y) p ≡ Some (kernel.Calls n cl) → placed.acts m (ran_placed l p y s.at.queue) p ≡ Some (placed.with_acted (ran_placed l p y s.at.queue) p (acted_with s.at.queue (placed.after_call w z)))
     → z.queue ≡ x.queue → length z.memory ≡ length x.memory → ActsCalled b m pt l k p z c n w cl
 called_acts b m pt l k p x y z c n (Called.Replied reply) cl s r plain next with_ queue memory =
     let f : cl ≡ calls.Replies reply (plain_process z) = cc in
@@ -45,7 +45,7 @@ called_acts b m pt l k p x y z c n (Called.Replied reply) cl s r plain next with
     acts_as b m pt l k p t t (Some (rule.says (Label.Ran p c) ∷ rule.called p n (pt.view.queue m p) cl)) (Some (rule.says (Label.Ran p c) ∷ rule.says (Label.Call p n reply) ∷ [])) refl
     (ap (λ (v : calls.Called). Some (rule.says (Label.Ran p c) ∷ rule.called p n (pt.view.queue m p) v)) f)
     (goes_acts b m pt l k p x y z c (Label.Call p n reply) s r (λ v. refl) tt
-    (ap (λ (o : Option kernel.Next). bind o (kernel.replies u p n reply)) (next ∙ ap (λ (v : calls.Called). Some (kernel.Calls n v)) f) ∙ ap (λ (d : Bool). when d goes) (reply_same n reply)) with_ queue memory)
+    (ap (λ (o : Option kernel.Trap). bind o (kernel.replies u p n reply)) (next ∙ ap (λ (v : calls.Called). Some (kernel.Calls n v)) f) ∙ ap (λ (d : Bool). when d goes) (reply_same n reply)) with_ queue memory)
 called_acts b m pt l k p x y z c n (Called.Sent w) cl s r plain next with_ queue memory = message_acts b m pt l k p x y z c n w cl s r plain next with_ queue memory
 called_acts b m pt l k p x y z c n (Called.Moving w) cl s r plain next with_ queue memory = message_acts b m pt l k p x y z c n w cl s r plain next with_ queue memory
 called_acts b m pt l k p x y z c n Called.Waits cl s r plain next with_ queue memory =
@@ -54,7 +54,7 @@ called_acts b m pt l k p x y z c n Called.Waits cl s r plain next with_ queue me
     let u = ran_kernel pt p y in
     acts_as b m pt l k p t t (Some (rule.says (Label.Ran p c) ∷ rule.called p n (pt.view.queue m p) cl)) (Some (rule.says (Label.Ran p c) ∷ rule.says (Label.Wait p) ∷ [])) refl
     (ap (λ (v : calls.Called). Some (rule.says (Label.Ran p c) ∷ rule.called p n (pt.view.queue m p) v)) f)
-    (goes_acts b m pt l k p x y z c (Label.Wait p) s r (λ v. refl) tt (ap (λ (o : Option kernel.Next). bind o (kernel.waits u p)) (next ∙ ap (λ (v : calls.Called). Some (kernel.Calls n v)) f)) with_ queue memory)
+    (goes_acts b m pt l k p x y z c (Label.Wait p) s r (λ v. refl) tt (ap (λ (o : Option kernel.Trap). bind o (kernel.waits u p)) (next ∙ ap (λ (v : calls.Called). Some (kernel.Calls n v)) f)) with_ queue memory)
 called_acts b m pt l k p x y z c n (Called.Out word) cl s r plain next with_ queue memory =
     let f : cl ≡ calls.Outputs word (plain_process z) = cc in
     let t = serve.called_with (with_here (moved_round k p) p z) p c n z (Called.Out word) in
@@ -63,19 +63,19 @@ called_acts b m pt l k p x y z c n (Called.Out word) cl s r plain next with_ que
     acts_as b m pt l k p t t (Some (rule.says (Label.Ran p c) ∷ rule.called p n (pt.view.queue m p) cl)) (Some (rule.says (Label.Ran p c) ∷ rule.says (Label.Out p word) ∷ [])) refl
     (ap (λ (v : calls.Called). Some (rule.says (Label.Ran p c) ∷ rule.called p n (pt.view.queue m p) v)) f)
     (goes_acts b m pt l k p x y z c (Label.Out p word) s r (λ v. refl) tt
-    (ap (λ (o : Option kernel.Next). bind o (kernel.outputs u p word)) (next ∙ ap (λ (v : calls.Called). Some (kernel.Calls n v)) f) ∙ ap (λ (d : Bool). when d goes) (eq_self word)) with_ queue memory)
+    (ap (λ (o : Option kernel.Trap). bind o (kernel.outputs u p word)) (next ∙ ap (λ (v : calls.Called). Some (kernel.Calls n v)) f) ∙ ap (λ (d : Bool). when d goes) (eq_self word)) with_ queue memory)
 called_acts b m pt l k p x y z c n (Called.Ended because) cl s r plain next with_ queue memory =
     let f : cl ≡ calls.Ends because = cc in
     let t = serve.called_with (with_here (moved_round k p) p z) p c n z (Called.Ended because) in
     let u = ran_kernel pt p y in
     let gone = with_process u p (Ended because) in
-    acts_as b m pt l k p t t (Some (rule.says (Label.Ran p c) ∷ rule.called p n (pt.view.queue m p) cl)) (Some (rule.says (Label.Ran p c) ∷ rule.says (Label.End p because) ∷ rule.drops (pt.view.queue m p))) refl
+    acts_as b m pt l k p t t (Some (rule.says (Label.Ran p c) ∷ rule.called p n (pt.view.queue m p) cl)) (Some (rule.says (Label.Ran p c) ∷ rule.says (Label.End p because) ∷ rule.drop_parts (pt.view.queue m p))) refl
     (ap (λ (v : calls.Called). Some (rule.says (Label.Ran p c) ∷ rule.called p n (pt.view.queue m p) v)) f)
     (ends_acts b m pt l k p x y z c because s r
-    (ap (λ (o : Option kernel.Next). bind o (kernel.ends u p because)) (next ∙ ap (λ (v : calls.Called). Some (kernel.Calls n v)) f) ∙ ap (λ (d : Bool). when d gone) (eq_self (why_code because))) with_ queue memory)
+    (ap (λ (o : Option kernel.Trap). bind o (kernel.ends u p because)) (next ∙ ap (λ (v : calls.Called). Some (kernel.Calls n v)) f) ∙ ap (λ (d : Bool). when d gone) (eq_self (why_code because))) with_ queue memory)
 
 -- the next instruction, if it isn't plain
-next_of : (m : ℕ) (pt : Point) (l : Placed) (p : Pid) (x y : Process) (queue : List Message) (c : ℕ) (w : Row) → Ran m pt l p x queue c y → instruction y.regs y.memory ≡ w → kernel.next (ran_kernel pt p y) p ≡ kernel.next_row p (plain_process y) w
+next_of : (m : ℕ) (pt : Point) (l : Placed) (p : Pid) (x y : Process) (queue : List Message) (c : ℕ) (w : Row) → Ran m pt l p x queue c y → instruction y.regs y.memory ≡ w → kernel.next_trap (ran_kernel pt p y) p ≡ kernel.next_row p (plain_process y) w
 next_of m pt l p x y queue c w r is =
     ap (λ (o : Option PlainProcess). bind o (λ (v : PlainProcess). kernel.next_row p v (instruction v.regs v.memory))) r.running ∙ ap (kernel.next_row p (plain_process y)) is
 
@@ -97,13 +97,13 @@ call_acts b m pt l k p x y c n regs s r is =
 
 -- a fault
 fault_acts : (b : Boot) (m : ℕ) (pt : Point) (l : Placed) (k : KernelState) (p : Pid) (x y : Process) (c : ℕ) (f : Fault) (s : Served b m pt l k p x) → Ran m pt l p x s.at.queue c y → instruction y.regs y.memory ≡ Row.Faults f
-    → Acts b m pt l k p (serve.ends (with_here (moved_round k p) p y) p c y (Why.Fault f)) (Some (rule.says (Label.Ran p c) ∷ rule.says (Label.End p (Why.Fault f)) ∷ rule.drops (pt.view.queue m p)))
+    → Acts b m pt l k p (serve.ends (with_here (moved_round k p) p y) p c y (Why.Fault f)) (Some (rule.says (Label.Ran p c) ∷ rule.says (Label.End p (Why.Fault f)) ∷ rule.drop_parts (pt.view.queue m p)))
 fault_acts b m pt l k p x y c f s r is =
     let u = ran_kernel pt p y in
     let gone = with_process u p (Ended (Why.Fault f)) in
     let lm = ran_placed l p y s.at.queue in
     ends_acts b m pt l k p x y y c (Why.Fault f) s r
-    (ap (λ (o : Option kernel.Next). bind o (kernel.ends u p (Why.Fault f))) (next_of m pt l p x y s.at.queue c (Row.Faults f) r is) ∙ ap (λ (d : Bool). when d gone) (eq_self (why_code (Why.Fault f))))
+    (ap (λ (o : Option kernel.Trap). bind o (kernel.ends u p (Why.Fault f))) (next_of m pt l p x y s.at.queue c (Row.Faults f) r is) ∙ ap (λ (d : Bool). when d gone) (eq_self (why_code (Why.Fault f))))
     (fault_matches m lm p y s.at.queue f r.there r.ready is) r.same_queue r.memory
 
 -- as far as the quantum allows
@@ -131,7 +131,7 @@ executes_by b m pt l k p x q u v s ready (Faulted f less stops is) steps memory 
     let size : length u.machine.bytes ≡ length x.memory = ap (λ (w : serve.Ran). length w.machine.bytes) (sym is) ∙ memory in
     let ids = pt.view.queue m p in
     acts_as b m pt l k p (serve.executes (moved_round k p) p x v) (serve.ends (with_here (moved_round k p) p y) p u.count y (Why.Fault f)) (Some (rule.executes q p ids (plain_process x) u))
-    (Some (rule.says (Label.Ran p u.count) ∷ rule.says (Label.End p (Why.Fault f)) ∷ rule.drops ids)) (ap (serve.executes (moved_round k p) p x) is)
+    (Some (rule.says (Label.Ran p u.count) ∷ rule.says (Label.End p (Why.Fault f)) ∷ rule.drop_parts ids)) (ap (serve.executes (moved_round k p) p x) is)
     (rest_less u.count q (rule.stops p ids (kernel.next_row p (plain_process y) (instruction u.machine.regs u.machine.bytes))) (rule.says (Label.Ran p u.count)) less
     ∙ ap (λ (w : Row). Some (rule.says (Label.Ran p u.count) ∷ rule.stops p ids (kernel.next_row p (plain_process y) w))) stops)
     (fault_acts b m pt l k p x y u.count f s (ran_of b m pt l k p x u.count u.machine s ready steps size) stops)

@@ -59,7 +59,7 @@ comes_of b m pt l k p x mask w s f =
 -- how the receive ends: by the machine, by the kernel without machines, and by the kernel with places
 record Completes (m : ℕ) (pt : Point) (l : Placed) (p : Pid) (x : Process) (w : Message) (d : Completion) : Type 0 where
   machine_ : completing.completion x 0 x.status (Some w) ≡ Some d
-  parts : rule.receives pt.kernel p (plain_process x) (Some w.id) ≡ Some (rule.completes p w.id (plain_completed d.completed d.process))
+  parts : rule.reception_parts pt.kernel p (plain_process x) (Some w.id) ≡ Some (rule.completion_parts p w.id (plain_completed d.completed d.process))
   completing_ : kernel.completing pt.kernel p w.id ≡ Some (plain_completed d.completed d.process)
   ends : Ends l p w.id d
 
@@ -75,8 +75,8 @@ completes_of b m pt l k p x mask base size w d s waits f e =
     in
     record {
       machine_ = e;
-      parts = ap (λ (o : Option PlainMessage). bind o (λ (u : PlainMessage). bind (receiving.completes_with p (plain_process x) u) (λ (v : receiving.Completed). Some (rule.completes p w.id v)))) c.there
-          ∙ ap (λ (o : Option receiving.Completed). bind o (λ (v : receiving.Completed). Some (rule.completes p w.id v))) with_;
+      parts = ap (λ (o : Option PlainMessage). bind o (λ (u : PlainMessage). bind (receiving.completes_with p (plain_process x) u) (λ (v : receiving.Completed). Some (rule.completion_parts p w.id v)))) c.there
+          ∙ ap (λ (o : Option receiving.Completed). bind o (λ (v : receiving.Completed). Some (rule.completion_parts p w.id v))) with_;
       completing_ = ap (λ (o : Option Life). bind (kernel.alive o) (λ (v : PlainProcess). bind (pt.kernel.bag w.id) (receiving.completes_with p v))) s.at.alive
           ∙ ap (λ (o : Option PlainMessage). bind o (receiving.completes_with p (plain_process x))) c.there ∙ with_;
       ends = completed_matches l p w.id x s.at.queue 0 w d s.at.there f.there e;
@@ -97,7 +97,7 @@ right_one i (Some v) u f z e least h = (once_at f z h least).0
 -- the message is received, unless it is refused
 receive_row : (b : Boot) (m : ℕ) (pt : Point) (l : Placed) (k : KernelState) (p : Pid) (x : Process) (mask base size : ℕ) (w : Message) (code channel : ℕ) (body : List ℕ) (links : List Link) (o : Option Reply) → Served b m pt l k p x → IsLawfulProcess x → x.status ≡ Status.Waiting mask base size
     → Found l mask (pt.view.queue m p) x.queue w → first_failed (receive_refusals (plain_process x) size body (map plain_link links)) ≡ o
-    → completing.completion x 0 x.status (Some w) ≡ Some (completing.completes_unless o x (completing.receives x 0 w.id base code channel body links)) → Acts b m pt l k p (serve.receives (moved_round k p) p x mask (Some w)) (rule.receives pt.kernel p (plain_process x) (Some w.id))
+    → completing.completion x 0 x.status (Some w) ≡ Some (completing.completes_unless o x (completing.receives x 0 w.id base code channel body links)) → Acts b m pt l k p (serve.receives (moved_round k p) p x mask (Some w)) (rule.reception_parts pt.kernel p (plain_process x) (Some w.id))
 receive_row b m pt l k p x mask base size w code channel body links None s lawful waits f fits e =
     let t = is_queue_of m p in
     let id = w.id in
@@ -125,7 +125,7 @@ receive_row b m pt l k p x mask base size w code channel body links None s lawfu
     in
     let reach : base + size ≤ length x.memory = subst (IsLawfulStatus (length x.memory)) waits lawful.status in
     let short = body_fits (plain_process x) size body (map plain_link links) fits in
-    acts_as b m pt l k p (serve.receives (moved_round k p) p x mask (Some w)) (turned (with_here (moved_round k p) p z) (machine.says (Label.Receive p id) ∷ [])) (rule.receives pt.kernel p (plain_process x) (Some id)) (Some (rule.says (Label.Receive p id) ∷ []))
+    acts_as b m pt l k p (serve.receives (moved_round k p) p x mask (Some w)) (turned (with_here (moved_round k p) p z) (machine.says (Label.Receive p id) ∷ [])) (rule.reception_parts pt.kernel p (plain_process x) (Some id)) (Some (rule.says (Label.Receive p id) ∷ []))
     (ap (serve.received_by (moved_round k p) p x mask w) e) c.parts (record {
       state = with_here (moved_round k p) p z;
       says = Line.Label (Label.Receive p id) ∷ [];
@@ -161,7 +161,7 @@ receive_row b m pt l k p x mask base size w code channel body links (Some reply)
     let next = moved pt (Line.Label (Label.Refuse p id reply)) u in
     let on = placed.with_process l p (Some (with_queue z c.ends.queue)) in
     let leaves : Leaves m t p pt l next on = record { view = view_serving m t p pt.view s.acting; kernel = kernel_sets p pt.kernel (Alive (plain_process z)); placed_ = placed_sets t p pt.view l (Some (with_queue z c.ends.queue)) } in
-    acts_as b m pt l k p (serve.receives (moved_round k p) p x mask (Some w)) (turned (with_here (moved_round k p) p z) (machine.says (Label.Refuse p id reply) ∷ [])) (rule.receives pt.kernel p (plain_process x) (Some id)) (Some (rule.says (Label.Refuse p id reply) ∷ []))
+    acts_as b m pt l k p (serve.receives (moved_round k p) p x mask (Some w)) (turned (with_here (moved_round k p) p z) (machine.says (Label.Refuse p id reply) ∷ [])) (rule.reception_parts pt.kernel p (plain_process x) (Some id)) (Some (rule.says (Label.Refuse p id reply) ∷ []))
     (ap (serve.received_by (moved_round k p) p x mask w) e) c.parts (record {
       state = with_here (moved_round k p) p z;
       says = Line.Label (Label.Refuse p id reply) ∷ [];
@@ -181,7 +181,7 @@ receive_row b m pt l k p x mask base size w code channel body links (Some reply)
     })
 
 pub receives_acts : (b : Boot) (m : ℕ) (pt : Point) (l : Placed) (k : KernelState) (p : Pid) (x : Process) (mask base size : ℕ) (w : Message) → Served b m pt l k p x → IsLawfulProcess x → x.status ≡ Status.Waiting mask base size → first_on mask x.queue ≡ Some w
-    → Acts b m pt l k p (serve.receives (moved_round k p) p x mask (Some w)) (rule.receives pt.kernel p (plain_process x) (Some w.id))
+    → Acts b m pt l k p (serve.receives (moved_round k p) p x mask (Some w)) (rule.reception_parts pt.kernel p (plain_process x) (Some w.id))
 receives_acts b m pt l k p x mask base size w s lawful waits first =
     let f = found l mask (pt.view.queue m p) x.queue w (λ i n there. (s.mirrors.places.message i n there).id) s.at.messages first in
     let v = user_is mask w.what f.on in

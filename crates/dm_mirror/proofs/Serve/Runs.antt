@@ -99,7 +99,7 @@ pub record IsHere (pt : Point) (l : Placed) (m : ℕ) (k : KernelState) (p : Pid
   pub plain : z ≡ plain_process x
   pub known : pt.view.known m p ≡ view.Here
 
-here_at : (pt : Point) (l : Placed) (m : ℕ) (k : KernelState) (p : Pid) (z : PlainProcess) (r : Option machine.Known) → k.records p ≡ r → pt.view.known m p ≡ view.Here → KnownStands pt l p (pt.view.queue m p) (pt.view.held m p) view.Here r
+here_at : (pt : Point) (l : Placed) (m : ℕ) (k : KernelState) (p : Pid) (z : PlainProcess) (r : Option machine.KernelKnown) → k.records p ≡ r → pt.view.known m p ≡ view.Here → KnownStands pt l p (pt.view.queue m p) (pt.view.held m p) view.Here r
     → MirrorsKernel pt.kernel l → pt.kernel.processes p ≡ Some (Alive z) → IsHere pt l m k p z
 here_at pt l m k p z (Some (Record.Here x)) e known h mirrors alive =
     let f : Some z ≡ Some (plain_process x) = sym (ap kernel.alive alive) ∙ mirrors.processes p ∙ ap (option_map plain_process) h.0.1 in
@@ -127,7 +127,7 @@ go_same b pt l m k p z h names alive at = grind (arith, nat_tests, status_same)
 if_same : (c d : Bool) (p : Pid) (o u : Option Pid) → c ≡ d → o ≡ u → (if c then Some p else o) ≡ (if d then Some p else u)
 if_same c d p o u e f = λ i. if e i then Some p else f i
 
-runs_same : (s : OneKernel) (queue : Pid → List MsgId) (records : Pid → Option machine.Known) (ps : List Pid) → ((p : Pid) → 1 ≤ rings p ps → rule.can_go s (queue p) (kernel.alive (s.processes p)) ≡ turn.known_is_runnable (records p))
+runs_same : (s : OneKernel) (queue : Pid → List MsgId) (records : Pid → Option machine.KernelKnown) (ps : List Pid) → ((p : Pid) → 1 ≤ rings p ps → rule.can_go s (queue p) (kernel.alive (s.processes p)) ≡ turn.known_is_runnable (records p))
     → rule.first_runnable s queue ps ≡ turn.first_runnable records ps
 runs_same s queue records [] h = refl
 runs_same s queue records (p ∷ ps) h =
@@ -177,12 +177,12 @@ pub data Comes (k : ℕ) (u : rule.Ran) (r : serve.Ran) : Type 0 where
       → (is : r ≡ record { count = u.count; machine = record { regs = regs; bytes = u.machine.bytes }; halt = Some (Halt.Call n) }) → Comes k u r
   Faulted : (f : Fault) → (less : u.count < k) → (stops : instruction u.machine.regs u.machine.bytes ≡ Row.Faults f) → (is : r ≡ record { count = u.count; machine = u.machine; halt = Some (Halt.Fault f) }) → Comes k u r
 
-comes_on : (k : ℕ) (u : rule.Ran) (r : serve.Ran) → Comes k u r → Comes (suc k) (rule.one_more u) (serve.one_more r)
+comes_on : (k : ℕ) (u : rule.Ran) (r : serve.Ran) → Comes k u r → Comes (suc k) (rule.ran_one_more u) (serve.one_more r)
 comes_on k u r (Whole all is) = Whole (omega (arith, all)) (ap serve.one_more is)
 comes_on k u r (Called n regs less stops is) = Called n regs (omega (arith, less)) stops (ap serve.one_more is)
 comes_on k u r (Faulted f less stops is) = Faulted f (omega (arith, less)) stops (ap serve.one_more is)
 
-comes_row : (k : ℕ) (m : Machine) (w : Row) → instruction m.regs m.bytes ≡ w → ((n : Machine) → Comes k (rule.ran k n) (serve.ran k n)) → Comes (suc k) (rule.goes_on m (kernel.plain_row w) (rule.ran k)) (serve.after_row m w (serve.ran k))
+comes_row : (k : ℕ) (m : Machine) (w : Row) → instruction m.regs m.bytes ≡ w → ((n : Machine) → Comes k (rule.ran k n) (serve.ran k n)) → Comes (suc k) (rule.ran_further m (kernel.plain_row w) (rule.ran k)) (serve.after_row m w (serve.ran k))
 comes_row k m (Row.Plain regs bytes) e h = let n : Machine = record { regs = regs; bytes = bytes } in comes_on k (rule.ran k n) (serve.ran k n) (h n)
 comes_row k m (Row.Calls n regs) e h = Called n regs (omega arith) e refl
 comes_row k m (Row.Faults f) e h = Faulted f (omega arith) e refl

@@ -25,7 +25,7 @@ record IsFresh (s : OneKernel) (i : MsgId) : Type 0 where
   own : is_kernels i ≡ false
 
 fresh_message : (b : Boot) (m : ℕ) (pt : Point) (l : Placed) (k : KernelState) (p : Pid) (x y : Process) (c n : ℕ) (w : PlainMessage) (z : PlainProcess) (s : Served b m pt l k p x) → kernel.step pt.kernel (Label.Ran p c) ≡ Some (ran_kernel pt p y)
-    → kernel.next (ran_kernel pt p y) p ≡ Some (kernel.Calls n (Called.Sends w z)) → IsFresh pt.kernel w.id
+    → kernel.next_trap (ran_kernel pt p y) p ≡ Some (kernel.Calls n (Called.Sends w z)) → IsFresh pt.kernel w.id
 fresh_message b m pt l k p x y c n w z s step next =
     let t = ran_kernel pt p y in
     let a = after_ran s.r s.e pt.kernel t p c step s.sound in
@@ -49,7 +49,7 @@ not_own_fresh v l i h off x there none = false≢true (sym off ∙ (h i x there 
 
 -- a call that sends a message
 pub sends_acts : (b : Boot) (m : ℕ) (pt : Point) (l : Placed) (k : KernelState) (p : Pid) (x y z : Process) (c n : ℕ) (w : Message) (u : PlainMessage) (s : Served b m pt l k p x) → Ran m pt l p x s.at.queue c y → plain_message w ≡ Some u
-    → kernel.next (ran_kernel pt p y) p ≡ Some (kernel.Calls n (Called.Sends u (plain_process z)))
+    → kernel.next_trap (ran_kernel pt p y) p ≡ Some (kernel.Calls n (Called.Sends u (plain_process z)))
     → placed.acts m (ran_placed l p y s.at.queue) p ≡ Some (placed.with_sent (placed.with_process (ran_placed l p y s.at.queue) p (Some (with_queue z s.at.queue))) (Some w)) → z.queue ≡ x.queue → length z.memory ≡ length x.memory
     → Acts b m pt l k p (turned (with_here (moved_round k p) p z) (machine.says (Label.Ran p c) ∷ machine.says (Label.Send p w.id) ∷ Part.Routes w ∷ [])) (Some (rule.says (Label.Ran p c) ∷ rule.says (Label.Send p u.id) ∷ rule_part.Routes u.id ∷ []))
 sends_acts b m pt l k p x y z c n w u s r says next with_ queue_is memory =
@@ -62,7 +62,7 @@ sends_acts b m pt l k p x y z c n w u s r says next with_ queue_is memory =
     let goes = kernel.goes_on (ran_kernel pt p y) p (plain_process z) in
     let after_ = with_sent goes (Some u) in
     let step : kernel.step (ran_kernel pt p y) e ≡ Some after_ =
-    ap (λ (v : Option kernel.Next). bind v (kernel.sends (ran_kernel pt p y) p w.id)) next ∙ ap (λ (d : Bool). when d after_) (ap (λ (i : MsgId). id_eq w.id i) (sym name) ∙ id_eq-same w.id)
+    ap (λ (v : Option kernel.Trap). bind v (kernel.sends (ran_kernel pt p y) p w.id)) next ∙ ap (λ (d : Bool). when d after_) (ap (λ (i : MsgId). id_eq w.id i) (sym name) ∙ id_eq-same w.id)
     in
     let next_ = moved o (Line.Label e) after_ in
     let mid = placed.with_process lm p (Some (with_queue z queue)) in
@@ -102,7 +102,7 @@ sends_acts b m pt l k p x y z c n w u s r says next with_ queue_is memory =
 pub ends_acts : (b : Boot) (m : ℕ) (pt : Point) (l : Placed) (k : KernelState) (p : Pid) (x y z : Process) (c : ℕ) (because : Why) (s : Served b m pt l k p x) → Ran m pt l p x s.at.queue c y
     → kernel.step (ran_kernel pt p y) (Label.End p because) ≡ Some (with_process (ran_kernel pt p y) p (Ended because)) → placed.acts m (ran_placed l p y s.at.queue) p ≡ Some (placed.with_process (ran_placed l p y s.at.queue) p None)
     → z.queue ≡ x.queue → length z.memory ≡ length x.memory
-    → Acts b m pt l k p (serve.ends (with_here (moved_round k p) p z) p c z because) (Some (rule.says (Label.Ran p c) ∷ rule.says (Label.End p because) ∷ rule.drops (pt.view.queue m p)))
+    → Acts b m pt l k p (serve.ends (with_here (moved_round k p) p z) p c z because) (Some (rule.says (Label.Ran p c) ∷ rule.says (Label.End p because) ∷ rule.drop_parts (pt.view.queue m p)))
 ends_acts b m pt l k p x y z c because s r step with_ queue_is memory =
     let t = is_queue_of m p in
     let queue = s.at.queue in

@@ -28,11 +28,11 @@ pub begun_mirrors : (pt : Point) (l : Placed) (m : ℕ) → Mirrors pt.kernel pt
 begun_mirrors pt l m h = mirrors_view pt.kernel pt.view (begun pt m).view pt.addresses l refl h
 
 -- the process that the machine serves
-record Runnable (records : Pid → Option machine.Known) (ps : List Pid) (p : Pid) : Type 0 where
+record Runnable (records : Pid → Option machine.KernelKnown) (ps : List Pid) (p : Pid) : Type 0 where
   stands : 1 ≤ rings p ps
   goes : turn.known_is_runnable (records p) ≡ true
 
-first_if : (records : Pid → Option machine.Known) (q : Pid) (qs : List Pid) (p : Pid) (c : Bool) → turn.known_is_runnable (records q) ≡ c → (if c then Some q else turn.first_runnable records qs) ≡ Some p → (turn.first_runnable records qs ≡ Some p → Runnable records qs p)
+first_if : (records : Pid → Option machine.KernelKnown) (q : Pid) (qs : List Pid) (p : Pid) (c : Bool) → turn.known_is_runnable (records q) ≡ c → (if c then Some q else turn.first_runnable records qs) ≡ Some p → (turn.first_runnable records qs ≡ Some p → Runnable records qs p)
     → Runnable records (q ∷ qs) p
 first_if records q qs p true e f more =
     let k : q ≡ p = cc in
@@ -42,7 +42,7 @@ first_if records q qs p false e f more =
     let h = more f in
     record { stands = (let least = h.stands in let all : rings p qs ≤ rings p (q ∷ qs) = omega arith in omega (arith, least, all)); goes = h.goes }
 
-first_is : (records : Pid → Option machine.Known) (ps : List Pid) (p : Pid) → turn.first_runnable records ps ≡ Some p → Runnable records ps p
+first_is : (records : Pid → Option machine.KernelKnown) (ps : List Pid) (p : Pid) → turn.first_runnable records ps ≡ Some p → Runnable records ps p
 first_is records [] p e = cc
 first_is records (q ∷ qs) p e = first_if records q qs p (turn.known_is_runnable (records q)) refl e (first_is records qs p)
 
@@ -101,12 +101,12 @@ chosen b m pt l k p h first =
 
 -- it is ready, or waits for a message that is queued
 waits_acts : (b : Boot) (m : ℕ) (pt : Point) (l : Placed) (k : KernelState) (p : Pid) (x : Process) (mask base size : ℕ) (o : Option Message) → Served b m pt l k p x → IsLawfulProcess x → x.status ≡ Status.Waiting mask base size → first_on mask x.queue ≡ o → is_some o ≡ true
-    → Acts b m pt l k p (serve.receives (moved_round k p) p x mask (first_on mask x.queue)) (rule.receives pt.kernel p (plain_process x) (rule.first_awaited pt.kernel mask (pt.view.queue m p)))
+    → Acts b m pt l k p (serve.receives (moved_round k p) p x mask (first_on mask x.queue)) (rule.reception_parts pt.kernel p (plain_process x) (rule.first_awaited pt.kernel mask (pt.view.queue m p)))
 waits_acts b m pt l k p x mask base size None s lawful waits first some = cc
 waits_acts b m pt l k p x mask base size (Some w) s lawful waits first some =
-    acts_as b m pt l k p (serve.receives (moved_round k p) p x mask (first_on mask x.queue)) (serve.receives (moved_round k p) p x mask (Some w)) (rule.receives pt.kernel p (plain_process x) (rule.first_awaited pt.kernel mask (pt.view.queue m p)))
-    (rule.receives pt.kernel p (plain_process x) (Some w.id)) (ap (serve.receives (moved_round k p) p x mask) first)
-    (ap (rule.receives pt.kernel p (plain_process x)) (first_same pt.kernel l mask (pt.view.queue m p) x.queue s.mirrors.plain (λ i n there. (s.mirrors.places.message i n there).id) s.at.messages ∙ ap (λ (o : Option Message). option_map (λ (n : Message). n.id) o) first))
+    acts_as b m pt l k p (serve.receives (moved_round k p) p x mask (first_on mask x.queue)) (serve.receives (moved_round k p) p x mask (Some w)) (rule.reception_parts pt.kernel p (plain_process x) (rule.first_awaited pt.kernel mask (pt.view.queue m p)))
+    (rule.reception_parts pt.kernel p (plain_process x) (Some w.id)) (ap (serve.receives (moved_round k p) p x mask) first)
+    (ap (rule.reception_parts pt.kernel p (plain_process x)) (first_same pt.kernel l mask (pt.view.queue m p) x.queue s.mirrors.plain (λ i n there. (s.mirrors.places.message i n there).id) s.at.messages ∙ ap (λ (o : Option Message). option_map (λ (n : Message). n.id) o) first))
     (receives_acts b m pt l k p x mask base size w s lawful waits first)
 
 status_acts : (b : Boot) (m : ℕ) (pt : Point) (l : Placed) (k : KernelState) (p : Pid) (x : Process) (st : Status) → Served b m pt l k p x → IsLawfulProcess x → x.status ≡ st → status_is_runnable st x.queue ≡ true

@@ -20,8 +20,8 @@ AllStay (p ∷ ps) = PartStays p × AllStay ps
 
 -- a process may run first; where it ends, or a message kills its receiver, just its queue is dropped behind
 abbrev pub LineEnds : Point → ℕ → Line → List Part → Type 0
-LineEnds o a (Line.Label (Label.End p y)) ps = ps ≡ rule.drops (o.view.queue a p)
-LineEnds o a (Line.Label (Label.Served id)) ps = ((t : Told) → o.view.told id ≡ Some t → is_kill t.kind ≡ true → ps ≡ rule.drops (o.view.queue a t.receiver)) × (((t : Told) → o.view.told id ≡ Some t → is_kill t.kind ≡ false) → AllStay ps)
+LineEnds o a (Line.Label (Label.End p y)) ps = ps ≡ rule.drop_parts (o.view.queue a p)
+LineEnds o a (Line.Label (Label.Served id)) ps = ((t : Told) → o.view.told id ≡ Some t → is_kill t.kind ≡ true → ps ≡ rule.drop_parts (o.view.queue a t.receiver)) × (((t : Told) → o.view.told id ≡ Some t → is_kill t.kind ≡ false) → AllStay ps)
 LineEnds o a l ps = AllStay ps
 
 abbrev pub LastEnds : Point → ℕ → List Part → Type 0
@@ -59,9 +59,9 @@ no_kill o a id msg ps sane there off stays = (
   λ none. stays,
 )
 
-kill_ends : (o : Point) (a : ℕ) (id : MsgId) (msg : PlainMessage) → Sane o → o.kernel.bag id ≡ Some msg → is_kill (plain_kind msg.what) ≡ true → (t : Told) → o.view.told id ≡ Some t → LineEnds o a (Line.Label (Label.Served id)) (rule.drops (o.view.queue a msg.to))
+kill_ends : (o : Point) (a : ℕ) (id : MsgId) (msg : PlainMessage) → Sane o → o.kernel.bag id ≡ Some msg → is_kill (plain_kind msg.what) ≡ true → (t : Told) → o.view.told id ≡ Some t → LineEnds o a (Line.Label (Label.Served id)) (rule.drop_parts (o.view.queue a msg.to))
 kill_ends o a id msg sane there on t told = (
-  λ u is kills. ap (λ (q : Pid). rule.drops (o.view.queue a q)) (sym (sane.tells.receiver id msg u there is)),
+  λ u is kills. ap (λ (q : Pid). rule.drop_parts (o.view.queue a q)) (sym (sane.tells.receiver id msg u there is)),
   λ none. absurd (false≢true (sym (none t told) ∙ ap is_kill (sane.tells.kind id msg t there told) ∙ on)),
 )
 

@@ -114,7 +114,7 @@ nets_calm _ h = absurd h.0
 outcome_calm : (b : Boot) (pt : Point) (d : Step) (ps : List Part) → rule.outcome b pt d ≡ Some ps → AllCalm ps
 outcome_calm b pt (Step.Turn m) ps is = fit_calm pt.view.pair ps (turns_fit pt.view.pair b pt m (pt.view.inbox m) ps is)
 outcome_calm b pt (Step.Tick m) ps is =
-    let qs = Says (Line.Resent m (rule.outstanding pt.view m pt.kernel.machines)) ∷ rule.resends pt.view m pt.kernel.machines in
+    let qs = Says (Line.Resent m (rule.outstanding_count pt.view m pt.kernel.machines)) ∷ rule.resends pt.view m pt.kernel.machines in
     let f : qs ≡ ps = cc in
     subst AllCalm f (refl, nets_calm (rule.resends pt.view m pt.kernel.machines) (resends_net pt.view m pt.kernel.machines))
 outcome_calm b pt (Step.Deliver a c k) ps is =

@@ -39,10 +39,10 @@ drop_left a p known v i is h =
     } in
     subst (λ (u : View). Left a p known u is) (sym look) goes
 
-drops_left : (a : ℕ) (p : Pid) (known : Knows) (ids : List MsgId) (pt : Point) (w : Spelled) → spelled pt (rule.drops ids) ≡ Some w → Left a p known pt.view ids → Left a p known w.point.view []
+drops_left : (a : ℕ) (p : Pid) (known : Knows) (ids : List MsgId) (pt : Point) (w : Spelled) → spelled pt (rule.drop_parts ids) ≡ Some w → Left a p known pt.view ids → Left a p known w.point.view []
 drops_left a p known [] pt w is h = let f : record { lines = []; point = pt } ≡ w = cc in subst (λ (x : Spelled). Left a p known x.point.view []) f h
 drops_left a p known (i ∷ ids) pt w is h =
-    let k = says_next pt (Line.Label (Label.Dropped i)) (rule.drops ids) w is in
+    let k = says_next pt (Line.Label (Label.Dropped i)) (rule.drop_parts ids) w is in
     subst (λ (q : Point). Left a p known q.view []) k.point (drops_left a p known ids (moved pt (Line.Label (Label.Dropped i)) k.s) k.rest k.more (drop_left a p known pt.view i ids h))
 
 -- what has ended had ended, or has no queue
@@ -81,7 +81,7 @@ left_starts o a p v w h acting known queue told = record {
   told = λ i least. let (t, is, for) = h.receivers p i least in (t, ap (λ (f : MsgId → Option Told). f i) (told ∙ h.told) ∙ is, for);
 }
 
-ends_left : (o : Point) (a : ℕ) (p : Pid) (pt mid : Point) (ps : List Part) (rest : Spelled) → Starts o a pt.view → ps ≡ rule.drops (o.view.queue a p) → spelled mid ps ≡ Some rest
+ends_left : (o : Point) (a : ℕ) (p : Pid) (pt mid : Point) (ps : List Part) (rest : Spelled) → Starts o a pt.view → ps ≡ rule.drop_parts (o.view.queue a p) → spelled mid ps ≡ Some rest
     → mid.view.acting ≡ pt.view.acting → mid.view.known ≡ at_record pt.view.known pt.view.acting p Ended → mid.view.queue ≡ pt.view.queue → mid.view.told ≡ pt.view.told → Cleared o.view.known rest.point.view
 ends_left o a p pt mid ps rest h drops more acting known queue told =
     cleared_left a p o.view.known rest.point.view (drops_left a p (at_record o.view.known a p Ended) (o.view.queue a p) mid rest (ap (spelled mid) (sym drops) ∙ more) (left_starts o a p pt.view mid.view h acting known queue told))
@@ -174,7 +174,7 @@ group_cleared b pt (Step.Turn m) w is h =
     subst (λ (q : Point). Cleared pt.view.known q.view) g.point (ends_cleared pt m g.parts (moved pt (Line.Head (Step.Turn m)) pt.kernel) g.rest start ends g.said)
 group_cleared b pt (Step.Tick m) w is h =
     let g = group_is b pt (Step.Tick m) w is in
-    let qs = Says (Line.Resent m (rule.outstanding pt.view m pt.kernel.machines)) ∷ rule.resends pt.view m pt.kernel.machines in
+    let qs = Says (Line.Resent m (rule.outstanding_count pt.view m pt.kernel.machines)) ∷ rule.resends pt.view m pt.kernel.machines in
     let f : qs ≡ g.parts = let k = g.is in cc in
     let stays : AllStay g.parts = subst AllStay f (refl, nets_stay (rule.resends pt.view m pt.kernel.machines) (resends_net pt.view m pt.kernel.machines)) in
     subst (λ (q : Point). Cleared pt.view.known q.view) g.point (cleared_only pt.view.known g.rest.point.view (parts_only pt.view.known g.parts (moved pt (Line.Head (Step.Tick m)) pt.kernel) g.rest stays g.said (record { only = λ n q e. e })))

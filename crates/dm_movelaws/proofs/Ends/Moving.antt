@@ -1,6 +1,6 @@
 -- A process moves where some machine waits for it to leave or to come.
 use Rattle.dm_movelaws.proofs.Names.{◌≡◌, ◌⊎◌, ℕ, ◌==◌, ◌&&◌, Bool, true, false, not, refl, ap, ◌∙◌, sym, inl, inr, if◌then◌else◌, Option, false≢true, Pid, MsgId, MessageKind, View, Known, Here, Frozen, Incoming, Forward, Ended, Phase}
-use Rattle.dm_movelaws.proofs.Names.{Nowhere, Rests, Over, Moves, knows, comes, is_away, is_unknown, is_here, is_over, is_restart, is_early, is_between, IsIn, parts, InPhases, rests_here, is_moving, source_knows, leaves}
+use Rattle.dm_movelaws.proofs.Names.{Nowhere, Rests, Over, Moves, knows, kind_comes, is_away, is_unknown, is_here, is_over, is_restart, is_early, is_between, IsIn, parts, InPhases, rests_here, is_moving, source_knows, kind_leaves}
 use Rattle.dm_movelaws.proofs.Ends.Smooth.{Still}
 pub use Rattle.dm_rulelaws.proofs.Goes.Own.{destination_knows as knows_target}
 pub use Rattle.dm_rule.proofs.Phases.Pieces.{not_false}
@@ -10,7 +10,7 @@ moving_in (Moves k s d id) = 1
 moving_in _ = 0
 
 -- the source or the destination waits
-source_waits : (k : MessageKind) (d : ℕ) (x : Known) → is_restart k ≡ false → leaves k d x ≡ true → is_moving x ≡ true
+source_waits : (k : MessageKind) (d : ℕ) (x : Known) → is_restart k ≡ false → kind_leaves k d x ≡ true → is_moving x ≡ true
 source_waits k d (Frozen to) e h = refl
 source_waits k d (Incoming from) e h = refl
 source_waits k d (Forward at moves) e h = absurd (false≢true (sym (ap (λ (c : Bool). c && (d == at)) e) ∙ h))
@@ -21,7 +21,7 @@ restart_late MessageKind.Ask e = absurd (false≢true e)
 restart_late MessageKind.Refuse e = absurd (false≢true e)
 restart_late k e = refl
 
-pub target_waits : (k : MessageKind) (s : ℕ) (x : Known) → is_early k ≡ false → comes k s x ≡ true → is_moving x ≡ true
+pub target_waits : (k : MessageKind) (s : ℕ) (x : Known) → is_early k ≡ false → kind_comes k s x ≡ true → is_moving x ≡ true
 target_waits k s Here e h = absurd (false≢true h)
 target_waits k s (Frozen to) e h = refl
 target_waits k s (Incoming from) e h = refl

@@ -182,7 +182,7 @@ net_go _ h = absurd h.0
 outcome_go : (b : Boot) (pt : Point) (d : Step) (ps : List Part) → rule.outcome b pt d ≡ Some ps → AllGo ps
 outcome_go b pt (Step.Turn m) ps e = fit_go pt.view.pair ps (turns_fit pt.view.pair b pt m (pt.view.inbox m) ps e)
 outcome_go b pt (Step.Tick m) ps e =
-    let qs = Says (Line.Resent m (rule.outstanding pt.view m pt.kernel.machines)) ∷ rule.resends pt.view m pt.kernel.machines in
+    let qs = Says (Line.Resent m (rule.outstanding_count pt.view m pt.kernel.machines)) ∷ rule.resends pt.view m pt.kernel.machines in
     let f : qs ≡ ps = cc in
     subst AllGo f (net_go qs (tt, resends_net pt.view m pt.kernel.machines))
 outcome_go b pt (Step.Deliver a c k) ps e =

@@ -1,6 +1,6 @@
 -- Whoever says that a piece's owner has ended is an owner that has.
 use Rattle.dm_movelaws.proofs.Names.{◌≡◌, ◌⊎◌, true, false, length, take, drop, ap, ◌∙◌, sym, subst, inl, inr, Option, None, Some, Pid, MsgId, PlainMessage, PlainWhat, switchboard, manager, Label, Why, Life, OneKernel, with_sent, answer_to}
-use Rattle.dm_movelaws.proofs.Names.{without_message, is_piece, Grown, LifeGrows, stayed, came, ServerSends, board_takes, manager_takes, lands-is, HasEnded, by_step}
+use Rattle.dm_movelaws.proofs.Names.{without_message, is_piece, Grown, LifeGrows, stayed, came, ServerSends, board_takes_lem, manager_takes_lem, lands-is, HasEnded, by_step}
 use Rattle.dm_onekernel.specs.Kernel.{Ended}
 use Rattle.dm_onekernel.specs.Pieces as pieces
 use Rattle.dm_onekernel.specs.Service as service
@@ -47,10 +47,10 @@ step_came s t l = by_step (Came s) s t l (record {
   writes = λ id m x base bytes is w e. put_came s (service.changed s id m (record x { memory = pieces.written_at x.memory base bytes })) (answer_to m PlainWhat.Written) (stayed s id) (λ g. cc);
   lands = λ id m x r y is w e c. put_came s (service.changed s id m y) r (stayed s id) (no_piece r.what (service.changed s id m y) r.sender (lands-is m.to x m x.status (pieces.Next r y) c).0.piece);
   done = λ id m x c y is w e f i z there. inl (stayed s id i z there);
-  board = λ id m k is there c took. server_came s (record (without_message s id) { switchboard = k.switchboard }) switchboard k.answer s.switchboard.sent k.switchboard.sent (board_takes s.switchboard m m.what k took).2 (stayed s id);
+  board = λ id m k is there c took. server_came s (record (without_message s id) { switchboard = k.switchboard }) switchboard k.answer s.switchboard.sent k.switchboard.sent (board_takes_lem s.switchboard m m.what k took).2 (stayed s id);
   manager = λ id m k is there c took.
-      server_came s (record (without_message s id) { manager = k.manager }) manager k.message s.manager.sent k.manager.sent (manager_takes s.manager s.machines (length s.images) m m.what k took).2.sends (stayed s id);
-  creates = λ id child m image links i is w found name. put_came s (service.with_child (without_message s id) child i links) (answer_to m (PlainWhat.Created child)) (stayed s id) (λ g. cc);
+      server_came s (record (without_message s id) { manager = k.manager }) manager k.message s.manager.sent k.manager.sent (manager_takes_lem s.manager s.machines (length s.images) m m.what k took).2.sends (stayed s id);
+  creates = λ id child m image links i is w found name. put_came s (service.with_created (without_message s id) child i links) (answer_to m (PlainWhat.Created child)) (stayed s id) (λ g. cc);
   no_room = λ id a b m image links is w. put_came s (without_message s id) (answer_to m PlainWhat.NoRoom) (stayed s id) (λ g. cc);
 })
 

@@ -1,8 +1,8 @@
 -- Each step keeps what the messages of data moves say.
 use Rattle.dm_movelaws.proofs.Names.{◌≡◌, ◌⊎◌, ℕ, ◌+◌, ◌-◌, ◌==◌, ◌&&◌, Bool, true, false, length, take, drop, refl, ap, ◌∙◌, sym, subst, inl, inr, nat_le, ⊤, if◌then◌else◌, Option, None, Some, Pid, PlainLink, first_empty, link_at, MsgId}
 use Rattle.dm_movelaws.proofs.Names.{PlainMessage, PlainWhat, direction_numbered, Direction, Row, instruction, switchboard, manager, Label, Reply, Why, reg, PlainProcess, PlainStatus, Waiting, Moving, Alive, OneKernel, with_process}
-use Rattle.dm_movelaws.proofs.Names.{with_sent, Called, Sends, Waits, CallNumber, Make, Copy, Drop, Send, Receive, Move, call_number, answer_to, first_failed, without_message, is_of_memory, pending_of, ServerSends, board_takes}
-use Rattle.dm_movelaws.proofs.Names.{manager_takes, lands-is, Sound, bind-is, KernelFits, by_step, Lives}
+use Rattle.dm_movelaws.proofs.Names.{with_sent, Called, Sends, Waits, CallNumber, Make, Copy, Drop, Send, Receive, Move, call_number, answer_to, first_failed, without_message, is_of_memory, pending_of, ServerSends, board_takes_lem}
+use Rattle.dm_movelaws.proofs.Names.{manager_takes_lem, lands-is, Sound, bind-is, KernelFits, by_step, Lives}
 use Rattle.dm_onekernel.specs.Calls as calls
 use Rattle.dm_onekernel.specs.Pieces as pieces
 use Rattle.dm_onekernel.specs.Service as service
@@ -32,24 +32,24 @@ copies_sends : (p : Pid) (x : PlainProcess) (o : Option PlainLink) → CallSends
 copies_sends p x None = tt
 copies_sends p x (Some l) = if_sends p (calls.is_reply l.kind) (calls.refused Reply.NotCopyable x) (calls.puts_link x l (first_empty x.links)) tt (puts_link_sends p x l (first_empty x.links))
 
-drops_sends : (p : Pid) (x : PlainProcess) (o : Option PlainLink) → CallSends p (calls.drops x o)
+drops_sends : (p : Pid) (x : PlainProcess) (o : Option PlainLink) → CallSends p (calls.drop_call x o)
 drops_sends p x None = tt
 drops_sends p x (Some l) = tt
 
-sends_sends : (p : Pid) (x : PlainProcess) (o : Option PlainLink) → CallSends p (calls.sends p x o)
+sends_sends : (p : Pid) (x : PlainProcess) (o : Option PlainLink) → CallSends p (calls.send_call p x o)
 sends_sends p x None = tt
 sends_sends p x (Some l) = unless_sends p x (first_failed (calls.send_refusals x)) (Sends (calls.message_over p x l) (calls.after_send x)) (inl refl)
 
 moves_bytes_sends : (p : Pid) (x : PlainProcess) (l : PlainLink) (dir : Direction) → CallSends p (calls.moves_bytes p x l dir)
 moves_bytes_sends p x l dir =
-    if_sends p (reg x.regs 5 == 0) (calls.refused Reply.Done x) (calls.begins (pieces.requests p x dir l.to (l.area.base + reg x.regs 3) (reg x.regs 4) (reg x.regs 5))) tt
+    if_sends p (reg x.regs 5 == 0) (calls.refused Reply.Done x) (calls.begins_move (pieces.requests p x dir l.to (l.area.base + reg x.regs 3) (reg x.regs 4) (reg x.regs 5))) tt
     (inr (record { dir = dir; owner = l.to; base = l.area.base + reg x.regs 3; own = reg x.regs 4; left = reg x.regs 5; before = x; message = refl; process = refl }))
 
 moves_over_sends : (p : Pid) (x : PlainProcess) (l : PlainLink) (o : Option Direction) → CallSends p (calls.moves_over p x l o)
 moves_over_sends p x l None = tt
 moves_over_sends p x l (Some dir) = unless_sends p x (first_failed (calls.move_refusals x l dir)) (calls.moves_bytes p x l dir) (moves_bytes_sends p x l dir)
 
-moves_sends : (p : Pid) (x : PlainProcess) (o : Option PlainLink) → CallSends p (calls.moves p x o)
+moves_sends : (p : Pid) (x : PlainProcess) (o : Option PlainLink) → CallSends p (calls.move_call p x o)
 moves_sends p x None = tt
 moves_sends p x (Some l) = moves_over_sends p x l (direction_numbered (reg x.regs 2))
 
@@ -64,18 +64,18 @@ does_call_sends p x Move = moves_sends p x (link_at x.links (reg x.regs 1))
 does_call_sends p x _ = tt
 
 -- and the next instruction
-abbrev NextSends : Pid → kernel.Next → Type 0
+abbrev NextSends : Pid → kernel.Trap → Type 0
 NextSends p (kernel.Calls number called) = CallSends p called
 NextSends p (kernel.Faults fault) = ⊤
 
-row_sends : (p : Pid) (x : PlainProcess) (w : Row) (n : kernel.Next) → kernel.next_row p x w ≡ Some n → NextSends p n
+row_sends : (p : Pid) (x : PlainProcess) (w : Row) (n : kernel.Trap) → kernel.next_row p x w ≡ Some n → NextSends p n
 row_sends p x (Row.Plain regs bytes) n e = cc
 row_sends p x (Row.Calls number regs) n e =
     let k : kernel.Calls number (calls.call p (record x { regs = regs }) number) ≡ n = cc in
     subst (NextSends p) k (does_call_sends p (record x { regs = regs }) (call_number number))
 row_sends p x (Row.Faults fault) n e = let k : kernel.Faults fault ≡ n = cc in subst (NextSends p) k tt
 
-next_sends : (s : OneKernel) (p : Pid) (n : kernel.Next) → kernel.next s p ≡ Some n → NextSends p n
+next_sends : (s : OneKernel) (p : Pid) (n : kernel.Trap) → kernel.next_trap s p ≡ Some n → NextSends p n
 next_sends s p n e =
     let (x, is, row_is) = bind-is (kernel.running s p) (λ v. kernel.next_row p v (instruction v.regs v.memory)) n e in
     row_sends p x (instruction x.regs x.memory) n row_is
@@ -100,11 +100,11 @@ lands_what_sends : (p : Pid) (x : PlainProcess) (dir : Direction) (owner : Pid) 
 lands_what_sends p x Direction.FromArea owner base own left (PlainWhat.Block bytes) c e =
     let z = record x { memory = pieces.written_at x.memory own bytes } in
     let piece = pieces.piece_of left in
-    if_lands p ((length bytes == piece) && nat_le (own + left) (length x.memory)) (pieces.goes_on p z Direction.FromArea owner base own left piece) c
+    if_lands p ((length bytes == piece) && nat_le (own + left) (length x.memory)) (pieces.move_goes_on p z Direction.FromArea owner base own left piece) c
     (goes_on_sends p z Direction.FromArea owner (base + piece) (own + piece) (left - piece) (left - piece == 0)) e
 lands_what_sends p x Direction.IntoArea owner base own left PlainWhat.Written c e =
     let piece = pieces.piece_of left in
-    if_lands p (nat_le (own + left) (length x.memory)) (pieces.goes_on p x Direction.IntoArea owner base own left piece) c
+    if_lands p (nat_le (own + left) (length x.memory)) (pieces.move_goes_on p x Direction.IntoArea owner base own left piece) c
     (goes_on_sends p x Direction.IntoArea owner (base + piece) (own + piece) (left - piece) (left - piece == 0)) e
 lands_what_sends p x Direction.FromArea owner base own left PlainWhat.Gone c e = gone_lands p x c e
 lands_what_sends p x Direction.IntoArea owner base own left PlainWhat.Gone c e = gone_lands p x c e
@@ -172,10 +172,10 @@ step_says r e s t l is_ sound =
           request_says (without_message s id) m.to r_ y (lands_sends m.to x m x.status (pieces.Next r_ y) c) from fits (out_says (with_process s m.to (Alive y)) id on));
       done = λ id m x c y is w f g fits h. still_says (without_message s id) m.to y (lands-is m.to x m x.status (pieces.Done c y) g).1 (out_says s id h);
       board = λ id m k is there c took fits h.
-          server_says (record (without_message s id) { switchboard = k.switchboard }) switchboard k.answer s.switchboard.sent k.switchboard.sent (board_takes s.switchboard m m.what k took).2 (out_says s id h);
+          server_says (record (without_message s id) { switchboard = k.switchboard }) switchboard k.answer s.switchboard.sent k.switchboard.sent (board_takes_lem s.switchboard m m.what k took).2 (out_says s id h);
       manager = λ id m k is there c took fits h.
-          server_says (record (without_message s id) { manager = k.manager }) manager k.message s.manager.sent k.manager.sent (manager_takes s.manager s.machines (length s.images) m m.what k took).2.sends (out_says s id h);
+          server_says (record (without_message s id) { manager = k.manager }) manager k.message s.manager.sent k.manager.sent (manager_takes_lem s.manager s.machines (length s.images) m m.what k took).2.sends (out_says s id h);
       creates = λ id child m image links i is w found name fits h.
-          other_says (service.with_child (without_message s id) child i links) (answer_to m (PlainWhat.Created child)) refl (still_says (without_message s id) child (begun s.format i links) refl (out_says s id h));
+          other_says (service.with_created (without_message s id) child i links) (answer_to m (PlainWhat.Created child)) refl (still_says (without_message s id) child (begun s.format i links) refl (out_says s id h));
       no_room = λ id a b m image links is w fits h. other_says (without_message s id) (answer_to m PlainWhat.NoRoom) refl (out_says s id h);
     }) is_

@@ -96,11 +96,11 @@ message_is s id n m e f = let g : Some n ≡ Some m = sym e ∙ f in cc
 
 gone_over : (s t : OneKernel) (id : MsgId) (m : PlainMessage) → kernel.step s (Label.Gone id) ≡ Some t → s.bag id ≡ Some m → (y : Why) × (s.processes m.to ≡ Some (Ended y))
 gone_over s t id m is there =
-    let (n, at, rest) = bind-is (s.bag id) (λ n. bind (kernel.ended (s.processes n.to)) (kernel.says_gone s id n)) t is in
-    let (y, over, last) = bind-is (kernel.ended (s.processes n.to)) (kernel.says_gone s id n) t rest in
+    let (n, at, rest) = bind-is (s.bag id) (λ n. bind (kernel.why_ended (s.processes n.to)) (kernel.says_gone s id n)) t is in
+    let (y, over, last) = bind-is (kernel.why_ended (s.processes n.to)) (kernel.says_gone s id n) t rest in
     (y, ap (λ (x : PlainMessage). s.processes x.to) (sym (message_is s id n m at there)) ∙ ended_is (s.processes n.to) y over)
   where
-    ended_is : (o : Option Life) (y : Why) → kernel.ended o ≡ Some y → o ≡ Some (Ended y)
+    ended_is : (o : Option Life) (y : Why) → kernel.why_ended o ≡ Some y → o ≡ Some (Ended y)
     ended_is (Some (Ended z)) y e = let f : z ≡ y = cc in ap (λ (v : Why). Some (Ended v)) f
     ended_is _ y e = cc
 

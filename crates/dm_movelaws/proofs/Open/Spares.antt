@@ -1,8 +1,8 @@
 -- As long as a migration is open, each group leaves the process alone.
 use Rattle.dm_movelaws.proofs.Names.{◌≡◌, ◌≢◌, ℕ, ◌==◌, ◌&&◌, Bool, true, false, List, [], ◌∷◌, ◌++◌, is_some, refl, ap, ◌∙◌, sym, Option, Some, false≢true, Pid, MsgId, MessageKind, PlainMessage, Boot, Label, Why, IsValid, OneKernel, bind}
-use Rattle.dm_movelaws.proofs.Names.{start, replay, ended_stays, bind-is, Step, Line, Spelled, Phase, Moves, is_between, is_restart, is_early, comes, IsIn, Point, first_point, label_of, labels, kernel_after, moved, after_line, after}
+use Rattle.dm_movelaws.proofs.Names.{start, replay, ended_stays, bind-is, Step, Line, Spelled, Phase, Moves, is_between, is_restart, is_early, kind_comes, IsIn, Point, first_point, label_of, labels, kernel_after, moved, after_line, after}
 use Rattle.dm_movelaws.proofs.Names.{group_of, Known, Unknown, Frozen, Incoming, Forward, moving_stays_always, is_server, agrees, LeadsBy, after_replay, Run, run_always, mark_while, IsSpared, OpenSpares, apart_is, destination_knows}
-use Rattle.dm_movelaws.proofs.Names.{server_leaves, ended-is, leaves}
+use Rattle.dm_movelaws.proofs.Names.{server_leaves, why_ended-is, kind_leaves}
 use Rattle.dm_onekernel.specs.Kernel.{Ended}
 use Rattle.dm_onekernel.specs.Step as kernel
 use Rattle.dm_movelaws.proofs.After.{after-append, group_after}
@@ -11,19 +11,19 @@ use Rattle.dm_movelaws.proofs.Stages.Spares.{restart_late}
 pub use Rattle.dm_rulelaws.proofs.Goes.Own.{source_knows}
 
 -- what moves hasn't ended
-leaving_not : (k : MessageKind) (d : ℕ) (n : Known) (y : Why) → leaves k d n ≡ true → is_restart k ≡ false → agrees n (Some (Ended y)) ≡ true → ⊥
+leaving_not : (k : MessageKind) (d : ℕ) (n : Known) (y : Why) → kind_leaves k d n ≡ true → is_restart k ≡ false → agrees n (Some (Ended y)) ≡ true → ⊥
 leaving_not k d (Frozen to) y e r a = false≢true a
 leaving_not k d (Forward m moves) y e r a = false≢true (sym (ap (λ (c : Bool). c && (d == m)) r) ∙ e)
 leaving_not k d _ y e r a = false≢true e
 
-coming_not : (k : MessageKind) (s : ℕ) (n : Known) (y : Why) → comes k s n ≡ true → is_early k ≡ false → agrees n (Some (Ended y)) ≡ true → ⊥
+coming_not : (k : MessageKind) (s : ℕ) (n : Known) (y : Why) → kind_comes k s n ≡ true → is_early k ≡ false → agrees n (Some (Ended y)) ≡ true → ⊥
 coming_not k s (Incoming from) y e r a = false≢true a
 coming_not k s Unknown y e r a = false≢true (sym r ∙ e)
 coming_not k s (Forward m moves) y e r a = false≢true (sym r ∙ e)
 coming_not k s _ y e r a = false≢true e
 
-by_server : (c r : Bool) (b : Boot) (pt : Point) (p : Pid) (k : MessageKind) (s d : ℕ) (y : Why) → is_server p ≡ c → is_restart k ≡ r → Run b pt → leaves k d (pt.view.known s p) ≡ true → comes k s (pt.view.known d p) ≡ true → pt.kernel.processes p ≡ Some (Ended y) → ⊥
-by_server true r b pt p k s d y server restart run leave come over = false≢true (sym (server_leaves k d (s == 0)) ∙ sym (ap (leaves k d) (run.based.known.server s p server)) ∙ leave)
+by_server : (c r : Bool) (b : Boot) (pt : Point) (p : Pid) (k : MessageKind) (s d : ℕ) (y : Why) → is_server p ≡ c → is_restart k ≡ r → Run b pt → kind_leaves k d (pt.view.known s p) ≡ true → kind_comes k s (pt.view.known d p) ≡ true → pt.kernel.processes p ≡ Some (Ended y) → ⊥
+by_server true r b pt p k s d y server restart run leave come over = false≢true (sym (server_leaves k d (s == 0)) ∙ sym (ap (kind_leaves k d) (run.based.known.server s p server)) ∙ leave)
 by_server false true b pt p k s d y server restart run leave come over =
     coming_not k s (pt.view.known d p) y come (restart_late k restart) (sym (ap (agrees (pt.view.known d p)) over) ∙ run.based.known.agree d p server)
 by_server false false b pt p k s d y server restart run leave come over =
@@ -43,10 +43,10 @@ after-rest (x ∷ xs) ys pt mid end e f =
 
 pub dropped_over : (s t : OneKernel) (id : MsgId) (m : PlainMessage) → kernel.step s (Label.Dropped id) ≡ Some t → s.bag id ≡ Some m → (y : Why) × (s.processes m.to ≡ Some (Ended y))
 dropped_over s t id m is there =
-    let (n, at, rest) = bind-is (s.bag id) (λ n. bind (kernel.ended (s.processes n.to)) (kernel.drops s id n)) t is in
-    let (y, over, last) = bind-is (kernel.ended (s.processes n.to)) (kernel.drops s id n) t rest in
+    let (n, at, rest) = bind-is (s.bag id) (λ n. bind (kernel.why_ended (s.processes n.to)) (kernel.drops s id n)) t is in
+    let (y, over, last) = bind-is (kernel.why_ended (s.processes n.to)) (kernel.drops s id n) t rest in
     let same : n ≡ m = let f : Some n ≡ Some m = sym at ∙ there in cc in
-    (y, ap (λ (x : PlainMessage). s.processes x.to) (sym same) ∙ ended-is (s.processes n.to) y over)
+    (y, ap (λ (x : PlainMessage). s.processes x.to) (sym same) ∙ why_ended-is (s.processes n.to) y over)
 
 -- a group that keeps the process drops no message for it
 dropped_for_other : (b : Boot) (ls earlier later : List Line) (pt before end : Point) (p : Pid) (id : MsgId) (m : PlainMessage) → IsValid b → ((y : Why) → pt.kernel.processes p ≡ Some (Ended y) → ⊥) → end.kernel.processes p ≡ pt.kernel.processes p

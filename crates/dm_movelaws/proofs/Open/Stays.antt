@@ -1,7 +1,7 @@
 -- Each line between a process's step 1 and its step 8 or `stays` is another's, and leaves its plain value.
 use Rattle.dm_movelaws.proofs.Names.{◌≡◌, ℕ, true, false, List, [], ◌∷◌, ◌++◌, is_some, refl, ap, ◌∙◌, sym, subst, inl, inr, Option, None, Some, false≢true, Pid, MsgId, MessageKind, Boot, Label, IsValid, OneKernel, bind, bind-is, Step}
 use Rattle.dm_movelaws.proofs.Names.{Line, Spelled, Phase, Moves, IsIn, Point, label_of, kernel_after, moved, after_line, after, first_point, group_of, View, Known, Frozen, Forward, first_view, rooted, is_fixed, LeadsBy, KnownIs, Both}
-use Rattle.dm_movelaws.proofs.Names.{both_start, both_group, after_replay, Run, run_start, run_group, IsAnothersIf, OpenStays, Mark, marks, leaves}
+use Rattle.dm_movelaws.proofs.Names.{both_start, both_group, after_replay, Run, run_start, run_group, IsAnothersIf, OpenStays, Mark, marks, kind_leaves}
 use Rattle.dm_movelaws.proofs.After.{after-append, group_after}
 use Rattle.dm_movelaws.proofs.Open.Apart.{AllAlone, moving_alone, kernel_same, alone_rest, anothers_if}
 use Rattle.dm_movelaws.proofs.Open.Moves.{open_is, none_due, start_mark}
@@ -38,7 +38,7 @@ meets (x ∷ xs) ys l pt end e =
     record { mid = k.mid; comes = ap (λ (o : Option Point). bind o (λ (q : Point). after q xs)) first ∙ k.comes; next = k.next; goes = k.goes }
 
 -- a group of a process that moves
-leaves_free : (n : ℕ) (v : View) (m : ℕ) (p : Pid) (k : MessageKind) (d : ℕ) (x : Known) → leaves k d x ≡ true → KnownIs n v m p x → is_fixed p ≡ false
+leaves_free : (n : ℕ) (v : View) (m : ℕ) (p : Pid) (k : MessageKind) (d : ℕ) (x : Known) → kind_leaves k d x ≡ true → KnownIs n v m p x → is_fixed p ≡ false
 leaves_free n v m p k d (Frozen to) e h = h.2
 leaves_free n v m p k d (Forward at moves) e h = h.2
 leaves_free n v m p k d _ e h = absurd (false≢true e)

@@ -1,8 +1,8 @@
 -- Wherever the rule leads, each pending request of the manager's has one message under its number.
 use Rattle.dm_movelaws.proofs.Names.{◌≡◌, ◌⊎◌, ℕ, ◌+◌, ◌*◌, ◌<◌, ◌≤◌, ◌==◌, ◌&&◌, Bool, true, false, List, [], ◌∷◌, ◌++◌, length, is_some, refl, ap, ◌∙◌, sym, subst, inl, inr, arith, if◌then◌else◌, nat_lt, Option, None, Some, cases_Bool}
 use Rattle.dm_movelaws.proofs.Names.{false≢true, nat_tests, Pid, pid_eq, PlainLink, MsgId, MessageKind, id_of, bool_eq, plain_kind, PlainMessage, PlainWhat, switchboard, manager, Boot, Label, Manager, Pending, OneKernel, with_sent}
-use Rattle.dm_movelaws.proofs.Names.{without_message, replay, entry, reception, in_bag, after_step, ServerSends, board_takes, manager_takes, Sound, bind-is, Step, ascends, Leads, Point, first_point, labels, View, still_pending, IsPending}
-use Rattle.dm_movelaws.proofs.Names.{WhatFits, KernelFits, based_start, based_group, based_always, fits_step, group_replay, Based, makes, is_pending, HasOne, IsOfPending, PendingHasOne}
+use Rattle.dm_movelaws.proofs.Names.{without_message, replay, entry, reception, in_bag, after_step, ServerSends, board_takes_lem, manager_takes_lem, Sound, bind-is, Step, ascends, Leads, Point, first_point, labels, View, still_pending}
+use Rattle.dm_movelaws.proofs.Names.{IsPending, WhatFits, KernelFits, based_start, based_group, based_always, fits_step, group_replay, Based, makes, is_pending, HasOne, IsOfPending, PendingHasOne}
 use Rattle.dm_onekernel.specs.Manager as manage
 use Rattle.dm_onekernel.specs.Service as service
 use Rattle.dm_onekernel.specs.Step as kernel
@@ -12,7 +12,7 @@ use Rattle.dm_movelaws.proofs.Pending.Steps.{label_ones}
 use Rattle.dm_movelaws.proofs.Promise.Before.{step_pending}
 
 -- the switchboard takes user messages
-board_neither : (b : _) (m : PlainMessage) (w : PlainWhat) (k : board.Took) → m.what ≡ w → board.takes b m w ≡ Some k → Neither m.what
+board_neither : (b : _) (m : PlainMessage) (w : PlainWhat) (k : board.BoardTook) → m.what ≡ w → board.board_takes b m w ≡ Some k → Neither m.what
 board_neither b m (PlainWhat.User code channel body links) k e is = neither m.what (PlainWhat.User code channel body links) e refl refl
 board_neither b m w k e is = cc
 
@@ -20,12 +20,12 @@ board_put : (u : OneKernel) (o : Option PlainMessage) (n after : ℕ) → Server
 board_put u None n after sends h = h
 board_put u (Some x) n after sends h = put_ones u x (λ k p. from_other x.id k (ap (λ (i : MsgId). pid_eq i.from manager) sends.0)) h
 
-board_ones : (s : OneKernel) (id : MsgId) (m : PlainMessage) (k : board.Took) → s.bag id ≡ Some m → board.takes s.switchboard m m.what ≡ Some k → Ones s → Ones (service.switchboard_took s id k)
+board_ones : (s : OneKernel) (id : MsgId) (m : PlainMessage) (k : board.BoardTook) → s.bag id ≡ Some m → board.board_takes s.switchboard m m.what ≡ Some k → Ones s → Ones (service.switchboard_took s id k)
 board_ones s id m k there is h =
-    board_put (record (without_message s id) { switchboard = k.switchboard }) k.answer s.switchboard.sent k.switchboard.sent (board_takes s.switchboard m m.what k is).2 (out_ones s id m there (board_neither s.switchboard m m.what k refl is) h)
+    board_put (record (without_message s id) { switchboard = k.switchboard }) k.answer s.switchboard.sent k.switchboard.sent (board_takes_lem s.switchboard m m.what k is).2 (out_ones s id m there (board_neither s.switchboard m m.what k refl is) h)
 
 -- the manager takes a user message: its requests stay, or there is one more, which it sends
-record Asked (g : Manager) (k : manage.Took) : Type 0 where
+record Asked (g : Manager) (k : manage.ManagerTook) : Type 0 where
   link : PlainLink
   request : PlainMessage
   pending : k.manager.pending ≡ g.pending ++ record { n = g.sent; answer = link } ∷ []
@@ -33,14 +33,14 @@ record Asked (g : Manager) (k : manage.Took) : Type 0 where
   name : request.id ≡ id_of manager g.sent
   creates : is_create request.what ≡ true
 
-abbrev UserTook : Manager → manage.Took → Type 0
+abbrev UserTook : Manager → manage.ManagerTook → Type 0
 UserTook g k = (k.manager.pending ≡ g.pending) ⊎ Asked g k
 
 bad_took : (g : Manager) (links : List PlainLink) → UserTook g (manage.bad_request g links)
 bad_took g [] = inl refl
 bad_took g (l ∷ ls) = inl refl
 
-if_took : (g : Manager) (c : Bool) (x y : manage.Took) → UserTook g x → UserTook g y → UserTook g (if c then x else y)
+if_took : (g : Manager) (c : Bool) (x y : manage.ManagerTook) → UserTook g x → UserTook g y → UserTook g (if c then x else y)
 if_took g true x y h k = h
 if_took g false x y h k = k
 
@@ -50,12 +50,12 @@ wants_took g machines images machine image (l ∷ ls) =
     if_took g (nat_lt machine machines && nat_lt image images) (manage.asks_for g machine image l ls) (manage.bad_request g (l ∷ ls))
     (inr (record { link = l; request = _; pending = refl; sends = refl; name = refl; creates = refl })) (bad_took g (l ∷ ls))
 
-requests_took : (g : Manager) (machines images : ℕ) (body : List ℕ) (links : List PlainLink) → UserTook g (manage.requests g machines images body links)
+requests_took : (g : Manager) (machines images : ℕ) (body : List ℕ) (links : List PlainLink) → UserTook g (manage.requests_child g machines images body links)
 requests_took g machines images (a ∷ b ∷ c ∷ d ∷ []) links =
     if_took g (a == 1) (manage.wants_child g machines images b (256 * c + d) links) (manage.bad_request g links) (wants_took g machines images b (256 * c + d) links) (bad_took g links)
 requests_took g machines images body links = bad_took g links
 
-child_took : (g : Manager) (child : Pid) (o : Option PlainWhat) (links : List PlainLink) → UserTook g (manage.controls_child g child o links)
+child_took : (g : Manager) (child : Pid) (o : Option PlainWhat) (links : List PlainLink) → UserTook g (manage.tells_child g child o links)
 child_took g child None links = bad_took g links
 child_took g child (Some w) links = inl refl
 
@@ -65,7 +65,7 @@ controls_took g child body links = bad_took g links
 
 user_took : (g : Manager) (machines images code : ℕ) (body : List ℕ) (links : List PlainLink) → UserTook g (manage.takes_user g machines images code body links)
 user_took g machines images code body links =
-    if_took g (code == 0) (manage.requests g machines images body links) (manage.controls g (manage.child_numbered g.children code) body links) (requests_took g machines images body links) (controls_took g (manage.child_numbered g.children code) body links)
+    if_took g (code == 0) (manage.requests_child g machines images body links) (manage.controls g (manage.child_numbered g.children code) body links) (requests_took g machines images body links) (controls_took g (manage.child_numbered g.children code) body links)
 
 -- one more request
 last_if : (n : ℕ) (x r : Pending) (xs : List Pending) (c : Bool) → ((is_some (manage.pending_numbered n (xs ++ r ∷ [])) ≡ true) → (is_some (manage.pending_numbered n xs) ≡ true) ⊎ (r.n ≡ n)) → is_some (if c then Some x else manage.pending_numbered n (xs ++ r ∷ [])) ≡ true
@@ -122,15 +122,15 @@ answer_apart id k answer off = (
 )
 
 -- what is pending once the manager has taken a message
-pending_by : (s : OneKernel) (id : MsgId) (k : manage.Took) (n : ℕ) (o : Option PlainMessage) → is_pending (with_sent (record (without_message s id) { manager = k.manager }) o) n ≡ true → is_some (manage.pending_numbered n k.manager.pending) ≡ true
+pending_by : (s : OneKernel) (id : MsgId) (k : manage.ManagerTook) (n : ℕ) (o : Option PlainMessage) → is_pending (with_sent (record (without_message s id) { manager = k.manager }) o) n ≡ true → is_some (manage.pending_numbered n k.manager.pending) ≡ true
 pending_by s id k n None p = p
 pending_by s id k n (Some x) p = p
 
-pending_in : (s : OneKernel) (id : MsgId) (k : manage.Took) (n : ℕ) → is_pending (service.manager_took s id k) n ≡ true → is_some (manage.pending_numbered n k.manager.pending) ≡ true
+pending_in : (s : OneKernel) (id : MsgId) (k : manage.ManagerTook) (n : ℕ) → is_pending (service.manager_took s id k) n ≡ true → is_some (manage.pending_numbered n k.manager.pending) ≡ true
 pending_in s id k n p = pending_by s id k n k.message p
 
 -- an answer to a request
-answered_took : (s : OneKernel) (id : MsgId) (m : PlainMessage) (k : manage.Took) → m.id ≡ id → id.answer ≡ true → k.manager.pending ≡ manage.without_pending m.id.n s.manager.pending → ServerSends manager s.manager.sent k.message k.manager.sent → ascends 0 s.manager.pending s.manager.sent ≡ true → Ones s
+answered_took : (s : OneKernel) (id : MsgId) (m : PlainMessage) (k : manage.ManagerTook) → m.id ≡ id → id.answer ≡ true → k.manager.pending ≡ manage.without_pending m.id.n s.manager.pending → ServerSends manager s.manager.sent k.message k.manager.sent → ascends 0 s.manager.pending s.manager.sent ≡ true → Ones s
     → Ones (service.manager_took s id k)
 answered_took s id m k name answer pending sends up h n p =
     let left : is_some (manage.pending_numbered n (manage.without_pending m.id.n s.manager.pending)) ≡ true = sym (ap (λ (rs : List Pending). is_some (manage.pending_numbered n rs)) pending) ∙ pending_in s id k n p in
@@ -139,7 +139,7 @@ answered_took s id m k name answer pending sends up h n p =
     took_pair s id k n sends up was (answer_apart id n answer off) h
 
 -- a user message
-user_ones : (r e : MsgId → ℕ) (s : OneKernel) (id : MsgId) (m : PlainMessage) (k : manage.Took) → s.bag id ≡ Some m → Neither m.what → UserTook s.manager k → ServerSends manager s.manager.sent k.message k.manager.sent → ascends 0 s.manager.pending s.manager.sent ≡ true → Sound r e s → Ones s
+user_ones : (r e : MsgId → ℕ) (s : OneKernel) (id : MsgId) (m : PlainMessage) (k : manage.ManagerTook) → s.bag id ≡ Some m → Neither m.what → UserTook s.manager k → ServerSends manager s.manager.sent k.message k.manager.sent → ascends 0 s.manager.pending s.manager.sent ≡ true → Sound r e s → Ones s
     → Ones (service.manager_took s id k)
 user_ones r e s id m k there w (inl same) sends up sound h n p =
     let was : is_pending s n ≡ true = sym (ap (λ (rs : List Pending). is_some (manage.pending_numbered n rs)) same) ∙ pending_in s id k n p in
@@ -150,20 +150,20 @@ user_ones r e s id m k there w (inr asked) sends up sound h n p =
       | inr is ↦ subst (λ (i : ℕ). Pair ((service.manager_took s id k).bag (id_of manager i)) ((service.manager_took s id k).bag (answer_of i))) is (asked_pair r e s id k asked.request asked.sends asked.name asked.creates sound)
     ]
 
-created_pending : (g : Manager) (n : ℕ) (child : Pid) (o : Option Pending) (k : manage.Took) → manage.takes_created g n child o ≡ Some k → k.manager.pending ≡ manage.without_pending n g.pending
+created_pending : (g : Manager) (n : ℕ) (child : Pid) (o : Option Pending) (k : manage.ManagerTook) → manage.takes_created g n child o ≡ Some k → k.manager.pending ≡ manage.without_pending n g.pending
 created_pending g n child None k e = cc
 created_pending g n child (Some r) k e =
     let h = record g { children = g.children ++ child ∷ []; pending = manage.without_pending n g.pending } in
-    let f : manage.answers h r.answer 0 (manage.control_link (length g.children + 1) ∷ []) ≡ k = cc in
-    sym (ap (λ (x : manage.Took). x.manager.pending) f)
+    let f : manage.answers_byte h r.answer 0 (manage.control_link (length g.children + 1) ∷ []) ≡ k = cc in
+    sym (ap (λ (x : manage.ManagerTook). x.manager.pending) f)
 
-no_room_pending : (g : Manager) (n : ℕ) (o : Option Pending) (k : manage.Took) → manage.takes_no_room g n o ≡ Some k → k.manager.pending ≡ manage.without_pending n g.pending
+no_room_pending : (g : Manager) (n : ℕ) (o : Option Pending) (k : manage.ManagerTook) → manage.takes_no_room g n o ≡ Some k → k.manager.pending ≡ manage.without_pending n g.pending
 no_room_pending g n None k e = cc
 no_room_pending g n (Some r) k e =
-    let f : manage.answers (record g { pending = manage.without_pending n g.pending }) r.answer 1 [] ≡ k = cc in
-    sym (ap (λ (x : manage.Took). x.manager.pending) f)
+    let f : manage.answers_byte (record g { pending = manage.without_pending n g.pending }) r.answer 1 [] ≡ k = cc in
+    sym (ap (λ (x : manage.ManagerTook). x.manager.pending) f)
 
-manager_kind : (r e : MsgId → ℕ) (s : OneKernel) (id : MsgId) (m : PlainMessage) (k : manage.Took) (w : PlainWhat) → m.what ≡ w → manage.takes s.manager s.machines (length s.images) m w ≡ Some k → s.bag id ≡ Some m → WhatFits s id m w → ServerSends manager s.manager.sent k.message k.manager.sent
+manager_kind : (r e : MsgId → ℕ) (s : OneKernel) (id : MsgId) (m : PlainMessage) (k : manage.ManagerTook) (w : PlainWhat) → m.what ≡ w → manage.manager_takes s.manager s.machines (length s.images) m w ≡ Some k → s.bag id ≡ Some m → WhatFits s id m w → ServerSends manager s.manager.sent k.message k.manager.sent
     → ascends 0 s.manager.pending s.manager.sent ≡ true → Sound r e s → Ones s → Ones (service.manager_took s id k)
 manager_kind r e s id m k (PlainWhat.User code channel body links) w is there fits sends up sound h =
     let f : manage.takes_user s.manager s.machines (length s.images) code body links ≡ k = cc in
@@ -178,7 +178,7 @@ step_ones : (r e : MsgId → ℕ) (s t : OneKernel) (l : Label) → kernel.step 
 step_ones r e s t l is fits up sound h =
     label_ones r e s t l sound h (record {
       board = λ id m k there took. board_ones s id m k there took h;
-      manager = λ id m k there took. manager_kind r e s id m k m.what refl took there (fits.messages id m there) (manager_takes s.manager s.machines (length s.images) m m.what k took).2.sends up sound h;
+      manager = λ id m k there took. manager_kind r e s id m k m.what refl took there (fits.messages id m there) (manager_takes_lem s.manager s.machines (length s.images) m m.what k took).2.sends up sound h;
     }) is
 
 -- a run

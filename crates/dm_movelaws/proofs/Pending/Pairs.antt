@@ -154,7 +154,7 @@ took_at s u id i None same off put = same ∙ out_off s id i off
 took_at s u id i (Some x) same off put = sent_off u x i (put x refl) ∙ same ∙ out_off s id i off
 
 -- the manager takes a message: a request that was pending has what it had
-pub took_pair : (s : OneKernel) (id : MsgId) (k : manage.Took) (n : ℕ) → ServerSends manager s.manager.sent k.message k.manager.sent → ascends 0 s.manager.pending s.manager.sent ≡ true → is_pending s n ≡ true → Off id n → Ones s
+pub took_pair : (s : OneKernel) (id : MsgId) (k : manage.ManagerTook) (n : ℕ) → ServerSends manager s.manager.sent k.message k.manager.sent → ascends 0 s.manager.pending s.manager.sent ≡ true → is_pending s n ≡ true → Off id n → Ones s
     → Pair ((manager_took s id k).bag (id_of manager n)) ((manager_took s id k).bag (answer_of n))
 took_pair s id k n sends up p off h =
     let u = record (without_message s id) { manager = k.manager } in
@@ -169,7 +169,7 @@ none_out : (s : OneKernel) (id i : MsgId) (c : Bool) → s.bag i ≡ None → (i
 none_out s id i true e = refl
 none_out s id i false e = e
 
-pub asked_pair : (r e : MsgId → ℕ) (s : OneKernel) (id : MsgId) (k : manage.Took) (x : PlainMessage) → k.message ≡ Some x → x.id ≡ id_of manager s.manager.sent → is_create x.what ≡ true → Sound r e s
+pub asked_pair : (r e : MsgId → ℕ) (s : OneKernel) (id : MsgId) (k : manage.ManagerTook) (x : PlainMessage) → k.message ≡ Some x → x.id ≡ id_of manager s.manager.sent → is_create x.what ≡ true → Sound r e s
     → Pair ((manager_took s id k).bag (id_of manager s.manager.sent)) ((manager_took s id k).bag (answer_of s.manager.sent))
 asked_pair r e s id k x sends name creates h =
     let u = record (without_message s id) { manager = k.manager } in

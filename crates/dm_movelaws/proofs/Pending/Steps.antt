@@ -55,8 +55,8 @@ own_off r e s p x i k sound alive is n = from_other i n (ap (λ (j : MsgId). pid
 
 -- every label but what a server takes
 pub record Takes (s : OneKernel) : Type 0 where
-  pub board : (id : MsgId) (m : PlainMessage) (k : board.Took) → s.bag id ≡ Some m → board.takes s.switchboard m m.what ≡ Some k → Ones (service.switchboard_took s id k)
-  pub manager : (id : MsgId) (m : PlainMessage) (k : manage.Took) → s.bag id ≡ Some m → manage.takes s.manager s.machines (length s.images) m m.what ≡ Some k → Ones (service.manager_took s id k)
+  pub board : (id : MsgId) (m : PlainMessage) (k : board.BoardTook) → s.bag id ≡ Some m → board.board_takes s.switchboard m m.what ≡ Some k → Ones (service.switchboard_took s id k)
+  pub manager : (id : MsgId) (m : PlainMessage) (k : manage.ManagerTook) → s.bag id ≡ Some m → manage.manager_takes s.manager s.machines (length s.images) m m.what ≡ Some k → Ones (service.manager_took s id k)
 
 pub label_ones : (r e : MsgId → ℕ) (s t : OneKernel) (l : Label) → Sound r e s → Ones s → Takes s → kernel.step s l ≡ Some t → Ones t
 label_ones r e s t l sound h takes = by_step Ones s t l (record {
@@ -90,7 +90,7 @@ label_ones r e s t l sound h takes = by_step Ones s t l (record {
   board = λ id m k is there c took. takes.board id m k there took;
   manager = λ id m k is there c took. takes.manager id m k there took;
   creates = λ id child m image links i is w found name.
-      (let u = service.with_child (without_message s id) child i links in
+      (let u = service.with_created (without_message s id) child i links in
       made_ones r e s u (with_sent u (Some (answer_to m (PlainWhat.Created child)))) id m (PlainWhat.Created child) refl (λ j. refl) (λ n p. p) w.there (ap asks w.what) refl sound h);
   no_room = λ id a b m image links is w.
       made_ones r e s (without_message s id) (with_sent (without_message s id) (Some (answer_to m PlainWhat.NoRoom))) id m PlainWhat.NoRoom refl (λ j. refl) (λ n p. p) w.there (ap asks w.what) refl sound h;

@@ -1,8 +1,8 @@
 -- As long as no line gives a slot an address, its address doesn't come to know fewer moves; and what was told stays.
 use Rattle.dm_movelaws.proofs.Names.{◌≡◌, ℕ, ◌+◌, ◌≤◌, ◌&&◌, nat_lt, Bool, true, false, List, [], ◌∷◌, ◌++◌, refl, ap, ◌∙◌, sym, subst, inl, inr, arith, if◌then◌else◌, Option, None, Some, cases_Bool, nat_tests, Pid, Place, MsgId}
-use Rattle.dm_movelaws.proofs.Names.{MessageKind, id_eq, Label, OneKernel, entry, reception, id_eq-is, after_step, Sound, bind-is, Line, View, Told, view_after, Addresses, Holder, Slot, Gets, given, gives, forwards, tells_back, all_follow}
-use Rattle.dm_movelaws.proofs.Names.{first_gives, own_gives, is_told_back, is_behind, is_pid, belongs_to, leads_to, updated, updated_to, place_told, addresses_after, ascends, Point, label_of, kernel_after, after_line, after, moved, parts}
-use Rattle.dm_movelaws.proofs.Names.{hushed, put_at, put_told_off, gives_to, fills, Unfilled, first_kept}
+use Rattle.dm_movelaws.proofs.Names.{MessageKind, id_eq, Label, OneKernel, entry, reception, id_eq-is, after_step, Sound, bind-is, Line, View, Told, view_after, Addresses, Holder, Slot, Gets, given, gives, forwards, told_back_gets}
+use Rattle.dm_movelaws.proofs.Names.{all_follow, first_gives, own_gives, is_told_back, is_behind, is_pid, belongs_to, leads_to, updated, updated_to, place_told, addresses_after, ascends, Point, label_of, kernel_after, after_line, after}
+use Rattle.dm_movelaws.proofs.Names.{moved, parts, hushed, put_at, put_told_off, gives_to, fills, Unfilled, first_kept}
 use Rattle.dm_rule.specs.View as view
 use Rattle.dm_movelaws.proofs.Promise.Before.{not_given, step_pending, led_before}
 
@@ -24,7 +24,7 @@ told_stays v any_ j t e = ap (λ (f : MsgId → Option Told). f j) (hushed v any
 same_address : (a : Addresses) (p : Pid) (k : ℕ) (gs : List Gets) → gives_to (Slot p k) gs ≡ false → (a (Slot p k)).moves ≤ (given a gs (Slot p k)).moves
 same_address a p k gs e = let f : (given a gs (Slot p k)).moves ≡ (a (Slot p k)).moves = ap (λ (x : Place). x.moves) (not_given a (Slot p k) gs e) in omega (arith, f)
 
-back_spares : (v : View) (a : Addresses) (id : MsgId) (c : Bool) (p : Pid) (k : ℕ) → gives_to (Slot p k) (tells_back v a id c) ≡ false
+back_spares : (v : View) (a : Addresses) (id : MsgId) (c : Bool) (p : Pid) (k : ℕ) → gives_to (Slot p k) (told_back_gets v a id c) ≡ false
 back_spares v a id true p k = refl
 back_spares v a id false p k = refl
 

@@ -1,15 +1,15 @@
 -- Which holders a label gives an address to doesn't rest on the addresses that there are.
 use Rattle.dm_movelaws.proofs.Names.{◌≡◌, ℕ, ◌+◌, Bool, true, false, List, [], ◌∷◌, ◌++◌, length, map, refl, ap, ◌∙◌, sym, ◌||◌, if◌then◌else◌, Option, None, Some, Pid, Place, pid_eq, PlainLink, first_empty, MsgId, id_of, PlainMessage}
-use Rattle.dm_movelaws.proofs.Names.{PlainWhat, Label, Reply, switchboard, PlainProcess, reg, NamedLink, OneKernel, answer_id, View, Addresses, Holder, Slot, Receiver, Sender, Enclosed, Child, Answer, Gets, gives, holder_eq, here, encloses}
-use Rattle.dm_movelaws.proofs.Names.{enclosed_from, sends_what, fills_by, made, receives_links, receives_what, slot_after, serves_what, child_links, creates_what, board_finds, board_keeps, manager_tells, manager_sends, manager_answers}
-use Rattle.dm_movelaws.proofs.Names.{gives_to}
+use Rattle.dm_movelaws.proofs.Names.{PlainWhat, Label, Reply, switchboard, PlainProcess, reg, NamedLink, OneKernel, answer_id, View, Addresses, Holder, Slot, Receiver, Sender, Enclosed, Child, Answer, Gets, gives, holder_eq, acting_place}
+use Rattle.dm_movelaws.proofs.Names.{encloses, enclosed_from, sends_what, fills_by, call_gets, receives_links, receives_what, slot_after, serves_what, child_links, creates_what, board_finds, board_keeps, manager_tells, manager_sends}
+use Rattle.dm_movelaws.proofs.Names.{manager_answers, gives_to}
 use Rattle.dm_onekernel.specs.Calls as calls
 use Rattle.dm_onekernel.specs.Pieces as pieces
 use Rattle.dm_onekernel.specs.Switchboard as board
 use Rattle.dm_onekernel.specs.Manager as manage
 use Rattle.dm_onekernel.specs.Step as kernel
 use Rattle.dm_rule.specs.Addresses as addresses
-use Rattle.dm_rule.specs.Addresses.{lands, board_takes, manager_takes}
+use Rattle.dm_rule.specs.Addresses.{landing_gets, board_gets, manager_gets}
 
 abbrev pub holders : List Gets → List Holder
 holders [] = []
@@ -44,13 +44,13 @@ sends_what_same : (v w : View) (a b : Addresses) (p : Pid) (x : PlainProcess) (i
 sends_what_same v w a b p x id (PlainWhat.User c h d e) = ap (λ (hs : List Holder). Receiver id ∷ Sender id ∷ hs) (encloses_same id 0 (λ (n : ℕ). a (Slot p n)) (λ (n : ℕ). b (Slot p n)) (calls.listed x))
 sends_what_same v w a b p x id _ = refl
 
-sends_next_same : (v w : View) (a b : Addresses) (p : Pid) (x : PlainProcess) (id : MsgId) (o : Option kernel.Next) → holders (addresses.sends_next v a p x id o) ≡ holders (addresses.sends_next w b p x id o)
+sends_next_same : (v w : View) (a b : Addresses) (p : Pid) (x : PlainProcess) (id : MsgId) (o : Option kernel.Trap) → holders (addresses.sends_next v a p x id o) ≡ holders (addresses.sends_next w b p x id o)
 sends_next_same v w a b p x id (Some (kernel.Calls number (calls.Sends m y))) = sends_what_same v w a b p x id m.what
 sends_next_same v w a b p x id _ = refl
 
-sends_same : (s : OneKernel) (v w : View) (a b : Addresses) (p : Pid) (id : MsgId) (o : Option PlainProcess) → holders (addresses.sends s v a p id o) ≡ holders (addresses.sends s w b p id o)
+sends_same : (s : OneKernel) (v w : View) (a b : Addresses) (p : Pid) (id : MsgId) (o : Option PlainProcess) → holders (addresses.send_gets s v a p id o) ≡ holders (addresses.send_gets s w b p id o)
 sends_same s v w a b p id None = refl
-sends_same s v w a b p id (Some x) = sends_next_same v w a b p x id (kernel.next s p)
+sends_same s v w a b p id (Some x) = sends_next_same v w a b p x id (kernel.next_trap s p)
 
 -- calls
 fills_same : (p : Pid) (o : Option ℕ) (x y : Place) → holders (addresses.fills p o x) ≡ holders (addresses.fills p o y)
@@ -58,11 +58,11 @@ fills_same p None x y = refl
 fills_same p (Some slot) x y = refl
 
 fills_by_same : (v w : View) (a b : Addresses) (p : Pid) (x : PlainProcess) (n : calls.CallNumber) → holders (fills_by v a p x n) ≡ holders (fills_by w b p x n)
-fills_by_same v w a b p x calls.Make = fills_same p (first_empty x.links) (here v p) (here w p)
+fills_by_same v w a b p x calls.Make = fills_same p (first_empty x.links) (acting_place v p) (acting_place w p)
 fills_by_same v w a b p x calls.Copy = fills_same p (first_empty x.links) (a (Slot p (reg x.regs 1))) (b (Slot p (reg x.regs 1)))
 fills_by_same v w a b p x _ = refl
 
-made_same : (v w : View) (a b : Addresses) (p : Pid) (n : ℕ) (c : Reply) (o : Option PlainProcess) → holders (made v a p n c o) ≡ holders (made w b p n c o)
+made_same : (v w : View) (a b : Addresses) (p : Pid) (n : ℕ) (c : Reply) (o : Option PlainProcess) → holders (call_gets v a p n c o) ≡ holders (call_gets w b p n c o)
 made_same v w a b p n Reply.Done (Some x) = fills_by_same v w a b p x (calls.call_number n)
 made_same v w a b p n Reply.Done None = refl
 made_same v w a b p n _ o = refl
@@ -79,13 +79,13 @@ receives_what_same : (a b : Addresses) (p : Pid) (id : MsgId) (x : PlainProcess)
 receives_what_same a b p id x (PlainWhat.User c h d e) = links_same a b p id 0 x.links e
 receives_what_same a b p id x _ = refl
 
-receives_same : (a b : Addresses) (p : Pid) (id : MsgId) (o : Option PlainProcess) (m : Option PlainMessage) → holders (addresses.receives a p id o m) ≡ holders (addresses.receives b p id o m)
+receives_same : (a b : Addresses) (p : Pid) (id : MsgId) (o : Option PlainProcess) (m : Option PlainMessage) → holders (addresses.reception_gets a p id o m) ≡ holders (addresses.reception_gets b p id o m)
 receives_same a b p id None m = refl
 receives_same a b p id (Some x) None = refl
 receives_same a b p id (Some x) (Some m) = receives_what_same a b p id x m.what
 
 -- messages that are served
-lands_same : (v w : View) (a b : Addresses) (p : Pid) (o : Option pieces.Landed) → holders (lands v a p o) ≡ holders (lands w b p o)
+lands_same : (v w : View) (a b : Addresses) (p : Pid) (o : Option pieces.Landed) → holders (landing_gets v a p o) ≡ holders (landing_gets w b p o)
 lands_same v w a b p (Some (pieces.Done c x)) = refl
 lands_same v w a b p _ = refl
 
@@ -98,7 +98,7 @@ serves_alive_same : (v w : View) (a b : Addresses) (id : MsgId) (m : PlainMessag
 serves_alive_same v w a b id m None = refl
 serves_alive_same v w a b id m (Some x) = serves_what_same v w a b id m x m.what
 
-serves_same : (s : OneKernel) (v w : View) (a b : Addresses) (id : MsgId) (o : Option PlainMessage) → holders (addresses.serves s v a id o) ≡ holders (addresses.serves s w b id o)
+serves_same : (s : OneKernel) (v w : View) (a b : Addresses) (id : MsgId) (o : Option PlainMessage) → holders (addresses.service_gets s v a id o) ≡ holders (addresses.service_gets s w b id o)
 serves_same s v w a b id None = refl
 serves_same s v w a b id (Some m) = serves_alive_same v w a b id m (kernel.alive (s.processes m.to))
 
@@ -111,7 +111,7 @@ creates_what_same : (a b : Addresses) (id : MsgId) (child : Pid) (u : PlainWhat)
 creates_what_same a b id child (PlainWhat.Create c d) = child_same a b child id 0 d
 creates_what_same a b id child _ = refl
 
-creates_same : (v w : View) (a b : Addresses) (id : MsgId) (child : Pid) (o : Option PlainMessage) → holders (addresses.creates v a id child o) ≡ holders (addresses.creates w b id child o)
+creates_same : (v w : View) (a b : Addresses) (id : MsgId) (child : Pid) (o : Option PlainMessage) → holders (addresses.creation_gets v a id child o) ≡ holders (addresses.creation_gets w b id child o)
 creates_same v w a b id child None = refl
 creates_same v w a b id child (Some m) = ap (λ (hs : List Holder). Receiver (answer_id id) ∷ Sender (answer_id id) ∷ hs) (creates_what_same a b id child m.what)
 
@@ -125,7 +125,7 @@ keeps_same : (a b : Addresses) (id : MsgId) (names : List NamedLink) (k : board.
 keeps_same a b id names board.Registered = refl
 keeps_same a b id names _ = refl
 
-board_takes_same : (s : OneKernel) (v w : View) (a b : Addresses) (id : MsgId) (u : PlainWhat) → holders (board_takes s v a id u) ≡ holders (board_takes s w b id u)
+board_takes_same : (s : OneKernel) (v w : View) (a b : Addresses) (id : MsgId) (u : PlainWhat) → holders (board_gets s v a id u) ≡ holders (board_gets s w b id u)
 board_takes_same s v w a b id (PlainWhat.User code channel body (l ∷ ls)) =
     let sent = id_of switchboard s.switchboard.sent in
     let asked = board.asks s.switchboard.names body ls in
@@ -146,7 +146,7 @@ manager_answers_same : (v w : View) (a b : Addresses) (n : ℕ) (o : Option Plai
 manager_answers_same v w a b n None = refl
 manager_answers_same v w a b n (Some sent) = refl
 
-manager_takes_same : (s : OneKernel) (v w : View) (a b : Addresses) (m : PlainMessage) (u : PlainWhat) (o : Option manage.Took) → holders (manager_takes s v a m u o) ≡ holders (manager_takes s w b m u o)
+manager_takes_same : (s : OneKernel) (v w : View) (a b : Addresses) (m : PlainMessage) (u : PlainWhat) (o : Option manage.ManagerTook) → holders (manager_gets s v a m u o) ≡ holders (manager_gets s w b m u o)
 manager_takes_same s v w a b m (PlainWhat.User c h d e) None = refl
 manager_takes_same s v w a b m (PlainWhat.User c h d e) (Some t) = manager_sends_same v w a b m.id c t.message
 manager_takes_same s v w a b m (PlainWhat.Created c) (Some t) = ap (λ (hs : List Holder). Child (length s.manager.children + 1) ∷ hs) (manager_answers_same v w a b m.id.n t.message)
@@ -157,11 +157,11 @@ either_same : (c : Bool) (xs ys zs ws : List Gets) → holders xs ≡ holders ys
 either_same true xs ys zs ws e f = e
 either_same false xs ys zs ws e f = f
 
-takes_same : (s : OneKernel) (v w : View) (a b : Addresses) (id : MsgId) (o : Option PlainMessage) → holders (addresses.takes s v a id o) ≡ holders (addresses.takes s w b id o)
+takes_same : (s : OneKernel) (v w : View) (a b : Addresses) (id : MsgId) (o : Option PlainMessage) → holders (addresses.taking_gets s v a id o) ≡ holders (addresses.taking_gets s w b id o)
 takes_same s v w a b id None = refl
 takes_same s v w a b id (Some m) =
-    let k = manage.takes s.manager s.machines (length s.images) m m.what in
-    either_same (pid_eq m.to switchboard) (board_takes s v a id m.what) (board_takes s w b id m.what) (manager_takes s v a m m.what k) (manager_takes s w b m m.what k) (board_takes_same s v w a b id m.what) (manager_takes_same s v w a b m m.what k)
+    let k = manage.manager_takes s.manager s.machines (length s.images) m m.what in
+    either_same (pid_eq m.to switchboard) (board_gets s v a id m.what) (board_gets s w b id m.what) (manager_gets s v a m m.what k) (manager_gets s w b m m.what k) (board_takes_same s v w a b id m.what) (manager_takes_same s v w a b m m.what k)
 
 -- a row a label
 pub gives_same : (s : OneKernel) (v w : View) (a b : Addresses) (l : Label) → holders (gives s v a l) ≡ holders (gives s w b l)

@@ -26,7 +26,7 @@ just P j h i e = let f : j ≡ i = cc in subst P f h
 abbrev pub In : (MsgId → Type 0) → List MsgId → Type 0
 In P ids = (i : MsgId) → 1 ≤ times i ids → P i
 
-drops_outs : (P : MsgId → Type 0) (ids : List MsgId) → In P ids → AllOuts P (rule.drops ids)
+drops_outs : (P : MsgId → Type 0) (ids : List MsgId) → In P ids → AllOuts P (rule.drop_parts ids)
 drops_outs P [] h = tt
 drops_outs P (j ∷ js) h = (just P j (h j (times_self j js)), drops_outs P js (λ i least. h i (let m = times_more i j js in omega (arith, least, m))))
 

@@ -1,7 +1,7 @@
 -- A step of the kernel without machines counts no message as sent that it doesn't put into the bag.
 use Rattle.dm_movelaws.proofs.Names.{◌≡◌, ◌⊎◌, ℕ, ◌+◌, Bool, true, false, is_some, nat_lt, length, refl, ap, ◌∙◌, sym, inl, inr, arith, if◌then◌else◌, take, drop, Option, None, Some, cases_Bool, false≢true, nat_tests, Pid, pid_eq, MsgId}
 use Rattle.dm_movelaws.proofs.Names.{id_eq, id_of, PlainMessage, PlainWhat, Label, Why, switchboard, manager, PlainProcess, Life, Alive, OneKernel, with_process, with_sent, answer_to, without_message, pid_eq-is, id_eq-same, Sent, sent_at}
-use Rattle.dm_movelaws.proofs.Names.{ServerSends, board_takes, manager_takes, lands-is, Sent-from, name_is, by_step}
+use Rattle.dm_movelaws.proofs.Names.{ServerSends, board_takes_lem, manager_takes_lem, lands-is, Sent-from, name_is, by_step}
 use Rattle.dm_onekernel.specs.Kernel.{Ended}
 use Rattle.dm_onekernel.specs.Kernel as kernels
 use Rattle.dm_onekernel.specs.Pieces as pieces
@@ -169,10 +169,10 @@ step_counts s t l = by_step (CountsSo s) s t l (record {
       changed_counts s (with_sent (service.changed s id m y) (Some (answer_to m PlainWhat.Written))) id m x y w.alive refl refl refl refl);
   lands = λ id m x r y is w e c. counts_sends s (service.changed s id m y) m.to x y r w.alive (lands-is m.to x m x.status (pieces.Next r y) c).0 refl refl refl;
   done = λ id m x c y is w e f. changed_counts s (service.changed s id m y) id m x y w.alive (lands-is m.to x m x.status (pieces.Done c y) f).0 refl refl refl;
-  board = λ id m k is there c took. (let (memory, piece, sends) = board_takes s.switchboard m m.what k took in counts_board s id k.switchboard k.answer sends);
-  manager = λ id m k is there c took. (let (memory, piece, sends) = manager_takes s.manager s.machines (length s.images) m m.what k took in counts_manager s id k.manager k.message sends.sends);
+  board = λ id m k is there c took. (let (memory, piece, sends) = board_takes_lem s.switchboard m m.what k took in counts_board s id k.switchboard k.answer sends);
+  manager = λ id m k is there c took. (let (memory, piece, sends) = manager_takes_lem s.manager s.machines (length s.images) m m.what k took in counts_manager s id k.manager k.message sends.sends);
   creates = λ id child m image links i is w found name.
-      counts_quiet s (with_sent (service.with_child (without_message s id) child i links) (Some (answer_to m (PlainWhat.Created child))))
+      counts_quiet s (with_sent (service.with_created (without_message s id) child i links) (Some (answer_to m (PlainWhat.Created child))))
       (record { board = refl; manager_ = refl; process = λ q n e. born_fewer s child (begun s.format i links) q n refl e });
   no_room = λ id a b m image links is w. answers_counts s id (Some (answer_to m PlainWhat.NoRoom));
 })

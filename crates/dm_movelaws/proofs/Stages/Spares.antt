@@ -1,8 +1,8 @@
 -- How far the marks of a process have come by its phase; and what leaves that as it is.
 use Rattle.dm_movelaws.proofs.Names.{◌≡◌, ℕ, ◌≤◌, ◌==◌, ◌&&◌, Bool, true, false, not, List, [], refl, ap, ◌∙◌, sym, subst, inl, inr, if◌then◌else◌, Option, None, Some, cases_Bool, false≢true, Pid, MsgId, MessageKind, id_eq, View, Told, Of}
-use Rattle.dm_movelaws.proofs.Names.{Known, Unknown, Here, Frozen, Incoming, Forward, after_put, Spot, standing, is_between, is_restart, is_early, is_away, is_here, is_over, comes, knows, Phase, Nowhere, Rests, Over, Moves, is_due}
+use Rattle.dm_movelaws.proofs.Names.{Known, Unknown, Here, Frozen, Incoming, Forward, after_put, Spot, standing, is_between, is_restart, is_early, is_away, is_here, is_over, kind_comes, knows, Phase, Nowhere, Rests, Over, Moves, is_due}
 use Rattle.dm_movelaws.proofs.Names.{token_in, told_between, IsIn, id_eq-is, PairsFit, put_told_off, Calm, between_of, put_spots, put_at, put_there, put_spot, rests_here, Mark, Reached, Lacking, in_order, eq_self, not_false, right_true}
-use Rattle.dm_movelaws.proofs.Names.{first_kept, leaves}
+use Rattle.dm_movelaws.proofs.Names.{first_kept, kind_leaves}
 use Rattle.dm_movelaws.proofs.Stages.Marks.{open_after}
 
 -- the last mark, by the message that is under way
@@ -97,7 +97,7 @@ restart_late MessageKind.Ask e = absurd (false≢true e)
 restart_late MessageKind.Refuse e = absurd (false≢true e)
 restart_late _ e = refl
 
-source_settled : (k : MessageKind) (d : ℕ) (x : Known) → leaves k d x ≡ true → is_settled x ≡ true → is_restart k ≡ true
+source_settled : (k : MessageKind) (d : ℕ) (x : Known) → kind_leaves k d x ≡ true → is_settled x ≡ true → is_restart k ≡ true
 source_settled k d (Frozen to) h e = absurd (false≢true e)
 source_settled k d (Forward at moves) h e = first_of (is_restart k) (d == at) h
   where
@@ -106,7 +106,7 @@ source_settled k d (Forward at moves) h e = first_of (is_restart k) (d == at) h
     first_of false c e = absurd (false≢true e)
 source_settled k d _ h e = absurd (false≢true h)
 
-destination_settled : (k : MessageKind) (s : ℕ) (x : Known) → comes k s x ≡ true → is_settled x ≡ true → is_early k ≡ true
+destination_settled : (k : MessageKind) (s : ℕ) (x : Known) → kind_comes k s x ≡ true → is_settled x ≡ true → is_early k ≡ true
 destination_settled k s Unknown h e = h
 destination_settled k s (Incoming from) h e = absurd (false≢true e)
 destination_settled k s (Forward at moves) h e = h
@@ -117,9 +117,9 @@ moves_unsettled v p k s d o h settled =
     let apart : (s == d) ≡ false = not_false (s == d) (right_true (is_between k) (not (s == d)) h.apart) in
     let x = v.known s p in
     let y = v.known d p in
-    let left : leaves k d x ≡ true = sym (ap (λ (c : Bool). if c then leaves k d x else if d == s then comes k s x else is_away x) (eq_self s)) ∙ h.known s in
-    let come : comes k s y ≡ true =
-    sym (ap (λ (c : Bool). if c then leaves k d y else if d == d then comes k s y else is_away y) apart ∙ ap (λ (c : Bool). if c then comes k s y else is_away y) (eq_self d)) ∙ h.known d in
+    let left : kind_leaves k d x ≡ true = sym (ap (λ (c : Bool). if c then kind_leaves k d x else if d == s then kind_comes k s x else is_away x) (eq_self s)) ∙ h.known s in
+    let come : kind_comes k s y ≡ true =
+    sym (ap (λ (c : Bool). if c then kind_leaves k d y else if d == d then kind_comes k s y else is_away y) apart ∙ ap (λ (c : Bool). if c then kind_comes k s y else is_away y) (eq_self d)) ∙ h.known d in
     let late = restart_late k (source_settled k d x left (settled s)) in
     let early = destination_settled k s y come (settled d) in
     false≢true (sym late ∙ early)

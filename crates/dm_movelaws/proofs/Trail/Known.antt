@@ -1,7 +1,7 @@
 -- Wherever the rule leads there are trails that all addresses are on; where a process doesn't move, its trail ends where it is.
 use Rattle.dm_movelaws.proofs.Names.{◌≡◌, ◌≢◌, ℕ, ◌+◌, ◌==◌, not, Bool, true, false, List, [], ◌∷◌, length, refl, ap, ◌∙◌, sym, subst, inl, inr, arith, false≢true, if◌then◌else◌, slice_get, Option, Some, Pid, MsgId, MessageKind, Boot, bind}
-use Rattle.dm_movelaws.proofs.Names.{Step, bind-is, Line, Leads, Phase, Nowhere, Rests, Over, Moves, IsIn, is_away, is_here, is_over, is_unknown, is_restart, is_early, is_between, comes, Point, first_point, after, after_line, Trails}
-use Rattle.dm_movelaws.proofs.Names.{Trodden, first_trodden, along, trails_after, View, Known, Unknown, Here, Frozen, Incoming, Forward, Ended, parts, along_treads, treads_start, Treads, is_moving, IsThere, eq_self, not_false, leaves}
+use Rattle.dm_movelaws.proofs.Names.{Step, bind-is, Line, Leads, Phase, Nowhere, Rests, Over, Moves, IsIn, is_away, is_here, is_over, is_unknown, is_restart, is_early, is_between, kind_comes, Point, first_point, after, after_line, Trails}
+use Rattle.dm_movelaws.proofs.Names.{Trodden, first_trodden, along, trails_after, View, Known, Unknown, Here, Frozen, Incoming, Forward, Ended, parts, along_treads, treads_start, Treads, is_moving, IsThere, eq_self, not_false, kind_leaves}
 use Rattle.dm_movelaws.proofs.After.{group_after}
 use Rattle.dm_movelaws.proofs.Promise.Trail.{TrailKnown}
 use Rattle.dm_movelaws.proofs.Stages.Spares.{restart_late}
@@ -51,12 +51,12 @@ over_held Ended e = refl
 over_held _ e = absurd (false≢true e)
 
 -- one that moves is leaving, or its destination waits for it
-still_leaves : (k : MessageKind) (d : ℕ) (x : Known) → is_moving x ≡ false → leaves k d x ≡ true → is_restart k ≡ true
+still_leaves : (k : MessageKind) (d : ℕ) (x : Known) → is_moving x ≡ false → kind_leaves k d x ≡ true → is_restart k ≡ true
 still_leaves k d (Forward to moves) still e = (parts (is_restart k) (d == to) e).0
 still_leaves k d (Frozen to) still e = absurd (false≢true (sym still))
 still_leaves k d _ still e = absurd (false≢true e)
 
-still_comes : (k : MessageKind) (s : ℕ) (x : Known) → is_moving x ≡ false → comes k s x ≡ true → is_early k ≡ true
+still_comes : (k : MessageKind) (s : ℕ) (x : Known) → is_moving x ≡ false → kind_comes k s x ≡ true → is_early k ≡ true
 still_comes k s Unknown still e = e
 still_comes k s (Forward at moves) still e = e
 still_comes k s (Incoming from) still e = absurd (false≢true (sym still))
@@ -70,8 +70,8 @@ at_other s d x y z apart e = at_self d y z (sym (ap (λ (c : Bool). if c then x 
 
 never_moves : (v : View) (p : Pid) (k : MessageKind) (s d : ℕ) (o : Option MsgId) → IsIn v p (Moves k s d o) → ((m : ℕ) → is_moving (v.known m p) ≡ false) → ⊥
 never_moves v p k s d o h still =
-    let restart = still_leaves k d (v.known s p) (still s) (at_self s (leaves k d (v.known s p)) (if d == s then comes k s (v.known s p) else is_away (v.known s p)) (h.known s)) in
-    let early = still_comes k s (v.known d p) (still d) (at_other s d (leaves k d (v.known d p)) (comes k s (v.known d p)) (is_away (v.known d p)) (not_false (s == d) (parts (is_between k) (not (s == d)) h.apart).1) (h.known d)) in
+    let restart = still_leaves k d (v.known s p) (still s) (at_self s (kind_leaves k d (v.known s p)) (if d == s then kind_comes k s (v.known s p) else is_away (v.known s p)) (h.known s)) in
+    let early = still_comes k s (v.known d p) (still d) (at_other s d (kind_leaves k d (v.known d p)) (kind_comes k s (v.known d p)) (is_away (v.known d p)) (not_false (s == d) (parts (is_between k) (not (s == d)) h.apart).1) (h.known d)) in
     false≢true (sym (restart_late k restart) ∙ early)
 
 long_in : (v : View) (t : Trails) (p : Pid) (phase : Phase) → IsIn v p phase → Placed v t p → ((m : ℕ) → is_moving (v.known m p) ≡ false) → length (t p) ≡ v.moves p + 1

@@ -191,6 +191,6 @@ dropped_loose i =
     (λ v t h. places_same v (view_after v (Line.Label (Label.Dropped i))) t (λ m q. dropped_known (handled v i) i (receiver_of (v.told i)) m q)
     (λ q. at_pid (view_after v (Line.Label (Label.Dropped i))).moves v.moves q (dropped_moves (handled v i) i (receiver_of (v.told i)))) h)
 
-pub drops_loose : (ids : List MsgId) → AllLoose (rule.drops ids)
+pub drops_loose : (ids : List MsgId) → AllLoose (rule.drop_parts ids)
 drops_loose [] = tt
 drops_loose (i ∷ is) = (dropped_loose i, drops_loose is)

@@ -1,6 +1,6 @@
 -- Where a process is on its trail: at the end, or one machine before it while the message that restarts it is under way.
 use Rattle.dm_movelaws.proofs.Names.{◌≡◌, ◌≢◌, ◌⊎◌, ℕ, ◌+◌, ◌==◌, not, Bool, true, false, List, length, refl, ap, ◌∙◌, sym, subst, inl, inr, arith, cases_Bool, false≢true, if◌then◌else◌, slice_get, Option, Some, Pid, pid_eq, MsgId}
-use Rattle.dm_movelaws.proofs.Names.{MessageKind, pid_eq-is, at_record, View, Known, Unknown, Here, Frozen, Incoming, Forward, Ended, Moves, IsIn, knows, comes, is_restart, is_away, Trails, eq_is, parts, eq_self, set_off, leaves}
+use Rattle.dm_movelaws.proofs.Names.{MessageKind, pid_eq-is, at_record, View, Known, Unknown, Here, Frozen, Incoming, Forward, Ended, Moves, IsIn, knows, kind_comes, is_restart, is_away, Trails, eq_is, parts, eq_self, set_off, kind_leaves}
 use Rattle.dm_rule.proofs.Trails.Steps.{set_at}
 
 -- a machine has a process, or had it last
@@ -164,7 +164,7 @@ places_held v w t p x known moves held had h =
     (λ learnt. placed_held v w t p x learnt (same p) held ((h p).now v.acting had) ((h p).long v.acting had) (h p))
 
 -- what the phase of a process that moves says
-leaves_held : (k : MessageKind) (d : ℕ) (x : Known) → leaves k d x ≡ true → is_held x ≡ true → is_restart k ≡ false
+leaves_held : (k : MessageKind) (d : ℕ) (x : Known) → kind_leaves k d x ≡ true → is_held x ≡ true → is_restart k ≡ false
 leaves_held k d (Frozen to) e h = turned (is_restart k) (parts (not (is_restart k)) (d == to) e).0
   where
     turned : (b : Bool) → not b ≡ true → b ≡ false
@@ -174,7 +174,7 @@ leaves_held k d Here e h = absurd (false≢true e)
 leaves_held k d Ended e h = absurd (false≢true e)
 leaves_held k d _ e h = absurd (false≢true h)
 
-comes_held : (k : MessageKind) (s : ℕ) (x : Known) → comes k s x ≡ true → is_held x ≡ true → ⊥
+comes_held : (k : MessageKind) (s : ℕ) (x : Known) → kind_comes k s x ≡ true → is_held x ≡ true → ⊥
 comes_held k s Here e h = false≢true e
 comes_held k s (Frozen to) e h = false≢true e
 comes_held k s Ended e h = false≢true e
@@ -186,7 +186,7 @@ away_held (Frozen to) e h = false≢true e
 away_held Ended e h = false≢true e
 away_held _ e h = false≢true h
 
-held_by : (k : MessageKind) (s d m : ℕ) (x : Known) (b c : Bool) → (s == m) ≡ b → (if b then leaves k d x else if c then comes k s x else is_away x) ≡ true → is_held x ≡ true → (s ≡ m) × (is_restart k ≡ false)
+held_by : (k : MessageKind) (s d m : ℕ) (x : Known) (b c : Bool) → (s == m) ≡ b → (if b then kind_leaves k d x else if c then kind_comes k s x else is_away x) ≡ true → is_held x ≡ true → (s ≡ m) × (is_restart k ≡ false)
 held_by k s d m x true c is e h = (eq_is s m is, leaves_held k d x e h)
 held_by k s d m x false true is e h = absurd (comes_held k s x e h)
 held_by k s d m x false false is e h = absurd (away_held x e h)
@@ -195,7 +195,7 @@ held_by k s d m x false false is e h = absurd (away_held x e h)
 pub moves_held : (v : View) (p : Pid) (k : MessageKind) (s d m : ℕ) (o : Option MsgId) → IsIn v p (Moves k s d o) → is_held (v.known m p) ≡ true → (s ≡ m) × (is_restart k ≡ false)
 moves_held v p k s d m o h held = held_by k s d m (v.known m p) (s == m) (d == m) refl (h.known m) held
 
-incoming_by : (k : MessageKind) (s d m from : ℕ) (b c : Bool) → (d == m) ≡ c → (if b then leaves k d (Incoming from) else if c then comes k s (Incoming from) else is_away (Incoming from)) ≡ true → m ≡ d
+incoming_by : (k : MessageKind) (s d m from : ℕ) (b c : Bool) → (d == m) ≡ c → (if b then kind_leaves k d (Incoming from) else if c then kind_comes k s (Incoming from) else is_away (Incoming from)) ≡ true → m ≡ d
 incoming_by k s d m from true c is e = absurd (false≢true e)
 incoming_by k s d m from false true is e = sym (eq_is d m is)
 incoming_by k s d m from false false is e = absurd (false≢true e)
@@ -204,7 +204,7 @@ incoming_by k s d m from false false is e = absurd (false≢true e)
 pub moves_comes : (v : View) (p : Pid) (k : MessageKind) (s d m from : ℕ) (o : Option MsgId) → IsIn v p (Moves k s d o) → v.known m p ≡ Incoming from → m ≡ d
 moves_comes v p k s d m from o h at = incoming_by k s d m from (s == m) (d == m) refl (sym (ap (λ (x : Known). knows (Moves k s d o) m x) at) ∙ h.known m)
 
-forward_by : (k : MessageKind) (d : ℕ) (x : Known) → is_restart k ≡ true → leaves k d x ≡ true → (c : ℕ) × (x ≡ Forward d c)
+forward_by : (k : MessageKind) (d : ℕ) (x : Known) → is_restart k ≡ true → kind_leaves k d x ≡ true → (c : ℕ) × (x ≡ Forward d c)
 forward_by k d (Forward to c) on e = let both = parts (is_restart k) (d == to) e in (c, ap (λ (n : ℕ). Forward n c) (sym (eq_is d to both.1)))
 forward_by k d (Frozen to) on e = absurd (let both = parts (not (is_restart k)) (d == to) e in false≢true (sym (ap not on) ∙ both.0))
 forward_by k d _ on e = absurd (false≢true e)
@@ -212,4 +212,4 @@ forward_by k d _ on e = absurd (false≢true e)
 -- then its source forwards
 pub moves_forward : (v : View) (p : Pid) (k : MessageKind) (s d : ℕ) (o : Option MsgId) → IsIn v p (Moves k s d o) → is_restart k ≡ true → (c : ℕ) × (v.known s p ≡ Forward d c)
 moves_forward v p k s d o h on =
-    forward_by k d (v.known s p) on (sym (ap (λ (c : Bool). if c then leaves k d (v.known s p) else if d == s then comes k s (v.known s p) else is_away (v.known s p)) (eq_self s)) ∙ h.known s)
+    forward_by k d (v.known s p) on (sym (ap (λ (c : Bool). if c then kind_leaves k d (v.known s p) else if d == s then kind_comes k s (v.known s p) else is_away (v.known s p)) (eq_self s)) ∙ h.known s)

@@ -4,15 +4,15 @@ use Rattle.dm_movelaws.proofs.Names.{PlainMessage, Boot, Why, first_number, View
 use Rattle.dm_movelaws.proofs.Names.{ReceivedAt, ended_on, is_fixed, Unborn, said_by, Stops, by_round, by_handles}
 use Rattle.dm_onekernel.specs.Pieces as pieces
 use Rattle.dm_rule.specs.Rule as rule
-use Rattle.dm_rule.specs.Trails.{Stood}
+use Rattle.dm_rule.specs.Trails.{StoodOnTrail}
 use Rattle.dm_movelaws.proofs.Trail.Placed.{is_held, Placed, Places, Learnt, placed_held, places_set, places_held}
 use Rattle.dm_movelaws.proofs.Trail.Walks.{Walks, AllLoose, loose_walks}
 use Rattle.dm_movelaws.proofs.Trail.Loose.{places_same, label_fits, label_walks, routes_loose, idle_loose, queued_loose, held_loose, dropped_loose, drops_loose}
 
 -- a process that runs
-end_walks : (pt : Point) (t : Trails) (p : Pid) (queue : List MsgId) (y : Why) → pt.view.known pt.view.acting p ≡ Here → Places pt.view t → Walks pt t (rule.says (Label.End p y) ∷ rule.drops queue)
+end_walks : (pt : Point) (t : Trails) (p : Pid) (queue : List MsgId) (y : Why) → pt.view.known pt.view.acting p ≡ Here → Places pt.view t → Walks pt t (rule.says (Label.End p y) ∷ rule.drop_parts queue)
 end_walks pt t p queue y here h =
-    label_walks pt t (Label.End p y) (rule.drops queue) (λ on. (tt, here, places_held pt.view (view_after pt.view (Line.Label (Label.End p y))) t p Ended refl refl refl (ap is_held here) h)) (drops_loose queue)
+    label_walks pt t (Label.End p y) (rule.drop_parts queue) (λ on. (tt, here, places_held pt.view (view_after pt.view (Line.Label (Label.End p y))) t p Ended refl refl refl (ap is_held here) h)) (drops_loose queue)
 
 at_end : (pt : Point) (t : Trails) (p : Pid) → pt.view.known pt.view.acting p ≡ Here → Places pt.view t → slice_get (t p) (pt.view.moves p) ≡ Some pt.view.acting
 at_end pt t p here h = (h p).now pt.view.acting (ap is_held here)
@@ -77,7 +77,7 @@ served_walks pt t id k ps f here loose =
     )) loose
 
 -- a process is made at home
-born_stood : (v : View) (t : Trails) (p : Pid) → ((n : ℕ) → v.known n p ≡ Unknown) → Trail v t p → Placed v t p → Stood v t p Nowhere
+born_stood : (v : View) (t : Trails) (p : Pid) → ((n : ℕ) → v.known n p ≡ Unknown) → Trail v t p → Placed v t p → StoodOnTrail v t p Nowhere
 born_stood v t p unknown trail h =
     let k = h.unmade unknown in
     let moves = k.0 in
@@ -129,7 +129,7 @@ handles_walks pt b o t m id k ps f born known forwards = by_handles (Walks pt t)
   queued = λ to user. loose_walks (Says (Line.Queued id) ∷ []) pt t (queued_loose id, tt) f.places;
   served = λ to mild. served_walks pt t id k [] f (known ∙ to.known) tt;
   answers = λ to mild i. served_walks pt t id k (Routes i ∷ []) f (known ∙ to.known) (routes_loose i, tt);
-  kills = λ to kills. served_walks pt t id k (rule.drops (o.view.queue m k.to)) f (known ∙ to.known) (drops_loose (o.view.queue m k.to));
+  kills = λ to kills. served_walks pt t id k (rule.drop_parts (o.view.queue m k.to)) f (known ∙ to.known) (drops_loose (o.view.queue m k.to));
   gone = λ to. gone_walks pt t id k f;
   dropped = λ to. drop_walks pt t id f.places;
   leaving = λ n to. loose_walks (Says (Line.Held id) ∷ []) pt t (held_loose id, tt) f.places;

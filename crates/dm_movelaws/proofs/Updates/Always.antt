@@ -1,8 +1,8 @@
 -- What an update does wherever the rule leads.
 use Rattle.dm_movelaws.proofs.Names.{◌≡◌, ◌⊎◌, ℕ, ◌<◌, ◌≤◌, ◌==◌, ◌&&◌, ◌||◌, Bool, true, false, not, [], ◌++◌, refl, ap, ◌∙◌, sym, inl, inr, nat_lt, arith, if◌then◌else◌, cases_Bool, false≢true, nat_tests, Option, None, Some, Pid, Place}
 use Rattle.dm_movelaws.proofs.Names.{pid_eq, MsgId, Boot, switchboard, manager, Life, Alive, OneKernel, pid_eq-same, Step, Addresses, Holder, belongs_to, leads_to, is_pid, is_behind, place_told, updated, updated_to, holders_of}
-use Rattle.dm_movelaws.proofs.Names.{behind_among, behind_count, numbered, answers_in, slots_in, Spelled, Point, View, Told, About, Ended, after_head, is_server, KnownStands, agrees, Updated, UpdatesAlways, front_own, Both, is_place}
-use Rattle.dm_movelaws.proofs.Names.{own_sort, run_always, pid_there, second}
+use Rattle.dm_movelaws.proofs.Names.{behind_among, behind_count, holders_numbered, answers_in, slot_holders, Spelled, Point, View, Told, About, Ended, after_head, is_server, KnownStands, agrees, Updated, UpdatesAlways, front_own, Both}
+use Rattle.dm_movelaws.proofs.Names.{is_place, own_sort, run_always, pid_there, second}
 use Rattle.dm_onekernel.specs.Step as kernel
 use Rattle.dm_rule.specs.Addresses as addresses
 use Rattle.dm_rule.specs.View as view
@@ -68,12 +68,12 @@ either false c e = (refl, e)
 none_listed : (s : OneKernel) (q : Pid) → is_server q ≡ false → kernel.alive (s.processes q) ≡ None → holders_of s q ≡ []
 none_listed s q server none =
     let k = either (pid_eq q switchboard) (pid_eq q manager) server in
-    let names = numbered addresses.Name 0 s.switchboard.names in
-    let children = numbered addresses.Child 1 s.manager.children ++ answers_in s.manager.pending in
-    let slots = slots_in q (kernel.alive (s.processes q)) in
+    let names = holders_numbered addresses.Name 0 s.switchboard.names in
+    let children = holders_numbered addresses.Child 1 s.manager.children ++ answers_in s.manager.pending in
+    let slots = slot_holders q (kernel.alive (s.processes q)) in
     ap (λ (c : Bool). if c then names else if pid_eq q manager then children else slots) k.0
     ∙ ap (λ (c : Bool). if c then children else slots) k.1
-    ∙ ap (slots_in q) none
+    ∙ ap (slot_holders q) none
 
 count_is : (s : OneKernel) (v : View) (a : Addresses) (t : Told) (p : Pid) (at_ : Place) (m n : ℕ) → t.about ≡ view.Place p at_.at at_.moves → KnownStands s v
     → (n ≡ behind_count s a t.receiver (place_told t.about)) ⊎ ((n ≡ 0) × (is_server t.receiver ≡ false) × (v.known m t.receiver ≡ Ended))

@@ -1,7 +1,7 @@
 -- An update's line counts each address of its receiver once.
 use Rattle.dm_movelaws.proofs.Names.{◌≡◌, ℕ, zero, suc, ◌+◌, ◌<◌, ◌≤◌, ◌==◌, ◌&&◌, Bool, true, false, List, [], ◌∷◌, ◌++◌, length, refl, ap, ◌∙◌, sym, inl, inr, arith, if◌then◌else◌, slice_get, cases_Bool, false≢true, nat_tests}
 use Rattle.dm_movelaws.proofs.Names.{slice_get_cases, Option, None, Some, Pid, pid_eq, PlainLink, link_at, switchboard, manager, NamedLink, Pending, OneKernel, PlainProcess, pid_eq-is, pid_eq-same, not_server, alive-is, Holder, Slot, Owner}
-use Rattle.dm_movelaws.proofs.Names.{Child, Name, Answer, holder_eq, belongs_to, leads_to, link_to, slot_of, name_link, answer_link, ascends, holders_of, slots_from, slots_in, numbered, answers_in, listings, is_owner}
+use Rattle.dm_movelaws.proofs.Names.{Child, Name, Answer, holder_eq, belongs_to, leads_to, link_target, slot_of, name_link, answer_link, ascends, holders_of, slots_from, slot_holders, holders_numbered, answers_in, listings, is_owner}
 use Rattle.dm_onekernel.specs.Manager as manage
 use Rattle.dm_onekernel.specs.Step as kernel
 use Rattle.dm_laws.proofs.Entered.{Made}
@@ -44,29 +44,29 @@ slots_once p q k n (l ∷ ls) same least most = elim (cases_Bool (n == k)) [
 pub record Counts (f : ℕ → Holder) : Type 0 where
   pub eq : (m n : ℕ) → holder_eq (f m) (f n) ≡ (m == n)
 
-numbered_below : {X : Type 0} (f : ℕ → Holder) (k n : ℕ) (xs : List X) → Counts f → k < n → listings (f k) (numbered f n xs) ≡ 0
+numbered_below : {X : Type 0} (f : ℕ → Holder) (k n : ℕ) (xs : List X) → Counts f → k < n → listings (f k) (holders_numbered f n xs) ≡ 0
 numbered_below f k n [] c le = refl
 numbered_below f k n (x ∷ xs) c le =
     let off : holder_eq (f n) (f k) ≡ false = c.eq n k ∙ (let g : (n == k) ≡ false = grind (arith, nat_tests) in g) in
     let rest = numbered_below f k (n + 1) xs c (omega (arith, le)) in
-    let first : listings (f k) (numbered f n (x ∷ xs)) ≡ 0 + listings (f k) (numbered f (n + 1) xs) = ap (λ (b : Bool). (if b then 1 else 0) + listings (f k) (numbered f (n + 1) xs)) off in
+    let first : listings (f k) (holders_numbered f n (x ∷ xs)) ≡ 0 + listings (f k) (holders_numbered f (n + 1) xs) = ap (λ (b : Bool). (if b then 1 else 0) + listings (f k) (holders_numbered f (n + 1) xs)) off in
     omega (arith, first, rest)
 
-numbered_once : {X : Type 0} (f : ℕ → Holder) (k n : ℕ) (xs : List X) → Counts f → n ≤ k → k < n + length xs → listings (f k) (numbered f n xs) ≡ 1
+numbered_once : {X : Type 0} (f : ℕ → Holder) (k n : ℕ) (xs : List X) → Counts f → n ≤ k → k < n + length xs → listings (f k) (holders_numbered f n xs) ≡ 1
 numbered_once f k n [] c least most = absurd (omega (arith, least, most))
 numbered_once f k n (x ∷ xs) c least most = elim (cases_Bool (n == k)) [
   | inl e ↦
       let on : holder_eq (f n) (f k) ≡ true = c.eq n k ∙ e in
       let g : n ≡ k = grind (arith, nat_tests) in
       let rest = numbered_below f k (n + 1) xs c (omega (arith, g)) in
-      let first : listings (f k) (numbered f n (x ∷ xs)) ≡ 1 + listings (f k) (numbered f (n + 1) xs) = ap (λ (b : Bool). (if b then 1 else 0) + listings (f k) (numbered f (n + 1) xs)) on in
+      let first : listings (f k) (holders_numbered f n (x ∷ xs)) ≡ 1 + listings (f k) (holders_numbered f (n + 1) xs) = ap (λ (b : Bool). (if b then 1 else 0) + listings (f k) (holders_numbered f (n + 1) xs)) on in
       omega (arith, first, rest)
   | inr e ↦
       let off : holder_eq (f n) (f k) ≡ false = c.eq n k ∙ e in
       let more : n < k = grind (arith, nat_tests) in
       let long : length (x ∷ xs) ≡ length xs + 1 = omega arith in
       let rest = numbered_once f k (n + 1) xs c (omega (arith, more)) (omega (arith, most, long)) in
-      let first : listings (f k) (numbered f n (x ∷ xs)) ≡ 0 + listings (f k) (numbered f (n + 1) xs) = ap (λ (b : Bool). (if b then 1 else 0) + listings (f k) (numbered f (n + 1) xs)) off in
+      let first : listings (f k) (holders_numbered f n (x ∷ xs)) ≡ 0 + listings (f k) (holders_numbered f (n + 1) xs) = ap (λ (b : Bool). (if b then 1 else 0) + listings (f k) (holders_numbered f (n + 1) xs)) off in
       omega (arith, first, rest)
 ]
 
@@ -106,28 +106,28 @@ no_answer : (k : ℕ) (rs : List Pending) → listings (Child k) (answers_in rs)
 no_answer k [] = refl
 no_answer k (r ∷ rs) = let f = no_answer k rs in omega (arith, f)
 
-no_child : {X : Type 0} (k n : ℕ) (xs : List X) → listings (Answer k) (numbered Child n xs) ≡ 0
+no_child : {X : Type 0} (k n : ℕ) (xs : List X) → listings (Answer k) (holders_numbered Child n xs) ≡ 0
 no_child k n [] = refl
 no_child k n (x ∷ xs) = let f = no_child k (n + 1) xs in omega (arith, f)
 
 -- each by what it belongs to
-slot_link : (o : Option PlainProcess) (k : ℕ) (q : Pid) → link_to (slot_of o k) ≡ Some q → (x : PlainProcess) × (o ≡ Some x) × (k < length x.links)
+slot_link : (o : Option PlainProcess) (k : ℕ) (q : Pid) → link_target (slot_of o k) ≡ Some q → (x : PlainProcess) × (o ≡ Some x) × (k < length x.links)
 slot_link None k q e = absurd (let f : None ≡ Some q = e in cc)
 slot_link (Some x) k q e = (x, refl, at_place x.links k q e)
   where
-    at_place : (ls : List (Option PlainLink)) (k : ℕ) (q : Pid) → link_to (link_at ls k) ≡ Some q → k < length ls
+    at_place : (ls : List (Option PlainLink)) (k : ℕ) (q : Pid) → link_target (link_at ls k) ≡ Some q → k < length ls
     at_place [] k q e = absurd (let f : None ≡ Some q = e in cc)
     at_place (l ∷ ls) zero q e = let long : length (l ∷ ls) ≡ length ls + 1 = omega arith in omega (arith, long)
     at_place (l ∷ ls) (suc k) q e = let f = at_place ls k q e in let long : length (l ∷ ls) ≡ length ls + 1 = omega arith in omega (arith, long, f)
 
 abbrev listed_as : OneKernel → Pid → Bool → Bool → List Holder
-listed_as s q c d = if c then numbered Name 0 s.switchboard.names else if d then numbered Child 1 s.manager.children ++ answers_in s.manager.pending else slots_in q (kernel.alive (s.processes q))
+listed_as s q c d = if c then holders_numbered Name 0 s.switchboard.names else if d then holders_numbered Child 1 s.manager.children ++ answers_in s.manager.pending else slot_holders q (kernel.alive (s.processes q))
 
-named_link : (o : Option NamedLink) (q : Pid) → link_to (name_link o) ≡ Some q → (k : NamedLink) × (o ≡ Some k)
+named_link : (o : Option NamedLink) (q : Pid) → link_target (name_link o) ≡ Some q → (k : NamedLink) × (o ≡ Some k)
 named_link None q e = absurd (let f : None ≡ Some q = e in cc)
 named_link (Some k) q e = (k, refl)
 
-pending_link : (o : Option Pending) (q : Pid) → link_to (answer_link o) ≡ Some q → (r : Pending) × (o ≡ Some r)
+pending_link : (o : Option Pending) (q : Pid) → link_target (answer_link o) ≡ Some q → (r : Pending) × (o ≡ Some r)
 pending_link None q e = absurd (let f : None ≡ Some q = e in cc)
 pending_link (Some r) q e = (r, refl)
 
@@ -145,18 +145,18 @@ listed s q (Slot p k) r made up mine other leads =
     let back : pid_eq q p ≡ true = ap (pid_eq q) same ∙ pid_eq-same q in
     ap (λ (c : Bool). listings (Slot p k) (listed_as s q c (pid_eq q manager))) board
     ∙ ap (λ (c : Bool). listings (Slot p k) (listed_as s q false c)) man
-    ∙ ap (λ (o : Option PlainProcess). listings (Slot p k) (slots_in q o)) there
+    ∙ ap (λ (o : Option PlainProcess). listings (Slot p k) (slot_holders q o)) there
     ∙ slots_once p q k 0 x.links back (omega arith) (omega (arith, within))
 listed s q (Owner p) r made up mine other leads = absurd (false≢true (sym other))
 listed s q (Child zero) r made up mine other leads = absurd (let f : None ≡ Some r = leads in cc)
 listed s q (Child (suc n)) r made up mine other leads =
     let within = got s.manager.children n r leads in
-    let once : listings (Child (suc n)) (numbered Child 1 s.manager.children) ≡ 1 = numbered_once Child (suc n) 1 s.manager.children (record { eq = λ i j. refl }) (omega arith) (omega (arith, within)) in
+    let once : listings (Child (suc n)) (holders_numbered Child 1 s.manager.children) ≡ 1 = numbered_once Child (suc n) 1 s.manager.children (record { eq = λ i j. refl }) (omega arith) (omega (arith, within)) in
     let none = no_answer (suc n) s.manager.pending in
-    let sum = listings-append (Child (suc n)) (numbered Child 1 s.manager.children) (answers_in s.manager.pending) in
+    let sum = listings-append (Child (suc n)) (holders_numbered Child 1 s.manager.children) (answers_in s.manager.pending) in
     ap (λ (c : Bool). listings (Child (suc n)) (listed_as s q c (pid_eq q manager))) (not_board q mine)
     ∙ ap (λ (c : Bool). listings (Child (suc n)) (listed_as s q false c)) mine
-    ∙ (let f : listings (Child (suc n)) (numbered Child 1 s.manager.children ++ answers_in s.manager.pending) ≡ 1 = omega (arith, once, none, sum) in f)
+    ∙ (let f : listings (Child (suc n)) (holders_numbered Child 1 s.manager.children ++ answers_in s.manager.pending) ≡ 1 = omega (arith, once, none, sum) in f)
 listed s q (Name n) r made up mine other leads =
     let (k, there) = named_link (slice_get s.switchboard.names n) r leads in
     ap (λ (c : Bool). listings (Name n) (listed_as s q c (pid_eq q manager))) mine
@@ -165,8 +165,8 @@ listed s q (Answer n) r made up mine other leads =
     let (x, there) = pending_link (manage.pending_numbered n s.manager.pending) r leads in
     let once = answers_once n 0 s.manager.sent s.manager.pending x up there in
     let none = no_child n 1 s.manager.children in
-    let sum = listings-append (Answer n) (numbered Child 1 s.manager.children) (answers_in s.manager.pending) in
+    let sum = listings-append (Answer n) (holders_numbered Child 1 s.manager.children) (answers_in s.manager.pending) in
     ap (λ (c : Bool). listings (Answer n) (listed_as s q c (pid_eq q manager))) (not_board q mine)
     ∙ ap (λ (c : Bool). listings (Answer n) (listed_as s q false c)) mine
-    ∙ (let f : listings (Answer n) (numbered Child 1 s.manager.children ++ answers_in s.manager.pending) ≡ 1 = omega (arith, once, none, sum) in f)
+    ∙ (let f : listings (Answer n) (holders_numbered Child 1 s.manager.children ++ answers_in s.manager.pending) ≡ 1 = omega (arith, once, none, sum) in f)
 listed s q _ r made up mine other leads = absurd (false≢true mine)

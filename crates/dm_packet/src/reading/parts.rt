@@ -2,7 +2,7 @@
 ghost use Rattle.std.specs.Prelude.{IfOk, length, nat_le, ◌≤◌, ◌&&◌, ◌+◌, ◌==◌, ◌≡◌};
 ghost use Rattle.dm_packet.specs.Reads.{Reads, ReadsSlice};
 ghost use Rattle.dm_packet.specs.Field.{counted, run};
-ghost use Rattle.dm_packet.specs.Whats.{asker, at_most, blocks_of, message_kind, optional, outcome, piece_from, yes_or_no};
+ghost use Rattle.dm_packet.specs.Whats.{asker, at_most, blocks_field, message_kind, optional, outcome_field, piece_from, yes_or_no};
 
 use super::fields::{addr_at, byte_at, run_at, u16_at, u32_at};
 use crate::PacketError;
@@ -39,7 +39,7 @@ pub fn kind_at(bytes: &[u8]) -> Result<(MessageKind, &[u8]), PacketError>
 }
 
 pub fn outcome_at(bytes: &[u8]) -> Result<(Outcome, &[u8]), PacketError>
-    ensures { Reads result (outcome.read bytes.now) }
+    ensures { Reads result (outcome_field.read bytes.now) }
 {
     let (byte, rest) = byte_at(bytes)?;
     match byte {
@@ -79,7 +79,7 @@ pub(crate) fn piece_at(bytes: &[u8], base: u32) -> Result<(&[u8], &[u8]), Packet
 
 /// How many blocks a process has.
 pub fn blocks_of_at(bytes: &[u8], pid: Pid) -> Result<(u16, &[u8]), PacketError>
-    ensures { Reads result ((blocks_of pid).read bytes.now) }
+    ensures { Reads result ((blocks_field pid).read bytes.now) }
 {
     let (blocks, rest) = u16_at(bytes)?;
     let is_server = pid.home == 0 && (pid.num == 1 || pid.num == 2);

@@ -3,7 +3,7 @@ ghost use Rattle.std.specs.Prelude.{◌≡◌, ◌+◌, ◌<◌, ◌≤◌, leng
 ghost use Rattle.std.specs.List.{All};
 ghost use Rattle.std.specs.Option.{IfSome};
 ghost use Rattle.dm_message.specs.Lawful.{IsLawfulWhat};
-ghost use Rattle.dm_packet.specs.Whats.{ask, asker as asker_field, create, memory, optional, outcome as outcome_field, pull_block, pull_state, read, refuse, spell_what, state, user, write};
+ghost use Rattle.dm_packet.specs.Whats.{ask, asker as asker_field, create, memory, optional, outcome_field, pull_block, pull_state, read, refuse, spell_what, state, user, write};
 ghost use Rattle.dm_packet.specs.Widths.{Fits, FitsAsker, FitsLink, FitsPid, FitsWhat};
 ghost use Rattle.dm_packet.specs.Writes.{HasRoom, Puts};
 

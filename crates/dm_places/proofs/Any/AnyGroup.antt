@@ -27,11 +27,11 @@ if_fits : (s : OneKernel) (v : View) (c : Bool) (o p : Option (List Part)) → (
 if_fits s v true o p h k = h refl
 if_fits s v false o p h k = k
 
-board_fits : (pt : Point) (v : View) (id : MsgId) (o : Option board.Took) → v.acting ≡ 0 → GroupNeeds pt → Fits pt.kernel v (rule.board_took id o)
+board_fits : (pt : Point) (v : View) (id : MsgId) (o : Option board.BoardTook) → v.acting ≡ 0 → GroupNeeds pt → Fits pt.kernel v (rule.board_took id o)
 board_fits pt v id None at needs = tt
 board_fits pt v id (Some t) at needs = (inr (Label.Took id, refl, (at, needs.pending)), routes_easy t.answer)
 
-manager_fits : (pt : Point) (v : View) (id : MsgId) (o : Option manage.Took) → v.acting ≡ 0 → GroupNeeds pt → Fits pt.kernel v (rule.manager_took id o)
+manager_fits : (pt : Point) (v : View) (id : MsgId) (o : Option manage.ManagerTook) → v.acting ≡ 0 → GroupNeeds pt → Fits pt.kernel v (rule.manager_parts id o)
 manager_fits pt v id None at needs = tt
 manager_fits pt v id (Some t) at needs = (inr (Label.Took id, refl, (at, needs.pending)), routes_easy t.message)
 
@@ -50,7 +50,7 @@ creates_if pt v m id r true counts h needs =
     (inr (Label.Created id p, refl, ap (λ (f : Pid → ℕ). f p) counts ∙ needs.unmoved p (next_unmade pt.kernel m h)), (tt, tt))
 creates_if pt v m id r false counts h needs = (inl tt, (tt, tt))
 
-creates_fit : (pt : Point) (v : View) (m : ℕ) (id : MsgId) (r : rule.Room) (o : Option BootImage) → v.moves ≡ pt.view.moves → SoundAt pt.kernel → GroupNeeds pt → Fits pt.kernel v (rule.creates pt m id r o)
+creates_fit : (pt : Point) (v : View) (m : ℕ) (id : MsgId) (r : rule.Room) (o : Option BootImage) → v.moves ≡ pt.view.moves → SoundAt pt.kernel → GroupNeeds pt → Fits pt.kernel v (rule.creation_parts pt m id r o)
 creates_fit pt v m id r None counts h needs = tt
 creates_fit pt v m id r (Some i) counts h needs = creates_if pt v m id r (rule.has_room r i.blocks) counts h needs
 
@@ -68,15 +68,15 @@ comes_fit b pt v m id None acting counts h needs server = easy_fits pt.kernel v 
 comes_fit b pt v m id (Some k) acting counts h needs server =
     let s = pt.kernel in
     let one = rule.kernel_handles b pt m id k.what in
-    let two = rule.board_took id (board.takes s.switchboard k k.what) in
-    let three = rule.manager_took id (manage.takes s.manager s.machines (length s.images) k k.what) in
+    let two = rule.board_took id (board.board_takes s.switchboard k k.what) in
+    let three = rule.manager_parts id (manage.manager_takes s.manager s.machines (length s.images) k k.what) in
     let four = rule.process_handles pt m id k (pt.view.known m k.to) in
     let last = if pid_eq k.to manager then three else four in
     if_fits s v (k.to.num == 0) one (if pid_eq k.to switchboard then two else last) (λ e. kernel_fits b pt v m id k.what counts h needs)
     (if_fits s v (pid_eq k.to switchboard) two last
-    (λ e. board_fits pt v id (board.takes s.switchboard k k.what) (acting ∙ server k refl (or_first (pid_eq k.to switchboard) (pid_eq k.to manager) e)) needs)
+    (λ e. board_fits pt v id (board.board_takes s.switchboard k k.what) (acting ∙ server k refl (or_first (pid_eq k.to switchboard) (pid_eq k.to manager) e)) needs)
     (if_fits s v (pid_eq k.to manager) three four
-    (λ e. manager_fits pt v id (manage.takes s.manager s.machines (length s.images) k k.what) (acting ∙ server k refl (or_second (pid_eq k.to switchboard) (pid_eq k.to manager) e)) needs)
+    (λ e. manager_fits pt v id (manage.manager_takes s.manager s.machines (length s.images) k k.what) (acting ∙ server k refl (or_second (pid_eq k.to switchboard) (pid_eq k.to manager) e)) needs)
     (easy_fits s v four (process_easy pt m id k (pt.view.known m k.to)))))
 
 turns_fit : (b : Boot) (pt : Point) (v : View) (m : ℕ) (is : List MsgId) → pt.view.inbox m ≡ is → v.acting ≡ m → v.moves ≡ pt.view.moves → SoundAt pt.kernel → GroupNeeds pt → Fits pt.kernel v (rule.turns b pt m is)

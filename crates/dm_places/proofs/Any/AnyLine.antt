@@ -1,7 +1,7 @@
 -- Behind any line there is a kernel with places, where there was one before.
 use Rattle.dm_places.proofs.Names.{◌≡◌, ◌+◌, ◌++◌, Bool, false, List, [], ◌∷◌, refl, ap, ◌∙◌, sym, subst, inl, inr, if◌then◌else◌, option_map, Option, None, Some, cases_Bool, Pid, Place, pid_eq, applied, MsgId, Process, sent_on, manager, arith, nat_tests}
 use Rattle.dm_places.proofs.Names.{switchboard, OneKernel, plain_process, pid_eq-is, Line, Stage, Told, View, handled, own_id, receiver_of, view_after, Addresses, Receiver, all_follow, forwards, gets, given, is_told_back, place_known}
-use Rattle.dm_places.proofs.Names.{place_told, tells_back, updated, updated_to, Point, after_line, moved, Placed, Mirrors, with_message, with_process, KeepsPlaces, LineNeeds, MirrorsPoint, ServersApart}
+use Rattle.dm_places.proofs.Names.{place_told, told_back_gets, updated, updated_to, Point, after_line, moved, Placed, Mirrors, with_message, with_process, KeepsPlaces, LineNeeds, MirrorsPoint, ServersApart}
 use Rattle.dm_migrate.specs.Way as way
 use Rattle.dm_onekernel.specs.Step as kernel
 use Rattle.dm_places.proofs.Following.Changed.{sent_on_any}
@@ -36,7 +36,7 @@ all_follows s v a p (i ∷ is) h =
 forwards_follow : (s : OneKernel) (v : View) (a : Addresses) (l : Placed) (id : MsgId) (o : Option Told) → l.bag (own_id v) ≡ None → Mirrors s v a l → Some_ s v (given a (forwards v a id o))
 forwards_follow s v a l id None none h = record { l = l; mirrors = h }
 forwards_follow s v a l id (Some t) none h =
-    one_follows s v (given a (tells_back v a id (is_told_back t.kind))) id (place_known (v.known v.acting t.receiver) (v.moves t.receiver) (a (Receiver id)))
+    one_follows s v (given a (told_back_gets v a id (is_told_back t.kind))) id (place_known (v.known v.acting t.receiver) (v.moves t.receiver) (a (Receiver id)))
     (record { l = l; mirrors = tells_mirrors s v a l id (is_told_back t.kind) none h })
 
 -- an update

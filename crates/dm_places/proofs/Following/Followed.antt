@@ -1,7 +1,7 @@
 -- Messages that follow a process to another machine, and the process that has come there.
 use Rattle.dm_places.proofs.Names.{◌≡◌, ℕ, ◌+◌, ◌≤◌, ◌||◌, Bool, true, false, List, [], ◌∷◌, ◌++◌, refl, ap, ◌∙◌, sym, subst, inl, inr, arith, if◌then◌else◌, option_map, Option, None, Some, cases_Bool, Pid, Place, pid_eq, place_of, MsgId, nat_tests}
 use Rattle.dm_places.proofs.Names.{Message, id_eq, Process, sent_on, OneKernel, plain_process, id_eq-is, id_eq-same, id_eq-swap, pid_eq-is, pid_eq-same, Line, Stage, at_pid, times, Forward, Frozen, Known, Told, View, forwarded_for, handled}
-use Rattle.dm_places.proofs.Names.{own_id, receiver_of, view_after, Addresses, Gets, Receiver, Sender, all_follow, forwards, gets, given, is_told_back, place_known, tells_back, unmoved, Point, moved, Placed, Mirrors, MirrorsKernel}
+use Rattle.dm_places.proofs.Names.{own_id, receiver_of, view_after, Addresses, Gets, Receiver, Sender, all_follow, forwards, gets, given, is_told_back, place_known, told_back_gets, unmoved, Point, moved, Placed, Mirrors, MirrorsKernel}
 use Rattle.dm_places.proofs.Names.{MirrorsProcess, with_message, with_process, MirrorsPoint, is_among, sent_all, or_first}
 use Rattle.dm_migrate.specs.Way as way
 use Rattle.dm_onekernel.specs.Step as kernel
@@ -13,15 +13,15 @@ pub moves_forwarded : (v : View) (o : Option Pid) → (forwarded_for v o).moves 
 moves_forwarded v None = refl
 moves_forwarded v (Some p) = refl
 
-pub tells_mirrors : (s : OneKernel) (v : View) (a : Addresses) (l : Placed) (id : MsgId) (b : Bool) → l.bag (own_id v) ≡ None → Mirrors s v a l → Mirrors s v (given a (tells_back v a id b)) l
+pub tells_mirrors : (s : OneKernel) (v : View) (a : Addresses) (l : Placed) (id : MsgId) (b : Bool) → l.bag (own_id v) ≡ None → Mirrors s v a l → Mirrors s v (given a (told_back_gets v a id b)) l
 tells_mirrors s v a l id true none h = free_mirrors s v a l (own_id v) (a (Sender id)) (unmoved v.acting) none h
 tells_mirrors s v a l id false none h = h
 
 -- the address in full
 forwards_is : (v : View) (a : Addresses) (id : MsgId) (t : Told) (at moves : ℕ) → v.told id ≡ Some t → v.known v.acting t.receiver ≡ Forward at moves
-    → forwards v a id (v.told id) ≡ gets (Receiver id) (record { at = at; moves = moves }) ∷ tells_back v a id (is_told_back t.kind)
+    → forwards v a id (v.told id) ≡ gets (Receiver id) (record { at = at; moves = moves }) ∷ told_back_gets v a id (is_told_back t.kind)
 forwards_is v a id t at moves told knows =
-    ap (forwards v a id) told ∙ ap (λ (k : Known). gets (Receiver id) (place_known k (v.moves t.receiver) (a (Receiver id))) ∷ tells_back v a id (is_told_back t.kind)) knows
+    ap (forwards v a id) told ∙ ap (λ (k : Known). gets (Receiver id) (place_known k (v.moves t.receiver) (a (Receiver id))) ∷ told_back_gets v a id (is_told_back t.kind)) knows
 
 pub forwarded_mirrors : (pt : Point) (l : Placed) (id : MsgId) (x : Message) (t : Told) (m at moves : ℕ) → MirrorsPoint pt l → l.bag id ≡ Some x → pt.view.told id ≡ Some t → pt.view.known pt.view.acting t.receiver ≡ Forward at moves
     → l.bag (own_id pt.view) ≡ None → MirrorsPoint (moved pt (Line.Forwarded id m) pt.kernel) (with_message l id (Some (sent_on at moves x)))
@@ -30,9 +30,9 @@ forwarded_mirrors pt l id x t m at moves h there told knows none =
     let a = pt.addresses in
     let l' = with_message l id (Some (sent_on at moves x)) in
     let w = view_after v (Line.Forwarded id m) in
-    let gone = sent_on_one pt.kernel v (given a (tells_back v a id (is_told_back t.kind))) l id x at moves there (tells_mirrors pt.kernel v a l id (is_told_back t.kind) none h) in
+    let gone = sent_on_one pt.kernel v (given a (told_back_gets v a id (is_told_back t.kind))) l id x at moves there (tells_mirrors pt.kernel v a l id (is_told_back t.kind) none h) in
     subst (λ (g : List Gets). Mirrors pt.kernel w (given a g) l') (sym (forwards_is v a id t at moves told knows))
-    (mirrors_view pt.kernel v w (given a (gets (Receiver id) (record { at = at; moves = moves }) ∷ tells_back v a id (is_told_back t.kind))) l' (moves_forwarded (handled v id) (receiver_of (v.told id))) gone)
+    (mirrors_view pt.kernel v w (given a (gets (Receiver id) (record { at = at; moves = moves }) ∷ told_back_gets v a id (is_told_back t.kind))) l' (moves_forwarded (handled v id) (receiver_of (v.told id))) gone)
 
 -- the update goes to where the message came from
 pub update_gets : (pt : Point) (l : Placed) (id : MsgId) (x : Message) (t : Told) (m at moves : ℕ) → MirrorsPoint pt l → l.bag id ≡ Some x → pt.view.told id ≡ Some t → pt.view.known pt.view.acting t.receiver ≡ Forward at moves

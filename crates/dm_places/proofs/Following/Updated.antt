@@ -2,8 +2,8 @@
 use Rattle.dm_places.proofs.Names.{◌≡◌, ℕ, zero, suc, ◌==◌, ◌&&◌, Bool, true, false, List, [], ◌∷◌, map, refl, ap, ◌∙◌, sym, subst, inl, inr, if◌then◌else◌, nat_lt, option_map, slice_get, Option, None, Some, cases_Bool, slice_get-map, Pid, arith, nat_tests}
 use Rattle.dm_places.proofs.Names.{Addr, Link, Place, pid_eq, place_of, relocated, retargeted, retargeted_link, plain_link, link_at, plain_map_retargeted, applied, status_after, MsgId, Process, Status, Line, manager, switchboard, Manager}
 use Rattle.dm_places.proofs.Names.{NamedLink, OneKernel, Switchboard, plain_process, plain_status, PlainProcess, Moving, Named, plain_named, retargeted_named, Pending, plain_child, plain_pending, retargeted_manager, retargeted_pending}
-use Rattle.dm_places.proofs.Names.{child_numbered, pending_numbered, pid_eq-is, pid_eq-same, pid_eq-swap, About, Told, View, view_after, Addresses, Answer, Child, Holder, Name, Owner, Slot, answer_link, belongs_to, is_pid, leads_to}
-use Rattle.dm_places.proofs.Names.{link_to, name_link, owner_in, owner_of, place_told, slot_of, updated, updated_to, Point, moved, SameMessage, SameProcess, Placed, Mirrors, MirrorsProcess, owner_at, MirrorsPoint, with_process}
+use Rattle.dm_places.proofs.Names.{child_address, pending_request, pid_eq-is, pid_eq-same, pid_eq-swap, About, Told, View, view_after, Addresses, Answer, Child, Holder, Name, Owner, Slot, answer_link, belongs_to, is_pid, leads_to}
+use Rattle.dm_places.proofs.Names.{link_target, name_link, owner_in, owner_of, place_told, slot_of, updated, updated_to, Point, moved, SameMessage, SameProcess, Placed, Mirrors, MirrorsProcess, owner_at, MirrorsPoint, with_process}
 use Rattle.dm_link.specs.Places as places
 use Rattle.dm_onekernel.specs.Kernel as one
 use Rattle.dm_onekernel.specs.Manager as manage
@@ -50,9 +50,9 @@ slots_map f (t ∷ ts) (suc k) = slots_map f ts k
 pub alive_is : (s : OneKernel) (v : View) (a : Addresses) (l : Placed) (q : Pid) (x : Process) → Mirrors s v a l → l.processes q ≡ Some x → kernel.alive (s.processes q) ≡ Some (plain_process x)
 alive_is s v a l q x h there = h.plain.processes q ∙ ap (option_map plain_process) there
 
-pub slot_leads : (s : OneKernel) (q : Pid) (x : Process) (k : ℕ) (o : Option Link) → kernel.alive (s.processes q) ≡ Some (plain_process x) → link_at x.table k ≡ o → leads_to s (Slot q k) ≡ link_to (option_map plain_link o)
+pub slot_leads : (s : OneKernel) (q : Pid) (x : Process) (k : ℕ) (o : Option Link) → kernel.alive (s.processes q) ≡ Some (plain_process x) → link_at x.table k ≡ o → leads_to s (Slot q k) ≡ link_target (option_map plain_link o)
 slot_leads s q x k o alive there =
-    ap (λ (z : Option PlainProcess). link_to (slot_of z k)) alive ∙ ap link_to (slots_map plain_link x.table k) ∙ ap (λ (w : Option Link). link_to (option_map plain_link w)) there
+    ap (λ (z : Option PlainProcess). link_target (slot_of z k)) alive ∙ ap link_target (slots_map plain_link x.table k) ∙ ap (λ (w : Option Link). link_target (option_map plain_link w)) there
 
 owner_follows : (s : OneKernel) (a : Addresses) (q r : Pid) (at moves : ℕ) (st : Status) (o : Addr) → leads_to s (Owner q) ≡ owner_in (plain_status st) → ((p : Addr) → owner_at st ≡ Some p → a (Owner q) ≡ place_of p)
     → owner_at (status_after r at moves st) ≡ Some o → told_of s a q r at moves (Owner q) ≡ place_of o
@@ -156,32 +156,32 @@ switchboard_told s v a l r at moves none h =
     }
 
 -- the manager
-pub child_leads : (s : OneKernel) (v : View) (a : Addresses) (l : Placed) (n : ℕ) (c : Addr) → Mirrors s v a l → child_numbered l.manager.children n ≡ Some c → leads_to s (Child n) ≡ Some c.pid
+pub child_leads : (s : OneKernel) (v : View) (a : Addresses) (l : Placed) (n : ℕ) (c : Addr) → Mirrors s v a l → child_address l.manager.children n ≡ Some c → leads_to s (Child n) ≡ Some c.pid
 child_leads s v a l zero c h there = cc
 child_leads s v a l (suc n) c h there =
     ap (λ (g : Manager). manage.child_numbered g.children (suc n)) (sym h.plain.manager) ∙ slice_get-map plain_child l.manager.children n ∙ ap (option_map plain_child) there
 
-pub answer_leads : (s : OneKernel) (v : View) (a : Addresses) (l : Placed) (n : ℕ) (y : Pending) → Mirrors s v a l → pending_numbered n l.manager.pending ≡ Some y → leads_to s (Answer n) ≡ Some y.answer.addr.pid
+pub answer_leads : (s : OneKernel) (v : View) (a : Addresses) (l : Placed) (n : ℕ) (y : Pending) → Mirrors s v a l → pending_request n l.manager.pending ≡ Some y → leads_to s (Answer n) ≡ Some y.answer.addr.pid
 answer_leads s v a l n y h there =
-    ap (λ (g : Manager). link_to (answer_link (manage.pending_numbered n g.pending))) (sym h.plain.manager)
-    ∙ ap (λ (o : Option one.Pending). link_to (answer_link o)) (managing.plain_pending_numbered n l.manager.pending ∙ ap (option_map plain_pending) there)
+    ap (λ (g : Manager). link_target (answer_link (manage.pending_numbered n g.pending))) (sym h.plain.manager)
+    ∙ ap (λ (o : Option one.Pending). link_target (answer_link o)) (managing.plain_pending_numbered n l.manager.pending ∙ ap (option_map plain_pending) there)
 
-pending_if : (r : Pid) (at moves n : ℕ) (y : Pending) (ys : List Pending) (b : Bool) → pending_numbered n (map (retargeted_pending r at moves) ys) ≡ option_map (retargeted_pending r at moves) (pending_numbered n ys)
-    → (if b then Some (retargeted_pending r at moves y) else pending_numbered n (map (retargeted_pending r at moves) ys)) ≡ option_map (retargeted_pending r at moves) (if b then Some y else pending_numbered n ys)
+pending_if : (r : Pid) (at moves n : ℕ) (y : Pending) (ys : List Pending) (b : Bool) → pending_request n (map (retargeted_pending r at moves) ys) ≡ option_map (retargeted_pending r at moves) (pending_request n ys)
+    → (if b then Some (retargeted_pending r at moves y) else pending_request n (map (retargeted_pending r at moves) ys)) ≡ option_map (retargeted_pending r at moves) (if b then Some y else pending_request n ys)
 pending_if r at moves n y ys true e = refl
 pending_if r at moves n y ys false e = e
 
-pending_map : (r : Pid) (at moves n : ℕ) (ys : List Pending) → pending_numbered n (map (retargeted_pending r at moves) ys) ≡ option_map (retargeted_pending r at moves) (pending_numbered n ys)
+pending_map : (r : Pid) (at moves n : ℕ) (ys : List Pending) → pending_request n (map (retargeted_pending r at moves) ys) ≡ option_map (retargeted_pending r at moves) (pending_request n ys)
 pending_map r at moves n [] = refl
 pending_map r at moves n (y ∷ ys) = pending_if r at moves n y ys (y.n == n) (pending_map r at moves n ys)
 
-child_follows : (s : OneKernel) (v : View) (a : Addresses) (l : Placed) (r : Pid) (at moves n : ℕ) (c : Addr) → Mirrors s v a l → child_numbered (map (retargeted r at moves) l.manager.children) n ≡ Some c → told_of s a manager r at moves (Child n) ≡ place_of c
+child_follows : (s : OneKernel) (v : View) (a : Addresses) (l : Placed) (r : Pid) (at moves n : ℕ) (c : Addr) → Mirrors s v a l → child_address (map (retargeted r at moves) l.manager.children) n ≡ Some c → told_of s a manager r at moves (Child n) ≡ place_of c
 child_follows s v a l r at moves zero c h e = cc
 child_follows s v a l r at moves (suc n) c h e =
     let (u, there, is) = of_map (retargeted r at moves) (slice_get l.manager.children n) c (sym e ∙ slice_get-map (retargeted r at moves) l.manager.children n) in
     led s a manager r at moves (Child (suc n)) u refl (child_leads s v a l (suc n) u h there) (h.places.child (suc n) u there) ∙ ap place_of is
 
-answer_follows : (s : OneKernel) (v : View) (a : Addresses) (l : Placed) (r : Pid) (at moves n : ℕ) (y : Pending) → Mirrors s v a l → pending_numbered n (map (retargeted_pending r at moves) l.manager.pending) ≡ Some y
+answer_follows : (s : OneKernel) (v : View) (a : Addresses) (l : Placed) (r : Pid) (at moves n : ℕ) (y : Pending) → Mirrors s v a l → pending_request n (map (retargeted_pending r at moves) l.manager.pending) ≡ Some y
     → told_of s a manager r at moves (Answer n) ≡ place_of y.answer.addr
 answer_follows s v a l r at moves n y h e = grind (arith, nat_tests, of_map, pending_map, led, answer_leads)
 

@@ -1,8 +1,8 @@
 -- How many addresses an update changes: as many as know fewer moves among those of its receiver.
 use Rattle.dm_places.proofs.Names.{◌≡◌, ℕ, zero, suc, ◌+◌, ◌≤◌, ◌==◌, ◌&&◌, Bool, true, false, List, [], ◌∷◌, ◌++◌, map, cond, count_by, refl, ap, ◌∙◌, sym, subst, arith, if◌then◌else◌, nat_le, nat_lt, slice_get, Option, None, Some}
 use Rattle.dm_places.proofs.Names.{nat_tests, sum_by-cons, Pid, Link, pid_eq, PlainLink, link_at, plain_slot, slot_is_behind, Process, manager, switchboard, Manager, OneKernel, Switchboard, named_is_behind, plain_named, Pending}
-use Rattle.dm_places.proofs.Names.{pending_is_behind, plain_child, plain_pending, pending_numbered, pid_eq-same, About, View, Addresses, Answer, Child, Holder, Name, Slot, is_pid, place_told, ascends, answers_in, behind_among, behind_count}
-use Rattle.dm_places.proofs.Names.{holders_of, numbered, slots_from, slots_in, and-both, Placed, Mirrors}
+use Rattle.dm_places.proofs.Names.{pending_is_behind, plain_child, plain_pending, pending_request, pid_eq-same, About, View, Addresses, Answer, Child, Holder, Name, Slot, is_pid, place_told, ascends, answers_in, behind_among, behind_count}
+use Rattle.dm_places.proofs.Names.{holders_of, holders_numbered, slots_from, slot_holders, and-both, Placed, Mirrors}
 use Rattle.dm_link.specs.Places as places
 use Rattle.dm_onekernel.specs.Kernel as one
 use Rattle.dm_onekernel.specs.Step as kernel
@@ -14,7 +14,7 @@ count_cons p x xs = sum_by-cons (λ y. cond (p y) 1 0) x xs
 
 -- holders in order of their numbers
 among_numbered : {X Y : Type 0} (f : Holder → Bool) (g : ℕ → Holder) (plain : X → Y) (p : X → Bool) (n : ℕ) (xs : List X) → ((j : ℕ) (x : X) → slice_get xs j ≡ Some x → f (g (n + j)) ≡ p x)
-    → behind_among f (numbered g n (map plain xs)) ≡ count_by p xs
+    → behind_among f (holders_numbered g n (map plain xs)) ≡ count_by p xs
 among_numbered f g plain p n [] each = refl
 among_numbered f g plain p n (x ∷ xs) each =
     let at : n ≡ n + 0 = omega arith in
@@ -38,7 +38,7 @@ among_both f (h ∷ hs) gs =
     ap (λ (n : ℕ). c + n) (among_both f hs gs) ∙ e
 
 -- a process's links
-slots_numbered : (q : Pid) (n : ℕ) (ls : List (Option PlainLink)) → slots_from q n ls ≡ numbered (Slot q) n ls
+slots_numbered : (q : Pid) (n : ℕ) (ls : List (Option PlainLink)) → slots_from q n ls ≡ holders_numbered (Slot q) n ls
 slots_numbered q n [] = refl
 slots_numbered q n (l ∷ ls) = ap (λ (hs : List Holder). Slot q n ∷ hs) (slots_numbered q (n + 1) ls)
 
@@ -67,9 +67,9 @@ pub updated_count : (s : OneKernel) (v : View) (a : Addresses) (l : Placed) (q r
     → behind_count s a q (place_told about) ≡ count_by (slot_is_behind r moves) x.table
 updated_count s v a l q r at moves about x h is no_board no_manager there =
     let f = addresses.is_behind s a q r moves in
-    let holders : holders_of s q ≡ numbered (Slot q) 0 (map plain_slot x.table) =
-    holders_if s q (numbered Name 0 s.switchboard.names) (numbered Child 1 s.manager.children ++ answers_in s.manager.pending) (slots_in q (kernel.alive (s.processes q))) (pid_eq q switchboard) (pid_eq q manager) no_board no_manager
-    ∙ ap (slots_in q) (alive_is s v a l q x h there)
+    let holders : holders_of s q ≡ holders_numbered (Slot q) 0 (map plain_slot x.table) =
+    holders_if s q (holders_numbered Name 0 s.switchboard.names) (holders_numbered Child 1 s.manager.children ++ answers_in s.manager.pending) (slot_holders q (kernel.alive (s.processes q))) (pid_eq q switchboard) (pid_eq q manager) no_board no_manager
+    ∙ ap (slot_holders q) (alive_is s v a l q x h there)
     ∙ slots_numbered q 0 (map plain_slot x.table)
     in
     ap (λ (w : About). behind_count s a q (place_told w)) is
@@ -83,13 +83,13 @@ pub updated_board_count : (s : OneKernel) (v : View) (a : Addresses) (l : Placed
 updated_board_count s v a l q r at moves about h is to =
     let f = addresses.is_behind s a switchboard r moves in
     (λ i. behind_count s a (to i) (place_told (is i)))
-    ∙ ap (λ (b : Switchboard). behind_among f (numbered Name 0 b.names)) (sym h.plain.board)
+    ∙ ap (λ (b : Switchboard). behind_among f (holders_numbered Name 0 b.names)) (sym h.plain.board)
     ∙ among_numbered f Name plain_named (named_is_behind r moves) 0 l.board.names
     (λ j k there. let n : 0 + j ≡ j = omega arith in
     ap (λ (c : ℕ). f (Name c)) n ∙ behind_led s a switchboard r moves (Name j) k.link.addr refl (name_leads s v a l j k h there) (h.places.name j k there))
 
 -- at the manager: its children, and its requests, which have ascending numbers
-own_number : (ps : List Pending) (from to j : ℕ) (y : Pending) → ascends from (map plain_pending ps) to ≡ true → slice_get ps j ≡ Some y → (pending_numbered y.n ps ≡ Some y) × (from ≤ y.n)
+own_number : (ps : List Pending) (from to j : ℕ) (y : Pending) → ascends from (map plain_pending ps) to ≡ true → slice_get ps j ≡ Some y → (pending_request y.n ps ≡ Some y) × (from ≤ y.n)
 own_number [] from to j y order there = cc
 own_number (p ∷ ps) from to zero y order there = grind (arith, nat_tests, and-both, nat_le)
 own_number (p ∷ ps) from to (suc j) y order there =
@@ -97,7 +97,7 @@ own_number (p ∷ ps) from to (suc j) y order there =
     let (found, above) = own_number ps (p.n + 1) to j y w.1 there in
     let least : from ≤ p.n = grind (arith, nat_tests) in
     let apart : (p.n == y.n) ≡ false = grind (arith, nat_tests) in
-    (ap (λ (b : Bool). if b then Some p else pending_numbered y.n ps) apart ∙ found, omega (arith, least, above))
+    (ap (λ (b : Bool). if b then Some p else pending_request y.n ps) apart ∙ found, omega (arith, least, above))
 
 pub updated_manager_count : (s : OneKernel) (v : View) (a : Addresses) (l : Placed) (q r : Pid) (at moves : ℕ) (about : About) → Mirrors s v a l → about ≡ About.Place r at moves → q ≡ manager → ascends 0 s.manager.pending s.manager.sent ≡ true
     → behind_count s a q (place_told about) ≡ count_by (places.is_behind r moves) l.manager.children + count_by (pending_is_behind r moves) l.manager.pending
@@ -114,6 +114,6 @@ updated_manager_count s v a l q r at moves about h is to order =
     behind_led s a manager r moves (Answer y.n) y.answer.addr refl (answer_leads s v a l y.n y h own) (h.places.answer y.n y own))
     in
     (λ i. behind_count s a (to i) (place_told (is i)))
-    ∙ ap (λ (m : Manager). behind_among f (numbered Child 1 m.children ++ answers_in m.pending)) (sym h.plain.manager)
-    ∙ among_both f (numbered Child 1 (map plain_child g.children)) (answers_in (map plain_pending g.pending))
+    ∙ ap (λ (m : Manager). behind_among f (holders_numbered Child 1 m.children ++ answers_in m.pending)) (sym h.plain.manager)
+    ∙ among_both f (holders_numbered Child 1 (map plain_child g.children)) (answers_in (map plain_pending g.pending))
     ∙ (λ i. children i + answers i)

@@ -1,8 +1,8 @@
 -- What a process that executes does, with places: plain instructions, calls and faults, a lemma a label.
 use Rattle.dm_places.proofs.Names.{◌≡◌, ℕ, ◌==◌, ◌&&◌, Bool, true, false, refl, ap, ◌∙◌, sym, subst, arith, if◌then◌else◌, Option, None, Some, nat_tests, Pid, MsgId, Message, id_eq, PlainMessage, plain_message, Process, Status, Label, Regs}
 use Rattle.dm_places.proofs.Names.{Row, instruction, past, Reply, Why, reply_eq, why_eq, bind, Alive, Ended, OneKernel, plain_process, plain_status, PlainProcess, Called, calls, plain_called, call_plainly, id_eq-is, bind-is, when-is, View}
-use Rattle.dm_places.proofs.Names.{Addresses, given, gives, made, sends_what, past_call, gives_by, made_is, gives_same, only_gives_by, Placed, Mirrors, MirrorsKernel, MirrorsProcess, Acted, acted, acts, after_call, after_done, if_ready}
-use Rattle.dm_places.proofs.Names.{machine_of, ran, running, with_acted, with_machine, with_process, with_sent}
+use Rattle.dm_places.proofs.Names.{Addresses, given, gives, call_gets, sends_what, past_call, gives_by, made_is, gives_same, only_gives_by, Placed, Mirrors, MirrorsKernel, MirrorsProcess, Acted, acted, acts, after_call, after_done}
+use Rattle.dm_places.proofs.Names.{if_ready, machine_of, ran, running, with_acted, with_machine, with_process, with_sent}
 use Rattle.dm_onekernel.specs.Kernel as kernels
 use Rattle.dm_onekernel.specs.Calls as one
 use Rattle.dm_onekernel.specs.Step as kernel
@@ -106,11 +106,11 @@ called_as v a p x n (Called.Ended because) y k e h =
     let f : one.Ends because ≡ k = cc in
     subst (CalledAs v a p x n ended) f refl
 
-abbrev ActsNext : View → Addresses → Pid → Process → Acted → kernel.Next → Type 0
+abbrev ActsNext : View → Addresses → Pid → Process → Acted → kernel.Trap → Type 0
 ActsNext v a p x w (kernel.Calls number k) = CalledAs v a p x (one.call_number number) w k
 ActsNext v a p x w (kernel.Faults fault) = w ≡ ended
 
-acts_row : (v : View) (a : Addresses) (p : Pid) (x : Process) (w : Row) (n : kernel.Next) → instruction x.regs x.memory ≡ w → kernel.next_row p (plain_process x) w ≡ Some n → MirrorsProcess v a p x
+acts_row : (v : View) (a : Addresses) (p : Pid) (x : Process) (w : Row) (n : kernel.Trap) → instruction x.regs x.memory ≡ w → kernel.next_row p (plain_process x) w ≡ Some n → MirrorsProcess v a p x
     → (d : Acted) × (acted v.acting x w ≡ Some d) × ActsNext v a p x d n
 acts_row v a p x (Row.Plain regs bytes) n w e h = cc
 acts_row v a p x (Row.Calls number regs) n w e h =
@@ -128,14 +128,14 @@ acts_row v a p x (Row.Calls number regs) n w e h =
     )
 acts_row v a p x (Row.Faults fault) n w e h = let g : kernel.Faults fault ≡ n = cc in (ended, refl, subst (ActsNext v a p x ended) g refl)
 
-record ActsOf (s : OneKernel) (v : View) (a : Addresses) (l : Placed) (p : Pid) (n : kernel.Next) : Type 0 where
+record ActsOf (s : OneKernel) (v : View) (a : Addresses) (l : Placed) (p : Pid) (n : kernel.Trap) : Type 0 where
   x : Process
   w : Acted
   acts : acts v.acting l p ≡ Some (with_acted l p w)
   runs : kernel.running s p ≡ Some (plain_process x)
   next : ActsNext v a p x w n
 
-acts_of : (s : OneKernel) (v : View) (a : Addresses) (l : Placed) (p : Pid) (n : kernel.Next) → Mirrors s v a l → kernel.next s p ≡ Some n → ActsOf s v a l p n
+acts_of : (s : OneKernel) (v : View) (a : Addresses) (l : Placed) (p : Pid) (n : kernel.Trap) → Mirrors s v a l → kernel.next_trap s p ≡ Some n → ActsOf s v a l p n
 acts_of s v a l p n h e =
     let (z, runs, row_is) = bind-is (kernel.running s p) (λ (w : PlainProcess). kernel.next_row p w (instruction w.regs w.memory)) n e in
     let r = runs_of s l p z h.plain runs in
@@ -147,8 +147,8 @@ acts_of s v a l p n h e =
     )
 
 -- call
-reply_row : (s t : OneKernel) (v : View) (a : Addresses) (l : Placed) (p : Pid) (n : ℕ) (c : Reply) (next : kernel.Next) → ActsOf s v a l p next → kernel.replies s p n c next ≡ Some t → Mirrors s v a l
-    → Follows t v (given a (made v a p n c (kernel.running s p))) (acts v.acting l p)
+reply_row : (s t : OneKernel) (v : View) (a : Addresses) (l : Placed) (p : Pid) (n : ℕ) (c : Reply) (next : kernel.Trap) → ActsOf s v a l p next → kernel.replies s p n c next ≡ Some t → Mirrors s v a l
+    → Follows t v (given a (call_gets v a p n c (kernel.running s p))) (acts v.acting l p)
 reply_row s t v a l p n c (kernel.Calls number (one.Replies d z)) q is h =
     let k = when-is ((n == number) && reply_eq c d) (kernel.goes_on s p z) t is in
     let both = k.0 in
@@ -157,12 +157,12 @@ reply_row s t v a l p n c (kernel.Calls number (one.Replies d z)) q is h =
     let x = plain_process q.x in
     let g = q.next in
     let gs = gives_by v a p x (one.call_number number) d in
-    let gs_is : gs ≡ made v a p n c (kernel.running s p) =
-    sym (gives_same v a p x (one.call_number number) c d same) ∙ ap (λ (i : ℕ). gives_by v a p x (one.call_number i) c) number_is ∙ sym (made_is v a p n c x) ∙ ap (made v a p n c) (sym q.runs) in
+    let gs_is : gs ≡ call_gets v a p n c (kernel.running s p) =
+    sym (gives_same v a p x (one.call_number number) c d same) ∙ ap (λ (i : ℕ). gives_by v a p x (one.call_number i) c) number_is ∙ sym (made_is v a p n c x) ∙ ap (call_gets v a p n c) (sym q.runs) in
     let o = only_gives_by v a p x (one.call_number number) d in (
       with_acted l p q.w,
       q.acts,
-      mirrors_as (kernel.goes_on s p (plain_process g.y)) t v (given a gs) (given a (made v a p n c (kernel.running s p))) (with_process l p (Some g.y)) (with_acted l p q.w)
+      mirrors_as (kernel.goes_on s p (plain_process g.y)) t v (given a gs) (given a (call_gets v a p n c (kernel.running s p))) (with_process l p (Some g.y)) (with_acted l p q.w)
           (ap (kernel.goes_on s p) g.is ∙ k.1) (ap (given a) gs_is) (ap (with_acted l p) (sym g.acted))
           (record {
             plain = kernel_process s l p (Alive (plain_process g.y)) (Some g.y) refl h.plain;
@@ -173,11 +173,11 @@ reply_row s t v a l p n c _ q is h = cc
 
 pub call_follows : (s t : OneKernel) (v : View) (a : Addresses) (l : Placed) (p : Pid) (n : ℕ) (c : Reply) → kernel.step s (Label.Call p n c) ≡ Some t → Mirrors s v a l → Follows t v (given a (gives s v a (Label.Call p n c))) (acts v.acting l p)
 call_follows s t v a l p n c is h =
-    let (x, next, rest) = bind-is (kernel.next s p) (kernel.replies s p n c) t is in
+    let (x, next, rest) = bind-is (kernel.next_trap s p) (kernel.replies s p n c) t is in
     reply_row s t v a l p n c x (acts_of s v a l p x h next) rest h
 
 -- send
-send_row : (s t : OneKernel) (v : View) (a : Addresses) (l : Placed) (p : Pid) (id : MsgId) (next : kernel.Next) → kernel.next s p ≡ Some next → ActsOf s v a l p next → kernel.sends s p id next ≡ Some t → Mirrors s v a l
+send_row : (s t : OneKernel) (v : View) (a : Addresses) (l : Placed) (p : Pid) (id : MsgId) (next : kernel.Trap) → kernel.next_trap s p ≡ Some next → ActsOf s v a l p next → kernel.sends s p id next ≡ Some t → Mirrors s v a l
     → Follows t v (given a (gives s v a (Label.Send p id))) (acts v.acting l p)
 send_row s t v a l p id (kernel.Calls number (one.Sends m z)) nx q is h =
     let k = when-is (id_eq id m.id) (kernels.with_sent (kernel.goes_on s p z) (Some m)) t is in
@@ -186,7 +186,7 @@ send_row s t v a l p id (kernel.Calls number (one.Sends m z)) nx q is h =
     let g = q.next in
     let gs = sends_what v a p x m.id m.what in
     let gs_is : gs ≡ gives s v a (Label.Send p id) =
-    ap (λ (i : MsgId). sends_what v a p x i m.what) name ∙ ap (addresses.sends_next v a p x id) (sym nx) ∙ ap (addresses.sends s v a p id) (sym q.runs) in
+    ap (λ (i : MsgId). sends_what v a p x i m.what) name ∙ ap (addresses.sends_next v a p x id) (sym nx) ∙ ap (addresses.send_gets s v a p id) (sym q.runs) in
     let o = g.kept in (
       with_acted l p q.w,
       q.acts,
@@ -201,7 +201,7 @@ send_row s t v a l p id _ nx q is h = cc
 
 pub send_follows : (s t : OneKernel) (v : View) (a : Addresses) (l : Placed) (p : Pid) (id : MsgId) → kernel.step s (Label.Send p id) ≡ Some t → Mirrors s v a l → Follows t v (given a (gives s v a (Label.Send p id))) (acts v.acting l p)
 send_follows s t v a l p id is h =
-    let (x, next, rest) = bind-is (kernel.next s p) (kernel.sends s p id) t is in
+    let (x, next, rest) = bind-is (kernel.next_trap s p) (kernel.sends s p id) t is in
     send_row s t v a l p id x next (acts_of s v a l p x h next) rest h
 
 -- a process goes on, and nothing is sent or given
@@ -214,24 +214,24 @@ goes_follows s t v a l p w z is g f h = (
 )
 
 -- wait
-wait_row : (s t : OneKernel) (v : View) (a : Addresses) (l : Placed) (p : Pid) (next : kernel.Next) → ActsOf s v a l p next → kernel.waits s p next ≡ Some t → Mirrors s v a l → Follows t v a (acts v.acting l p)
+wait_row : (s t : OneKernel) (v : View) (a : Addresses) (l : Placed) (p : Pid) (next : kernel.Trap) → ActsOf s v a l p next → kernel.waits s p next ≡ Some t → Mirrors s v a l → Follows t v a (acts v.acting l p)
 wait_row s t v a l p (kernel.Calls number (one.Waits z)) q is h = goes_follows s t v a l p q.w z q.acts q.next (let f : kernel.goes_on s p z ≡ t = cc in f) h
 wait_row s t v a l p _ q is h = cc
 
 pub wait_follows : (s t : OneKernel) (v : View) (a : Addresses) (l : Placed) (p : Pid) → kernel.step s (Label.Wait p) ≡ Some t → Mirrors s v a l → Follows t v a (acts v.acting l p)
 wait_follows s t v a l p is h =
-    let (x, next, rest) = bind-is (kernel.next s p) (kernel.waits s p) t is in
+    let (x, next, rest) = bind-is (kernel.next_trap s p) (kernel.waits s p) t is in
     wait_row s t v a l p x (acts_of s v a l p x h next) rest h
 
 -- out
-out_row : (s t : OneKernel) (v : View) (a : Addresses) (l : Placed) (p : Pid) (word : ℕ) (next : kernel.Next) → ActsOf s v a l p next → kernel.outputs s p word next ≡ Some t → Mirrors s v a l → Follows t v a (acts v.acting l p)
+out_row : (s t : OneKernel) (v : View) (a : Addresses) (l : Placed) (p : Pid) (word : ℕ) (next : kernel.Trap) → ActsOf s v a l p next → kernel.outputs s p word next ≡ Some t → Mirrors s v a l → Follows t v a (acts v.acting l p)
 out_row s t v a l p word (kernel.Calls number (one.Outputs other z)) q is h =
     let k = when-is (word == other) (kernel.goes_on s p z) t is in goes_follows s t v a l p q.w z q.acts q.next k.1 h
 out_row s t v a l p word _ q is h = cc
 
 pub out_follows : (s t : OneKernel) (v : View) (a : Addresses) (l : Placed) (p : Pid) (word : ℕ) → kernel.step s (Label.Out p word) ≡ Some t → Mirrors s v a l → Follows t v a (acts v.acting l p)
 out_follows s t v a l p word is h =
-    let (x, next, rest) = bind-is (kernel.next s p) (kernel.outputs s p word) t is in
+    let (x, next, rest) = bind-is (kernel.next_trap s p) (kernel.outputs s p word) t is in
     out_row s t v a l p word x (acts_of s v a l p x h next) rest h
 
 -- end
@@ -242,7 +242,7 @@ ends_follows s t v a l p y w is e f h = (
   mirrors_as (kernels.with_process s p (Ended y)) t v a a (with_process l p None) (with_acted l p w) f refl (ap (with_acted l p) (sym e)) (ends_mirrors s v a l p y h),
 )
 
-end_row : (s t : OneKernel) (v : View) (a : Addresses) (l : Placed) (p : Pid) (y : Why) (next : kernel.Next) → ActsOf s v a l p next → kernel.ends s p y next ≡ Some t → Mirrors s v a l → Follows t v a (acts v.acting l p)
+end_row : (s t : OneKernel) (v : View) (a : Addresses) (l : Placed) (p : Pid) (y : Why) (next : kernel.Trap) → ActsOf s v a l p next → kernel.ends s p y next ≡ Some t → Mirrors s v a l → Follows t v a (acts v.acting l p)
 end_row s t v a l p y (kernel.Calls number (one.Ends because)) q is h =
     let k = when-is (why_eq y because) (kernels.with_process s p (Ended y)) t is in ends_follows s t v a l p y q.w q.acts q.next k.1 h
 end_row s t v a l p y (kernel.Faults fault) q is h =
@@ -251,5 +251,5 @@ end_row s t v a l p y _ q is h = cc
 
 pub end_follows : (s t : OneKernel) (v : View) (a : Addresses) (l : Placed) (p : Pid) (y : Why) → kernel.step s (Label.End p y) ≡ Some t → Mirrors s v a l → Follows t v a (acts v.acting l p)
 end_follows s t v a l p y is h =
-    let (x, next, rest) = bind-is (kernel.next s p) (kernel.ends s p y) t is in
+    let (x, next, rest) = bind-is (kernel.next_trap s p) (kernel.ends s p y) t is in
     end_row s t v a l p y x (acts_of s v a l p x h next) rest h

@@ -1,7 +1,7 @@
 -- Messages without links that come in another's place, with places: answers, and what kernels say of ended processes and of
 -- want of room.
 use Rattle.dm_places.proofs.Names.{◌≡◌, ℕ, List, [], Bool, refl, ap, ◌∙◌, sym, subst, if◌then◌else◌, slice_get, Option, None, Some, Link, Place, place_of, MsgId, Message, What, Label, PlainMessage, PlainWhat, plain_message, plain_what, arith, nat_tests}
-use Rattle.dm_places.proofs.Names.{with_what, bind, OneKernel, answer_id, answer_to, answer, gone_answer, id_eq-same, bind-is, when-is, View, Addresses, answers, given, gives, Receiver, Sender, unmoved, two, two_process, two_servers}
+use Rattle.dm_places.proofs.Names.{with_what, bind, OneKernel, answer_id, answer_to, answer, gone_answer, id_eq-same, bind-is, when-is, View, Addresses, answer_gets, given, gives, Receiver, Sender, unmoved, two, two_process, two_servers}
 use Rattle.dm_places.proofs.Names.{two_off, Placed, Mirrors, MirrorsMessage, enclosed, with_sent, without_message}
 use Rattle.dm_onekernel.specs.Kernel as kernels
 use Rattle.dm_onekernel.specs.Service as service
@@ -30,7 +30,7 @@ answer_plainly n moves m k w u says e = grind (arith, nat_tests, parts)
 
 -- an answer goes back to where its request came from
 pub answer_mirrors : (s : OneKernel) (v : View) (a : Addresses) (l : Placed) (id : MsgId) (m : Message) (k : PlainMessage) (w : What) (u : PlainWhat) (moves : ℕ) → MirrorsMessage a id m → plain_message m ≡ Some k → plain_what w ≡ Some u → enclosed w ≡ []
-    → Mirrors s v a l → Mirrors (kernels.with_sent s (Some (answer_to k u))) v (given a (answers a id (record { at = v.acting; moves = moves }))) (with_sent l (Some (answer v.acting moves m w)))
+    → Mirrors s v a l → Mirrors (kernels.with_sent s (Some (answer_to k u))) v (given a (answer_gets a id (record { at = v.acting; moves = moves }))) (with_sent l (Some (answer v.acting moves m w)))
 answer_mirrors s v a l id m k w u moves hm says e none h =
     let from : Place = record { at = v.acting; moves = moves } in
     let n = answer v.acting moves m w in
@@ -40,8 +40,8 @@ answer_mirrors s v a l id m k w u moves hm says e none h =
 -- dropped
 pub dropped_follows : (s t : OneKernel) (v : View) (a : Addresses) (l : Placed) (id : MsgId) → kernel.step s (Label.Dropped id) ≡ Some t → Mirrors s v a l → Follows t v a (Some (without_message l id))
 dropped_follows s t v a l id is h =
-    let (m, there, rest) = bind-is (s.bag id) (λ (w : PlainMessage). bind (kernel.ended (s.processes w.to)) (kernel.drops s id w)) t is in
-    let (y, gone, last) = bind-is (kernel.ended (s.processes m.to)) (kernel.drops s id m) t rest in
+    let (m, there, rest) = bind-is (s.bag id) (λ (w : PlainMessage). bind (kernel.why_ended (s.processes w.to)) (kernel.drops s id w)) t is in
+    let (y, gone, last) = bind-is (kernel.why_ended (s.processes m.to)) (kernel.drops s id m) t rest in
     let k = when-is (service.is_dropped m.what) (service.without_message s id) t last in
     (without_message l id, refl, subst (λ (u : OneKernel). Mirrors u v a (without_message l id)) k.1 (out_mirrors s v a l id h))
 
@@ -49,8 +49,8 @@ dropped_follows s t v a l id is h =
 pub gone_follows : (s t : OneKernel) (v : View) (a : Addresses) (l : Placed) (id : MsgId) → kernel.step s (Label.Gone id) ≡ Some t → Mirrors s v a l
     → Follows t v (given a (gives s v a (Label.Gone id))) (bind (l.bag id) (λ (m : Message). Some (with_sent (without_message l id) (Some (gone_answer v.acting m)))))
 gone_follows s t v a l id is h =
-    let (k, there, rest) = bind-is (s.bag id) (λ (w : PlainMessage). bind (kernel.ended (s.processes w.to)) (kernel.says_gone s id w)) t is in
-    let (y, gone, last) = bind-is (kernel.ended (s.processes k.to)) (kernel.says_gone s id k) t rest in
+    let (k, there, rest) = bind-is (s.bag id) (λ (w : PlainMessage). bind (kernel.why_ended (s.processes w.to)) (kernel.says_gone s id w)) t is in
+    let (y, gone, last) = bind-is (kernel.why_ended (s.processes k.to)) (kernel.says_gone s id k) t rest in
     let z = when-is (service.is_of_memory k.what) (kernels.with_sent (service.without_message s id) (Some (answer_to k PlainWhat.Gone))) t last in
     let (m, found, says) = there_of s l id k h.plain there in
     let hm = h.places.message id m found in
@@ -59,16 +59,16 @@ gone_follows s t v a l id is h =
       on,
       ap (λ (o : Option Message). bind o (λ (n : Message). Some (with_sent (without_message l id) (Some (gone_answer v.acting n))))) found,
       subst (λ (u : OneKernel). Mirrors u v (given a (gives s v a (Label.Gone id))) on) z.1
-          (subst (λ (n : ℕ). Mirrors (kernels.with_sent (service.without_message s id) (Some (answer_to k PlainWhat.Gone))) v (given a (answers a id (record { at = v.acting; moves = n }))) on) count
+          (subst (λ (n : ℕ). Mirrors (kernels.with_sent (service.without_message s id) (Some (answer_to k PlainWhat.Gone))) v (given a (answer_gets a id (record { at = v.acting; moves = n }))) on) count
           (answer_mirrors (service.without_message s id) v a (without_message l id) id m k What.Gone PlainWhat.Gone m.to.moves hm says refl refl (out_mirrors s v a l id h))),
     )
 
 -- nospace
 no_room_row : (s t : OneKernel) (v : View) (a : Addresses) (l : Placed) (id : MsgId) (m : Message) (k : PlainMessage) (u : PlainWhat) → service.has_no_room s id k u ≡ Some t → MirrorsMessage a id m → plain_message m ≡ Some k → Mirrors s v a l
-    → Mirrors t v (given a (answers a id (unmoved v.acting))) (with_sent (without_message l id) (Some (answer v.acting 0 m What.NoRoom)))
+    → Mirrors t v (given a (answer_gets a id (unmoved v.acting))) (with_sent (without_message l id) (Some (answer v.acting 0 m What.NoRoom)))
 no_room_row s t v a l id m k (PlainWhat.Create image links) is hm says h =
     let z = when-is (service.is_kernel s k.to) (kernels.with_sent (service.without_message s id) (Some (answer_to k PlainWhat.NoRoom))) t is in
-    subst (λ (u : OneKernel). Mirrors u v (given a (answers a id (unmoved v.acting))) (with_sent (without_message l id) (Some (answer v.acting 0 m What.NoRoom)))) z.1
+    subst (λ (u : OneKernel). Mirrors u v (given a (answer_gets a id (unmoved v.acting))) (with_sent (without_message l id) (Some (answer v.acting 0 m What.NoRoom)))) z.1
     (answer_mirrors (service.without_message s id) v a (without_message l id) id m k What.NoRoom PlainWhat.NoRoom 0 hm says refl refl (out_mirrors s v a l id h))
 no_room_row s t v a l id m k u is hm says h = cc
 

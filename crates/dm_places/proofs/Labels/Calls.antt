@@ -2,8 +2,8 @@
 use Rattle.dm_places.proofs.Names.{◌≡◌, ℕ, zero, suc, ◌==◌, ◌&&◌, ◌||◌, Bool, true, false, List, [], ◌∷◌, refl, ap, ◌∙◌, sym, subst, inl, inr, arith, nat_lt, ⊤, if◌then◌else◌, map, slice_get, slice_set, filter_map, cons_option, is_none}
 use Rattle.dm_places.proofs.Names.{Option, None, Some, nat_tests, Pid, Link, Place, place_of, pid_eq, plain_link, first_empty, link_at, plain_slot, MsgId, Message, id_eq, PlainMessage, User, Read, Write, plain_message, Process, Direction}
 use Rattle.dm_places.proofs.Names.{Status, direction_numbered, Regs, past, Reply, plain_process, reg, CallNumber, first_failed, piece_of, address_of, moving, request, Called, Done, emptied, links_in, first_of, slot_at, pid_eq-same}
-use Rattle.dm_places.proofs.Names.{id_eq-same, View, Addresses, Gets, gets, given, Slot, Owner, Receiver, Sender, here, encloses, fills, fills_by, sends_what, set_link, emptied_link, SameProcess, SameMessage, SameServers, encloses_servers}
-use Rattle.dm_places.proofs.Names.{encloses_process, encloses_message, encloses_at, gives_by, no_gives, or-left, or-right, MirrorsProcess, MirrorsMessage, enclosed, owner_at}
+use Rattle.dm_places.proofs.Names.{id_eq-same, View, Addresses, Gets, gets, given, Slot, Owner, Receiver, Sender, acting_place, encloses, fills, fills_by, sends_what, set_link, emptied_link, SameProcess, SameMessage, SameServers}
+use Rattle.dm_places.proofs.Names.{encloses_servers, encloses_process, encloses_message, encloses_at, gives_by, no_gives, or-left, or-right, MirrorsProcess, MirrorsMessage, enclosed, owner_at}
 use Rattle.dm_onekernel.specs.Calls as one
 use Rattle.dm_syscall.specs.Calls as calls
 
@@ -33,7 +33,7 @@ abbrev pub MirrorsDone : View → Addresses → Pid → Process → CallNumber �
 MirrorsDone v a p x n d = MirrorsCalled v a p x n d.called d.process
 
 -- where a process says that it is
-pub stands_here : (v : View) (a : Addresses) (p : Pid) (x : Process) → MirrorsProcess v a p x → here v p ≡ place_of (address_of v.acting x)
+pub stands_here : (v : View) (a : Addresses) (p : Pid) (x : Process) → MirrorsProcess v a p x → acting_place v p ≡ place_of (address_of v.acting x)
 stands_here v a p x h = ap (λ (n : ℕ). record { at = v.acting; moves = n }) (sym h.moves)
 
 -- registers hold no addresses
@@ -95,7 +95,7 @@ makes_by : (v : View) (a : Addresses) (p : Pid) (x : Process) (b c : Bool) → M
 makes_by v a p x true c h = regs_kept v a p x (calls.replied Reply.BadKind (behind x)).process.regs h
 makes_by v a p x false true h = regs_kept v a p x (calls.replied Reply.BadRange (behind x)).process.regs h
 makes_by v a p x false false h =
-    puts_kept v a p x one.Make (calls.own_link v.acting (behind x)) (here v p) (first_empty x.table) (ap (λ (o : Option ℕ). fills p o (here v p)) (first_of x.table)) (stands_here v a p x h) h
+    puts_kept v a p x one.Make (calls.own_link v.acting (behind x)) (acting_place v p) (first_empty x.table) (ap (λ (o : Option ℕ). fills p o (acting_place v p)) (first_of x.table)) (stands_here v a p x h) h
 
 -- the links that a message encloses have their places among the slots'
 record Listed (a : Addresses) (p : Pid) (ss : List ℕ) (k : ℕ) (w : Link) : Type 0 where
@@ -139,7 +139,7 @@ user_sent v a p x w over some h k e =
     let id = m.id in
     let ps = map (λ (n : ℕ). a (Slot p n)) (calls.listed x) in
     let to = a (Slot p (reg x.regs 1)) in
-    let z : PlainMessage = record { id = m.id; to = m.to.pid; sender = m.sender.pid; what = User w.code w.channel (one.bytes_at (plain_process x) (reg x.regs 2) (reg x.regs 3)) (map plain_link (links_in x.table (calls.listed x))) } in
+    let z : PlainMessage = record { id = m.id; to = m.to.pid; sender = m.sender.pid; what = User w.code w.channel (one.memory_at (plain_process x) (reg x.regs 2) (reg x.regs 3)) (map plain_link (links_in x.table (calls.listed x))) } in
     let f : z ≡ k = cc in
     subst (λ (u : PlainMessage). MirrorsSent v a (given a (sends_what v a p (plain_process x) u.id u.what)) p m (calls.after_send (behind x))) f
     (record {
@@ -152,7 +152,7 @@ user_sent v a p x w over some h k e =
       message = record {
         id = refl;
         receiver = ap (λ (c : Bool). if c then to else given a (encloses id 0 ps) (Receiver id)) (id_eq-same id) ∙ h.slots (reg x.regs 1) w over;
-        sender = ap (λ (c : Bool). if c then here v p else given a (encloses id 0 ps) (Sender id)) (id_eq-same id) ∙ stands_here v a p x h;
+        sender = ap (λ (c : Bool). if c then acting_place v p else given a (encloses id 0 ps) (Sender id)) (id_eq-same id) ∙ stands_here v a p x h;
         enclosed = λ n u g.
             let r = listed_kept v a p x (calls.listed x) n u h some g in
             encloses_at a id 0 ps n n r.place r.there (omega arith) ∙ r.is;
@@ -160,7 +160,7 @@ user_sent v a p x w over some h k e =
       others = λ q g. let s = encloses_process a id 0 ps q in record { slot = s.slot; owner = s.owner };
       messages = λ i g. let s = encloses_message a id 0 ps i g in record {
         receiver = ap (λ (c : Bool). if c then to else given a (encloses id 0 ps) (Receiver i)) g ∙ s.receiver;
-        sender = ap (λ (c : Bool). if c then here v p else given a (encloses id 0 ps) (Sender i)) g ∙ s.sender;
+        sender = ap (λ (c : Bool). if c then acting_place v p else given a (encloses id 0 ps) (Sender i)) g ∙ s.sender;
         enclosed = s.enclosed;
       };
       servers = let s = encloses_servers a id 0 ps in record { child = s.child; name = s.name; answer = s.answer };
@@ -184,8 +184,8 @@ sends_kept v a p x (Some w) over h =
     (one.any_empty y.links (one.listed y)) (one.reply_named_twice y.links (reg x.regs 1 ∷ one.listed y)) refl over h
 
 -- a data move begins, with the owner of the link in slot r1
-move_sent : (v : View) (a : Addresses) (p : Pid) (m : Message) (x y : Process) (to : Place) → to ≡ place_of m.to → here v p ≡ place_of m.sender → enclosed m.what ≡ [] → y.pid ≡ x.pid → y.moves ≡ x.moves → y.table ≡ x.table → owner_at y.status ≡ Some m.to → MirrorsProcess v a p x
-    → MirrorsSent v a (given a (gets (Receiver m.id) to ∷ gets (Sender m.id) (here v p) ∷ gets (Owner p) to ∷ [])) p m y
+move_sent : (v : View) (a : Addresses) (p : Pid) (m : Message) (x y : Process) (to : Place) → to ≡ place_of m.to → acting_place v p ≡ place_of m.sender → enclosed m.what ≡ [] → y.pid ≡ x.pid → y.moves ≡ x.moves → y.table ≡ x.table → owner_at y.status ≡ Some m.to → MirrorsProcess v a p x
+    → MirrorsSent v a (given a (gets (Receiver m.id) to ∷ gets (Sender m.id) (acting_place v p) ∷ gets (Owner p) to ∷ [])) p m y
 move_sent v a p m x y to there from none pid moves table owner h = record {
   process = record {
     pid = pid ∙ h.pid;
@@ -199,13 +199,13 @@ move_sent v a p m x y to there from none pid moves table owner h = record {
   message = record {
     id = refl;
     receiver = ap (λ (c : Bool). if c then to else a (Receiver m.id)) (id_eq-same m.id) ∙ there;
-    sender = ap (λ (c : Bool). if c then here v p else a (Sender m.id)) (id_eq-same m.id) ∙ from;
+    sender = ap (λ (c : Bool). if c then acting_place v p else a (Sender m.id)) (id_eq-same m.id) ∙ from;
     enclosed = λ k w e. absurd (let f : None ≡ Some w = ap (λ (ls : List Link). slice_get ls k) (sym none) ∙ e in cc);
   };
   others = λ q e. record { slot = λ k. refl; owner = ap (λ (c : Bool). if c then to else a (Owner q)) e };
   messages = λ i e. record {
     receiver = ap (λ (c : Bool). if c then to else a (Receiver i)) e;
-    sender = ap (λ (c : Bool). if c then here v p else a (Sender i)) e;
+    sender = ap (λ (c : Bool). if c then acting_place v p else a (Sender i)) e;
     enclosed = λ k. refl;
   };
   servers = record { child = λ n. refl; name = λ n. refl; answer = λ n. refl };
@@ -223,7 +223,7 @@ begins_kept v a p x w Direction.FromArea over h k e =
 begins_kept v a p x w Direction.IntoArea over h k e =
     let r = calls.whole (behind x) w Direction.IntoArea in
     let m = request v.acting (behind x) r in
-    let z : PlainMessage = record { id = m.id; to = m.to.pid; sender = m.sender.pid; what = Write r.base (one.bytes_at (plain_process x) r.own (piece_of r.left)) } in
+    let z : PlainMessage = record { id = m.id; to = m.to.pid; sender = m.sender.pid; what = Write r.base (one.memory_at (plain_process x) r.own (piece_of r.left)) } in
     let f : z ≡ k = cc in
     subst (λ (u : PlainMessage). MirrorsSent v a (given a (sends_what v a p (plain_process x) u.id u.what)) p m (moving (behind x) r)) f
     (move_sent v a p m x (moving (behind x) r) (a (Slot p (reg x.regs 1))) (h.slots (reg x.regs 1) w over) (stands_here v a p x h) refl refl refl refl refl h)

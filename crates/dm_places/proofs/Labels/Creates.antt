@@ -1,8 +1,8 @@
 -- A process that a kernel makes, with places: it begins with the links that its request brought.
 use Rattle.dm_places.proofs.Names.{◌≡◌, ℕ, zero, suc, ◌+◌, ◌-◌, ◌&&◌, List, [], ◌∷◌, ◌++◌, length, refl, ap, ◌∙◌, sym, subst, false, arith, map, option_map, slice_get, replicate, Option, None, Some, length-map, slice_get-map, Pid, Link}
-use Rattle.dm_places.proofs.Names.{pid_eq, pid_of, PlainLink, plain_link, link_at, plain_slot, MsgId, Message, What, Label, PlainMessage, PlainWhat, plain_message, plain_what, begun, Format, BootImage, first_number, slots_of, bind, Alive}
-use Rattle.dm_places.proofs.Names.{OneKernel, plain_process, Ready, answer_id, answer_to, memory_of, slots_with, zero_regs, answer, bind-is, when-is, View, Addresses, Gets, Sender, answers, child_links, given, gives, unmoved, two, child_at}
-use Rattle.dm_places.proofs.Names.{only_child, Placed, Mirrors, MirrorsMessage, MirrorsProcess, enclosed, with_child, with_sent, without_message}
+use Rattle.dm_places.proofs.Names.{pid_eq, pid_of, PlainLink, plain_link, link_at, plain_slot, MsgId, Message, What, Label, PlainMessage, PlainWhat, plain_message, plain_what, begun_process, Format, BootImage, first_number, slots_of, bind}
+use Rattle.dm_places.proofs.Names.{Alive, OneKernel, plain_process, Ready, answer_id, answer_to, memory_of, slots_with, zero_regs, answer, bind-is, when-is, View, Addresses, Gets, Sender, answer_gets, child_links, given, gives, unmoved}
+use Rattle.dm_places.proofs.Names.{two, child_at, only_child, Placed, Mirrors, MirrorsMessage, MirrorsProcess, enclosed, with_child, with_sent, without_message}
 use Rattle.dm_onekernel.specs.Kernel as kernels
 use Rattle.dm_onekernel.specs.Service as service
 use Rattle.dm_onekernel.specs.Start as one
@@ -31,17 +31,17 @@ table_plainly : (slots : ℕ) (links : List Link) → slots_with slots (map plai
 table_plainly slots links =
     ap (λ (n : ℕ). map Some (map plain_link links) ++ replicate (slots - n) None) (length-map links plain_link) ∙ slots_plainly links (slots - length links)
 
-pub begun_plainly : (f : Format) (p : Pid) (image : BootImage) (links : List Link) → one.begun f image (map plain_link links) ≡ plain_process (begun p (memory_of image) (slots_with (slots_of f) links))
+pub begun_plainly : (f : Format) (p : Pid) (image : BootImage) (links : List Link) → one.begun f image (map plain_link links) ≡ plain_process (begun_process p (memory_of image) (slots_with (slots_of f) links))
 begun_plainly f p image links =
     λ i. record { regs = zero_regs; memory = memory_of image; links = table_plainly (slots_of f) links i; status = Ready; stopped = false; sent = 0 }
 
 begun_mirrors : (s : OneKernel) (v : View) (a : Addresses) (l : Placed) (id : MsgId) (m : Message) (child : Pid) (image : BootImage) (links : List Link) → v.moves child ≡ 0 → MirrorsMessage a id m → enclosed m.what ≡ links → Mirrors s v a l
-    → Mirrors (service.with_child (service.without_message s id) child image (map plain_link links)) v (given a (child_links a child id 0 (map plain_link links))) (with_child (without_message l id) s.format child image links)
+    → Mirrors (service.with_created (service.without_message s id) child image (map plain_link links)) v (given a (child_links a child id 0 (map plain_link links))) (with_child (without_message l id) s.format child image links)
 begun_mirrors s v a l id m child image links none hm is h =
     let ls = map plain_link links in
     let b = given a (child_links a child id 0 ls) in
     let o = only_child a child id ls 0 in
-    let y = begun child (memory_of image) (slots_with (slots_of s.format) links) in
+    let y = begun_process child (memory_of image) (slots_with (slots_of s.format) links) in
     let hy : MirrorsProcess v b child y = record {
       pid = refl;
       moves = sym none;
@@ -56,10 +56,10 @@ begun_mirrors s v a l id m child image links none hm is h =
 
 created_row : (s t : OneKernel) (v : View) (a : Addresses) (l : Placed) (id : MsgId) (m : Message) (k : PlainMessage) (child : Pid) (image : BootImage) (links : List Link) → service.creates_of s id k child (map plain_link links) image ≡ Some t → v.moves child ≡ 0
     → MirrorsMessage a id m → plain_message m ≡ Some k → enclosed m.what ≡ links → Mirrors s v a l
-    → Mirrors t v (given a (answers a id (unmoved v.acting) ++ child_links a child id 0 (map plain_link links))) (with_sent (with_child (without_message l id) s.format child image links) (Some (answer v.acting 0 m (What.Created child))))
+    → Mirrors t v (given a (answer_gets a id (unmoved v.acting) ++ child_links a child id 0 (map plain_link links))) (with_sent (with_child (without_message l id) s.format child image links) (Some (answer v.acting 0 m (What.Created child))))
 created_row s t v a l id m k child image links is none hm says links_are h =
     let ls = map plain_link links in
-    let u = service.with_child (service.without_message s id) child image ls in
+    let u = service.with_created (service.without_message s id) child image ls in
     let b = given a (child_links a child id 0 ls) in
     let n = answer v.acting 0 m (What.Created child) in
     let q = answer_to k (PlainWhat.Created child) in
@@ -67,11 +67,11 @@ created_row s t v a l id m k child image links is none hm says links_are h =
     let on = with_child (without_message l id) s.format child image links in
     let sent : Mirrors (kernels.with_sent u (Some q)) v (given b (two n.id (a (Sender id)) (unmoved v.acting))) (with_sent on (Some n)) =
     two_sends u v b on n q (a (Sender id)) (unmoved v.acting) (answer_plainly v.acting 0 m k (What.Created child) (PlainWhat.Created child) says refl) refl hm.sender refl (begun_mirrors s v a l id m child image links none hm links_are h) in
-    subst (λ (w : OneKernel). Mirrors w v (given a (answers a id (unmoved v.acting) ++ child_links a child id 0 ls)) (with_sent on (Some n))) z.1
+    subst (λ (w : OneKernel). Mirrors w v (given a (answer_gets a id (unmoved v.acting) ++ child_links a child id 0 ls)) (with_sent on (Some n))) z.1
     (subst (λ (i : MsgId). Mirrors (kernels.with_sent u (Some q)) v (given a (two (answer_id i) (a (Sender id)) (unmoved v.acting) ++ child_links a child id 0 ls)) (with_sent on (Some n))) hm.id sent)
 
 creates_row : (s t : OneKernel) (v : View) (a : Addresses) (l : Placed) (id : MsgId) (m : Message) (k : PlainMessage) (child : Pid) (u : PlainWhat) → plain_what m.what ≡ Some u → service.creates s id k child u ≡ Some t → v.moves child ≡ 0 → MirrorsMessage a id m
-    → plain_message m ≡ Some k → Mirrors s v a l → Follows t v (given a (answers a id (unmoved v.acting) ++ addresses.creates_what a id child u)) (placed.creates v.acting s.format s.images (without_message l id) m child m.what)
+    → plain_message m ≡ Some k → Mirrors s v a l → Follows t v (given a (answer_gets a id (unmoved v.acting) ++ addresses.creates_what a id child u)) (placed.creates v.acting s.format s.images (without_message l id) m child m.what)
 creates_row s t v a l id m k child (PlainWhat.Create number ls) u is none hm says h =
     let w = create_what m.what number ls u in
     let links = w.links.items in
@@ -80,7 +80,7 @@ creates_row s t v a l id m k child (PlainWhat.Create number ls) u is none hm say
       on,
       ap (placed.creates v.acting s.format s.images (without_message l id) m child) w.is
           ∙ ap (λ (o : Option BootImage). bind o (λ (i : BootImage). Some (with_sent (with_child (without_message l id) s.format child i links) (Some (answer v.acting 0 m (What.Created child)))))) image_is,
-      subst (λ (ks : List PlainLink). Mirrors t v (given a (answers a id (unmoved v.acting) ++ child_links a child id 0 ks)) on) w.links_are
+      subst (λ (ks : List PlainLink). Mirrors t v (given a (answer_gets a id (unmoved v.acting) ++ child_links a child id 0 ks)) on) w.links_are
           (created_row s t v a l id m k child image links (ap (λ (ks : List PlainLink). service.creates_of s id k child ks image) w.links_are ∙ last) none hm says (ap enclosed w.is) h),
     )
 creates_row s t v a l id m k child u says is none hm there h = cc
@@ -94,5 +94,5 @@ created_follows s t v a l id child is none h =
     let (on, step, mirrors) = creates_row s t v a l id m k child k.what (parts m k says).what rest none (h.places.message id m found) says h in (
       on,
       ap (λ (o : Option Message). bind o (λ (n : Message). placed.creates v.acting s.format s.images (without_message l id) n child n.what)) found ∙ step,
-      subst (λ (gs : List Gets). Mirrors t v (given a gs) on) (ap (addresses.creates v a id child) (sym there)) mirrors,
+      subst (λ (gs : List Gets). Mirrors t v (given a gs) on) (ap (addresses.creation_gets v a id child) (sym there)) mirrors,
     )

@@ -1,7 +1,7 @@
 -- What the process manager takes, with places: it tells kernels and children, and answers over links, where the lines say.
 use Rattle.dm_places.proofs.Names.{◌≡◌, ℕ, suc, ◌+◌, ◌*◌, ◌==◌, ◌&&◌, Bool, true, false, List, [], ◌∷◌, length, refl, ap, ◌∙◌, sym, subst, inl, inr, nat_lt, arith, if◌then◌else◌, map, option_map, slice_get, Option, None, Some, nat_tests}
 use Rattle.dm_places.proofs.Names.{slice_get-map, Pid, Addr, Link, place_of, plain_link, MsgId, What, id_of, PlainMessage, PlainWhat, plain_message, manager, OneKernel, goes_over, Pending, Managing, plain_child, plain_manager}
-use Rattle.dm_places.proofs.Names.{plain_pending, answer_over, kernel, message_to, Taken, child_numbered, plain_numbered, plain_push, id_eq-same, View, Addresses, gets, given, Receiver, Sender, Enclosed, Child, Answer, unmoved, encloses}
+use Rattle.dm_places.proofs.Names.{plain_pending, answer_over, kernel, message_to, Taken, child_address, plain_numbered, plain_push, id_eq-same, View, Addresses, gets, given, Receiver, Sender, Enclosed, Child, Answer, unmoved, encloses}
 use Rattle.dm_places.proofs.Names.{enclosed_from, manager_sends, ascends, encloses_servers, encloses_process, encloses_message, encloses_at, two, enclosed_at, Placed, Mirrors, MirrorsKernel, enclosed, manager_took, without_message}
 use Rattle.dm_onekernel.specs.Kernel as kernels
 use Rattle.dm_onekernel.specs.Manager as one
@@ -15,13 +15,13 @@ use Rattle.dm_places.proofs.Pendings.{numbered_below, pending_last}
 abbrev pub InOrder : Managing → Type 0
 InOrder g = ascends 0 (map plain_pending g.pending) g.sent ≡ true
 
-abbrev TookAt : OneKernel → View → Addresses → Placed → MsgId → MsgId → ℕ → one.Took → Taken → Type 0
+abbrev TookAt : OneKernel → View → Addresses → Placed → MsgId → MsgId → ℕ → one.ManagerTook → Taken → Type 0
 TookAt s v a l id mid code k t = Mirrors (service.manager_took s id k) v (given a (manager_sends v a mid code k.message)) (manager_took (without_message l id) t)
 
 abbrev pub LinksKept : Addresses → MsgId → List Link → Type 0
 LinksKept a id links = (n : ℕ) (w : Link) → slice_get links n ≡ Some w → a (Enclosed id n) ≡ place_of w.addr
 
-took_if : (s : OneKernel) (v : View) (a : Addresses) (l : Placed) (id mid : MsgId) (code : ℕ) (b : Bool) (k j : one.Took) (t u : Taken) → TookAt s v a l id mid code k t → TookAt s v a l id mid code j u
+took_if : (s : OneKernel) (v : View) (a : Addresses) (l : Placed) (id mid : MsgId) (code : ℕ) (b : Bool) (k j : one.ManagerTook) (t u : Taken) → TookAt s v a l id mid code k t → TookAt s v a l id mid code j u
     → TookAt s v a l id mid code (if b then k else j) (if b then t else u)
 took_if s v a l id mid code true k j t u h i = h
 took_if s v a l id mid code false k j t u h i = i
@@ -106,7 +106,7 @@ wants_mirrors s v a l id mid code machine image (w ∷ ws) en at order h =
     (take.asks_for g machine image w ws) (take.bad_request g (w ∷ ws)) (asks_for_mirrors s v a l id mid code machine image w ws en at order h) (bad_mirrors s v a l id mid code (w ∷ ws) en at h)
 
 requests_mirrors : (s : OneKernel) (v : View) (a : Addresses) (l : Placed) (id mid : MsgId) (code : ℕ) (body : List ℕ) (links : List Link) → LinksKept a mid links → v.acting ≡ 0 → InOrder l.manager → Mirrors s v a l
-    → TookAt s v a l id mid code (one.requests (plain_manager l.manager) l.manager.machines l.manager.images body (map plain_link links)) (take.requests l.manager body links)
+    → TookAt s v a l id mid code (one.requests_child (plain_manager l.manager) l.manager.machines l.manager.images body (map plain_link links)) (take.requests l.manager body links)
 requests_mirrors s v a l id mid code (b ∷ c ∷ d ∷ e ∷ []) links en at order h =
     let g = l.manager in
     took_if s v a l id mid code (b == 1) (one.wants_child (plain_manager g) g.machines g.images c (256 * d + e) (map plain_link links)) (one.bad_request (plain_manager g) (map plain_link links))
@@ -124,14 +124,14 @@ tells_mirrors s v a l id code child w u says none to at h =
 
 control_by : (s : OneKernel) (v : View) (a : Addresses) (l : Placed) (id mid : MsgId) (code : ℕ) (child : Addr) (b c d : Bool) (links : List Link) → a (Child code) ≡ place_of child → LinksKept a mid links → v.acting ≡ 0 → Mirrors s v a l
     → TookAt s v a l id mid code
-    (one.controls_child (plain_manager l.manager) child.pid (if b then Some PlainWhat.Stop else if c then Some PlainWhat.Resume else if d then Some PlainWhat.Kill else None) (map plain_link links))
+    (one.tells_child (plain_manager l.manager) child.pid (if b then Some PlainWhat.Stop else if c then Some PlainWhat.Resume else if d then Some PlainWhat.Kill else None) (map plain_link links))
     (take.controls_child l.manager child (if b then Some What.Stop else if c then Some What.Resume else if d then Some What.Kill else None) links)
 control_by s v a l id mid code child true c d links to en at h = tells_mirrors s v a l id code child What.Stop PlainWhat.Stop refl refl to at h
 control_by s v a l id mid code child false true d links to en at h = tells_mirrors s v a l id code child What.Resume PlainWhat.Resume refl refl to at h
 control_by s v a l id mid code child false false true links to en at h = tells_mirrors s v a l id code child What.Kill PlainWhat.Kill refl refl to at h
 control_by s v a l id mid code child false false false links to en at h = bad_mirrors s v a l id mid code links en at h
 
-controls_mirrors : (s : OneKernel) (v : View) (a : Addresses) (l : Placed) (id mid : MsgId) (code : ℕ) (o : Option Addr) (body : List ℕ) (links : List Link) → child_numbered l.manager.children code ≡ o → LinksKept a mid links → v.acting ≡ 0 → Mirrors s v a l
+controls_mirrors : (s : OneKernel) (v : View) (a : Addresses) (l : Placed) (id mid : MsgId) (code : ℕ) (o : Option Addr) (body : List ℕ) (links : List Link) → child_address l.manager.children code ≡ o → LinksKept a mid links → v.acting ≡ 0 → Mirrors s v a l
     → TookAt s v a l id mid code (one.controls (plain_manager l.manager) (option_map plain_child o) body (map plain_link links)) (take.controls l.manager o body links)
 controls_mirrors s v a l id mid code (Some child) (op ∷ []) links is en at h = control_by s v a l id mid code child (op == 2) (op == 3) (op == 4) links (h.places.child code child is) en at h
 controls_mirrors s v a l id mid code None (b ∷ []) links is en at h = bad_mirrors s v a l id mid code links en at h
@@ -141,15 +141,15 @@ user_of : (s : OneKernel) (v : View) (a : Addresses) (l : Placed) (id mid : MsgI
     → TookAt s v a l id mid code (one.takes_user (plain_manager l.manager) l.manager.machines l.manager.images code body (map plain_link links)) (take.takes_user l.manager code body links)
 user_of s v a l id mid code body links en at order h =
     let g = l.manager in
-    took_if s v a l id mid code (code == 0) (one.requests (plain_manager g) g.machines g.images body (map plain_link links)) (one.controls (plain_manager g) (one.child_numbered (map plain_child g.children) code) body (map plain_link links))
-    (take.requests g body links) (take.controls g (child_numbered g.children code) body links) (requests_mirrors s v a l id mid code body links en at order h)
-    (subst (λ (o : Option Pid). TookAt s v a l id mid code (one.controls (plain_manager g) o body (map plain_link links)) (take.controls g (child_numbered g.children code) body links)) (sym (plain_numbered g.children code))
-    (controls_mirrors s v a l id mid code (child_numbered g.children code) body links refl en at h))
+    took_if s v a l id mid code (code == 0) (one.requests_child (plain_manager g) g.machines g.images body (map plain_link links)) (one.controls (plain_manager g) (one.child_numbered (map plain_child g.children) code) body (map plain_link links))
+    (take.requests g body links) (take.controls g (child_address g.children code) body links) (requests_mirrors s v a l id mid code body links en at order h)
+    (subst (λ (o : Option Pid). TookAt s v a l id mid code (one.controls (plain_manager g) o body (map plain_link links)) (take.controls g (child_address g.children code) body links)) (sym (plain_numbered g.children code))
+    (controls_mirrors s v a l id mid code (child_address g.children code) body links refl en at h))
 
 -- a user message to the manager
 pub user_mirrors : (s : OneKernel) (v : View) (a : Addresses) (l : Placed) (id mid : MsgId) (code : ℕ) (body : List ℕ) (links : List Link) → LinksKept a mid links → v.acting ≡ 0 → InOrder l.manager → Mirrors s v a l
     → Mirrors (service.manager_took s id (one.takes_user s.manager s.machines (length s.images) code body (map plain_link links))) v
     (given a (manager_sends v a mid code (one.takes_user s.manager s.machines (length s.images) code body (map plain_link links)).message)) (manager_took (without_message l id) (take.takes_user l.manager code body links))
 user_mirrors s v a l id mid code body links en at order h =
-    subst (λ (k : one.Took). TookAt s v a l id mid code k (take.takes_user l.manager code body links)) (λ i. one.takes_user (h.plain.manager i) (h.plain.machines i) (h.plain.images i) code body (map plain_link links))
+    subst (λ (k : one.ManagerTook). TookAt s v a l id mid code k (take.takes_user l.manager code body links)) (λ i. one.takes_user (h.plain.manager i) (h.plain.machines i) (h.plain.images i) code body (map plain_link links))
     (user_of s v a l id mid code body links en at order h)

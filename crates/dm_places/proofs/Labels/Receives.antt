@@ -206,7 +206,7 @@ receive_row : (s t : OneKernel) (v : View) (a : Addresses) (l : Placed) (p : Pid
 receive_row s t v a l p id (one.Receives z) w f h =
     let eq : kernel.goes_on (service.without_message s id) p z ≡ t = cc in
     let gs = receives_what a p id (plain_process w.x) w.k.what in
-    let gs_is : gs ≡ gives s v a (Label.Receive p id) = ap (addresses.receives a p id (Some (plain_process w.x))) (sym w.there) ∙ ap (λ (o : Option PlainProcess). addresses.receives a p id o (s.bag id)) (sym w.alive) in
+    let gs_is : gs ≡ gives s v a (Label.Receive p id) = ap (addresses.reception_gets a p id (Some (plain_process w.x))) (sym w.there) ∙ ap (λ (o : Option PlainProcess). addresses.reception_gets a p id o (s.bag id)) (sym w.alive) in
     let y = w.e.process in
     let o = w.kept.only in
     let on = with_process (without_message l id) p (Some y) in (

@@ -1,8 +1,8 @@
 -- What is served with places: control messages, pieces of data moves, and their landing.
 use Rattle.dm_places.proofs.Names.{◌≡◌, ℕ, ◌+◌, ◌-◌, ◌==◌, ◌&&◌, Bool, true, false, List, [], length, refl, ap, ◌∙◌, sym, subst, nat_le, if◌then◌else◌, take, drop, Option, None, Some, ArrayVec, Pid, Addr, place_of, MsgId, Message, What}
 use Rattle.dm_places.proofs.Names.{Label, Why, PlainMessage, PlainWhat, plain_message, plain_what, Process, Direction, Status, Reply, bind, Ended, OneKernel, plain_process, plain_status, PlainProcess, answer_to, piece_of, written_at, Rest}
-use Rattle.dm_places.proofs.Names.{Landed, Landing, plain_landed, after_serving, answer, answer_of, answer_with, serving_answer, ends_plainly, goes_on_plainly, bind-is, View, Addresses, Gets, answers, given, gives, here, serves_what, Owner}
-use Rattle.dm_places.proofs.Names.{two, gone_lands, nothing_lands, Placed, Mirrors, MirrorsMessage, MirrorsProcess, enclosed, owner_at, after_landing, with_process, with_sent, without_message, some_is}
+use Rattle.dm_places.proofs.Names.{Landed, Landing, plain_landed, after_serving, answer, answer_of, answer_with, serving_answer, ends_plainly, goes_on_plainly, bind-is, View, Addresses, Gets, answer_gets, given, gives, acting_place}
+use Rattle.dm_places.proofs.Names.{serves_what, Owner, two, gone_lands, nothing_lands, Placed, Mirrors, MirrorsMessage, MirrorsProcess, enclosed, owner_at, after_landing, with_process, with_sent, without_message, some_is}
 use Rattle.dm_message.specs.Plain as said
 use Rattle.dm_onekernel.specs.Kernel as kernels
 use Rattle.dm_onekernel.specs.Pieces as pieces
@@ -10,7 +10,7 @@ use Rattle.dm_onekernel.specs.Service as service
 use Rattle.dm_onekernel.specs.Step as kernel
 use Rattle.dm_datamove.specs.Landing as landing
 use Rattle.dm_rule.specs.Addresses as addresses
-use Rattle.dm_rule.specs.Addresses.{lands}
+use Rattle.dm_rule.specs.Addresses.{landing_gets}
 use Rattle.dm_places.specs.PlacedStep as placed
 use Rattle.dm_places.proofs.Keeps.{alive_of, ends_mirrors, goes_mirrors, out_mirrors, parts, there_of}
 use Rattle.dm_places.proofs.Labels.Calls.{stands_here}
@@ -28,7 +28,7 @@ plainly_is m k e = let g = parts m k e in λ i. record { id = sym g.id i; to = s
 -- the landing of a piece
 abbrev LandedKept : View → Addresses → Pid → Landed → Process → Type 0
 LandedKept v a p (Landed.Done c) y = MirrorsProcess v a p y
-LandedKept v a p (Landed.Next n) y = MirrorsProcess v a p y × (a (Owner p) ≡ place_of n.to) × (here v p ≡ place_of n.sender) × (enclosed n.what ≡ [])
+LandedKept v a p (Landed.Next n) y = MirrorsProcess v a p y × (a (Owner p) ≡ place_of n.to) × (acting_place v p ≡ place_of n.sender) × (enclosed n.what ≡ [])
 
 abbrev LandingKept : View → Addresses → Pid → Landing → Type 0
 LandingKept v a p d = LandedKept v a p d.landed d.process
@@ -59,9 +59,9 @@ record Lands (v : View) (a : Addresses) (p : Pid) (x : Process) (o : Option Land
   kept : LandingKept v a p d
 
 goes_lands : (v : View) (a : Addresses) (p : Pid) (x : Process) (o : Option Landing) (y : Process) (r : Rest) (c : pieces.Landed) → o ≡ Some (landing.goes_on v.acting y r) → MirrorsProcess v a p y → a (Owner p) ≡ place_of r.owner
-    → pieces.goes_on p (plain_process y) r.dir r.owner.pid r.base r.own r.left (piece_of r.left) ≡ c → Lands v a p x o c
+    → pieces.move_goes_on p (plain_process y) r.dir r.owner.pid r.base r.own r.left (piece_of r.left) ≡ c → Lands v a p x o c
 goes_lands v a p x o y r c e h at f = search (
-  goes_on_plainly v.acting y r ∙ ap (λ (q : Pid). Some (pieces.goes_on q (plain_process y) r.dir r.owner.pid r.base r.own r.left (piece_of r.left))) h.pid ∙ ap Some f,
+  goes_on_plainly v.acting y r ∙ ap (λ (q : Pid). Some (pieces.move_goes_on q (plain_process y) r.dir r.owner.pid r.base r.own r.left (piece_of r.left))) h.pid ∙ ap Some f,
   goes_on_kept v a p y r h at,
 )
 
@@ -75,12 +75,12 @@ lands_what_of v a p x Direction.FromArea owner base own left w (said.Block bytes
     let r : Rest = record { dir = Direction.FromArea; owner = owner; base = base; own = own; left = left } in
     let b = block_what w bytes is in
     let y : Process = record x { memory = written_at x.memory own b.body.items } in
-    let f = some_is ((length bytes == piece_of left) && nat_le (own + left) (length x.memory)) (pieces.goes_on p (record (plain_process x) { memory = written_at x.memory own bytes }) Direction.FromArea owner.pid base own left (piece_of left)) c e in
+    let f = some_is ((length bytes == piece_of left) && nat_le (own + left) (length x.memory)) (pieces.move_goes_on p (record (plain_process x) { memory = written_at x.memory own bytes }) Direction.FromArea owner.pid base own left (piece_of left)) c e in
     goes_lands v a p x (landing.lands_what v.acting x r Direction.FromArea w) y r c (ap (landing.lands_what v.acting x r Direction.FromArea) b.is) (record { pid = h.pid; moves = h.moves; slots = h.slots; owner = h.owner }) at
-    (ap (λ (bs : List ℕ). pieces.goes_on p (record (plain_process x) { memory = written_at x.memory own bs }) Direction.FromArea owner.pid base own left (piece_of left)) b.bytes_are ∙ f)
+    (ap (λ (bs : List ℕ). pieces.move_goes_on p (record (plain_process x) { memory = written_at x.memory own bs }) Direction.FromArea owner.pid base own left (piece_of left)) b.bytes_are ∙ f)
 lands_what_of v a p x Direction.IntoArea owner base own left w said.Written c is h at e =
     let r : Rest = record { dir = Direction.IntoArea; owner = owner; base = base; own = own; left = left } in
-    let f = some_is (nat_le (own + left) (length x.memory)) (pieces.goes_on p (plain_process x) Direction.IntoArea owner.pid base own left (piece_of left)) c e in
+    let f = some_is (nat_le (own + left) (length x.memory)) (pieces.move_goes_on p (plain_process x) Direction.IntoArea owner.pid base own left (piece_of left)) c e in
     goes_lands v a p x (landing.lands_what v.acting x r Direction.IntoArea w) x r c (ap (landing.lands_what v.acting x r Direction.IntoArea) (written_what w is)) h at f
 lands_what_of v a p x Direction.FromArea owner base own left w said.Gone c is h at e =
     let r : Rest = record { dir = Direction.FromArea; owner = owner; base = base; own = own; left = left } in
@@ -103,23 +103,23 @@ lands_of v a p x m u (Status.Moving dir owner base own left pending) c st is h e
 lands_of v a p x m u _ c st is h e = cc
 
 landed_mirrors : (s : OneKernel) (v : View) (a : Addresses) (l : Placed) (id : MsgId) (m : Message) (u : PlainWhat) (w : Landed) (y : Process) (c : pieces.Landed) → plain_landed w y ≡ Some c → LandedKept v a m.to.pid w y → Mirrors s v a l
-    → Mirrors (service.landed s id (plainly m u) c) v (given a (lands v a m.to.pid (Some c))) (after_landing (without_message l id) m.to.pid w y)
+    → Mirrors (service.landed s id (plainly m u) c) v (given a (landing_gets v a m.to.pid (Some c))) (after_landing (without_message l id) m.to.pid w y)
 landed_mirrors s v a l id m u (Landed.Done r) y c e k h =
     let f : pieces.Done r (plain_process y) ≡ c = cc in
-    subst (λ (z : pieces.Landed). Mirrors (service.landed s id (plainly m u) z) v (given a (lands v a m.to.pid (Some z))) (with_process (without_message l id) m.to.pid (Some y))) f
+    subst (λ (z : pieces.Landed). Mirrors (service.landed s id (plainly m u) z) v (given a (landing_gets v a m.to.pid (Some z))) (with_process (without_message l id) m.to.pid (Some y))) f
     (goes_mirrors (service.without_message s id) v a (without_message l id) m.to.pid y (out_mirrors s v a l id h) k)
 landed_mirrors s v a l id m u (Landed.Next n) y c e k h =
     let (q, says, last) = bind-is (plain_message n) (λ (z : PlainMessage). Some (pieces.Next z (plain_process y))) c e in
     let f : pieces.Next q (plain_process y) ≡ c = cc in
     let on = with_process (without_message l id) m.to.pid (Some y) in
-    subst (λ (z : pieces.Landed). Mirrors (service.landed s id (plainly m u) z) v (given a (lands v a m.to.pid (Some z))) (with_sent on (Some n))) f
-    (subst (λ (i : MsgId). Mirrors (service.landed s id (plainly m u) (pieces.Next q (plain_process y))) v (given a (two i (a (Owner m.to.pid)) (here v m.to.pid))) (with_sent on (Some n))) (parts n q says).id
-    (two_sends (service.changed s id (plainly m u) (plain_process y)) v a on n q (a (Owner m.to.pid)) (here v m.to.pid) says k.3 k.1 k.2
+    subst (λ (z : pieces.Landed). Mirrors (service.landed s id (plainly m u) z) v (given a (landing_gets v a m.to.pid (Some z))) (with_sent on (Some n))) f
+    (subst (λ (i : MsgId). Mirrors (service.landed s id (plainly m u) (pieces.Next q (plain_process y))) v (given a (two i (a (Owner m.to.pid)) (acting_place v m.to.pid))) (with_sent on (Some n))) (parts n q says).id
+    (two_sends (service.changed s id (plainly m u) (plain_process y)) v a on n q (a (Owner m.to.pid)) (acting_place v m.to.pid) says k.3 k.1 k.2
     (goes_mirrors (service.without_message s id) v a (without_message l id) m.to.pid y (out_mirrors s v a l id h) k.0)))
 
 lands_row : (s t : OneKernel) (v : View) (a : Addresses) (l : Placed) (id : MsgId) (m : Message) (x : Process) (u : PlainWhat) → plain_what m.what ≡ Some u → MirrorsProcess v a m.to.pid x → Mirrors s v a l
     → bind (pieces.lands m.to.pid (plain_process x) (plainly m u) (plain_status x.status)) (λ (c : pieces.Landed). Some (service.landed s id (plainly m u) c)) ≡ Some t
-    → Follows t v (given a (lands v a m.to.pid (pieces.lands m.to.pid (plain_process x) (plainly m u) (plain_status x.status)))) (placed.lands v.acting (without_message l id) m x)
+    → Follows t v (given a (landing_gets v a m.to.pid (pieces.lands m.to.pid (plain_process x) (plainly m u) (plain_status x.status)))) (placed.lands v.acting (without_message l id) m x)
 lands_row s t v a l id m x u says hx h e =
     let o = pieces.lands m.to.pid (plain_process x) (plainly m u) (plain_status x.status) in
     let (c, is, last) = bind-is o (λ (w : pieces.Landed). Some (service.landed s id (plainly m u) w)) t e in
@@ -128,8 +128,8 @@ lands_row s t v a l id m x u says hx h e =
     let on = after_landing (without_message l id) m.to.pid g.d.landed g.d.process in (
       on,
       ap (λ (w : Option Landing). bind w (λ (d : Landing). Some (after_landing (without_message l id) m.to.pid d.landed d.process))) g.lands,
-      subst (λ (z : OneKernel). Mirrors z v (given a (lands v a m.to.pid o)) on) k
-          (subst (λ (z : Option pieces.Landed). Mirrors (service.landed s id (plainly m u) c) v (given a (lands v a m.to.pid z)) on) (sym is)
+      subst (λ (z : OneKernel). Mirrors z v (given a (landing_gets v a m.to.pid o)) on) k
+          (subst (λ (z : Option pieces.Landed). Mirrors (service.landed s id (plainly m u) c) v (given a (landing_gets v a m.to.pid z)) on) (sym is)
           (landed_mirrors s v a l id m u g.d.landed g.d.process c g.plain g.kept h)),
     )
 
@@ -140,14 +140,14 @@ gone_row : (s t : OneKernel) (v : View) (a : Addresses) (l : Placed) (id : MsgId
 gone_row s t v a l id m x says hx h e =
     let o = pieces.lands m.to.pid (plain_process x) (plainly m said.Gone) (plain_status x.status) in
     let (c, is, last) = bind-is o (λ (w : pieces.Landed). Some (service.landed s id (plainly m said.Gone) w)) t e in
-    let none : lands v a m.to.pid o ≡ [] = ap (lands v a m.to.pid) is ∙ nothing_lands v a m.to.pid c (gone_lands m.to.pid (plain_process x) (plainly m said.Gone) (plain_status x.status) c refl is) in
+    let none : landing_gets v a m.to.pid o ≡ [] = ap (landing_gets v a m.to.pid) is ∙ nothing_lands v a m.to.pid c (gone_lands m.to.pid (plain_process x) (plainly m said.Gone) (plain_status x.status) c refl is) in
     let (on, step, mirrors) = lands_row s t v a l id m x said.Gone says hx h e in
     (on, step, subst (λ (gs : List Gets). Mirrors t v (given a gs) on) none mirrors)
 
 -- a piece that is served
 answers_row : (s : OneKernel) (v : View) (a : Addresses) (l : Placed) (id : MsgId) (m : Message) (x y : Process) (u r : PlainWhat) (w : What) → MirrorsMessage a id m → plain_what m.what ≡ Some u → plain_what w ≡ Some r → enclosed w ≡ [] → MirrorsProcess v a m.to.pid x → MirrorsProcess v a m.to.pid y
     → Mirrors s v a l → serving_answer v.acting x m ≡ Some (answer v.acting x.moves m w) → after_serving x m.what ≡ y
-    → Follows (service.answered s id (plainly m u) (record { process = plain_process y; answer = answer_to (plainly m u) r })) v (given a (answers a id (here v m.to.pid))) (placed.answers v.acting (without_message l id) m x)
+    → Follows (service.answered s id (plainly m u) (record { process = plain_process y; answer = answer_to (plainly m u) r })) v (given a (answer_gets a id (acting_place v m.to.pid))) (placed.answers v.acting (without_message l id) m x)
 answers_row s v a l id m x y u r w hm says ws none hx hy h e f =
     let k = plainly m u in
     let t = service.answered s id k (record { process = plain_process y; answer = answer_to k r }) in
@@ -156,7 +156,7 @@ answers_row s v a l id m x y u r w hm says ws none hx hy h e f =
       on,
       ap (λ (o : Option Message). bind o (λ (z : Message). Some (with_sent (with_process (without_message l id) m.to.pid (Some (after_serving x m.what))) (Some z)))) e
           ∙ ap (λ (z : Process). Some (with_sent (with_process (without_message l id) m.to.pid (Some z)) (Some n))) f,
-      subst (λ (c : ℕ). Mirrors t v (given a (answers a id (record { at = v.acting; moves = c }))) on) hx.moves
+      subst (λ (c : ℕ). Mirrors t v (given a (answer_gets a id (record { at = v.acting; moves = c }))) on) hx.moves
           (answer_mirrors (service.changed s id k (plain_process y)) v a (with_process (without_message l id) m.to.pid (Some y)) id m k w r x.moves hm (ap (said.with_what m) says) ws none
           (goes_mirrors (service.without_message s id) v a (without_message l id) m.to.pid y (out_mirrors s v a l id h) hy)),
     )
@@ -197,7 +197,7 @@ serve_row s t v a l id m x (said.Read base len) says is hm hx h =
     let w = read_what m.what base len says in
     let (on, step, mirrors) = answers_row s v a l id m x x (said.Read base len) (said.Block bytes) (What.Block body) hm says refl refl hx hx h
     (ap (λ (q : What). answer_with v.acting x m (answer_of x q)) w) (ap (after_serving x) w) in
-    (on, ap (placed.serves v.acting (without_message l id) m x) w ∙ step, subst (λ (q : OneKernel). Mirrors q v (given a (answers a id (here v m.to.pid))) on) (ap (service.answered s id k) z ∙ f) mirrors)
+    (on, ap (placed.serves v.acting (without_message l id) m x) w ∙ step, subst (λ (q : OneKernel). Mirrors q v (given a (answer_gets a id (acting_place v m.to.pid))) on) (ap (service.answered s id k) z ∙ f) mirrors)
 serve_row s t v a l id m x (said.Write base bytes) says is hm hx h =
     let k = plainly m (said.Write base bytes) in
     let b = write_what m.what base bytes says in
@@ -210,7 +210,7 @@ serve_row s t v a l id m x (said.Write base bytes) says is hm hx h =
     (ap (λ (q : What). answer_with v.acting x m (answer_of x q)) b.is) (ap (after_serving x) b.is) in (
       on,
       ap (placed.serves v.acting (without_message l id) m x) b.is ∙ step,
-      subst (λ (q : OneKernel). Mirrors q v (given a (answers a id (here v m.to.pid))) on) (ap (λ (p : PlainProcess). service.answered s id k (record { process = p; answer = answer_to k said.Written })) y_is ∙ ap (service.answered s id k) z ∙ f) mirrors,
+      subst (λ (q : OneKernel). Mirrors q v (given a (answer_gets a id (acting_place v m.to.pid))) on) (ap (λ (p : PlainProcess). service.answered s id k (record { process = p; answer = answer_to k said.Written })) y_is ∙ ap (service.answered s id k) z ∙ f) mirrors,
     )
 serve_row s t v a l id m x (said.Block bytes) says is hm hx h =
     let (on, step, mirrors) = lands_row s t v a l id m x (said.Block bytes) says hx h is in
@@ -235,7 +235,7 @@ served_follows s t v a l id is h =
     (ap (λ (w : PlainMessage). bind (kernel.alive (s.processes w.to)) (λ (p : PlainProcess). service.serves s id w p w.what)) (sym km) ∙ rest) in
     let (x, stands, x_is) = alive_of s l m.to.pid z h.plain alive in
     let gs_is : serves_what v a id (plainly m u) (plain_process x) u ≡ gives s v a (Label.Served id) =
-    ap (λ (p : PlainProcess). serves_what v a id (plainly m u) p u) x_is ∙ ap (addresses.serves_alive v a id (plainly m u)) (sym alive) ∙ ap (λ (w : PlainMessage). addresses.serves s v a id (Some w)) (sym km) ∙ ap (addresses.serves s v a id) (sym there) in
+    ap (λ (p : PlainProcess). serves_what v a id (plainly m u) p u) x_is ∙ ap (addresses.serves_alive v a id (plainly m u)) (sym alive) ∙ ap (λ (w : PlainMessage). addresses.service_gets s v a id (Some w)) (sym km) ∙ ap (addresses.service_gets s v a id) (sym there) in
     let (on, step, mirrors) = serve_row s t v a l id m x u (parts m k says).what (ap (λ (p : PlainProcess). service.serves s id (plainly m u) p u) x_is ∙ last) (h.places.message id m found) (h.places.process m.to.pid x stands) h in (
       on,
       ap (λ (o : Option Message). bind o (λ (n : Message). bind (l.processes n.to.pid) (λ (y : Process). placed.serves v.acting (without_message l id) n y n.what))) found

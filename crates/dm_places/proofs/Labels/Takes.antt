@@ -1,8 +1,8 @@
 -- What the two servers take, with places: the manager's answers about children, and both servers' rows together.
 use Rattle.dm_places.proofs.Names.{◌≡◌, ℕ, zero, suc, ◌+◌, ◌==◌, ◌&&◌, Bool, true, false, List, [], ◌∷◌, ◌++◌, length, refl, ap, ◌∙◌, sym, subst, arith, if◌then◌else◌, map, option_map, slice_get, Option, None, Some, nat_tests, length-map}
 use Rattle.dm_places.proofs.Names.{Pid, Addr, Link, Place, pid_eq, place_of, PlainLink, plain_link, MsgId, Message, What, id_eq, id_of, Label, PlainMessage, PlainWhat, plain_message, plain_what, manager, switchboard, bind, Manager}
-use Rattle.dm_places.proofs.Names.{OneKernel, goes_over, Pending, Managing, at_home, plain_child, plain_manager, plain_pending, answer_over, control_link, Taken, child_numbered, pending_numbered, plain_bear, plain_pending_numbered}
-use Rattle.dm_places.proofs.Names.{plain_without, id_eq-same, bind-is, View, Addresses, Gets, gets, given, gives, Receiver, Sender, Enclosed, Child, Name, Answer, unmoved, board_takes, manager_answers, manager_sends, manager_takes}
+use Rattle.dm_places.proofs.Names.{OneKernel, goes_over, Pending, Managing, at_home, plain_child, plain_manager, plain_pending, answer_over, control_link, Taken, child_address, pending_request, plain_bear, plain_pending_numbered}
+use Rattle.dm_places.proofs.Names.{plain_without, id_eq-same, bind-is, View, Addresses, Gets, gets, given, gives, Receiver, Sender, Enclosed, Child, Name, Answer, unmoved, board_gets, manager_answers, manager_sends, manager_gets}
 use Rattle.dm_places.proofs.Names.{SameProcess, SameMessage, Placed, Mirrors, MirrorsKernel, MirrorsMessage, enclosed, board_took, manager_took, without_message}
 use Rattle.dm_onekernel.specs.Manager as one
 use Rattle.dm_onekernel.specs.Service as service
@@ -29,11 +29,11 @@ one_link place w at zero u e = let f : w ≡ u = cc in (refl, at ∙ ap (λ (z :
 one_link place w at (suc k) u e = absurd (let f : None ≡ Some u = e in cc)
 
 -- the manager goes on as g, and answers over the link of a request: c is a with what a new child gives
-answers_mirrors : (s : OneKernel) (v : View) (a c : Addresses) (l : Placed) (id : MsgId) (n : ℕ) (r : Pending) (g : Managing) (k : Manager) (byte : ℕ) (ws : List Link) → pending_numbered n l.manager.pending ≡ Some r → v.acting ≡ 0 → InOrder l.manager → Mirrors s v a l
+answers_mirrors : (s : OneKernel) (v : View) (a c : Addresses) (l : Placed) (id : MsgId) (n : ℕ) (r : Pending) (g : Managing) (k : Manager) (byte : ℕ) (ws : List Link) → pending_request n l.manager.pending ≡ Some r → v.acting ≡ 0 → InOrder l.manager → Mirrors s v a l
     → ((j : ℕ) (w : Link) → slice_get ws j ≡ Some w → (j ≡ 0) × (unmoved v.acting ≡ place_of w.addr)) → plain_manager g ≡ k → g.pending ≡ take.without_pending n l.manager.pending → g.machines ≡ l.manager.machines → g.images ≡ l.manager.images
-    → ((q : Pid) → SameProcess a c q) → ((i : MsgId) → SameMessage a c i) → ((j : ℕ) → c (Name j) ≡ a (Name j)) → ((j : ℕ) → c (Answer j) ≡ a (Answer j)) → ((j : ℕ) (w : Addr) → child_numbered g.children j ≡ Some w → c (Child j) ≡ place_of w)
-    → Mirrors (service.manager_took s id (one.answers k (plain_link r.answer) byte (map plain_link ws))) v
-    (given c (manager_answers v a n (one.answers k (plain_link r.answer) byte (map plain_link ws)).message))
+    → ((q : Pid) → SameProcess a c q) → ((i : MsgId) → SameMessage a c i) → ((j : ℕ) → c (Name j) ≡ a (Name j)) → ((j : ℕ) → c (Answer j) ≡ a (Answer j)) → ((j : ℕ) (w : Addr) → child_address g.children j ≡ Some w → c (Child j) ≡ place_of w)
+    → Mirrors (service.manager_took s id (one.answers_byte k (plain_link r.answer) byte (map plain_link ws))) v
+    (given c (manager_answers v a n (one.answers_byte k (plain_link r.answer) byte (map plain_link ws)).message))
     (manager_took (without_message l id) (take.answers g r.answer byte ws))
 answers_mirrors s v a c l id n r g k byte ws there at order h one_is plain_is pending machines images process message name answer child =
     let sent = id_of manager g.sent in
@@ -47,7 +47,7 @@ answers_mirrors s v a c l id n r g k byte ws there at order h one_is plain_is pe
     let s' = record (service.without_message s id) { manager = record (plain_manager g) { sent = g.sent + 1 } } in
     let l' = record (without_message l id) { manager = record g { sent = g.sent + 1 } } in
     let plain : MirrorsKernel s' l' = record { processes = u.processes; bag = u.bag; board = u.board; manager = refl; machines = machines ∙ u.machines; images = images ∙ u.images } in
-    subst (λ (z : Manager). Mirrors (service.manager_took s id (one.answers z (plain_link r.answer) byte (map plain_link ws))) v (given c (manager_answers v a n (one.answers z (plain_link r.answer) byte (map plain_link ws)).message)) (manager_took (without_message l id) (take.answers g r.answer byte ws))) plain_is
+    subst (λ (z : Manager). Mirrors (service.manager_took s id (one.answers_byte z (plain_link r.answer) byte (map plain_link ws))) v (given c (manager_answers v a n (one.answers_byte z (plain_link r.answer) byte (map plain_link ws)).message)) (manager_took (without_message l id) (take.answers g r.answer byte ws))) plain_is
     (record {
       plain = kernel_sent s' l' q m refl plain;
       places = record {
@@ -65,16 +65,16 @@ answers_mirrors s v a c l id n r g k byte ws there at order h one_is plain_is pe
             ));
         name = λ j w e. name j ∙ h.places.name j w e;
         child = child;
-        answer = λ j w e. answer j ∙ h.places.answer j w (still_pending l.manager.pending 0 l.manager.sent n j w order (ap (pending_numbered j) (sym pending) ∙ e));
+        answer = λ j w e. answer j ∙ h.places.answer j w (still_pending l.manager.pending 0 l.manager.sent n j w order (ap (pending_request j) (sym pending) ∙ e));
       };
     })
 
 -- the kernel's manager has the request that this one has
-pending_is : (s : OneKernel) (l : Placed) (n : ℕ) → plain_manager l.manager ≡ s.manager → one.pending_numbered n s.manager.pending ≡ option_map plain_pending (pending_numbered n l.manager.pending)
+pending_is : (s : OneKernel) (l : Placed) (n : ℕ) → plain_manager l.manager ≡ s.manager → one.pending_numbered n s.manager.pending ≡ option_map plain_pending (pending_request n l.manager.pending)
 pending_is s l n e = ap (λ (g : Manager). one.pending_numbered n g.pending) (sym e) ∙ plain_pending_numbered n l.manager.pending
 
 -- a row of the manager's: what it takes, and what that leads to
-record TookTo (s : OneKernel) (v : View) (b : Addresses) (l : Placed) (id : MsgId) (k : one.Took) (o : Option Taken) : Type 0 where
+record TookTo (s : OneKernel) (v : View) (b : Addresses) (l : Placed) (id : MsgId) (k : one.ManagerTook) (o : Option Taken) : Type 0 where
   t : Taken
   takes : o ≡ Some t
   mirrors : Mirrors (service.manager_took s id k) v b (manager_took (without_message l id) t)
@@ -97,7 +97,7 @@ child_first s v a l j pl n (Some q) h =
     }
 
 -- the child stands
-created_by : (s : OneKernel) (v : View) (a : Addresses) (l : Placed) (id : MsgId) (n : ℕ) (child : Pid) (p : Option Pending) (k : one.Took) → pending_numbered n l.manager.pending ≡ p → one.takes_created s.manager n child (option_map plain_pending p) ≡ Some k
+created_by : (s : OneKernel) (v : View) (a : Addresses) (l : Placed) (id : MsgId) (n : ℕ) (child : Pid) (p : Option Pending) (k : one.ManagerTook) → pending_request n l.manager.pending ≡ p → one.takes_created s.manager n child (option_map plain_pending p) ≡ Some k
     → v.acting ≡ 0 → InOrder l.manager → Mirrors s v a l
     → TookTo s v (given a (gets (Child (length s.manager.children + 1)) (unmoved child.home) ∷ manager_answers v a n k.message)) l id k (take.takes_created l.manager n child p)
 created_by s v a l id n child None k is e at order h = cc
@@ -112,22 +112,22 @@ created_by s v a l id n child (Some r) k is e at order h =
     in
     let longer : length (map plain_child cs) ≡ length s.manager.children = ap (λ (z : Manager). length z.children) h.plain.manager in
     let count : length cs ≡ length s.manager.children = sym (length-map cs plain_child) ∙ longer in
-    let f : one.answers after (plain_link r.answer) 0 (one.control_link (length s.manager.children + 1) ∷ []) ≡ k = cc in
+    let f : one.answers_byte after (plain_link r.answer) 0 (one.control_link (length s.manager.children + 1) ∷ []) ≡ k = cc in
     let j = length s.manager.children + 1 in
     let pl = unmoved child.home in
     let c = given a (gets (Child j) pl ∷ []) in
-    let children : (i : ℕ) (u : Addr) → child_numbered g.children i ≡ Some u → c (Child i) ≡ place_of u =
+    let children : (i : ℕ) (u : Addr) → child_address g.children i ≡ Some u → c (Child i) ≡ place_of u =
     λ i u there. ap (λ (z : ℕ). given a (gets (Child (z + 1)) pl ∷ []) (Child i)) (sym longer) ∙ child_last cs child i u a h.places.child there
     in
     let t = take.answers g r.answer 0 (w ∷ []) in
     let u = answers_mirrors s v a c l id n r g after 0 (w ∷ []) is at order h (one_link (unmoved v.acting) w (ap unmoved at)) plain_is refl refl refl
     (λ q. record { slot = λ i. refl; owner = refl }) (λ i. record { receiver = refl; sender = refl; enclosed = λ i. refl }) (λ i. refl) (λ i. refl) children in
-    let link_is : one.answers after (plain_link r.answer) 0 (one.control_link (length cs + 1) ∷ []) ≡ k = ap (λ (z : ℕ). one.answers after (plain_link r.answer) 0 (one.control_link (z + 1) ∷ [])) count ∙ f in
+    let link_is : one.answers_byte after (plain_link r.answer) 0 (one.control_link (length cs + 1) ∷ []) ≡ k = ap (λ (z : ℕ). one.answers_byte after (plain_link r.answer) 0 (one.control_link (z + 1) ∷ [])) count ∙ f in
     search
-    (subst (λ (z : one.Took). Mirrors (service.manager_took s id z) v (given a (gets (Child j) pl ∷ manager_answers v a n z.message)) (manager_took (without_message l id) t)) link_is (child_first (service.manager_took s id (one.answers after (plain_link r.answer) 0 (one.control_link (length cs + 1) ∷ []))) v a (manager_took (without_message l id) t) j pl n (one.answers after (plain_link r.answer) 0 (one.control_link (length cs + 1) ∷ [])).message u))
+    (subst (λ (z : one.ManagerTook). Mirrors (service.manager_took s id z) v (given a (gets (Child j) pl ∷ manager_answers v a n z.message)) (manager_took (without_message l id) t)) link_is (child_first (service.manager_took s id (one.answers_byte after (plain_link r.answer) 0 (one.control_link (length cs + 1) ∷ []))) v a (manager_took (without_message l id) t) j pl n (one.answers_byte after (plain_link r.answer) 0 (one.control_link (length cs + 1) ∷ [])).message u))
 
 -- there was no room for it
-no_room_by : (s : OneKernel) (v : View) (a : Addresses) (l : Placed) (id : MsgId) (n : ℕ) (p : Option Pending) (k : one.Took) → pending_numbered n l.manager.pending ≡ p → one.takes_no_room s.manager n (option_map plain_pending p) ≡ Some k
+no_room_by : (s : OneKernel) (v : View) (a : Addresses) (l : Placed) (id : MsgId) (n : ℕ) (p : Option Pending) (k : one.ManagerTook) → pending_request n l.manager.pending ≡ p → one.takes_no_room s.manager n (option_map plain_pending p) ≡ Some k
     → v.acting ≡ 0 → InOrder l.manager → Mirrors s v a l → TookTo s v (given a (manager_answers v a n k.message)) l id k (take.takes_no_room l.manager n p)
 no_room_by s v a l id n None k is e at order h = cc
 no_room_by s v a l id n (Some r) k is e at order h =
@@ -137,22 +137,22 @@ no_room_by s v a l id n (Some r) k is e at order h =
     (λ i. record { children = map plain_child l.manager.children; pending = plain_without n l.manager.pending i; sent = l.manager.sent })
     ∙ ap (λ (z : Manager). record z { pending = one.without_pending n z.pending }) h.plain.manager
     in
-    let f : one.answers after (plain_link r.answer) 1 [] ≡ k = cc in
+    let f : one.answers_byte after (plain_link r.answer) 1 [] ≡ k = cc in
     let t = take.answers g r.answer 1 [] in
     let u = answers_mirrors s v a a l id n r g after 1 [] is at order h (λ i x there. absurd (let z : None ≡ Some x = there in cc)) plain_is refl refl refl
     (λ q. record { slot = λ i. refl; owner = refl }) (λ i. record { receiver = refl; sender = refl; enclosed = λ i. refl }) (λ i. refl) (λ i. refl) h.places.child in
     search
-    (subst (λ (z : one.Took). Mirrors (service.manager_took s id z) v (given a (manager_answers v a n z.message)) (manager_took (without_message l id) t)) f u)
+    (subst (λ (z : one.ManagerTook). Mirrors (service.manager_took s id z) v (given a (manager_answers v a n z.message)) (manager_took (without_message l id) t)) f u)
 
 abbrev manager_gives : OneKernel → View → Addresses → PlainMessage → PlainWhat → Addresses
-manager_gives s v a k u = given a (manager_takes s v a k u (one.takes s.manager s.machines (length s.images) k u))
+manager_gives s v a k u = given a (manager_gets s v a k u (one.manager_takes s.manager s.machines (length s.images) k u))
 
 -- what the manager takes with places
 abbrev manager_step : Placed → MsgId → ℕ → What → Option Placed
 manager_step l id n w = bind (take.takes l.manager n w) (λ (z : Taken). Some (manager_took (without_message l id) z))
 
 manager_row : (s t : OneKernel) (v : View) (a : Addresses) (l : Placed) (id : MsgId) (m : Message) (k : PlainMessage) (u : PlainWhat) → m.id ≡ k.id → plain_what m.what ≡ Some u → MirrorsMessage a id m → v.acting ≡ 0 → InOrder l.manager → Mirrors s v a l
-    → bind (one.takes s.manager s.machines (length s.images) k u) (λ (z : one.Took). Some (service.manager_took s id z)) ≡ Some t → Follows t v (manager_gives s v a k u) (manager_step l id m.id.n m.what)
+    → bind (one.manager_takes s.manager s.machines (length s.images) k u) (λ (z : one.ManagerTook). Some (service.manager_took s id z)) ≡ Some t → Follows t v (manager_gives s v a k u) (manager_step l id m.id.n m.what)
 manager_row s t v a l id m k (PlainWhat.User code channel bytes ls) name says hm at order h e =
     let w = user_what m.what code channel bytes ls says in
     let body = w.body.items in
@@ -164,35 +164,35 @@ manager_row s t v a l id m k (PlainWhat.User code channel bytes ls) name says hm
       on,
       ap (manager_step l id m.id.n) w.is,
       subst (λ (o : OneKernel). Mirrors o v (given a (manager_sends v a k.id code (q bytes ls).message)) on) f
-          (subst (λ (x : one.Took). Mirrors (service.manager_took s id x) v (given a (manager_sends v a k.id code x.message)) on) (λ i. q (w.bytes_are i) (w.links_are i))
+          (subst (λ (x : one.ManagerTook). Mirrors (service.manager_took s id x) v (given a (manager_sends v a k.id code x.message)) on) (λ i. q (w.bytes_are i) (w.links_are i))
           (user_mirrors s v a l id k.id code body links
           (λ n x g. ap (λ (i : MsgId). a (Enclosed i n)) (sym name ∙ hm.id) ∙ hm.enclosed n x (ap (λ (y : What). slice_get (enclosed y) n) w.is ∙ g)) at order h)),
     )
 manager_row s t v a l id m k (PlainWhat.Created child) name says hm at order h e =
     let n = k.id.n in
     let o = one.takes_created s.manager n child (one.pending_numbered n s.manager.pending) in
-    let (z, took, last) = bind-is o (λ (x : one.Took). Some (service.manager_took s id x)) t e in
+    let (z, took, last) = bind-is o (λ (x : one.ManagerTook). Some (service.manager_took s id x)) t e in
     let f : service.manager_took s id z ≡ t = cc in
-    let p = pending_numbered n l.manager.pending in
+    let p = pending_request n l.manager.pending in
     let r = created_by s v a l id n child p z refl (ap (one.takes_created s.manager n child) (sym (pending_is s l n h.plain.manager)) ∙ took) at order h in
     let on = manager_took (without_message l id) r.t in (
       on,
       (λ i. manager_step l id (name i).n (created_what m.what child says i)) ∙ ap (λ (x : Option Taken). bind x (λ (y : Taken). Some (manager_took (without_message l id) y))) r.takes,
-      subst (λ (x : OneKernel). Mirrors x v (given a (manager_takes s v a k (PlainWhat.Created child) o)) on) f
-          (subst (λ (x : Option one.Took). Mirrors (service.manager_took s id z) v (given a (manager_takes s v a k (PlainWhat.Created child) x)) on) (sym took) r.mirrors),
+      subst (λ (x : OneKernel). Mirrors x v (given a (manager_gets s v a k (PlainWhat.Created child) o)) on) f
+          (subst (λ (x : Option one.ManagerTook). Mirrors (service.manager_took s id z) v (given a (manager_gets s v a k (PlainWhat.Created child) x)) on) (sym took) r.mirrors),
     )
 manager_row s t v a l id m k PlainWhat.NoRoom name says hm at order h e =
     let n = k.id.n in
     let o = one.takes_no_room s.manager n (one.pending_numbered n s.manager.pending) in
-    let (z, took, last) = bind-is o (λ (x : one.Took). Some (service.manager_took s id x)) t e in
+    let (z, took, last) = bind-is o (λ (x : one.ManagerTook). Some (service.manager_took s id x)) t e in
     let f : service.manager_took s id z ≡ t = cc in
-    let p = pending_numbered n l.manager.pending in
+    let p = pending_request n l.manager.pending in
     let r = no_room_by s v a l id n p z refl (ap (one.takes_no_room s.manager n) (sym (pending_is s l n h.plain.manager)) ∙ took) at order h in
     let on = manager_took (without_message l id) r.t in (
       on,
       (λ i. manager_step l id (name i).n (no_room_what m.what says i)) ∙ ap (λ (x : Option Taken). bind x (λ (y : Taken). Some (manager_took (without_message l id) y))) r.takes,
-      subst (λ (x : OneKernel). Mirrors x v (given a (manager_takes s v a k PlainWhat.NoRoom o)) on) f
-          (subst (λ (x : Option one.Took). Mirrors (service.manager_took s id z) v (given a (manager_takes s v a k PlainWhat.NoRoom x)) on) (sym took) r.mirrors),
+      subst (λ (x : OneKernel). Mirrors x v (given a (manager_gets s v a k PlainWhat.NoRoom o)) on) f
+          (subst (λ (x : Option one.ManagerTook). Mirrors (service.manager_took s id z) v (given a (manager_gets s v a k PlainWhat.NoRoom x)) on) (sym took) r.mirrors),
     )
 manager_row s t v a l id m k u name says hm at order h e = cc
 
@@ -204,10 +204,10 @@ takes_if b c l id m =
     else None
 
 takes_by : (s t : OneKernel) (v : View) (a : Addresses) (l : Placed) (id : MsgId) (m : Message) (k : PlainMessage) (b c : Bool) → plain_message m ≡ Some k → MirrorsMessage a id m → v.acting ≡ 0 → InOrder l.manager → Mirrors s v a l
-    → (if b then bind (boards.takes s.switchboard k k.what) (λ (z : boards.Took). Some (service.switchboard_took s id z))
-    else if c then bind (one.takes s.manager s.machines (length s.images) k k.what) (λ (z : one.Took). Some (service.manager_took s id z))
+    → (if b then bind (boards.board_takes s.switchboard k k.what) (λ (z : boards.BoardTook). Some (service.switchboard_took s id z))
+    else if c then bind (one.manager_takes s.manager s.machines (length s.images) k k.what) (λ (z : one.ManagerTook). Some (service.manager_took s id z))
     else None) ≡ Some t
-    → Follows t v (given a (if b then board_takes s v a id k.what else manager_takes s v a k k.what (one.takes s.manager s.machines (length s.images) k k.what))) (takes_if b c l id m)
+    → Follows t v (given a (if b then board_gets s v a id k.what else manager_gets s v a k k.what (one.manager_takes s.manager s.machines (length s.images) k k.what))) (takes_if b c l id m)
 takes_by s t v a l id m k true c says hm at order h e = board_row s t v a l id m k k.what (parts m k says).what hm at h e
 takes_by s t v a l id m k false true says hm at order h e = let g = parts m k says in manager_row s t v a l id m k k.what g.id g.what hm at order h e
 takes_by s t v a l id m k false false says hm at order h e = cc
@@ -222,5 +222,5 @@ took_follows s t v a l id is at order h =
     let (on, step, mirrors) = takes_by s t v a l id m k (pid_eq k.to switchboard) (pid_eq k.to manager) says (h.places.message id m found) at order h rest in (
       on,
       ap (λ (o : Option Message). bind o (placed.takes (without_message l id))) found ∙ ap (λ (q : Pid). takes_if (pid_eq q switchboard) (pid_eq q manager) l id m) g.to ∙ step,
-      subst (λ (gs : List Gets). Mirrors t v (given a gs) on) (ap (addresses.takes s v a id) (sym there)) mirrors,
+      subst (λ (gs : List Gets). Mirrors t v (given a gs) on) (ap (addresses.taking_gets s v a id) (sym there)) mirrors,
     )

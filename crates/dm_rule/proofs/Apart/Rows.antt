@@ -29,7 +29,7 @@ apart_of z y None h = tt
 apart_of z y (Some ps) h = h ps refl
 
 -- another process is served
-drops_apart : (y : Pid) (ids : List MsgId) → AllApart y (rule.drops ids)
+drops_apart : (y : Pid) (ids : List MsgId) → AllApart y (rule.drop_parts ids)
 drops_apart y [] = tt
 drops_apart y (i ∷ is) = (λ s. tt, drops_apart y is)
 

@@ -37,23 +37,23 @@ sent_off s None p = refl
 sent_off s (Some m) p = refl
 
 -- calls, a row each
-keeps_replies : (s : OneKernel) (p q : Pid) (n : ℕ) (c : Reply) (next : kernel.Next) → q ≢ p → Keeps s p (kernel.replies s q n c next)
+keeps_replies : (s : OneKernel) (p q : Pid) (n : ℕ) (c : Reply) (next : kernel.Trap) → q ≢ p → Keeps s p (kernel.replies s q n c next)
 keeps_replies s p q n c (kernel.Calls number (Called.Replies reply x)) off = keeps_when s p ((n == number) && reply_eq c reply) (kernel.goes_on s q x) (set_off s q p (Alive x) off)
 keeps_replies s p q n c _ off = tt
 
-keeps_sends : (s : OneKernel) (p q : Pid) (id : MsgId) (next : kernel.Next) → q ≢ p → Keeps s p (kernel.sends s q id next)
+keeps_sends : (s : OneKernel) (p q : Pid) (id : MsgId) (next : kernel.Trap) → q ≢ p → Keeps s p (kernel.sends s q id next)
 keeps_sends s p q id (kernel.Calls number (Called.Sends m x)) off = keeps_when s p (id_eq id m.id) (with_sent (kernel.goes_on s q x) (Some m)) (set_off s q p (Alive x) off)
 keeps_sends s p q id _ off = tt
 
-keeps_waits : (s : OneKernel) (p q : Pid) (next : kernel.Next) → q ≢ p → Keeps s p (kernel.waits s q next)
+keeps_waits : (s : OneKernel) (p q : Pid) (next : kernel.Trap) → q ≢ p → Keeps s p (kernel.waits s q next)
 keeps_waits s p q (kernel.Calls number (Called.Waits x)) off = set_off s q p (Alive x) off
 keeps_waits s p q _ off = tt
 
-keeps_outputs : (s : OneKernel) (p q : Pid) (w : ℕ) (next : kernel.Next) → q ≢ p → Keeps s p (kernel.outputs s q w next)
+keeps_outputs : (s : OneKernel) (p q : Pid) (w : ℕ) (next : kernel.Trap) → q ≢ p → Keeps s p (kernel.outputs s q w next)
 keeps_outputs s p q w (kernel.Calls number (Called.Outputs word x)) off = keeps_when s p (w == word) (kernel.goes_on s q x) (set_off s q p (Alive x) off)
 keeps_outputs s p q w _ off = tt
 
-keeps_ends : (s : OneKernel) (p q : Pid) (y : Why) (next : kernel.Next) → q ≢ p → Keeps s p (kernel.ends s q y next)
+keeps_ends : (s : OneKernel) (p q : Pid) (y : Why) (next : kernel.Trap) → q ≢ p → Keeps s p (kernel.ends s q y next)
 keeps_ends s p q y (kernel.Calls number (Called.Ends because)) off = keeps_when s p (why_eq y because) (with_process s q (Ended y)) (set_off s q p (Ended y) off)
 keeps_ends s p q y (kernel.Faults fault) off = keeps_when s p (why_eq y (Why.Fault fault)) (with_process s q (Ended y)) (set_off s q p (Ended y) off)
 keeps_ends s p q y _ off = tt
@@ -93,17 +93,17 @@ keeps_serves s p id m x _ off = tt
 
 keeps_takes : (s : OneKernel) (p : Pid) (id : MsgId) (m : PlainMessage) → Keeps s p (service.takes s id m)
 keeps_takes s p id m =
-    let to_board = bind (board.takes s.switchboard m m.what) (λ t. Some (service.switchboard_took s id t)) in
-    let to_manager = bind (manage.takes s.manager s.machines (length s.images) m m.what) (λ t. Some (service.manager_took s id t)) in
+    let to_board = bind (board.board_takes s.switchboard m m.what) (λ t. Some (service.switchboard_took s id t)) in
+    let to_manager = bind (manage.manager_takes s.manager s.machines (length s.images) m m.what) (λ t. Some (service.manager_took s id t)) in
     keeps_if s p (pid_eq m.to switchboard) to_board (if pid_eq m.to manager then to_manager else None)
-    (keeps_bind s p (board.takes s.switchboard m m.what) (λ t. Some (service.switchboard_took s id t)) (λ t is. sent_off (record (without_message s id) { switchboard = t.switchboard }) t.answer p))
+    (keeps_bind s p (board.board_takes s.switchboard m m.what) (λ t. Some (service.switchboard_took s id t)) (λ t is. sent_off (record (without_message s id) { switchboard = t.switchboard }) t.answer p))
     (keeps_if s p (pid_eq m.to manager) to_manager None
-    (keeps_bind s p (manage.takes s.manager s.machines (length s.images) m m.what) (λ t. Some (service.manager_took s id t)) (λ t is. sent_off (record (without_message s id) { manager = t.manager }) t.message p)) tt)
+    (keeps_bind s p (manage.manager_takes s.manager s.machines (length s.images) m m.what) (λ t. Some (service.manager_took s id t)) (λ t is. sent_off (record (without_message s id) { manager = t.manager }) t.message p)) tt)
 
 -- a process is made
 keeps_image : (s : OneKernel) (p child : Pid) (id : MsgId) (m : PlainMessage) (links : List PlainLink) (i : BootImage) → child ≢ p → Keeps s p (service.creates_of s id m child links i)
 keeps_image s p child id m links i off =
-    keeps_when s p (service.is_kernel s m.to && pid_eq child (pid_of m.to.home (first_number + s.made m.to.home))) (with_sent (service.with_child (without_message s id) child i links) (Some (answer_to m (PlainWhat.Created child))))
+    keeps_when s p (service.is_kernel s m.to && pid_eq child (pid_of m.to.home (first_number + s.made m.to.home))) (with_sent (service.with_created (without_message s id) child i links) (Some (answer_to m (PlainWhat.Created child))))
     (set_off (without_message s id) child p (Alive (begun s.format i links)) off)
 
 keeps_creates : (s : OneKernel) (p child : Pid) (id : MsgId) (m : PlainMessage) (k : PlainWhat) → child ≢ p → Keeps s p (service.creates s id m child k)
@@ -119,22 +119,22 @@ pub keeps_step : (s : OneKernel) (p : Pid) (l : Label) → IsOthers s p l → Ke
 keeps_step s p (Label.Ran q k) off =
     keeps_bind s p (kernel.running s q) (λ x. bind (kernel.plain_steps k (kernel.machine_of x)) (λ m. Some (kernel.goes_on s q (kernel.with_machine x m))))
     (λ x is. keeps_bind s p (kernel.plain_steps k (kernel.machine_of x)) (λ m. Some (kernel.goes_on s q (kernel.with_machine x m))) (λ m e. set_off s q p (Alive (kernel.with_machine x m)) off))
-keeps_step s p (Label.Call q n c) off = keeps_bind s p (kernel.next s q) (kernel.replies s q n c) (λ x is. keeps_replies s p q n c x off)
-keeps_step s p (Label.Send q id) off = keeps_bind s p (kernel.next s q) (kernel.sends s q id) (λ x is. keeps_sends s p q id x off)
-keeps_step s p (Label.Wait q) off = keeps_bind s p (kernel.next s q) (kernel.waits s q) (λ x is. keeps_waits s p q x off)
-keeps_step s p (Label.Out q w) off = keeps_bind s p (kernel.next s q) (kernel.outputs s q w) (λ x is. keeps_outputs s p q w x off)
-keeps_step s p (Label.End q y) off = keeps_bind s p (kernel.next s q) (kernel.ends s q y) (λ x is. keeps_ends s p q y x off)
+keeps_step s p (Label.Call q n c) off = keeps_bind s p (kernel.next_trap s q) (kernel.replies s q n c) (λ x is. keeps_replies s p q n c x off)
+keeps_step s p (Label.Send q id) off = keeps_bind s p (kernel.next_trap s q) (kernel.sends s q id) (λ x is. keeps_sends s p q id x off)
+keeps_step s p (Label.Wait q) off = keeps_bind s p (kernel.next_trap s q) (kernel.waits s q) (λ x is. keeps_waits s p q x off)
+keeps_step s p (Label.Out q w) off = keeps_bind s p (kernel.next_trap s q) (kernel.outputs s q w) (λ x is. keeps_outputs s p q w x off)
+keeps_step s p (Label.End q y) off = keeps_bind s p (kernel.next_trap s q) (kernel.ends s q y) (λ x is. keeps_ends s p q y x off)
 keeps_step s p (Label.Receive q id) off = keeps_bind s p (kernel.completing s q id) (kernel.receives s q id) (λ x is. keeps_receives s p q id x off)
 keeps_step s p (Label.Refuse q id c) off = keeps_bind s p (kernel.completing s q id) (kernel.refuses s q c) (λ x is. keeps_refuses s p q c x off)
 keeps_step s p (Label.Dropped id) off =
-    keeps_bind s p (s.bag id) (λ m. bind (kernel.ended (s.processes m.to)) (kernel.drops s id m))
-    (λ m there. keeps_bind s p (kernel.ended (s.processes m.to)) (kernel.drops s id m) (λ y is. keeps_when s p (service.is_dropped m.what) (without_message s id) refl))
+    keeps_bind s p (s.bag id) (λ m. bind (kernel.why_ended (s.processes m.to)) (kernel.drops s id m))
+    (λ m there. keeps_bind s p (kernel.why_ended (s.processes m.to)) (kernel.drops s id m) (λ y is. keeps_when s p (service.is_dropped m.what) (without_message s id) refl))
 keeps_step s p (Label.Served id) off =
     keeps_bind s p (s.bag id) (λ m. bind (kernel.alive (s.processes m.to)) (λ x. service.serves s id m x m.what))
     (λ m there. keeps_bind s p (kernel.alive (s.processes m.to)) (λ x. service.serves s id m x m.what) (λ x is. keeps_serves s p id m x m.what (off m there)))
 keeps_step s p (Label.Gone id) off =
-    keeps_bind s p (s.bag id) (λ m. bind (kernel.ended (s.processes m.to)) (kernel.says_gone s id m))
-    (λ m there. keeps_bind s p (kernel.ended (s.processes m.to)) (kernel.says_gone s id m) (λ y is. keeps_when s p (service.is_of_memory m.what) (with_sent (without_message s id) (Some (answer_to m PlainWhat.Gone))) refl))
+    keeps_bind s p (s.bag id) (λ m. bind (kernel.why_ended (s.processes m.to)) (kernel.says_gone s id m))
+    (λ m there. keeps_bind s p (kernel.why_ended (s.processes m.to)) (kernel.says_gone s id m) (λ y is. keeps_when s p (service.is_of_memory m.what) (with_sent (without_message s id) (Some (answer_to m PlainWhat.Gone))) refl))
 keeps_step s p (Label.Took id) off = keeps_bind s p (s.bag id) (service.takes s id) (λ m there. keeps_takes s p id m)
 keeps_step s p (Label.Created id q) off = keeps_bind s p (s.bag id) (λ m. service.creates s id m q m.what) (λ m there. keeps_creates s p q id m m.what off)
 keeps_step s p (Label.NoSpace id a b) off = keeps_bind s p (s.bag id) (λ m. service.has_no_room s id m m.what) (λ m there. keeps_no_room s p id m m.what)

@@ -2,7 +2,7 @@
 use Rattle.dm_rule.proofs.Names.{◌≡◌, ℕ, zero, suc, ◌+◌, ◌==◌, ◌&&◌, ◌||◌, Bool, true, false, List, [], ◌∷◌, refl, ap, ◌∙◌, sym, subst, inl, inr, arith, nat_lt, ⊤, if◌then◌else◌, map, slice_get, slice_set, filter_map, cons_option, is_none}
 use Rattle.dm_rule.proofs.Names.{Option, None, Some, nat_tests, Pid, Place, pid_eq, PlainLink, first_empty, link_at, MsgId, id_eq, id_of, PlainMessage, Direction, direction_numbered, Regs, Row, instruction, past, Reply, PlainProcess}
 use Rattle.dm_rule.proofs.Names.{Waiting, reg, setting, OneKernel, CallNumber, Called, Replies, Sends, Waits, Outputs, Ends, first_failed, pid_eq-same, id_eq-same, bind-is, View, Addresses, Gets, gets, given, Slot, Owner, Receiver, Sender}
-use Rattle.dm_rule.proofs.Names.{here, encloses, fills, fills_by, sends_what, owner_in, links_in}
+use Rattle.dm_rule.proofs.Names.{acting_place, encloses, fills, fills_by, sends_what, owner_in, links_in}
 use Rattle.dm_onekernel.specs.Calls as calls
 use Rattle.dm_onekernel.specs.Pieces as pieces
 use Rattle.dm_onekernel.specs.Step as kernel
@@ -86,15 +86,15 @@ copies_home P v a p x (Some l) is h =
     (regs_home P a p x (calls.replied Reply.NotCopyable (behind x)).regs h)
     (puts_home P v a p x calls.Copy l (a (Slot p (reg x.regs 1))) (first_empty x.links) refl (h.slots (reg x.regs 1) l is) h)
 
-drops_home : (P : Pid → Place → Type 0) (v : View) (a : Addresses) (p : Pid) (x : PlainProcess) (o : Option PlainLink) → HomeProcess P a p x → HomeCalled P v a p x calls.Drop (calls.drops (behind x) o)
+drops_home : (P : Pid → Place → Type 0) (v : View) (a : Addresses) (p : Pid) (x : PlainProcess) (o : Option PlainLink) → HomeProcess P a p x → HomeCalled P v a p x calls.Drop (calls.drop_call (behind x) o)
 drops_home P v a p x None h = regs_home P a p x (calls.replied Reply.NoLink (behind x)).regs h
 drops_home P v a p x (Some l) h = record { slots = λ k w e. h.slots k w (emptied_link x.links (reg x.regs 1) k w e); owner = h.owner }
 
-makes_by : (P : Pid → Place → Type 0) (v : View) (a : Addresses) (p : Pid) (x : PlainProcess) (b c : Bool) → P p (here v p) → HomeProcess P a p x
+makes_by : (P : Pid → Place → Type 0) (v : View) (a : Addresses) (p : Pid) (x : PlainProcess) (b c : Bool) → P p (acting_place v p) → HomeProcess P a p x
     → HomeCalled P v a p x calls.Make (calls.unless_refused (first_failed (record { fails = b; reply = Reply.BadKind } ∷ record { fails = c; reply = Reply.BadRange } ∷ [])) (behind x) (calls.puts_link (behind x) (calls.own_link p (behind x)) (first_empty x.links)))
 makes_by P v a p x true c is h = regs_home P a p x (calls.replied Reply.BadKind (behind x)).regs h
 makes_by P v a p x false true is h = regs_home P a p x (calls.replied Reply.BadRange (behind x)).regs h
-makes_by P v a p x false false is h = puts_home P v a p x calls.Make (calls.own_link p (behind x)) (here v p) (first_empty x.links) refl is h
+makes_by P v a p x false false is h = puts_home P v a p x calls.Make (calls.own_link p (behind x)) (acting_place v p) (first_empty x.links) refl is h
 
 -- the links that a message encloses have their places among the slots'
 pub record Listed (P : Pid → Place → Type 0) (a : Addresses) (p : Pid) (ss : List ℕ) (k : ℕ) (l : PlainLink) : Type 0 where
@@ -123,7 +123,7 @@ listed_home P a p x (s ∷ ss) k l h some e =
     (λ j f. listed_home P a p x ss j l h (or-right (is_none (link_at x.links s)) (calls.any_empty x.links ss) some) f) e
 
 -- a user message goes over the link in slot r1
-user_sent : (P : Pid → Place → Type 0) (v : View) (a : Addresses) (p : Pid) (x : PlainProcess) (l : PlainLink) → link_at x.links (reg x.regs 1) ≡ Some l → calls.any_empty x.links (calls.listed x) ≡ false → P p (here v p) → HomeProcess P a p x
+user_sent : (P : Pid → Place → Type 0) (v : View) (a : Addresses) (p : Pid) (x : PlainProcess) (l : PlainLink) → link_at x.links (reg x.regs 1) ≡ Some l → calls.any_empty x.links (calls.listed x) ≡ false → P p (acting_place v p) → HomeProcess P a p x
     → HomeCalled P v a p x calls.Send (Sends (calls.message_over p (behind x) l) (calls.after_send (behind x)))
 user_sent P v a p x l over some is h =
     let id = id_of p x.sent in
@@ -136,7 +136,7 @@ user_sent P v a p x l over some is h =
       };
       message = record {
         receiver = place_as P (ap (λ (c : Bool). if c then to else given a (encloses id 0 ps) (Receiver id)) (id_eq-same id)) (h.slots (reg x.regs 1) l over);
-        sender = place_as P (ap (λ (c : Bool). if c then here v p else given a (encloses id 0 ps) (Sender id)) (id_eq-same id)) is;
+        sender = place_as P (ap (λ (c : Bool). if c then acting_place v p else given a (encloses id 0 ps) (Sender id)) (id_eq-same id)) is;
         enclosed = λ k w e.
             let r = listed_home P a p x (calls.listed x) k w h some e in
             place_as P (encloses_at a id 0 ps k k r.place r.there (omega arith)) r.is;
@@ -144,13 +144,13 @@ user_sent P v a p x l over some is h =
       others = λ q e. let s = encloses_process a id 0 ps q in record { slot = s.slot; owner = s.owner };
       messages = λ i e. let s = encloses_message a id 0 ps i e in record {
         receiver = ap (λ (c : Bool). if c then to else given a (encloses id 0 ps) (Receiver i)) e ∙ s.receiver;
-        sender = ap (λ (c : Bool). if c then here v p else given a (encloses id 0 ps) (Sender i)) e ∙ s.sender;
+        sender = ap (λ (c : Bool). if c then acting_place v p else given a (encloses id 0 ps) (Sender i)) e ∙ s.sender;
         enclosed = s.enclosed;
       };
       servers = let s = encloses_servers a id 0 ps in record { child = s.child; name = s.name; answer = s.answer };
     }
 
-sends_by : (P : Pid → Place → Type 0) (v : View) (a : Addresses) (p : Pid) (x : PlainProcess) (l : PlainLink) (b c d e : Bool) → d ≡ calls.any_empty x.links (calls.listed x) → link_at x.links (reg x.regs 1) ≡ Some l → P p (here v p) → HomeProcess P a p x
+sends_by : (P : Pid → Place → Type 0) (v : View) (a : Addresses) (p : Pid) (x : PlainProcess) (l : PlainLink) (b c d e : Bool) → d ≡ calls.any_empty x.links (calls.listed x) → link_at x.links (reg x.regs 1) ≡ Some l → P p (acting_place v p) → HomeProcess P a p x
     → HomeCalled P v a p x calls.Send (calls.unless_refused
     (first_failed (record { fails = b; reply = Reply.TooLong } ∷ record { fails = c; reply = Reply.BadRange } ∷ record { fails = d; reply = Reply.NoLink } ∷ record { fails = e; reply = Reply.BadKind } ∷ []))
     (behind x) (Sends (calls.message_over p (behind x) l) (calls.after_send (behind x))))
@@ -160,15 +160,15 @@ sends_by P v a p x l false false true e f over is h = regs_home P a p x (calls.r
 sends_by P v a p x l false false false true f over is h = regs_home P a p x (calls.replied Reply.BadKind (behind x)).regs h
 sends_by P v a p x l false false false false f over is h = user_sent P v a p x l over (sym f) is h
 
-sends_home : (P : Pid → Place → Type 0) (v : View) (a : Addresses) (p : Pid) (x : PlainProcess) (o : Option PlainLink) → link_at x.links (reg x.regs 1) ≡ o → P p (here v p) → HomeProcess P a p x → HomeCalled P v a p x calls.Send (calls.sends p (behind x) o)
+sends_home : (P : Pid → Place → Type 0) (v : View) (a : Addresses) (p : Pid) (x : PlainProcess) (o : Option PlainLink) → link_at x.links (reg x.regs 1) ≡ o → P p (acting_place v p) → HomeProcess P a p x → HomeCalled P v a p x calls.Send (calls.send_call p (behind x) o)
 sends_home P v a p x None over is h = regs_home P a p x (calls.replied Reply.NoLink (behind x)).regs h
 sends_home P v a p x (Some l) over is h =
     sends_by P v a p x l (nat_lt (calls.most_body x) (reg x.regs 3) || nat_lt 4 (reg x.regs 4)) (calls.is_outside x (reg x.regs 2) (reg x.regs 3) || calls.is_outside x (reg x.regs 5) (reg x.regs 4))
     (calls.any_empty x.links (calls.listed x)) (calls.reply_named_twice x.links (reg x.regs 1 ∷ calls.listed x)) refl over is h
 
 -- a data move begins, with the owner of the link in slot r1
-move_sent : (P : Pid → Place → Type 0) (v : View) (a : Addresses) (p : Pid) (m : PlainMessage) (x y : PlainProcess) (to : Place) → P m.to to → m.sender ≡ p → links_in m.what ≡ [] → y.links ≡ x.links → owner_in y.status ≡ Some m.to → P p (here v p) → HomeProcess P a p x
-    → HomeSent P a (given a (gets (Receiver m.id) to ∷ gets (Sender m.id) (here v p) ∷ gets (Owner p) to ∷ [])) p m y
+move_sent : (P : Pid → Place → Type 0) (v : View) (a : Addresses) (p : Pid) (m : PlainMessage) (x y : PlainProcess) (to : Place) → P m.to to → m.sender ≡ p → links_in m.what ≡ [] → y.links ≡ x.links → owner_in y.status ≡ Some m.to → P p (acting_place v p) → HomeProcess P a p x
+    → HomeSent P a (given a (gets (Receiver m.id) to ∷ gets (Sender m.id) (acting_place v p) ∷ gets (Owner p) to ∷ [])) p m y
 move_sent P v a p m x y to there from none links owner is h = record {
   process = record {
     slots = λ k l e. h.slots k l (ap (λ (s : List (Option PlainLink)). link_at s k) (sym links) ∙ e);
@@ -179,20 +179,20 @@ move_sent P v a p m x y to there from none links owner is h = record {
   };
   message = record {
     receiver = place_as P (ap (λ (c : Bool). if c then to else a (Receiver m.id)) (id_eq-same m.id)) there;
-    sender = place_as P (ap (λ (c : Bool). if c then here v p else a (Sender m.id)) (id_eq-same m.id)) (pid_as P (sym from) is);
+    sender = place_as P (ap (λ (c : Bool). if c then acting_place v p else a (Sender m.id)) (id_eq-same m.id)) (pid_as P (sym from) is);
     enclosed = λ k l e. absurd (let f : None ≡ Some l = ap (λ (ls : List PlainLink). slice_get ls k) (sym none) ∙ e in cc);
   };
   others = λ q e. record { slot = λ k. refl; owner = ap (λ (c : Bool). if c then to else a (Owner q)) e };
   messages = λ i e. record {
     receiver = ap (λ (c : Bool). if c then to else a (Receiver i)) e;
-    sender = ap (λ (c : Bool). if c then here v p else a (Sender i)) e;
+    sender = ap (λ (c : Bool). if c then acting_place v p else a (Sender i)) e;
     enclosed = λ k. refl;
   };
   servers = record { child = λ n. refl; name = λ n. refl; answer = λ n. refl };
 }
 
-begins_home : (P : Pid → Place → Type 0) (v : View) (a : Addresses) (p : Pid) (x : PlainProcess) (l : PlainLink) (dir : Direction) (base own left : ℕ) → link_at x.links (reg x.regs 1) ≡ Some l → P p (here v p) → HomeProcess P a p x
-    → HomeCalled P v a p x calls.Move (calls.begins (pieces.requests p (behind x) dir l.to base own left))
+begins_home : (P : Pid → Place → Type 0) (v : View) (a : Addresses) (p : Pid) (x : PlainProcess) (l : PlainLink) (dir : Direction) (base own left : ℕ) → link_at x.links (reg x.regs 1) ≡ Some l → P p (acting_place v p) → HomeProcess P a p x
+    → HomeCalled P v a p x calls.Move (calls.begins_move (pieces.requests p (behind x) dir l.to base own left))
 begins_home P v a p x l Direction.FromArea base own left over is h =
     let r = pieces.requests p (behind x) Direction.FromArea l.to base own left in
     move_sent P v a p r.message x r.process (a (Slot p (reg x.regs 1))) (h.slots (reg x.regs 1) l over) refl refl refl refl is h
@@ -200,20 +200,20 @@ begins_home P v a p x l Direction.IntoArea base own left over is h =
     let r = pieces.requests p (behind x) Direction.IntoArea l.to base own left in
     move_sent P v a p r.message x r.process (a (Slot p (reg x.regs 1))) (h.slots (reg x.regs 1) l over) refl refl refl refl is h
 
-moves_over_home : (P : Pid → Place → Type 0) (v : View) (a : Addresses) (p : Pid) (x : PlainProcess) (l : PlainLink) (o : Option Direction) → link_at x.links (reg x.regs 1) ≡ Some l → P p (here v p) → HomeProcess P a p x
+moves_over_home : (P : Pid → Place → Type 0) (v : View) (a : Addresses) (p : Pid) (x : PlainProcess) (l : PlainLink) (o : Option Direction) → link_at x.links (reg x.regs 1) ≡ Some l → P p (acting_place v p) → HomeProcess P a p x
     → HomeCalled P v a p x calls.Move (calls.moves_over p (behind x) l o)
 moves_over_home P v a p x l None over is h = regs_home P a p x (calls.replied Reply.BadKind (behind x)).regs h
 moves_over_home P v a p x l (Some dir) over is h =
     unless_refused_home P v a p x calls.Move (first_failed (calls.move_refusals (behind x) l dir)) (calls.moves_bytes p (behind x) l dir) refl h
-    (if_home P v a p x calls.Move (reg x.regs 5 == 0) (calls.refused Reply.Done (behind x)) (calls.begins (pieces.requests p (behind x) dir l.to (l.area.base + reg x.regs 3) (reg x.regs 4) (reg x.regs 5)))
+    (if_home P v a p x calls.Move (reg x.regs 5 == 0) (calls.refused Reply.Done (behind x)) (calls.begins_move (pieces.requests p (behind x) dir l.to (l.area.base + reg x.regs 3) (reg x.regs 4) (reg x.regs 5)))
     (regs_home P a p x (calls.replied Reply.Done (behind x)).regs h)
     (begins_home P v a p x l dir (l.area.base + reg x.regs 3) (reg x.regs 4) (reg x.regs 5) over is h))
 
-moves_home : (P : Pid → Place → Type 0) (v : View) (a : Addresses) (p : Pid) (x : PlainProcess) (o : Option PlainLink) → link_at x.links (reg x.regs 1) ≡ o → P p (here v p) → HomeProcess P a p x → HomeCalled P v a p x calls.Move (calls.moves p (behind x) o)
+moves_home : (P : Pid → Place → Type 0) (v : View) (a : Addresses) (p : Pid) (x : PlainProcess) (o : Option PlainLink) → link_at x.links (reg x.regs 1) ≡ o → P p (acting_place v p) → HomeProcess P a p x → HomeCalled P v a p x calls.Move (calls.move_call p (behind x) o)
 moves_home P v a p x None over is h = regs_home P a p x (calls.replied Reply.NoLink (behind x)).regs h
 moves_home P v a p x (Some l) over is h = moves_over_home P v a p x l (direction_numbered (reg x.regs 2)) over is h
 
-does_call_home : (P : Pid → Place → Type 0) (v : View) (a : Addresses) (p : Pid) (x : PlainProcess) (n : CallNumber) → P p (here v p) → HomeProcess P a p x → HomeCalled P v a p x n (calls.does_call p (behind x) n)
+does_call_home : (P : Pid → Place → Type 0) (v : View) (a : Addresses) (p : Pid) (x : PlainProcess) (n : CallNumber) → P p (acting_place v p) → HomeProcess P a p x → HomeCalled P v a p x n (calls.does_call p (behind x) n)
 does_call_home P v a p x calls.Out is h = regs_home P a p x (calls.replied Reply.Done (behind x)).regs h
 does_call_home P v a p x calls.Make is h = makes_by P v a p x (nat_lt 7 (reg x.regs 3)) (nat_lt 31 (reg x.regs 2) || calls.is_outside x (reg x.regs 4) (reg x.regs 5)) is h
 does_call_home P v a p x calls.Copy is h = copies_home P v a p x (link_at x.links (reg x.regs 1)) refl h
@@ -226,11 +226,11 @@ does_call_home P v a p x calls.Move is h = moves_home P v a p x (link_at x.links
 does_call_home P v a p x _ is h = tt
 
 -- what comes next of a process that executes
-abbrev pub HomeNext : (Pid → Place → Type 0) → View → Addresses → Pid → PlainProcess → kernel.Next → Type 0
+abbrev pub HomeNext : (Pid → Place → Type 0) → View → Addresses → Pid → PlainProcess → kernel.Trap → Type 0
 HomeNext P v a p x (kernel.Calls number called) = HomeCalled P v a p x (calls.call_number number) called
 HomeNext P v a p x (kernel.Faults fault) = ⊤
 
-next_row_home : (P : Pid → Place → Type 0) (v : View) (a : Addresses) (p : Pid) (x : PlainProcess) (w : Row) (n : kernel.Next) → instruction x.regs x.memory ≡ w → kernel.next_row p x w ≡ Some n → P p (here v p) → HomeProcess P a p x → HomeNext P v a p x n
+next_row_home : (P : Pid → Place → Type 0) (v : View) (a : Addresses) (p : Pid) (x : PlainProcess) (w : Row) (n : kernel.Trap) → instruction x.regs x.memory ≡ w → kernel.next_row p x w ≡ Some n → P p (acting_place v p) → HomeProcess P a p x → HomeNext P v a p x n
 next_row_home P v a p x (Row.Plain regs bytes) n w e is h = cc
 next_row_home P v a p x (Row.Calls number regs) n w e is h =
     let f : regs ≡ past x.regs = past_call x.regs x.memory number regs w in
@@ -238,12 +238,12 @@ next_row_home P v a p x (Row.Calls number regs) n w e is h =
     subst (HomeNext P v a p x) (ap (λ (r : Regs). kernel.Calls number (calls.call p (record x { regs = r }) number)) (sym f) ∙ g) (does_call_home P v a p x (calls.call_number number) is h)
 next_row_home P v a p x (Row.Faults fault) n w e is h = let g : kernel.Faults fault ≡ n = cc in subst (HomeNext P v a p x) g tt
 
-pub record Nexts (P : Pid → Place → Type 0) (v : View) (s : OneKernel) (a : Addresses) (p : Pid) (n : kernel.Next) : Type 0 where
+pub record Nexts (P : Pid → Place → Type 0) (v : View) (s : OneKernel) (a : Addresses) (p : Pid) (n : kernel.Trap) : Type 0 where
   pub x : PlainProcess
   pub running : kernel.running s p ≡ Some x
   pub home : HomeNext P v a p x n
 
-pub next_home : (P : Pid → Place → Type 0) (v : View) (s : OneKernel) (a : Addresses) (p : Pid) (n : kernel.Next) → AtHome P s a → P p (here v p) → kernel.next s p ≡ Some n → Nexts P v s a p n
+pub next_home : (P : Pid → Place → Type 0) (v : View) (s : OneKernel) (a : Addresses) (p : Pid) (n : kernel.Trap) → AtHome P s a → P p (acting_place v p) → kernel.next_trap s p ≡ Some n → Nexts P v s a p n
 next_home P v s a p n h is e =
     let (x, running, row_is) = bind-is (kernel.running s p) (λ (w : PlainProcess). kernel.next_row p w (instruction w.regs w.memory)) n e in
     record { x = x; running = running; home = next_row_home P v a p x (instruction x.regs x.memory) n refl row_is is (running_home P s a p x h running) }

@@ -1,7 +1,7 @@
 -- A group keeps all of it where its first part is said where it belongs.
 use Rattle.dm_rule.proofs.Names.{◌≡◌, ℕ, zero, suc, ◌+◌, ◌==◌, Bool, true, false, List, [], ◌∷◌, ◌++◌, length, refl, ap, ◌∙◌, sym, subst, ◌⊎◌, inl, inr, ⊤, if◌then◌else◌, Option, None, Some, Pid, MsgId, Boot, Label, OneKernel, bind}
-use Rattle.dm_rule.proofs.Names.{bind-is, Line, Load, View, Pair, queued_for, handled, Point, after, after_line, moved, Part, Says, Transmits, Spelled, behind, spelled, lines_of, slice_get, ◌-◌, nat_lt, window, Step, actor, begins, marked}
-use Rattle.dm_rule.proofs.Names.{Sent, NothingElse, group_of, outcome, headed, IsStill}
+use Rattle.dm_rule.proofs.Names.{bind-is, Line, Load, View, Pair, queued_for, handled, Point, after, after_line, moved, Part, Says, Transmits, Spelled, behind, spelled, lines_of, slice_get, ◌-◌, nat_lt, pair_window, Step, actor, begins}
+use Rattle.dm_rule.proofs.Names.{marked, SentLoad, NothingElse, group_of, outcome, headed, IsStill}
 use Rattle.dm_rule.specs.View as view
 use Rattle.dm_rule.proofs.Homes.Labels.{SaidAt, RingsHome, rings_same}
 use Rattle.dm_rule.proofs.Homes.Lists.{stands, queue_lists}
@@ -107,20 +107,20 @@ resends_good m n v (suc b) =
     let ns = rule.numbers_from (v.pair n b).acked ((v.pair n b).gone - (v.pair n b).acked) in
     parts_append m (rule.resends v n b) (if n == b then [] else rule.repeats n b ns) (resends_good m n v b) (if_parts m (n == b) [] (rule.repeats n b ns) tt (repeats_good m n b ns))
 
-takes_good : (m a b : ℕ) (ns : List ℕ) → PartsAnywhere m (rule.takes a b ns)
+takes_good : (m a b : ℕ) (ns : List ℕ) → PartsAnywhere m (rule.taking_parts a b ns)
 takes_good m a b [] = tt
 takes_good m a b (n ∷ ns) = (tt, takes_good m a b ns)
 
 comes_good : (m a b : ℕ) (p q : Pair) (l : Load) → PartsAnywhere m (rule.comes a b p q l)
 comes_good m a b p q (Load.Data n) =
-    let ns = rule.kept_from p.kept (n + 1) window in
+    let ns = rule.kept_from p.kept (n + 1) pair_window in
     if_parts m (nat_lt n p.taken) (Says (Line.Old a b n) ∷ Transmits b a (Load.Ack p.taken) ∷ []) (if nat_lt p.taken n then Says (Line.Early a b n) ∷ Transmits b a (Load.Ack p.taken) ∷ [] else rule.takes_on a b n ns)
     (tt, (tt, tt))
     (if_parts m (nat_lt p.taken n) (Says (Line.Early a b n) ∷ Transmits b a (Load.Ack p.taken) ∷ []) (rule.takes_on a b n ns) (tt, (tt, tt))
-    (parts_append m (rule.takes a b (n ∷ ns)) (Transmits b a (Load.Ack (n + 1 + length ns)) ∷ []) (takes_good m a b (n ∷ ns)) (tt, tt)))
+    (parts_append m (rule.taking_parts a b (n ∷ ns)) (Transmits b a (Load.Ack (n + 1 + length ns)) ∷ []) (takes_good m a b (n ∷ ns)) (tt, tt)))
 comes_good m a b p q (Load.Ack n) = (tt, repeats_good m b a (rule.let_go q (rule.more n q.acked)))
 
-pub arrives_good : (m a b : ℕ) (p q : Pair) (o : Option Sent) → PartsAnywhere m (rule.arrives a b p q o)
+pub arrives_good : (m a b : ℕ) (p q : Pair) (o : Option SentLoad) → PartsAnywhere m (rule.arrives a b p q o)
 arrives_good m a b p q None = (tt, tt)
 arrives_good m a b p q (Some s) = comes_good m a b p q s.load
 
@@ -131,7 +131,7 @@ anywhere_good s e m (p ∷ ps) h = (inl h.0, h.1)
 pub tick_keeps : NoneReplaced → (b : Boot) (r e : MsgId → ℕ) (pt : Point) (m : ℕ) (w : Spelled) → group_of b pt (Step.Tick m) ≡ Some w → Home r e pt → Kept m w.point
 tick_keeps none b r e pt m w is h =
     group_keeps none b r e pt (Step.Tick m) w tt is h
-    (λ ps comes. let f : Says (Line.Resent m (rule.outstanding pt.view m pt.kernel.machines)) ∷ rule.resends pt.view m pt.kernel.machines ≡ ps = cc in
+    (λ ps comes. let f : Says (Line.Resent m (rule.outstanding_count pt.view m pt.kernel.machines)) ∷ rule.resends pt.view m pt.kernel.machines ≡ ps = cc in
     subst (PartsGood pt.kernel e m) f (inl tt, resends_good m m pt.view pt.kernel.machines))
 
 pub deliver_keeps : NoneReplaced → (b : Boot) (r e : MsgId → ℕ) (pt : Point) (a c k : ℕ) (w : Spelled) → group_of b pt (Step.Deliver a c k) ≡ Some w → Home r e pt → Kept c w.point

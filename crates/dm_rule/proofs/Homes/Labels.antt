@@ -1,7 +1,7 @@
 -- Each label keeps addresses where they may be, as at homes, and what it does to the rings too.
 use Rattle.dm_rule.proofs.Names.{◌≡◌, ℕ, ◌==◌, ◌&&◌, Bool, true, false, not, List, [], ◌∷◌, ◌++◌, refl, ap, ◌∙◌, sym, inl, inr, arith, ⊤, if◌then◌else◌, filter, Option, None, Some, cases_Bool, nat_tests, Pid, Place, pid_eq, MsgId}
 use Rattle.dm_rule.proofs.Names.{MessageKind, Label, OneKernel, at_machine, at_record, without, moved_back, View, Told, Known, Here, Frozen, Incoming, Forward, after_label, served_told, kills, ended, handled, Addresses, given, gives}
-use Rattle.dm_rule.proofs.Names.{unmoved, here, are_home}
+use Rattle.dm_rule.proofs.Names.{unmoved, acting_place, are_home}
 use Rattle.dm_onekernel.specs.Step as kernel
 use Rattle.dm_rule.specs.View as view
 use Rattle.dm_rule.proofs.Homes.{IsHome, AtHome}
@@ -27,15 +27,15 @@ SaidAt s m (Label.Took id) = ReceivedAt s m id
 SaidAt s m (Label.Created id child) = ReceivedAt s m id × (child.home ≡ m)
 SaidAt s m (Label.NoSpace id f b) = ReceivedAt s m id
 
-here_home : (v : View) (p : Pid) → ((q : Pid) → v.moves q ≡ 0) → p.home ≡ v.acting → here v p ≡ unmoved p.home
+here_home : (v : View) (p : Pid) → ((q : Pid) → v.moves q ≡ 0) → p.home ≡ v.acting → acting_place v p ≡ unmoved p.home
 here_home v p still at = ap (λ (n : ℕ). record { at = v.acting; moves = n }) (still p) ∙ ap unmoved (sym at)
 
 -- a label is said where its process is, where its message's receiver is or has ended, or at a server's or a kernel's home
 abbrev pub SaidOn : (Pid → Place → Type 0) → OneKernel → View → Addresses → Label → Type 0
-SaidOn P s v a (Label.Call p n c) = P p (here v p)
-SaidOn P s v a (Label.Send p id) = P p (here v p)
-SaidOn P s v a (Label.Wait p) = P p (here v p)
-SaidOn P s v a (Label.Out p w) = P p (here v p)
+SaidOn P s v a (Label.Call p n c) = P p (acting_place v p)
+SaidOn P s v a (Label.Send p id) = P p (acting_place v p)
+SaidOn P s v a (Label.Wait p) = P p (acting_place v p)
+SaidOn P s v a (Label.Out p w) = P p (acting_place v p)
 SaidOn P s v a (Label.Served id) = ServedAt P s v id
 SaidOn P s v a (Label.Gone id) = EndedAt P s v a id
 SaidOn P s v a (Label.Took id) = ReceivedAt s v.acting id

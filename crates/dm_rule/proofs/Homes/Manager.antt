@@ -1,7 +1,7 @@
 -- What the process manager does keeps addresses where they may be.
 use Rattle.dm_rule.proofs.Names.{◌≡◌, ℕ, zero, suc, ◌+◌, ◌==◌, ◌&&◌, Bool, true, false, List, [], ◌∷◌, ◌++◌, refl, ap, ◌∙◌, sym, subst, inl, inr, arith, nat_lt, length, if◌then◌else◌, slice_get, Option, None, Some, nat_tests, Pid, Place}
 use Rattle.dm_rule.proofs.Names.{pid_eq, PlainLink, MsgId, id_eq, id_of, Label, PlainMessage, PlainWhat, bind, OneKernel, without_message, id_eq-same, bind-is, View, Addresses, Gets, gets, given, gives, Receiver, Sender, Enclosed, unmoved}
-use Rattle.dm_rule.proofs.Names.{pid_of, ◌*◌, Pending, Manager, switchboard, manager, Child, Name, Answer, encloses, enclosed_from, board_takes, manager_sends, manager_answers, manager_takes, links_in, ascends}
+use Rattle.dm_rule.proofs.Names.{pid_of, ◌*◌, Pending, Manager, switchboard, manager, Child, Name, Answer, encloses, enclosed_from, board_gets, manager_sends, manager_answers, manager_gets, links_in, ascends}
 use Rattle.dm_onekernel.specs.Step as kernel
 use Rattle.dm_rule.specs.Addresses as addresses
 use Rattle.dm_onekernel.specs.Service as service
@@ -12,13 +12,13 @@ use Rattle.dm_rule.proofs.Homes.Rows.{SameProcess, SameMessage, sent_home, at_ho
 use Rattle.dm_rule.proofs.Homes.Serves.{two, two_sends, Named, ReceivedAt}
 use Rattle.dm_rule.proofs.Homes.Servers.{get_last, ascends_more, ascends_last, ascends_without, numbered_from, pending_last, still_pending, board_row}
 
-abbrev TookAt : (Pid → Place → Type 0) → OneKernel → View → Addresses → MsgId → MsgId → ℕ → manage.Took → Type 0
+abbrev TookAt : (Pid → Place → Type 0) → OneKernel → View → Addresses → MsgId → MsgId → ℕ → manage.ManagerTook → Type 0
 TookAt P s v a id mid code k = AtHome P (service.manager_took s id k) (given a (manager_sends v a mid code k.message))
 
 abbrev LinksHome : (Pid → Place → Type 0) → Addresses → MsgId → List PlainLink → Type 0
 LinksHome P a id links = (n : ℕ) (w : PlainLink) → slice_get links n ≡ Some w → P w.to (a (Enclosed id n))
 
-took_if : (P : Pid → Place → Type 0) (s : OneKernel) (v : View) (a : Addresses) (id mid : MsgId) (code : ℕ) (b : Bool) (k l : manage.Took) → TookAt P s v a id mid code k → TookAt P s v a id mid code l → TookAt P s v a id mid code (if b then k else l)
+took_if : (P : Pid → Place → Type 0) (s : OneKernel) (v : View) (a : Addresses) (id mid : MsgId) (code : ℕ) (b : Bool) (k l : manage.ManagerTook) → TookAt P s v a id mid code k → TookAt P s v a id mid code l → TookAt P s v a id mid code (if b then k else l)
 took_if P s v a id mid code true k l h j = h
 took_if P s v a id mid code false k l h j = j
 
@@ -88,7 +88,7 @@ wants_home P s v a id mid code machine image (l ∷ ls) en at h =
     (asks_for_home P s v a id mid code machine image l ls en at h) (bad_home P s v a id mid code (l ∷ ls) en at h)
 
 requests_home : (P : Pid → Place → Type 0) (s : OneKernel) (v : View) (a : Addresses) (id mid : MsgId) (code : ℕ) (body : List ℕ) (links : List PlainLink) → LinksHome P a mid links → v.acting ≡ 0 → AtHome P s a
-    → TookAt P s v a id mid code (manage.requests s.manager s.machines (length s.images) body links)
+    → TookAt P s v a id mid code (manage.requests_child s.manager s.machines (length s.images) body links)
 requests_home P s v a id mid code (b ∷ c ∷ d ∷ e ∷ []) links en at h =
     took_if P s v a id mid code (b == 1) (manage.wants_child s.manager s.machines (length s.images) c (256 * d + e) links) (manage.bad_request s.manager links)
     (wants_home P s v a id mid code c (256 * d + e) links en at h) (bad_home P s v a id mid code links en at h)
@@ -102,7 +102,7 @@ tells_home P s v a id code child w none to at h =
     (counted P s a id h) none to (acts_at P manager v.acting (h.rooted manager) at)
 
 control_by : (P : Pid → Place → Type 0) (s : OneKernel) (v : View) (a : Addresses) (id mid : MsgId) (code : ℕ) (child : Pid) (b c d : Bool) (links : List PlainLink) → P child (a (Child code)) → LinksHome P a mid links → v.acting ≡ 0 → AtHome P s a
-    → TookAt P s v a id mid code (manage.controls_child s.manager child (if b then Some PlainWhat.Stop else if c then Some PlainWhat.Resume else if d then Some PlainWhat.Kill else None) links)
+    → TookAt P s v a id mid code (manage.tells_child s.manager child (if b then Some PlainWhat.Stop else if c then Some PlainWhat.Resume else if d then Some PlainWhat.Kill else None) links)
 control_by P s v a id mid code child true c d links to en at h = tells_home P s v a id code child PlainWhat.Stop refl to at h
 control_by P s v a id mid code child false true d links to en at h = tells_home P s v a id code child PlainWhat.Resume refl to at h
 control_by P s v a id mid code child false false true links to en at h = tells_home P s v a id code child PlainWhat.Kill refl to at h
@@ -117,7 +117,7 @@ controls_home P s v a id mid code _ _ links is en at h = bad_home P s v a id mid
 user_home : (P : Pid → Place → Type 0) (s : OneKernel) (v : View) (a : Addresses) (id mid : MsgId) (code : ℕ) (body : List ℕ) (links : List PlainLink) → LinksHome P a mid links → v.acting ≡ 0 → AtHome P s a
     → TookAt P s v a id mid code (manage.takes_user s.manager s.machines (length s.images) code body links)
 user_home P s v a id mid code body links en at h =
-    took_if P s v a id mid code (code == 0) (manage.requests s.manager s.machines (length s.images) body links) (manage.controls s.manager (manage.child_numbered s.manager.children code) body links)
+    took_if P s v a id mid code (code == 0) (manage.requests_child s.manager s.machines (length s.images) body links) (manage.controls s.manager (manage.child_numbered s.manager.children code) body links)
     (requests_home P s v a id mid code body links en at h) (controls_home P s v a id mid code (manage.child_numbered s.manager.children code) body links refl en at h)
 
 -- an answer about a child
@@ -133,7 +133,7 @@ enclosed_one P a sent pl ls h k w e =
 answers_home : (P : Pid → Place → Type 0) (s : OneKernel) (v : View) (a c : Addresses) (id : MsgId) (n : ℕ) (r : Pending) (g : Manager) (byte : ℕ) (ls : List PlainLink) → manage.pending_numbered n s.manager.pending ≡ Some r → v.acting ≡ 0 → AtHome P s a
     → ((k : ℕ) (w : PlainLink) → slice_get ls k ≡ Some w → (k ≡ 0) × (P w.to (unmoved v.acting))) → g.sent ≡ s.manager.sent → g.pending ≡ manage.without_pending n s.manager.pending
     → ((q : Pid) → SameProcess a c q) → ((i : MsgId) → SameMessage a c i) → ((k : ℕ) → c (Name k) ≡ a (Name k)) → ((k : ℕ) → c (Answer k) ≡ a (Answer k)) → ((k : ℕ) (q : Pid) → manage.child_numbered g.children k ≡ Some q → P q (c (Child k)))
-    → AtHome P (service.manager_took s id (manage.answers g r.answer byte ls)) (given c (gets (Receiver (id_of manager g.sent)) (a (Answer n)) ∷ gets (Sender (id_of manager g.sent)) (unmoved v.acting) ∷ gets (Enclosed (id_of manager g.sent) 0) (unmoved v.acting) ∷ []))
+    → AtHome P (service.manager_took s id (manage.answers_byte g r.answer byte ls)) (given c (gets (Receiver (id_of manager g.sent)) (a (Answer n)) ∷ gets (Sender (id_of manager g.sent)) (unmoved v.acting) ∷ gets (Enclosed (id_of manager g.sent) 0) (unmoved v.acting) ∷ []))
 answers_home P s v a c id n r g byte ls there at h one count pending process message name answer child =
     let sent = id_of manager g.sent in
     let from = unmoved v.acting in
@@ -181,17 +181,17 @@ one_link : (P : Pid → Place → Type 0) (place : Place) (l : PlainLink) → P 
 one_link P place l at zero w e = let f : l ≡ w = cc in (refl, pid_as P (ap (λ (u : PlainLink). u.to) f) at)
 one_link P place l at (suc k) w e = absurd (let f : None ≡ Some w = e in cc)
 
-created_by : (P : Pid → Place → Type 0) (s : OneKernel) (v : View) (a : Addresses) (id : MsgId) (m : PlainMessage) (child : Pid) (o : Option Pending) (k : manage.Took) → manage.pending_numbered m.id.n s.manager.pending ≡ o → manage.takes_created s.manager m.id.n child o ≡ Some k
+created_by : (P : Pid → Place → Type 0) (s : OneKernel) (v : View) (a : Addresses) (id : MsgId) (m : PlainMessage) (child : Pid) (o : Option Pending) (k : manage.ManagerTook) → manage.pending_numbered m.id.n s.manager.pending ≡ o → manage.takes_created s.manager m.id.n child o ≡ Some k
     → v.acting ≡ 0 → AtHome P s a → AtHome P (service.manager_took s id k) (given a (gets (Child (length s.manager.children + 1)) (unmoved child.home) ∷ manager_answers v a m.id.n k.message))
 created_by P s v a id m child None k is e at h = cc
 created_by P s v a id m child (Some r) k is e at h =
     let g = record s.manager { children = s.manager.children ++ child ∷ []; pending = manage.without_pending m.id.n s.manager.pending } in
     let l = manage.control_link (length s.manager.children + 1) in
-    let f : manage.answers g r.answer 0 (l ∷ []) ≡ k = cc in
+    let f : manage.answers_byte g r.answer 0 (l ∷ []) ≡ k = cc in
     let c = given a (gets (Child (length s.manager.children + 1)) (unmoved child.home) ∷ []) in
     let w = answers_home P s v a c id m.id.n r g 0 (l ∷ []) is at h (one_link P (unmoved v.acting) l (acts_at P l.to v.acting (h.rooted l.to) at)) refl refl (λ q. record { slot = λ i. refl; owner = refl }) (λ i. record { receiver = refl; sender = refl; enclosed = λ j. refl }) (λ i. refl) (λ i. refl)
     (λ n q there. child_last P s.manager.children child n q a (h.rooted child) h.children there) in
-    let u : AtHome P (service.manager_took s id (manage.answers g r.answer 0 (l ∷ []))) (given a (gets (Child (length s.manager.children + 1)) (unmoved child.home) ∷ manager_answers v a m.id.n (manage.answers g r.answer 0 (l ∷ [])).message)) =
+    let u : AtHome P (service.manager_took s id (manage.answers_byte g r.answer 0 (l ∷ []))) (given a (gets (Child (length s.manager.children + 1)) (unmoved child.home) ∷ manager_answers v a m.id.n (manage.answers_byte g r.answer 0 (l ∷ [])).message)) =
     record {
       processes = λ q x there. let z = w.processes q x there in record { slots = z.slots; owner = z.owner };
       messages = λ i x there. let z = w.messages i x there in record { receiver = z.receiver; sender = z.sender; enclosed = z.enclosed };
@@ -201,20 +201,20 @@ created_by P s v a id m child (Some r) k is e at h =
       rooted = w.rooted;
       pending = w.pending;
     } in
-    subst (λ (t : manage.Took). AtHome P (service.manager_took s id t) (given a (gets (Child (length s.manager.children + 1)) (unmoved child.home) ∷ manager_answers v a m.id.n t.message))) f u
+    subst (λ (t : manage.ManagerTook). AtHome P (service.manager_took s id t) (given a (gets (Child (length s.manager.children + 1)) (unmoved child.home) ∷ manager_answers v a m.id.n t.message))) f u
 
-no_room_by : (P : Pid → Place → Type 0) (s : OneKernel) (v : View) (a : Addresses) (id : MsgId) (n : ℕ) (o : Option Pending) (k : manage.Took) → manage.pending_numbered n s.manager.pending ≡ o → manage.takes_no_room s.manager n o ≡ Some k
+no_room_by : (P : Pid → Place → Type 0) (s : OneKernel) (v : View) (a : Addresses) (id : MsgId) (n : ℕ) (o : Option Pending) (k : manage.ManagerTook) → manage.pending_numbered n s.manager.pending ≡ o → manage.takes_no_room s.manager n o ≡ Some k
     → v.acting ≡ 0 → AtHome P s a → AtHome P (service.manager_took s id k) (given a (manager_answers v a n k.message))
 no_room_by P s v a id n None k is e at h = cc
 no_room_by P s v a id n (Some r) k is e at h =
     let g = record s.manager { pending = manage.without_pending n s.manager.pending } in
-    let f : manage.answers g r.answer 1 [] ≡ k = cc in
+    let f : manage.answers_byte g r.answer 1 [] ≡ k = cc in
     let w = answers_home P s v a a id n r g 1 [] is at h (λ i x there. absurd (let z : None ≡ Some x = there in cc)) refl refl (λ q. record { slot = λ i. refl; owner = refl }) (λ i. record { receiver = refl; sender = refl; enclosed = λ j. refl }) (λ i. refl) (λ i. refl) h.children in
-    subst (λ (t : manage.Took). AtHome P (service.manager_took s id t) (given a (manager_answers v a n t.message))) f w
+    subst (λ (t : manage.ManagerTook). AtHome P (service.manager_took s id t) (given a (manager_answers v a n t.message))) f w
 
 manager_row : (P : Pid → Place → Type 0) (s t : OneKernel) (v : View) (a : Addresses) (id : MsgId) (m : PlainMessage) (w : PlainWhat) → m.what ≡ w → m.id ≡ id → s.bag id ≡ Some m → v.acting ≡ 0 → AtHome P s a
-    → bind (manage.takes s.manager s.machines (length s.images) m w) (λ (k : manage.Took). Some (service.manager_took s id k)) ≡ Some t
-    → AtHome P t (given a (manager_takes s v a m w (manage.takes s.manager s.machines (length s.images) m w)))
+    → bind (manage.manager_takes s.manager s.machines (length s.images) m w) (λ (k : manage.ManagerTook). Some (service.manager_took s id k)) ≡ Some t
+    → AtHome P t (given a (manager_gets s v a m w (manage.manager_takes s.manager s.machines (length s.images) m w)))
 manager_row P s t v a id m (PlainWhat.User code channel body links) is name there at h e =
     let k = manage.takes_user s.manager s.machines (length s.images) code body links in
     let f : service.manager_took s id k ≡ t = cc in
@@ -223,23 +223,23 @@ manager_row P s t v a id m (PlainWhat.User code channel body links) is name ther
     (user_home P s v a id m.id code body links (λ n w g. place_as P (ap (λ (i : MsgId). a (Enclosed i n)) name) (hm.enclosed n w (ap (λ (x : PlainWhat). slice_get (links_in x) n) is ∙ g))) at h)
 manager_row P s t v a id m (PlainWhat.Created child) is name there at h e =
     let o = manage.takes_created s.manager m.id.n child (manage.pending_numbered m.id.n s.manager.pending) in
-    let (k, took, last) = bind-is o (λ (x : manage.Took). Some (service.manager_took s id x)) t e in
+    let (k, took, last) = bind-is o (λ (x : manage.ManagerTook). Some (service.manager_took s id x)) t e in
     let f : service.manager_took s id k ≡ t = cc in
-    subst (λ (u : OneKernel). AtHome P u (given a (manager_takes s v a m (PlainWhat.Created child) o))) f
-    (subst (λ (p : Option manage.Took). AtHome P (service.manager_took s id k) (given a (manager_takes s v a m (PlainWhat.Created child) p))) (sym took) (created_by P s v a id m child (manage.pending_numbered m.id.n s.manager.pending) k refl took at h))
+    subst (λ (u : OneKernel). AtHome P u (given a (manager_gets s v a m (PlainWhat.Created child) o))) f
+    (subst (λ (p : Option manage.ManagerTook). AtHome P (service.manager_took s id k) (given a (manager_gets s v a m (PlainWhat.Created child) p))) (sym took) (created_by P s v a id m child (manage.pending_numbered m.id.n s.manager.pending) k refl took at h))
 manager_row P s t v a id m PlainWhat.NoRoom is name there at h e =
     let o = manage.takes_no_room s.manager m.id.n (manage.pending_numbered m.id.n s.manager.pending) in
-    let (k, took, last) = bind-is o (λ (x : manage.Took). Some (service.manager_took s id x)) t e in
+    let (k, took, last) = bind-is o (λ (x : manage.ManagerTook). Some (service.manager_took s id x)) t e in
     let f : service.manager_took s id k ≡ t = cc in
-    subst (λ (u : OneKernel). AtHome P u (given a (manager_takes s v a m PlainWhat.NoRoom o))) f
-    (subst (λ (p : Option manage.Took). AtHome P (service.manager_took s id k) (given a (manager_takes s v a m PlainWhat.NoRoom p))) (sym took) (no_room_by P s v a id m.id.n (manage.pending_numbered m.id.n s.manager.pending) k refl took at h))
+    subst (λ (u : OneKernel). AtHome P u (given a (manager_gets s v a m PlainWhat.NoRoom o))) f
+    (subst (λ (p : Option manage.ManagerTook). AtHome P (service.manager_took s id k) (given a (manager_gets s v a m PlainWhat.NoRoom p))) (sym took) (no_room_by P s v a id m.id.n (manage.pending_numbered m.id.n s.manager.pending) k refl took at h))
 manager_row P s t v a id m _ is name there at h e = cc
 
 takes_by : (P : Pid → Place → Type 0) (s t : OneKernel) (v : View) (a : Addresses) (id : MsgId) (m : PlainMessage) (b c : Bool) → pid_eq m.to switchboard ≡ b → pid_eq m.to manager ≡ c → m.id ≡ id → s.bag id ≡ Some m → m.to.home ≡ v.acting → AtHome P s a
-    → (if b then bind (board.takes s.switchboard m m.what) (λ (k : board.Took). Some (service.switchboard_took s id k))
-    else if c then bind (manage.takes s.manager s.machines (length s.images) m m.what) (λ (k : manage.Took). Some (service.manager_took s id k))
+    → (if b then bind (board.board_takes s.switchboard m m.what) (λ (k : board.BoardTook). Some (service.switchboard_took s id k))
+    else if c then bind (manage.manager_takes s.manager s.machines (length s.images) m m.what) (λ (k : manage.ManagerTook). Some (service.manager_took s id k))
     else None) ≡ Some t
-    → AtHome P t (given a (if b then board_takes s v a id m.what else manager_takes s v a m m.what (manage.takes s.manager s.machines (length s.images) m m.what)))
+    → AtHome P t (given a (if b then board_gets s v a id m.what else manager_gets s v a m m.what (manage.manager_takes s.manager s.machines (length s.images) m m.what)))
 takes_by P s t v a id m true c is as_ name there at h e = board_row P s t v a id m m.what refl there (let f : v.acting ≡ 0 = grind (arith, nat_tests) in f) h e
 takes_by P s t v a id m false true is as_ name there at h e = manager_row P s t v a id m m.what refl name there (let f : v.acting ≡ 0 = grind (arith, nat_tests) in f) h e
 takes_by P s t v a id m false false is as_ name there at h e = cc
@@ -247,5 +247,5 @@ takes_by P s t v a id m false false is as_ name there at h e = cc
 pub took_home : (P : Pid → Place → Type 0) (s t : OneKernel) (v : View) (a : Addresses) (id : MsgId) → kernel.step s (Label.Took id) ≡ Some t → Named s → ReceivedAt s v.acting id → AtHome P s a → AtHome P t (given a (gives s v a (Label.Took id)))
 took_home P s t v a id is named at h =
     let (m, there, rest) = bind-is (s.bag id) (service.takes s id) t is in
-    subst (λ (gs : List Gets). AtHome P t (given a gs)) (ap (addresses.takes s v a id) (sym there))
+    subst (λ (gs : List Gets). AtHome P t (given a gs)) (ap (addresses.taking_gets s v a id) (sym there))
     (takes_by P s t v a id m (pid_eq m.to switchboard) (pid_eq m.to manager) refl refl (named id m there) there (at m there) h rest)

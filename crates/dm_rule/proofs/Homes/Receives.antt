@@ -43,7 +43,7 @@ pub is_empty : {L : Type 0} (slots : List (Option L)) (k : ℕ) → first_empty 
 is_empty slots k e = empty_if slots (position_or_len is_none slots) k (nat_lt (position_or_len is_none slots) (length slots)) refl (empty_at slots) e
 
 -- a link that stands in a slot stays while others are placed
-stays_step : (t : receiving.Placed) (r : ℕ) (l : PlainLink) (j : ℕ) (w : PlainLink) (o : Option ℕ) → first_empty t.links ≡ o → link_at t.links j ≡ Some w → link_at (receiving.place_into t r l o).links j ≡ Some w
+stays_step : (t : receiving.RegsAndLinks) (r : ℕ) (l : PlainLink) (j : ℕ) (w : PlainLink) (o : Option ℕ) → first_empty t.links ≡ o → link_at t.links j ≡ Some w → link_at (receiving.place_into t r l o).links j ≡ Some w
 stays_step t r l j w None is e = e
 stays_step t r l j w (Some slot) is e = elim (cases_Bool (slot == j)) [
   | inl same ↦
@@ -52,7 +52,7 @@ stays_step t r l j w (Some slot) is e = elim (cases_Bool (slot == j)) [
   | inr apart ↦ set_off t.links slot j (Some l) apart ∙ e
 ]
 
-stays : (ls : List PlainLink) (t : receiving.Placed) (r : ℕ) (j : ℕ) (w : PlainLink) → link_at t.links j ≡ Some w → link_at (receiving.place_links t r ls).links j ≡ Some w
+stays : (ls : List PlainLink) (t : receiving.RegsAndLinks) (r : ℕ) (j : ℕ) (w : PlainLink) → link_at t.links j ≡ Some w → link_at (receiving.place_links t r ls).links j ≡ Some w
 stays [] t r j w e = e
 stays (l ∷ ls) t r j w e = stays ls (receiving.place_into t r l (first_empty t.links)) (r + 1) j w (stays_step t r l j w (first_empty t.links) refl e)
 
@@ -66,10 +66,10 @@ after_first P a id n l ls h k j w e f = h (suc k) j w e (omega (arith, f))
 -- each placed link has the place that it had in the message, and the others have theirs
 abbrev PlacedHome : (Pid → Place → Type 0) → Addresses → Pid → MsgId → List PlainLink → Type 0
 PlacedHome P a p id ls =
-    (n r : ℕ) (t : receiving.Placed) (j : ℕ) (w : PlainLink) → EnclosedHome P a id n ls → (link_at t.links j ≡ Some w → P w.to (a (Slot p j)))
+    (n r : ℕ) (t : receiving.RegsAndLinks) (j : ℕ) (w : PlainLink) → EnclosedHome P a id n ls → (link_at t.links j ≡ Some w → P w.to (a (Slot p j)))
     → link_at (receiving.place_links t r ls).links j ≡ Some w → P w.to (given a (receives_links a p id n t.links ls) (Slot p j))
 
-placed_step : (P : Pid → Place → Type 0) (a : Addresses) (p : Pid) (id : MsgId) (l : PlainLink) (ls : List PlainLink) (n r : ℕ) (t : receiving.Placed) (j : ℕ) (w : PlainLink) (o : Option ℕ) → PlacedHome P a p id ls → first_empty t.links ≡ o → EnclosedHome P a id n (l ∷ ls)
+placed_step : (P : Pid → Place → Type 0) (a : Addresses) (p : Pid) (id : MsgId) (l : PlainLink) (ls : List PlainLink) (n r : ℕ) (t : receiving.RegsAndLinks) (j : ℕ) (w : PlainLink) (o : Option ℕ) → PlacedHome P a p id ls → first_empty t.links ≡ o → EnclosedHome P a id n (l ∷ ls)
     → (link_at t.links j ≡ Some w → P w.to (a (Slot p j))) → link_at (receiving.place_links (receiving.place_into t r l o) (r + 1) ls).links j ≡ Some w
     → P w.to (given a (fills p o (a (Enclosed id n)) ++ receives_links a p id (n + 1) (slot_after t.links l o) ls) (Slot p j))
 placed_step P a p id l ls n r t j w None rest is en old e = rest (n + 1) (r + 1) t j w (after_first P a id n l ls en) old e
@@ -122,7 +122,7 @@ ready_home : (P : Pid → Place → Type 0) (a : Addresses) (p : Pid) (x : Plain
 ready_home P a p x regs h = record { slots = h.slots; owner = λ q e. absurd (let f : None ≡ Some q = e in cc) }
 
 completes_home : (P : Pid → Place → Type 0) (a : Addresses) (p : Pid) (id : MsgId) (x : PlainProcess) (base code channel : ℕ) (body : List ℕ) (links : List PlainLink) (o : Option Reply) → HomeProcess P a p x → EnclosedHome P a id 0 links
-    → HomeCompleted P a p id x (PlainWhat.User code channel body links) (receiving.completes_unless o x (receiving.receives x base code channel body links))
+    → HomeCompleted P a p id x (PlainWhat.User code channel body links) (receiving.completes_unless o x (receiving.with_received x base code channel body links))
 completes_home P a p id x base code channel body links (Some c) h en = ready_home P a p x (setting x.regs 0 (reply_code c)) h
 completes_home P a p id x base code channel body links None h en = record {
   process = record {
@@ -178,7 +178,7 @@ receive_row : (P : Pid → Place → Type 0) (s t : OneKernel) (v : View) (a : A
 receive_row P s t v a p id (receiving.Receives y) w e h =
     let eq : kernel.goes_on (without_message s id) p y ≡ t = cc in
     let gs = receives_what a p id w.x w.m.what in
-    let gs_is : gs ≡ gives s v a (Label.Receive p id) = ap (addresses.receives a p id (Some w.x)) (sym w.there) ∙ ap (λ (o : Option PlainProcess). addresses.receives a p id o (s.bag id)) (sym w.alive) in
+    let gs_is : gs ≡ gives s v a (Label.Receive p id) = ap (addresses.reception_gets a p id (Some w.x)) (sym w.there) ∙ ap (λ (o : Option PlainProcess). addresses.reception_gets a p id o (s.bag id)) (sym w.alive) in
     let o = w.home.only in
     subst (λ (u : OneKernel). AtHome P u (given a (gives s v a (Label.Receive p id)))) eq
     (subst (λ (g : List Gets). AtHome P (kernel.goes_on (without_message s id) p y) (given a g)) gs_is

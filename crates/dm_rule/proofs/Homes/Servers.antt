@@ -1,7 +1,7 @@
 -- What servers do keeps addresses where they may be.
 use Rattle.dm_rule.proofs.Names.{◌≡◌, ℕ, zero, suc, ◌+◌, ◌==◌, ◌&&◌, Bool, true, false, List, [], ◌∷◌, ◌++◌, refl, ap, ◌∙◌, sym, subst, ◌⊎◌, inl, inr, arith, nat_lt, nat_le, length, if◌then◌else◌, slice_get, Option, None, Some, cases_Bool}
 use Rattle.dm_rule.proofs.Names.{nat_tests, Pid, Place, PlainLink, MsgId, id_eq, id_of, PlainMessage, PlainWhat, bind, OneKernel, without_message, id_eq-same, View, Addresses, gets, given, Receiver, Sender, Enclosed, unmoved, NamedLink}
-use Rattle.dm_rule.proofs.Names.{Pending, switchboard, is_general, Child, Name, Answer, place_named, board_finds, board_keeps, board_takes, links_in, ascends}
+use Rattle.dm_rule.proofs.Names.{Pending, switchboard, is_general, Child, Name, Answer, place_named, board_finds, board_keeps, board_gets, links_in, ascends}
 use Rattle.dm_onekernel.specs.Service as service
 use Rattle.dm_onekernel.specs.Switchboard as board
 use Rattle.dm_onekernel.specs.Manager as manage
@@ -218,7 +218,7 @@ registers_home P a id sent names op name l None at h = record {
 to_register : (P : Pid → Place → Type 0) (a : Addresses) (id sent : MsgId) (names : List NamedLink) (op : ℕ) (name : List ℕ) (ls : List PlainLink) → ((n : ℕ) (w : PlainLink) → slice_get ls n ≡ Some w → P w.to (a (Enclosed id (suc n)))) → NamesHome P a names
     → AsksHome P a id sent names (op ∷ name) (board.asks_to_register names name ls)
 to_register P a id sent names op name (l ∷ []) en h =
-    asks_if P a id sent names (op ∷ name) (board.is_name name) (board.registers names name l) (board.bad_request names)
+    asks_if P a id sent names (op ∷ name) (board.is_name name) (board.registers_name names name l) (board.board_bad_request names)
     (asks_if P a id sent names (op ∷ name) (is_general l.kind) (board.registers_new names name l (board.link_named name names)) (record { names = names; answer = board.BadLink })
     (registers_home P a id sent names op name l (board.link_named name names) (en 0 l refl) h) (plain_asked P a sent names board.BadLink refl h))
     (plain_asked P a sent names board.BadRequest refl h)
@@ -226,19 +226,19 @@ to_register P a id sent names op name _ en h = plain_asked P a sent names board.
 
 to_look_up : (P : Pid → Place → Type 0) (a : Addresses) (id sent : MsgId) (names : List NamedLink) (op : ℕ) (name : List ℕ) (ls : List PlainLink) → NamesHome P a names → AsksHome P a id sent names (op ∷ name) (board.asks_to_look_up names name ls)
 to_look_up P a id sent names op name [] h =
-    asks_if P a id sent names (op ∷ name) (board.is_name name) (board.looks_up names name) (board.bad_request names) (looks_up_home P a id sent names op name (board.link_named name names) refl h) (plain_asked P a sent names board.BadRequest refl h)
+    asks_if P a id sent names (op ∷ name) (board.is_name name) (board.looks_up names name) (board.board_bad_request names) (looks_up_home P a id sent names op name (board.link_named name names) refl h) (plain_asked P a sent names board.BadRequest refl h)
 to_look_up P a id sent names op name (l ∷ ls) h = plain_asked P a sent names board.BadRequest refl h
 
 asks_home : (P : Pid → Place → Type 0) (a : Addresses) (id sent : MsgId) (names : List NamedLink) (body : List ℕ) (ls : List PlainLink) → ((n : ℕ) (w : PlainLink) → slice_get ls n ≡ Some w → P w.to (a (Enclosed id (suc n)))) → NamesHome P a names
     → AsksHome P a id sent names body (board.asks names body ls)
 asks_home P a id sent names [] ls en h = plain_asked P a sent names board.BadRequest refl h
 asks_home P a id sent names (op ∷ name) ls en h =
-    asks_if P a id sent names (op ∷ name) (op == 1) (board.asks_to_register names name ls) (if op == 2 then board.asks_to_look_up names name ls else board.bad_request names)
+    asks_if P a id sent names (op ∷ name) (op == 1) (board.asks_to_register names name ls) (if op == 2 then board.asks_to_look_up names name ls else board.board_bad_request names)
     (to_register P a id sent names op name ls en h)
-    (asks_if P a id sent names (op ∷ name) (op == 2) (board.asks_to_look_up names name ls) (board.bad_request names) (to_look_up P a id sent names op name ls h) (plain_asked P a sent names board.BadRequest refl h))
+    (asks_if P a id sent names (op ∷ name) (op == 2) (board.asks_to_look_up names name ls) (board.board_bad_request names) (to_look_up P a id sent names op name ls h) (plain_asked P a sent names board.BadRequest refl h))
 
 board_request : (P : Pid → Place → Type 0) (s : OneKernel) (v : View) (a : Addresses) (id : MsgId) (code channel : ℕ) (body : List ℕ) (links : List PlainLink) → ((n : ℕ) (w : PlainLink) → slice_get links n ≡ Some w → P w.to (a (Enclosed id n))) → v.acting ≡ 0 → AtHome P s a
-    → AtHome P (service.switchboard_took s id (board.takes_request s.switchboard body links)) (given a (board_takes s v a id (PlainWhat.User code channel body links)))
+    → AtHome P (service.switchboard_took s id (board.takes_request s.switchboard body links)) (given a (board_gets s v a id (PlainWhat.User code channel body links)))
 board_request P s v a id code channel body [] en at h =
     let u = at_home_out P s a id h in
     record { processes = u.processes; messages = u.messages; children = u.children; named = u.named; answers = u.answers; rooted = u.rooted; pending = u.pending }
@@ -269,10 +269,10 @@ board_request P s v a id code channel body (l ∷ ls) en at h =
     }
 
 pub board_row : (P : Pid → Place → Type 0) (s t : OneKernel) (v : View) (a : Addresses) (id : MsgId) (m : PlainMessage) (w : PlainWhat) → m.what ≡ w → s.bag id ≡ Some m → v.acting ≡ 0 → AtHome P s a
-    → bind (board.takes s.switchboard m w) (λ (k : board.Took). Some (service.switchboard_took s id k)) ≡ Some t → AtHome P t (given a (board_takes s v a id w))
+    → bind (board.board_takes s.switchboard m w) (λ (k : board.BoardTook). Some (service.switchboard_took s id k)) ≡ Some t → AtHome P t (given a (board_gets s v a id w))
 board_row P s t v a id m (PlainWhat.User code channel body links) is there at h e =
     let k : service.switchboard_took s id (board.takes_request s.switchboard body links) ≡ t = cc in
     let hm = h.messages id m there in
-    subst (λ (u : OneKernel). AtHome P u (given a (board_takes s v a id (PlainWhat.User code channel body links)))) k
+    subst (λ (u : OneKernel). AtHome P u (given a (board_gets s v a id (PlainWhat.User code channel body links)))) k
     (board_request P s v a id code channel body links (λ n w f. hm.enclosed n w (ap (λ (x : PlainWhat). slice_get (links_in x) n) is ∙ f)) at h)
 board_row P s t v a id m _ is there at h e = cc

@@ -1,8 +1,8 @@
 -- What kernels do with messages keeps addresses where they may be.
 use Rattle.dm_rule.proofs.Names.{◌≡◌, ℕ, zero, suc, ◌+◌, ◌==◌, ◌&&◌, Bool, true, false, List, [], ◌∷◌, ◌++◌, refl, ap, ◌∙◌, sym, subst, arith, nat_le, length, ⊤, if◌then◌else◌, map, slice_get, Option, None, Some, nat_tests, Pid, Place}
 use Rattle.dm_rule.proofs.Names.{pid_eq, PlainLink, link_at, MsgId, id_eq, Label, Why, PlainMessage, PlainWhat, Reply, bind, PlainProcess, PlainStatus, Moving, Alive, OneKernel, with_process, with_sent, without_message, pid_eq-same}
-use Rattle.dm_rule.proofs.Names.{id_eq-same, bind-is, when-is, View, Addresses, Gets, gets, given, gives, Slot, Owner, Receiver, Sender, Enclosed, unmoved, here, owner_in, replicate, ◌-◌, take, drop, Direction, BootImage, slots_of}
-use Rattle.dm_rule.proofs.Names.{first_number, answer_id, answer_to, begun, pid_of, answers, serves_what, lands, child_links, links_in}
+use Rattle.dm_rule.proofs.Names.{id_eq-same, bind-is, when-is, View, Addresses, Gets, gets, given, gives, Slot, Owner, Receiver, Sender, Enclosed, unmoved, acting_place, owner_in, replicate, ◌-◌, take, drop, Direction, BootImage, slots_of}
+use Rattle.dm_rule.proofs.Names.{first_number, answer_id, answer_to, begun, pid_of, answer_gets, serves_what, landing_gets, child_links, links_in}
 use Rattle.dm_onekernel.specs.Kernel.{Ended}
 use Rattle.dm_onekernel.specs.Step as kernel
 use Rattle.dm_rule.specs.Addresses as addresses
@@ -50,7 +50,7 @@ two_sends P s a m to from h none e f = record {
 
 -- an answer goes back, where the message's name is its own
 answer_sent : (P : Pid → Place → Type 0) (s u : OneKernel) (a : Addresses) (id : MsgId) (m : PlainMessage) (w : PlainWhat) (from : Place) → m.id ≡ id → s.bag id ≡ Some m → AtHome P s a → AtHome P u a → links_in w ≡ [] → P m.to from
-    → AtHome P (with_sent u (Some (answer_to m w))) (given a (answers a id from))
+    → AtHome P (with_sent u (Some (answer_to m w))) (given a (answer_gets a id from))
 answer_sent P s u a id m w from name there h k none is =
     subst (λ (i : MsgId). AtHome P (with_sent u (Some (answer_to m w))) (given a (two (answer_id i) (a (Sender id)) from))) name
     (two_sends P u a (answer_to m w) (a (Sender id)) from k none (h.messages id m there).sender is)
@@ -58,8 +58,8 @@ answer_sent P s u a id m w from name there h k none is =
 -- dropped
 pub dropped_home : (P : Pid → Place → Type 0) (s t : OneKernel) (a : Addresses) (id : MsgId) → kernel.step s (Label.Dropped id) ≡ Some t → AtHome P s a → AtHome P t a
 dropped_home P s t a id is h =
-    let (m, there, rest) = bind-is (s.bag id) (λ (w : PlainMessage). bind (kernel.ended (s.processes w.to)) (kernel.drops s id w)) t is in
-    let (y, gone, last) = bind-is (kernel.ended (s.processes m.to)) (kernel.drops s id m) t rest in
+    let (m, there, rest) = bind-is (s.bag id) (λ (w : PlainMessage). bind (kernel.why_ended (s.processes w.to)) (kernel.drops s id w)) t is in
+    let (y, gone, last) = bind-is (kernel.why_ended (s.processes m.to)) (kernel.drops s id m) t rest in
     let k = when-is (service.is_dropped m.what) (without_message s id) t last in
     subst (λ (u : OneKernel). AtHome P u a) k.1 (at_home_out P s a id h)
 
@@ -73,7 +73,7 @@ ReceivedAt s acting id = (m : PlainMessage) → s.bag id ≡ Some m → m.to.hom
 
 -- where the acting machine serves its receiver, or knows that it has ended
 abbrev pub ServedAt : (Pid → Place → Type 0) → OneKernel → View → MsgId → Type 0
-ServedAt P s v id = (m : PlainMessage) → s.bag id ≡ Some m → P m.to (here v m.to)
+ServedAt P s v id = (m : PlainMessage) → s.bag id ≡ Some m → P m.to (acting_place v m.to)
 
 abbrev pub EndedAt : (Pid → Place → Type 0) → OneKernel → View → Addresses → MsgId → Type 0
 EndedAt P s v a id = (m : PlainMessage) → s.bag id ≡ Some m → P m.to (record { at = v.acting; moves = (a (Receiver id)).moves })
@@ -81,19 +81,19 @@ EndedAt P s v a id = (m : PlainMessage) → s.bag id ≡ Some m → P m.to (reco
 -- gone
 pub gone_home : (P : Pid → Place → Type 0) (s t : OneKernel) (v : View) (a : Addresses) (id : MsgId) → kernel.step s (Label.Gone id) ≡ Some t → Named s → EndedAt P s v a id → AtHome P s a → AtHome P t (given a (gives s v a (Label.Gone id)))
 gone_home P s t v a id is named at h =
-    let (m, there, rest) = bind-is (s.bag id) (λ (w : PlainMessage). bind (kernel.ended (s.processes w.to)) (kernel.says_gone s id w)) t is in
-    let (y, gone, last) = bind-is (kernel.ended (s.processes m.to)) (kernel.says_gone s id m) t rest in
+    let (m, there, rest) = bind-is (s.bag id) (λ (w : PlainMessage). bind (kernel.why_ended (s.processes w.to)) (kernel.says_gone s id w)) t is in
+    let (y, gone, last) = bind-is (kernel.why_ended (s.processes m.to)) (kernel.says_gone s id m) t rest in
     let k = when-is (service.is_of_memory m.what) (with_sent (without_message s id) (Some (answer_to m PlainWhat.Gone))) t last in
     let from : Place = record { at = v.acting; moves = (a (Receiver id)).moves } in
-    subst (λ (u : OneKernel). AtHome P u (given a (answers a id from))) k.1
+    subst (λ (u : OneKernel). AtHome P u (given a (answer_gets a id from))) k.1
     (answer_sent P s (without_message s id) a id m PlainWhat.Gone from (named id m there) there h (at_home_out P s a id h) refl (at m there))
 
 -- no room
 no_room_row : (P : Pid → Place → Type 0) (s t : OneKernel) (v : View) (a : Addresses) (id : MsgId) (m : PlainMessage) (w : PlainWhat) → service.has_no_room s id m w ≡ Some t → s.bag id ≡ Some m → Named s → ReceivedAt s v.acting id → AtHome P s a
-    → AtHome P t (given a (answers a id (unmoved v.acting)))
+    → AtHome P t (given a (answer_gets a id (unmoved v.acting)))
 no_room_row P s t v a id m (PlainWhat.Create image links) is there named at h =
     let k = when-is (service.is_kernel s m.to) (with_sent (without_message s id) (Some (answer_to m PlainWhat.NoRoom))) t is in
-    subst (λ (u : OneKernel). AtHome P u (given a (answers a id (unmoved v.acting)))) k.1
+    subst (λ (u : OneKernel). AtHome P u (given a (answer_gets a id (unmoved v.acting)))) k.1
     (answer_sent P s (without_message s id) a id m PlainWhat.NoRoom (unmoved v.acting) (named id m there) there h (at_home_out P s a id h) refl (acts_at P m.to v.acting (h.rooted m.to) (sym (at m there))))
 no_room_row P s t v a id m _ is there named at h = cc
 
@@ -118,7 +118,7 @@ next_home : (P : Pid → Place → Type 0) (a : Addresses) (p : Pid) (x : PlainP
 next_home P a p x Direction.FromArea owner base own left h at = (record { slots = h.slots; owner = λ q e. let f : owner ≡ q = cc in pid_as P f at }, at, refl, refl)
 next_home P a p x Direction.IntoArea owner base own left h at = (record { slots = h.slots; owner = λ q e. let f : owner ≡ q = cc in pid_as P f at }, at, refl, refl)
 
-goes_on_home : (P : Pid → Place → Type 0) (a : Addresses) (p : Pid) (x : PlainProcess) (dir : Direction) (owner : Pid) (base own left piece : ℕ) → HomeProcess P a p x → P owner (a (Owner p)) → LandedHome P a p (pieces.goes_on p x dir owner base own left piece)
+goes_on_home : (P : Pid → Place → Type 0) (a : Addresses) (p : Pid) (x : PlainProcess) (dir : Direction) (owner : Pid) (base own left piece : ℕ) → HomeProcess P a p x → P owner (a (Owner p)) → LandedHome P a p (pieces.move_goes_on p x dir owner base own left piece)
 goes_on_home P a p x dir owner base own left piece h at =
     if_landed P a p (left - piece == 0) (pieces.done Reply.Done x) (pieces.next_request (pieces.requests p x dir owner (base + piece) (own + piece) (left - piece)))
     (done_home P a p x Reply.Done h) (next_home P a p x dir owner (base + piece) (own + piece) (left - piece) h at)
@@ -131,10 +131,10 @@ lands_what_home : (P : Pid → Place → Type 0) (a : Addresses) (p : Pid) (x : 
     → pieces.lands_what p x dir owner base own left w ≡ Some d → LandedHome P a p d
 lands_what_home P a p x Direction.FromArea owner base own left (PlainWhat.Block bytes) d h at e =
     let y = record x { memory = pieces.written_at x.memory own bytes } in
-    some_landed P a p ((length bytes == pieces.piece_of left) && nat_le (own + left) (length x.memory)) (pieces.goes_on p y Direction.FromArea owner base own left (pieces.piece_of left)) d
+    some_landed P a p ((length bytes == pieces.piece_of left) && nat_le (own + left) (length x.memory)) (pieces.move_goes_on p y Direction.FromArea owner base own left (pieces.piece_of left)) d
     (goes_on_home P a p y Direction.FromArea owner base own left (pieces.piece_of left) (record { slots = h.slots; owner = h.owner }) at) e
 lands_what_home P a p x Direction.IntoArea owner base own left PlainWhat.Written d h at e =
-    some_landed P a p (nat_le (own + left) (length x.memory)) (pieces.goes_on p x Direction.IntoArea owner base own left (pieces.piece_of left)) d (goes_on_home P a p x Direction.IntoArea owner base own left (pieces.piece_of left) h at) e
+    some_landed P a p (nat_le (own + left) (length x.memory)) (pieces.move_goes_on p x Direction.IntoArea owner base own left (pieces.piece_of left)) d (goes_on_home P a p x Direction.IntoArea owner base own left (pieces.piece_of left) h at) e
 lands_what_home P a p x Direction.FromArea owner base own left PlainWhat.Gone d h at e = let f : pieces.done Reply.Gone x ≡ d = cc in subst (LandedHome P a p) f (done_home P a p x Reply.Gone h)
 lands_what_home P a p x Direction.IntoArea owner base own left PlainWhat.Gone d h at e = let f : pieces.done Reply.Gone x ≡ d = cc in subst (LandedHome P a p) f (done_home P a p x Reply.Gone h)
 lands_what_home P a p x _ owner base own left _ d h at e = cc
@@ -149,19 +149,19 @@ lands_home P a p x m (Moving dir owner base own left pending) d is h e =
     if_lands_home P a p x (m.id.n == pending) dir owner base own left m.what d h (h.owner owner (ap owner_in is)) e
 lands_home P a p x m _ d is h e = cc
 
-landed_home : (P : Pid → Place → Type 0) (s : OneKernel) (v : View) (a : Addresses) (id : MsgId) (m : PlainMessage) (c : pieces.Landed) → LandedHome P a m.to c → P m.to (here v m.to) → AtHome P s a
-    → AtHome P (service.landed s id m c) (given a (lands v a m.to (Some c)))
+landed_home : (P : Pid → Place → Type 0) (s : OneKernel) (v : View) (a : Addresses) (id : MsgId) (m : PlainMessage) (c : pieces.Landed) → LandedHome P a m.to c → P m.to (acting_place v m.to) → AtHome P s a
+    → AtHome P (service.landed s id m c) (given a (landing_gets v a m.to (Some c)))
 landed_home P s v a id m (pieces.Done reply y) w at h = home_goes P (without_message s id) a m.to y (at_home_out P s a id h) w
 landed_home P s v a id m (pieces.Next n y) w at h =
-    two_sends P (service.changed s id m y) a n (a (Owner m.to)) (here v m.to) (home_goes P (without_message s id) a m.to y (at_home_out P s a id h) w.0) w.3 w.1 (pid_as P (sym w.2) at)
+    two_sends P (service.changed s id m y) a n (a (Owner m.to)) (acting_place v m.to) (home_goes P (without_message s id) a m.to y (at_home_out P s a id h) w.0) w.3 w.1 (pid_as P (sym w.2) at)
 
-lands_row : (P : Pid → Place → Type 0) (s t : OneKernel) (v : View) (a : Addresses) (id : MsgId) (m : PlainMessage) (x : PlainProcess) → HomeProcess P a m.to x → P m.to (here v m.to) → AtHome P s a
-    → bind (pieces.lands m.to x m x.status) (λ (c : pieces.Landed). Some (service.landed s id m c)) ≡ Some t → AtHome P t (given a (lands v a m.to (pieces.lands m.to x m x.status)))
+lands_row : (P : Pid → Place → Type 0) (s t : OneKernel) (v : View) (a : Addresses) (id : MsgId) (m : PlainMessage) (x : PlainProcess) → HomeProcess P a m.to x → P m.to (acting_place v m.to) → AtHome P s a
+    → bind (pieces.lands m.to x m x.status) (λ (c : pieces.Landed). Some (service.landed s id m c)) ≡ Some t → AtHome P t (given a (landing_gets v a m.to (pieces.lands m.to x m x.status)))
 lands_row P s t v a id m x hx at h e =
     let (c, is, last) = bind-is (pieces.lands m.to x m x.status) (λ (w : pieces.Landed). Some (service.landed s id m w)) t e in
     let k : service.landed s id m c ≡ t = cc in
-    subst (λ (u : OneKernel). AtHome P u (given a (lands v a m.to (pieces.lands m.to x m x.status)))) k
-    (subst (λ (o : Option pieces.Landed). AtHome P (service.landed s id m c) (given a (lands v a m.to o))) (sym is) (landed_home P s v a id m c (lands_home P a m.to x m x.status c refl hx is) at h))
+    subst (λ (u : OneKernel). AtHome P u (given a (landing_gets v a m.to (pieces.lands m.to x m x.status)))) k
+    (subst (λ (o : Option pieces.Landed). AtHome P (service.landed s id m c) (given a (landing_gets v a m.to o))) (sym is) (landed_home P s v a id m c (lands_home P a m.to x m x.status c refl hx is) at h))
 
 -- where the owner has ended, the move ends, and nothing is sent
 abbrev NothingNext : pieces.Landed → Type 0
@@ -180,11 +180,11 @@ pub gone_lands : (p : Pid) (x : PlainProcess) (m : PlainMessage) (st : PlainStat
 gone_lands p x m (Moving dir owner base own left pending) d is e = gone_if p x (m.id.n == pending) dir owner base own left m.what d is e
 gone_lands p x m _ d is e = cc
 
-pub nothing_lands : (v : View) (a : Addresses) (p : Pid) (c : pieces.Landed) → NothingNext c → lands v a p (Some c) ≡ []
+pub nothing_lands : (v : View) (a : Addresses) (p : Pid) (c : pieces.Landed) → NothingNext c → landing_gets v a p (Some c) ≡ []
 nothing_lands v a p (pieces.Done reply y) h = refl
 nothing_lands v a p (pieces.Next n y) h = absurd h
 
-gone_row : (P : Pid → Place → Type 0) (s t : OneKernel) (v : View) (a : Addresses) (id : MsgId) (m : PlainMessage) (x : PlainProcess) → m.what ≡ PlainWhat.Gone → HomeProcess P a m.to x → P m.to (here v m.to) → AtHome P s a
+gone_row : (P : Pid → Place → Type 0) (s t : OneKernel) (v : View) (a : Addresses) (id : MsgId) (m : PlainMessage) (x : PlainProcess) → m.what ≡ PlainWhat.Gone → HomeProcess P a m.to x → P m.to (acting_place v m.to) → AtHome P s a
     → bind (pieces.lands m.to x m x.status) (λ (c : pieces.Landed). Some (service.landed s id m c)) ≡ Some t → AtHome P t a
 gone_row P s t v a id m x what_is hx at h e =
     let (c, is, last) = bind-is (pieces.lands m.to x m x.status) (λ (w : pieces.Landed). Some (service.landed s id m w)) t e in
@@ -198,7 +198,7 @@ some_is false x y e = cc
 
 -- a row a kind
 serve_row : (P : Pid → Place → Type 0) (s t : OneKernel) (v : View) (a : Addresses) (id : MsgId) (m : PlainMessage) (x : PlainProcess) (w : PlainWhat) → m.what ≡ w → service.serves s id m x w ≡ Some t → s.bag id ≡ Some m → m.id ≡ id → HomeProcess P a m.to x
-    → P m.to (here v m.to) → AtHome P s a → AtHome P t (given a (serves_what v a id m x w))
+    → P m.to (acting_place v m.to) → AtHome P s a → AtHome P t (given a (serves_what v a id m x w))
 serve_row P s t v a id m x PlainWhat.Stop w is there name hx at h =
     let k : service.changed s id m (record x { stopped = true }) ≡ t = cc in
     subst (λ (u : OneKernel). AtHome P u a) k (home_goes P (without_message s id) a m.to (record x { stopped = true }) (at_home_out P s a id h) (record { slots = hx.slots; owner = hx.owner }))
@@ -213,15 +213,15 @@ serve_row P s t v a id m x (PlainWhat.Read base len) w is there name hx at h =
     let bytes = take len (drop base x.memory) in
     let k = some_is (nat_le (base + len) (length x.memory)) (record { process = x; answer = answer_to m (PlainWhat.Block bytes) }) c served in
     let f : service.answered s id m c ≡ t = cc in
-    subst (λ (u : OneKernel). AtHome P u (given a (answers a id (here v m.to)))) (ap (service.answered s id m) k ∙ f)
-    (answer_sent P s (service.changed s id m x) a id m (PlainWhat.Block bytes) (here v m.to) name there h (home_goes P (without_message s id) a m.to x (at_home_out P s a id h) hx) refl at)
+    subst (λ (u : OneKernel). AtHome P u (given a (answer_gets a id (acting_place v m.to)))) (ap (service.answered s id m) k ∙ f)
+    (answer_sent P s (service.changed s id m x) a id m (PlainWhat.Block bytes) (acting_place v m.to) name there h (home_goes P (without_message s id) a m.to x (at_home_out P s a id h) hx) refl at)
 serve_row P s t v a id m x (PlainWhat.Write base bytes) w is there name hx at h =
     let (c, served, last) = bind-is (pieces.writes x m base bytes) (λ (r : pieces.Served). Some (service.answered s id m r)) t is in
     let y = record x { memory = pieces.written_at x.memory base bytes } in
     let k = some_is (nat_le (base + length bytes) (length x.memory)) (record { process = y; answer = answer_to m PlainWhat.Written }) c served in
     let f : service.answered s id m c ≡ t = cc in
-    subst (λ (u : OneKernel). AtHome P u (given a (answers a id (here v m.to)))) (ap (service.answered s id m) k ∙ f)
-    (answer_sent P s (service.changed s id m y) a id m PlainWhat.Written (here v m.to) name there h (home_goes P (without_message s id) a m.to y (at_home_out P s a id h) (record { slots = hx.slots; owner = hx.owner })) refl at)
+    subst (λ (u : OneKernel). AtHome P u (given a (answer_gets a id (acting_place v m.to)))) (ap (service.answered s id m) k ∙ f)
+    (answer_sent P s (service.changed s id m y) a id m PlainWhat.Written (acting_place v m.to) name there h (home_goes P (without_message s id) a m.to y (at_home_out P s a id h) (record { slots = hx.slots; owner = hx.owner })) refl at)
 serve_row P s t v a id m x (PlainWhat.Block bytes) w is there name hx at h = lands_row P s t v a id m x hx at h is
 serve_row P s t v a id m x PlainWhat.Written w is there name hx at h = lands_row P s t v a id m x hx at h is
 serve_row P s t v a id m x PlainWhat.Gone w is there name hx at h = gone_row P s t v a id m x w hx at h is
@@ -232,7 +232,7 @@ served_home P s t v a id is named at h =
     let (m, there, rest) = bind-is (s.bag id) (λ (w : PlainMessage). bind (kernel.alive (s.processes w.to)) (λ (p : PlainProcess). service.serves s id w p w.what)) t is in
     let (x, alive, last) = bind-is (kernel.alive (s.processes m.to)) (λ (p : PlainProcess). service.serves s id m p m.what) t rest in
     let gs_is : serves_what v a id m x m.what ≡ gives s v a (Label.Served id) =
-    ap (addresses.serves_alive v a id m) (sym alive) ∙ ap (addresses.serves s v a id) (sym there) in
+    ap (addresses.serves_alive v a id m) (sym alive) ∙ ap (addresses.service_gets s v a id) (sym there) in
     subst (λ (gs : List Gets). AtHome P t (given a gs)) gs_is
     (serve_row P s t v a id m x m.what refl last there (named id m there) (h.processes m.to x alive) (at m there) h)
 
@@ -266,7 +266,7 @@ only_child a child id (l ∷ ls) n =
     }
 
 begun_at_home : (P : Pid → Place → Type 0) (s : OneKernel) (a : Addresses) (id : MsgId) (m : PlainMessage) (child : Pid) (image : BootImage) (links : List PlainLink) → AtHome P s a → s.bag id ≡ Some m → links_in m.what ≡ links
-    → AtHome P (service.with_child (without_message s id) child image links) (given a (child_links a child id 0 links))
+    → AtHome P (service.with_created (without_message s id) child image links) (given a (child_links a child id 0 links))
 begun_at_home P s a id m child image links h there is =
     let b = given a (child_links a child id 0 links) in
     let y = begun s.format image links in
@@ -282,20 +282,20 @@ begun_at_home P s a id m child image links h there is =
     record { processes = u.processes; messages = u.messages; children = u.children; named = u.named; answers = u.answers; rooted = u.rooted; pending = u.pending }
 
 created_row : (P : Pid → Place → Type 0) (s t : OneKernel) (v : View) (a : Addresses) (id : MsgId) (m : PlainMessage) (child : Pid) (links : List PlainLink) (image : BootImage) → service.creates_of s id m child links image ≡ Some t → s.bag id ≡ Some m → links_in m.what ≡ links
-    → Named s → ReceivedAt s v.acting id → AtHome P s a → AtHome P t (given a (answers a id (unmoved v.acting) ++ child_links a child id 0 links))
+    → Named s → ReceivedAt s v.acting id → AtHome P s a → AtHome P t (given a (answer_gets a id (unmoved v.acting) ++ child_links a child id 0 links))
 created_row P s t v a id m child links image is there links_are named at h =
-    let u = service.with_child (without_message s id) child image links in
+    let u = service.with_created (without_message s id) child image links in
     let b = given a (child_links a child id 0 links) in
     let n = answer_to m (PlainWhat.Created child) in
     let k = when-is (service.is_kernel s m.to && pid_eq child (pid_of m.to.home (first_number + s.made m.to.home))) (with_sent u (Some n)) t is in
     let name : m.id ≡ id = named id m there in
     let sent : AtHome P (with_sent u (Some n)) (given b (two n.id (a (Sender id)) (unmoved v.acting))) =
     two_sends P u b n (a (Sender id)) (unmoved v.acting) (begun_at_home P s a id m child image links h there links_are) refl (h.messages id m there).sender (acts_at P m.to v.acting (h.rooted m.to) (sym (at m there))) in
-    subst (λ (w : OneKernel). AtHome P w (given a (answers a id (unmoved v.acting) ++ child_links a child id 0 links))) k.1
+    subst (λ (w : OneKernel). AtHome P w (given a (answer_gets a id (unmoved v.acting) ++ child_links a child id 0 links))) k.1
     (subst (λ (i : MsgId). AtHome P (with_sent u (Some n)) (given a (two (answer_id i) (a (Sender id)) (unmoved v.acting) ++ child_links a child id 0 links))) name sent)
 
 creates_row : (P : Pid → Place → Type 0) (s t : OneKernel) (v : View) (a : Addresses) (id : MsgId) (m : PlainMessage) (child : Pid) (w : PlainWhat) → m.what ≡ w → service.creates s id m child w ≡ Some t → s.bag id ≡ Some m → Named s → ReceivedAt s v.acting id → AtHome P s a
-    → AtHome P t (given a (answers a id (unmoved v.acting) ++ addresses.creates_what a id child w))
+    → AtHome P t (given a (answer_gets a id (unmoved v.acting) ++ addresses.creates_what a id child w))
 creates_row P s t v a id m child (PlainWhat.Create image links) w is there named at h =
     let (i, image_is, last) = bind-is (slice_get s.images image) (service.creates_of s id m child links) t is in
     created_row P s t v a id m child links i last there (ap links_in w) named at h
@@ -304,4 +304,4 @@ creates_row P s t v a id m child _ w is there named at h = cc
 pub created_home : (P : Pid → Place → Type 0) (s t : OneKernel) (v : View) (a : Addresses) (id : MsgId) (child : Pid) → kernel.step s (Label.Created id child) ≡ Some t → Named s → ReceivedAt s v.acting id → AtHome P s a → AtHome P t (given a (gives s v a (Label.Created id child)))
 created_home P s t v a id child is named at h =
     let (m, there, rest) = bind-is (s.bag id) (λ (w : PlainMessage). service.creates s id w child w.what) t is in
-    subst (λ (gs : List Gets). AtHome P t (given a gs)) (ap (addresses.creates v a id child) (sym there)) (creates_row P s t v a id m child m.what refl rest there named at h)
+    subst (λ (gs : List Gets). AtHome P t (given a gs)) (ap (addresses.creation_gets v a id child) (sym there)) (creates_row P s t v a id m child m.what refl rest there named at h)

@@ -46,13 +46,13 @@ plain_no x y n r q e = cc
 
 past_effect : (o : Opcode) (regs : Regs) (m : List ℕ) (a b c n : ℕ) (r : Regs) → row.effect o regs m a b c ≡ row.Calls n r → r ≡ past regs
 past_effect Opcode.Lw regs m a b c n r e =
-    past_word m (row.reg regs b + c) n (row.Plain (row.with_reg regs a (row.word_at m (row.reg regs b + c))) m) r (past regs) (plain_no (row.with_reg regs a (row.word_at m (row.reg regs b + c))) m n r (past regs)) e
+    past_word m (row.register_at regs b + c) n (row.Plain (row.with_reg regs a (row.word_at m (row.register_at regs b + c))) m) r (past regs) (plain_no (row.with_reg regs a (row.word_at m (row.register_at regs b + c))) m n r (past regs)) e
 past_effect Opcode.Sw regs m a b c n r e =
-    past_word m (row.reg regs b + c) n (row.Plain (past regs) (row.with_word m (row.reg regs b + c) (row.reg regs a))) r (past regs) (plain_no (past regs) (row.with_word m (row.reg regs b + c) (row.reg regs a)) n r (past regs)) e
+    past_word m (row.register_at regs b + c) n (row.Plain (past regs) (row.with_word m (row.register_at regs b + c) (row.register_at regs a))) r (past regs) (plain_no (past regs) (row.with_word m (row.register_at regs b + c) (row.register_at regs a)) n r (past regs)) e
 past_effect Opcode.Lb regs m a b c n r e =
-    past_if (nat_lt (row.reg regs b + c) (length m)) (row.Plain (row.with_reg regs a (slice_index m (row.reg regs b + c))) m) _ n r (past regs) (plain_no (row.with_reg regs a (slice_index m (row.reg regs b + c))) m n r (past regs)) e
+    past_if (nat_lt (row.register_at regs b + c) (length m)) (row.Plain (row.with_reg regs a (slice_index m (row.register_at regs b + c))) m) _ n r (past regs) (plain_no (row.with_reg regs a (slice_index m (row.register_at regs b + c))) m n r (past regs)) e
 past_effect Opcode.Sb regs m a b c n r e =
-    past_if (nat_lt (row.reg regs b + c) (length m)) (row.Plain (past regs) (slice_set m (row.reg regs b + c) (row.reg regs a % 256))) _ n r (past regs) (plain_no (past regs) (slice_set m (row.reg regs b + c) (row.reg regs a % 256)) n r (past regs)) e
+    past_if (nat_lt (row.register_at regs b + c) (length m)) (row.Plain (past regs) (slice_set m (row.register_at regs b + c) (row.register_at regs a % 256))) _ n r (past regs) (plain_no (past regs) (slice_set m (row.register_at regs b + c) (row.register_at regs a % 256)) n r (past regs)) e
 past_effect _ regs m a b c n r e = cc
 
 past_operation : (o : Option Opcode) (regs : Regs) (m : List ℕ) (a b c n : ℕ) (r : Regs) → row.operation_row o regs m a b c ≡ row.Calls n r → r ≡ past regs

@@ -1,7 +1,7 @@
 -- Where a run begins, each address names the home of its process.
 use Rattle.dm_rule.proofs.Names.{◌≡◌, ℕ, zero, suc, ◌+◌, ◌-◌, ◌==◌, ◌&&◌, ◌||◌, Bool, true, false, List, [], ◌∷◌, ◌++◌, length, refl, ap, ◌∙◌, sym, arith, nat_lt, nat_le, inl, inr, if◌then◌else◌, map, option_map, slice_get, replicate}
 use Rattle.dm_rule.proofs.Names.{Option, None, Some, cases_Bool, nat_tests, Pid, Link, place_of, pid_eq, PlainLink, plain_link, link_at, BootProcess, BootImage, Boot, IsValid, switchboard, manager, processes_are_valid, starting_at}
-use Rattle.dm_rule.proofs.Names.{slots_of, PlainProcess, start, life_at, first_life, begun, slots_with, Alive, pid_eq-is, ring_at, first_point, unmoved, place_in, links_at, home_of, nth_child, first_addresses, owner_in, Homes, are_home}
+use Rattle.dm_rule.proofs.Names.{slots_of, PlainProcess, start, life_at, first_life, begun, slots_with, Alive, pid_eq-is, ring_at, first_point, unmoved, place_in, links_at, boot_home, nth_child, first_addresses, owner_in, Homes, are_home}
 use Rattle.dm_rule.proofs.Names.{left_true, right_true}
 use Rattle.dm_onekernel.specs.Boot as boot
 use Rattle.dm_onekernel.specs.Manager as manage
@@ -85,12 +85,12 @@ begun_home b earlier (p ∷ ps) q x valid at e =
           (sym (ap (λ (c : Bool). kernel.alive (if c then first_life b p else life_at b ps q)) apart) ∙ e)
     ]
 
-child_home_of : (ps : List BootProcess) (n : ℕ) (q : Pid) → slice_get (map (λ (p : BootProcess). p.pid) ps) n ≡ Some q → unmoved (home_of (slice_get ps n)) ≡ unmoved q.home
+child_home_of : (ps : List BootProcess) (n : ℕ) (q : Pid) → slice_get (map (λ (p : BootProcess). p.pid) ps) n ≡ Some q → unmoved (boot_home (slice_get ps n)) ≡ unmoved q.home
 child_home_of [] n q e = cc
 child_home_of (p ∷ ps) zero q e = let f : p.pid ≡ q = cc in ap (λ (v : Pid). unmoved v.home) f
 child_home_of (p ∷ ps) (suc n) q e = child_home_of ps n q e
 
-child_home : (ps : List BootProcess) (n : ℕ) (q : Pid) → manage.child_numbered (map (λ (p : BootProcess). p.pid) ps) n ≡ Some q → unmoved (home_of (nth_child ps n)) ≡ unmoved q.home
+child_home : (ps : List BootProcess) (n : ℕ) (q : Pid) → manage.child_numbered (map (λ (p : BootProcess). p.pid) ps) n ≡ Some q → unmoved (boot_home (nth_child ps n)) ≡ unmoved q.home
 child_home ps zero q e = cc
 child_home ps (suc n) q e = child_home_of ps n q e
 

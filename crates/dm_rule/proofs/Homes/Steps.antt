@@ -1,7 +1,7 @@
 -- Each label of a process keeps addresses where they may be.
 use Rattle.dm_rule.proofs.Names.{◌≡◌, ℕ, ◌==◌, ◌&&◌, Bool, true, false, List, [], refl, ap, ◌∙◌, sym, subst, arith, if◌then◌else◌, Option, None, Some, nat_tests, Pid, Place, pid_eq, first_empty, MsgId, id_eq, Label, Reply, Why, reply_eq}
-use Rattle.dm_rule.proofs.Names.{reply_code, why_eq, bind, PlainProcess, reg, Alive, OneKernel, with_process, with_sent, Replies, Sends, Waits, Outputs, Ends, id_eq-is, bind-is, when-is, View, Addresses, Gets, given, gives, Slot, here}
-use Rattle.dm_rule.proofs.Names.{fills, fills_by, made, sends_what}
+use Rattle.dm_rule.proofs.Names.{reply_code, why_eq, bind, PlainProcess, reg, Alive, OneKernel, with_process, with_sent, Replies, Sends, Waits, Outputs, Ends, id_eq-is, bind-is, when-is, View, Addresses, Gets, given, gives, Slot}
+use Rattle.dm_rule.proofs.Names.{acting_place, fills, fills_by, call_gets, sends_what}
 use Rattle.dm_onekernel.specs.Kernel.{Ended}
 use Rattle.dm_onekernel.specs.Calls as calls
 use Rattle.dm_onekernel.specs.Step as kernel
@@ -19,7 +19,7 @@ ran_home P s t v a p k is h =
     let w = running_home P s a p x h running in
     subst (λ (u : OneKernel). AtHome P u a) eq (home_goes P s a p (kernel.with_machine x m) h (record { slots = w.slots; owner = w.owner }))
 
-pub made_is : (v : View) (a : Addresses) (p : Pid) (n : ℕ) (c : Reply) (x : PlainProcess) → made v a p n c (Some x) ≡ gives_by v a p x (calls.call_number n) c
+pub made_is : (v : View) (a : Addresses) (p : Pid) (n : ℕ) (c : Reply) (x : PlainProcess) → call_gets v a p n c (Some x) ≡ gives_by v a p x (calls.call_number n) c
 made_is v a p n Reply.Done x = refl
 made_is v a p n _ x = refl
 
@@ -59,7 +59,7 @@ only_fills a p (Some slot) place = record {
 }
 
 only_fills_by : (v : View) (a : Addresses) (p : Pid) (x : PlainProcess) (n : calls.CallNumber) → OnlySlots a (given a (fills_by v a p x n)) p
-only_fills_by v a p x calls.Make = only_fills a p (first_empty x.links) (here v p)
+only_fills_by v a p x calls.Make = only_fills a p (first_empty x.links) (acting_place v p)
 only_fills_by v a p x calls.Copy = only_fills a p (first_empty x.links) (a (Slot p (reg x.regs 1)))
 only_fills_by v a p x _ = only_none a p
 
@@ -71,7 +71,7 @@ pub only_gives_by : (v : View) (a : Addresses) (p : Pid) (x : PlainProcess) (n :
 only_gives_by v a p x n c =
     subst (λ (gs : List Gets). OnlySlots a (given a gs) p) (sym (gives_code v a p x n c)) (only_if a p (reply_code c == 0) (fills_by v a p x n) (only_fills_by v a p x n))
 
-reply_row : (P : Pid → Place → Type 0) (s t : OneKernel) (v : View) (a : Addresses) (p : Pid) (n : ℕ) (c : Reply) (next : kernel.Next) → Nexts P v s a p next → kernel.replies s p n c next ≡ Some t → AtHome P s a → AtHome P t (given a (made v a p n c (kernel.running s p)))
+reply_row : (P : Pid → Place → Type 0) (s t : OneKernel) (v : View) (a : Addresses) (p : Pid) (n : ℕ) (c : Reply) (next : kernel.Trap) → Nexts P v s a p next → kernel.replies s p n c next ≡ Some t → AtHome P s a → AtHome P t (given a (call_gets v a p n c (kernel.running s p)))
 reply_row P s t v a p n c (kernel.Calls number (calls.Replies d y)) w is h =
     let k = when-is ((n == number) && reply_eq c d) (kernel.goes_on s p y) t is in
     let both = k.0 in
@@ -79,21 +79,21 @@ reply_row P s t v a p n c (kernel.Calls number (calls.Replies d y)) w is h =
     let same : reply_eq c d ≡ true = grind (arith, nat_tests) in
     let x = w.x in
     let gs = gives_by v a p x (calls.call_number number) d in
-    let gs_is : gs ≡ made v a p n c (kernel.running s p) =
-    sym (gives_same v a p x (calls.call_number number) c d same) ∙ ap (λ (i : ℕ). gives_by v a p x (calls.call_number i) c) number_is ∙ sym (made_is v a p n c x) ∙ ap (made v a p n c) (sym w.running) in
+    let gs_is : gs ≡ call_gets v a p n c (kernel.running s p) =
+    sym (gives_same v a p x (calls.call_number number) c d same) ∙ ap (λ (i : ℕ). gives_by v a p x (calls.call_number i) c) number_is ∙ sym (made_is v a p n c x) ∙ ap (call_gets v a p n c) (sym w.running) in
     let o = only_gives_by v a p x (calls.call_number number) d in
-    subst (λ (u : OneKernel). AtHome P u (given a (made v a p n c (kernel.running s p)))) k.1
+    subst (λ (u : OneKernel). AtHome P u (given a (call_gets v a p n c (kernel.running s p)))) k.1
     (subst (λ (g : List Gets). AtHome P (kernel.goes_on s p y) (given a g)) gs_is
     (at_home_process P s a (given a gs) p (Alive y) h o.others (alive_on P (given a gs) p y w.home) o.messages o.servers))
 reply_row P s t v a p n c _ w is h = cc
 
-pub call_home : (P : Pid → Place → Type 0) (s t : OneKernel) (v : View) (a : Addresses) (p : Pid) (n : ℕ) (c : Reply) → kernel.step s (Label.Call p n c) ≡ Some t → P p (here v p) → AtHome P s a → AtHome P t (given a (gives s v a (Label.Call p n c)))
+pub call_home : (P : Pid → Place → Type 0) (s t : OneKernel) (v : View) (a : Addresses) (p : Pid) (n : ℕ) (c : Reply) → kernel.step s (Label.Call p n c) ≡ Some t → P p (acting_place v p) → AtHome P s a → AtHome P t (given a (gives s v a (Label.Call p n c)))
 call_home P s t v a p n c is at h =
-    let (x, next, rest) = bind-is (kernel.next s p) (kernel.replies s p n c) t is in
+    let (x, next, rest) = bind-is (kernel.next_trap s p) (kernel.replies s p n c) t is in
     reply_row P s t v a p n c x (next_home P v s a p x h at next) rest h
 
 -- a sending
-send_row : (P : Pid → Place → Type 0) (s t : OneKernel) (v : View) (a : Addresses) (p : Pid) (id : MsgId) (next : kernel.Next) → kernel.next s p ≡ Some next → Nexts P v s a p next → kernel.sends s p id next ≡ Some t → AtHome P s a
+send_row : (P : Pid → Place → Type 0) (s t : OneKernel) (v : View) (a : Addresses) (p : Pid) (id : MsgId) (next : kernel.Trap) → kernel.next_trap s p ≡ Some next → Nexts P v s a p next → kernel.sends s p id next ≡ Some t → AtHome P s a
     → AtHome P t (given a (gives s v a (Label.Send p id)))
 send_row P s t v a p id (kernel.Calls number (calls.Sends m y)) nx w is h =
     let k = when-is (id_eq id m.id) (with_sent (kernel.goes_on s p y) (Some m)) t is in
@@ -101,46 +101,46 @@ send_row P s t v a p id (kernel.Calls number (calls.Sends m y)) nx w is h =
     let x = w.x in
     let gs = sends_what v a p x m.id m.what in
     let gs_is : gs ≡ gives s v a (Label.Send p id) =
-    ap (λ (i : MsgId). sends_what v a p x i m.what) name ∙ ap (addresses.sends_next v a p x id) (sym nx) ∙ ap (addresses.sends s v a p id) (sym w.running) in
+    ap (λ (i : MsgId). sends_what v a p x i m.what) name ∙ ap (addresses.sends_next v a p x id) (sym nx) ∙ ap (addresses.send_gets s v a p id) (sym w.running) in
     let o = w.home in
     subst (λ (u : OneKernel). AtHome P u (given a (gives s v a (Label.Send p id)))) k.1
     (subst (λ (g : List Gets). AtHome P (with_sent (kernel.goes_on s p y) (Some m)) (given a g)) gs_is
     (at_home_sends P s a (given a gs) p (Alive y) m h o.others (alive_on P (given a gs) p y o.process) o.messages o.message o.servers))
 send_row P s t v a p id _ nx w is h = cc
 
-pub send_home : (P : Pid → Place → Type 0) (s t : OneKernel) (v : View) (a : Addresses) (p : Pid) (id : MsgId) → kernel.step s (Label.Send p id) ≡ Some t → P p (here v p) → AtHome P s a → AtHome P t (given a (gives s v a (Label.Send p id)))
+pub send_home : (P : Pid → Place → Type 0) (s t : OneKernel) (v : View) (a : Addresses) (p : Pid) (id : MsgId) → kernel.step s (Label.Send p id) ≡ Some t → P p (acting_place v p) → AtHome P s a → AtHome P t (given a (gives s v a (Label.Send p id)))
 send_home P s t v a p id is at h =
-    let (x, next, rest) = bind-is (kernel.next s p) (kernel.sends s p id) t is in
+    let (x, next, rest) = bind-is (kernel.next_trap s p) (kernel.sends s p id) t is in
     send_row P s t v a p id x next (next_home P v s a p x h at next) rest h
 
 -- a receive begins
-wait_row : (P : Pid → Place → Type 0) (s t : OneKernel) (v : View) (a : Addresses) (p : Pid) (next : kernel.Next) → Nexts P v s a p next → kernel.waits s p next ≡ Some t → AtHome P s a → AtHome P t a
+wait_row : (P : Pid → Place → Type 0) (s t : OneKernel) (v : View) (a : Addresses) (p : Pid) (next : kernel.Trap) → Nexts P v s a p next → kernel.waits s p next ≡ Some t → AtHome P s a → AtHome P t a
 wait_row P s t v a p (kernel.Calls number (calls.Waits y)) w is h =
     let eq : kernel.goes_on s p y ≡ t = cc in
     subst (λ (u : OneKernel). AtHome P u a) eq (home_goes P s a p y h w.home)
 wait_row P s t v a p _ w is h = cc
 
-pub wait_home : (P : Pid → Place → Type 0) (s t : OneKernel) (v : View) (a : Addresses) (p : Pid) → kernel.step s (Label.Wait p) ≡ Some t → P p (here v p) → AtHome P s a → AtHome P t a
+pub wait_home : (P : Pid → Place → Type 0) (s t : OneKernel) (v : View) (a : Addresses) (p : Pid) → kernel.step s (Label.Wait p) ≡ Some t → P p (acting_place v p) → AtHome P s a → AtHome P t a
 wait_home P s t v a p is at h =
-    let (x, next, rest) = bind-is (kernel.next s p) (kernel.waits s p) t is in
+    let (x, next, rest) = bind-is (kernel.next_trap s p) (kernel.waits s p) t is in
     wait_row P s t v a p x (next_home P v s a p x h at next) rest h
 
-out_row : (P : Pid → Place → Type 0) (s t : OneKernel) (v : View) (a : Addresses) (p : Pid) (word : ℕ) (next : kernel.Next) → Nexts P v s a p next → kernel.outputs s p word next ≡ Some t → AtHome P s a → AtHome P t a
+out_row : (P : Pid → Place → Type 0) (s t : OneKernel) (v : View) (a : Addresses) (p : Pid) (word : ℕ) (next : kernel.Trap) → Nexts P v s a p next → kernel.outputs s p word next ≡ Some t → AtHome P s a → AtHome P t a
 out_row P s t v a p word (kernel.Calls number (calls.Outputs other y)) w is h =
     let k = when-is (word == other) (kernel.goes_on s p y) t is in
     subst (λ (u : OneKernel). AtHome P u a) k.1 (home_goes P s a p y h w.home)
 out_row P s t v a p word _ w is h = cc
 
-pub out_home : (P : Pid → Place → Type 0) (s t : OneKernel) (v : View) (a : Addresses) (p : Pid) (word : ℕ) → kernel.step s (Label.Out p word) ≡ Some t → P p (here v p) → AtHome P s a → AtHome P t a
+pub out_home : (P : Pid → Place → Type 0) (s t : OneKernel) (v : View) (a : Addresses) (p : Pid) (word : ℕ) → kernel.step s (Label.Out p word) ≡ Some t → P p (acting_place v p) → AtHome P s a → AtHome P t a
 out_home P s t v a p word is at h =
-    let (x, next, rest) = bind-is (kernel.next s p) (kernel.outputs s p word) t is in
+    let (x, next, rest) = bind-is (kernel.next_trap s p) (kernel.outputs s p word) t is in
     out_row P s t v a p word x (next_home P v s a p x h at next) rest h
 
 -- the end
 pub at_home_ended : (P : Pid → Place → Type 0) (s : OneKernel) (a : Addresses) (p : Pid) (y : Why) → AtHome P s a → AtHome P (with_process s p (Ended y)) a
 at_home_ended P s a p y h = at_home_goes P s a p (Ended y) h (λ x e. absurd (let f : None ≡ Some x = e in cc))
 
-end_row : (P : Pid → Place → Type 0) (s t : OneKernel) (a : Addresses) (p : Pid) (y : Why) (next : kernel.Next) → kernel.ends s p y next ≡ Some t → AtHome P s a → AtHome P t a
+end_row : (P : Pid → Place → Type 0) (s t : OneKernel) (a : Addresses) (p : Pid) (y : Why) (next : kernel.Trap) → kernel.ends s p y next ≡ Some t → AtHome P s a → AtHome P t a
 end_row P s t a p y (kernel.Calls number (calls.Ends because)) is h =
     let k = when-is (why_eq y because) (with_process s p (Ended y)) t is in
     subst (λ (u : OneKernel). AtHome P u a) k.1 (at_home_ended P s a p y h)
@@ -151,5 +151,5 @@ end_row P s t a p y _ is h = cc
 
 pub end_home : (P : Pid → Place → Type 0) (s t : OneKernel) (a : Addresses) (p : Pid) (y : Why) → kernel.step s (Label.End p y) ≡ Some t → AtHome P s a → AtHome P t a
 end_home P s t a p y is h =
-    let (x, next, rest) = bind-is (kernel.next s p) (kernel.ends s p y) t is in
+    let (x, next, rest) = bind-is (kernel.next_trap s p) (kernel.ends s p y) t is in
     end_row P s t a p y x rest h

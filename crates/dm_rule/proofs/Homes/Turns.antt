@@ -30,7 +30,7 @@ good_of s e m (Some qs) ps h is = let f : qs ≡ ps = cc in subst (PartsGood s e
 says_first : (s : OneKernel) (e : MsgId → ℕ) (m : ℕ) (l : Label) (ps : List Part) → SaidAt s m l → PartsAnywhere m ps → PartsGood s e m (rule.says l ∷ ps)
 says_first s e m l ps at h = (inr (inl (l, refl, at)), h)
 
-drops_good : (m : ℕ) (ids : List MsgId) → PartsAnywhere m (rule.drops ids)
+drops_good : (m : ℕ) (ids : List MsgId) → PartsAnywhere m (rule.drop_parts ids)
 drops_good m [] = tt
 drops_good m (i ∷ is) = (tt, drops_good m is)
 
@@ -89,7 +89,7 @@ handles_good b e pt m id (Some k) h there f =
       queued = λ to user. (inr (inr (id, refl, f.1)), tt);
       served = λ to mild. says_first s e m (Label.Served id) [] f.0 tt;
       answers = λ to mild i. says_first s e m (Label.Served id) (Routes i ∷ []) f.0 (tt, tt);
-      kills = λ to kills. says_first s e m (Label.Served id) (rule.drops (pt.view.queue m k.to)) f.0 (drops_good m (pt.view.queue m k.to));
+      kills = λ to kills. says_first s e m (Label.Served id) (rule.drop_parts (pt.view.queue m k.to)) f.0 (drops_good m (pt.view.queue m k.to));
       gone = λ to. says_first s e m (Label.Gone id) (Routes (pieces.answer_id id) ∷ []) f.0 (tt, tt);
       dropped = λ to. (inl tt, tt);
       leaving = λ n to. absurd (moved_off (Frozen n) to.known refl);

@@ -1,7 +1,7 @@
 -- A delivery keeps the pairs of machines.
 use Rattle.dm_rule.proofs.Names.{◌≡◌, ℕ, zero, suc, ◌+◌, ◌-◌, ◌<◌, ◌≤◌, ◌==◌, ◌&&◌, Bool, true, false, List, [], ◌∷◌, ◌++◌, refl, ap, ◌∙◌, sym, subst, nat_lt, inl, inr, arith, length, ◌≢◌, if◌then◌else◌, slice_get, Option, None, Some}
-use Rattle.dm_rule.proofs.Names.{cases_Bool, false≢true, nat_tests, Line, Load, at_pair, View, Pair, Sent, with_pair, oldest, at_least, marked, Point, Part, Says, Transmits, Spelled, spelled, window, has, kept_from, takes, takes_on, less}
-use Rattle.dm_rule.proofs.Names.{more, let_go, arrives, numbers_from, repeats}
+use Rattle.dm_rule.proofs.Names.{cases_Bool, false≢true, nat_tests, Line, Load, at_pair, View, Pair, SentLoad, with_pair, oldest, at_least, marked, Point, Part, Says, Transmits, Spelled, spelled, pair_window, has, kept_from, taking_parts}
+use Rattle.dm_rule.proofs.Names.{takes_on, less, more, let_go, arrives, numbers_from, repeats}
 use Rattle.dm_rule.specs.Rule.{comes}
 use Rattle.dm_rule.proofs.Pairs.Stand.{LoadStands, Apart, KeptStands, Stand, WireStands-at, set_same, set_other, two_of, Stand-set}
 use Rattle.dm_rule.proofs.Pairs.Moves.{Paired, Goes, changed, packed, next_goes, acked_goes, off, off_has, or_cases}
@@ -97,7 +97,7 @@ none_next : (f : ℕ → ℕ → Pair) (a b m : ℕ) (ks : List ℕ) → (f a b)
 none_next f a b m ks is lacks k e same = false≢true (sym lacks ∙ ap (λ (n : ℕ). has n ks) (sym is ∙ same) ∙ e)
 
 takes_keep : (fuel m a b : ℕ) (ks : List ℕ) (tail : List Part) (pt : Point) (w : Spelled) → (a == b) ≡ false → (pt.view.pair a b).taken ≡ m → (pt.view.pair a b).gone ≤ m + fuel → Mid pt.view.pair a b ks
-    → spelled pt (takes a b (kept_from ks m fuel) ++ tail) ≡ Some w → Took a b (m + length (kept_from ks m fuel)) tail w
+    → spelled pt (taking_parts a b (kept_from ks m fuel) ++ tail) ≡ Some w → Took a b (m + length (kept_from ks m fuel)) tail w
 takes_keep zero m a b ks tail pt w ab is gone h e = record {
   at = pt;
   paired = mid_end pt.view.pair a b ks (λ k there. let x = h.bound k there in omega arith) h;
@@ -109,9 +109,9 @@ takes_keep zero m a b ks tail pt w ab is gone h e = record {
 takes_keep (suc fuel) m a b ks tail pt w ab is gone h e = elim (cases_Bool (has m ks)) [
   | inl found ↦
       let others = kept_from ks (m + 1) fuel in
-      let e' : spelled pt (Says (Line.Taken a b m) ∷ (takes a b others ++ tail)) ≡ Some w = subst (λ (c : Bool). spelled pt (takes a b (if c then m ∷ others else []) ++ tail) ≡ Some w) found e in
-      let o = onward pt (Says (Line.Taken a b m)) (takes a b others ++ tail) w e' in
-      let pair = took_pair pt a b m (takes a b others ++ tail) w o in
+      let e' : spelled pt (Says (Line.Taken a b m) ∷ (taking_parts a b others ++ tail)) ≡ Some w = subst (λ (c : Bool). spelled pt (taking_parts a b (if c then m ∷ others else []) ++ tail) ≡ Some w) found e in
+      let o = onward pt (Says (Line.Taken a b m)) (taking_parts a b others ++ tail) w e' in
+      let pair = took_pair pt a b m (taking_parts a b others ++ tail) w o in
       let here : o.next.view.pair a b ≡ took m (pt.view.pair a b) = at_two pt.view.pair o.next.view.pair a b (took m (pt.view.pair a b)) pair in
       let taken : (o.next.view.pair a b).taken ≡ (pt.view.pair a b).taken + 1 = ap (λ (p : Pair). p.taken) here in
       let out : (o.next.view.pair a b).gone ≡ (pt.view.pair a b).gone = ap (λ (p : Pair). p.gone) here in
@@ -121,7 +121,7 @@ takes_keep (suc fuel) m a b ks tail pt w ab is gone h e = elim (cases_Bool (has 
       Took-to a b (m + 1 + length others) (m + length (if has m ks then m ∷ others else [])) tail o.rest w (omega (arith, long)) o.end t
   | inr lacks ↦
       let others = kept_from ks (m + 1) fuel in
-      let e' : spelled pt tail ≡ Some w = subst (λ (c : Bool). spelled pt (takes a b (if c then m ∷ others else []) ++ tail) ≡ Some w) lacks e in
+      let e' : spelled pt tail ≡ Some w = subst (λ (c : Bool). spelled pt (taking_parts a b (if c then m ∷ others else []) ++ tail) ≡ Some w) lacks e in
       let long : length (if has m ks then m ∷ others else []) ≡ 0 = ap (λ (c : Bool). length (if c then m ∷ others else [])) lacks in
       record { at = pt; paired = mid_end pt.view.pair a b ks (none_next pt.view.pair a b m ks is lacks) h; taken = omega (arith, is, long); rest = w; on = e'; leads = refl }
 ]
@@ -134,12 +134,12 @@ then_acked a b end w ba t =
 
 -- data that comes in order
 in_order : (pt : Point) (a b n : ℕ) (ks : List ℕ) (w : Spelled) → (a == b) ≡ false → (b == a) ≡ false → (pt.view.pair a b).taken ≡ n → n < (pt.view.pair a b).gone → (pt.view.pair a b).kept ≡ ks → Paired pt.view.pair
-    → spelled pt (takes_on a b n (kept_from ks (n + 1) window)) ≡ Some w → Paired w.point.view.pair
+    → spelled pt (takes_on a b n (kept_from ks (n + 1) pair_window)) ≡ Some w → Paired w.point.view.pair
 in_order pt a b n ks w ab ba is below kept h e =
-    let others = kept_from ks (n + 1) window in
+    let others = kept_from ks (n + 1) pair_window in
     let tail = Transmits b a (Load.Ack (n + 1 + length others)) ∷ [] in
-    let o = onward pt (Says (Line.Taken a b n)) (takes a b others ++ tail) w e in
-    let pair = took_pair pt a b n (takes a b others ++ tail) w o in
+    let o = onward pt (Says (Line.Taken a b n)) (taking_parts a b others ++ tail) w e in
+    let pair = took_pair pt a b n (taking_parts a b others ++ tail) w o in
     let here : o.next.view.pair a b ≡ took n (pt.view.pair a b) = at_two pt.view.pair o.next.view.pair a b (took n (pt.view.pair a b)) pair in
     let taken : (o.next.view.pair a b).taken ≡ (pt.view.pair a b).taken + 1 = ap (λ (p : Pair). p.taken) here in
     let out : (o.next.view.pair a b).gone ≡ (pt.view.pair a b).gone = ap (λ (p : Pair). p.gone) here in
@@ -148,7 +148,7 @@ in_order pt a b n ks w ab ba is below kept h e =
     let acked = x.acked in
     let start : Mid pt.view.pair a b ks = subst (Mid pt.view.pair a b) kept (mid_start pt.view.pair a b h) in
     let mid : Mid o.next.view.pair a b ks = subst (λ (g : ℕ → ℕ → Pair). Mid g a b ks) (sym pair) (mid_take pt.view.pair a b n ks ab is below start) in
-    let t = takes_keep window (n + 1) a b ks tail o.next o.rest ab (omega arith) (omega arith) mid o.on in
+    let t = takes_keep pair_window (n + 1) a b ks tail o.next o.rest ab (omega arith) (omega arith) mid o.on in
     subst (λ (q : Point). Paired q.view.pair) o.end (then_acked a b (n + 1 + length others) o.rest ba t)
 
 -- data comes
@@ -156,7 +156,7 @@ data_by : (pt : Point) (a b n : ℕ) (p : Pair) (w : Spelled) (old ahead : Bool)
     → (pt.view.pair a b).taken ≡ p.taken → n < (pt.view.pair a b).gone → (pt.view.pair a b).kept ≡ p.kept → Paired pt.view.pair
     → spelled pt (if old then Says (Line.Old a b n) ∷ Transmits b a (Load.Ack p.taken) ∷ []
     else if ahead then Says (Line.Early a b n) ∷ Transmits b a (Load.Ack p.taken) ∷ []
-    else takes_on a b n (kept_from p.kept (n + 1) window)) ≡ Some w → Paired w.point.view.pair
+    else takes_on a b n (kept_from p.kept (n + 1) pair_window)) ≡ Some w → Paired w.point.view.pair
 data_by pt a b n p w true ahead f g ab ba is below kept h e =
     keeps (Says (Line.Old a b n) ∷ Transmits b a (Load.Ack p.taken) ∷ []) pt w (refl, ((ba, omega arith), tt)) h e
 data_by pt a b n p w false true f g ab ba is below kept h e =
@@ -203,7 +203,7 @@ ack_comes : (pt : Point) (a b n : ℕ) (p : Pair) (w : Spelled) → (b == a) ≡
     → spelled pt (Says (Line.Acked a b n) ∷ repeats b a (let_go p (more n p.acked))) ≡ Some w → Paired w.point.view.pair
 ack_comes pt a b n p w ba is le h e =
     let top = more n p.acked in
-    let k = less (length p.ids - p.gone) (top + window - p.gone) in
+    let k = less (length p.ids - p.gone) (top + pair_window - p.gone) in
     let others = repeats b a (numbers_from p.gone k) in
     let o = onward pt (Says (Line.Acked a b n)) others w e in
     let pair : o.next.view.pair ≡ at_pair pt.view.pair b a (record (pt.view.pair b a) { acked = at_least (pt.view.pair b a).acked n }) = ap (λ (v : View). v.pair) (says_view pt (Line.Acked a b n) others w o) in
@@ -217,8 +217,8 @@ ack_comes pt a b n p w ba is le h e =
     let x = goes.paired.stand.apart b a ba in
     let gone = x.gone in
     let full = x.full in
-    let left = less-left (length p.ids - p.gone) (top + window - p.gone) in
-    let right = less-right (length p.ids - p.gone) (top + window - p.gone) in
+    let left = less-left (length p.ids - p.gone) (top + pair_window - p.gone) in
+    let right = less-right (length p.ids - p.gone) (top + pair_window - p.gone) in
     let r : Paired o.rest.point.view.pair = go_keep k p.gone b a o.next o.rest ba out (omega (arith, gone, out, long, left)) (omega (arith, full, out, acked, right)) goes.paired o.on in
     subst (λ (q : Point). Paired q.view.pair) o.end r
 
@@ -230,7 +230,7 @@ comes_keep pt a b k p back (Load.Data n) w ab ba is other stands h e =
     data_by pt a b n p w (nat_lt n p.taken) (nat_lt p.taken n) refl refl ab ba (ap (λ (q : Pair). q.taken) is) (omega (arith, out, stands)) (ap (λ (q : Pair). q.kept) is) h e
 comes_keep pt a b k p back (Load.Ack n) w ab ba is other stands h e = ack_comes pt a b n back w ba other stands h e
 
-pub arrives_keep : (pt : Point) (a b k : ℕ) (p back : Pair) (o : Option Sent) (w : Spelled) → slice_get p.wire k ≡ o → (a == b) ≡ false → (b == a) ≡ false → pt.view.pair a b ≡ marked p k → pt.view.pair b a ≡ back → Apart p back → Paired pt.view.pair
+pub arrives_keep : (pt : Point) (a b k : ℕ) (p back : Pair) (o : Option SentLoad) (w : Spelled) → slice_get p.wire k ≡ o → (a == b) ≡ false → (b == a) ≡ false → pt.view.pair a b ≡ marked p k → pt.view.pair b a ≡ back → Apart p back → Paired pt.view.pair
     → spelled pt (arrives a b p back o) ≡ Some w → Paired w.point.view.pair
 arrives_keep pt a b k p back None w f ab ba is other x h e = keeps (Says Line.Nothing ∷ []) pt w (refl, tt) h e
 arrives_keep pt a b k p back (Some s) w f ab ba is other x h e =

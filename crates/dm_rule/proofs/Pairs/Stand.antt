@@ -1,13 +1,13 @@
 -- The pairs of machines stand, and what keeps them so.
 use Rattle.dm_rule.proofs.Names.{◌≡◌, ℕ, zero, suc, ◌+◌, ◌<◌, ◌≤◌, ◌==◌, ◌&&◌, Bool, true, false, List, [], ◌∷◌, ◌++◌, ap, ◌∙◌, sym, subst, inl, inr, arith, length, ⊤, if◌then◌else◌, slice_get, slice_set, Option, None, Some, cases_Bool}
-use Rattle.dm_rule.proofs.Names.{nat_tests, Load, at_pair, Pair, Sent, marked_at, has, HomeStands}
+use Rattle.dm_rule.proofs.Names.{nat_tests, Load, at_pair, Pair, SentLoad, marked_at, has, HomeStands}
 
 -- what a packet carries: data that has gone out, or a count of messages that were taken on the pair that leads back
 abbrev pub LoadStands : ℕ → ℕ → Load → Type 0
 LoadStands gone back (Load.Data n) = n < gone
 LoadStands gone back (Load.Ack n) = n ≤ back
 
-abbrev pub WireStands : ℕ → ℕ → List Sent → Type 0
+abbrev pub WireStands : ℕ → ℕ → List SentLoad → Type 0
 WireStands gone back [] = ⊤
 WireStands gone back (s ∷ ss) = LoadStands gone back s.load × WireStands gone back ss
 
@@ -48,27 +48,27 @@ LoadStands-more : (g b g' b' : ℕ) (l : Load) → g ≤ g' → b ≤ b' → Loa
 LoadStands-more g b g' b' (Load.Data n) x y h = omega (arith, h)
 LoadStands-more g b g' b' (Load.Ack n) x y h = omega (arith, h)
 
-pub WireStands-more : (g b g' b' : ℕ) (ss : List Sent) → g ≤ g' → b ≤ b' → WireStands g b ss → WireStands g' b' ss
+pub WireStands-more : (g b g' b' : ℕ) (ss : List SentLoad) → g ≤ g' → b ≤ b' → WireStands g b ss → WireStands g' b' ss
 WireStands-more g b g' b' [] x y h = h
 WireStands-more g b g' b' (s ∷ ss) x y h = (LoadStands-more g b g' b' s.load x y h.0, WireStands-more g b g' b' ss x y h.1)
 
 -- one more packet
-pub WireStands-put : (g b : ℕ) (ss : List Sent) (s : Sent) → WireStands g b ss → LoadStands g b s.load → WireStands g b (ss ++ s ∷ [])
+pub WireStands-put : (g b : ℕ) (ss : List SentLoad) (s : SentLoad) → WireStands g b ss → LoadStands g b s.load → WireStands g b (ss ++ s ∷ [])
 WireStands-put g b [] s h k = (k, h)
 WireStands-put g b (t ∷ ss) s h k = (h.0, WireStands-put g b ss s h.1 k)
 
 -- a packet of the wire
-pub WireStands-at : (g b : ℕ) (ss : List Sent) (k : ℕ) (s : Sent) → slice_get ss k ≡ Some s → WireStands g b ss → LoadStands g b s.load
+pub WireStands-at : (g b : ℕ) (ss : List SentLoad) (k : ℕ) (s : SentLoad) → slice_get ss k ≡ Some s → WireStands g b ss → LoadStands g b s.load
 WireStands-at g b [] k s e h = cc
-WireStands-at g b (t ∷ ss) zero s e h = let f : t ≡ s = cc in subst (λ (v : Sent). LoadStands g b v.load) f h.0
+WireStands-at g b (t ∷ ss) zero s e h = let f : t ≡ s = cc in subst (λ (v : SentLoad). LoadStands g b v.load) f h.0
 WireStands-at g b (t ∷ ss) (suc k) s e h = WireStands-at g b ss k s e h.1
 
-WireStands-set : (g b : ℕ) (ss : List Sent) (k : ℕ) (s : Sent) → LoadStands g b s.load → WireStands g b ss → WireStands g b (slice_set ss k s)
+WireStands-set : (g b : ℕ) (ss : List SentLoad) (k : ℕ) (s : SentLoad) → LoadStands g b s.load → WireStands g b ss → WireStands g b (slice_set ss k s)
 WireStands-set g b [] k s l h = h
 WireStands-set g b (t ∷ ss) zero s l h = (l, h.1)
 WireStands-set g b (t ∷ ss) (suc k) s l h = (h.0, WireStands-set g b ss k s l h.1)
 
-pub WireStands-marked : (g b : ℕ) (ss : List Sent) (k : ℕ) (o : Option Sent) → slice_get ss k ≡ o → WireStands g b ss → WireStands g b (marked_at ss k o)
+pub WireStands-marked : (g b : ℕ) (ss : List SentLoad) (k : ℕ) (o : Option SentLoad) → slice_get ss k ≡ o → WireStands g b ss → WireStands g b (marked_at ss k o)
 WireStands-marked g b ss k None e h = h
 WireStands-marked g b ss k (Some s) e h = WireStands-set g b ss k (record s { delivered = true }) (WireStands-at g b ss k s e h) h
 

@@ -59,7 +59,7 @@ phases_group b pt (Step.Turn m) w e h state sane fits rooted =
     subst (λ (q : Point). InPhases q.view) g.point (turn_row b pt m (pt.view.inbox m) g.parts g.rest h state sane fits rooted refl g.is g.said)
 phases_group b pt (Step.Tick m) w e h state sane fits rooted =
     let g = group_is b pt (Step.Tick m) w e in
-    let qs = Says (Line.Resent m (rule.outstanding pt.view m pt.kernel.machines)) ∷ rule.resends pt.view m pt.kernel.machines in
+    let qs = Says (Line.Resent m (rule.outstanding_count pt.view m pt.kernel.machines)) ∷ rule.resends pt.view m pt.kernel.machines in
     let f : qs ≡ g.parts = let k = g.is in cc in
     let start = moved pt (Line.Head (Step.Tick m)) pt.kernel in
     subst (λ (q : Point). InPhases q.view) g.point

@@ -1,7 +1,7 @@
 -- All of a process is taken: its lists go on, it has left, and the other machine may restart it.
 use Rattle.dm_rule.proofs.Names.{◌≡◌, ◌⊎◌, ℕ, zero, suc, ◌+◌, ◌≤◌, ◌==◌, ◌&&◌, Bool, true, false, not, List, [], ◌∷◌, ◌++◌, length, refl, ap, ◌∙◌, sym, subst, inl, inr, arith, if◌then◌else◌, Option, None, Some, cases_Bool, false≢true, Pid}
 use Rattle.dm_rule.proofs.Names.{pid_eq, MsgId, MessageKind, Line, Stage, id_eq, bind, Load, at_record, View, Told, Of, Known, Unknown, Frozen, view_after, handled_first, gone_to, receiver_of, is_kernels, Point, moved, after, Part, Says}
-use Rattle.dm_rule.proofs.Names.{Again, Spelled, lines_of, puts, behind, spelled, to_kernel, sends_on, leaves, Spot, Queue, Held, Inbox, Untaken, times, standing, is_between, is_away, comes, Phase, Moves, knows, token_in, sender_in}
+use Rattle.dm_rule.proofs.Names.{Again, Spelled, lines_of, puts, behind, spelled, to_kernel, sends_on, leaves, Spot, Queue, Held, Inbox, Untaken, times, standing, is_between, is_away, kind_comes, Phase, Moves, knows, token_in, sender_in}
 use Rattle.dm_rule.proofs.Names.{receiver_in, id_eq-is, id_eq-same, pid_eq-same, bind-is}
 use Rattle.dm_rule.specs.View as view
 use Rattle.dm_rule.specs.Phases as phase
@@ -160,22 +160,22 @@ lists_tame v p j q h least told =
     }
 
 -- it has left: the source forwards
-left_if : (d : ℕ) (y : Known) (n : ℕ) → phase.leaves MessageKind.AllTaken d y ≡ true → phase.leaves MessageKind.Restart d (gone_to y n) ≡ true
+left_if : (d : ℕ) (y : Known) (n : ℕ) → phase.kind_leaves MessageKind.AllTaken d y ≡ true → phase.kind_leaves MessageKind.Restart d (gone_to y n) ≡ true
 left_if d (Frozen to) n e = e
 left_if d _ n e = absurd (false≢true e)
 
-comes_same : (s : ℕ) (y : Known) → comes MessageKind.Restart s y ≡ comes MessageKind.AllTaken s y
+comes_same : (s : ℕ) (y : Known) → kind_comes MessageKind.Restart s y ≡ kind_comes MessageKind.AllTaken s y
 comes_same s Unknown = refl
 comes_same s _ = refl
 
 left_known : (s d m n : ℕ) (b : Bool) (y : Known) → (s == m) ≡ b → knows (Moves MessageKind.AllTaken s d None) m y ≡ true → knows (Moves MessageKind.Restart s d None) m (if b then gone_to y n else y) ≡ true
 left_known s d m n true y e h =
-    ap (λ (c : Bool). if c then phase.leaves MessageKind.Restart d (gone_to y n) else if d == m then comes MessageKind.Restart s (gone_to y n) else is_away (gone_to y n)) e
-    ∙ left_if d y n (sym (ap (λ (c : Bool). if c then phase.leaves MessageKind.AllTaken d y else if d == m then comes MessageKind.AllTaken s y else is_away y) e) ∙ h)
+    ap (λ (c : Bool). if c then phase.kind_leaves MessageKind.Restart d (gone_to y n) else if d == m then kind_comes MessageKind.Restart s (gone_to y n) else is_away (gone_to y n)) e
+    ∙ left_if d y n (sym (ap (λ (c : Bool). if c then phase.kind_leaves MessageKind.AllTaken d y else if d == m then kind_comes MessageKind.AllTaken s y else is_away y) e) ∙ h)
 left_known s d m n false y e h =
-    ap (λ (c : Bool). if c then phase.leaves MessageKind.Restart d y else if d == m then comes MessageKind.Restart s y else is_away y) e
+    ap (λ (c : Bool). if c then phase.kind_leaves MessageKind.Restart d y else if d == m then kind_comes MessageKind.Restart s y else is_away y) e
     ∙ ap (λ (c : Bool). if d == m then c else is_away y) (comes_same s y)
-    ∙ sym (ap (λ (c : Bool). if c then phase.leaves MessageKind.AllTaken d y else if d == m then comes MessageKind.AllTaken s y else is_away y) e) ∙ h
+    ∙ sym (ap (λ (c : Bool). if c then phase.kind_leaves MessageKind.AllTaken d y else if d == m then kind_comes MessageKind.AllTaken s y else is_away y) e) ∙ h
 
 left_by : (v : View) (a m : ℕ) (p : Pid) (n : ℕ) (b : Bool) → (a == m) ≡ b → (if b && true then gone_to (v.known a p) n else v.known m p) ≡ (if b then gone_to (v.known m p) n else v.known m p)
 left_by v a m p n true e = ap (λ (x : ℕ). gone_to (v.known x p) n) (eq_is a m e)

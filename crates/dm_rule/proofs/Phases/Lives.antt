@@ -1,9 +1,9 @@
 -- A process ends, and one is made.
 use Rattle.dm_rule.proofs.Names.{◌≡◌, ℕ, ◌≤◌, ◌==◌, ◌&&◌, Bool, true, false, refl, ap, ◌∙◌, sym, subst, inl, arith, if◌then◌else◌, Option, None, Some, false≢true, nat_tests, Pid, MsgId, MessageKind, Label, Line, id_eq, Why, at_record, View}
-use Rattle.dm_rule.proofs.Names.{Told, Known, Unknown, Here, Ended, view_after, handled, served_told, kills, Spot, times, standing, is_between, is_away, is_here, is_over, comes, Phase, Nowhere, Rests, Over, Moves, knows, token_in}
+use Rattle.dm_rule.proofs.Names.{Told, Known, Unknown, Here, Ended, view_after, handled, served_told, kills, Spot, times, standing, is_between, is_away, is_here, is_over, kind_comes, Phase, Nowhere, Rests, Over, Moves, knows, token_in}
 use Rattle.dm_rule.proofs.Names.{pid_eq-same, id_eq-is}
 use Rattle.dm_rule.specs.View as view
-use Rattle.dm_rule.specs.Phases.{leaves}
+use Rattle.dm_rule.specs.Phases.{kind_leaves}
 use Rattle.dm_rule.proofs.Lines.{not_true}
 use Rattle.dm_rule.proofs.Turns.{ended_off, created_off}
 use Rattle.dm_rule.proofs.Phases.Calm.{Plain}
@@ -54,8 +54,8 @@ rests_if m = ap (λ (c : Bool). if c then is_here Unknown else is_away Unknown) 
 over_if : (m : ℕ) → (if m == m then is_over Unknown else is_away Unknown) ≡ false
 over_if m = ap (λ (c : Bool). if c then is_over Unknown else is_away Unknown) (let e : (m == m) ≡ true = grind (arith, nat_tests) in e)
 
-moves_if : (k : MessageKind) (s d : ℕ) → (if s == s then leaves k d Unknown else if d == s then comes k s Unknown else is_away Unknown) ≡ false
-moves_if k s d = ap (λ (c : Bool). if c then leaves k d Unknown else if d == s then comes k s Unknown else is_away Unknown) (let e : (s == s) ≡ true = grind (arith, nat_tests) in e)
+moves_if : (k : MessageKind) (s d : ℕ) → (if s == s then kind_leaves k d Unknown else if d == s then kind_comes k s Unknown else is_away Unknown) ≡ false
+moves_if k s d = ap (λ (c : Bool). if c then kind_leaves k d Unknown else if d == s then kind_comes k s Unknown else is_away Unknown) (let e : (s == s) ≡ true = grind (arith, nat_tests) in e)
 
 pub nowhere_known : (phase : Phase) → ((m : ℕ) → knows phase m Unknown ≡ true) → phase ≡ Nowhere
 nowhere_known Nowhere h = refl

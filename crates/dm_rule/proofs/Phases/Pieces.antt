@@ -1,20 +1,20 @@
 -- The rows of migration that answer with the next message: a request, the pieces, and that all is taken.
 use Rattle.dm_rule.proofs.Names.{◌≡◌, ℕ, ◌==◌, ◌&&◌, Bool, true, false, not, List, [], ◌∷◌, refl, ap, ◌∙◌, sym, subst, arith, if◌then◌else◌, Option, None, Some, false≢true, nat_tests, Pid, pid_eq, MsgId, MessageKind, Line, Stage, at_record}
 use Rattle.dm_rule.proofs.Names.{View, Told, About, NothingElse, Known, Unknown, Frozen, Incoming, Forward, view_after, handled, front_of, after_proto, follows_up, asks_on, is_kernels, Point, Says, Spelled, spelled, to_kernel, accepts}
-use Rattle.dm_rule.proofs.Names.{takes_chunk, takes_block, gives_piece, Spot, ids_at, is_between, is_apart, is_restart, is_early, comes, is_away, Phase, Moves, knows, sender_in, receiver_in, pid_eq-same, right_true}
-use Rattle.dm_rule.specs.Phases.{leaves}
+use Rattle.dm_rule.proofs.Names.{takes_chunk, takes_block, gives_piece, Spot, ids_at, is_between, is_apart, is_restart, is_early, kind_comes, is_away, Phase, Moves, knows, sender_in, receiver_in, pid_eq-same, right_true}
+use Rattle.dm_rule.specs.Phases.{kind_leaves}
 use Rattle.dm_rule.proofs.Moves.Lists.{first_off}
 use Rattle.dm_rule.proofs.Moves.Rows.{goes_first, goes_front, accepted_off, state_off, memory_off, lacks_off, proto_off}
 use Rattle.dm_rule.proofs.Phases.Stand.{InPhases}
 use Rattle.dm_rule.proofs.Phases.Answers.{Whole, Due, answer_row}
 
 -- two kinds between which no machine learns anything
-leaves_as : (k j : MessageKind) (d : ℕ) (y : Known) → is_restart k ≡ is_restart j → leaves k d y ≡ leaves j d y
+leaves_as : (k j : MessageKind) (d : ℕ) (y : Known) → is_restart k ≡ is_restart j → kind_leaves k d y ≡ kind_leaves j d y
 leaves_as k j d (Frozen to) e = ap (λ (b : Bool). not b && (d == to)) e
 leaves_as k j d (Forward at moves) e = ap (λ (b : Bool). b && (d == at)) e
 leaves_as k j d _ e = refl
 
-comes_as : (k j : MessageKind) (s : ℕ) (y : Known) → is_early k ≡ is_early j → comes k s y ≡ comes j s y
+comes_as : (k j : MessageKind) (s : ℕ) (y : Known) → is_early k ≡ is_early j → kind_comes k s y ≡ kind_comes j s y
 comes_as k j s Unknown e = e
 comes_as k j s (Incoming from) e = ap (λ (b : Bool). not b && (s == from)) e
 comes_as k j s (Forward at moves) e = e
@@ -22,8 +22,8 @@ comes_as k j s _ e = refl
 
 pub knows_as : (k j : MessageKind) (s d : ℕ) (o u : Option MsgId) (m : ℕ) (y : Known) → is_restart k ≡ is_restart j → is_early k ≡ is_early j → knows (Moves k s d o) m y ≡ knows (Moves j s d u) m y
 knows_as k j s d o u m y e f =
-    ap (λ (b : Bool). if s == m then b else if d == m then comes k s y else is_away y) (leaves_as k j d y e)
-    ∙ ap (λ (b : Bool). if s == m then leaves j d y else if d == m then b else is_away y) (comes_as k j s y f)
+    ap (λ (b : Bool). if s == m then b else if d == m then kind_comes k s y else is_away y) (leaves_as k j d y e)
+    ∙ ap (λ (b : Bool). if s == m then kind_leaves j d y else if d == m then b else is_away y) (comes_as k j s y f)
 
 -- what is known of another process
 pub and_false : (b c : Bool) → c ≡ false → (b && c) ≡ false
@@ -63,12 +63,12 @@ both_self b p x y = ap (λ (c : Bool). if b && c then x else y) (pid_eq-same p) 
 accepted_if : (s d m : ℕ) (b c : Bool) (y : Known) → (s == m) ≡ b → (d == m) ≡ c → (s == d) ≡ false → knows (Moves MessageKind.Ask s d None) m y ≡ true → knows (Moves MessageKind.PullState s d None) m (if c then Incoming s else y) ≡ true
 accepted_if s d m true true y e f g h = absurd (let x : (s == d) ≡ true = grind (arith, nat_tests) in false≢true (sym g ∙ x))
 accepted_if s d m true false y e f g h =
-    ap (λ (b : Bool). if b then leaves MessageKind.PullState d y else if d == m then comes MessageKind.PullState s y else is_away y) e ∙ leaves_as MessageKind.PullState MessageKind.Ask d y refl
-    ∙ sym (ap (λ (b : Bool). if b then leaves MessageKind.Ask d y else if d == m then comes MessageKind.Ask s y else is_away y) e) ∙ h
-accepted_if s d m false true y e f g h = ap (λ (b : Bool). if b then leaves MessageKind.PullState d (Incoming s) else if d == m then comes MessageKind.PullState s (Incoming s) else is_away (Incoming s)) e ∙ ap (λ (b : Bool). if b then comes MessageKind.PullState s (Incoming s) else is_away (Incoming s)) f ∙ eq_self s
+    ap (λ (b : Bool). if b then kind_leaves MessageKind.PullState d y else if d == m then kind_comes MessageKind.PullState s y else is_away y) e ∙ leaves_as MessageKind.PullState MessageKind.Ask d y refl
+    ∙ sym (ap (λ (b : Bool). if b then kind_leaves MessageKind.Ask d y else if d == m then kind_comes MessageKind.Ask s y else is_away y) e) ∙ h
+accepted_if s d m false true y e f g h = ap (λ (b : Bool). if b then kind_leaves MessageKind.PullState d (Incoming s) else if d == m then kind_comes MessageKind.PullState s (Incoming s) else is_away (Incoming s)) e ∙ ap (λ (b : Bool). if b then kind_comes MessageKind.PullState s (Incoming s) else is_away (Incoming s)) f ∙ eq_self s
 accepted_if s d m false false y e f g h =
-    ap (λ (b : Bool). if b then leaves MessageKind.PullState d y else if d == m then comes MessageKind.PullState s y else is_away y) e ∙ ap (λ (b : Bool). if b then comes MessageKind.PullState s y else is_away y) f
-    ∙ sym (ap (λ (b : Bool). if b then leaves MessageKind.Ask d y else if d == m then comes MessageKind.Ask s y else is_away y) e ∙ ap (λ (b : Bool). if b then comes MessageKind.Ask s y else is_away y) f) ∙ h
+    ap (λ (b : Bool). if b then kind_leaves MessageKind.PullState d y else if d == m then kind_comes MessageKind.PullState s y else is_away y) e ∙ ap (λ (b : Bool). if b then kind_comes MessageKind.PullState s y else is_away y) f
+    ∙ sym (ap (λ (b : Bool). if b then kind_leaves MessageKind.Ask d y else if d == m then kind_comes MessageKind.Ask s y else is_away y) e ∙ ap (λ (b : Bool). if b then kind_comes MessageKind.Ask s y else is_away y) f) ∙ h
 
 pub not_false : (b : Bool) → not b ≡ true → b ≡ false
 not_false true e = absurd (false≢true e)

@@ -1,9 +1,9 @@
 -- The rows of migration that end it, and the one that begins it.
 use Rattle.dm_rule.proofs.Names.{◌≡◌, ◌⊎◌, ℕ, zero, suc, ◌+◌, ◌≤◌, ◌==◌, ◌&&◌, Bool, true, false, not, List, [], ◌∷◌, ◌++◌, refl, ap, ◌∙◌, sym, subst, inl, inr, arith, if◌then◌else◌, Option, None, Some, cases_Bool, false≢true, nat_tests}
 use Rattle.dm_rule.proofs.Names.{Pid, pid_eq, MsgId, MessageKind, Stage, id_eq, Line, at_machine, at_record, View, Told, Of, Known, Unknown, Here, Frozen, Incoming, Forward, view_after, handled_first, released, is_kernels, target_of}
-use Rattle.dm_rule.proofs.Names.{front_told, Point, label_of, moved, Says, Spelled, spelled, to_kernel, Spot, Queue, Held, Inbox, Untaken, times, ids_at, standing, is_between, is_restart, is_early, comes, is_away, is_here, is_over, Phase}
-use Rattle.dm_rule.proofs.Names.{Nowhere, Rests, Over, Moves, knows, token_in, receiver_in, id_eq-is, pid_eq-is, pid_eq-same}
-use Rattle.dm_rule.specs.Phases.{leaves}
+use Rattle.dm_rule.proofs.Names.{front_told, Point, label_of, moved, Says, Spelled, spelled, to_kernel, Spot, Queue, Held, Inbox, Untaken, times, ids_at, standing, is_between, is_restart, is_early, kind_comes, is_away, is_here, is_over}
+use Rattle.dm_rule.proofs.Names.{Phase, Nowhere, Rests, Over, Moves, knows, token_in, receiver_in, id_eq-is, pid_eq-is, pid_eq-same}
+use Rattle.dm_rule.specs.Phases.{kind_leaves}
 use Rattle.dm_rule.proofs.Standing.{times-append}
 use Rattle.dm_rule.proofs.Lines.{Bag, hidden, Stands, Stands-stays, Stands-handled, parts, eq_is}
 use Rattle.dm_rule.proofs.Letters.{letters}
@@ -127,23 +127,23 @@ back_learns pt l i is t p h quiet front told about off known =
     }
 
 -- it rests on the acting machine
-early_away : (k : MessageKind) (s : ℕ) (y : Known) → is_early k ≡ true → comes k s y ≡ true → is_away y ≡ true
+early_away : (k : MessageKind) (s : ℕ) (y : Known) → is_early k ≡ true → kind_comes k s y ≡ true → is_away y ≡ true
 early_away k s Unknown e h = refl
 early_away k s (Incoming from) e h = absurd (false≢true (sym (ap (λ (b : Bool). not b && (s == from)) e) ∙ h))
 early_away k s (Forward at moves) e h = refl
 early_away k s _ e h = absurd (false≢true h)
 
-restart_away : (k : MessageKind) (d : ℕ) (y : Known) → is_restart k ≡ true → leaves k d y ≡ true → is_away y ≡ true
+restart_away : (k : MessageKind) (d : ℕ) (y : Known) → is_restart k ≡ true → kind_leaves k d y ≡ true → is_away y ≡ true
 restart_away k d (Frozen to) e h = absurd (false≢true (sym (ap (λ (b : Bool). not b && (d == to)) e) ∙ h))
 restart_away k d (Forward at moves) e h = refl
 restart_away k d _ e h = absurd (false≢true h)
 
 -- the source, when it was refused, and the destination, when it may restart the process
-coming_away : (k : MessageKind) (s d m : ℕ) (y : Known) (c : Bool) → is_early k ≡ true → (if c then comes k s y else is_away y) ≡ true → is_away y ≡ true
+coming_away : (k : MessageKind) (s d m : ℕ) (y : Known) (c : Bool) → is_early k ≡ true → (if c then kind_comes k s y else is_away y) ≡ true → is_away y ≡ true
 coming_away k s d m y true e h = early_away k s y e h
 coming_away k s d m y false e h = h
 
-left_away : (k : MessageKind) (d : ℕ) (y : Known) (c : Bool) → is_restart k ≡ true → (if c then leaves k d y else is_away y) ≡ true → is_away y ≡ true
+left_away : (k : MessageKind) (d : ℕ) (y : Known) (c : Bool) → is_restart k ≡ true → (if c then kind_leaves k d y else is_away y) ≡ true → is_away y ≡ true
 left_away k d y true e h = restart_away k d y e h
 left_away k d y false e h = h
 
@@ -151,13 +151,13 @@ refused_if : (k : MessageKind) (s d m : ℕ) (o : Option MsgId) (b : Bool) (y : 
 refused_if k s d m o true y e f h = ap (λ (c : Bool). if c then is_here Here else is_away Here) f
 refused_if k s d m o false y e f h =
     ap (λ (c : Bool). if c then is_here y else is_away y) f
-    ∙ coming_away k s d m y (d == m) e (sym (ap (λ (c : Bool). if c then leaves k d y else if d == m then comes k s y else is_away y) f) ∙ h)
+    ∙ coming_away k s d m y (d == m) e (sym (ap (λ (c : Bool). if c then kind_leaves k d y else if d == m then kind_comes k s y else is_away y) f) ∙ h)
 
 restarted_if : (k : MessageKind) (s d m : ℕ) (o : Option MsgId) (b : Bool) (y : Known) → is_restart k ≡ true → (d == m) ≡ b → knows (Moves k s d o) m y ≡ true → knows (Rests d) m (if b then Here else y) ≡ true
 restarted_if k s d m o true y e f h = ap (λ (c : Bool). if c then is_here Here else is_away Here) f
 restarted_if k s d m o false y e f h =
     ap (λ (c : Bool). if c then is_here y else is_away y) f
-    ∙ left_away k d y (s == m) e (sym (ap (λ (c : Bool). if s == m then leaves k d y else if c then comes k s y else is_away y) f) ∙ h)
+    ∙ left_away k d y (s == m) e (sym (ap (λ (c : Bool). if s == m then kind_leaves k d y else if c then kind_comes k s y else is_away y) f) ∙ h)
 
 and_true : (b : Bool) (x y : Known) → (if b && true then x else y) ≡ (if b then x else y)
 and_true true x y = refl
@@ -201,12 +201,12 @@ over_if : (b : Bool) → (if b then is_over Here else is_away Here) ≡ false
 over_if true = refl
 over_if false = refl
 
-moves_if : (k : MessageKind) (s d : ℕ) (b c : Bool) → (if b then leaves k d Here else if c then comes k s Here else is_away Here) ≡ false
+moves_if : (k : MessageKind) (s d : ℕ) (b c : Bool) → (if b then kind_leaves k d Here else if c then kind_comes k s Here else is_away Here) ≡ false
 moves_if k s d true c = refl
 moves_if k s d false true = refl
 moves_if k s d false false = refl
 
-away_comes : (a : ℕ) (y : Known) (c : Bool) → is_away y ≡ true → (if c then comes MessageKind.Ask a y else is_away y) ≡ true
+away_comes : (a : ℕ) (y : Known) (c : Bool) → is_away y ≡ true → (if c then kind_comes MessageKind.Ask a y else is_away y) ≡ true
 away_comes a Unknown true h = refl
 away_comes a (Forward at moves) true h = refl
 away_comes a y false h = h
@@ -221,9 +221,9 @@ rests_here (Moves k s d o) m e = absurd (false≢true (sym (moves_if k s d (s ==
 
 -- it is frozen, and the other machine is asked
 frozen_if : (a to m : ℕ) (b : Bool) (y : Known) → (a == m) ≡ b → (a == to) ≡ false → knows (Rests a) m y ≡ true → knows (Moves MessageKind.Ask a to None) m (if b then Frozen to else y) ≡ true
-frozen_if a to m true y e f h = ap (λ (c : Bool). if c then leaves MessageKind.Ask to (Frozen to) else if to == m then comes MessageKind.Ask a (Frozen to) else is_away (Frozen to)) e ∙ eq_self to
+frozen_if a to m true y e f h = ap (λ (c : Bool). if c then kind_leaves MessageKind.Ask to (Frozen to) else if to == m then kind_comes MessageKind.Ask a (Frozen to) else is_away (Frozen to)) e ∙ eq_self to
 frozen_if a to m false y e f h =
-    ap (λ (c : Bool). if c then leaves MessageKind.Ask to y else if to == m then comes MessageKind.Ask a y else is_away y) e
+    ap (λ (c : Bool). if c then kind_leaves MessageKind.Ask to y else if to == m then kind_comes MessageKind.Ask a y else is_away y) e
     ∙ away_comes a y (to == m) (sym (ap (λ (c : Bool). if c then is_here y else is_away y) e) ∙ h)
 
 pub frozen_row : (pt : Point) (i : MsgId) (is : List MsgId) (t : Told) (p : Pid) (to : ℕ) (w : Spelled) (h : Whole pt) → is_between t.kind ≡ false → pt.view.inbox pt.view.acting ≡ i ∷ is → pt.view.told i ≡ Some t → is_kernels i ≡ true → pt.view.known pt.view.acting p ≡ Here → target_of (Some t) ≡ to → (pt.view.acting == to) ≡ false

@@ -34,15 +34,15 @@ line_first pt l ps w h quiet calm phases go e =
     } in
     subst (λ (q : Point). InPhases q.view) k.point (go k.s next k.rest k.more)
 
-drops_quiet : (v : View) (ids : List MsgId) → AllQuiet v (rule.drops ids)
+drops_quiet : (v : View) (ids : List MsgId) → AllQuiet v (rule.drop_parts ids)
 drops_quiet v [] = tt
 drops_quiet v (i ∷ is) = (tt, drops_quiet v is)
 
 -- a process ends, and its queue is dropped
-ends_row : (pt : Point) (p : Pid) (y : Why) (queue : List MsgId) (w : Spelled) → Fit pt → pt.view.known pt.view.acting p ≡ Here → spelled pt (rule.says (Label.End p y) ∷ rule.drops queue) ≡ Some w → InPhases w.point.view
+ends_row : (pt : Point) (p : Pid) (y : Why) (queue : List MsgId) (w : Spelled) → Fit pt → pt.view.known pt.view.acting p ≡ Here → spelled pt (rule.says (Label.End p y) ∷ rule.drop_parts queue) ≡ Some w → InPhases w.point.view
 ends_row pt p y queue w h here e =
-    line_first pt (Line.Label (Label.End p y)) (rule.drops queue) w h refl refl (λ s k. end_line_phases pt.view p y h.phases here)
-    (λ s next rest more. quiet_parts (rule.drops queue) (moved pt (Line.Label (Label.End p y)) s) rest next (drops_quiet (view_after pt.view (Line.Label (Label.End p y))) queue) more) e
+    line_first pt (Line.Label (Label.End p y)) (rule.drop_parts queue) w h refl refl (λ s k. end_line_phases pt.view p y h.phases here)
+    (λ s next rest more. quiet_parts (rule.drop_parts queue) (moved pt (Line.Label (Label.End p y)) s) rest next (drops_quiet (view_after pt.view (Line.Label (Label.End p y))) queue) more) e
 
 -- the phases behind parts
 abbrev Into : Point → List Part → Type 0
@@ -72,13 +72,13 @@ unfolding front_tame
 front_mild pt i msg h f spares = record { tame = front_tame pt i msg h f; spares = ap is_kill (h.sane.tells.kind i msg f.told f.there f.is) ∙ spares }
 
 -- a kill ends its receiver, and the queue is dropped
-killed_row : (pt : Point) (i : MsgId) (msg : PlainMessage) (queue : List MsgId) (w : Spelled) (h : Fit pt) → Front pt i msg → plain_kind msg.what ≡ MessageKind.Kill → pt.view.known pt.view.acting msg.to ≡ Here → spelled pt (rule.says (Label.Served i) ∷ rule.drops queue) ≡ Some w → InPhases w.point.view
+killed_row : (pt : Point) (i : MsgId) (msg : PlainMessage) (queue : List MsgId) (w : Spelled) (h : Fit pt) → Front pt i msg → plain_kind msg.what ≡ MessageKind.Kill → pt.view.known pt.view.acting msg.to ≡ Here → spelled pt (rule.says (Label.Served i) ∷ rule.drop_parts queue) ≡ Some w → InPhases w.point.view
 killed_row pt i msg queue w h f k here e =
     let l = Line.Label (Label.Served i) in
     let same : f.told.receiver ≡ msg.to = h.sane.tells.receiver i msg f.told f.there f.is in
-    line_first pt l (rule.drops queue) w h refl refl
+    line_first pt l (rule.drop_parts queue) w h refl refl
     (λ s is. killed_phases pt.view i f.told h.phases (plain_in_bag pt i msg h.sane f.there) f.is (h.sane.tells.kind i msg f.told f.there f.is ∙ k) (ap (pt.view.known pt.view.acting) same ∙ here))
-    (λ s next rest more. quiet_parts (rule.drops queue) (moved pt l s) rest next (drops_quiet (view_after pt.view l) queue) more) e
+    (λ s next rest more. quiet_parts (rule.drop_parts queue) (moved pt l s) rest next (drops_quiet (view_after pt.view l) queue) more) e
 
 routes_quiet : (v : View) (o : Option PlainMessage) → AllQuiet v (rule.routes o)
 routes_quiet v None = tt

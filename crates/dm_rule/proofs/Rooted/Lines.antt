@@ -104,7 +104,7 @@ alive_lived s t p l kept is none le = absurd (let f : Some l ≡ None = sym is �
 
 ends_lived : (s t : OneKernel) (p : Pid) (y : Why) → Kept s t → kernel.step s (Label.End p y) ≡ Some t → Lived t p
 ends_lived s t p y kept e =
-    let (x, next, rest) = bind-is (kernel.next s p) (kernel.ends s p y) t e in
+    let (x, next, rest) = bind-is (kernel.next_trap s p) (kernel.ends s p y) t e in
     let n = nexts s p x next in
     alive_lived s t p (Alive n.x) kept n.is.alive
 
@@ -118,7 +118,7 @@ served_lived pt t id h kept e u told none le =
 created_some : (s t : OneKernel) (id : MsgId) (m : PlainMessage) (child : Pid) (w : PlainWhat) → service.creates s id m child w ≡ Some t → Lived t child
 created_some s t id m child (PlainWhat.Create image links) e none le =
     let (i, is, rest) = bind-is (slice_get s.images image) (service.creates_of s id m child links) t e in
-    let u = with_sent (service.with_child (without_message s id) child i links) (Some (answer_to m (PlainWhat.Created child))) in
+    let u = with_sent (service.with_created (without_message s id) child i links) (Some (answer_to m (PlainWhat.Created child))) in
     let same : u ≡ t = (when-is _ u t rest).1 in
     let there : u.processes child ≡ Some (Alive (begun s.format i links)) = ap (λ (c : Bool). if c then Some (Alive (begun s.format i links)) else s.processes child) (pid_eq-same child) in
     absurd (let f : None ≡ Some (Alive (begun s.format i links)) = sym none ∙ ap (λ (k : OneKernel). k.processes child) (sym same) ∙ there in cc)

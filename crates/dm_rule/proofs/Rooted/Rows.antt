@@ -29,7 +29,7 @@ first_of pt None h = tt
 first_of pt (Some ps) h = h ps refl
 
 -- a process is served
-drops_loose : (ids : List MsgId) → AllLoose (rule.drops ids)
+drops_loose : (ids : List MsgId) → AllLoose (rule.drop_parts ids)
 drops_loose [] = tt
 drops_loose (i ∷ is) = (λ pt. tt, drops_loose is)
 

@@ -1,6 +1,6 @@
 -- What machines learn of a process agrees with its trail.
 use Rattle.dm_rule.proofs.Names.{◌≡◌, ◌≢◌, ◌⊎◌, ℕ, zero, suc, ◌+◌, ◌<◌, ◌==◌, Bool, true, false, List, [], ◌∷◌, ◌++◌, length, refl, ap, ◌∙◌, sym, inl, inr, arith, nat_tests, if◌then◌else◌, slice_get, Some, cases_Bool, slice_get_within, Pid}
-use Rattle.dm_rule.proofs.Names.{View, Known, Unknown, Here, Incoming, Forward, Nowhere, Trails, Trail, Stood}
+use Rattle.dm_rule.proofs.Names.{View, Known, Unknown, Here, Incoming, Forward, Nowhere, Trails, Trail, StoodOnTrail}
 use Rattle.dm_rule.proofs.Lines.{eq_is}
 
 -- lists that grow at the end
@@ -117,7 +117,7 @@ trail_left v w t p d known there at long apart h = record {
         ]
 
 -- the trail of a process that was never made is its home alone
-pub home_alone : (v : View) (t : Trails) (p : Pid) → Trail v t p → Stood v t p Nowhere → (c m : ℕ) → slice_get (t p) c ≡ Some m → m ≡ p.home
+pub home_alone : (v : View) (t : Trails) (p : Pid) → Trail v t p → StoodOnTrail v t p Nowhere → (c m : ℕ) → slice_get (t p) c ≡ Some m → m ≡ p.home
 home_alone v t p h s c m e =
     let within = slice_get_within (t p) c m e in
     let long = s.long in

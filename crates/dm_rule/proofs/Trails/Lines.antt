@@ -2,7 +2,7 @@
 -- update, and the first put of a kernel's own message.
 use Rattle.dm_rule.proofs.Names.{◌≡◌, ℕ, ◌+◌, ◌≤◌, ◌&&◌, Bool, true, false, List, [], ◌∷◌, ◌++◌, refl, ap, ◌∙◌, sym, subst, inl, inr, arith, nat_lt, if◌then◌else◌, slice_get, Option, None, Some, cases_Bool, false≢true, Pid, Place, MsgId}
 use Rattle.dm_rule.proofs.Names.{id_eq, MessageKind, manager, OneKernel, pid_eq-is, id_eq-same, View, Told, About, Known, Frozen, Forward, is_kernels, own_id, Addresses, Holder, Receiver, Sender, Enclosed, given, place_known, all_follow}
-use Rattle.dm_rule.proofs.Names.{is_told_back, tells_back, forwards, place_told, belongs_to, leads_to, is_pid, is_behind, updated_to, updated, names, to_of, sender_of, times, Trails, Trail, IsOn, AddressesOn, OwnOn}
+use Rattle.dm_rule.proofs.Names.{is_told_back, told_back_gets, forwards, place_told, belongs_to, leads_to, is_pid, is_behind, updated_to, updated, names, to_of, sender_of, times, Trails, Trail, IsOn, AddressesOn, OwnOn}
 use Rattle.dm_rule.proofs.Once.{one_of}
 use Rattle.dm_rule.proofs.Lines.{parts}
 use Rattle.dm_rule.proofs.Trails.Places.{Goes, Comes, Named, Links, Owns, AllAre, AllGet, given_on, all_grown}
@@ -42,7 +42,7 @@ unnamed_sender s v i q bag told (Owns (Goes j u is k was r)) = cc
 unnamed_sender s v i q bag told (Owns (Comes j u is mine was k r)) = let ij : i ≡ j = cc in let f : None ≡ Some u = sym told ∙ ap v.told ij ∙ was in cc
 
 -- a message that is forwarded, and the update for its sender
-back_gets : (s : OneKernel) (v : View) (a : Addresses) (t : Trails) (id : MsgId) (b : Bool) → s.bag (own_id v) ≡ None → v.told (own_id v) ≡ None → AllGet s v t (tells_back v a id b)
+back_gets : (s : OneKernel) (v : View) (a : Addresses) (t : Trails) (id : MsgId) (b : Bool) → s.bag (own_id v) ≡ None → v.told (own_id v) ≡ None → AllGet s v t (told_back_gets v a id b)
 back_gets s v a t id true bag told = ((λ q e. absurd (unnamed_receiver s v (own_id v) q bag told e)), ((λ q e. absurd (unnamed_sender s v (own_id v) q bag told e)), tt))
 back_gets s v a t id false bag told = tt
 
@@ -61,8 +61,8 @@ forwarded_all s v a t id u d n told at for bag fresh trail h =
 pub forwarded_back : (v : View) (a : Addresses) (id : MsgId) (u : Told) → v.told id ≡ Some u → id_eq id (own_id v) ≡ false → is_told_back u.kind ≡ true → given a (forwards v a id (v.told id)) (Receiver (own_id v)) ≡ a (Sender id)
 forwarded_back v a id u told other back =
     ap (λ (o : Option Told). given a (forwards v a id o) (Receiver (own_id v))) told
-    ∙ ap (λ (c : Bool). if c then place_known (v.known v.acting u.receiver) (v.moves u.receiver) (a (Receiver id)) else given a (tells_back v a id (is_told_back u.kind)) (Receiver (own_id v))) other
-    ∙ ap (λ (c : Bool). given a (tells_back v a id c) (Receiver (own_id v))) back
+    ∙ ap (λ (c : Bool). if c then place_known (v.known v.acting u.receiver) (v.moves u.receiver) (a (Receiver id)) else given a (told_back_gets v a id (is_told_back u.kind)) (Receiver (own_id v))) other
+    ∙ ap (λ (c : Bool). given a (told_back_gets v a id c) (Receiver (own_id v))) back
     ∙ ap (λ (c : Bool). if c then a (Sender id) else a (Receiver (own_id v))) (id_eq-same (own_id v))
 
 -- its messages are sent on to where a process goes

@@ -1,8 +1,8 @@
 -- No label gives an address to a kernel's own message.
 use Rattle.dm_rule.proofs.Names.{◌≡◌, ℕ, ◌+◌, ◌==◌, ◌&&◌, Bool, true, false, not, List, [], ◌∷◌, ◌++◌, length, map, refl, ap, ◌∙◌, sym, subst, if◌then◌else◌, Option, None, Some, false≢true, Pid, Place, pid_eq, PlainLink, first_empty, MsgId}
 use Rattle.dm_rule.proofs.Names.{id_eq, id_of, PlainMessage, PlainWhat, Label, Reply, switchboard, manager, bind, PlainProcess, reg, NamedLink, OneKernel, with_sent, answer_id, id_eq-is, id_eq-same, sent_at, bind-is, when-is, View}
-use Rattle.dm_rule.proofs.Names.{is_kernels, Addresses, Holder, Slot, Owner, Receiver, Sender, Enclosed, Answer, Gets, gets, given, gives, holder_eq, unmoved, encloses, enclosed_from, sends_what, fills, fills_by, made, receives_links}
-use Rattle.dm_rule.proofs.Names.{receives_what, slot_after, lands, serves_what, child_links, board_finds, board_keeps, board_takes, manager_tells, manager_sends, manager_answers, manager_takes, both_true}
+use Rattle.dm_rule.proofs.Names.{is_kernels, Addresses, Holder, Slot, Owner, Receiver, Sender, Enclosed, Answer, Gets, gets, given, gives, holder_eq, unmoved, encloses, enclosed_from, sends_what, fills, fills_by, call_gets, receives_links}
+use Rattle.dm_rule.proofs.Names.{receives_what, slot_after, landing_gets, serves_what, child_links, board_finds, board_keeps, board_gets, manager_tells, manager_sends, manager_answers, manager_gets, both_true}
 use Rattle.dm_onekernel.specs.Calls as calls
 use Rattle.dm_onekernel.specs.Pieces as pieces
 use Rattle.dm_onekernel.specs.Switchboard as board
@@ -86,7 +86,7 @@ fills_by_spares v a p x calls.Make i = fills_spares p (first_empty x.links) _ i
 fills_by_spares v a p x calls.Copy i = fills_spares p (first_empty x.links) _ i
 fills_by_spares v a p x _ i = refl
 
-pub made_spares : (v : View) (a : Addresses) (p : Pid) (n : ℕ) (c : Reply) (o : Option PlainProcess) (i : MsgId) → spares i (made v a p n c o) ≡ true
+pub made_spares : (v : View) (a : Addresses) (p : Pid) (n : ℕ) (c : Reply) (o : Option PlainProcess) (i : MsgId) → spares i (call_gets v a p n c o) ≡ true
 made_spares v a p n Reply.Done (Some x) i = fills_by_spares v a p x (calls.call_number n) i
 made_spares v a p n Reply.Done None i = refl
 made_spares v a p n _ o i = refl
@@ -96,13 +96,13 @@ pub sends_what_spares : (v : View) (a : Addresses) (p : Pid) (x : PlainProcess) 
 sends_what_spares v a p x id (PlainWhat.User b1 b2 b3 b4) i e = two_more i id (encloses id 0 (map (λ (n : ℕ). a (Slot p n)) (calls.listed x))) e (encloses_spares i id 0 (map (λ (n : ℕ). a (Slot p n)) (calls.listed x)))
 sends_what_spares v a p x id _ i e = two_more i id (gets (Owner p) (a (Slot p (reg x.regs 1))) ∷ []) e refl
 
-pub sends_next_spares : (v : View) (a : Addresses) (p : Pid) (x : PlainProcess) (id : MsgId) (o : Option kernel.Next) (i : MsgId) → id_eq id i ≡ false → spares i (addresses.sends_next v a p x id o) ≡ true
+pub sends_next_spares : (v : View) (a : Addresses) (p : Pid) (x : PlainProcess) (id : MsgId) (o : Option kernel.Trap) (i : MsgId) → id_eq id i ≡ false → spares i (addresses.sends_next v a p x id o) ≡ true
 sends_next_spares v a p x id (Some (kernel.Calls number (calls.Sends m y))) i e = sends_what_spares v a p x id m.what i e
 sends_next_spares v a p x id _ i e = refl
 
-pub sends_spares : (s : OneKernel) (v : View) (a : Addresses) (p : Pid) (id : MsgId) (o : Option PlainProcess) (i : MsgId) → id_eq id i ≡ false → spares i (addresses.sends s v a p id o) ≡ true
+pub sends_spares : (s : OneKernel) (v : View) (a : Addresses) (p : Pid) (id : MsgId) (o : Option PlainProcess) (i : MsgId) → id_eq id i ≡ false → spares i (addresses.send_gets s v a p id o) ≡ true
 sends_spares s v a p id None i e = refl
-sends_spares s v a p id (Some x) i e = sends_next_spares v a p x id (kernel.next s p) i e
+sends_spares s v a p id (Some x) i e = sends_next_spares v a p x id (kernel.next_trap s p) i e
 
 -- what a step puts into the bag isn't a kernel's own
 abbrev pub Outside : OneKernel → Type 0
@@ -111,7 +111,7 @@ Outside t = (j : MsgId) (x : PlainMessage) → t.bag j ≡ Some x → is_kernels
 new_outside : (s t : OneKernel) (m : PlainMessage) → Outside t → with_sent s (Some m) ≡ t → is_kernels m.id ≡ false
 new_outside s t m out e = out m.id m (sym (ap (λ (u : OneKernel). u.bag m.id) e) ∙ sent_at s m m.id (id_eq-same m.id))
 
-send_other : (s t : OneKernel) (p : Pid) (id : MsgId) (n : kernel.Next) → kernel.sends s p id n ≡ Some t → Outside t → is_kernels id ≡ false
+send_other : (s t : OneKernel) (p : Pid) (id : MsgId) (n : kernel.Trap) → kernel.sends s p id n ≡ Some t → Outside t → is_kernels id ≡ false
 send_other s t p id (kernel.Calls number (calls.Sends m y)) e out =
     let k = when-is (id_eq id m.id) (with_sent (kernel.goes_on s p y) (Some m)) t e in
     ap is_kernels (id_eq-is id m.id k.0) ∙ new_outside (kernel.goes_on s p y) t m out k.1
@@ -128,22 +128,22 @@ pub receives_what_spares : (a : Addresses) (p : Pid) (id : MsgId) (x : PlainProc
 receives_what_spares a p id x (PlainWhat.User b1 b2 b3 b4) i = receives_links_spares a p id 0 x.links b4 i
 receives_what_spares a p id x _ i = refl
 
-pub receives_spares : (a : Addresses) (p : Pid) (id : MsgId) (o : Option PlainProcess) (m : Option PlainMessage) (i : MsgId) → spares i (addresses.receives a p id o m) ≡ true
+pub receives_spares : (a : Addresses) (p : Pid) (id : MsgId) (o : Option PlainProcess) (m : Option PlainMessage) (i : MsgId) → spares i (addresses.reception_gets a p id o m) ≡ true
 receives_spares a p id None m i = refl
 receives_spares a p id (Some x) None i = refl
 receives_spares a p id (Some x) (Some m) i = receives_what_spares a p id x m.what i
 
 -- served
-landed_spares : (s t : OneKernel) (v : View) (a : Addresses) (id : MsgId) (m : PlainMessage) (c : pieces.Landed) (i : MsgId) → Outside t → is_kernels i ≡ true → service.landed s id m c ≡ t → spares i (lands v a m.to (Some c)) ≡ true
+landed_spares : (s t : OneKernel) (v : View) (a : Addresses) (id : MsgId) (m : PlainMessage) (c : pieces.Landed) (i : MsgId) → Outside t → is_kernels i ≡ true → service.landed s id m c ≡ t → spares i (landing_gets v a m.to (Some c)) ≡ true
 landed_spares s t v a id m (pieces.Done r y) i out own e = refl
 landed_spares s t v a id m (pieces.Next n y) i out own e = two_more i n.id [] (apart i n.id own (new_outside (service.changed s id m y) t n out e)) refl
 
 lands_spares : (s t : OneKernel) (v : View) (a : Addresses) (id : MsgId) (m : PlainMessage) (x : PlainProcess) (i : MsgId) → Outside t → is_kernels i ≡ true → bind (pieces.lands m.to x m x.status) (λ (c : pieces.Landed). Some (service.landed s id m c)) ≡ Some t
-    → spares i (lands v a m.to (pieces.lands m.to x m x.status)) ≡ true
+    → spares i (landing_gets v a m.to (pieces.lands m.to x m x.status)) ≡ true
 lands_spares s t v a id m x i out own e =
     let (c, is, last) = bind-is (pieces.lands m.to x m x.status) (λ (w : pieces.Landed). Some (service.landed s id m w)) t e in
     let k : service.landed s id m c ≡ t = cc in
-    subst (λ (o : Option pieces.Landed). spares i (lands v a m.to o) ≡ true) (sym is) (landed_spares s t v a id m c i out own k)
+    subst (λ (o : Option pieces.Landed). spares i (landing_gets v a m.to o) ≡ true) (sym is) (landed_spares s t v a id m c i out own k)
 
 serve_spares : (s t : OneKernel) (v : View) (a : Addresses) (id : MsgId) (m : PlainMessage) (x : PlainProcess) (w : PlainWhat) (i : MsgId) → Outside t → is_kernels i ≡ true → service.serves s id m x w ≡ Some t → spares i (serves_what v a id m x w) ≡ true
 serve_spares s t v a id m x (PlainWhat.Read b1 b2) i new own is = two_more i (answer_id id) [] (answers_apart i id own) refl
@@ -157,7 +157,7 @@ pub creates_what_spares : (a : Addresses) (id : MsgId) (child : Pid) (w : PlainW
 creates_what_spares a id child (PlainWhat.Create b1 b2) i = child_links_spares a child id 0 b2 i
 creates_what_spares a id child _ i = refl
 
-creates_spares : (v : View) (a : Addresses) (id : MsgId) (child : Pid) (o : Option PlainMessage) (i : MsgId) → is_kernels i ≡ true → spares i (addresses.creates v a id child o) ≡ true
+creates_spares : (v : View) (a : Addresses) (id : MsgId) (child : Pid) (o : Option PlainMessage) (i : MsgId) → is_kernels i ≡ true → spares i (addresses.creation_gets v a id child o) ≡ true
 creates_spares v a id child None i own = refl
 creates_spares v a id child (Some m) i own = two_more i (answer_id id) (addresses.creates_what a id child m.what) (answers_apart i id own) (creates_what_spares a id child m.what i)
 
@@ -171,7 +171,7 @@ pub keeps_spares : (a : Addresses) (id : MsgId) (names : List NamedLink) (k : bo
 keeps_spares a id names board.Registered i = refl
 keeps_spares a id names _ i = refl
 
-board_links_spares : (s : OneKernel) (v : View) (a : Addresses) (id : MsgId) (code channel : ℕ) (body : List ℕ) (links : List PlainLink) (i : MsgId) → is_kernels i ≡ true → spares i (board_takes s v a id (PlainWhat.User code channel body links)) ≡ true
+board_links_spares : (s : OneKernel) (v : View) (a : Addresses) (id : MsgId) (code channel : ℕ) (body : List ℕ) (links : List PlainLink) (i : MsgId) → is_kernels i ≡ true → spares i (board_gets s v a id (PlainWhat.User code channel body links)) ≡ true
 board_links_spares s v a id code channel body [] i own = refl
 board_links_spares s v a id code channel body (l ∷ ls) i own =
     let sent = id_of switchboard s.switchboard.sent in
@@ -179,7 +179,7 @@ board_links_spares s v a id code channel body (l ∷ ls) i own =
     two_more i sent (board_finds a sent s.switchboard.names body asked.answer ++ board_keeps a id s.switchboard.names asked.answer) (apart i sent own refl)
     (spares_both i (board_finds a sent s.switchboard.names body asked.answer) (board_keeps a id s.switchboard.names asked.answer) (finds_spares a sent s.switchboard.names body asked.answer i) (keeps_spares a id s.switchboard.names asked.answer i))
 
-board_takes_spares : (s : OneKernel) (v : View) (a : Addresses) (id : MsgId) (w : PlainWhat) (i : MsgId) → is_kernels i ≡ true → spares i (board_takes s v a id w) ≡ true
+board_takes_spares : (s : OneKernel) (v : View) (a : Addresses) (id : MsgId) (w : PlainWhat) (i : MsgId) → is_kernels i ≡ true → spares i (board_gets s v a id w) ≡ true
 board_takes_spares s v a id (PlainWhat.User b1 b2 b3 b4) i own = board_links_spares s v a id b1 b2 b3 b4 i own
 board_takes_spares s v a id _ i own = refl
 
@@ -196,13 +196,13 @@ pub manager_answers_spares : (v : View) (a : Addresses) (n : ℕ) (o : Option Pl
 manager_answers_spares v a n None i e = refl
 manager_answers_spares v a n (Some sent) i e = two_more i sent.id (gets (Enclosed sent.id 0) (unmoved v.acting) ∷ []) (e sent refl) refl
 
-pub manager_takes_spares : (s : OneKernel) (v : View) (a : Addresses) (m : PlainMessage) (w : PlainWhat) (o : Option manage.Took) (i : MsgId) → ((k : manage.Took) → o ≡ Some k → (x : PlainMessage) → k.message ≡ Some x → id_eq x.id i ≡ false) → spares i (manager_takes s v a m w o) ≡ true
+pub manager_takes_spares : (s : OneKernel) (v : View) (a : Addresses) (m : PlainMessage) (w : PlainWhat) (o : Option manage.ManagerTook) (i : MsgId) → ((k : manage.ManagerTook) → o ≡ Some k → (x : PlainMessage) → k.message ≡ Some x → id_eq x.id i ≡ false) → spares i (manager_gets s v a m w o) ≡ true
 manager_takes_spares s v a m (PlainWhat.User b1 b2 b3 b4) None i e = refl
 manager_takes_spares s v a m (PlainWhat.User b1 b2 b3 b4) (Some k) i e = manager_sends_spares v a m.id b1 k.message i (e k refl)
 manager_takes_spares s v a m _ None i e = refl
 manager_takes_spares s v a m _ (Some k) i e = manager_answers_spares v a m.id.n k.message i (e k refl)
 
-took_outside : (s t : OneKernel) (id : MsgId) (k : manage.Took) (i : MsgId) (o : Option PlainMessage) → k.message ≡ o → Outside t → is_kernels i ≡ true → service.manager_took s id k ≡ t → (x : PlainMessage) → o ≡ Some x → id_eq x.id i ≡ false
+took_outside : (s t : OneKernel) (id : MsgId) (k : manage.ManagerTook) (i : MsgId) (o : Option PlainMessage) → k.message ≡ o → Outside t → is_kernels i ≡ true → service.manager_took s id k ≡ t → (x : PlainMessage) → o ≡ Some x → id_eq x.id i ≡ false
 took_outside s t id k i None is out own e x f = cc
 took_outside s t id k i (Some y) is out own e x f =
     let u = record (service.without_message s id) { manager = k.manager } in
@@ -210,34 +210,34 @@ took_outside s t id k i (Some y) is out own e x f =
     subst (λ (z : PlainMessage). id_eq z.id i ≡ false) g (apart i y.id own (new_outside u t y out (ap (with_sent u) (sym is) ∙ e)))
 
 takes_spares : (s t : OneKernel) (v : View) (a : Addresses) (id : MsgId) (m : PlainMessage) (b c : Bool) (i : MsgId) → Outside t → is_kernels i ≡ true
-    → (if b then bind (board.takes s.switchboard m m.what) (λ (k : board.Took). Some (service.switchboard_took s id k))
-    else if c then bind (manage.takes s.manager s.machines (length s.images) m m.what) (λ (k : manage.Took). Some (service.manager_took s id k))
+    → (if b then bind (board.board_takes s.switchboard m m.what) (λ (k : board.BoardTook). Some (service.switchboard_took s id k))
+    else if c then bind (manage.manager_takes s.manager s.machines (length s.images) m m.what) (λ (k : manage.ManagerTook). Some (service.manager_took s id k))
     else None) ≡ Some t
-    → spares i (if b then board_takes s v a id m.what else manager_takes s v a m m.what (manage.takes s.manager s.machines (length s.images) m m.what)) ≡ true
+    → spares i (if b then board_gets s v a id m.what else manager_gets s v a m m.what (manage.manager_takes s.manager s.machines (length s.images) m m.what)) ≡ true
 takes_spares s t v a id m true c i out own e = board_takes_spares s v a id m.what i own
 takes_spares s t v a id m false true i out own e =
-    let o = manage.takes s.manager s.machines (length s.images) m m.what in
-    let (k, is, last) = bind-is o (λ (x : manage.Took). Some (service.manager_took s id x)) t e in
+    let o = manage.manager_takes s.manager s.machines (length s.images) m m.what in
+    let (k, is, last) = bind-is o (λ (x : manage.ManagerTook). Some (service.manager_took s id x)) t e in
     let f : service.manager_took s id k ≡ t = cc in
-    manager_takes_spares s v a m m.what o i (λ j g. let h : k ≡ j = (let z : Some k ≡ Some j = sym is ∙ g in cc) in subst (λ (y : manage.Took). (x : PlainMessage) → y.message ≡ Some x → id_eq x.id i ≡ false) h (took_outside s t id k i k.message refl out own f))
+    manager_takes_spares s v a m m.what o i (λ j g. let h : k ≡ j = (let z : Some k ≡ Some j = sym is ∙ g in cc) in subst (λ (y : manage.ManagerTook). (x : PlainMessage) → y.message ≡ Some x → id_eq x.id i ≡ false) h (took_outside s t id k i k.message refl out own f))
 takes_spares s t v a id m false false i out own e = cc
 
 -- a row a label
 pub gives_spares : (s t : OneKernel) (v : View) (a : Addresses) (l : Label) (i : MsgId) → kernel.step s l ≡ Some t → Outside t → is_kernels i ≡ true → spares i (gives s v a l) ≡ true
 gives_spares s t v a (Label.Call p n c) i is out own = made_spares v a p n c (kernel.running s p) i
 gives_spares s t v a (Label.Send p id) i is out own =
-    let (n, next, rest) = bind-is (kernel.next s p) (kernel.sends s p id) t is in
+    let (n, next, rest) = bind-is (kernel.next_trap s p) (kernel.sends s p id) t is in
     sends_spares s v a p id (kernel.running s p) i (apart i id own (send_other s t p id n rest out))
 gives_spares s t v a (Label.Receive p id) i is out own = receives_spares a p id (kernel.alive (s.processes p)) (s.bag id) i
 gives_spares s t v a (Label.Served id) i is out own =
     let (m, there, rest) = bind-is (s.bag id) (λ (w : PlainMessage). bind (kernel.alive (s.processes w.to)) (λ (p : PlainProcess). service.serves s id w p w.what)) t is in
     let (x, alive, last) = bind-is (kernel.alive (s.processes m.to)) (λ (p : PlainProcess). service.serves s id m p m.what) t rest in
-    let gs_is : serves_what v a id m x m.what ≡ gives s v a (Label.Served id) = ap (addresses.serves_alive v a id m) (sym alive) ∙ ap (addresses.serves s v a id) (sym there) in
+    let gs_is : serves_what v a id m x m.what ≡ gives s v a (Label.Served id) = ap (addresses.serves_alive v a id m) (sym alive) ∙ ap (addresses.service_gets s v a id) (sym there) in
     subst (λ (gs : List Gets). spares i gs ≡ true) gs_is (serve_spares s t v a id m x m.what i out own last)
 gives_spares s t v a (Label.Gone id) i is out own = two_more i (answer_id id) [] (answers_apart i id own) refl
 gives_spares s t v a (Label.Took id) i is out own =
     let (m, there, rest) = bind-is (s.bag id) (service.takes s id) t is in
-    subst (λ (gs : List Gets). spares i gs ≡ true) (ap (addresses.takes s v a id) (sym there)) (takes_spares s t v a id m (pid_eq m.to switchboard) (pid_eq m.to manager) i out own rest)
+    subst (λ (gs : List Gets). spares i gs ≡ true) (ap (addresses.taking_gets s v a id) (sym there)) (takes_spares s t v a id m (pid_eq m.to switchboard) (pid_eq m.to manager) i out own rest)
 gives_spares s t v a (Label.Created id child) i is out own = creates_spares v a id child (s.bag id) i own
 gives_spares s t v a (Label.NoSpace id f b) i is out own = two_more i (answer_id id) [] (answers_apart i id own) refl
 gives_spares s t v a _ i is out own = refl

@@ -1,6 +1,6 @@
 -- Before the first line each process's trail is its home, and each address names it.
 use Rattle.dm_rule.proofs.Names.{◌≡◌, ◌≢◌, ℕ, zero, suc, ◌==◌, ◌&&◌, Bool, true, false, [], ◌∷◌, refl, ap, ◌∙◌, sym, subst, arith, if◌then◌else◌, slice_get, None, Some, nat_tests, Pid, Place, Boot, IsValid, Unknown, Here, Forward}
-use Rattle.dm_rule.proofs.Names.{first_view, unmoved, first_point, Trail, Stood, IsOn, Trailed, first_trails, both_true}
+use Rattle.dm_rule.proofs.Names.{first_view, unmoved, first_point, Trail, StoodOnTrail, IsOn, Trailed, first_trails, both_true}
 use Rattle.dm_rule.proofs.Homes.Start.{Homes-start}
 use Rattle.dm_rule.proofs.Phases.Start.{starts, start_known, start_phase}
 
@@ -30,7 +30,7 @@ trail_start b p = record {
       here_not (starts b.processes p && (p.home == m)) (both_true (starts b.processes p) (p.home == m) some (start_place p c m f)) (sym (start_known b.processes m p) ∙ g);
 }
 
-stood_start : (b : Boot) (p : Pid) (s : Bool) → Stood (first_view b) first_trails p (start_phase s p)
+stood_start : (b : Boot) (p : Pid) (s : Bool) → StoodOnTrail (first_view b) first_trails p (start_phase s p)
 stood_start b p true = record { now = refl; next = λ d e. absurd (let f : None ≡ Some d = e in cc); long = refl; unmade = λ e. refl }
 stood_start b p false = record { now = refl; next = λ d e. absurd (let f : None ≡ Some d = e in cc); long = refl; unmade = λ e. refl }
 

@@ -1,8 +1,8 @@
 -- Each line of a migration, of an end and of a birth keeps what machines know in agreement with the trails.
 use Rattle.dm_rule.proofs.Names.{◌≡◌, ◌≢◌, ℕ, ◌+◌, ◌==◌, ◌&&◌, Bool, true, false, not, List, [], ◌∷◌, ◌++◌, length, refl, ap, ◌∙◌, sym, subst, inl, inr, arith, if◌then◌else◌, slice_get, Option, Some, cases_Bool, false≢true, nat_tests}
 use Rattle.dm_rule.proofs.Names.{append-nil, Pid, pid_eq, MsgId, MessageKind, Line, Stage, at_record, View, Known, Unknown, Here, Frozen, Incoming, Forward, Ended, view_after, front_of, front_told, target_of, gone_to, Nowhere, Moves, IsIn}
-use Rattle.dm_rule.proofs.Names.{comes, is_restart, is_early, is_between, is_away, Trails, Trail, Stood, destination, trails_after, pid_eq-is, pid_eq-same}
-use Rattle.dm_rule.specs.Phases.{leaves}
+use Rattle.dm_rule.proofs.Names.{kind_comes, is_restart, is_early, is_between, is_away, Trails, Trail, StoodOnTrail, destination, trails_after, pid_eq-is, pid_eq-same}
+use Rattle.dm_rule.specs.Phases.{kind_leaves}
 use Rattle.dm_rule.proofs.Lines.{eq_is, parts, not_true}
 use Rattle.dm_rule.proofs.Trails.Known.{trail_same, trail_learns, trail_made, trail_grows, trail_left, home_alone}
 
@@ -10,12 +10,12 @@ use Rattle.dm_rule.proofs.Trails.Known.{trail_same, trail_learns, trail_made, tr
 same_true : (m : ℕ) → (m == m) ≡ true
 same_true m = grind (arith, nat_tests)
 
-pub holds_is : (k : MessageKind) (d : ℕ) (x : Known) → is_restart k ≡ false → leaves k d x ≡ true → x ≡ Frozen d
+pub holds_is : (k : MessageKind) (d : ℕ) (x : Known) → is_restart k ≡ false → kind_leaves k d x ≡ true → x ≡ Frozen d
 holds_is k d (Frozen m) e h = let both = parts (not (is_restart k)) (d == m) h in sym (ap Frozen (eq_is d m both.1))
 holds_is k d (Forward m n) e h = absurd (let both = parts (is_restart k) (d == m) h in false≢true (sym e ∙ both.0))
 holds_is k d _ e h = absurd (false≢true h)
 
-pub expects_is : (k : MessageKind) (s : ℕ) (x : Known) → is_early k ≡ false → comes k s x ≡ true → x ≡ Incoming s
+pub expects_is : (k : MessageKind) (s : ℕ) (x : Known) → is_early k ≡ false → kind_comes k s x ≡ true → x ≡ Incoming s
 expects_is k s (Incoming m) e h = let both = parts (not (is_early k)) (s == m) h in sym (ap Incoming (eq_is s m both.1))
 expects_is k s Unknown e h = absurd (false≢true (sym e ∙ h))
 expects_is k s (Forward m n) e h = absurd (false≢true (sym e ∙ h))
@@ -25,13 +25,13 @@ pub two_apart : (v : View) (p : Pid) (k : MessageKind) (s d : ℕ) (o : Option M
 two_apart v p k s d o h e = let both = parts (is_between k) (not (s == d)) h.apart in false≢true (sym (ap not (ap (λ (n : ℕ). s == n) e ∙ same_true s)) ∙ both.1)
 
 pub source_holds : (v : View) (p : Pid) (k : MessageKind) (s d : ℕ) (o : Option MsgId) → IsIn v p (Moves k s d o) → is_restart k ≡ false → v.known s p ≡ Frozen d
-source_holds v p k s d o h e = holds_is k d (v.known s p) e (sym (ap (λ (c : Bool). if c then leaves k d (v.known s p) else if d == s then comes k s (v.known s p) else is_away (v.known s p)) (same_true s)) ∙ h.known s)
+source_holds v p k s d o h e = holds_is k d (v.known s p) e (sym (ap (λ (c : Bool). if c then kind_leaves k d (v.known s p) else if d == s then kind_comes k s (v.known s p) else is_away (v.known s p)) (same_true s)) ∙ h.known s)
 
 pub destination_expects : (v : View) (p : Pid) (k : MessageKind) (s d : ℕ) (o : Option MsgId) → IsIn v p (Moves k s d o) → is_early k ≡ false → v.known d p ≡ Incoming s
 destination_expects v p k s d o h e =
     let off : (s == d) ≡ false = not_true (s == d) (λ x. two_apart v p k s d o h (sym (eq_is s d x))) in
     expects_is k s (v.known d p) e
-    (sym (ap (λ (c : Bool). if c then leaves k d (v.known d p) else if d == d then comes k s (v.known d p) else is_away (v.known d p)) off ∙ ap (λ (c : Bool). if c then comes k s (v.known d p) else is_away (v.known d p)) (same_true d)) ∙ h.known d)
+    (sym (ap (λ (c : Bool). if c then kind_leaves k d (v.known d p) else if d == d then kind_comes k s (v.known d p) else is_away (v.known d p)) off ∙ ap (λ (c : Bool). if c then kind_comes k s (v.known d p) else is_away (v.known d p)) (same_true d)) ∙ h.known d)
 
 -- one machine learns something of one process
 pub set_at : (v : View) (p : Pid) (x : Known) (m : ℕ) → at_record v.known v.acting p x m p ≡ (if v.acting == m then x else v.known m p)
@@ -85,7 +85,7 @@ pub ended_trail : (v w : View) (t : Trails) (p q : Pid) → w.known ≡ at_recor
 ended_trail v w t p q known here h = set_trail v w t p q Ended known (λ at on. trail_learns v w t p Ended v.acting at (λ i j f. cc) (λ f. cc) (λ e. let f : Here ≡ Unknown = sym here ∙ e in cc) on) h
 
 -- it is made at home
-pub born_trail : (v w : View) (t : Trails) (p q : Pid) → w.known ≡ at_record v.known v.acting p Here → ((m : ℕ) → v.known m p ≡ Unknown) → p.home ≡ v.acting → Stood v t p Nowhere → Trail v t q → Trail w t q
+pub born_trail : (v w : View) (t : Trails) (p q : Pid) → w.known ≡ at_record v.known v.acting p Here → ((m : ℕ) → v.known m p ≡ Unknown) → p.home ≡ v.acting → StoodOnTrail v t p Nowhere → Trail v t q → Trail w t q
 born_trail v w t p q known unknown home stood h =
     set_trail v w t p q Here known (λ at on. trail_made v w t p at unknown (λ c m e. home_alone v t p on stood c m e ∙ home) on) h
 

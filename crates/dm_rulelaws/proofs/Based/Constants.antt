@@ -33,11 +33,11 @@ asks_order : (g : Manager) (machines images machine image : ℕ) (links : List P
 asks_order g machines images machine image links true h = child_order g machines images machine image links h
 asks_order g machines images machine image links false h = bad_order g links h
 
-requests_order : (g : Manager) (machines images : ℕ) (body : List ℕ) (links : List PlainLink) → InOrder g → InOrder (manage.requests g machines images body links).manager
+requests_order : (g : Manager) (machines images : ℕ) (body : List ℕ) (links : List PlainLink) → InOrder g → InOrder (manage.requests_child g machines images body links).manager
 requests_order g machines images (a ∷ b ∷ c ∷ d ∷ []) links h = asks_order g machines images b (256 * c + d) links (a == 1) h
 requests_order g machines images _ links h = bad_order g links h
 
-control_order : (g : Manager) (child : Pid) (w : Option PlainWhat) (links : List PlainLink) → InOrder g → InOrder (manage.controls_child g child w links).manager
+control_order : (g : Manager) (child : Pid) (w : Option PlainWhat) (links : List PlainLink) → InOrder g → InOrder (manage.tells_child g child w links).manager
 control_order g child None links h = bad_order g links h
 control_order g child (Some w) links h = more_order g h
 
@@ -47,28 +47,28 @@ controls_order g (Some p) (a ∷ []) links h = control_order g p (manage.control
 controls_order g (Some p) _ links h = bad_order g links h
 
 user_order : (g : Manager) (machines images code : ℕ) (body : List ℕ) (links : List PlainLink) (c : Bool) → InOrder g
-    → InOrder (if c then manage.requests g machines images body links else manage.controls g (manage.child_numbered g.children code) body links).manager
+    → InOrder (if c then manage.requests_child g machines images body links else manage.controls g (manage.child_numbered g.children code) body links).manager
 user_order g machines images code body links true h = requests_order g machines images body links h
 user_order g machines images code body links false h = controls_order g (manage.child_numbered g.children code) body links h
 
-created_order : (g : Manager) (n : ℕ) (child : Pid) (o : Option Pending) (k : manage.Took) → manage.takes_created g n child o ≡ Some k → InOrder g → InOrder k.manager
+created_order : (g : Manager) (n : ℕ) (child : Pid) (o : Option Pending) (k : manage.ManagerTook) → manage.takes_created g n child o ≡ Some k → InOrder g → InOrder k.manager
 created_order g n child None k e h = cc
 created_order g n child (Some r) k e h =
-    let t = manage.answers (record g { children = g.children ++ child ∷ []; pending = manage.without_pending n g.pending }) r.answer 0 (manage.control_link (length g.children + 1) ∷ []) in
+    let t = manage.answers_byte (record g { children = g.children ++ child ∷ []; pending = manage.without_pending n g.pending }) r.answer 0 (manage.control_link (length g.children + 1) ∷ []) in
     let f : t ≡ k = cc in
-    subst (λ (x : manage.Took). InOrder x.manager) f (ascends_more (manage.without_pending n g.pending) 0 g.sent (ascends_without g.pending 0 g.sent n h))
+    subst (λ (x : manage.ManagerTook). InOrder x.manager) f (ascends_more (manage.without_pending n g.pending) 0 g.sent (ascends_without g.pending 0 g.sent n h))
 
-no_room_order : (g : Manager) (n : ℕ) (o : Option Pending) (k : manage.Took) → manage.takes_no_room g n o ≡ Some k → InOrder g → InOrder k.manager
+no_room_order : (g : Manager) (n : ℕ) (o : Option Pending) (k : manage.ManagerTook) → manage.takes_no_room g n o ≡ Some k → InOrder g → InOrder k.manager
 no_room_order g n None k e h = cc
 no_room_order g n (Some r) k e h =
-    let t = manage.answers (record g { pending = manage.without_pending n g.pending }) r.answer 1 [] in
+    let t = manage.answers_byte (record g { pending = manage.without_pending n g.pending }) r.answer 1 [] in
     let f : t ≡ k = cc in
-    subst (λ (x : manage.Took). InOrder x.manager) f (ascends_more (manage.without_pending n g.pending) 0 g.sent (ascends_without g.pending 0 g.sent n h))
+    subst (λ (x : manage.ManagerTook). InOrder x.manager) f (ascends_more (manage.without_pending n g.pending) 0 g.sent (ascends_without g.pending 0 g.sent n h))
 
-took_order : (g : Manager) (machines images : ℕ) (m : PlainMessage) (w : PlainWhat) (k : manage.Took) → manage.takes g machines images m w ≡ Some k → InOrder g → InOrder k.manager
+took_order : (g : Manager) (machines images : ℕ) (m : PlainMessage) (w : PlainWhat) (k : manage.ManagerTook) → manage.manager_takes g machines images m w ≡ Some k → InOrder g → InOrder k.manager
 took_order g machines images m (PlainWhat.User code channel body links) k e h =
     let f : manage.takes_user g machines images code body links ≡ k = cc in
-    subst (λ (x : manage.Took). InOrder x.manager) f (user_order g machines images code body links (code == 0) h)
+    subst (λ (x : manage.ManagerTook). InOrder x.manager) f (user_order g machines images code body links (code == 0) h)
 took_order g machines images m (PlainWhat.Created child) k e h = created_order g m.id.n child (manage.pending_numbered m.id.n g.pending) k e h
 took_order g machines images m PlainWhat.NoRoom k e h = no_room_order g m.id.n (manage.pending_numbered m.id.n g.pending) k e h
 took_order g machines images m _ k e h = cc
@@ -123,7 +123,7 @@ step_constant s t e =
       manager = λ id m k is there c took.
           sent_constant s (record (without_message s id) { manager = k.manager }) k.message (record { format = refl; images = refl; machines = refl; pending = took_order s.manager s.machines (length s.images) m m.what k took });
       creates = λ id child m image links i is w found name.
-          sent_constant s (service.with_child (without_message s id) child i links) (Some (answer_to m (PlainWhat.Created child))) (record { format = refl; images = refl; machines = refl; pending = λ o. o });
+          sent_constant s (service.with_created (without_message s id) child i links) (Some (answer_to m (PlainWhat.Created child))) (record { format = refl; images = refl; machines = refl; pending = λ o. o });
       no_room = λ id a b m image links is w. sent_constant s (without_message s id) (Some (answer_to m PlainWhat.NoRoom)) (out_constant s id);
     })
 

@@ -1,8 +1,8 @@
 -- What a turn says of a kernel's own message has what its lines need; so each group keeps what each line keeps.
 use Rattle.dm_rulelaws.proofs.Names.{◌≡◌, ℕ, ◌==◌, Bool, true, false, not, List, [], ◌∷◌, ◌++◌, length, refl, ap, ◌∙◌, sym, subst, if◌then◌else◌, Option, None, Some, arith, false≢true, nat_tests, Pid, MsgId, MessageKind, Stage, Boot}
-use Rattle.dm_rulelaws.proofs.Names.{manager, Life, Alive, OneKernel, Step, Line, View, Told, Of, Known, Unknown, Here, Frozen, Incoming, Forward, after_head, Point, moved, Part, Says, Spelled, is_between, is_apart, is_away, is_here, comes}
-use Rattle.dm_rulelaws.proofs.Names.{Phase, Moves, knows, receiver_in, to_kernel, sends_on, updates, migrates, group_of, at_record_at, IsNetLine, IsNet, front_way, Sane, InPhases, calm_phases, due, head_calm, told_some, Rooted, Phased}
-use Rattle.dm_rulelaws.proofs.Names.{rooted, moves_away, State, is_server, has_nothing_held, agrees, KnownStands, right_true, by_migrates, by_hears, left_parts, by_net, by_outcome}
+use Rattle.dm_rulelaws.proofs.Names.{manager, Life, Alive, OneKernel, Step, Line, View, Told, Of, Known, Unknown, Here, Frozen, Incoming, Forward, after_head, Point, moved, Part, Says, Spelled, is_between, is_apart, is_away, is_here}
+use Rattle.dm_rulelaws.proofs.Names.{kind_comes, Phase, Moves, knows, receiver_in, to_kernel, sends_on, updates, migrates, group_of, at_record_at, IsNetLine, IsNet, front_way, Sane, InPhases, calm_phases, due, head_calm, told_some, Rooted}
+use Rattle.dm_rulelaws.proofs.Names.{Phased, rooted, moves_away, State, is_server, has_nothing_held, agrees, KnownStands, right_true, by_migrates, by_hears, left_parts, by_net, by_outcome}
 use Rattle.dm_rule.specs.Phases as phases
 use Rattle.dm_rule.specs.Rule as rule
 use Rattle.dm_rule.proofs.Groups as groups
@@ -64,7 +64,7 @@ not_here : (k : MessageKind) (s d m : ℕ) (o : Option MsgId) (x : Known) → kn
 not_here k s d m o Here e = absurd (false≢true (sym (moves_away k s d m o (s == m) (d == m) refl refl) ∙ e))
 not_here k s d m o _ e = refl
 
-comes_away : (s : ℕ) (x : Known) → comes MessageKind.Ask s x ≡ true → is_away x ≡ true
+comes_away : (s : ℕ) (x : Known) → kind_comes MessageKind.Ask s x ≡ true → is_away x ≡ true
 comes_away s Unknown e = refl
 comes_away s (Incoming from) e = absurd (false≢true e)
 comes_away s (Forward at moves) e = refl
@@ -74,7 +74,7 @@ asked_away : (s d : ℕ) (o : Option MsgId) (x : Known) (b : Bool) → (s == d) 
 asked_away s d o x true e apart k = absurd (false≢true apart)
 asked_away s d o x false e apart k =
     let same : (d == d) ≡ true = grind (arith, nat_tests) in
-    comes_away s x (sym (ap (λ (c : Bool). if c then phases.leaves MessageKind.Ask d x else if d == d then comes MessageKind.Ask s x else is_away x) e ∙ ap (λ (c : Bool). if c then comes MessageKind.Ask s x else is_away x) same) ∙ k)
+    comes_away s x (sym (ap (λ (c : Bool). if c then phases.kind_leaves MessageKind.Ask d x else if d == d then kind_comes MessageKind.Ask s x else is_away x) e ∙ ap (λ (c : Bool). if c then kind_comes MessageKind.Ask s x else is_away x) same) ∙ k)
 
 moving : (pt : Point) (i : MsgId) (is : List MsgId) (t : Told) (p : Pid) (h : InPhases pt.view) → pt.view.inbox pt.view.acting ≡ i ∷ is → pt.view.told i ≡ Some t → t.about ≡ Of p → Expects pt.view p t.kind
 moving pt i is t p h front told about =

@@ -113,7 +113,7 @@ step_lives s t l =
       manager = λ id m k is there c took. by (service.manager_took s id k) (Label.Took id) is (alike_sent s (record (without_message s id) { manager = k.manager }) k.message (λ q. refl));
       creates = λ id child m image links i is w found name.
           (let h = set_life s (without_message s id) child (Alive (begun s.format i links)) refl in
-          by (kernels.with_sent (service.with_child (without_message s id) child i links) (Some (answer_to m (PlainWhat.Created child)))) (Label.Created id child) is (record { at_ = h.at_; off = h.off }));
+          by (kernels.with_sent (service.with_created (without_message s id) child i links) (Some (answer_to m (PlainWhat.Created child)))) (Label.Created id child) is (record { at_ = h.at_; off = h.off }));
       no_room = λ id a b m image links is w. by (kernels.with_sent (without_message s id) (Some (answer_to m PlainWhat.NoRoom))) (Label.NoSpace id a b) is (λ q. refl);
     })
 

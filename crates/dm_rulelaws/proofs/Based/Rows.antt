@@ -34,7 +34,7 @@ walks_of pt None h = tt
 walks_of pt (Some ps) h = h ps refl
 
 -- a process is served
-drops_loose : (ids : List MsgId) → AllLoose (rule.drops ids)
+drops_loose : (ids : List MsgId) → AllLoose (rule.drop_parts ids)
 drops_loose [] = tt
 drops_loose (i ∷ is) = (λ pt. tt, drops_loose is)
 
@@ -45,7 +45,7 @@ runs_stops pt p queue h = record {
   sends = λ id. loose_walks (rule.says (Label.Send p id) ∷ Routes id ∷ []) pt (λ q. tt, (λ q. tt, tt));
   waits = loose_walks (rule.says (Label.Wait p) ∷ []) pt (λ q. tt, tt);
   outputs = λ word. loose_walks (rule.says (Label.Out p word) ∷ []) pt (λ q. tt, tt);
-  ends = λ y. first_walks (rule.says (Label.End p y)) (rule.drops queue) pt h (drops_loose queue);
+  ends = λ y. first_walks (rule.says (Label.End p y)) (rule.drop_parts queue) pt h (drops_loose queue);
 }
 
 pub round_walks : (pt : Point) (b : Boot) (o : Point) (m : ℕ) (q : Option Pid) → ((p : Pid) → q ≡ Some p → Resting pt.view p) → WalksOf pt (rule.goes_round b o m q)
@@ -113,7 +113,7 @@ handles_walks b o m id msg sane phases rooted f =
       queued = λ to user. first_walks (Says (Line.Queued id)) [] pt (front_queues pt id msg sane f user to.known) tt;
       served = λ to mild. first_walks (rule.says (Label.Served id)) [] pt (front_serves pt id msg sane phases f to.known) tt;
       answers = λ to mild i. first_walks (rule.says (Label.Served id)) (Routes i ∷ []) pt (front_serves pt id msg sane phases f to.known) (λ q. tt, tt);
-      kills = λ to kills. first_walks (rule.says (Label.Served id)) (rule.drops (o.view.queue m msg.to)) pt (front_serves pt id msg sane phases f to.known) (drops_loose (o.view.queue m msg.to));
+      kills = λ to kills. first_walks (rule.says (Label.Served id)) (rule.drop_parts (o.view.queue m msg.to)) pt (front_serves pt id msg sane phases f to.known) (drops_loose (o.view.queue m msg.to));
       gone = λ to. loose_walks (rule.says (Label.Gone id) ∷ Routes (pieces.answer_id id) ∷ []) pt (λ q. tt, (λ q. tt, tt));
       dropped = λ to. loose_walks (rule.says (Label.Dropped id) ∷ []) pt (λ q. tt, tt);
       leaving = λ n to. first_walks (Says (Line.Held id)) [] pt (front_held pt id msg sane f (ap has_nothing_held to.known)) tt;

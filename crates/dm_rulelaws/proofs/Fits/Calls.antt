@@ -38,7 +38,7 @@ cons_fits : (ps : Lives) (o : Option PlainLink) (ls : List PlainLink) → SlotFi
 cons_fits ps None ls f h = h
 cons_fits ps (Some l) ls f h = (f, h)
 
-links_of_fit : (ps : Lives) (slots : List (Option PlainLink)) (ss : List ℕ) → Each (SlotFits ps) slots → Each (LinkFits ps) (calls.links_of slots ss)
+links_of_fit : (ps : Lives) (slots : List (Option PlainLink)) (ss : List ℕ) → Each (SlotFits ps) slots → Each (LinkFits ps) (calls.links_in_slots slots ss)
 links_of_fit ps slots [] h = tt
 links_of_fit ps slots (s ∷ ss) h = cons_fits ps (link_at slots s) (filter_map (link_at slots) ss) (slots_at ps slots s h) (links_of_fit ps slots ss h)
 
@@ -106,7 +106,7 @@ copies_fit ps x None f h = refused_fits ps x Reply.NoLink h
 copies_fit ps x (Some l) f h =
     if_fits ps x (calls.is_reply l.kind) (calls.refused Reply.NotCopyable x) (calls.puts_link x l (first_empty x.links)) (refused_fits ps x Reply.NotCopyable h) (puts_link_fits ps x l (first_empty x.links) f h)
 
-drops_fit : (ps : Lives) (x : PlainProcess) (o : Option PlainLink) → ProcessFits ps x → CallFits ps x (calls.drops x o)
+drops_fit : (ps : Lives) (x : PlainProcess) (o : Option PlainLink) → ProcessFits ps x → CallFits ps x (calls.drop_call x o)
 drops_fit ps x None h = refused_fits ps x Reply.NoLink h
 drops_fit ps x (Some l) h = record { memory = refl; slots = slots_set ps x.links (reg x.regs 1) None tt h.slots; move = move_on ps ps (λ p n e. e) x (record x { links = slice_set x.links (reg x.regs 1) None }) (omega arith) x.status h.move }
 
@@ -123,7 +123,7 @@ users_of ps l false b e f h = has_less 0 (l.area.base + l.area.len) (ps l.to) (o
 pub link_users : (ps : Lives) (l : PlainLink) → LinkFits ps l → takes_users ps l.to ≡ true
 link_users ps l h = users_of ps l (is_server l.to) (gives_no_right l.area) refl refl h
 
-sends_fit : (ps : Lives) (p : Pid) (x : PlainProcess) (o : Option PlainLink) → SlotFits ps o → ProcessFits ps x → CallFits ps x (calls.sends p x o)
+sends_fit : (ps : Lives) (p : Pid) (x : PlainProcess) (o : Option PlainLink) → SlotFits ps o → ProcessFits ps x → CallFits ps x (calls.send_call p x o)
 sends_fit ps p x None f h = refused_fits ps x Reply.NoLink h
 sends_fit ps p x (Some l) f h = unless_fits ps x (first_failed (calls.send_refusals x)) (Sends (calls.message_over p x l) (calls.after_send x)) h (record {
   goes = record { memory = refl; slots = without_replies_fit ps (reg x.regs 1 ∷ calls.listed x) x.links h.slots; move = still_move ps x (calls.after_send x) refl refl h.move };
@@ -196,14 +196,14 @@ moves_by ps p x l dir false false false e f g fits h =
     let lies : reg x.regs 3 + reg x.regs 5 ≤ l.area.len = grind (arith, nat_tests) in
     let has : has_bytes (l.area.base + reg x.regs 3 + reg x.regs 5) (ps l.to) ≡ true = has_less (l.area.base + reg x.regs 3 + reg x.regs 5) (l.area.base + l.area.len) (ps l.to) (omega (arith, lies)) area in
     let within : nat_le (reg x.regs 4 + reg x.regs 5) (length x.memory) ≡ true = grind (arith, nat_tests) in
-    if_fits ps x (reg x.regs 5 == 0) (calls.refused Reply.Done x) (calls.begins r) (refused_fits ps x Reply.Done h)
+    if_fits ps x (reg x.regs 5 == 0) (calls.refused Reply.Done x) (calls.begins_move r) (refused_fits ps x Reply.Done h)
     (requests_fit ps p x x dir l.to (l.area.base + reg x.regs 3) (reg x.regs 4) (reg x.regs 5) refl refl has within h.slots)
 
 moves_over_fit : (ps : Lives) (p : Pid) (x : PlainProcess) (l : PlainLink) (o : Option Direction) → LinkFits ps l → ProcessFits ps x → CallFits ps x (calls.moves_over p x l o)
 moves_over_fit ps p x l None f h = refused_fits ps x Reply.BadKind h
 moves_over_fit ps p x l (Some dir) f h = moves_by ps p x l dir (calls.lacks_right dir l.area) (nat_lt l.area.len (reg x.regs 3 + reg x.regs 5)) (calls.is_outside x (reg x.regs 4) (reg x.regs 5)) refl refl refl f h
 
-moves_fit : (ps : Lives) (p : Pid) (x : PlainProcess) (o : Option PlainLink) → SlotFits ps o → ProcessFits ps x → CallFits ps x (calls.moves p x o)
+moves_fit : (ps : Lives) (p : Pid) (x : PlainProcess) (o : Option PlainLink) → SlotFits ps o → ProcessFits ps x → CallFits ps x (calls.move_call p x o)
 moves_fit ps p x None f h = refused_fits ps x Reply.NoLink h
 moves_fit ps p x (Some l) f h = moves_over_fit ps p x l (direction_numbered (reg x.regs 2)) f h
 

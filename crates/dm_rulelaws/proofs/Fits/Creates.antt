@@ -56,14 +56,14 @@ fresh_child r e s child home is h =
 created_row : (r e : MsgId → ℕ) (s t : OneKernel) (id : MsgId) (m : PlainMessage) (child : Pid) (image : BootImage) (links : List PlainLink) (number : ℕ) → WhatFits s id m (PlainWhat.Create number links) → s.bag id ≡ Some m
     → service.creates_of s id m child links image ≡ Some t → Sound r e s → KernelFits s → KernelFits t
 created_row r e s t id m child image links number f there is h fits =
-    let k = when-is (service.is_kernel s m.to && pid_eq child (pid_of m.to.home (first_number + s.made m.to.home))) (with_sent (service.with_child (without_message s id) child image links) (Some (answer_to m (PlainWhat.Created child)))) t is in
+    let k = when-is (service.is_kernel s m.to && pid_eq child (pid_of m.to.home (first_number + s.made m.to.home))) (with_sent (service.with_created (without_message s id) child image links) (Some (answer_to m (PlainWhat.Created child)))) t is in
     let name : child ≡ pid_of m.to.home (first_number + s.made m.to.home) = pid_eq-is child (pid_of m.to.home (first_number + s.made m.to.home)) (both (service.is_kernel s m.to) (pid_eq child (pid_of m.to.home (first_number + s.made m.to.home))) k.0).1 in
     let none = fresh_child r e s child m.to.home name h in
     let (num, home, numbered, sender, request, pending, each) = f in
     let y = begun s.format image links in
     let v = without_message s id in
     let w = with_process v child (Alive y) in
-    let u = service.with_child v child image links in
+    let u = service.with_created v child image links in
     let b : Becomes v child (Alive y) = record {
       bytes = λ n g. absurd (false≢true (sym (ap (has_bytes n) none) ∙ g));
       waits = λ i n stands from g. absurd (false≢true (sym (ap (λ (o : Option Life). awaits o i.n n.what) none) ∙ g));

@@ -47,11 +47,11 @@ pub record GoesOn (ps : Lives) (x y : PlainProcess) : Type 0 where
   pub move : move_fits ps y y.status ≡ true
 
 -- what comes next of a process that executes
-abbrev pub NextFits : Lives → PlainProcess → kernel.Next → Type 0
+abbrev pub NextFits : Lives → PlainProcess → kernel.Trap → Type 0
 NextFits ps x (kernel.Calls number called) = CallFits ps x called
 NextFits ps x (kernel.Faults fault) = ⊤
 
-pub record NextIs (s : OneKernel) (p : Pid) (n : kernel.Next) : Type 0 where
+pub record NextIs (s : OneKernel) (p : Pid) (n : kernel.Trap) : Type 0 where
   pub x : PlainProcess
   pub is : Runs s p x
   pub z : PlainProcess
@@ -61,7 +61,7 @@ pub record NextIs (s : OneKernel) (p : Pid) (n : kernel.Next) : Type 0 where
 alive_has : (s : OneKernel) (p : Pid) (x : PlainProcess) (n : ℕ) → s.processes p ≡ Some (Alive x) → nat_le n (length x.memory) ≡ true → has_bytes n (s.processes p) ≡ true
 alive_has s p x n is e = ap (has_bytes n) is ∙ e
 
-next_row_is : (s : OneKernel) (p : Pid) (x : PlainProcess) (w : Row) (n : kernel.Next) → Runs s p x → KernelFits s → kernel.next_row p x w ≡ Some n → NextIs s p n
+next_row_is : (s : OneKernel) (p : Pid) (x : PlainProcess) (w : Row) (n : kernel.Trap) → Runs s p x → KernelFits s → kernel.next_row p x w ≡ Some n → NextIs s p n
 next_row_is s p x (Row.Plain regs bytes) n is h e = cc
 next_row_is s p x (Row.Calls number regs) n is h e =
     let z = record x { regs = regs } in
@@ -78,17 +78,17 @@ next_row_is s p x (Row.Faults fault) n is h e =
     let f : kernel.Faults fault ≡ n = cc in
     record { x = x; is = is; z = x; memory = refl; fits = subst (NextFits s.processes x) f tt }
 
-pub next_is : (s : OneKernel) (p : Pid) (n : kernel.Next) → KernelFits s → kernel.next s p ≡ Some n → NextIs s p n
+pub next_is : (s : OneKernel) (p : Pid) (n : kernel.Trap) → KernelFits s → kernel.next_trap s p ≡ Some n → NextIs s p n
 next_is s p n h e =
     let (x, running, row_is) = bind-is (kernel.running s p) (λ (v : PlainProcess). kernel.next_row p v (instruction v.regs v.memory)) n e in
     next_row_is s p x (instruction x.regs x.memory) n (running_is s p x running) h row_is
 
 -- links are placed
-placed_step : (ps : Lives) (t : receiving.Placed) (r : ℕ) (l : PlainLink) (o : Option ℕ) → LinkFits ps l → Each (SlotFits ps) t.links → Each (SlotFits ps) (receiving.place_into t r l o).links
+placed_step : (ps : Lives) (t : receiving.RegsAndLinks) (r : ℕ) (l : PlainLink) (o : Option ℕ) → LinkFits ps l → Each (SlotFits ps) t.links → Each (SlotFits ps) (receiving.place_into t r l o).links
 placed_step ps t r l None f h = h
 placed_step ps t r l (Some slot) f h = slots_set ps t.links slot (Some l) f h
 
-placed_fit : (ps : Lives) (ls : List PlainLink) (t : receiving.Placed) (r : ℕ) → Each (LinkFits ps) ls → Each (SlotFits ps) t.links → Each (SlotFits ps) (receiving.place_links t r ls).links
+placed_fit : (ps : Lives) (ls : List PlainLink) (t : receiving.RegsAndLinks) (r : ℕ) → Each (LinkFits ps) ls → Each (SlotFits ps) t.links → Each (SlotFits ps) (receiving.place_links t r ls).links
 placed_fit ps [] t r f h = h
 placed_fit ps (l ∷ ls) t r f h = placed_fit ps ls (receiving.place_into t r l (first_empty t.links)) (r + 1) f.1 (placed_step ps t r l (first_empty t.links) f.0 h)
 
@@ -96,7 +96,7 @@ abbrev pub CompletedFits : Lives → PlainProcess → receiving.Completed → Ty
 CompletedFits ps x (receiving.Receives y) = GoesOn ps x y
 CompletedFits ps x (receiving.Refuses c y) = GoesOn ps x y
 
-unless_fits : (ps : Lives) (x : PlainProcess) (base code channel : ℕ) (body : List ℕ) (links : List PlainLink) (o : Option Reply) → Each (LinkFits ps) links → ProcessFits ps x → CompletedFits ps x (receiving.completes_unless o x (receiving.receives x base code channel body links))
+unless_fits : (ps : Lives) (x : PlainProcess) (base code channel : ℕ) (body : List ℕ) (links : List PlainLink) (o : Option Reply) → Each (LinkFits ps) links → ProcessFits ps x → CompletedFits ps x (receiving.completes_unless o x (receiving.with_received x base code channel body links))
 unless_fits ps x base code channel body links None f h = record {
   memory = written_longer x.memory base body;
   slots = placed_fit ps links (record { regs = receiving.received_regs x.regs code channel (length body) (length links); links = x.links }) 5 f h.slots;

@@ -42,7 +42,7 @@ named_fits : (ps : Lives) (name : List ℕ) (names : List NamedLink) → NamesFi
 named_fits ps name [] h = tt
 named_fits ps name (k ∷ ks) h = named_if ps (board.bytes_eq k.name name) k.link (board.link_named name ks) h.0 (named_fits ps name ks h.1)
 
-bad_asked : (ps : Lives) (names : List NamedLink) → NamesFit ps names → AskedFits ps (board.bad_request names)
+bad_asked : (ps : Lives) (names : List NamedLink) → NamesFit ps names → AskedFits ps (board.board_bad_request names)
 bad_asked ps names h = record { names = h; answer = tt }
 
 if_asked : (ps : Lives) (b : Bool) (x y : board.Asked) → AskedFits ps x → AskedFits ps y → AskedFits ps (if b then x else y)
@@ -55,27 +55,27 @@ registers_fit ps names name l (Some k) f h = record { names = h; answer = tt }
 
 register_fits : (ps : Lives) (names : List NamedLink) (name : List ℕ) (ls : List PlainLink) → Each (LinkFits ps) ls → NamesFit ps names → AskedFits ps (board.asks_to_register names name ls)
 register_fits ps names name (l ∷ []) f h =
-    if_asked ps (board.is_name name) (board.registers names name l) (board.bad_request names)
+    if_asked ps (board.is_name name) (board.registers_name names name l) (board.board_bad_request names)
     (if_asked ps (is_general l.kind) (board.registers_new names name l (board.link_named name names)) (record { names = names; answer = board.BadLink }) (registers_fit ps names name l (board.link_named name names) f.0 h) (record { names = h; answer = tt }))
     (bad_asked ps names h)
 register_fits ps names name _ f h = bad_asked ps names h
 
 look_up_fits : (ps : Lives) (names : List NamedLink) (name : List ℕ) (ls : List PlainLink) → NamesFit ps names → AskedFits ps (board.asks_to_look_up names name ls)
 look_up_fits ps names name [] h =
-    if_asked ps (board.is_name name) (board.looks_up names name) (board.bad_request names) (record { names = h; answer = named_fits ps name names h }) (bad_asked ps names h)
+    if_asked ps (board.is_name name) (board.looks_up names name) (board.board_bad_request names) (record { names = h; answer = named_fits ps name names h }) (bad_asked ps names h)
 look_up_fits ps names name (l ∷ ls) h = bad_asked ps names h
 
 asks_fit : (ps : Lives) (names : List NamedLink) (body : List ℕ) (ls : List PlainLink) → Each (LinkFits ps) ls → NamesFit ps names → AskedFits ps (board.asks names body ls)
 asks_fit ps names [] ls f h = bad_asked ps names h
 asks_fit ps names (operation ∷ name) ls f h =
-    if_asked ps (operation == 1) (board.asks_to_register names name ls) (if operation == 2 then board.asks_to_look_up names name ls else board.bad_request names) (register_fits ps names name ls f h)
-    (if_asked ps (operation == 2) (board.asks_to_look_up names name ls) (board.bad_request names) (look_up_fits ps names name ls h) (bad_asked ps names h))
+    if_asked ps (operation == 1) (board.asks_to_register names name ls) (if operation == 2 then board.asks_to_look_up names name ls else board.board_bad_request names) (register_fits ps names name ls f h)
+    (if_asked ps (operation == 2) (board.asks_to_look_up names name ls) (board.board_bad_request names) (look_up_fits ps names name ls h) (bad_asked ps names h))
 
 answer_links : (ps : Lives) (a : board.Answer) → AnswerFits ps a → Each (LinkFits ps) (board.links_of_answer a)
 answer_links ps (board.Found link) h = (h, tt)
 answer_links ps _ h = tt
 
-record BoardFits (s : OneKernel) (k : board.Took) : Type 0 where
+record BoardFits (s : OneKernel) (k : board.BoardTook) : Type 0 where
   names : NamesFit s.processes k.switchboard.names
   sends : SendsFit (record s { switchboard = k.switchboard }) k.answer
 
@@ -85,7 +85,7 @@ board_fits s body (l ∷ ls) f h =
     let a = asks_fit s.processes s.switchboard.names body ls f.1 h in
     record { names = a.names; sends = (link_users s.processes l f.0, answer_links s.processes (board.asks s.switchboard.names body ls).answer a.answer) }
 
-board_on : (s : OneKernel) (id : MsgId) (k : board.Took) → BoardFits s k → KernelFits s → KernelFits (service.switchboard_took s id k)
+board_on : (s : OneKernel) (id : MsgId) (k : board.BoardTook) → BoardFits s k → KernelFits s → KernelFits (service.switchboard_took s id k)
 board_on s id k b fits =
     let v = without_message s id in
     let u = record v { switchboard = k.switchboard } in
@@ -111,7 +111,7 @@ board_on s id k b fits =
     sends_off s u None ps machines images g h = tt
     sends_off s u (Some m) ps machines images g h = what_same s u m.id m m.what ps machines images g h
 
-board_row : (s t : OneKernel) (id : MsgId) (m : PlainMessage) (w : PlainWhat) → WhatFits s id m w → bind (board.takes s.switchboard m w) (λ (k : board.Took). Some (service.switchboard_took s id k)) ≡ Some t → KernelFits s → KernelFits t
+board_row : (s t : OneKernel) (id : MsgId) (m : PlainMessage) (w : PlainWhat) → WhatFits s id m w → bind (board.board_takes s.switchboard m w) (λ (k : board.BoardTook). Some (service.switchboard_took s id k)) ≡ Some t → KernelFits s → KernelFits t
 board_row s t id m (PlainWhat.User code channel body links) f is fits =
     let k = board.takes_request s.switchboard body links in
     let g : service.switchboard_took s id k ≡ t = cc in
@@ -174,7 +174,7 @@ without_fits ps n (r ∷ rs) h = without_if ps (r.n == n) r rs (manage.without_p
 abbrev ChildrenMade : Lives → List Pid → Type 0
 ChildrenMade ps children = Each (λ (p : Pid). has_bytes 0 (ps p) ≡ true) children
 
-record ManagerFits (s : OneKernel) (T : ℕ → Type 0) (k : manage.Took) : Type 0 where
+record ManagerFits (s : OneKernel) (T : ℕ → Type 0) (k : manage.ManagerTook) : Type 0 where
   answers : AnswersFit s.processes k.manager.pending
   children : ChildrenMade s.processes k.manager.children
   sends : SendsFit (record s { manager = k.manager }) k.message
@@ -187,7 +187,7 @@ bad_fits : (s : OneKernel) (links : List PlainLink) → Each (LinkFits s.process
 bad_fits s [] f h = record { answers = h.answers; children = h.children; sends = tt; stays = λ n t e. e }
 bad_fits s (l ∷ ls) f h = record { answers = h.answers; children = h.children; sends = (link_users s.processes l f.0, tt); stays = λ n t e. e }
 
-if_manager : (s : OneKernel) (b : Bool) (x y : manage.Took) → (b ≡ true → ManagerFits s Any x) → ManagerFits s Any y → ManagerFits s Any (if b then x else y)
+if_manager : (s : OneKernel) (b : Bool) (x y : manage.ManagerTook) → (b ≡ true → ManagerFits s Any x) → ManagerFits s Any y → ManagerFits s Any (if b then x else y)
 if_manager s true x y h k = h refl
 if_manager s false x y h k = k
 
@@ -216,13 +216,13 @@ wants_fits s machine image (l ∷ ls) f h =
     if_manager s (nat_lt machine s.machines && nat_lt image (length s.images)) (manage.asks_for s.manager machine image l ls) (manage.bad_request s.manager (l ∷ ls))
     (λ within. asks_for_fits s machine image l ls within f.0 f.1 h) (bad_fits s (l ∷ ls) f h)
 
-requests_fits : (s : OneKernel) (body : List ℕ) (links : List PlainLink) → Each (LinkFits s.processes) links → KernelFits s → ManagerFits s Any (manage.requests s.manager s.machines (length s.images) body links)
+requests_fits : (s : OneKernel) (body : List ℕ) (links : List PlainLink) → Each (LinkFits s.processes) links → KernelFits s → ManagerFits s Any (manage.requests_child s.manager s.machines (length s.images) body links)
 requests_fits s (a ∷ b ∷ c ∷ d ∷ []) links f h =
     if_manager s (a == 1) (manage.wants_child s.manager s.machines (length s.images) b (256 * c + d) links) (manage.bad_request s.manager links) (λ e. wants_fits s b (256 * c + d) links f h) (bad_fits s links f h)
 requests_fits s _ links f h = bad_fits s links f h
 
 control_by : (s : OneKernel) (child : Pid) (b c d : Bool) (links : List PlainLink) → has_bytes 0 (s.processes child) ≡ true → Each (LinkFits s.processes) links → KernelFits s
-    → ManagerFits s Any (manage.controls_child s.manager child (if b then Some PlainWhat.Stop else if c then Some PlainWhat.Resume else if d then Some PlainWhat.Kill else None) links)
+    → ManagerFits s Any (manage.tells_child s.manager child (if b then Some PlainWhat.Stop else if c then Some PlainWhat.Resume else if d then Some PlainWhat.Kill else None) links)
 control_by s child true c d links made f h = record { answers = h.answers; children = h.children; sends = made; stays = λ n t e. e }
 control_by s child false true d links made f h = record { answers = h.answers; children = h.children; sends = made; stays = λ n t e. e }
 control_by s child false false true links made f h = record { answers = h.answers; children = h.children; sends = made; stays = λ n t e. e }
@@ -244,17 +244,17 @@ child_made ps children (suc n) p e h = Each-get (λ (q : Pid). has_bytes 0 (ps q
 
 user_fits : (s : OneKernel) (code : ℕ) (body : List ℕ) (links : List PlainLink) → Each (LinkFits s.processes) links → KernelFits s → ManagerFits s Any (manage.takes_user s.manager s.machines (length s.images) code body links)
 user_fits s code body links f h =
-    if_manager s (code == 0) (manage.requests s.manager s.machines (length s.images) body links) (manage.controls s.manager (manage.child_numbered s.manager.children code) body links) (λ e. requests_fits s body links f h)
+    if_manager s (code == 0) (manage.requests_child s.manager s.machines (length s.images) body links) (manage.controls s.manager (manage.child_numbered s.manager.children code) body links) (λ e. requests_fits s body links f h)
     (controls_fits s (manage.child_numbered s.manager.children code) body links (λ p e. child_made s.processes s.manager.children code p e h.children) f h)
 
 abbrev OtherThan : ℕ → ℕ → Type 0
 OtherThan n k = (k == n) ≡ false
 
-created_fits : (s : OneKernel) (n : ℕ) (child : Pid) (o : Option Pending) (k : manage.Took) → manage.pending_numbered n s.manager.pending ≡ o → manage.takes_created s.manager n child o ≡ Some k → has_bytes 0 (s.processes child) ≡ true → KernelFits s → ManagerFits s (OtherThan n) k
+created_fits : (s : OneKernel) (n : ℕ) (child : Pid) (o : Option Pending) (k : manage.ManagerTook) → manage.pending_numbered n s.manager.pending ≡ o → manage.takes_created s.manager n child o ≡ Some k → has_bytes 0 (s.processes child) ≡ true → KernelFits s → ManagerFits s (OtherThan n) k
 created_fits s n child None k is e made h = cc
 created_fits s n child (Some r) k is e made h =
     let g = record s.manager { children = s.manager.children ++ child ∷ []; pending = manage.without_pending n s.manager.pending } in
-    let took = manage.answers g r.answer 0 (manage.control_link (length s.manager.children + 1) ∷ []) in
+    let took = manage.answers_byte g r.answer 0 (manage.control_link (length s.manager.children + 1) ∷ []) in
     let f : took ≡ k = cc in
     let all : ManagerFits s (OtherThan n) took = record {
       answers = without_fits s.processes n s.manager.pending h.answers;
@@ -264,11 +264,11 @@ created_fits s n child (Some r) k is e made h =
     } in
     subst (ManagerFits s (OtherThan n)) f all
 
-no_room_fits : (s : OneKernel) (n : ℕ) (o : Option Pending) (k : manage.Took) → manage.pending_numbered n s.manager.pending ≡ o → manage.takes_no_room s.manager n o ≡ Some k → KernelFits s → ManagerFits s (OtherThan n) k
+no_room_fits : (s : OneKernel) (n : ℕ) (o : Option Pending) (k : manage.ManagerTook) → manage.pending_numbered n s.manager.pending ≡ o → manage.takes_no_room s.manager n o ≡ Some k → KernelFits s → ManagerFits s (OtherThan n) k
 no_room_fits s n None k is e h = cc
 no_room_fits s n (Some r) k is e h =
     let g = record s.manager { pending = manage.without_pending n s.manager.pending } in
-    let took = manage.answers g r.answer 1 [] in
+    let took = manage.answers_byte g r.answer 1 [] in
     let f : took ≡ k = cc in
     let all : ManagerFits s (OtherThan n) took = record {
       answers = without_fits s.processes n s.manager.pending h.answers;
@@ -299,7 +299,7 @@ other_number r e s id i m k there answer stands from h = elim (cases_Bool (i.n =
       ]
 ]
 
-manager_on : (s : OneKernel) (id : MsgId) (T : ℕ → Type 0) (k : manage.Took) → ManagerFits s T k → ((i : MsgId) (x : PlainMessage) → (without_message s id).bag i ≡ Some x → i.from ≡ manager → T i.n) → KernelFits s → KernelFits (service.manager_took s id k)
+manager_on : (s : OneKernel) (id : MsgId) (T : ℕ → Type 0) (k : manage.ManagerTook) → ManagerFits s T k → ((i : MsgId) (x : PlainMessage) → (without_message s id).bag i ≡ Some x → i.from ≡ manager → T i.n) → KernelFits s → KernelFits (service.manager_took s id k)
 manager_on s id T k b others fits =
     let v = without_message s id in
     let u = record v { manager = k.manager } in
@@ -321,7 +321,7 @@ manager_on s id T k b others fits =
     sends_off None h = tt
     sends_off (Some m) h = what_on (record s { manager = k.manager }) (record (without_message s id) { manager = k.manager }) m.id m m.what (λ p n e. e) (λ e. e) (λ c p. record { from = p.from; pending = p.pending }) refl refl h
 
-manager_row : (r e : MsgId → ℕ) (s t : OneKernel) (id : MsgId) (m : PlainMessage) (w : PlainWhat) → m.id ≡ id → s.bag id ≡ Some m → WhatFits s id m w → bind (manage.takes s.manager s.machines (length s.images) m w) (λ (k : manage.Took). Some (service.manager_took s id k)) ≡ Some t → Sound r e s
+manager_row : (r e : MsgId → ℕ) (s t : OneKernel) (id : MsgId) (m : PlainMessage) (w : PlainWhat) → m.id ≡ id → s.bag id ≡ Some m → WhatFits s id m w → bind (manage.manager_takes s.manager s.machines (length s.images) m w) (λ (k : manage.ManagerTook). Some (service.manager_took s id k)) ≡ Some t → Sound r e s
     → KernelFits s → KernelFits t
 manager_row r e s t id m (PlainWhat.User code channel body links) name there f is h fits =
     let k = manage.takes_user s.manager s.machines (length s.images) code body links in
@@ -330,7 +330,7 @@ manager_row r e s t id m (PlainWhat.User code channel body links) name there f i
 manager_row r e s t id m (PlainWhat.Created child) name there f is h fits =
     let (to, answer, pending, made) = f in
     let o = manage.takes_created s.manager m.id.n child (manage.pending_numbered m.id.n s.manager.pending) in
-    let (k, took, last) = bind-is o (λ (x : manage.Took). Some (service.manager_took s id x)) t is in
+    let (k, took, last) = bind-is o (λ (x : manage.ManagerTook). Some (service.manager_took s id x)) t is in
     let g : service.manager_took s id k ≡ t = cc in
     subst KernelFits g
     (manager_on s id (OtherThan m.id.n) k (created_fits s m.id.n child (manage.pending_numbered m.id.n s.manager.pending) k refl took made fits)
@@ -338,7 +338,7 @@ manager_row r e s t id m (PlainWhat.Created child) name there f is h fits =
 manager_row r e s t id m PlainWhat.NoRoom name there f is h fits =
     let (to, answer, pending) = f in
     let o = manage.takes_no_room s.manager m.id.n (manage.pending_numbered m.id.n s.manager.pending) in
-    let (k, took, last) = bind-is o (λ (x : manage.Took). Some (service.manager_took s id x)) t is in
+    let (k, took, last) = bind-is o (λ (x : manage.ManagerTook). Some (service.manager_took s id x)) t is in
     let g : service.manager_took s id k ≡ t = cc in
     subst KernelFits g
     (manager_on s id (OtherThan m.id.n) k (no_room_fits s m.id.n (manage.pending_numbered m.id.n s.manager.pending) k refl took fits)
@@ -346,8 +346,8 @@ manager_row r e s t id m PlainWhat.NoRoom name there f is h fits =
 manager_row r e s t id m _ name there f is h fits = cc
 
 takes_by : (r e : MsgId → ℕ) (s t : OneKernel) (id : MsgId) (m : PlainMessage) (b c : Bool) → s.bag id ≡ Some m
-    → (if b then bind (board.takes s.switchboard m m.what) (λ (k : board.Took). Some (service.switchboard_took s id k))
-    else if c then bind (manage.takes s.manager s.machines (length s.images) m m.what) (λ (k : manage.Took). Some (service.manager_took s id k))
+    → (if b then bind (board.board_takes s.switchboard m m.what) (λ (k : board.BoardTook). Some (service.switchboard_took s id k))
+    else if c then bind (manage.manager_takes s.manager s.machines (length s.images) m m.what) (λ (k : manage.ManagerTook). Some (service.manager_took s id k))
     else None) ≡ Some t → Sound r e s → KernelFits s → KernelFits t
 takes_by r e s t id m true c there is h fits = board_row s t id m m.what (fits.messages id m there) is fits
 takes_by r e s t id m false true there is h fits = manager_row r e s t id m m.what (h.entered.named id m there) there (fits.messages id m there) is h fits

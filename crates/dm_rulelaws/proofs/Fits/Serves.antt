@@ -115,10 +115,10 @@ lands_what_fits : (ps : Lives) (p : Pid) (x : PlainProcess) (dir : Direction) (o
     → pieces.lands_what p x dir owner base own left w ≡ Some c → LandedFits ps p x c
 lands_what_fits ps p x Direction.FromArea owner base own left (PlainWhat.Block bytes) c h has within e =
     let z = record x { memory = pieces.written_at x.memory own bytes } in
-    if_lands ps p x ((length bytes == pieces.piece_of left) && nat_le (own + left) (length x.memory)) (pieces.goes_on p z Direction.FromArea owner base own left (pieces.piece_of left)) c
+    if_lands ps p x ((length bytes == pieces.piece_of left) && nat_le (own + left) (length x.memory)) (pieces.move_goes_on p z Direction.FromArea owner base own left (pieces.piece_of left)) c
     (goes_on_by ps p x z Direction.FromArea owner base own left (left - pieces.piece_of left == 0) (written_longer x.memory own bytes) refl h has within) e
 lands_what_fits ps p x Direction.IntoArea owner base own left PlainWhat.Written c h has within e =
-    if_lands ps p x (nat_le (own + left) (length x.memory)) (pieces.goes_on p x Direction.IntoArea owner base own left (pieces.piece_of left)) c
+    if_lands ps p x (nat_le (own + left) (length x.memory)) (pieces.move_goes_on p x Direction.IntoArea owner base own left (pieces.piece_of left)) c
     (goes_on_by ps p x x Direction.IntoArea owner base own left (left - pieces.piece_of left == 0) (omega arith) refl h has within) e
 lands_what_fits ps p x Direction.FromArea owner base own left PlainWhat.Gone c h has within e = let k : pieces.done Reply.Gone x ≡ c = cc in subst (LandedFits ps p x) k (done_fits ps p x x Reply.Gone (omega arith) refl h)
 lands_what_fits ps p x Direction.IntoArea owner base own left PlainWhat.Gone c h has within e = let k : pieces.done Reply.Gone x ≡ c = cc in subst (LandedFits ps p x) k (done_fits ps p x x Reply.Gone (omega arith) refl h)
@@ -276,8 +276,8 @@ drops_row s t id m y is fits = let k = when-is (is_dropped m.what) (without_mess
 
 pub dropped_step : (s t : OneKernel) (id : MsgId) → kernel.step s (Label.Dropped id) ≡ Some t → KernelFits s → KernelFits t
 dropped_step s t id is fits =
-    let (m, there, rest) = bind-is (s.bag id) (λ (v : PlainMessage). bind (kernel.ended (s.processes v.to)) (kernel.drops s id v)) t is in
-    let (y, ended, last) = bind-is (kernel.ended (s.processes m.to)) (kernel.drops s id m) t rest in
+    let (m, there, rest) = bind-is (s.bag id) (λ (v : PlainMessage). bind (kernel.why_ended (s.processes v.to)) (kernel.drops s id v)) t is in
+    let (y, ended, last) = bind-is (kernel.why_ended (s.processes m.to)) (kernel.drops s id m) t rest in
     drops_row s t id m y last fits
 
 gone_fits : (r e : MsgId → ℕ) (s : OneKernel) (id : MsgId) (m : PlainMessage) (w : PlainWhat) → m.what ≡ w → is_of_memory w ≡ true → WhatFits s id m w → s.bag id ≡ Some m → Sound r e s → WhatFits (without_message s id) (answer_id m.id) (answer_to m PlainWhat.Gone) PlainWhat.Gone
@@ -289,7 +289,7 @@ gone_fits r e s id m _ is memory f there h = cc
 
 pub gone_step : (r e : MsgId → ℕ) (s t : OneKernel) (id : MsgId) → kernel.step s (Label.Gone id) ≡ Some t → Sound r e s → KernelFits s → KernelFits t
 gone_step r e s t id is h fits =
-    let (m, there, rest) = bind-is (s.bag id) (λ (v : PlainMessage). bind (kernel.ended (s.processes v.to)) (kernel.says_gone s id v)) t is in
-    let (y, ended, last) = bind-is (kernel.ended (s.processes m.to)) (kernel.says_gone s id m) t rest in
+    let (m, there, rest) = bind-is (s.bag id) (λ (v : PlainMessage). bind (kernel.why_ended (s.processes v.to)) (kernel.says_gone s id v)) t is in
+    let (y, ended, last) = bind-is (kernel.why_ended (s.processes m.to)) (kernel.says_gone s id m) t rest in
     let k = when-is (is_of_memory m.what) (with_sent (without_message s id) (Some (answer_to m PlainWhat.Gone))) t last in
     subst KernelFits k.1 (put_fits (without_message s id) (answer_to m PlainWhat.Gone) (gone_fits r e s id m m.what refl k.0 (fits.messages id m there) there h) (out_fits s id fits))

@@ -50,7 +50,7 @@ ran_fits s t p k is h =
       move = move_on s.processes s.processes (λ q n e. e) x (kernel.with_machine x m) (omega (arith, size)) x.status fits.move;
     }) h)
 
-reply_row : (s t : OneKernel) (p : Pid) (n : ℕ) (c : Reply) (next : kernel.Next) → NextIs s p next → kernel.replies s p n c next ≡ Some t → KernelFits s → KernelFits t
+reply_row : (s t : OneKernel) (p : Pid) (n : ℕ) (c : Reply) (next : kernel.Trap) → NextIs s p next → kernel.replies s p n c next ≡ Some t → KernelFits s → KernelFits t
 reply_row s t p n c (kernel.Calls number (Called.Replies d y)) w is h =
     let k = when-is ((n == number) && reply_eq c d) (kernel.goes_on s p y) t is in
     subst KernelFits k.1 (goes_fits s p w.x y w.is.alive w.is.still (goes_of s.processes w.x w.z y w.memory w.fits) h)
@@ -58,7 +58,7 @@ reply_row s t p n c _ w is h = cc
 
 pub call_step : (s t : OneKernel) (p : Pid) (n : ℕ) (c : Reply) → kernel.step s (Label.Call p n c) ≡ Some t → KernelFits s → KernelFits t
 call_step s t p n c is h =
-    let (x, next, rest) = bind-is (kernel.next s p) (kernel.replies s p n c) t is in
+    let (x, next, rest) = bind-is (kernel.next_trap s p) (kernel.replies s p n c) t is in
     reply_row s t p n c x (next_is s p x h next) rest h
 
 -- what is sent fits where its sender goes on
@@ -70,7 +70,7 @@ sent_fits s u p y m (PlainWhat.Write base bytes) up at from f =
     (up m.to (base + length bytes) f.0, ap (λ (q : Pid). awaits (u.processes q) m.id.n (PlainWhat.Write base bytes)) from ∙ ap (λ (o : Option Life). awaits o m.id.n (PlainWhat.Write base bytes)) at ∙ f.1)
 sent_fits s u p y m _ up at from f = absurd f
 
-send_row : (s t : OneKernel) (p : Pid) (id : MsgId) (next : kernel.Next) → Nexts s p next → NextIs s p next → kernel.sends s p id next ≡ Some t → KernelFits s → KernelFits t
+send_row : (s t : OneKernel) (p : Pid) (id : MsgId) (next : kernel.Trap) → Nexts s p next → NextIs s p next → kernel.sends s p id next ≡ Some t → KernelFits s → KernelFits t
 send_row s t p id (kernel.Calls number (Called.Sends m y)) v w is h =
     let (z, sent, pending, counted) = v.counts in
     let k = when-is (id_eq id m.id) (with_sent (kernel.goes_on s p y) (Some m)) t is in
@@ -83,10 +83,10 @@ send_row s t p id _ v w is h = cc
 
 pub send_step : (s t : OneKernel) (p : Pid) (id : MsgId) → kernel.step s (Label.Send p id) ≡ Some t → KernelFits s → KernelFits t
 send_step s t p id is h =
-    let (x, next, rest) = bind-is (kernel.next s p) (kernel.sends s p id) t is in
+    let (x, next, rest) = bind-is (kernel.next_trap s p) (kernel.sends s p id) t is in
     send_row s t p id x (nexts s p x next) (next_is s p x h next) rest h
 
-wait_row : (s t : OneKernel) (p : Pid) (next : kernel.Next) → NextIs s p next → kernel.waits s p next ≡ Some t → KernelFits s → KernelFits t
+wait_row : (s t : OneKernel) (p : Pid) (next : kernel.Trap) → NextIs s p next → kernel.waits s p next ≡ Some t → KernelFits s → KernelFits t
 wait_row s t p (kernel.Calls number (Called.Waits y)) w is h =
     let eq : kernel.goes_on s p y ≡ t = cc in
     subst KernelFits eq (goes_fits s p w.x y w.is.alive w.is.still (goes_of s.processes w.x w.z y w.memory w.fits) h)
@@ -94,10 +94,10 @@ wait_row s t p _ w is h = cc
 
 pub wait_step : (s t : OneKernel) (p : Pid) → kernel.step s (Label.Wait p) ≡ Some t → KernelFits s → KernelFits t
 wait_step s t p is h =
-    let (x, next, rest) = bind-is (kernel.next s p) (kernel.waits s p) t is in
+    let (x, next, rest) = bind-is (kernel.next_trap s p) (kernel.waits s p) t is in
     wait_row s t p x (next_is s p x h next) rest h
 
-out_row : (s t : OneKernel) (p : Pid) (word : ℕ) (next : kernel.Next) → NextIs s p next → kernel.outputs s p word next ≡ Some t → KernelFits s → KernelFits t
+out_row : (s t : OneKernel) (p : Pid) (word : ℕ) (next : kernel.Trap) → NextIs s p next → kernel.outputs s p word next ≡ Some t → KernelFits s → KernelFits t
 out_row s t p word (kernel.Calls number (Called.Outputs other y)) w is h =
     let k = when-is (word == other) (kernel.goes_on s p y) t is in
     subst KernelFits k.1 (goes_fits s p w.x y w.is.alive w.is.still (goes_of s.processes w.x w.z y w.memory w.fits) h)
@@ -105,17 +105,17 @@ out_row s t p word _ w is h = cc
 
 pub out_step : (s t : OneKernel) (p : Pid) (word : ℕ) → kernel.step s (Label.Out p word) ≡ Some t → KernelFits s → KernelFits t
 out_step s t p word is h =
-    let (x, next, rest) = bind-is (kernel.next s p) (kernel.outputs s p word) t is in
+    let (x, next, rest) = bind-is (kernel.next_trap s p) (kernel.outputs s p word) t is in
     out_row s t p word x (next_is s p x h next) rest h
 
-end_row : (s t : OneKernel) (p : Pid) (y : Why) (next : kernel.Next) → kernel.ends s p y next ≡ Some t → KernelFits s → KernelFits t
+end_row : (s t : OneKernel) (p : Pid) (y : Why) (next : kernel.Trap) → kernel.ends s p y next ≡ Some t → KernelFits s → KernelFits t
 end_row s t p y (kernel.Calls number (Called.Ends because)) is h = let k = when-is (why_eq y because) (with_process s p (Ended y)) t is in subst KernelFits k.1 (end_fits s p y h)
 end_row s t p y (kernel.Faults fault) is h = let k = when-is (why_eq y (Why.Fault fault)) (with_process s p (Ended y)) t is in subst KernelFits k.1 (end_fits s p y h)
 end_row s t p y _ is h = cc
 
 pub end_step : (s t : OneKernel) (p : Pid) (y : Why) → kernel.step s (Label.End p y) ≡ Some t → KernelFits s → KernelFits t
 end_step s t p y is h =
-    let (x, next, rest) = bind-is (kernel.next s p) (kernel.ends s p y) t is in
+    let (x, next, rest) = bind-is (kernel.next_trap s p) (kernel.ends s p y) t is in
     end_row s t p y x rest h
 
 receive_row : (s t : OneKernel) (p : Pid) (id : MsgId) (c : receiving.Completed) → Completing s p c → kernel.receives s p id c ≡ Some t → KernelFits s → KernelFits t

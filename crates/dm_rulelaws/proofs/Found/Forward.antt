@@ -1,7 +1,7 @@
 -- What a turn needs where a message goes on, and where those of a process that leaves do.
 use Rattle.dm_rulelaws.proofs.Names.{◌≡◌, ◌≢◌, ℕ, ◌<◌, ◌≤◌, Bool, true, false, List, [], ◌∷◌, ◌++◌, length, refl, ap, ◌∙◌, sym, subst, inl, inr, arith, if◌then◌else◌, Option, None, Some, cases_Bool, false≢true, Pid, Place, MsgId, id_eq}
 use Rattle.dm_rulelaws.proofs.Names.{PlainMessage, MessageKind, Line, Stage, id_eq-is, id_eq-same, View, Told, Known, Unknown, Frozen, Forward, is_kernels, own_id, handled, forwarded_for, forward_about, receiver_of, view_after, Addresses}
-use Rattle.dm_rulelaws.proofs.Names.{Receiver, Sender, given, place_known, all_follow, is_told_back, tells_back, forwards, to_of, Point, moved, Part, Says, Again, Owns, to_kernel, forwards_on, sends_on, leaves, Spot, times, standing}
+use Rattle.dm_rulelaws.proofs.Names.{Receiver, Sender, given, place_known, all_follow, is_told_back, told_back_gets, forwards, to_of, Point, moved, Part, Says, Again, Owns, to_kernel, forwards_on, sends_on, leaves, Spot, times, standing}
 use Rattle.dm_rulelaws.proofs.Names.{StandsAsBag, letters, not_true, both_lists, without_all, without_at, first_off, sent_way, one_of, front_gone, forwarded_known, State, Sane, Goes, Comes, Named, Links, forwarded_back, is_own, is_fixed}
 use Rattle.dm_rule.proofs.Trails.Places.{Owns}
 use Rattle.dm_rulelaws.proofs.Found.Core.{AboutIs, KnowsAt, Knows, IsReal, KnownIs, Core, Grows, knows_grow, real_grows}
@@ -36,7 +36,7 @@ forwarded_own v (Some p) = refl
 goes_to : (v : View) (a : Addresses) (id : MsgId) (u : Told) (to c : ℕ) (o : Option Told) → o ≡ Some u → v.known v.acting u.receiver ≡ Forward to c → (given a (forwards v a id o) (Receiver id)).at ≡ to
 goes_to v a id u to c o told at =
     ap (λ (x : Option Told). (given a (forwards v a id x) (Receiver id)).at) told
-    ∙ ap (λ (b : Bool). (if b then place_known (v.known v.acting u.receiver) (v.moves u.receiver) (a (Receiver id)) else given a (tells_back v a id (is_told_back u.kind)) (Receiver id)).at) (id_eq-same id)
+    ∙ ap (λ (b : Bool). (if b then place_known (v.known v.acting u.receiver) (v.moves u.receiver) (a (Receiver id)) else given a (told_back_gets v a id (is_told_back u.kind)) (Receiver id)).at) (id_eq-same id)
     ∙ ap (λ (k : Known). (place_known k (v.moves u.receiver) (a (Receiver id))).at) at
 
 pub other_id : (v : View) (id : MsgId) (u : Told) → v.told id ≡ Some u → v.told (own_id v) ≡ None → id_eq id (own_id v) ≡ false

@@ -1,6 +1,6 @@
 -- Lines that give addresses keep where messages stand: a message that goes on, messages that are sent on, and an update.
 use Rattle.dm_rulelaws.proofs.Names.{◌≡◌, ℕ, ◌<◌, ◌≤◌, Bool, true, false, is_some, List, [], ◌∷◌, ◌++◌, refl, ap, ◌∙◌, sym, subst, inl, inr, arith, if◌then◌else◌, Option, None, Some, Pid, Place, MsgId, id_eq, id_eq-is, Line, View, Told}
-use Rattle.dm_rulelaws.proofs.Names.{own_id, view_after, handled, forwarded_for, forward_about, receiver_of, Addresses, Receiver, Sender, given, place_known, all_follow, tells_back, is_told_back, forwards, updated, Point, moved, Spot}
+use Rattle.dm_rulelaws.proofs.Names.{own_id, view_after, handled, forwarded_for, forward_about, receiver_of, Addresses, Receiver, Sender, given, place_known, all_follow, told_back_gets, is_told_back, forwards, updated, Point, moved, Spot}
 use Rattle.dm_rulelaws.proofs.Names.{times, standing, not_true, one_of, Named, zero_cases, flip_zero}
 use Rattle.dm_rulelaws.proofs.Found.Lists.{Places, places_line, places_handled, places_forwarded}
 use Rattle.dm_rulelaws.proofs.Found.Held.{HeldFor, held_as, held_line}
@@ -33,13 +33,13 @@ given_core n pt w b acting known told topic all places held h =
     }
 
 -- a message that goes on
-back_off : (v : View) (a : Addresses) (id i : MsgId) (c : Bool) → id_eq (own_id v) i ≡ false → given a (tells_back v a id c) (Receiver i) ≡ a (Receiver i)
+back_off : (v : View) (a : Addresses) (id i : MsgId) (c : Bool) → id_eq (own_id v) i ≡ false → given a (told_back_gets v a id c) (Receiver i) ≡ a (Receiver i)
 back_off v a id i true e = ap (λ (c : Bool). if c then a (Sender id) else a (Receiver i)) e
 back_off v a id i false e = refl
 
 forwards_off : (v : View) (a : Addresses) (id i : MsgId) (u : Told) → id_eq id i ≡ false → id_eq (own_id v) i ≡ false → given a (forwards v a id (Some u)) (Receiver i) ≡ a (Receiver i)
 forwards_off v a id i u e f =
-    ap (λ (c : Bool). if c then place_known (v.known v.acting u.receiver) (v.moves u.receiver) (a (Receiver id)) else given a (tells_back v a id (is_told_back u.kind)) (Receiver i)) e ∙ back_off v a id i (is_told_back u.kind) f
+    ap (λ (c : Bool). if c then place_known (v.known v.acting u.receiver) (v.moves u.receiver) (a (Receiver id)) else given a (told_back_gets v a id (is_told_back u.kind)) (Receiver i)) e ∙ back_off v a id i (is_told_back u.kind) f
 
 pub record NeedsForward (n : ℕ) (pt : Point) (id : MsgId) : Type 0 where
   pub u : Told

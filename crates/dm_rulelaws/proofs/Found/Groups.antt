@@ -82,7 +82,7 @@ told_there (Some t) e = (t, refl)
 abbrev AllKnown : ℕ → View → Type 0
 AllKnown n v = (m : ℕ) (p : Pid) → KnownIs n v m p (v.known m p)
 
-left_by : (n : ℕ) (v : View) (m d : ℕ) (p : Pid) (k : MessageKind) (x : Known) → phases.leaves k d x ≡ true → v.known m p ≡ x → AllKnown n v → (m < n) × (d < n) × (is_fixed p ≡ false)
+left_by : (n : ℕ) (v : View) (m d : ℕ) (p : Pid) (k : MessageKind) (x : Known) → phases.kind_leaves k d x ≡ true → v.known m p ≡ x → AllKnown n v → (m < n) × (d < n) × (is_fixed p ≡ false)
 left_by n v m d p k (Frozen to) e is h =
     let both = parts (not (is_restart k)) (d == to) e in
     let f = subst (KnownIs n v m p) is (h m p) in
@@ -95,7 +95,7 @@ left_by n v m d p k _ e is h = absurd (false≢true e)
 
 moves_within : (n : ℕ) (v : View) (p : Pid) (k : MessageKind) (s d : ℕ) (o : Option MsgId) → knows (Moves k s d o) s (v.known s p) ≡ true → AllKnown n v → (s < n) × (d < n) × (is_fixed p ≡ false)
 moves_within n v p k s d o e h =
-    left_by n v s d p k (v.known s p) (sym (ap (λ (c : Bool). if c then phases.leaves k d (v.known s p) else if d == s then phases.comes k s (v.known s p) else phases.is_away (v.known s p)) (eq_self s)) ∙ e) refl h
+    left_by n v s d p k (v.known s p) (sym (ap (λ (c : Bool). if c then phases.kind_leaves k d (v.known s p) else if d == s then phases.kind_comes k s (v.known s p) else phases.is_away (v.known s p)) (eq_self s)) ∙ e) refl h
 
 sender_within : (n s d : ℕ) (c : Bool) → s < n → d < n → (if c then s else d) < n
 sender_within n s d true le ld = le

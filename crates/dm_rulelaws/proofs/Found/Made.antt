@@ -41,7 +41,7 @@ before s t (Label.Created id child) h = λ q some. inl (h q some)
 before s t l h = h
 
 creates_made : (s : OneKernel) (id : MsgId) (child : Pid) (m : PlainMessage) (links : _) (i : BootImage) → s.bag id ≡ Some m → pid_eq child (pid_of m.to.home (first_number + s.made m.to.home)) ≡ true
-    → MadeBy s (Label.Created id child) (with_sent (service.with_child (without_message s id) child i links) (Some (answer_to m (PlainWhat.Created child))))
+    → MadeBy s (Label.Created id child) (with_sent (service.with_created (without_message s id) child i links) (Some (answer_to m (PlainWhat.Created child))))
 creates_made s id child m links i there name q some =
     let life = Alive (begun s.format i links) in
     elim (cases_Bool (pid_eq child q)) [
@@ -75,7 +75,7 @@ step_by s t l =
       board = λ id m k is there c took. stay (service.switchboard_took s id k) (sent_processes (record (without_message s id) { switchboard = k.switchboard }) k.answer);
       manager = λ id m k is there c took. stay (service.manager_took s id k) (sent_processes (record (without_message s id) { manager = k.manager }) k.message);
       creates = λ id child m image links i is w found name.
-          subst (λ (x : Label). MadeBy s x (with_sent (service.with_child (without_message s id) child i links) (Some (answer_to m (PlainWhat.Created child))))) (sym is) (creates_made s id child m links i w.there name);
+          subst (λ (x : Label). MadeBy s x (with_sent (service.with_created (without_message s id) child i links) (Some (answer_to m (PlainWhat.Created child))))) (sym is) (creates_made s id child m links i w.there name);
       no_room = λ id a b m image links is w. stay (with_sent (without_message s id) (Some (answer_to m PlainWhat.NoRoom))) refl;
     })
 

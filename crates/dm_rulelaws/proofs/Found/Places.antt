@@ -2,7 +2,7 @@
 -- are sent on, an update, and puts.
 use Rattle.dm_rulelaws.proofs.Names.{◌≡◌, ◌⊎◌, ℕ, ◌≤◌, Bool, true, false, List, [], ◌∷◌, refl, ap, ◌∙◌, sym, subst, inl, inr, arith, ⊤, if◌then◌else◌, Option, None, Some, cases_Bool, false≢true, Pid, Place, MsgId, id_eq, MessageKind}
 use Rattle.dm_rulelaws.proofs.Names.{manager, OneKernel, id_eq-is, id_eq-same, View, Told, About, NothingElse, is_kernels, own_id, after_put, Addresses, Holder, Receiver, Sender, Gets, gets, given, holder_eq, place_known, all_follow}
-use Rattle.dm_rulelaws.proofs.Names.{is_told_back, tells_back, forwards, place_told, is_behind, updated_to, updated, own_gives, first_gives, times, one_of, put_told_off, put_at, Goes, Comes, Named, Links, holder_is, unnamed_receiver}
+use Rattle.dm_rulelaws.proofs.Names.{is_told_back, told_back_gets, forwards, place_told, is_behind, updated_to, updated, own_gives, first_gives, times, one_of, put_told_off, put_at, Goes, Comes, Named, Links, holder_is, unnamed_receiver}
 use Rattle.dm_rulelaws.proofs.Names.{unnamed_sender, put_named, told_again, is_own, leads_where, behind_where, plain_gives, not_own, Sort, sort_of, own_given}
 use Rattle.dm_rule.specs.View as view
 use Rattle.dm_rule.proofs.Trails.Places.{Owns}
@@ -35,7 +35,7 @@ pub all_as : (P : Pid → Place → Type 0) (s : OneKernel) (v w : View) (a : Ad
 all_as P s v w a same h g q e = h g q (told_back s v w g q same e)
 
 -- a message that is forwarded, and the update for its sender
-back_gets : (P : Pid → Place → Type 0) (s : OneKernel) (v : View) (a : Addresses) (id : MsgId) (b : Bool) → s.bag (own_id v) ≡ None → v.told (own_id v) ≡ None → AllGet P s v (tells_back v a id b)
+back_gets : (P : Pid → Place → Type 0) (s : OneKernel) (v : View) (a : Addresses) (id : MsgId) (b : Bool) → s.bag (own_id v) ≡ None → v.told (own_id v) ≡ None → AllGet P s v (told_back_gets v a id b)
 back_gets P s v a id true bag told = ((λ q e. absurd (unnamed_receiver s v (own_id v) q bag told e)), ((λ q e. absurd (unnamed_sender s v (own_id v) q bag told e)), tt))
 back_gets P s v a id false bag told = tt
 

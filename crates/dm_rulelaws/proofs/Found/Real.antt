@@ -1,8 +1,8 @@
 -- Whom addresses are of is a kernel or a server of a machine that there is, or a process that its home knows.
 use Rattle.dm_rulelaws.proofs.Names.{◌≡◌, ◌⊎◌, ℕ, zero, suc, ◌+◌, ◌<◌, ◌≤◌, ◌==◌, ◌&&◌, ◌||◌, Bool, true, false, is_some, nat_le, nat_lt, List, [], ◌∷◌, refl, ap, ◌∙◌, sym, subst, inl, inr, arith, if◌then◌else◌, slice_get, Option, None}
 use Rattle.dm_rulelaws.proofs.Names.{Some, nat_tests, Pid, pid_eq, PlainLink, link_at, MsgId, PlainMessage, PlainWhat, switchboard, manager, PlainProcess, PlainStatus, Moving, Life, NamedLink, Pending, OneKernel, Made, alive-is, View}
-use Rattle.dm_rulelaws.proofs.Names.{Holder, Slot, Owner, Receiver, Sender, Enclosed, Child, Name, Answer, link_to, slot_of, owner_in, owner_of, name_link, answer_link, links_in, to_of, sender_of, enclosed_of, names, Point, Each, has_bytes}
-use Rattle.dm_rulelaws.proofs.Names.{is_server, gives_no_right, LinkFits, move_fits, WhatFits, awaits, is_fixed, or_first}
+use Rattle.dm_rulelaws.proofs.Names.{Holder, Slot, Owner, Receiver, Sender, Enclosed, Child, Name, Answer, link_target, slot_of, owner_in, owner_of, name_link, answer_link, links_in, to_of, sender_of, enclosed_of, names, Point, Each}
+use Rattle.dm_rulelaws.proofs.Names.{has_bytes, is_server, gives_no_right, LinkFits, move_fits, WhatFits, awaits, is_fixed, or_first}
 use Rattle.dm_onekernel.specs.Manager as manage
 use Rattle.dm_onekernel.specs.Step as kernel
 use Rattle.dm_rulelaws.proofs.Fits.Rises.{both}
@@ -87,12 +87,12 @@ each_pending P (x ∷ xs) k r h e = by (x.n == k) (each_pending P xs k r h.1) e
     by true rest f = let g : x ≡ r = cc in subst P g h.0
     by false rest f = rest f
 
-link_there : (o : Option PlainLink) (q : Pid) → link_to o ≡ Some q → (l : PlainLink) × (o ≡ Some l) × (l.to ≡ q)
+link_there : (o : Option PlainLink) (q : Pid) → link_target o ≡ Some q → (l : PlainLink) × (o ≡ Some l) × (l.to ≡ q)
 link_there None q e = cc
 link_there (Some l) q e = (l, refl, (let f : l.to ≡ q = cc in f))
 
 -- each kind of holder
-slot_real : (pt : Point) (n : ℕ) (p : Pid) (k : ℕ) (q : Pid) (o : Option PlainProcess) → Core n pt → 0 < n → kernel.alive (pt.kernel.processes p) ≡ o → link_to (slot_of o k) ≡ Some q → IsReal n pt.view q
+slot_real : (pt : Point) (n : ℕ) (p : Pid) (k : ℕ) (q : Pid) (o : Option PlainProcess) → Core n pt → 0 < n → kernel.alive (pt.kernel.processes p) ≡ o → link_target (slot_of o k) ≡ Some q → IsReal n pt.view q
 slot_real pt n p k q None h some is e = cc
 slot_real pt n p k q (Some x) h some is e =
     let (l, at, to) = link_there (link_at x.links k) q e in
@@ -126,19 +126,19 @@ links_fit s i m (PlainWhat.User z1 z2 z3 z4) e = e.1
 links_fit s i m (PlainWhat.Create z1 z2) e = e.6
 links_fit s i m _ e = tt
 
-enclosed_real : (pt : Point) (n : ℕ) (i : MsgId) (k : ℕ) (q : Pid) (o : Option PlainMessage) → Core n pt → 0 < n → pt.kernel.bag i ≡ o → link_to (enclosed_of o k) ≡ Some q → IsReal n pt.view q
+enclosed_real : (pt : Point) (n : ℕ) (i : MsgId) (k : ℕ) (q : Pid) (o : Option PlainMessage) → Core n pt → 0 < n → pt.kernel.bag i ≡ o → link_target (enclosed_of o k) ≡ Some q → IsReal n pt.view q
 enclosed_real pt n i k q None h some is e = cc
 enclosed_real pt n i k q (Some m) h some is e =
     let (l, at, to) = link_there (slice_get (links_in m.what) k) q e in
     subst (IsReal n pt.view) to (link_real pt n l h some (each_get (LinkFits pt.kernel.processes) (links_in m.what) k l (links_fit pt.kernel i m m.what (h.fits.messages i m is)) at))
 
-name_real : (pt : Point) (n k : ℕ) (q : Pid) (o : Option NamedLink) → Core n pt → 0 < n → slice_get pt.kernel.switchboard.names k ≡ o → link_to (name_link o) ≡ Some q → IsReal n pt.view q
+name_real : (pt : Point) (n k : ℕ) (q : Pid) (o : Option NamedLink) → Core n pt → 0 < n → slice_get pt.kernel.switchboard.names k ≡ o → link_target (name_link o) ≡ Some q → IsReal n pt.view q
 name_real pt n k q None h some is e = cc
 name_real pt n k q (Some x) h some is e =
     let f : x.link.to ≡ q = cc in
     subst (IsReal n pt.view) f (link_real pt n x.link h some (each_get (λ (y : NamedLink). LinkFits pt.kernel.processes y.link) pt.kernel.switchboard.names k x h.fits.names is))
 
-answer_real : (pt : Point) (n k : ℕ) (q : Pid) (o : Option Pending) → Core n pt → 0 < n → manage.pending_numbered k pt.kernel.manager.pending ≡ o → link_to (answer_link o) ≡ Some q → IsReal n pt.view q
+answer_real : (pt : Point) (n k : ℕ) (q : Pid) (o : Option Pending) → Core n pt → 0 < n → manage.pending_numbered k pt.kernel.manager.pending ≡ o → link_target (answer_link o) ≡ Some q → IsReal n pt.view q
 answer_real pt n k q None h some is e = cc
 answer_real pt n k q (Some r) h some is e =
     let f : r.answer.to ≡ q = cc in

@@ -18,7 +18,7 @@ said_next pt next l ls is leads =
     (s, g ∙ e)
 
 -- the queue of a process that ends goes
-drops_loose : (n : ℕ) (ids : List MsgId) → AllLoose n (rule.drops ids)
+drops_loose : (n : ℕ) (ids : List MsgId) → AllLoose n (rule.drop_parts ids)
 drops_loose n [] = tt
 drops_loose n (i ∷ is) = (λ q. tt, drops_loose n is)
 
@@ -29,7 +29,7 @@ stops_need n pt p queue at = record {
   sends = λ id. first_need n pt (rule.says (Label.Send p id)) (Routes id ∷ []) at (λ q. tt, tt);
   waits = first_need n pt (rule.says (Label.Wait p)) [] at tt;
   outputs = λ word. first_need n pt (rule.says (Label.Out p word)) [] at tt;
-  ends = λ y. first_need n pt (rule.says (Label.End p y)) (rule.drops queue) tt (drops_loose n queue);
+  ends = λ y. first_need n pt (rule.says (Label.End p y)) (rule.drop_parts queue) tt (drops_loose n queue);
 }
 
 pub round_need : (n : ℕ) (pt : Point) (b : Boot) (o : Point) (m : ℕ) (q : Option Pid) (ps : List Part) → ((p : Pid) (x : PlainProcess) → q ≡ Some p → kernel.alive (o.kernel.processes p) ≡ Some x → KnowsAt pt.view p pt.view.acting) → rule.goes_round b o m q ≡ Some ps → AllNeed n pt ps
@@ -62,7 +62,7 @@ handles_need n pt b o m id k ps at forwards = by_handles (AllNeed n pt) b o m id
   queued = λ to user. first_need n pt (Says (Line.Queued id)) [] at tt;
   served = λ to mild. first_need n pt (rule.says (Label.Served id)) [] at tt;
   answers = λ to mild i. first_need n pt (rule.says (Label.Served id)) (Routes i ∷ []) at (λ q. tt, tt);
-  kills = λ to kills. first_need n pt (rule.says (Label.Served id)) (rule.drops (o.view.queue m k.to)) at (drops_loose n (o.view.queue m k.to));
+  kills = λ to kills. first_need n pt (rule.says (Label.Served id)) (rule.drop_parts (o.view.queue m k.to)) at (drops_loose n (o.view.queue m k.to));
   gone = λ to. first_need n pt (rule.says (Label.Gone id)) (Routes (pieces.answer_id id) ∷ []) at (λ q. tt, tt);
   dropped = λ to. first_need n pt (rule.says (Label.Dropped id)) [] tt tt;
   leaving = λ x to. first_need n pt (Says (Line.Held id)) [] at tt;

@@ -1,7 +1,7 @@
 -- No label gives another address to a message that was told of.
 use Rattle.dm_rulelaws.proofs.Names.{◌≤◌, arith, nat_lt, ◌≡◌, ℕ, Bool, true, false, List, [], ◌∷◌, ◌++◌, length, refl, ap, ◌∙◌, sym, subst, if◌then◌else◌, Option, None, Some, Pid, pid_eq, PlainLink, MsgId, id_eq, id_of, PlainMessage}
-use Rattle.dm_rulelaws.proofs.Names.{PlainWhat, Label, switchboard, manager, bind, PlainProcess, OneKernel, answer_id, id_eq-is, bind-is, View, Addresses, Gets, gives, lands, serves_what, board_finds, board_keeps, board_takes}
-use Rattle.dm_rulelaws.proofs.Names.{manager_takes, not_true, nat_tests, unentered, Sound, id_in, landed_id, served_id, board_id, manager_id, took_id, bag_sends, bag_served, bag_gone, bag_no_space, bag_created, bag_took, spares}
+use Rattle.dm_rulelaws.proofs.Names.{PlainWhat, Label, switchboard, manager, bind, PlainProcess, OneKernel, answer_id, id_eq-is, bind-is, View, Addresses, Gets, gives, landing_gets, serves_what, board_finds, board_keeps, board_gets}
+use Rattle.dm_rulelaws.proofs.Names.{manager_gets, not_true, nat_tests, unentered, Sound, id_in, landed_id, served_id, board_id, manager_id, took_id, bag_sends, bag_served, bag_gone, bag_no_space, bag_created, bag_took, spares}
 use Rattle.dm_rulelaws.proofs.Names.{spares_both, two_more, made_spares, sends_spares, receives_spares, creates_what_spares, finds_spares, keeps_spares, manager_takes_spares}
 use Rattle.dm_onekernel.specs.Pieces as pieces
 use Rattle.dm_onekernel.specs.Switchboard as board
@@ -15,7 +15,7 @@ apart_from : (e : MsgId → ℕ) (i j : MsgId) → 1 ≤ e i → e j ≡ 0 → i
 apart_from e i j least none = not_true (id_eq j i) (λ k. let f : e j ≡ e i = ap e (id_eq-is j i k) in absurd (omega (arith, least, none, f)))
 
 -- served
-lands_spares : (v : View) (a : Addresses) (p : Pid) (o : Option pieces.Landed) (i : MsgId) → ((j : MsgId) → landed_id o ≡ Some j → id_eq j i ≡ false) → spares i (lands v a p o) ≡ true
+lands_spares : (v : View) (a : Addresses) (p : Pid) (o : Option pieces.Landed) (i : MsgId) → ((j : MsgId) → landed_id o ≡ Some j → id_eq j i ≡ false) → spares i (landing_gets v a p o) ≡ true
 lands_spares v a p (Some (pieces.Next n y)) i new = two_more i n.id [] (new n.id refl) refl
 lands_spares v a p _ i new = refl
 
@@ -26,13 +26,13 @@ serve_spares v a id m x (PlainWhat.Block b1) i new = lands_spares v a m.to (piec
 serve_spares v a id m x PlainWhat.Written i new = lands_spares v a m.to (pieces.lands m.to x m x.status) i new
 serve_spares v a id m x _ i new = refl
 
-creates_spares : (v : View) (a : Addresses) (id : MsgId) (child : Pid) (o : Option PlainMessage) (i : MsgId) → id_eq (answer_id id) i ≡ false → spares i (addresses.creates v a id child o) ≡ true
+creates_spares : (v : View) (a : Addresses) (id : MsgId) (child : Pid) (o : Option PlainMessage) (i : MsgId) → id_eq (answer_id id) i ≡ false → spares i (addresses.creation_gets v a id child o) ≡ true
 creates_spares v a id child None i e = refl
 creates_spares v a id child (Some m) i e = two_more i (answer_id id) (addresses.creates_what a id child m.what) e (creates_what_spares a id child m.what i)
 
 -- the switchboard
 board_links_spares : (s : OneKernel) (v : View) (a : Addresses) (id : MsgId) (code channel : ℕ) (body : List ℕ) (links : List PlainLink) (i : MsgId) → id_eq (id_of switchboard s.switchboard.sent) i ≡ false
-    → spares i (board_takes s v a id (PlainWhat.User code channel body links)) ≡ true
+    → spares i (board_gets s v a id (PlainWhat.User code channel body links)) ≡ true
 board_links_spares s v a id code channel body [] i e = refl
 board_links_spares s v a id code channel body (l ∷ ls) i e =
     let sent = id_of switchboard s.switchboard.sent in
@@ -40,27 +40,27 @@ board_links_spares s v a id code channel body (l ∷ ls) i e =
     two_more i sent (board_finds a sent s.switchboard.names body asked.answer ++ board_keeps a id s.switchboard.names asked.answer) e
     (spares_both i (board_finds a sent s.switchboard.names body asked.answer) (board_keeps a id s.switchboard.names asked.answer) (finds_spares a sent s.switchboard.names body asked.answer i) (keeps_spares a id s.switchboard.names asked.answer i))
 
-board_takes_spares : (s : OneKernel) (v : View) (a : Addresses) (id : MsgId) (w : PlainWhat) (i : MsgId) → id_eq (id_of switchboard s.switchboard.sent) i ≡ false → spares i (board_takes s v a id w) ≡ true
+board_takes_spares : (s : OneKernel) (v : View) (a : Addresses) (id : MsgId) (w : PlainWhat) (i : MsgId) → id_eq (id_of switchboard s.switchboard.sent) i ≡ false → spares i (board_gets s v a id w) ≡ true
 board_takes_spares s v a id (PlainWhat.User b1 b2 b3 b4) i e = board_links_spares s v a id b1 b2 b3 b4 i e
 board_takes_spares s v a id _ i e = refl
 
-message_in : (o : Option manage.Took) (i : MsgId) → ((j : MsgId) → manager_id o ≡ Some j → id_eq j i ≡ false) → (k : manage.Took) → o ≡ Some k → (x : PlainMessage) → k.message ≡ Some x → id_eq x.id i ≡ false
+message_in : (o : Option manage.ManagerTook) (i : MsgId) → ((j : MsgId) → manager_id o ≡ Some j → id_eq j i ≡ false) → (k : manage.ManagerTook) → o ≡ Some k → (x : PlainMessage) → k.message ≡ Some x → id_eq x.id i ≡ false
 message_in o i new k is x has = new x.id (ap manager_id is ∙ ap id_in has)
 
 takes_spares : (s t : OneKernel) (v : View) (a : Addresses) (id : MsgId) (m : PlainMessage) (b c : Bool) (i : MsgId) → id_eq (id_of switchboard s.switchboard.sent) i ≡ false
-    → ((j : MsgId) → (if b then board_id (board.takes s.switchboard m m.what) else if c then manager_id (manage.takes s.manager s.machines (length s.images) m m.what) else None) ≡ Some j → id_eq j i ≡ false)
-    → (if b then bind (board.takes s.switchboard m m.what) (λ (k : board.Took). Some (service.switchboard_took s id k))
-    else if c then bind (manage.takes s.manager s.machines (length s.images) m m.what) (λ (k : manage.Took). Some (service.manager_took s id k))
+    → ((j : MsgId) → (if b then board_id (board.board_takes s.switchboard m m.what) else if c then manager_id (manage.manager_takes s.manager s.machines (length s.images) m m.what) else None) ≡ Some j → id_eq j i ≡ false)
+    → (if b then bind (board.board_takes s.switchboard m m.what) (λ (k : board.BoardTook). Some (service.switchboard_took s id k))
+    else if c then bind (manage.manager_takes s.manager s.machines (length s.images) m m.what) (λ (k : manage.ManagerTook). Some (service.manager_took s id k))
     else None) ≡ Some t
-    → spares i (if b then board_takes s v a id m.what else manager_takes s v a m m.what (manage.takes s.manager s.machines (length s.images) m m.what)) ≡ true
+    → spares i (if b then board_gets s v a id m.what else manager_gets s v a m m.what (manage.manager_takes s.manager s.machines (length s.images) m m.what)) ≡ true
 takes_spares s t v a id m true c i e new is = board_takes_spares s v a id m.what i e
 takes_spares s t v a id m false true i e new is =
-    let o = manage.takes s.manager s.machines (length s.images) m m.what in
+    let o = manage.manager_takes s.manager s.machines (length s.images) m m.what in
     manager_takes_spares s v a m m.what o i (λ k f x g. message_in o i new k f x g)
 takes_spares s t v a id m false false i e new is = cc
 
 took_spares : (r e : MsgId → ℕ) (s t : OneKernel) (v : View) (a : Addresses) (id : MsgId) (m : PlainMessage) (i : MsgId) → s.bag id ≡ Some m → service.takes s id m ≡ Some t → ((j : MsgId) → took_id s m ≡ Some j → e j ≡ 0) → Sound r e s → 1 ≤ e i
-    → spares i (addresses.takes s v a id (Some m)) ≡ true
+    → spares i (addresses.taking_gets s v a id (Some m)) ≡ true
 took_spares r e s t v a id m i there is fresh h least =
     takes_spares s t v a id m (pid_eq m.to switchboard) (pid_eq m.to manager) i
     (apart_from e i (id_of switchboard s.switchboard.sent) least (unentered r e s (id_of switchboard s.switchboard.sent) h.entered (let z : nat_lt s.switchboard.sent s.switchboard.sent ≡ false = grind (arith, nat_tests) in z)))
@@ -73,14 +73,14 @@ told_spares r e s t v a (Label.Send p id) i is h least = sends_spares s v a p id
 told_spares r e s t v a (Label.Receive p id) i is h least = receives_spares a p id (kernel.alive (s.processes p)) (s.bag id) i
 told_spares r e s t v a (Label.Served id) i is h least =
     let q = bag_served r e s t id is h in
-    let gs_is : serves_what v a id q.m q.x q.m.what ≡ gives s v a (Label.Served id) = ap (addresses.serves_alive v a id q.m) (sym (ap kernel.alive q.alive)) ∙ ap (addresses.serves s v a id) (sym q.there) in
+    let gs_is : serves_what v a id q.m q.x q.m.what ≡ gives s v a (Label.Served id) = ap (addresses.serves_alive v a id q.m) (sym (ap kernel.alive q.alive)) ∙ ap (addresses.service_gets s v a id) (sym q.there) in
     subst (λ (gs : List Gets). spares i gs ≡ true) gs_is (serve_spares v a id q.m q.x q.m.what i (λ j f. apart_from e i j least (q.is.fresh j f)))
 told_spares r e s t v a (Label.Gone id) i is h least = two_more i (answer_id id) [] (apart_from e i (answer_id id) least ((bag_gone r e s t id is h).fresh (answer_id id) refl)) refl
 told_spares r e s t v a (Label.Took id) i is h least =
     let (m, there, rest) = bind-is (s.bag id) (service.takes s id) t is in
     let q = bag_took r e s t id is h in
     let same : q.m ≡ m = let f : Some q.m ≡ Some m = sym q.there ∙ there in cc in
-    subst (λ (gs : List Gets). spares i gs ≡ true) (ap (addresses.takes s v a id) (sym there))
+    subst (λ (gs : List Gets). spares i gs ≡ true) (ap (addresses.taking_gets s v a id) (sym there))
     (took_spares r e s t v a id m i there rest (λ j f. q.is.fresh j (ap (took_id s) same ∙ f)) h least)
 told_spares r e s t v a (Label.Created id child) i is h least = creates_spares v a id child (s.bag id) i (apart_from e i (answer_id id) least ((bag_created r e s t id child is h).fresh (answer_id id) refl))
 told_spares r e s t v a (Label.NoSpace id f b) i is h least = two_more i (answer_id id) [] (apart_from e i (answer_id id) least ((bag_no_space r e s t id f b is h).fresh (answer_id id) refl)) refl

@@ -124,6 +124,6 @@ step_leaves n s t l same some =
       board = λ id m k is there c took. board_leaves n s (service.switchboard_took s id k) id k.switchboard k.answer some (board_sender s.switchboard m m.what k took) refl;
       manager = λ id m k is there c took. manager_leaves n s (service.manager_took s id k) id k.manager k.message some (manager_sender s.manager s.machines (length s.images) m m.what k took) refl;
       creates = λ id child m image links i is w found name.
-          sent (service.with_child (without_message s id) child i links) (answer_to m (PlainWhat.Created child)) refl (λ j z f. stayed s id j z f) (kernel_sends n s m.to same w.kernel);
+          sent (service.with_created (without_message s id) child i links) (answer_to m (PlainWhat.Created child)) refl (λ j z f. stayed s id j z f) (kernel_sends n s m.to same w.kernel);
       no_room = λ id a b m image links is w. sent (without_message s id) (answer_to m PlainWhat.NoRoom) refl (λ j z f. stayed s id j z f) (kernel_sends n s m.to same w.kernel);
     })

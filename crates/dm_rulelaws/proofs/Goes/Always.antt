@@ -113,7 +113,7 @@ pub group_on : (b : Boot) (pt : Point) (d : Step) → Run b pt → OwnTold pt �
 group_on b pt (Step.Turn m) h own = group_by b pt (Step.Turn m) (can_turn_by b m pt (pt.view.inbox m) refl h own)
 group_on b pt (Step.Tick m) h own =
     let q = moved pt (Line.Head (Step.Tick m)) pt.kernel in
-    let ps = Says (Line.Resent m (rule.outstanding pt.view m pt.kernel.machines)) ∷ rule.resends pt.view m pt.kernel.machines in
+    let ps = Says (Line.Resent m (rule.outstanding_count pt.view m pt.kernel.machines)) ∷ rule.resends pt.view m pt.kernel.machines in
     group_by b pt (Step.Tick m) (can_net ⊤ m q ps (tt, resends_net pt.view m pt.kernel.machines))
 group_on b pt (Step.Deliver a c k) h own =
     let q = moved pt (Line.Head (Step.Deliver a c k)) pt.kernel in

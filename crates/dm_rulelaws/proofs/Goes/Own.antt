@@ -2,12 +2,12 @@
 use Rattle.dm_rulelaws.proofs.Names.{◌≡◌, ◌≢◌, ℕ, ◌/◌, ◌≤◌, ◌==◌, ◌&&◌, ◌||◌, Bool, true, false, not, List, [], ◌∷◌, ◌++◌, length, refl, ap, ◌∙◌, sym, subst, is_some, arith, if◌then◌else◌, Option, None, Some, false≢true, nat_tests, Pid}
 use Rattle.dm_rulelaws.proofs.Names.{pid_eq, MsgId, MessageKind, Line, Stage, Boot, switchboard, manager, bind, PlainProcess, Life, Alive, Ended, View, Told, Of, Known, Unknown, Here, Frozen, Incoming, Forward, is_kernels, target_of}
 use Rattle.dm_rulelaws.proofs.Names.{to_kernel, forwards_on, moves_to, accepts, takes_chunk, takes_block, gives_piece, kernel_told, chunks_of, pieces_of, updates, here_told, ended_told, process_told, server_told, sends_on, fits, free_room}
-use Rattle.dm_rulelaws.proofs.Names.{kernel_hears, hears, is_between, is_restart, comes, knows, is_away, Moves, sender_in, receiver_in, told_between, IsIn, Point, Part, Says, Spot, Queue, Held, Inbox, times, standing, token_is, token_at}
-use Rattle.dm_rulelaws.proofs.Names.{is_server, is_fixed, agrees, first_of, eq_self, inbox_is, about_same}
+use Rattle.dm_rulelaws.proofs.Names.{kernel_hears, hears, is_between, is_restart, kind_comes, knows, is_away, Moves, sender_in, receiver_in, told_between, IsIn, Point, Part, Says, Spot, Queue, Held, Inbox, times, standing, token_is}
+use Rattle.dm_rulelaws.proofs.Names.{token_at, is_server, is_fixed, agrees, first_of, eq_self, inbox_is, about_same}
 use Rattle.dm_onekernel.specs.Step as kernel
 use Rattle.dm_rule.specs.Migrating as migrating
 use Rattle.dm_rule.specs.Rule as rule
-use Rattle.dm_rule.specs.Phases.{leaves}
+use Rattle.dm_rule.specs.Phases.{kind_leaves}
 use Rattle.dm_rulelaws.proofs.Runs.{Run}
 use Rattle.dm_rulelaws.proofs.Own.Told.{OwnTold, own_sort, own_between, own_server, is_process}
 use Rattle.dm_rulelaws.proofs.Own.Fits.{NoOwns, ThenOwns, forwarded_place, forwards_own, accepts_own, piece_own, chunk_own, block_own, moves_own, sends_own}
@@ -31,32 +31,32 @@ sort_of b m o i f = f.own.own i f.told f.told_is f.mine
 abbrev IsAlive : Option Life → Type 0
 IsAlive o = (y : PlainProcess) × (o ≡ Some (Alive y))
 
-frozen_alive : (k : MessageKind) (d : ℕ) (n : Known) (o : Option Life) → leaves k d n ≡ true → is_restart k ≡ false → agrees n o ≡ true → IsAlive o
+frozen_alive : (k : MessageKind) (d : ℕ) (n : Known) (o : Option Life) → kind_leaves k d n ≡ true → is_restart k ≡ false → agrees n o ≡ true → IsAlive o
 frozen_alive k d (Frozen to) (Some (Alive y)) e r a = (y, refl)
 frozen_alive k d (Frozen to) (Some (Ended y)) e r a = absurd (false≢true a)
 frozen_alive k d (Frozen to) None e r a = absurd (false≢true a)
 frozen_alive k d (Forward m moves) o e r a = absurd (false≢true (sym (ap (λ (c : Bool). c && (d == m)) r) ∙ e))
 frozen_alive k d _ o e r a = absurd (false≢true e)
 
-coming_alive : (s : ℕ) (n : Known) (o : Option Life) → comes MessageKind.Restart s n ≡ true → agrees n o ≡ true → IsAlive o
+coming_alive : (s : ℕ) (n : Known) (o : Option Life) → kind_comes MessageKind.Restart s n ≡ true → agrees n o ≡ true → IsAlive o
 coming_alive s (Incoming from) (Some (Alive y)) e a = (y, refl)
 coming_alive s (Incoming from) (Some (Ended y)) e a = absurd (false≢true a)
 coming_alive s (Incoming from) None e a = absurd (false≢true a)
 coming_alive s _ o e a = absurd (false≢true e)
 
-pub source_knows : (k : MessageKind) (s d : ℕ) (id : Option MsgId) (n : Known) → knows (Moves k s d id) s n ≡ true → leaves k d n ≡ true
-source_knows k s d id n e = sym (ap (λ (c : Bool). if c then leaves k d n else if d == s then comes k s n else is_away n) (eq_self s)) ∙ e
+pub source_knows : (k : MessageKind) (s d : ℕ) (id : Option MsgId) (n : Known) → knows (Moves k s d id) s n ≡ true → kind_leaves k d n ≡ true
+source_knows k s d id n e = sym (ap (λ (c : Bool). if c then kind_leaves k d n else if d == s then kind_comes k s n else is_away n) (eq_self s)) ∙ e
 
 pub apart_is : (b : Bool) (s d : ℕ) → (b && not (s == d)) ≡ true → (s == d) ≡ false
 apart_is true s d e = grind (arith, nat_tests)
 apart_is false s d e = absurd (false≢true e)
 
-pub destination_knows : (k : MessageKind) (s d : ℕ) (id : Option MsgId) (n : Known) → (s == d) ≡ false → knows (Moves k s d id) d n ≡ true → comes k s n ≡ true
+pub destination_knows : (k : MessageKind) (s d : ℕ) (id : Option MsgId) (n : Known) → (s == d) ≡ false → knows (Moves k s d id) d n ≡ true → kind_comes k s n ≡ true
 destination_knows k s d id n off e =
-    sym (ap (λ (c : Bool). if c then leaves k d n else if d == d then comes k s n else is_away n) off ∙ ap (λ (c : Bool). if c then comes k s n else is_away n) (eq_self d)) ∙ e
+    sym (ap (λ (c : Bool). if c then kind_leaves k d n else if d == d then kind_comes k s n else is_away n) off ∙ ap (λ (c : Bool). if c then kind_comes k s n else is_away n) (eq_self d)) ∙ e
 
 -- a server never moves
-pub server_leaves : (k : MessageKind) (d : ℕ) (c : Bool) → leaves k d (if c then Here else Unknown) ≡ false
+pub server_leaves : (k : MessageKind) (d : ℕ) (c : Bool) → kind_leaves k d (if c then Here else Unknown) ≡ false
 server_leaves k d true = refl
 server_leaves k d false = refl
 
@@ -68,8 +68,8 @@ pub record Coming (b : Boot) (m : ℕ) (o : Point) (p : Pid) (k : MessageKind) :
   pub phase : IsIn o.view p (Moves k s d id)
   pub here : m ≡ receiver_in k s d
 
-moving_server : (c : Bool) (s d : ℕ) (k : MessageKind) (b : Boot) (m : ℕ) (o : Point) (p : Pid) (r : Bool) → is_server p ≡ c → is_restart k ≡ r → Run b o → (s == d) ≡ false → leaves k d (o.view.known s p) ≡ true → (is_restart k ≡ true → comes MessageKind.Restart s (o.view.known d p) ≡ true) → IsAlive (o.kernel.processes p)
-moving_server true s d k b m o p r server restart run off leave come = absurd (false≢true (sym (server_leaves k d (s == 0)) ∙ sym (ap (leaves k d) (run.based.known.server s p server)) ∙ leave))
+moving_server : (c : Bool) (s d : ℕ) (k : MessageKind) (b : Boot) (m : ℕ) (o : Point) (p : Pid) (r : Bool) → is_server p ≡ c → is_restart k ≡ r → Run b o → (s == d) ≡ false → kind_leaves k d (o.view.known s p) ≡ true → (is_restart k ≡ true → kind_comes MessageKind.Restart s (o.view.known d p) ≡ true) → IsAlive (o.kernel.processes p)
+moving_server true s d k b m o p r server restart run off leave come = absurd (false≢true (sym (server_leaves k d (s == 0)) ∙ sym (ap (kind_leaves k d) (run.based.known.server s p server)) ∙ leave))
 moving_server false s d k b m o p true server restart run off leave come = coming_alive s (o.view.known d p) (o.kernel.processes p) (come restart) (run.based.known.agree d p server)
 moving_server false s d k b m o p false server restart run off leave come = frozen_alive k d (o.view.known s p) (o.kernel.processes p) leave restart (run.based.known.agree s p server)
 
@@ -81,7 +81,7 @@ moving_alive : (b : Boot) (m : ℕ) (o : Point) (p : Pid) (k : MessageKind) → 
 moving_alive b m o p k run c =
     let off = apart_is (is_between k) c.s c.d c.phase.apart in
     moving_server (is_server p) c.s c.d k b m o p (is_restart k) refl refl run off (source_knows k c.s c.d c.id (o.view.known c.s p) (c.phase.known c.s))
-    (λ r. ap (λ (j : MessageKind). comes j c.s (o.view.known c.d p)) (sym (is_it k r)) ∙ destination_knows k c.s c.d c.id (o.view.known c.d p) off (c.phase.known c.d))
+    (λ r. ap (λ (j : MessageKind). kind_comes j c.s (o.view.known c.d p)) (sym (is_it k r)) ∙ destination_knows k c.s c.d c.id (o.view.known c.d p) off (c.phase.known c.d))
 
 coming : (b : Boot) (m : ℕ) (o : Point) (i : MsgId) (p : Pid) (f : FrontOwn b m o i) → is_between f.told.kind ≡ true → f.told.about ≡ Of p → Coming b m o p f.told.kind
 coming b m o i p f between about =
@@ -128,7 +128,7 @@ sends_plain v to [] [] ps first more h = h
 sends_plain v to [] (y ∷ ys) ps first more h = (more y (first_of y ys), sends_plain v to [] ys ps first (λ i least. more i (tail_times i y ys least)) h)
 sends_plain v to (x ∷ xs) ys ps first more h = (first x (first_of x xs), sends_plain v to xs ys ps (λ i least. first i (tail_times i x xs least)) more h)
 
-can_leave : (C : Type 0) (never : C → ⊥) (m : ℕ) (o : Point) (i : MsgId) (p : Pid) (n : Known) (d : ℕ) → leaves MessageKind.AllTaken d n ≡ true → ((j : MsgId) (z : Spot) → 1 ≤ standing o.view j z → is_some (o.view.told j) ≡ true)
+can_leave : (C : Type 0) (never : C → ⊥) (m : ℕ) (o : Point) (i : MsgId) (p : Pid) (n : Known) (d : ℕ) → kind_leaves MessageKind.AllTaken d n ≡ true → ((j : MsgId) (z : Spot) → 1 ≤ standing o.view j z → is_some (o.view.told j) ≡ true)
     → Can C m (begun o m) (migrating.leaves i p (o.view.queue m p ++ o.view.held m p) n)
 can_leave C never m o i p (Frozen to) d e told =
     can_plain C m (begun o m) _ never (refl, sends_plain (begun o m).view to (o.view.queue m p) (o.view.held m p) (Says (Line.Migration Stage.Left p) ∷ to_kernel MessageKind.Restart i.from.home ∷ []) (λ j least. told j (Queue m p) least) (λ j least. told j (Held m p) least) (refl, (tt, tt)))
@@ -144,7 +144,7 @@ can_told C never b m o i p room x MessageKind.PullBlock t told about e c run = c
 can_told C never b m o i p room x MessageKind.Memory t told about e c run = can_plain C m (begun o m) (takes_block i p (o.view.asked p == pieces_of x)) never (block_plain (begun o m).view i p (o.view.asked p == pieces_of x)) (block_own (begun o m).view i p (o.view.asked p == pieces_of x) t p told about)
 can_told C never b m o i p room x MessageKind.AllTaken t told about e c run =
     can_leave C never m o i p (o.view.known m p) c.d
-    (subst (λ (n : ℕ). leaves MessageKind.AllTaken c.d (o.view.known n p) ≡ true) (sym c.here) (source_knows MessageKind.AllTaken c.s c.d c.id (o.view.known c.s p) (c.phase.known c.s))) run.found.told
+    (subst (λ (n : ℕ). kind_leaves MessageKind.AllTaken c.d (o.view.known n p) ≡ true) (sym c.here) (source_knows MessageKind.AllTaken c.s c.d c.id (o.view.known c.s p) (c.phase.known c.s))) run.found.told
 can_told C never b m o i p room x MessageKind.Restart t told about e c run = can_plain C m (begun o m) (Says (Line.Migration Stage.Restarted p) ∷ []) never (refl, tt) (NoOwns (tt, tt))
 can_told C never b m o i p room x _ t told about e c run = absurd (false≢true e)
 

@@ -42,12 +42,12 @@ can_answer b m o i x y z w k j is alive f serves there other =
     can_say (Calm m o) m (begun o m) (Label.Served i) t (Routes j ∷ []) step refl (tt, tt) (does_route (Calm m o) (moved (begun o m) (Line.Label (Label.Served i)) t) j k there (λ c s user. absurd (false≢true (sym other ∙ user))))
 
 -- a kill takes the queue with it
-can_kill : (b : Boot) (m : ℕ) (o : Point) (i : MsgId) (x : PlainMessage) (y : PlainProcess) → x.what ≡ PlainWhat.Kill → o.kernel.processes x.to ≡ Some (Alive y) → Front b m o i x → CanTurn m o (Some (rule.says (Label.Served i) ∷ rule.drops (o.view.queue m x.to)))
+can_kill : (b : Boot) (m : ℕ) (o : Point) (i : MsgId) (x : PlainMessage) (y : PlainProcess) → x.what ≡ PlainWhat.Kill → o.kernel.processes x.to ≡ Some (Alive y) → Front b m o i x → CanTurn m o (Some (rule.says (Label.Served i) ∷ rule.drop_parts (o.view.queue m x.to)))
 can_kill b m o i x y is alive f =
     let s = o.kernel in
     let t = with_process (without_message s i) x.to (Ended Why.Killed) in
     let step = served_step_is s i x y PlainWhat.Kill t f.there alive is refl in
-    can_say (Calm m o) m (begun o m) (Label.Served i) t (rule.drops (o.view.queue m x.to)) step (drops_quiet (o.view.queue m x.to)) (drops_own (o.view.queue m x.to))
+    can_say (Calm m o) m (begun o m) (Label.Served i) t (rule.drop_parts (o.view.queue m x.to)) step (drops_quiet (o.view.queue m x.to)) (drops_own (o.view.queue m x.to))
     (does_drops (Calm m o) x.to Why.Killed (o.view.queue m x.to) (moved (begun o m) (Line.Label (Label.Served i)) t) (set_at (without_message s i) x.to (Ended Why.Killed))
     (droppable_on s t x.to (o.view.queue m x.to) (λ j least. out_off s i j (apart j least (id_eq i j) refl)) (f.drops x.to)))
   where
@@ -64,10 +64,10 @@ lands_what_to : (p : Pid) (y : PlainProcess) (dir : Direction) (owner : Pid) (ba
     → (c : pieces.Landed) × (pieces.lands_what p y dir owner base own left w ≡ Some c)
 lands_what_to p y Direction.FromArea owner base own left (PlainWhat.Block bytes) fits within off =
     let z = record y { memory = pieces.written_at y.memory own bytes } in
-    let c = pieces.goes_on p z Direction.FromArea owner base own left (pieces.piece_of left) in
+    let c = pieces.move_goes_on p z Direction.FromArea owner base own left (pieces.piece_of left) in
     (c, ap (λ (d : Bool). if d && nat_le (own + left) (length y.memory) then Some c else None) fits ∙ ap (λ (d : Bool). if d then Some c else None) within)
 lands_what_to p y Direction.IntoArea owner base own left PlainWhat.Written fits within off =
-    let c = pieces.goes_on p y Direction.IntoArea owner base own left (pieces.piece_of left) in
+    let c = pieces.move_goes_on p y Direction.IntoArea owner base own left (pieces.piece_of left) in
     (c, ap (λ (d : Bool). if d then Some c else None) within)
 lands_what_to p y Direction.FromArea owner base own left PlainWhat.Gone fits within off = (pieces.done Reply.Gone y, refl)
 lands_what_to p y Direction.IntoArea owner base own left PlainWhat.Gone fits within off = (pieces.done Reply.Gone y, refl)
@@ -90,18 +90,18 @@ memory_no_user (PlainWhat.Write base bytes) e = refl
 memory_no_user _ e = cc
 
 can_land_at : (b : Boot) (m : ℕ) (o : Point) (i : MsgId) (x : PlainMessage) (y : PlainProcess) (w : PlainWhat) (c : pieces.Landed) → x.what ≡ w → o.kernel.processes x.to ≡ Some (Alive y) → Front b m o i x → service.serves o.kernel i x y w ≡ Some (service.landed o.kernel i x c)
-    → LandsSo x.to y c → CanTurn m o (rule.lands i (Some c))
+    → LandsSo x.to y c → CanTurn m o (rule.landing_parts i (Some c))
 can_land_at b m o i x y w (pieces.Next request z) is alive f serves so =
     can_answer b m o i x y z w request request.id is alive f serves (sent_there (service.changed o.kernel i x z) (Some request) request refl) (memory_no_user request.what so.1)
 can_land_at b m o i x y w (pieces.Done reply z) is alive f serves so = can_set b m o i x y z w is alive f serves
 
 can_land : (b : Boot) (m : ℕ) (o : Point) (i : MsgId) (x : PlainMessage) (y : PlainProcess) (w : PlainWhat) → x.what ≡ w → o.kernel.processes x.to ≡ Some (Alive y) → Front b m o i x
     → ((c : pieces.Landed) → pieces.lands x.to y x y.status ≡ Some c → service.serves o.kernel i x y w ≡ Some (service.landed o.kernel i x c)) → is_of_memory w ≡ false → awaits (o.kernel.processes x.to) i.n w ≡ true
-    → CanTurn m o (rule.lands i (pieces.lands x.to y x y.status))
+    → CanTurn m o (rule.landing_parts i (pieces.lands x.to y x y.status))
 can_land b m o i x y w is alive f serves off waits =
     let status : status_awaits y.status i.n w ≡ true = sym (ap (λ (l : Option Life). awaits l i.n w) alive) ∙ waits in
     let k = lands_to b x.to y x o.kernel.processes i.n w y.status is (ap (λ (j : MsgId). j.n) (name_of b m o i x f)) status (f.run.based.fits.processes x.to y alive).move off in
-    can_as (Calm m o) m (begun o m) (rule.lands i (pieces.lands x.to y x y.status)) (rule.lands i (Some k.c)) (ap (rule.lands i) k.is) (can_land_at b m o i x y w k.c is alive f (serves k.c k.is) (lands-is x.to y x y.status k.c k.is))
+    can_as (Calm m o) m (begun o m) (rule.landing_parts i (pieces.lands x.to y x y.status)) (rule.landing_parts i (Some k.c)) (ap (rule.landing_parts i) k.is) (can_land_at b m o i x y w k.c is alive f (serves k.c k.is) (lands-is x.to y x y.status k.c k.is))
 
 -- a queued message keeps its place
 queued_order : (b : Boot) (m : ℕ) (o : Point) (i : MsgId) (x : PlainMessage) → Front b m o i x → x.to.home ≡ m → (k : Which) → Ord k o.kernel (begun o m).view → Ord k o.kernel (view.view_after (begun o m).view (Line.Queued i))
@@ -149,7 +149,7 @@ can_here b m o i x y any_ is num other alive f h =
 -- a receiver that has ended
 pub gone_is : (s : OneKernel) (i : MsgId) (x : PlainMessage) (y : Why) → s.bag i ≡ Some x → s.processes x.to ≡ Some (Ended y) → is_of_memory x.what ≡ true → kernel.step s (Label.Gone i) ≡ Some (with_sent (without_message s i) (Some (answer_to x PlainWhat.Gone)))
 gone_is s i x y there ended memory =
-    ap (λ (o : Option PlainMessage). bind o (λ (v : PlainMessage). bind (kernel.ended (s.processes v.to)) (kernel.says_gone s i v))) there ∙ ap (λ (o : Option Life). bind (kernel.ended o) (kernel.says_gone s i x)) ended
+    ap (λ (o : Option PlainMessage). bind o (λ (v : PlainMessage). bind (kernel.why_ended (s.processes v.to)) (kernel.says_gone s i v))) there ∙ ap (λ (o : Option Life). bind (kernel.why_ended o) (kernel.says_gone s i x)) ended
     ∙ ap (λ (c : Bool). when c (with_sent (without_message s i) (Some (answer_to x PlainWhat.Gone)))) memory
 
 can_gone : (b : Boot) (m : ℕ) (o : Point) (i : MsgId) (x : PlainMessage) (y : Why) → is_of_memory x.what ≡ true → o.kernel.processes x.to ≡ Some (Ended y) → Front b m o i x → CanTurn m o (Some (rule.says (Label.Gone i) ∷ Routes (answer_id i) ∷ []))

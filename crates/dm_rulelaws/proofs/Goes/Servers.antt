@@ -11,7 +11,7 @@ use Rattle.dm_rulelaws.proofs.Queued.{is_user}
 use Rattle.dm_rulelaws.proofs.Own.Told.{OwnTold}
 use Rattle.dm_rulelaws.proofs.Own.Fits.{HaveNoOwn}
 use Rattle.dm_rulelaws.proofs.Goes.Parts.{said, no_receive, does_route, Can, can_as, can_say}
-use Rattle.dm_laws.proofs.Servers.{board_takes, manager_takes}
+use Rattle.dm_laws.proofs.Servers.{board_takes_lem, manager_takes_lem}
 use Rattle.dm_rulelaws.proofs.Order.Moves.{Last, next_id}
 use Rattle.dm_rulelaws.proofs.Goes.Serves.{never_counted}
 use Rattle.dm_rulelaws.proofs.Goes.Front.{begun, Calm, CanTurn, Front, made_of, name_of, home_of, ForOthers, ForWhom, ForProcess, ForOther, for_whom, process_not_kernel, process_not_board, process_not_manager, answer_there, does_routes, sent_there}
@@ -50,7 +50,7 @@ can_created : (b : Boot) (m : ℕ) (o : Point) (i : MsgId) (x : PlainMessage) (i
 can_created b m o i x image links g is home kern found f =
     let s = o.kernel in
     let child = pid_of m (first_number + s.made m) in
-    let u = service.with_child (without_message s i) child g links in
+    let u = service.with_created (without_message s i) child g links in
     let k = answer_to x (PlainWhat.Created child) in
     let t = with_sent u (Some k) in
     let named : pid_eq child (pid_of x.to.home (first_number + s.made x.to.home)) ≡ true = ap (λ n. pid_eq child (pid_of n (first_number + s.made n))) home ∙ pid_eq-same child in
@@ -84,7 +84,7 @@ can_kernel b m o i x (PlainWhat.Create image links) is num f h =
     let here : slice_get b.images image ≡ Some g = ap (λ xs. slice_get xs image) (sym f.run.based.images) ∙ found in
     let kern : service.is_kernel s x.to ≡ true = ap (λ (c : Bool). c && nat_lt x.to.home s.machines) num ∙ home in
     let r = rule.free_room b o m in
-    can_as (Calm m o) m (begun o m) (rule.kernel_handles b o m i (PlainWhat.Create image links)) (rule.creates o m i r (Some g)) (ap (rule.creates o m i r) here)
+    can_as (Calm m o) m (begun o m) (rule.kernel_handles b o m i (PlainWhat.Create image links)) (rule.creation_parts o m i r (Some g)) (ap (rule.creation_parts o m i r) here)
     (can_if (Calm m o) m (begun o m) (rule.has_room r g.blocks) (rule.says (Label.Created i (pid_of m (first_number + s.made m)))) (rule.says (Label.NoSpace i r.slots r.blocks)) (Routes (answer_id i) ∷ [])
     (can_created b m o i x image links g is (home_of b m o i x (ap (λ (c : Bool). c || is_server x.to) num) f) kern found f) (can_no_space b m o i x image links r.slots r.blocks is kern f))
 can_kernel b m o i x any_ is num f h = absurd (never_kernel o.kernel x any_ tt num (made_of b m o i x f) (for_whom o.kernel i x any_ h))
@@ -117,7 +117,7 @@ can_take b m o i x u k step sends f =
     (does_routes (Calm m o) (moved (begun o m) (Line.Label (Label.Took i)) t) k (λ y e. sent_there u k y e) (λ y e c s. took_last b m o i x u k y sends e (not_kernels s.r s.e t y.id y (sent_there u k y e) s.sound) f))
 
 -- what the servers send
-board_sends : (m : ℕ) (o : Point) (i : MsgId) (x : PlainMessage) (k : board.Took) → ServerSends switchboard o.kernel.switchboard.sent k.answer k.switchboard.sent → m ≡ 0 → Sends m o (record (without_message o.kernel i) { switchboard = k.switchboard }) k.answer
+board_sends : (m : ℕ) (o : Point) (i : MsgId) (x : PlainMessage) (k : board.BoardTook) → ServerSends switchboard o.kernel.switchboard.sent k.answer k.switchboard.sent → m ≡ 0 → Sends m o (record (without_message o.kernel i) { switchboard = k.switchboard }) k.answer
 board_sends m o i x k sends at = record {
   fresh = λ y e. (let w = subst (λ (v : Option PlainMessage). ServerSends switchboard o.kernel.switchboard.sent v k.switchboard.sent) e sends in let (name, count, memory, piece) = w in
       ap (counts o.kernel) name ∙ (let z : nat_lt o.kernel.switchboard.sent o.kernel.switchboard.sent ≡ false = grind (arith, nat_tests) in z));
@@ -127,7 +127,7 @@ board_sends m o i x k sends at = record {
       ap (λ (j : MsgId). j.from.home) name ∙ sym at);
 }
 
-manager_sends : (m : ℕ) (o : Point) (i : MsgId) (x : PlainMessage) (k : manage.Took) → ServerSends manager o.kernel.manager.sent k.message k.manager.sent → m ≡ 0 → Sends m o (record (without_message o.kernel i) { manager = k.manager }) k.message
+manager_sends : (m : ℕ) (o : Point) (i : MsgId) (x : PlainMessage) (k : manage.ManagerTook) → ServerSends manager o.kernel.manager.sent k.message k.manager.sent → m ≡ 0 → Sends m o (record (without_message o.kernel i) { manager = k.manager }) k.message
 manager_sends m o i x k sends at = record {
   fresh = λ y e. (let w = subst (λ (v : Option PlainMessage). ServerSends manager o.kernel.manager.sent v k.manager.sent) e sends in let (name, count, memory, piece) = w in
       ap (counts o.kernel) name ∙ (let z : nat_lt o.kernel.manager.sent o.kernel.manager.sent ≡ false = grind (arith, nat_tests) in z));
@@ -159,16 +159,16 @@ never_board s x w c num one made (ForProcess there) = false≢true (process_not_
 never_board s x w c num one made (ForOther h) = false≢true (others_board x w c num one h)
 
 can_board : (b : Boot) (m : ℕ) (o : Point) (i : MsgId) (x : PlainMessage) (w : PlainWhat) → x.what ≡ w → (x.to.num == 0) ≡ false → pid_eq x.to switchboard ≡ true → Front b m o i x → WhatFits o.kernel i x w
-    → CanTurn m o (rule.board_took i (board.takes o.kernel.switchboard x w))
+    → CanTurn m o (rule.board_took i (board.board_takes o.kernel.switchboard x w))
 can_board b m o i x (PlainWhat.User code channel body links) is num one f h =
     let s = o.kernel in
     let k = board.takes_request s.switchboard body links in
     let u = record (without_message s i) { switchboard = k.switchboard } in
     let step : kernel.step s (Label.Took i) ≡ Some (with_sent u k.answer) =
     ap (λ (o_ : Option PlainMessage). bind o_ (service.takes s i)) f.there
-    ∙ ap (λ (c : Bool). if c then bind (board.takes s.switchboard x x.what) (λ (t : board.Took). Some (service.switchboard_took s i t)) else if pid_eq x.to manager then bind (manage.takes s.manager s.machines (length s.images) x x.what) (λ (t : manage.Took). Some (service.manager_took s i t)) else None) one
-    ∙ ap (λ (v : PlainWhat). bind (board.takes s.switchboard x v) (λ (t : board.Took). Some (service.switchboard_took s i t))) is in
-    can_take b m o i x u k.answer step (board_sends m o i x k (board_takes s.switchboard x (PlainWhat.User code channel body links) k refl).2 (at_server x m one (home_of b m o i x (server_fixed x.to (ap (λ (c : Bool). c || pid_eq x.to manager) one)) f))) f
+    ∙ ap (λ (c : Bool). if c then bind (board.board_takes s.switchboard x x.what) (λ (t : board.BoardTook). Some (service.switchboard_took s i t)) else if pid_eq x.to manager then bind (manage.manager_takes s.manager s.machines (length s.images) x x.what) (λ (t : manage.ManagerTook). Some (service.manager_took s i t)) else None) one
+    ∙ ap (λ (v : PlainWhat). bind (board.board_takes s.switchboard x v) (λ (t : board.BoardTook). Some (service.switchboard_took s i t))) is in
+    can_take b m o i x u k.answer step (board_sends m o i x k (board_takes_lem s.switchboard x (PlainWhat.User code channel body links) k refl).2 (at_server x m one (home_of b m o i x (server_fixed x.to (ap (λ (c : Bool). c || pid_eq x.to manager) one)) f))) f
 can_board b m o i x any_ is num one f h = absurd (never_board o.kernel x any_ refl num one (made_of b m o i x f) (for_whom o.kernel i x any_ h))
 
 -- the manager
@@ -189,19 +189,19 @@ never_manager : (s : OneKernel) (x : PlainMessage) (w : PlainWhat) → for_manag
 never_manager s x w c num two made (ForProcess there) = false≢true (process_not_manager s x.to there two made)
 never_manager s x w c num two made (ForOther h) = false≢true (others_manager x w c num h)
 
-can_manage : (b : Boot) (m : ℕ) (o : Point) (i : MsgId) (x : PlainMessage) (w : PlainWhat) (k : manage.Took) → x.what ≡ w → pid_eq x.to switchboard ≡ false → pid_eq x.to manager ≡ true → manage.takes o.kernel.manager o.kernel.machines (length o.kernel.images) x w ≡ Some k → Front b m o i x
-    → CanTurn m o (rule.manager_took i (manage.takes o.kernel.manager o.kernel.machines (length o.kernel.images) x w))
+can_manage : (b : Boot) (m : ℕ) (o : Point) (i : MsgId) (x : PlainMessage) (w : PlainWhat) (k : manage.ManagerTook) → x.what ≡ w → pid_eq x.to switchboard ≡ false → pid_eq x.to manager ≡ true → manage.manager_takes o.kernel.manager o.kernel.machines (length o.kernel.images) x w ≡ Some k → Front b m o i x
+    → CanTurn m o (rule.manager_parts i (manage.manager_takes o.kernel.manager o.kernel.machines (length o.kernel.images) x w))
 can_manage b m o i x w k is one two takes f =
     let s = o.kernel in
     let u = record (without_message s i) { manager = k.manager } in
     let step : kernel.step s (Label.Took i) ≡ Some (with_sent u k.message) =
     ap (λ (o_ : Option PlainMessage). bind o_ (service.takes s i)) f.there
-    ∙ ap (λ (c : Bool). if c then bind (board.takes s.switchboard x x.what) (λ (t : board.Took). Some (service.switchboard_took s i t)) else if pid_eq x.to manager then bind (manage.takes s.manager s.machines (length s.images) x x.what) (λ (t : manage.Took). Some (service.manager_took s i t)) else None) one
-    ∙ ap (λ (c : Bool). if c then bind (manage.takes s.manager s.machines (length s.images) x x.what) (λ (t : manage.Took). Some (service.manager_took s i t)) else None) two
-    ∙ ap (λ (v : PlainWhat). bind (manage.takes s.manager s.machines (length s.images) x v) (λ (t : manage.Took). Some (service.manager_took s i t))) is
-    ∙ ap (λ (t : Option manage.Took). bind t (λ (t : manage.Took). Some (service.manager_took s i t))) takes in
-    can_as (Calm m o) m (begun o m) (rule.manager_took i (manage.takes s.manager s.machines (length s.images) x w)) (rule.manager_took i (Some k)) (ap (rule.manager_took i) takes)
-    (can_take b m o i x u k.message step (manager_sends m o i x k (manager_takes s.manager s.machines (length s.images) x w k takes).2.sends (at_manager x m two (home_of b m o i x (server_fixed x.to (ap (λ (c : Bool). c || pid_eq x.to manager) one ∙ two)) f))) f)
+    ∙ ap (λ (c : Bool). if c then bind (board.board_takes s.switchboard x x.what) (λ (t : board.BoardTook). Some (service.switchboard_took s i t)) else if pid_eq x.to manager then bind (manage.manager_takes s.manager s.machines (length s.images) x x.what) (λ (t : manage.ManagerTook). Some (service.manager_took s i t)) else None) one
+    ∙ ap (λ (c : Bool). if c then bind (manage.manager_takes s.manager s.machines (length s.images) x x.what) (λ (t : manage.ManagerTook). Some (service.manager_took s i t)) else None) two
+    ∙ ap (λ (v : PlainWhat). bind (manage.manager_takes s.manager s.machines (length s.images) x v) (λ (t : manage.ManagerTook). Some (service.manager_took s i t))) is
+    ∙ ap (λ (t : Option manage.ManagerTook). bind t (λ (t : manage.ManagerTook). Some (service.manager_took s i t))) takes in
+    can_as (Calm m o) m (begun o m) (rule.manager_parts i (manage.manager_takes s.manager s.machines (length s.images) x w)) (rule.manager_parts i (Some k)) (ap (rule.manager_parts i) takes)
+    (can_take b m o i x u k.message step (manager_sends m o i x k (manager_takes_lem s.manager s.machines (length s.images) x w k takes).2.sends (at_manager x m two (home_of b m o i x (server_fixed x.to (ap (λ (c : Bool). c || pid_eq x.to manager) one ∙ two)) f))) f)
 
 pub pending_is : (o : Option Pending) → is_some o ≡ true → (r : Pending) × (o ≡ Some r)
 pending_is None e = cc
@@ -212,26 +212,26 @@ asked : (b : Boot) (m : ℕ) (o : Point) (i : MsgId) (x : PlainMessage) → IsPe
 asked b m o i x p f = pending_is (manage.pending_numbered x.id.n o.kernel.manager.pending) (ap (λ (j : MsgId). is_some (manage.pending_numbered j.n o.kernel.manager.pending)) (name_of b m o i x f) ∙ p.pending)
 
 can_manager : (b : Boot) (m : ℕ) (o : Point) (i : MsgId) (x : PlainMessage) (w : PlainWhat) → x.what ≡ w → (x.to.num == 0) ≡ false → pid_eq x.to switchboard ≡ false → pid_eq x.to manager ≡ true → Front b m o i x → WhatFits o.kernel i x w
-    → CanTurn m o (rule.manager_took i (manage.takes o.kernel.manager o.kernel.machines (length o.kernel.images) x w))
+    → CanTurn m o (rule.manager_parts i (manage.manager_takes o.kernel.manager o.kernel.machines (length o.kernel.images) x w))
 can_manager b m o i x (PlainWhat.User code channel body links) is num one two f h =
     can_manage b m o i x (PlainWhat.User code channel body links) (manage.takes_user o.kernel.manager o.kernel.machines (length o.kernel.images) code body links) is one two refl f
 can_manager b m o i x (PlainWhat.Created child) is num one two f h =
     let (to, answer, pending, made) = h in
     let g = o.kernel.manager in
     let (r, found) = asked b m o i x pending f in
-    can_manage b m o i x (PlainWhat.Created child) (manage.answers (record g { children = g.children ++ child ∷ []; pending = manage.without_pending x.id.n g.pending }) r.answer 0 (manage.control_link (length g.children + 1) ∷ [])) is one two
+    can_manage b m o i x (PlainWhat.Created child) (manage.answers_byte (record g { children = g.children ++ child ∷ []; pending = manage.without_pending x.id.n g.pending }) r.answer 0 (manage.control_link (length g.children + 1) ∷ [])) is one two
     (ap (manage.takes_created g x.id.n child) found) f
 can_manager b m o i x PlainWhat.NoRoom is num one two f h =
     let (to, answer, pending) = h in
     let g = o.kernel.manager in
     let (r, found) = asked b m o i x pending f in
-    can_manage b m o i x PlainWhat.NoRoom (manage.answers (record g { pending = manage.without_pending x.id.n g.pending }) r.answer 1 []) is one two (ap (manage.takes_no_room g x.id.n) found) f
+    can_manage b m o i x PlainWhat.NoRoom (manage.answers_byte (record g { pending = manage.without_pending x.id.n g.pending }) r.answer 1 []) is one two (ap (manage.takes_no_room g x.id.n) found) f
 can_manager b m o i x any_ is num one two f h = absurd (never_manager o.kernel x any_ refl num two (made_of b m o i x f) (for_whom o.kernel i x any_ h))
 
 -- whoever the message is for
 can_by : (b : Boot) (m : ℕ) (o : Point) (i : MsgId) (x : PlainMessage) (c d e : Bool) → (x.to.num == 0) ≡ c → pid_eq x.to switchboard ≡ d → pid_eq x.to manager ≡ e → Front b m o i x → OwnTold o
-    → CanTurn m o (if c then rule.kernel_handles b o m i x.what else if d then rule.board_took i (board.takes o.kernel.switchboard x x.what)
-    else if e then rule.manager_took i (manage.takes o.kernel.manager o.kernel.machines (length o.kernel.images) x x.what) else rule.process_handles o m i x (o.view.known m x.to))
+    → CanTurn m o (if c then rule.kernel_handles b o m i x.what else if d then rule.board_took i (board.board_takes o.kernel.switchboard x x.what)
+    else if e then rule.manager_parts i (manage.manager_takes o.kernel.manager o.kernel.machines (length o.kernel.images) x x.what) else rule.process_handles o m i x (o.view.known m x.to))
 can_by b m o i x true d e num one two f own = can_kernel b m o i x x.what refl num f (f.run.based.fits.messages i x f.there)
 can_by b m o i x false true e num one two f own = can_board b m o i x x.what refl num one f (f.run.based.fits.messages i x f.there)
 can_by b m o i x false false true num one two f own = can_manager b m o i x x.what refl num one two f (f.run.based.fits.messages i x f.there)

@@ -25,7 +25,7 @@ steps_front (suc c) m n z e f =
     ap (λ (o : Option kernel.Machine). bind o kernel.plain_step) (steps_front c m n mid e before) ∙ last
 
 pub ran_goes : (k : ℕ) (m : kernel.Machine) (o : Option kernel.Machine) → kernel.plain_row (instruction m.regs m.bytes) ≡ o → ((n : kernel.Machine) → kernel.plain_steps (rule.ran k n).count n ≡ Some (rule.ran k n).machine)
-    → kernel.plain_steps (rule.goes_on m o (rule.ran k)).count m ≡ Some (rule.goes_on m o (rule.ran k)).machine
+    → kernel.plain_steps (rule.ran_further m o (rule.ran k)).count m ≡ Some (rule.ran_further m o (rule.ran k)).machine
 ran_goes k m None e f = refl
 ran_goes k m (Some n) e f =
     let next : (rule.ran k n).count + 1 ≡ suc (rule.ran k n).count = omega arith in
@@ -48,7 +48,7 @@ counts_alive t p y i is from off =
 pub never_counted : (pt : Point) (i : MsgId) → Sane pt → counts pt.kernel i ≡ false → is_kernels i ≡ false → pt.view.told i ≡ None
 never_counted pt i h off other = h.untold i (zero_if (h.e i) (λ least. false≢true (sym off ∙ h.sound.entered.counted i least))) other
 
-sent_last : (pt : Point) (p : Pid) (n : ℕ) (k : PlainMessage) (y : PlainProcess) → kernel.next pt.kernel p ≡ Some (kernel.Calls n (calls.Sends k y)) → p.home ≡ pt.view.acting → is_kernels k.id ≡ false → Sane pt → Last (with_sent (kernel.goes_on pt.kernel p y) (Some k)) pt.view k.id
+sent_last : (pt : Point) (p : Pid) (n : ℕ) (k : PlainMessage) (y : PlainProcess) → kernel.next_trap pt.kernel p ≡ Some (kernel.Calls n (calls.Sends k y)) → p.home ≡ pt.view.acting → is_kernels k.id ≡ false → Sane pt → Last (with_sent (kernel.goes_on pt.kernel p y) (Some k)) pt.view k.id
 sent_last pt p n k y next home other h =
     let s = pt.kernel in
     let w = nexts s p (kernel.Calls n (calls.Sends k y)) next in
@@ -66,42 +66,42 @@ sent_last pt p n k y next home other h =
     }
 
 -- what a call comes to
-does_called : (C : Type 0) (pt : Point) (p : Pid) (n : ℕ) (queue : List MsgId) (c : calls.Called) → kernel.next pt.kernel p ≡ Some (kernel.Calls n c) → Droppable pt.kernel p queue → (C → p.home ≡ pt.view.acting) → Sane pt → Does C pt (rule.called p n queue c)
+does_called : (C : Type 0) (pt : Point) (p : Pid) (n : ℕ) (queue : List MsgId) (c : calls.Called) → kernel.next_trap pt.kernel p ≡ Some (kernel.Calls n c) → Droppable pt.kernel p queue → (C → p.home ≡ pt.view.acting) → Sane pt → Does C pt (rule.called p n queue c)
 does_called C pt p n queue (calls.Replies reply y) next drops home h =
     let s = pt.kernel in
-    let step : kernel.step s (Label.Call p n reply) ≡ Some (kernel.goes_on s p y) = ap (λ (o : Option kernel.Next). bind o (kernel.replies s p n reply)) next ∙ ap (λ (d : Bool). when d (kernel.goes_on s p y)) (reply_same n reply) in
+    let step : kernel.step s (Label.Call p n reply) ≡ Some (kernel.goes_on s p y) = ap (λ (o : Option kernel.Trap). bind o (kernel.replies s p n reply)) next ∙ ap (λ (d : Bool). when d (kernel.goes_on s p y)) (reply_same n reply) in
     does_label C pt (Label.Call p n reply) (kernel.goes_on s p y) [] step (does_nothing C (moved pt (Line.Label (Label.Call p n reply)) (kernel.goes_on s p y)))
 does_called C pt p n queue (calls.Sends k y) next drops home h =
     let s = pt.kernel in
     let t = with_sent (kernel.goes_on s p y) (Some k) in
-    let step : kernel.step s (Label.Send p k.id) ≡ Some t = ap (λ (o : Option kernel.Next). bind o (kernel.sends s p k.id)) next ∙ ap (λ (d : Bool). when d t) (id_eq-same k.id) in
+    let step : kernel.step s (Label.Send p k.id) ≡ Some t = ap (λ (o : Option kernel.Trap). bind o (kernel.sends s p k.id)) next ∙ ap (λ (d : Bool). when d t) (id_eq-same k.id) in
     let there : t.bag k.id ≡ Some k = sent_at (kernel.goes_on s p y) k k.id (id_eq-same k.id) in
     does_label C pt (Label.Send p k.id) t (Routes k.id ∷ []) step
     (does_route C (moved pt (Line.Label (Label.Send p k.id)) t) k.id k there (λ c sane user. sent_last pt p n k y next (home c) (not_kernels sane.r sane.e t k.id k there sane.sound) h))
 does_called C pt p n queue (calls.Waits y) next drops home h =
     let s = pt.kernel in
-    let step : kernel.step s (Label.Wait p) ≡ Some (kernel.goes_on s p y) = ap (λ (o : Option kernel.Next). bind o (kernel.waits s p)) next in
+    let step : kernel.step s (Label.Wait p) ≡ Some (kernel.goes_on s p y) = ap (λ (o : Option kernel.Trap). bind o (kernel.waits s p)) next in
     does_label C pt (Label.Wait p) (kernel.goes_on s p y) [] step (does_nothing C (moved pt (Line.Label (Label.Wait p)) (kernel.goes_on s p y)))
 does_called C pt p n queue (calls.Outputs word y) next drops home h =
     let s = pt.kernel in
-    let step : kernel.step s (Label.Out p word) ≡ Some (kernel.goes_on s p y) = ap (λ (o : Option kernel.Next). bind o (kernel.outputs s p word)) next ∙ ap (λ (d : Bool). when d (kernel.goes_on s p y)) (eq_self word) in
+    let step : kernel.step s (Label.Out p word) ≡ Some (kernel.goes_on s p y) = ap (λ (o : Option kernel.Trap). bind o (kernel.outputs s p word)) next ∙ ap (λ (d : Bool). when d (kernel.goes_on s p y)) (eq_self word) in
     does_label C pt (Label.Out p word) (kernel.goes_on s p y) [] step (does_nothing C (moved pt (Line.Label (Label.Out p word)) (kernel.goes_on s p y)))
 does_called C pt p n queue (calls.Ends because) next drops home h =
     let s = pt.kernel in
     let t = with_process s p (Ended because) in
-    let step : kernel.step s (Label.End p because) ≡ Some t = ap (λ (o : Option kernel.Next). bind o (kernel.ends s p because)) next ∙ ap (λ (d : Bool). when d t) (eq_self (why_code because)) in
-    does_label C pt (Label.End p because) t (rule.drops queue) step
+    let step : kernel.step s (Label.End p because) ≡ Some t = ap (λ (o : Option kernel.Trap). bind o (kernel.ends s p because)) next ∙ ap (λ (d : Bool). when d t) (eq_self (why_code because)) in
+    does_label C pt (Label.End p because) t (rule.drop_parts queue) step
     (does_drops C p because queue (moved pt (Line.Label (Label.End p because)) t) (set_at s p (Ended because)) (droppable_on s t p queue (λ i least. refl) drops))
 
-does_stops : (C : Type 0) (pt : Point) (p : Pid) (queue : List MsgId) (o : Option kernel.Next) → kernel.next pt.kernel p ≡ o → Droppable pt.kernel p queue → (C → p.home ≡ pt.view.acting) → Sane pt → Does C pt (rule.stops p queue o)
+does_stops : (C : Type 0) (pt : Point) (p : Pid) (queue : List MsgId) (o : Option kernel.Trap) → kernel.next_trap pt.kernel p ≡ o → Droppable pt.kernel p queue → (C → p.home ≡ pt.view.acting) → Sane pt → Does C pt (rule.stops p queue o)
 does_stops C pt p queue None next drops home h = does_nothing C pt
 does_stops C pt p queue (Some (kernel.Calls n c)) next drops home h = does_called C pt p n queue c next drops home h
 does_stops C pt p queue (Some (kernel.Faults fault)) next drops home h =
     let s = pt.kernel in
     let because = Why.Fault fault in
     let t = with_process s p (Ended because) in
-    let step : kernel.step s (Label.End p because) ≡ Some t = ap (λ (o : Option kernel.Next). bind o (kernel.ends s p because)) next ∙ ap (λ (d : Bool). when d t) (eq_self (why_code because)) in
-    does_label C pt (Label.End p because) t (rule.drops queue) step
+    let step : kernel.step s (Label.End p because) ≡ Some t = ap (λ (o : Option kernel.Trap). bind o (kernel.ends s p because)) next ∙ ap (λ (d : Bool). when d t) (eq_self (why_code because)) in
+    does_label C pt (Label.End p because) t (rule.drop_parts queue) step
     (does_drops C p because queue (moved pt (Line.Label (Label.End p because)) t) (set_at s p (Ended because)) (droppable_on s t p queue (λ i least. refl) drops))
 
 does_rest : (C : Type 0) (pt : Point) (c : Bool) (ps : List Part) → Does C pt ps → Does C pt (if c then [] else ps)
@@ -119,7 +119,7 @@ does_executes C b pt p queue x is going ready drops home h =
     ap (λ (o : Option PlainProcess). bind o (λ (v : PlainProcess). bind (kernel.plain_steps r.count (kernel.machine_of v)) (λ (z : kernel.Machine). Some (kernel.goes_on s p (kernel.with_machine v z))))) (running_of s p x is going ready)
     ∙ ap (λ (o : Option kernel.Machine). bind o (λ (z : kernel.Machine). Some (kernel.goes_on s p (kernel.with_machine x z)))) (ran_steps b.quantum (kernel.machine_of x)) in
     let o = kernel.next_row p y (instruction r.machine.regs r.machine.bytes) in
-    let next : kernel.next t p ≡ o = ap (λ (v : Option PlainProcess). bind v (λ (z : PlainProcess). kernel.next_row p z (instruction z.regs z.memory))) (running_of t p y (set_at s p (Alive y)) going ready) in
+    let next : kernel.next_trap t p ≡ o = ap (λ (v : Option PlainProcess). bind v (λ (z : PlainProcess). kernel.next_row p z (instruction z.regs z.memory))) (running_of t p y (set_at s p (Alive y)) going ready) in
     let q = moved pt (Line.Label (Label.Ran p r.count)) t in
     does_label C pt (Label.Ran p r.count) t (if r.count == b.quantum then [] else rule.stops p queue o) step
     (does_rest C q (r.count == b.quantum) (rule.stops p queue o) (does_stops C q p queue o next (droppable_on s t p queue (λ i least. refl) drops) home (sane_by pt (Line.Label (Label.Ran p r.count)) t refl step h)))
@@ -151,7 +151,7 @@ called_quiet : (p : Pid) (n : ℕ) (queue : List MsgId) (c : calls.Called) → n
 called_quiet p n queue (calls.Ends because) = drops_quiet queue
 called_quiet p n queue _ = refl
 
-stops_quiet : (p : Pid) (queue : List MsgId) (o : Option kernel.Next) → no_receive (said (rule.stops p queue o)) ≡ true
+stops_quiet : (p : Pid) (queue : List MsgId) (o : Option kernel.Trap) → no_receive (said (rule.stops p queue o)) ≡ true
 stops_quiet p queue None = refl
 stops_quiet p queue (Some (kernel.Calls n c)) = called_quiet p n queue c
 stops_quiet p queue (Some (kernel.Faults fault)) = drops_quiet queue
@@ -161,7 +161,7 @@ called_own p n queue (calls.Sends k y) = (tt, (tt, tt))
 called_own p n queue (calls.Ends because) = (tt, drops_own queue)
 called_own p n queue _ = (tt, tt)
 
-stops_own : (p : Pid) (queue : List MsgId) (o : Option kernel.Next) → HaveNoOwn (rule.stops p queue o)
+stops_own : (p : Pid) (queue : List MsgId) (o : Option kernel.Trap) → HaveNoOwn (rule.stops p queue o)
 stops_own p queue None = tt
 stops_own p queue (Some (kernel.Calls n c)) = called_own p n queue c
 stops_own p queue (Some (kernel.Faults fault)) = (tt, drops_own queue)
@@ -170,7 +170,7 @@ rest_own : (c : Bool) (ps : List Part) → HaveNoOwn ps → HaveNoOwn (if c then
 rest_own true ps h = tt
 rest_own false ps h = h
 
-completes_own : (p : Pid) (i : MsgId) (c : receiving.Completed) → HaveNoOwn (rule.completes p i c)
+completes_own : (p : Pid) (i : MsgId) (c : receiving.Completed) → HaveNoOwn (rule.completion_parts p i c)
 completes_own p i (receiving.Receives y) = (tt, tt)
 completes_own p i (receiving.Refuses reply y) = (tt, tt)
 
@@ -184,7 +184,7 @@ completes_what p x k mask base size (PlainWhat.User code channel body links) e t
     (c, ap (λ (d : Bool). if d && on_mask mask channel then Some c else None) (ap (λ v. pid_eq v p) to ∙ pid_eq-same p) ∙ ap (λ (d : Bool). if d then Some c else None) e)
 completes_what p x k mask base size _ e to = cc
 
-does_completes : (C : Type 0) (pt : Point) (p : Pid) (i : MsgId) (c : receiving.Completed) → kernel.completing pt.kernel p i ≡ Some c → Does C pt (rule.completes p i c)
+does_completes : (C : Type 0) (pt : Point) (p : Pid) (i : MsgId) (c : receiving.Completed) → kernel.completing pt.kernel p i ≡ Some c → Does C pt (rule.completion_parts p i c)
 does_completes C pt p i (receiving.Receives y) e =
     let s = pt.kernel in
     let t = kernel.goes_on (without_message s i) p y in
@@ -209,7 +209,7 @@ droppable_to s p (j ∷ js) i x there least h = elim (cases_Bool (id_eq i j)) [
       droppable_to s p js i x there (omega (arith, least, e)) h.2
 ]
 
-completes_shape : (m : ℕ) (pt : Point) (p : Pid) (i : MsgId) (mask : ℕ) (c : receiving.Completed) → rule.first_awaited pt.kernel mask (pt.view.queue m p) ≡ Some i → kernel.completing pt.kernel p i ≡ Some c → Shape m pt (rule.completes p i c)
+completes_shape : (m : ℕ) (pt : Point) (p : Pid) (i : MsgId) (mask : ℕ) (c : receiving.Completed) → rule.first_awaited pt.kernel mask (pt.view.queue m p) ≡ Some i → kernel.completing pt.kernel p i ≡ Some c → Shape m pt (rule.completion_parts p i c)
 completes_shape m pt p i mask (receiving.Receives y) first e = Takes (record {
   p = p;
   i = i;
@@ -222,7 +222,7 @@ completes_shape m pt p i mask (receiving.Receives y) first e = Takes (record {
 completes_shape m pt p i mask (receiving.Refuses reply y) first e = Quiet refl
 
 can_receive : (C : Type 0) (m : ℕ) (pt : Point) (p : Pid) (queue : List MsgId) (x : PlainProcess) (mask base size : ℕ) (o : Option MsgId) → x.status ≡ Waiting mask base size → rule.first_awaited pt.kernel mask queue ≡ o → is_some o ≡ true → pt.kernel.processes p ≡ Some (Alive x)
-    → x.stopped ≡ false → queue ≡ pt.view.queue m p → Droppable pt.kernel p queue → Can C m pt (rule.receives pt.kernel p x o)
+    → x.stopped ≡ false → queue ≡ pt.view.queue m p → Droppable pt.kernel p queue → Can C m pt (rule.reception_parts pt.kernel p x o)
 can_receive C m pt p queue x mask base size None status first some is going same drops = cc
 can_receive C m pt p queue x mask base size (Some i) status first some is going same drops =
     let s = pt.kernel in
@@ -234,8 +234,8 @@ can_receive C m pt p queue x mask base size (Some i) status first some is going 
     let completing : kernel.completing s p i ≡ Some c =
     ap (λ (o : Option Life). bind (kernel.alive o) (λ (v : PlainProcess). bind (s.bag i) (receiving.completes_with p v))) is ∙ ap (λ (o : Option PlainMessage). bind o (receiving.completes_with p x)) a.there ∙ with_ in
     record {
-      ps = rule.completes p i c;
-      is = ap (λ (o : Option PlainMessage). bind o (λ (v : PlainMessage). bind (receiving.completes_with p x v) (λ (c : receiving.Completed). Some (rule.completes p i c)))) a.there ∙ ap (λ (o : Option receiving.Completed). bind o (λ (c : receiving.Completed). Some (rule.completes p i c))) with_;
+      ps = rule.completion_parts p i c;
+      is = ap (λ (o : Option PlainMessage). bind o (λ (v : PlainMessage). bind (receiving.completes_with p x v) (λ (c : receiving.Completed). Some (rule.completion_parts p i c)))) a.there ∙ ap (λ (o : Option receiving.Completed). bind o (λ (c : receiving.Completed). Some (rule.completion_parts p i c))) with_;
       does = does_completes C pt p i c completing;
       shape = completes_shape m pt p i mask c (ap (λ ids. rule.first_awaited s mask ids) (sym same) ∙ first) completing;
       owns = NoOwns (completes_own p i c);

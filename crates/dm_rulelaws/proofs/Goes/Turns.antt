@@ -65,17 +65,17 @@ user_dropped _ e = cc
 
 pub dropped_is : (s : OneKernel) (i : MsgId) (x : PlainMessage) (y : Why) → s.bag i ≡ Some x → s.processes x.to ≡ Some (Ended y) → is_dropped x.what ≡ true → kernel.step s (Label.Dropped i) ≡ Some (without_message s i)
 dropped_is s i x y there ended drops =
-    ap (λ (o : Option PlainMessage). bind o (λ (m : PlainMessage). bind (kernel.ended (s.processes m.to)) (kernel.drops s i m))) there
-    ∙ ap (λ (o : Option Life). bind (kernel.ended o) (kernel.drops s i x)) ended
+    ap (λ (o : Option PlainMessage). bind o (λ (m : PlainMessage). bind (kernel.why_ended (s.processes m.to)) (kernel.drops s i m))) there
+    ∙ ap (λ (o : Option Life). bind (kernel.why_ended o) (kernel.drops s i x)) ended
     ∙ ap (λ (c : Bool). when c (without_message s i)) drops
 
-pub does_drops : (C : Type 0) (p : Pid) (y : Why) (ids : List MsgId) (pt : Point) → pt.kernel.processes p ≡ Some (Ended y) → Droppable pt.kernel p ids → Does C pt (rule.drops ids)
+pub does_drops : (C : Type 0) (p : Pid) (y : Why) (ids : List MsgId) (pt : Point) → pt.kernel.processes p ≡ Some (Ended y) → Droppable pt.kernel p ids → Does C pt (rule.drop_parts ids)
 does_drops C p y [] pt ended h = does_nothing C pt
 does_drops C p y (i ∷ is) pt ended h =
     let s = pt.kernel in
     let x = h.0.x in
     let step = dropped_is s i x y h.0.there (ap s.processes h.0.to ∙ ended) (user_dropped x.what h.0.user) in
-    does_label C pt (Label.Dropped i) (without_message s i) (rule.drops is) step
+    does_label C pt (Label.Dropped i) (without_message s i) (rule.drop_parts is) step
     (does_drops C p y is (moved pt (Line.Label (Label.Dropped i)) (without_message s i)) ended
     (droppable_on s (without_message s i) p is (λ j least. out_off s i j (apart j least (id_eq i j) refl)) h.2))
   where
@@ -84,10 +84,10 @@ does_drops C p y (i ∷ is) pt ended h =
     apart j least true e = absurd (let k : times j is ≡ 0 = sym (ap (λ v. times v is) (id_eq-is i j e)) ∙ h.1 in omega (arith, least, k))
 
 -- none of it is received, or a kernel's own
-pub drops_quiet : (ids : List MsgId) → no_receive (said (rule.drops ids)) ≡ true
+pub drops_quiet : (ids : List MsgId) → no_receive (said (rule.drop_parts ids)) ≡ true
 drops_quiet [] = refl
 drops_quiet (i ∷ is) = drops_quiet is
 
-pub drops_own : (ids : List MsgId) → HaveNoOwn (rule.drops ids)
+pub drops_own : (ids : List MsgId) → HaveNoOwn (rule.drop_parts ids)
 drops_own [] = tt
 drops_own (i ∷ is) = (tt, drops_own is)

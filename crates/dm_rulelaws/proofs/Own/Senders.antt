@@ -43,15 +43,15 @@ board_request : (b : Switchboard) (body : List ℕ) (links : List PlainLink) →
 board_request b body [] = tt
 board_request b body (l ∷ ls) = refl
 
-pub board_sender : (b : Switchboard) (m : PlainMessage) (w : PlainWhat) (k : board.Took) → board.takes b m w ≡ Some k → SentBy switchboard k.answer
-board_sender b m (PlainWhat.User code channel body links) k e = let f : board.takes_request b body links ≡ k = cc in subst (λ (v : board.Took). SentBy switchboard v.answer) f (board_request b body links)
+pub board_sender : (b : Switchboard) (m : PlainMessage) (w : PlainWhat) (k : board.BoardTook) → board.board_takes b m w ≡ Some k → SentBy switchboard k.answer
+board_sender b m (PlainWhat.User code channel body links) k e = let f : board.takes_request b body links ≡ k = cc in subst (λ (v : board.BoardTook). SentBy switchboard v.answer) f (board_request b body links)
 board_sender b m _ k e = cc
 
 manager_bad : (g : Manager) (links : List PlainLink) → SentBy manager (manage.bad_request g links).message
 manager_bad g [] = tt
 manager_bad g (l ∷ ls) = refl
 
-manager_if : (b : Bool) (x y : manage.Took) → SentBy manager x.message → SentBy manager y.message → SentBy manager (if b then x else y).message
+manager_if : (b : Bool) (x y : manage.ManagerTook) → SentBy manager x.message → SentBy manager y.message → SentBy manager (if b then x else y).message
 manager_if true x y h k = h
 manager_if false x y h k = k
 
@@ -59,12 +59,12 @@ manager_wants : (g : Manager) (machines images machine image : ℕ) (links : Lis
 manager_wants g machines images machine image [] = tt
 manager_wants g machines images machine image (l ∷ ls) = manager_if (nat_lt machine machines && nat_lt image images) (manage.asks_for g machine image l ls) (manage.bad_request g (l ∷ ls)) refl refl
 
-manager_requests : (g : Manager) (machines images : ℕ) (body : List ℕ) (links : List PlainLink) → SentBy manager (manage.requests g machines images body links).message
+manager_requests : (g : Manager) (machines images : ℕ) (body : List ℕ) (links : List PlainLink) → SentBy manager (manage.requests_child g machines images body links).message
 manager_requests g machines images (a ∷ b ∷ c ∷ d ∷ []) links =
     manager_if (a == 1) (manage.wants_child g machines images b (256 * c + d) links) (manage.bad_request g links) (manager_wants g machines images b (256 * c + d) links) (manager_bad g links)
 manager_requests g machines images _ links = manager_bad g links
 
-manager_controls_child : (g : Manager) (child : Pid) (o : Option PlainWhat) (links : List PlainLink) → SentBy manager (manage.controls_child g child o links).message
+manager_controls_child : (g : Manager) (child : Pid) (o : Option PlainWhat) (links : List PlainLink) → SentBy manager (manage.tells_child g child o links).message
 manager_controls_child g child None links = manager_bad g links
 manager_controls_child g child (Some w) links = refl
 
@@ -73,25 +73,25 @@ manager_controls g (Some child) (a ∷ []) links = manager_controls_child g chil
 manager_controls g None (a ∷ []) links = manager_bad g links
 manager_controls g _ _ links = manager_bad g links
 
-manager_created : (g : Manager) (n : ℕ) (child : Pid) (o : Option Pending) (k : manage.Took) → manage.takes_created g n child o ≡ Some k → SentBy manager k.message
+manager_created : (g : Manager) (n : ℕ) (child : Pid) (o : Option Pending) (k : manage.ManagerTook) → manage.takes_created g n child o ≡ Some k → SentBy manager k.message
 manager_created g n child None k e = cc
 manager_created g n child (Some r) k e =
     let h = record g { children = g.children ++ child ∷ []; pending = manage.without_pending n g.pending } in
-    let f : manage.answers h r.answer 0 (manage.control_link (length g.children + 1) ∷ []) ≡ k = cc in
-    subst (λ (v : manage.Took). SentBy manager v.message) f refl
+    let f : manage.answers_byte h r.answer 0 (manage.control_link (length g.children + 1) ∷ []) ≡ k = cc in
+    subst (λ (v : manage.ManagerTook). SentBy manager v.message) f refl
 
-manager_no_room : (g : Manager) (n : ℕ) (o : Option Pending) (k : manage.Took) → manage.takes_no_room g n o ≡ Some k → SentBy manager k.message
+manager_no_room : (g : Manager) (n : ℕ) (o : Option Pending) (k : manage.ManagerTook) → manage.takes_no_room g n o ≡ Some k → SentBy manager k.message
 manager_no_room g n None k e = cc
 manager_no_room g n (Some r) k e =
     let h = record g { pending = manage.without_pending n g.pending } in
-    let f : manage.answers h r.answer 1 [] ≡ k = cc in
-    subst (λ (v : manage.Took). SentBy manager v.message) f refl
+    let f : manage.answers_byte h r.answer 1 [] ≡ k = cc in
+    subst (λ (v : manage.ManagerTook). SentBy manager v.message) f refl
 
-pub manager_sender : (g : Manager) (machines images : ℕ) (m : PlainMessage) (w : PlainWhat) (k : manage.Took) → manage.takes g machines images m w ≡ Some k → SentBy manager k.message
+pub manager_sender : (g : Manager) (machines images : ℕ) (m : PlainMessage) (w : PlainWhat) (k : manage.ManagerTook) → manage.manager_takes g machines images m w ≡ Some k → SentBy manager k.message
 manager_sender g machines images m (PlainWhat.User code channel body links) k e =
     let f : manage.takes_user g machines images code body links ≡ k = cc in
-    subst (λ (v : manage.Took). SentBy manager v.message) f
-    (manager_if (code == 0) (manage.requests g machines images body links) (manage.controls g (manage.child_numbered g.children code) body links) (manager_requests g machines images body links) (manager_controls g (manage.child_numbered g.children code) body links))
+    subst (λ (v : manage.ManagerTook). SentBy manager v.message) f
+    (manager_if (code == 0) (manage.requests_child g machines images body links) (manage.controls g (manage.child_numbered g.children code) body links) (manager_requests g machines images body links) (manager_controls g (manage.child_numbered g.children code) body links))
 manager_sender g machines images m (PlainWhat.Created child) k e = manager_created g m.id.n child (manage.pending_numbered m.id.n g.pending) k e
 manager_sender g machines images m PlainWhat.NoRoom k e = manager_no_room g m.id.n (manage.pending_numbered m.id.n g.pending) k e
 manager_sender g machines images m _ k e = cc
@@ -130,7 +130,7 @@ brings r e s t l is_ h =
           server_brings s (service.switchboard_took s id k) (record (without_message s id) { switchboard = k.switchboard }) id switchboard k.answer (board_sender s.switchboard m m.what k took) refl refl (λ i. refl);
       manager = λ id m k is there c took.
           server_brings s (service.manager_took s id k) (record (without_message s id) { manager = k.manager }) id manager k.message (manager_sender s.manager s.machines (length s.images) m m.what k took) refl refl (λ i. refl);
-      creates = λ id child m image links i is w found name. answered (service.with_child (without_message s id) child i links) id m (PlainWhat.Created child) (λ j. refl) refl;
+      creates = λ id child m image links i is w found name. answered (service.with_created (without_message s id) child i links) id m (PlainWhat.Created child) (λ j. refl) refl;
       no_room = λ id a b m image links is w. answered (without_message s id) id m PlainWhat.NoRoom (λ i. refl) refl;
     }) is_
 

@@ -26,7 +26,7 @@ cons_few : (o : Option PlainLink) (ls : List PlainLink) → length (cons_option 
 cons_few None ls = omega arith
 cons_few (Some l) ls = omega arith
 
-links_few : (slots : List (Option PlainLink)) (ss : List ℕ) → length (calls.links_of slots ss) ≤ length ss
+links_few : (slots : List (Option PlainLink)) (ss : List ℕ) → length (calls.links_in_slots slots ss) ≤ length ss
 links_few slots [] = omega arith
 links_few slots (s ∷ ss) =
     let a = cons_few (link_at slots s) (filter_map (link_at slots) ss) in
@@ -57,12 +57,12 @@ copies_tables : (x : PlainProcess) (o : Option PlainLink) → CallTables x (call
 copies_tables x None = refl
 copies_tables x (Some l) = if_tables x (calls.is_reply l.kind) (calls.refused Reply.NotCopyable x) (calls.puts_link x l (first_empty x.links)) refl (puts_tables x l (first_empty x.links))
 
-drops_tables : (x : PlainProcess) (o : Option PlainLink) → CallTables x (calls.drops x o)
+drops_tables : (x : PlainProcess) (o : Option PlainLink) → CallTables x (calls.drop_call x o)
 drops_tables x None = refl
 drops_tables x (Some l) = set_length x.links (reg x.regs 1) None
 
 -- at most four links are sent
-listed_few : (x : PlainProcess) → nat_lt 4 (reg x.regs 4) ≡ false → length (calls.links_of x.links (calls.listed x)) ≤ 4
+listed_few : (x : PlainProcess) → nat_lt 4 (reg x.regs 4) ≡ false → length (calls.links_in_slots x.links (calls.listed x)) ≤ 4
 listed_few x e =
     let a = links_few x.links (calls.listed x) in
     let b : length (calls.listed x) ≡ _ = length-take (reg x.regs 4) (drop (reg x.regs 5) x.memory) in
@@ -76,7 +76,7 @@ sends_by x p l false true rest e = refl
 sends_by x p l false false rest e =
     unless_tables x (first_failed rest) (Sends (calls.message_over p x l) (calls.after_send x)) (without_length x.links (reg x.regs 1 ∷ calls.listed x), listed_few x e)
 
-sends_tables : (p : Pid) (x : PlainProcess) (o : Option PlainLink) → CallTables x (calls.sends p x o)
+sends_tables : (p : Pid) (x : PlainProcess) (o : Option PlainLink) → CallTables x (calls.send_call p x o)
 sends_tables p x None = refl
 sends_tables p x (Some l) =
     sends_by x p l (nat_lt (calls.most_body x) (reg x.regs 3)) (nat_lt 4 (reg x.regs 4))
@@ -92,14 +92,14 @@ requests_few p x Direction.IntoArea owner base own left = tt
 
 moves_bytes_tables : (p : Pid) (x : PlainProcess) (l : PlainLink) (dir : Direction) → CallTables x (calls.moves_bytes p x l dir)
 moves_bytes_tables p x l dir =
-    if_tables x (reg x.regs 5 == 0) (Replies Reply.Done (calls.replied Reply.Done x)) (calls.begins (pieces.requests p x dir l.to (l.area.base + reg x.regs 3) (reg x.regs 4) (reg x.regs 5))) refl
+    if_tables x (reg x.regs 5 == 0) (Replies Reply.Done (calls.replied Reply.Done x)) (calls.begins_move (pieces.requests p x dir l.to (l.area.base + reg x.regs 3) (reg x.regs 4) (reg x.regs 5))) refl
     (refl, requests_few p x dir l.to (l.area.base + reg x.regs 3) (reg x.regs 4) (reg x.regs 5))
 
 moves_over_tables : (p : Pid) (x : PlainProcess) (l : PlainLink) (o : Option Direction) → CallTables x (calls.moves_over p x l o)
 moves_over_tables p x l None = refl
 moves_over_tables p x l (Some dir) = unless_tables x (first_failed (calls.move_refusals x l dir)) (calls.moves_bytes p x l dir) (moves_bytes_tables p x l dir)
 
-moves_tables : (p : Pid) (x : PlainProcess) (o : Option PlainLink) → CallTables x (calls.moves p x o)
+moves_tables : (p : Pid) (x : PlainProcess) (o : Option PlainLink) → CallTables x (calls.move_call p x o)
 moves_tables p x None = refl
 moves_tables p x (Some l) = moves_over_tables p x l (direction_numbered (reg x.regs 2))
 
@@ -119,11 +119,11 @@ pub call_tables : (p : Pid) (x : PlainProcess) (n : ℕ) → CallTables x (calls
 call_tables p x n = does_call_tables p x (calls.call_number n)
 
 -- links are placed
-placed_step : (t : receiving.Placed) (r : ℕ) (l : PlainLink) (o : Option ℕ) → length (receiving.place_into t r l o).links ≡ length t.links
+placed_step : (t : receiving.RegsAndLinks) (r : ℕ) (l : PlainLink) (o : Option ℕ) → length (receiving.place_into t r l o).links ≡ length t.links
 placed_step t r l None = refl
 placed_step t r l (Some slot) = set_length t.links slot (Some l)
 
-placed_length : (ls : List PlainLink) (t : receiving.Placed) (r : ℕ) → length (receiving.place_links t r ls).links ≡ length t.links
+placed_length : (ls : List PlainLink) (t : receiving.RegsAndLinks) (r : ℕ) → length (receiving.place_links t r ls).links ≡ length t.links
 placed_length [] t r = refl
 placed_length (l ∷ ls) t r = placed_length ls (receiving.place_into t r l (first_empty t.links)) (r + 1) ∙ placed_step t r l (first_empty t.links)
 
@@ -131,7 +131,7 @@ abbrev pub CompletedTables : PlainProcess → receiving.Completed → Type 0
 CompletedTables x (receiving.Receives y) = SameSlots x y
 CompletedTables x (receiving.Refuses c y) = SameSlots x y
 
-completes_tables : (x : PlainProcess) (base code channel : ℕ) (body : List ℕ) (links : List PlainLink) (o : Option Reply) → CompletedTables x (receiving.completes_unless o x (receiving.receives x base code channel body links))
+completes_tables : (x : PlainProcess) (base code channel : ℕ) (body : List ℕ) (links : List PlainLink) (o : Option Reply) → CompletedTables x (receiving.completes_unless o x (receiving.with_received x base code channel body links))
 completes_tables x base code channel body links None = placed_length links (record { regs = receiving.received_regs x.regs code channel (length body) (length links); links = x.links }) 5
 completes_tables x base code channel body links (Some c) = refl
 

@@ -12,16 +12,16 @@ use Rattle.dm_rulelaws.proofs.Tables.Calls.{CallTables, CompletedTables, call_ta
 use Rattle.dm_rulelaws.proofs.Tables.Servers.{put_maybe, board_few, took_few, child_length}
 
 -- what comes next of a process that executes
-abbrev NextTables : PlainProcess → kernel.Next → Type 0
+abbrev NextTables : PlainProcess → kernel.Trap → Type 0
 NextTables x (kernel.Calls number called) = CallTables x called
 NextTables x (kernel.Faults fault) = ⊤
 
-record NextIs (s : OneKernel) (p : Pid) (n : kernel.Next) : Type 0 where
+record NextIs (s : OneKernel) (p : Pid) (n : kernel.Trap) : Type 0 where
   x : PlainProcess
   alive : s.processes p ≡ Some (Alive x)
   same : NextTables x n
 
-next_row_is : (s : OneKernel) (p : Pid) (x : PlainProcess) (w : Row) (n : kernel.Next) → s.processes p ≡ Some (Alive x) → kernel.next_row p x w ≡ Some n → NextIs s p n
+next_row_is : (s : OneKernel) (p : Pid) (x : PlainProcess) (w : Row) (n : kernel.Trap) → s.processes p ≡ Some (Alive x) → kernel.next_row p x w ≡ Some n → NextIs s p n
 next_row_is s p x (Row.Plain regs bytes) n is e = cc
 next_row_is s p x (Row.Calls number regs) n is e =
     let f : kernel.Calls number (calls.call p (record x { regs = regs }) number) ≡ n = cc in
@@ -36,7 +36,7 @@ next_row_is s p x (Row.Faults fault) n is e =
     let f : kernel.Faults fault ≡ n = cc in
     record { x = x; alive = is; same = subst (NextTables x) f tt }
 
-next_is : (s : OneKernel) (p : Pid) (n : kernel.Next) → kernel.next s p ≡ Some n → NextIs s p n
+next_is : (s : OneKernel) (p : Pid) (n : kernel.Trap) → kernel.next_trap s p ≡ Some n → NextIs s p n
 next_is s p n e =
     let (x, running, row_is) = bind-is (kernel.running s p) (λ (v : PlainProcess). kernel.next_row p v (instruction v.regs v.memory)) n e in
     next_row_is s p x (instruction x.regs x.memory) n (running_is s p x running).alive row_is
@@ -70,10 +70,10 @@ if_lands x false k c h e = cc
 lands_what_tables : (p : Pid) (x : PlainProcess) (dir : Direction) (owner : Pid) (base own left : ℕ) (w : PlainWhat) (c : pieces.Landed) → pieces.lands_what p x dir owner base own left w ≡ Some c → LandTables x c
 lands_what_tables p x Direction.FromArea owner base own left (PlainWhat.Block bytes) c e =
     let z = record x { memory = pieces.written_at x.memory own bytes } in
-    if_lands x ((length bytes == pieces.piece_of left) && nat_le (own + left) (length x.memory)) (pieces.goes_on p z Direction.FromArea owner base own left (pieces.piece_of left)) c
+    if_lands x ((length bytes == pieces.piece_of left) && nat_le (own + left) (length x.memory)) (pieces.move_goes_on p z Direction.FromArea owner base own left (pieces.piece_of left)) c
     (goes_on_by p x z Direction.FromArea owner base own left (left - pieces.piece_of left == 0) refl) e
 lands_what_tables p x Direction.IntoArea owner base own left PlainWhat.Written c e =
-    if_lands x (nat_le (own + left) (length x.memory)) (pieces.goes_on p x Direction.IntoArea owner base own left (pieces.piece_of left)) c
+    if_lands x (nat_le (own + left) (length x.memory)) (pieces.move_goes_on p x Direction.IntoArea owner base own left (pieces.piece_of left)) c
     (goes_on_by p x x Direction.IntoArea owner base own left (left - pieces.piece_of left == 0) refl) e
 lands_what_tables p x Direction.FromArea owner base own left PlainWhat.Gone c e = let k : pieces.done Reply.Gone x ≡ c = cc in subst (LandTables x) k refl
 lands_what_tables p x Direction.IntoArea owner base own left PlainWhat.Gone c e = let k : pieces.done Reply.Gone x ≡ c = cc in subst (LandTables x) k refl
@@ -117,6 +117,6 @@ tables_step s t e = by_step (λ u. Tables s → Tables u) s t e (record {
   creates = λ id child m image links i is w found name h.
       (let few = subst FewLinks w.what (h.messages id m w.there) in
       let on = set_tables (without_message s id) child (begun s.format i links) (child_length s.format i links few) (out_tables s id h) in
-      put_tables (service.with_child (without_message s id) child i links) (answer_to m (PlainWhat.Created child)) tt (record { slots = on.slots; messages = on.messages }));
+      put_tables (service.with_created (without_message s id) child i links) (answer_to m (PlainWhat.Created child)) tt (record { slots = on.slots; messages = on.messages }));
   no_room = λ id a b m image links is w h. put_tables (without_message s id) (answer_to m PlainWhat.NoRoom) tt (out_tables s id h);
 })

@@ -1,9 +1,9 @@
 -- A packet that was never delivered comes: less is left for the wires, and no more of anything else.
 use Rattle.dm_settlelaws.proofs.Names.{◌≡◌, ◌≢◌, ℕ, zero, suc, ◌+◌, ◌-◌, ◌<◌, ◌≤◌, ◌==◌, Bool, true, false, List, [], ◌∷◌, ◌++◌, drop, length, nat_lt, refl, ap, ◌∙◌, sym, subst, inl, inr, arith, ⊤, if◌then◌else◌, slice_get, slice_set}
 use Rattle.dm_settlelaws.proofs.Names.{Option, None, Some, eqb_tells, nat_tests, MsgId, Boot, Step, Line, Load, sum_below, at_machine, at_pair, first_undelivered, undelivered, Leads, Part, Says, Routes, Again, Owns, Transmits, Spelled}
-use Rattle.dm_settlelaws.proofs.Names.{packet_line, spelled, window, Point, first_point, moved, arrives, comes, group_of, kept_from, less, let_go, more, numbers_from, repeats, takes, takes_on, untaken, Pair, Sent, View, gone_after, marked}
-use Rattle.dm_settlelaws.proofs.Names.{oldest, taken_id, view_after, IsNet, IsNetLine, arrives_net, group_is, hushed, pairs_stand_always, onward, says_view, taken_pair, transmits_view, IsLess, Packets, left, load_left, one_each, one_let_go}
-use Rattle.dm_settlelaws.proofs.Names.{pair_left, weight, weight_of, weight_to, wire_left, less-left}
+use Rattle.dm_settlelaws.proofs.Names.{packet_line, spelled, pair_window, Point, first_point, moved, arrives, comes, group_of, kept_from, less, let_go, more, numbers_from, repeats, taking_parts, takes_on, untaken, Pair, SentLoad, View}
+use Rattle.dm_settlelaws.proofs.Names.{gone_after, marked, oldest, taken_id, view_after, IsNet, IsNetLine, arrives_net, group_is, hushed, pairs_stand_always, onward, says_view, taken_pair, transmits_view, IsLess, Packets, left, load_left}
+use Rattle.dm_settlelaws.proofs.Names.{one_each, one_let_go, pair_left, weight, weight_of, weight_to, wire_left, less-left}
 use Rattle.dm_rule.specs.View as view
 use Rattle.dm_settlelaws.proofs.Falls.Delivers.{parts_ids, set_ids}
 use Rattle.dm_settlelaws.proofs.Effects.{calm_to}
@@ -15,37 +15,37 @@ use Rattle.dm_settlelaws.proofs.Weights.{spike, spike_here, spike_off, sum_le, s
 use Rattle.dm_settlelaws.proofs.Wires.{new_packet}
 
 -- the packets of a wire
-put_left : (ss : List Sent) (l : Load) → wire_left (ss ++ new_packet l ∷ []) ≡ wire_left ss + load_left l
+put_left : (ss : List SentLoad) (l : Load) → wire_left (ss ++ new_packet l ∷ []) ≡ wire_left ss + load_left l
 put_left [] l = omega arith
 put_left (s ∷ ss) l = let h = put_left ss l in omega (arith, h)
 
-record Found (ss : List Sent) (j k : ℕ) : Type 0 where
+record Found (ss : List SentLoad) (j k : ℕ) : Type 0 where
   at : ℕ
-  packet : Sent
+  packet : SentLoad
   is : k ≡ j + at
   there : slice_get ss at ≡ Some packet
   new : packet.delivered ≡ false
 
-found_by : (s : Sent) (ss : List Sent) (j k : ℕ) (b : Bool) → s.delivered ≡ b → (if b then first_undelivered (j + 1) ss else Some j) ≡ Some k → (first_undelivered (j + 1) ss ≡ Some k → Found ss (j + 1) k) → Found (s ∷ ss) j k
+found_by : (s : SentLoad) (ss : List SentLoad) (j k : ℕ) (b : Bool) → s.delivered ≡ b → (if b then first_undelivered (j + 1) ss else Some j) ≡ Some k → (first_undelivered (j + 1) ss ≡ Some k → Found ss (j + 1) k) → Found (s ∷ ss) j k
 found_by s ss j k true d e later = let h = later e in record { at = suc h.at; packet = h.packet; is = let i = h.is in omega (arith, i); there = h.there; new = h.new }
 found_by s ss j k false d e later = let f : j ≡ k = cc in record { at = 0; packet = s; is = omega (arith, f); there = refl; new = d }
 
-found : (ss : List Sent) (j k : ℕ) → first_undelivered j ss ≡ Some k → Found ss j k
+found : (ss : List SentLoad) (j k : ℕ) → first_undelivered j ss ≡ Some k → Found ss j k
 found [] j k e = cc
 found (s ∷ ss) j k e = found_by s ss j k s.delivered refl e (λ f. found ss (j + 1) k f)
 
-mark_left : (ss : List Sent) (k : ℕ) (s : Sent) → slice_get ss k ≡ Some s → s.delivered ≡ false → wire_left (slice_set ss k (record s { delivered = true })) + load_left s.load ≡ wire_left ss
+mark_left : (ss : List SentLoad) (k : ℕ) (s : SentLoad) → slice_get ss k ≡ Some s → s.delivered ≡ false → wire_left (slice_set ss k (record s { delivered = true })) + load_left s.load ≡ wire_left ss
 mark_left [] k s e d = cc
 mark_left (t ∷ ss) zero s e d =
     let f : t ≡ s = cc in
-    let all : wire_left (t ∷ ss) ≡ load_left s.load + wire_left ss = ap (λ (x : Sent). wire_left (x ∷ ss)) f ∙ ap (λ (b : Bool). (if b then 0 else load_left s.load) + wire_left ss) d in
+    let all : wire_left (t ∷ ss) ≡ load_left s.load + wire_left ss = ap (λ (x : SentLoad). wire_left (x ∷ ss)) f ∙ ap (λ (b : Bool). (if b then 0 else load_left s.load) + wire_left ss) d in
     omega (arith, all)
 mark_left (t ∷ ss) (suc k) s e d = let h = mark_left ss k s e d in omega (arith, h)
 
 -- what each change of a pair leaves for its wire
-marked_left : (p : Pair) (k : ℕ) (s : Sent) → slice_get p.wire k ≡ Some s → s.delivered ≡ false → pair_left (marked p k) + load_left s.load ≤ pair_left p
+marked_left : (p : Pair) (k : ℕ) (s : SentLoad) → slice_get p.wire k ≡ Some s → s.delivered ≡ false → pair_left (marked p k) + load_left s.load ≤ pair_left p
 marked_left p k s e d =
-    let w : wire_left (marked p k).wire ≡ wire_left (slice_set p.wire k (record s { delivered = true })) = ap (λ (o : Option Sent). wire_left (view.marked_at p.wire k o)) e in
+    let w : wire_left (marked p k).wire ≡ wire_left (slice_set p.wire k (record s { delivered = true })) = ap (λ (o : Option SentLoad). wire_left (view.marked_at p.wire k o)) e in
     let h = mark_left p.wire k s e d in
     omega (arith, w, h)
 
@@ -62,7 +62,7 @@ out_left p h =
 ack_total : (n : ℕ) (f : ℕ → ℕ → Pair) (b a t : ℕ) → total pair_left n (at_pair f b a (repeated (Load.Ack t) (f b a))) ≤ total pair_left n f + 1
 ack_total n f b a t = set_gains pair_left n f b a (repeated (Load.Ack t) (f b a)) 1 (ack_left (f b a) t)
 
-takes_total : (n a b : ℕ) (ns : List ℕ) (f : ℕ → ℕ → Pair) → total pair_left n (pairs_parts f (takes a b ns)) ≤ total pair_left n f
+takes_total : (n a b : ℕ) (ns : List ℕ) (f : ℕ → ℕ → Pair) → total pair_left n (pairs_parts f (taking_parts a b ns)) ≤ total pair_left n f
 takes_total n a b [] f = omega arith
 takes_total n a b (k ∷ ns) f =
     let g = at_pair f a b (took k (f a b)) in
@@ -83,7 +83,7 @@ repeats_total n b a (suc k) g f at most =
 
 -- a data packet: no more than its acknowledgement
 data_total : (n : ℕ) (g : ℕ → ℕ → Pair) (a b k t : ℕ) (p : Pair) (old ahead : Bool)
-    → total pair_left n (pairs_parts g (if old then Says (Line.Old a b k) ∷ Transmits b a (Load.Ack t) ∷ [] else if ahead then Says (Line.Early a b k) ∷ Transmits b a (Load.Ack t) ∷ [] else takes_on a b k (kept_from p.kept (k + 1) window))) ≤ total pair_left n g + 1
+    → total pair_left n (pairs_parts g (if old then Says (Line.Old a b k) ∷ Transmits b a (Load.Ack t) ∷ [] else if ahead then Says (Line.Early a b k) ∷ Transmits b a (Load.Ack t) ∷ [] else takes_on a b k (kept_from p.kept (k + 1) pair_window))) ≤ total pair_left n g + 1
 data_total n g a b k t p true ahead = ack_total n g b a t
 data_total n g a b k t p false true =
     let h = at_pair g a b (early k (g a b)) in
@@ -91,10 +91,10 @@ data_total n g a b k t p false true =
     let last = ack_total n h b a t in
     omega (arith, first, last)
 data_total n g a b k t p false false =
-    let others = kept_from p.kept (k + 1) window in
+    let others = kept_from p.kept (k + 1) pair_window in
     let last = Transmits b a (Load.Ack (k + 1 + length others)) ∷ [] in
-    let mid = pairs_parts g (takes a b (k ∷ others)) in
-    let both : total pair_left n (pairs_parts g (takes a b (k ∷ others) ++ last)) ≡ total pair_left n (pairs_parts mid last) = ap (total pair_left n) (parts_both g (takes a b (k ∷ others)) last) in
+    let mid = pairs_parts g (taking_parts a b (k ∷ others)) in
+    let both : total pair_left n (pairs_parts g (taking_parts a b (k ∷ others) ++ last)) ≡ total pair_left n (pairs_parts mid last) = ap (total pair_left n) (parts_both g (taking_parts a b (k ∷ others)) last) in
     let first = takes_total n a b (k ∷ others) g in
     let ack = ack_total n mid b a (k + 1 + length others) in
     omega (arith, both, first, ack)
@@ -108,11 +108,11 @@ ack_comes n g a b k top q is stands =
     let same : mid b a ≡ p = here g b a p b a (let t : (b == b) ≡ true = grind (arith, nat_tests) in t) (let t : (a == a) ≡ true = grind (arith, nat_tests) in t) in
     let gone : (mid b a).gone ≡ q.gone = ap (λ (x : Pair). x.gone) same ∙ ap (λ (x : Pair). x.gone) is in
     let ids : length (mid b a).ids ≡ length q.ids = ap (λ (x : Pair). length x.ids) same ∙ ap (λ (x : Pair). length x.ids) is in
-    let most = less-left (length q.ids - q.gone) (top + window - q.gone) in
-    let rest = repeats_total n b a (less (length q.ids - q.gone) (top + window - q.gone)) q.gone mid gone (omega (arith, most, stands, ids)) in
+    let most = less-left (length q.ids - q.gone) (top + pair_window - q.gone) in
+    let rest = repeats_total n b a (less (length q.ids - q.gone) (top + pair_window - q.gone)) q.gone mid gone (omega (arith, most, stands, ids)) in
     omega (arith, first, rest)
 
-comes_total : (n : ℕ) (f : ℕ → ℕ → Pair) (a b k : ℕ) (s : Sent) (l : Load) → a < n → b < n → (a == b) ≡ false → slice_get (f a b).wire k ≡ Some s → s.delivered ≡ false → s.load ≡ l → (f b a).gone ≤ length (f b a).ids
+comes_total : (n : ℕ) (f : ℕ → ℕ → Pair) (a b k : ℕ) (s : SentLoad) (l : Load) → a < n → b < n → (a == b) ≡ false → slice_get (f a b).wire k ≡ Some s → s.delivered ≡ false → s.load ≡ l → (f b a).gone ≤ length (f b a).ids
     → total pair_left n (pairs_parts (at_pair f a b (marked (f a b) k)) (comes a b (f a b) (f b a) l)) < total pair_left n f
 comes_total n f a b k s (Load.Data j) from to apart there new carries stands =
     let g = at_pair f a b (marked (f a b) k) in
@@ -243,7 +243,7 @@ parts_keep n (Transmits a b l ∷ ps) pt w net small e =
     subst (λ (q : Point). Keeps n pt.view q.view) o.end (keeps_on n pt.view o.next.view o.rest.point.view first (parts_keep n ps o.next o.rest net.1 small.1 o.on))
 parts_keep n _ pt w net small e = absurd net.0
 
-takes_in : (n a b : ℕ) (ns : List ℕ) (ps : List Part) → a < n → AllTakeIn n ps → AllTakeIn n (takes a b ns ++ ps)
+takes_in : (n a b : ℕ) (ns : List ℕ) (ps : List Part) → a < n → AllTakeIn n ps → AllTakeIn n (taking_parts a b ns ++ ps)
 takes_in n a b [] ps small h = h
 takes_in n a b (k ∷ ns) ps small h = (small, takes_in n a b ns ps small h)
 
@@ -258,10 +258,10 @@ data_in n a b k t others false true small = (tt, (tt, tt))
 data_in n a b k t others false false small = takes_in n a b (k ∷ others) (Transmits b a (Load.Ack (k + 1 + length others)) ∷ []) small (tt, tt)
 
 comes_in_ : (n a b : ℕ) (p q : Pair) (l : Load) → a < n → AllTakeIn n (comes a b p q l)
-comes_in_ n a b p q (Load.Data k) small = data_in n a b k p.taken (kept_from p.kept (k + 1) window) (nat_lt k p.taken) (nat_lt p.taken k) small
+comes_in_ n a b p q (Load.Data k) small = data_in n a b k p.taken (kept_from p.kept (k + 1) pair_window) (nat_lt k p.taken) (nat_lt p.taken k) small
 comes_in_ n a b p q (Load.Ack k) small = (tt, repeats_in n b a (let_go q (more k q.acked)))
 
-arrives_in : (n a b : ℕ) (p q : Pair) (o : Option Sent) → a < n → AllTakeIn n (arrives a b p q o)
+arrives_in : (n a b : ℕ) (p q : Pair) (o : Option SentLoad) → a < n → AllTakeIn n (arrives a b p q o)
 arrives_in n a b p q None small = (tt, tt)
 arrives_in n a b p q (Some s) small = comes_in_ n a b p q s.load small
 

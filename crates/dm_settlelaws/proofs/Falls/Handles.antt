@@ -2,8 +2,8 @@
 use Rattle.dm_settlelaws.proofs.Names.{◌≡◌, ℕ, ◌+◌, ◌/◌, ◌==◌, Bool, true, false, List, [], ◌∷◌, ◌++◌, length, refl, ap, ◌∙◌, sym, ⊤, if◌then◌else◌, slice_get, Option, None, Some, false≢true, Pid, pid_of, pid_eq, MsgId, MessageKind, Label}
 use Rattle.dm_settlelaws.proofs.Names.{Stage, plain_kind, PlainMessage, PlainWhat, Boot, BootImage, first_number, switchboard, manager, PlainProcess, answer_id, bind-is, Line, Sender, is_told_back, accepts, chunks_of, ended_told}
 use Rattle.dm_settlelaws.proofs.Names.{forwards_on, here_told, kernel_told, leaves, pieces_of, process_told, sends_on, server_told, takes_block, takes_chunk, to_kernel, Part, Says, Routes, Again, Owns, Transmits, Point, Room, board_took}
-use Rattle.dm_settlelaws.proofs.Names.{comes_to, creates, drops, ended_handles, fits, free_room, handles, has_room, hears, here_handles, kernel_handles, kernel_hears, lands, manager_took, process_handles, routes, says, About, Known, Of}
-use Rattle.dm_settlelaws.proofs.Names.{Told, target_of, touches, lets_go, told_lets_go}
+use Rattle.dm_settlelaws.proofs.Names.{comes_to, creation_parts, drop_parts, ended_handles, fits, free_room, handles, has_room, hears, here_handles, kernel_handles, kernel_hears, landing_parts, manager_parts, process_handles, routes, says}
+use Rattle.dm_settlelaws.proofs.Names.{About, Known, Of, Told, target_of, touches, lets_go, told_lets_go}
 use Rattle.dm_onekernel.specs.Pieces as pieces
 use Rattle.dm_onekernel.specs.Switchboard as board
 use Rattle.dm_onekernel.specs.Manager as manage
@@ -49,7 +49,7 @@ back_row i told l ps takes touch lets e =
     let f : Says l ∷ [] ≡ ps = cc in
     record { first = l; rest = []; is = sym f; takes = takes; touches_ = touch; calm = tt; back = λ g. (refl, lets) }
 
-drops_calm : (ids : List MsgId) → AllCalm (drops ids)
+drops_calm : (ids : List MsgId) → AllCalm (drop_parts ids)
 drops_calm [] = tt
 drops_calm (i ∷ is) = ((refl, refl), drops_calm is)
 
@@ -75,7 +75,7 @@ made_row : (pt : Point) (m : ℕ) (i : MsgId) (told : Option Told) (r : Room) (i
 made_row pt m i told r image true ps e = quiet_row i told (Line.Label (Label.Created i (pid_of m (first_number + pt.kernel.made m)))) (Routes (answer_id i) ∷ []) ps refl refl refl (tt, tt) e
 made_row pt m i told r image false ps e = quiet_row i told (Line.Label (Label.NoSpace i r.slots r.blocks)) (Routes (answer_id i) ∷ []) ps refl refl refl (tt, tt) e
 
-creates_row : (pt : Point) (m : ℕ) (i : MsgId) (told : Option Told) (r : Room) (o : Option BootImage) → HandlesBy i told (creates pt m i r o)
+creates_row : (pt : Point) (m : ℕ) (i : MsgId) (told : Option Told) (r : Room) (o : Option BootImage) → HandlesBy i told (creation_parts pt m i r o)
 creates_row pt m i told r None ps e = cc
 creates_row pt m i told r (Some image) ps e = made_row pt m i told r image (has_room r image.blocks) ps e
 
@@ -83,15 +83,15 @@ kernel_row : (b : Boot) (pt : Point) (m : ℕ) (i : MsgId) (told : Option Told) 
 kernel_row b pt m i told (PlainWhat.Create image links) ps e = creates_row pt m i told (free_room b pt m) (slice_get b.images image) ps e
 kernel_row b pt m i told w ps e = cc
 
-board_row : (i : MsgId) (told : Option Told) (o : Option board.Took) → HandlesBy i told (board_took i o)
+board_row : (i : MsgId) (told : Option Told) (o : Option board.BoardTook) → HandlesBy i told (board_took i o)
 board_row i told None ps e = cc
 board_row i told (Some t) ps e = quiet_row i told (Line.Label (Label.Took i)) (routes t.answer) ps refl refl refl (routes_calm t.answer) e
 
-manager_row : (i : MsgId) (told : Option Told) (o : Option manage.Took) → HandlesBy i told (manager_took i o)
+manager_row : (i : MsgId) (told : Option Told) (o : Option manage.ManagerTook) → HandlesBy i told (manager_parts i o)
 manager_row i told None ps e = cc
 manager_row i told (Some t) ps e = quiet_row i told (Line.Label (Label.Took i)) (routes t.message) ps refl refl refl (routes_calm t.message) e
 
-lands_row : (i : MsgId) (told : Option Told) (o : Option pieces.Landed) → HandlesBy i told (lands i o)
+lands_row : (i : MsgId) (told : Option Told) (o : Option pieces.Landed) → HandlesBy i told (landing_parts i o)
 lands_row i told None ps e = cc
 lands_row i told (Some (pieces.Next request x)) ps e = quiet_row i told (Line.Label (Label.Served i)) (Routes request.id ∷ []) ps refl refl refl (tt, tt) e
 lands_row i told (Some (pieces.Done reply x)) ps e = quiet_row i told (Line.Label (Label.Served i)) [] ps refl refl refl tt e
@@ -100,7 +100,7 @@ here_row : (pt : Point) (m : ℕ) (i : MsgId) (told : Option Told) (msg : PlainM
 here_row pt m i told msg x (PlainWhat.User code channel body links) ps e = quiet_row i told (Line.Queued i) [] ps refl refl refl tt e
 here_row pt m i told msg x PlainWhat.Stop ps e = quiet_row i told (Line.Label (Label.Served i)) [] ps refl refl refl tt e
 here_row pt m i told msg x PlainWhat.Resume ps e = quiet_row i told (Line.Label (Label.Served i)) [] ps refl refl refl tt e
-here_row pt m i told msg x PlainWhat.Kill ps e = quiet_row i told (Line.Label (Label.Served i)) (drops (pt.view.queue m msg.to)) ps refl refl refl (drops_calm (pt.view.queue m msg.to)) e
+here_row pt m i told msg x PlainWhat.Kill ps e = quiet_row i told (Line.Label (Label.Served i)) (drop_parts (pt.view.queue m msg.to)) ps refl refl refl (drops_calm (pt.view.queue m msg.to)) e
 here_row pt m i told msg x (PlainWhat.Read base len) ps e = quiet_row i told (Line.Label (Label.Served i)) (Routes (answer_id i) ∷ []) ps refl refl refl (tt, tt) e
 here_row pt m i told msg x (PlainWhat.Write base bytes) ps e = quiet_row i told (Line.Label (Label.Served i)) (Routes (answer_id i) ∷ []) ps refl refl refl (tt, tt) e
 here_row pt m i told msg x (PlainWhat.Block bytes) ps e = lands_row i told (pieces.lands msg.to x msg x.status) ps e
@@ -140,9 +140,9 @@ chosen i told false o q h k ps e = k ps e
 bag_row : (b : Boot) (pt : Point) (m : ℕ) (i : MsgId) (told : Option Told) (msg : PlainMessage) → HandlesBy i told (handles b pt m i msg)
 bag_row b pt m i told msg =
     chosen i told (msg.to.num == 0) (kernel_handles b pt m i msg.what) _ (kernel_row b pt m i told msg.what)
-    (chosen i told (pid_eq msg.to switchboard) (board_took i (board.takes pt.kernel.switchboard msg msg.what)) _ (board_row i told (board.takes pt.kernel.switchboard msg msg.what))
-    (chosen i told (pid_eq msg.to manager) (manager_took i (manage.takes pt.kernel.manager pt.kernel.machines (length pt.kernel.images) msg msg.what)) _
-    (manager_row i told (manage.takes pt.kernel.manager pt.kernel.machines (length pt.kernel.images) msg msg.what)) (process_row pt m i told msg (pt.view.known m msg.to))))
+    (chosen i told (pid_eq msg.to switchboard) (board_took i (board.board_takes pt.kernel.switchboard msg msg.what)) _ (board_row i told (board.board_takes pt.kernel.switchboard msg msg.what))
+    (chosen i told (pid_eq msg.to manager) (manager_parts i (manage.manager_takes pt.kernel.manager pt.kernel.machines (length pt.kernel.images) msg msg.what)) _
+    (manager_row i told (manage.manager_takes pt.kernel.manager pt.kernel.machines (length pt.kernel.images) msg msg.what)) (process_row pt m i told msg (pt.view.known m msg.to))))
 
 -- the kernels' own messages
 accepts_row : (i : MsgId) (told : Option Told) (from : ℕ) (p : Pid) (c : Bool) (slots blocks : ℕ) → HandlesBy i told (Some (accepts from p c slots blocks))

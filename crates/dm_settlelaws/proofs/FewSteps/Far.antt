@@ -1,6 +1,6 @@
 -- No message goes to a machine that there isn't.
 use Rattle.dm_settlelaws.proofs.Names.{◌≡◌, ◌≢◌, ℕ, zero, suc, ◌-◌, ◌≤◌, ◌==◌, Bool, true, false, List, [], ◌∷◌, ◌++◌, length, refl, ap, ◌∙◌, subst, inl, inr, arith, if◌then◌else◌, Some, eqb_tells, MsgId, Boot, IsValid, Step, Line, Leads}
-use Rattle.dm_settlelaws.proofs.Names.{migrates, Part, Says, Routes, Again, Owns, Transmits, Spelled, Point, first_point, moved, group_of, numbers_from, outstanding, repeats, resends, Pair, View, GroupIs, group_is, pairs_stand_always}
+use Rattle.dm_settlelaws.proofs.Names.{migrates, Part, Says, Routes, Again, Owns, Transmits, Spelled, Point, first_point, moved, group_of, numbers_from, outstanding_count, repeats, resends, Pair, View, GroupIs, group_is, pairs_stand_always}
 use Rattle.dm_settlelaws.proofs.Names.{AllFit, migrates_fit, turns_fit, run_always, routed_always, leads_append}
 use Rattle.dm_settlelaws.proofs.Falls.Delivers.{deliver_ids}
 use Rattle.dm_settlelaws.proofs.Grows.{AllLight, Grows, parts_grow}
@@ -69,7 +69,7 @@ far_group b es fs v (Step.Turn m) w valid before leads e h =
     grown_far b es fs v w.point valid before leads (light_grows b v (Step.Turn m) w g refl (fit_light v.view.pair g.parts (turns_fit v.view.pair b v m (v.view.inbox m) g.parts g.is))) h
 far_group b es fs v (Step.Tick m) w valid before leads e h =
     let g = group_is b v (Step.Tick m) w e in
-    let parts = Says (Line.Resent m (outstanding v.view m v.kernel.machines)) ∷ resends v.view m v.kernel.machines in
+    let parts = Says (Line.Resent m (outstanding_count v.view m v.kernel.machines)) ∷ resends v.view m v.kernel.machines in
     let are : parts ≡ g.parts = let t = g.is in cc in
     grown_far b es fs v w.point valid before leads (light_grows b v (Step.Tick m) w g refl (subst AllLight are (refl, resends_light v.view m v.kernel.machines))) h
 far_group b es fs v (Step.Deliver x y k) w valid before leads e h = λ a c most. deliver_ids b v x y k w e a c ∙ h a c most

@@ -4,7 +4,7 @@ use Rattle.dm_settlelaws.proofs.Names.{MsgId, id_of, first_number, manager, swit
 use Rattle.dm_settlelaws.proofs.Names.{Child, Name, Slot, Stood, alive_lines, awaits, child_lines, doing_of, each_process, end_lines, first_with, holding_lines, homes_with, inbox_lines, leading, link_lines, name_lines, pending_lines}
 use Rattle.dm_settlelaws.proofs.Names.{process_lines, queue_at, queue_lines, server_lines, slot_line, state_lines, stood, stood_at, stream_lines, Point, untaken, Known, View, AtRest, is_moving, at_rest_always, EndsAtRest, is_at_rest}
 use Rattle.dm_settlelaws.proofs.Names.{stands_here}
-use Rattle.dm_rule.specs.Ends.{has}
+use Rattle.dm_rule.specs.Ends.{standing_of}
 
 abbrev Rests : EndLine → Type 0
 Rests l = is_at_rest l ≡ true
@@ -63,7 +63,7 @@ state_rests a p x =
 abbrev StandsHere : Option Stood → Type 0
 StandsHere o = (s : Stood) → o ≡ Some s → stands_here s.standing ≡ true
 
-had_here : (k : Known) (m : ℕ) → is_moving k ≡ false → StandsHere (stood_at m (has k))
+had_here : (k : Known) (m : ℕ) → is_moving k ≡ false → StandsHere (stood_at m (standing_of k))
 had_here Known.Here m e s is =
     let k : Stood = record { at = m; standing = Standing.Here } in
     let f : k ≡ s = cc in
@@ -85,8 +85,8 @@ first_here f v p (suc n) h s e = or_here (first_with f v p n) (stood_at n (f (v.
 
 stood_here : (pt : Point) (p : Pid) → AtRest pt → StandsHere (stood pt.view p pt.kernel.machines)
 stood_here pt p rest =
-    or_here (first_with has pt.view p pt.kernel.machines) (first_with awaits pt.view p pt.kernel.machines)
-    (first_here has pt.view p pt.kernel.machines (λ m. had_here (pt.view.known m p) m (rest.still m p)))
+    or_here (first_with standing_of pt.view p pt.kernel.machines) (first_with awaits pt.view p pt.kernel.machines)
+    (first_here standing_of pt.view p pt.kernel.machines (λ m. had_here (pt.view.known m p) m (rest.still m p)))
     (first_here awaits pt.view p pt.kernel.machines (λ m. awaited_here (pt.view.known m p) m (rest.still m p)))
 
 alive_rests : (a : Addresses) (p : Pid) (x : PlainProcess) (o : Option Stood) → StandsHere o → AllRest (alive_lines a p x o)
@@ -150,7 +150,7 @@ ends_rest pt rest =
     (both start servers
     (more EndLine.Final processes refl (homes_rest pt (λ p. process_lines pt p (pt.kernel.processes p)) n (λ p. process_rests pt p (pt.kernel.processes p) rest)))
     (server_rest pt))
-    (homes_rest pt (λ p. queue_at pt.view p (first_with has pt.view p n)) n (λ p. queue_rests pt.view p (first_with has pt.view p n))))
+    (homes_rest pt (λ p. queue_at pt.view p (first_with standing_of pt.view p n)) n (λ p. queue_rests pt.view p (first_with standing_of pt.view p n))))
     (machines_rest (λ m. each_process pt (λ p. list_line (EndLine.Holding m p) (pt.view.held m p))) n
     (λ m. homes_rest pt (λ p. list_line (EndLine.Holding m p) (pt.view.held m p)) n (λ p. empty_rests (EndLine.Holding m p) (pt.view.held m p) (rest.held m p)))))
     (machines_rest (λ m. list_line (EndLine.Inbox m) (pt.view.inbox m)) n (λ m. empty_rests (EndLine.Inbox m) (pt.view.inbox m) (rest.inbox m))))

@@ -1,7 +1,7 @@
 -- Where all directives are done, the last of them a settle, nothing is on its way.
 use Rattle.dm_settlelaws.proofs.Names.{◌≡◌, ◌⊎◌, ℕ, zero, suc, ◌<◌, ◌≤◌, Bool, true, false, List, [], ◌∷◌, ◌++◌, refl, ap, ◌∙◌, sym, subst, inl, inr, arith, if◌then◌else◌, nat_le, Option, None, Some, false≢true, nat_tests, Boot, IsValid}
-use Rattle.dm_settlelaws.proofs.Names.{Directive, Step, Line, Pass, Next, Todo, Two, all_of, begin_pass, below, in_pass, is_over, next, next_delivery, next_directive, next_pass, next_turn, or, pairs_of, pass_begun, settles, takes_turn}
-use Rattle.dm_settlelaws.proofs.Names.{IsRun, next_step, undelivered, Leads, Point, first_point, has_mail, is_quiet, View, passes_quiet, based_always, EndsQuiet, ends_settled, is_settle}
+use Rattle.dm_settlelaws.proofs.Names.{Directive, Step, Line, Pass, Next, Todo, Two, all_of, begin_pass, below, in_pass, is_over, next_and_left, next_delivery, next_directive, next_pass, next_turn, or, pairs_of, pass_begun, settles}
+use Rattle.dm_settlelaws.proofs.Names.{takes_turn, IsRun, next_step, undelivered, Leads, Point, first_point, has_mail, is_quiet, View, passes_quiet, based_always, EndsQuiet, ends_settled, is_settle_directive}
 use Rattle.dm_settlelaws.proofs.PassHas.{settle_begins}
 
 -- what is left ends with a settle, or is one
@@ -9,7 +9,7 @@ abbrev Ends : Todo → Type 0
 Ends t = (ends_settled t.directives ≡ true) ⊎ ((t.directives ≡ []) × (t.pass ≡ Pass.Settle))
 
 -- behind the first directive
-behind_other : (d : Directive) (ds : List Directive) → is_settle d ≡ false → ends_settled (d ∷ ds) ≡ true → ends_settled ds ≡ true
+behind_other : (d : Directive) (ds : List Directive) → is_settle_directive d ≡ false → ends_settled (d ∷ ds) ≡ true → ends_settled ds ≡ true
 behind_other d [] other e = absurd (false≢true (sym other ∙ e))
 behind_other d (c ∷ ds) other e = e
 
@@ -25,7 +25,7 @@ pub record Stays (p : Pass) (ds : List Directive) (n : Next) : Type 0 where
 abbrev pub StaysBy : Pass → List Directive → Option Next → Type 0
 StaysBy p ds o = (n : Next) → o ≡ Some n → Stays p ds n
 
-turn_or : (t : Todo) (m : ℕ) (ms : List ℕ) (b : Bool) (o : Option Next) → StaysBy t.pass t.directives o → StaysBy t.pass t.directives (if b then next (Step.Turn m) (record t { pairs = []; machines = ms }) else o)
+turn_or : (t : Todo) (m : ℕ) (ms : List ℕ) (b : Bool) (o : Option Next) → StaysBy t.pass t.directives o → StaysBy t.pass t.directives (if b then next_and_left (Step.Turn m) (record t { pairs = []; machines = ms }) else o)
 turn_or t m ms true o h n e =
     let k : Next = record { step = Step.Turn m; left = record t { pairs = []; machines = ms } } in
     let f : k ≡ n = cc in

@@ -1,6 +1,6 @@
 -- Wherever the rule leads, on each pair of machines each has done its part.
 use Rattle.dm_settlelaws.proofs.Names.{◌≡◌, ℕ, ◌==◌, false, List, [], ◌∷◌, refl, ap, ◌∙◌, subst, inl, arith, slice_get, Some, nat_tests, Boot, Step, Line, IsStep, Leads, migrates, Says, Spelled, spelled, Point, first_point, moved, arrives}
-use Rattle.dm_settlelaws.proofs.Names.{group_of, outstanding, resends, first_view, arrives_net, group_is, Pairs, Pairs-group, Pairs-start, AllFit, migrates_fit, resends_fit, turns_fit, PairsRestAlways, acked_out_by}
+use Rattle.dm_settlelaws.proofs.Names.{group_of, outstanding_count, resends, first_view, arrives_net, group_is, Pairs, Pairs-group, Pairs-start, AllFit, migrates_fit, resends_fit, turns_fit, PairsRestAlways, acked_out_by}
 use Rattle.dm_settlelaws.proofs.Rests.RestsComes.{arrives_rest, net_pairs}
 use Rattle.dm_settlelaws.proofs.Rests.RestsParts.{Rest, parts_rest}
 
@@ -25,7 +25,7 @@ rest_group b pt (Step.Turn m) w fit is pairs h =
 rest_group b pt (Step.Tick m) w fit is pairs h =
     let g = group_is b pt (Step.Tick m) w is in
     let begun = moved pt (Line.Head (Step.Tick m)) pt.kernel in
-    let says = Says (Line.Resent m (outstanding pt.view m pt.kernel.machines)) ∷ resends pt.view m pt.kernel.machines in
+    let says = Says (Line.Resent m (outstanding_count pt.view m pt.kernel.machines)) ∷ resends pt.view m pt.kernel.machines in
     let parts : says ≡ g.parts = let f = g.is in cc in
     let fits : AllFit pt.view.pair says = (refl, resends_fit pt.view m pt.kernel.machines (λ n. acked_out_by pt.view m n (m == n) refl pairs)) in
     subst (λ (q : Point). Rest q.view.pair) g.point (parts_rest says begun g.rest fits pairs h (ap (spelled begun) parts ∙ g.said))

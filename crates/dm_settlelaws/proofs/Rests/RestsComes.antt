@@ -1,8 +1,8 @@
 -- A delivery keeps what has been done on each pair of machines.
 use Rattle.dm_settlelaws.proofs.Names.{◌≡◌, ◌≢◌, ◌⊎◌, ℕ, zero, suc, ◌+◌, ◌<◌, ◌≤◌, ◌==◌, ◌&&◌, ◌||◌, not, Bool, true, false, List, [], ◌∷◌, ◌++◌, length, nat_lt, refl, ap, ◌∙◌, sym, subst, inl, inr, arith, if◌then◌else◌, slice_get, Option}
-use Rattle.dm_settlelaws.proofs.Names.{None, Some, false≢true, eqb_tells, nat_tests, Line, Load, at_pair, Part, Says, Routes, Again, Owns, Transmits, Spelled, spelled, window, Point, arrives, comes, has, kept_from, let_go, more, repeats}
-use Rattle.dm_settlelaws.proofs.Names.{takes, takes_on, Pair, Sent, View, at_least, marked, view_after, Apart, KeptStands, set_other, set_same, off, off_has, or_cases, onward, says_view, taken_pair, transmits_view, IsNet, IsNetLine}
-use Rattle.dm_settlelaws.proofs.Names.{PairRests, not_true, or_first, or_second}
+use Rattle.dm_settlelaws.proofs.Names.{None, Some, false≢true, eqb_tells, nat_tests, Line, Load, at_pair, Part, Says, Routes, Again, Owns, Transmits, Spelled, spelled, pair_window, Point, arrives, comes, has, kept_from, let_go, more}
+use Rattle.dm_settlelaws.proofs.Names.{repeats, taking_parts, takes_on, Pair, SentLoad, View, at_least, marked, view_after, Apart, KeptStands, set_other, set_same, off, off_has, or_cases, onward, says_view, taken_pair, transmits_view}
+use Rattle.dm_settlelaws.proofs.Names.{IsNet, IsNetLine, PairRests, not_true, or_first, or_second}
 use Rattle.dm_rule.specs.View as view
 use Rattle.dm_settlelaws.proofs.Rests.RestsPairs.{Comes, ack_back, ack_rests, acknowledged, data_back, data_rests, heard_of, repeated, sent_all}
 use Rattle.dm_settlelaws.proofs.Rests.RestsParts.{Rest, Two, rest_two}
@@ -63,7 +63,7 @@ abbrev took_all : List ℕ → Pair → Pair
 took_all [] p = p
 took_all (n ∷ ns) p = took_all ns (took n p)
 
-takes_only : (a b : ℕ) (ns : List ℕ) (f : ℕ → ℕ → Pair) → Only f (pairs_parts f (takes a b ns)) a b (took_all ns (f a b))
+takes_only : (a b : ℕ) (ns : List ℕ) (f : ℕ → ℕ → Pair) → Only f (pairs_parts f (taking_parts a b ns)) a b (took_all ns (f a b))
 takes_only a b [] f = record { there = refl; others = λ c d e. refl }
 takes_only a b (n ∷ ns) f =
     let g = at_pair f a b (took n (f a b)) in
@@ -146,7 +146,7 @@ took_next (suc fuel) m ks p among few =
     (took_next fuel (m + 1) ks (took m p) (λ j h. among j (off_has m j p.kept h).0) (λ j h. let x = few j h in omega (arith, x)))
 
 -- a data packet
-data_two : (f h : ℕ → ℕ → Pair) (a b k n : ℕ) (s : Sent) (p' : Pair) → (a == b) ≡ false → slice_get (f a b).wire k ≡ Some s → s.load ≡ Load.Data n → Comes (f a b) p' k n → Two f h a b p' (repeated (Load.Ack p'.taken) (f b a)) → Rest f → Rest h
+data_two : (f h : ℕ → ℕ → Pair) (a b k n : ℕ) (s : SentLoad) (p' : Pair) → (a == b) ≡ false → slice_get (f a b).wire k ≡ Some s → s.load ≡ Load.Data n → Comes (f a b) p' k n → Two f h a b p' (repeated (Load.Ack p'.taken) (f b a)) → Rest f → Rest h
 data_two f h a b k n s p' ab is carries c two r =
     rest_two f h a b p' (repeated (Load.Ack p'.taken) (f b a)) two (data_rests (f a b) p' (f b a) k n s is carries c (r a b ab)) (data_back (f a b) p' (f b a) k n s is carries c (r b a (flip a b ab))) r
 
@@ -193,16 +193,16 @@ early_comes p q k n ahead h = record {
 }
 
 -- the next number comes, and those behind it that came early
-took_comes : (p q : Pair) (k n : ℕ) → p.taken ≡ n → KeptStands p → p.gone ≤ p.acked + 8 → p.acked ≤ p.taken → Comes p (took_all (n ∷ kept_from p.kept (n + 1) window) (marked p k)) k n
+took_comes : (p q : Pair) (k n : ℕ) → p.taken ≡ n → KeptStands p → p.gone ≤ p.acked + 8 → p.acked ≤ p.taken → Comes p (took_all (n ∷ kept_from p.kept (n + 1) pair_window) (marked p k)) k n
 took_comes p q k n at stands full under =
-    let others = kept_from p.kept (n + 1) window in
+    let others = kept_from p.kept (n + 1) pair_window in
     let first = took n (marked p k) in
     let p' = took_all others first in
     let x = took_stays others first in
     let count = x.4 in
     let one : first.taken ≡ n + 1 = ap (λ (j : ℕ). j + 1) at in
     let all : p'.taken ≡ (n + 1) + length others = omega (arith, count, one) in
-    let later = took_keeps window (n + 1) p.kept first in
+    let later = took_keeps pair_window (n + 1) p.kept first in
     record {
       ids = x.0;
       gone = x.1;
@@ -210,7 +210,7 @@ took_comes p q k n at stands full under =
       wire = x.3;
       taken = omega (arith, count);
       next = ap (λ (j : ℕ). has j p'.kept) all
-          ∙ took_next window (n + 1) p.kept first (λ j h. (off_has n j p.kept h).0) (λ j h. let y = (stands j h).1 in omega (arith, y, full, under, at));
+          ∙ took_next pair_window (n + 1) p.kept first (λ j h. (off_has n j p.kept h).0) (λ j h. let y = (stands j h).1 in omega (arith, y, full, under, at));
       new = inl (omega (arith, all));
       keeps = λ j kept. elim (eqb_tells j n) [
         | inl same ↦ inl (let e = same.1 in omega (arith, all, e))
@@ -221,11 +221,11 @@ took_comes p q k n at stands full under =
 more_is : (m n : ℕ) → at_least m n ≡ more n m
 more_is m n = grind (arith, nat_tests)
 
-data_by : (f h : ℕ → ℕ → Pair) (a b k n : ℕ) (s : Sent) (old ahead : Bool) → nat_lt n (f a b).taken ≡ old → nat_lt (f a b).taken n ≡ ahead → (a == b) ≡ false → slice_get (f a b).wire k ≡ Some s → s.load ≡ Load.Data n
+data_by : (f h : ℕ → ℕ → Pair) (a b k n : ℕ) (s : SentLoad) (old ahead : Bool) → nat_lt n (f a b).taken ≡ old → nat_lt (f a b).taken n ≡ ahead → (a == b) ≡ false → slice_get (f a b).wire k ≡ Some s → s.load ≡ Load.Data n
     → Apart (f a b) (f b a) → KeptStands (f a b) → Rest f
     → h ≡ pairs_parts (at_pair f a b (marked (f a b) k)) (if old then Says (Line.Old a b n) ∷ Transmits b a (Load.Ack (f a b).taken) ∷ []
     else if ahead then Says (Line.Early a b n) ∷ Transmits b a (Load.Ack (f a b).taken) ∷ []
-    else takes_on a b n (kept_from (f a b).kept (n + 1) window)) → Rest h
+    else takes_on a b n (kept_from (f a b).kept (n + 1) pair_window)) → Rest h
 data_by f h a b k n s true ahead is_old is_ahead ab there carries apart kept r e =
     let p = f a b in
     subst Rest (sym e)
@@ -238,19 +238,19 @@ data_by f h a b k n s false true is_old is_ahead ab there carries apart kept r e
 data_by f h a b k n s false false is_old is_ahead ab there carries apart kept r e =
     let p = f a b in
     let g = at_pair f a b (marked p k) in
-    let others = kept_from p.kept (n + 1) window in
+    let others = kept_from p.kept (n + 1) pair_window in
     let at : p.taken ≡ n = grind (arith, nat_tests) in
     let t = n + 1 + length others in
     let p' = took_all (n ∷ others) (marked p k) in
     let taken : t ≡ p'.taken = let x = (took_stays (n ∷ others) (marked p k)).4 in omega (arith, x, at) in
     let only = takes_only a b (n ∷ others) g in
-    let mid = pairs_parts g (takes a b (n ∷ others)) in
+    let mid = pairs_parts g (taking_parts a b (n ∷ others)) in
     let to : Only g mid a b p' = record { there = only.there ∙ ap (took_all (n ∷ others)) (set_same f a b (marked p k)); others = only.others } in
-    subst Rest (sym (e ∙ parts_both g (takes a b (n ∷ others)) (Transmits b a (Load.Ack t) ∷ [])))
+    subst Rest (sym (e ∙ parts_both g (taking_parts a b (n ∷ others)) (Transmits b a (Load.Ack t) ∷ [])))
     (data_two f _ a b k n s p' ab there carries (took_comes p (f b a) k n at kept apart.full apart.acked) (acked_two f mid a b k t p' ab taken to) r)
 
 -- an acknowledgement
-ack_comes : (f h : ℕ → ℕ → Pair) (a b k n : ℕ) (s : Sent) → (a == b) ≡ false → slice_get (f a b).wire k ≡ Some s → s.load ≡ Load.Ack n → Apart (f b a) (f a b) → Rest f
+ack_comes : (f h : ℕ → ℕ → Pair) (a b k n : ℕ) (s : SentLoad) → (a == b) ≡ false → slice_get (f a b).wire k ≡ Some s → s.load ≡ Load.Ack n → Apart (f b a) (f a b) → Rest f
     → h ≡ pairs_parts (at_pair f a b (marked (f a b) k)) (Says (Line.Acked a b n) ∷ repeats b a (let_go (f b a) (more n (f b a).acked))) → Rest h
 ack_comes f h a b k n s ab there carries apart r e =
     let p = f a b in
@@ -270,18 +270,18 @@ ack_comes f h a b k n s ab there carries apart r e =
     (rest_two f (pairs_parts mid (repeats b a ns)) a b (marked p k) (heard_of q n top) (both_change f g (pairs_parts mid (repeats b a ns)) a b k (marked p k) (heard_of q n top) ab (marked_only f a b k) last)
     (ack_back p q k n top s there carries (r a b ab)) (ack_rests p q k n top s there carries (more_is q.acked n) apart.gone apart.full (r b a ba)) r)
 
-comes_rest : (f h : ℕ → ℕ → Pair) (a b k : ℕ) (s : Sent) (l : Load) → (a == b) ≡ false → slice_get (f a b).wire k ≡ Some s → s.load ≡ l → Apart (f a b) (f b a) → Apart (f b a) (f a b) → KeptStands (f a b) → Rest f
+comes_rest : (f h : ℕ → ℕ → Pair) (a b k : ℕ) (s : SentLoad) (l : Load) → (a == b) ≡ false → slice_get (f a b).wire k ≡ Some s → s.load ≡ l → Apart (f a b) (f b a) → Apart (f b a) (f a b) → KeptStands (f a b) → Rest f
     → h ≡ pairs_parts (at_pair f a b (marked (f a b) k)) (comes a b (f a b) (f b a) l) → Rest h
 comes_rest f h a b k s (Load.Data n) ab there carries apart back kept r e =
     data_by f h a b k n s (nat_lt n (f a b).taken) (nat_lt (f a b).taken n) refl refl ab there carries apart kept r e
 comes_rest f h a b k s (Load.Ack n) ab there carries apart back kept r e = ack_comes f h a b k n s ab there carries back r e
 
 -- whatever is delivered
-pub arrives_rest : (f h : ℕ → ℕ → Pair) (a b k : ℕ) (o : Option Sent) → (a == b) ≡ false → slice_get (f a b).wire k ≡ o → Apart (f a b) (f b a) → Apart (f b a) (f a b) → KeptStands (f a b) → Rest f
+pub arrives_rest : (f h : ℕ → ℕ → Pair) (a b k : ℕ) (o : Option SentLoad) → (a == b) ≡ false → slice_get (f a b).wire k ≡ o → Apart (f a b) (f b a) → Apart (f b a) (f a b) → KeptStands (f a b) → Rest f
     → h ≡ pairs_parts (at_pair f a b (marked (f a b) k)) (arrives a b (f a b) (f b a) o) → Rest h
 arrives_rest f h a b k None ab there apart back kept r e =
     let p = f a b in
-    let same : marked p k ≡ p = ap (λ (o : Option Sent). record p { wire = view.marked_at p.wire k o }) there in
+    let same : marked p k ≡ p = ap (λ (o : Option SentLoad). record p { wire = view.marked_at p.wire k o }) there in
     let two : Two f (at_pair f a b (marked p k)) a b p (f b a) = record {
       there = set_same f a b (marked p k) ∙ same;
       back = set_other f a b (marked p k) b a (not_back a b ab);

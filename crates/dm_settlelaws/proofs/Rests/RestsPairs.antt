@@ -1,6 +1,6 @@
 -- What each change of a pair keeps of what has been done on it.
 use Rattle.dm_settlelaws.proofs.Names.{◌≡◌, ◌⊎◌, ℕ, zero, suc, ◌+◌, ◌-◌, ◌<◌, ◌≤◌, Bool, true, false, List, [], ◌∷◌, ◌++◌, length, length-append, refl, ap, ◌∙◌, sym, subst, inl, inr, arith, if◌then◌else◌, slice_get, Option, Some, leb_tells}
-use Rattle.dm_settlelaws.proofs.Names.{nat_tests, MsgId, Load, goes_out, window, has, less, numbers_from, Pair, Sent, at_least, gone_after, marked, marked_at, HasCome, HasPacket, PairRests, at_least-more}
+use Rattle.dm_settlelaws.proofs.Names.{nat_tests, MsgId, Load, goes_out, pair_window, has, less, numbers_from, Pair, SentLoad, at_least, gone_after, marked, marked_at, HasCome, HasPacket, PairRests, at_least-more}
 use Rattle.dm_settlelaws.proofs.Wires.{come_marked, come_put, has_last, has_marked, has_put, new_packet}
 
 -- the pair that leads back has more packets, and no more acknowledgements of its own were delivered
@@ -38,10 +38,10 @@ routed p id = record p { ids = p.ids ++ id ∷ [] }
 one_longer : (ids : List MsgId) (id : MsgId) → length (ids ++ id ∷ []) ≡ length ids + 1
 one_longer ids id = length-append ids (id ∷ [])
 
-window_full : (p : Pair) → goes_out p ≡ false → p.gone ≤ p.acked + window → p.gone ≡ length p.ids → p.gone ≡ p.acked + window
+window_full : (p : Pair) → goes_out p ≡ false → p.gone ≤ p.acked + pair_window → p.gone ≡ length p.ids → p.gone ≡ p.acked + pair_window
 window_full p e full all = grind (arith, nat_tests)
 
-pub route_rests : (p q : Pair) (id : MsgId) → goes_out p ≡ false → p.gone ≤ p.acked + window → PairRests p q → PairRests (routed p id) q
+pub route_rests : (p q : Pair) (id : MsgId) → goes_out p ≡ false → p.gone ≤ p.acked + pair_window → PairRests p q → PairRests (routed p id) q
 route_rests p q id e full h = record {
   gone = elim h.gone [ inl all ↦ inr (window_full p e full all) | inr most ↦ inr most ];
   next = h.next;
@@ -97,25 +97,25 @@ pub record Comes (p p' : Pair) (k n : ℕ) : Type 0 where
 data_number : (m n : ℕ) → Load.Data m ≡ Load.Data n → m ≡ n
 data_number m n e = cc
 
-come_of : (p p' : Pair) (k : ℕ) (s : Sent) (l : Load) → slice_get p.wire k ≡ Some s → p'.wire ≡ (marked p k).wire → HasCome p'.wire l → HasCome p.wire l ⊎ (s.load ≡ l)
+come_of : (p p' : Pair) (k : ℕ) (s : SentLoad) (l : Load) → slice_get p.wire k ≡ Some s → p'.wire ≡ (marked p k).wire → HasCome p'.wire l → HasCome p.wire l ⊎ (s.load ≡ l)
 come_of p p' k s l is e c =
-    let same : p'.wire ≡ marked_as p k s = e ∙ ap (λ (o : Option Sent). at_mark p k o) is in
-    come_marked p.wire k s l (subst (λ (ss : List Sent). HasCome ss l) same c)
+    let same : p'.wire ≡ marked_as p k s = e ∙ ap (λ (o : Option SentLoad). at_mark p k o) is in
+    come_marked p.wire k s l (subst (λ (ss : List SentLoad). HasCome ss l) same c)
   where
-    at_mark : Pair → ℕ → Option Sent → List Sent
+    at_mark : Pair → ℕ → Option SentLoad → List SentLoad
     at_mark p k o = marked_at p.wire k o
 
-    marked_as : Pair → ℕ → Sent → List Sent
+    marked_as : Pair → ℕ → SentLoad → List SentLoad
     marked_as p k s = marked_at p.wire k (Some s)
 
-pub data_rests : (p p' q : Pair) (k n : ℕ) (s : Sent) → slice_get p.wire k ≡ Some s → s.load ≡ Load.Data n → Comes p p' k n → PairRests p q → PairRests p' (repeated (Load.Ack p'.taken) q)
+pub data_rests : (p p' q : Pair) (k n : ℕ) (s : SentLoad) → slice_get p.wire k ≡ Some s → s.load ≡ Load.Data n → Comes p p' k n → PairRests p q → PairRests p' (repeated (Load.Ack p'.taken) q)
 data_rests p p' q k n s is carries c h = record {
   gone = elim h.gone [
     | inl e ↦ inl (c.gone ∙ e ∙ ap length (sym c.ids))
-    | inr e ↦ inr (c.gone ∙ e ∙ ap (λ (m : ℕ). m + window) (sym c.acked))
+    | inr e ↦ inr (c.gone ∙ e ∙ ap (λ (m : ℕ). m + pair_window) (sym c.acked))
   ];
   next = c.next;
-  sent = λ m less_. subst (λ (ss : List Sent). HasPacket ss (Load.Data m)) (sym c.wire) (has_marked p.wire k (slice_get p.wire k) (Load.Data m) refl (h.sent m (let e = c.gone in let g : m < p'.gone = less_ in omega (arith, e, g))));
+  sent = λ m less_. subst (λ (ss : List SentLoad). HasPacket ss (Load.Data m)) (sym c.wire) (has_marked p.wire k (slice_get p.wire k) (Load.Data m) refl (h.sent m (let e = c.gone in let g : m < p'.gone = less_ in omega (arith, e, g))));
   there = λ m come. elim (come_of p p' k s (Load.Data m) is c.wire come) [
     | inl old ↦ elim (h.there m old) [
       | inl t ↦ inl (let more = c.taken in omega (arith, t, more))
@@ -133,10 +133,10 @@ no_ack n m e = cc
 no_data : (n m : ℕ) → Load.Ack n ≡ Load.Data m → ⊥
 no_data n m e = cc
 
-pub data_back : (p p' q : Pair) (k n : ℕ) (s : Sent) → slice_get p.wire k ≡ Some s → s.load ≡ Load.Data n → Comes p p' k n → PairRests q p → PairRests (repeated (Load.Ack p'.taken) q) p'
+pub data_back : (p p' q : Pair) (k n : ℕ) (s : SentLoad) → slice_get p.wire k ≡ Some s → s.load ≡ Load.Data n → Comes p p' k n → PairRests q p → PairRests (repeated (Load.Ack p'.taken) q) p'
 data_back p p' q k n s is carries c h =
     repeat_rests (Load.Ack p'.taken) q p' refl
-    (rests_back q p p' (λ l g. subst (λ (ss : List Sent). HasPacket ss l) (sym c.wire) (has_marked p.wire k (slice_get p.wire k) l refl g))
+    (rests_back q p p' (λ l g. subst (λ (ss : List SentLoad). HasPacket ss l) (sym c.wire) (has_marked p.wire k (slice_get p.wire k) l refl g))
     (λ m come. elim (come_of p p' k s (Load.Ack m) is c.wire come) [ inl old ↦ old | inr e ↦ absurd (no_ack n m (sym carries ∙ e)) ]) h)
 
 -- an acknowledgement is delivered: messages that waited go out
@@ -196,21 +196,21 @@ least_new m n = grind (arith, nat_tests)
 
 -- q is the pair whose messages are acknowledged, and p the one that brings it
 abbrev pub heard_of : Pair → ℕ → ℕ → Pair
-heard_of q n top = sent_all (numbers_from q.gone (less (length q.ids - q.gone) (top + window - q.gone))) (acknowledged n q)
+heard_of q n top = sent_all (numbers_from q.gone (less (length q.ids - q.gone) (top + pair_window - q.gone))) (acknowledged n q)
 
 ack_number : (m n : ℕ) → Load.Ack m ≡ Load.Ack n → m ≡ n
 ack_number m n e = cc
 
-pub ack_rests : (p q : Pair) (k n top : ℕ) (s : Sent) → slice_get p.wire k ≡ Some s → s.load ≡ Load.Ack n → at_least q.acked n ≡ top → q.gone ≤ length q.ids → q.gone ≤ q.acked + window → PairRests q p → PairRests (heard_of q n top) (marked p k)
+pub ack_rests : (p q : Pair) (k n top : ℕ) (s : SentLoad) → slice_get p.wire k ≡ Some s → s.load ≡ Load.Ack n → at_least q.acked n ≡ top → q.gone ≤ length q.ids → q.gone ≤ q.acked + pair_window → PairRests q p → PairRests (heard_of q n top) (marked p k)
 ack_rests p q k n top s is carries most within full h =
-    let m = less (length q.ids - q.gone) (top + window - q.gone) in
+    let m = less (length q.ids - q.gone) (top + pair_window - q.gone) in
     let q' = heard_of q n top in
     let g = all_sent m q.gone (acknowledged n q) refl in
     let up = at_least-more q.acked n in
     let out = g.gone in
     let acked : q'.acked ≡ top = g.acked ∙ most in
     record {
-      gone = elim (less_is (length q.ids - q.gone) (top + window - q.gone)) [
+      gone = elim (less_is (length q.ids - q.gone) (top + pair_window - q.gone)) [
         | inl e ↦ inl (let long : length q'.ids ≡ length q.ids = ap length g.ids in omega (arith, out, e, within, long))
         | inr e ↦ inr (omega (arith, out, e, acked, full, up, most))
       ];
@@ -233,9 +233,9 @@ ack_rests p q k n top s is carries most within full h =
       ];
     }
 
-pub ack_back : (p q : Pair) (k n top : ℕ) (s : Sent) → slice_get p.wire k ≡ Some s → s.load ≡ Load.Ack n → PairRests p q → PairRests (marked p k) (heard_of q n top)
+pub ack_back : (p q : Pair) (k n top : ℕ) (s : SentLoad) → slice_get p.wire k ≡ Some s → s.load ≡ Load.Ack n → PairRests p q → PairRests (marked p k) (heard_of q n top)
 ack_back p q k n top s is carries h =
-    let m = less (length q.ids - q.gone) (top + window - q.gone) in
+    let m = less (length q.ids - q.gone) (top + pair_window - q.gone) in
     let g = all_sent m q.gone (acknowledged n q) refl in
     record {
       gone = h.gone;

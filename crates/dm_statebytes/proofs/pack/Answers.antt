@@ -1,4 +1,4 @@
-use Rattle.dm_statebytes.proofs.Names.{◌≡◌, ℕ, List, ◌++◌, length, sym, ap, subst, ◌∙◌, append_assoc, arith, flat_map, number, front, front_of, shell_of, shell_of_bytes, spelling, mask_of, spell_slot}
+use Rattle.dm_statebytes.proofs.Names.{◌≡◌, ℕ, List, ◌++◌, length, sym, ap, subst, ◌∙◌, append_assoc, arith, flat_map, number, front, shell_front, shell_of, shell_of_bytes, shell_spelling, mask_of, spell_slot}
 use Rattle.dm_statebytes.proofs.Lawful.{shell_is_lawful}
 use Rattle.dm_statebytes.proofs.Shells.{shell_again}
 use Rattle.dm_statebytes.proofs.Sizes.{IsSize, front_size, lawful_size}
@@ -7,15 +7,15 @@ use Rattle.dm_statebytes.proofs.pack.Goals as goal
 pub put_mask-requires : goal.put_mask-requires
 put_mask-requires c =
     let s = shell_of c.args.process.now in
-    let first = front.spell (front_of s) in
+    let first = front.spell (shell_front s) in
     let put : c.put_front.new.out.items ≡ first = c.put_front.ensures.put ∙ ap (λ (old : List ℕ). old ++ first) c.new-front.ensures in
     record { room = omega (arith, ap length put, (front_size s c.requires.lawful.registers).1) }
 
 pub returns-clause-ok : goal.returns-clause-ok
-unfolding spelling
+unfolding shell_spelling
 returns-clause-ok c =
     let p = c.args.process.now in
-    let first = front.spell (front_of (shell_of p)) in
+    let first = front.spell (shell_front (shell_of p)) in
     let mask = (number 16).spell (mask_of p.table) in
     let links = flat_map spell_slot p.table in
     let put : c.put_front.new.out.items ≡ first = c.put_front.ensures.put ∙ ap (λ (old : List ℕ). old ++ first) c.new-front.ensures in

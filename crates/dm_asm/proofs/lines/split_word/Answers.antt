@@ -1,16 +1,16 @@
 -- The words begin behind the separators, and the first ends at the next.
-use Rattle.dm_asm.proofs.Names.{◌+◌, ◌-◌, ◌<◌, ◌∷◌, ◌∙◌, ap, sym, length, take, drop, length-drop, not, arith, length-take-le, words, separates}
-use Rattle.dm_asm.proofs.Cuts.{words-start, words-first, words-whole, start_is_word, take_rest, place_below}
+use Rattle.dm_asm.proofs.Names.{◌+◌, ◌-◌, ◌<◌, ◌∷◌, ◌∙◌, ap, sym, length, take, drop, length-drop, not, arith, length-take-le, source_words, separates}
+use Rattle.dm_asm.proofs.Cuts.{source_words-start, source_words-first, source_words-whole, start_is_word, take_rest, place_below}
 use Rattle.dm_asm.proofs.lines.split_word.Goals as goal
 
 pub returns-in-Some-clause-some : goal.returns-in-Some-clause-some
 returns-in-Some-clause-some c =
     let xs = c.args.line.now in
     let ys = take (length xs - c.args.start) (drop c.args.start xs) in
-    words-start xs c.args.start c.requires
-    ∙ ap words (sym (take_rest c.args.start xs))
-    ∙ words-first ys c.in-Some.end (sym c.in-Some.ensures) (start_is_word xs ys c.args.start c.in-Some.end c.requires (take_rest c.args.start xs) (sym c.in-Some.ensures))
-    ∙ ap (λ r. take c.in-Some.end ys ∷ words r) (sym (take_rest (c.in-Some.end + 1) ys))
+    source_words-start xs c.args.start c.requires
+    ∙ ap source_words (sym (take_rest c.args.start xs))
+    ∙ source_words-first ys c.in-Some.end (sym c.in-Some.ensures) (start_is_word xs ys c.args.start c.in-Some.end c.requires (take_rest c.args.start xs) (sym c.in-Some.ensures))
+    ∙ ap (λ r. take c.in-Some.end ys ∷ source_words r) (sym (take_rest (c.in-Some.end + 1) ys))
 
 pub returns-in-Some-clause-word : goal.returns-in-Some-clause-word
 returns-in-Some-clause-word c =
@@ -25,6 +25,6 @@ returns-in-None-clause-some c =
     let xs = c.args.line.now in
     let ys = take (length xs - c.args.start) (drop c.args.start xs) in
     let below : c.args.start < length xs = place_below (λ d. not (separates d)) xs c.args.start c.requires in
-    words-start xs c.args.start c.requires
-    ∙ ap words (sym (take_rest c.args.start xs))
-    ∙ words-whole ys (sym c.in-None.ensures) (rw (take_rest c.args.start xs) (omega (arith, length-drop c.args.start xs)))
+    source_words-start xs c.args.start c.requires
+    ∙ ap source_words (sym (take_rest c.args.start xs))
+    ∙ source_words-whole ys (sym c.in-None.ensures) (rw (take_rest c.args.start xs) (omega (arith, length-drop c.args.start xs)))

@@ -1,4 +1,4 @@
-use Rattle.dm_check.proofs.Names.{◌≡◌, ◌<◌, ◌≤◌, ◌+◌, ◌∙◌, ℕ, List, length, ap, sym, subst, arith, true, Boot, Line, pieces, state_of, HasChecked, NoGroup, RefusedSo, first_line, head_of_line, can_hold, verdict}
+use Rattle.dm_check.proofs.Names.{◌≡◌, ◌<◌, ◌≤◌, ◌+◌, ◌∙◌, ℕ, List, length, ap, sym, subst, arith, true, Boot, Line, pieces, world_state, HasChecked, NoGroup, RefusedSo, first_line, head_of_line, can_hold, verdict}
 use Rattle.std.specs.declared.option.Option.TheVariants.{Some}
 use Rattle.dm_check.proofs.Checks.{checks_less, checks_more, checks_refused, checks_stop, some_lines}
 use Rattle.dm_check.proofs.Following.{shorter_lines}
@@ -8,7 +8,7 @@ use Rattle.dm_check.proofs.trace.check_on.Goals as goal
 pub returns-in_err-lines-clause-refused : goal.returns-in_err-lines-clause-refused
 returns-in_err-lines-clause-refused c =
     let b = c.args.world.now.boot in
-    let w = state_of c.groups.world in
+    let w = world_state c.groups.world in
     let head : head_of_line (first_line (pieces 10 c.groups.rest.now)) ≡ Some c.in-Some.step = sym c.first_head.ensures ∙ c.in-Some.is in
     if_err c.from_residual.result c.in_err-lines.field-0.0 (RefusedSo (verdict b c.args.trace.now)) c.from_residual.ensures
     (checks_stop b c.args.trace.now c.groups.rest.now c.groups.number c.groups.groups w c.in-Some.step c.in_err-lines.field-0.0 c.groups.invariant.checked head
@@ -21,13 +21,13 @@ returns-in_err-rest-clause-refused c =
     let machines : length c.groups.world.boot.machines ≡ c.args.machines = ap (λ (d : Boot). length d.machines) c.groups.invariant.boot ∙ c.requires.machines in
     let held : can_hold (length c.groups.world.boot.machines) c.in-Some.step ≡ true = ap (λ (k : ℕ). can_hold k c.in-Some.step) machines ∙ c.in_ok-lines.ensures.held in
     if_err c.from_residual-in_err-rest.result c.in_err-rest.field-0.0 (RefusedSo (verdict b c.args.trace.now)) c.from_residual-in_err-rest.ensures
-    (checks_less b c.groups.world.boot c.args.quantum c.args.trace.now c.groups.rest.now c.groups.number c.groups.groups (state_of c.groups.world) (state_of c.group.new.world) c.in-Some.step c.in_ok-lines.lines.items c.as_slice.result.now c.in_err-rest.field-0.0
+    (checks_less b c.groups.world.boot c.args.quantum c.args.trace.now c.groups.rest.now c.groups.number c.groups.groups (world_state c.groups.world) (world_state c.group.new.world) c.in-Some.step c.in_ok-lines.lines.items c.as_slice.result.now c.in_err-rest.field-0.0
     c.groups.invariant.boot c.requires.quantum c.as_slice.ensures.value c.groups.invariant.checked head held c.in_ok-lines.ensures.runs_on c.in_err-rest.ensures.refused)
 
 pub groups-smaller : goal.groups-smaller
 groups-smaller c =
     let some : 0 < length c.in_ok-lines.lines.items =
-    some_lines c.args.world.now.boot c.groups.world.boot c.args.trace.now c.groups.rest.now c.groups.number c.groups.groups (state_of c.groups.world) (state_of c.group.new.world) c.in-Some.step c.in_ok-lines.lines.items c.groups.invariant.boot
+    some_lines c.args.world.now.boot c.groups.world.boot c.args.trace.now c.groups.rest.now c.groups.number c.groups.groups (world_state c.groups.world) (world_state c.group.new.world) c.in-Some.step c.in_ok-lines.lines.items c.groups.invariant.boot
     c.groups.invariant.checked c.in_ok-lines.ensures.runs_on in
     let size : length c.as_slice.result.now ≡ length c.in_ok-lines.lines.items = ap (λ (ls : List Line). length ls) c.as_slice.ensures.value in
     let less : length c.as_slice.result.now + length c.in_ok-rest.rest.now ≤ length c.groups.rest.now = shorter_lines c.as_slice.result.now c.groups.rest.now c.in_ok-rest.rest.now c.in_ok-rest.ensures.read in
@@ -40,16 +40,16 @@ groups-preserved c =
     let machines : length c.groups.world.boot.machines ≡ c.args.machines = ap (λ (d : Boot). length d.machines) c.groups.invariant.boot ∙ c.requires.machines in
     let held : can_hold (length c.groups.world.boot.machines) c.in-Some.step ≡ true = ap (λ (k : ℕ). can_hold k c.in-Some.step) machines ∙ c.in_ok-lines.ensures.held in
     let some : 0 < length c.in_ok-lines.lines.items =
-    some_lines b c.groups.world.boot c.args.trace.now c.groups.rest.now c.groups.number c.groups.groups (state_of c.groups.world) (state_of c.group.new.world) c.in-Some.step c.in_ok-lines.lines.items c.groups.invariant.boot
+    some_lines b c.groups.world.boot c.args.trace.now c.groups.rest.now c.groups.number c.groups.groups (world_state c.groups.world) (world_state c.group.new.world) c.in-Some.step c.in_ok-lines.lines.items c.groups.invariant.boot
     c.groups.invariant.checked c.in_ok-lines.ensures.runs_on in
     let slice : length c.as_slice.result.now ≡ length c.in_ok-lines.lines.items = ap (λ (ls : List Line). length ls) c.as_slice.ensures.value in
     let less : length c.as_slice.result.now + length c.in_ok-rest.rest.now ≤ length c.groups.rest.now = shorter_lines c.as_slice.result.now c.groups.rest.now c.in_ok-rest.rest.now c.in_ok-rest.ensures.read in
     let size : length c.in_ok-lines.lines.items ≡ c.len.result = omega (arith, c.len.ensures, c.in_ok-lines.lines.ok.0) in
-    let more = checks_more b c.groups.world.boot c.args.trace.now c.groups.rest.now c.in_ok-rest.rest.now c.groups.number c.groups.groups (state_of c.groups.world) (state_of c.group.new.world) c.in-Some.step c.in_ok-lines.lines.items c.as_slice.result.now
+    let more = checks_more b c.groups.world.boot c.args.trace.now c.groups.rest.now c.in_ok-rest.rest.now c.groups.number c.groups.groups (world_state c.groups.world) (world_state c.group.new.world) c.in-Some.step c.in_ok-lines.lines.items c.as_slice.result.now
     c.groups.invariant.boot c.as_slice.ensures.value c.groups.invariant.checked head held c.in_ok-lines.ensures.runs_on c.in_ok-lines.ensures.fits c.in_ok-rest.ensures.read c.in_ok-rest.ensures.goes in
     record {
       running = c.in_ok-lines.ensures.running;
-      checked = subst (λ (k : ℕ). HasChecked b c.args.trace.now c.in_ok-rest.rest.now (c.groups.number + k) (c.groups.groups + 1) (state_of c.group.new.world)) size more;
+      checked = subst (λ (k : ℕ). HasChecked b c.args.trace.now c.in_ok-rest.rest.now (c.groups.number + k) (c.groups.groups + 1) (world_state c.group.new.world)) size more;
       boot = c.in_ok-lines.ensures.boot ∙ c.groups.invariant.boot;
       counted = omega (arith, c.in_ok-lines.ensures.counts, c.groups.invariant.counted);
       room = omega (arith, size, slice, less, c.groups.invariant.room);
@@ -59,5 +59,5 @@ groups-preserved c =
 pub returns-in_err-ended-clause-refused : goal.returns-in_err-ended-clause-refused
 returns-in_err-ended-clause-refused c =
     if_err c.from_residual-in_err-ended.result c.in_err-ended.field-0.0 (RefusedSo (verdict c.args.world.now.boot c.args.trace.now)) c.from_residual-in_err-ended.ensures
-    (checks_refused c.args.world.now.boot c.groups.world.boot c.args.trace.now c.groups.rest.now c.groups.number c.groups.groups (state_of c.groups.world) c.in_err-ended.field-0.0 c.groups.invariant.boot c.groups.invariant.checked
+    (checks_refused c.args.world.now.boot c.groups.world.boot c.args.trace.now c.groups.rest.now c.groups.number c.groups.groups (world_state c.groups.world) c.in_err-ended.field-0.0 c.groups.invariant.boot c.groups.invariant.checked
     c.in_err-ended.ensures.refused)

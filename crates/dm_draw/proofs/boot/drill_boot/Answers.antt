@@ -1,10 +1,10 @@
-use Rattle.dm_draw.proofs.Names.{rules, ap, length, subst, sym, ◌∙◌, Boot, IsValid, boot_of}
+use Rattle.dm_draw.proofs.Names.{rules, ap, length, subst, sym, ◌∙◌, Boot, IsValid, boot_of_machines}
 use Rattle.dm_draw.proofs.Valid.{boot_valid}
 use Rattle.dm_draw.proofs.Within.{boot_machines}
 use Rattle.dm_draw.proofs.boot.drill_boot.Goals as goal
 
 pub returns-clause-boot : goal.returns-clause-boot
-unfolding boot_of
+unfolding boot_of_machines
 returns-clause-boot c = search rules
 
 pub returns-clause-valid : goal.returns-clause-valid

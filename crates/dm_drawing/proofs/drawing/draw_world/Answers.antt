@@ -1,10 +1,10 @@
-use Rattle.dm_drawing.proofs.Names.{subst, Stop, state_of, Stopped}
+use Rattle.dm_drawing.proofs.Names.{subst, Stop, world_state, Stopped}
 use Rattle.dm_drawing.proofs.Pictures.{whole_drawn, worn_drawn}
 use Rattle.dm_drawing.proofs.drawing.draw_world.Goals as goal
 
 pub returns-in-Ok : goal.returns-in-Ok
 returns-in-Ok c =
-    whole_drawn c.args.world.now.boot c.args.directives.now c.args.machines c.args.starts.now c.collect.new.kept (state_of c.collect.new.world) c.in_ok-whole-in-Ok.whole.items
+    whole_drawn c.args.world.now.boot c.args.directives.now c.args.machines c.args.starts.now c.collect.new.kept (world_state c.collect.new.world) c.in_ok-whole-in-Ok.whole.items
     c.requires.fresh.world.valid c.in-Ok.ensures.came c.requires.machines c.requires.starts c.in_ok-whole-in-Ok.ensures
 
 pub returns-in-Err-Worn : goal.returns-in-Err-Worn

@@ -1,5 +1,5 @@
-use Rattle.dm_program.proofs.Names.{rules, ◌∙◌, List, ℕ, ap, map, refl, sym, subst, Option, Some, TheRequest, Status, boot_of, directives_of, around, ProgramMeets, Request, IsInRange, request_of, request_said, None, drill_completes}
-use Rattle.dm_program.proofs.Names.{drill_shelf, drill_taken, drill_wears}
+use Rattle.dm_program.proofs.Names.{rules, ◌∙◌, List, ℕ, ap, map, refl, sym, subst, Option, Some, TheRequest, Status, boot_of_machines, directives_of_drill, around, ProgramMeets, Request, IsInRange, request_of, request_said, None}
+use Rattle.dm_program.proofs.Names.{drill_completes, drill_shelf, drill_taken, drill_wears}
 use Rattle.dm_program.proofs.Lacking.{no_request}
 use Rattle.dm_program.proofs.program.run_program.Goals as goal
 
@@ -88,22 +88,22 @@ returns-in-Ok-Drill-clause-meets g c =
     (sym (c.in-Ok-Drill.ensures.asks ∙ ap (λ (r : TheRequest). Some (request_said r)) c.in-Ok-Drill.field-0-is))
     (record {
       says = c.drill.ensures.says;
-      completes = λ lasts never. drill_completes d (boot_of d.machines) (directives_of d) before after c.drill.new.world faults faults' c.drill.result c.drill.ensures.says c.drill.ensures.sink lasts never.writes;
-      wears = λ from to wears never. drill_wears d (boot_of d.machines) (directives_of d) before after c.drill.new.world faults faults' c.drill.result from to c.drill.ensures.says c.drill.ensures.sink wears never.writes;
+      completes = λ lasts never. drill_completes d (boot_of_machines d.machines) (directives_of_drill d) before after c.drill.new.world faults faults' c.drill.result c.drill.ensures.says c.drill.ensures.sink lasts never.writes;
+      wears = λ from to wears never. drill_wears d (boot_of_machines d.machines) (directives_of_drill d) before after c.drill.new.world faults faults' c.drill.result from to c.drill.ensures.says c.drill.ensures.sink wears never.writes;
       unread = refl;
-      shelf = drill_shelf d (boot_of d.machines) (directives_of d) before after c.drill.new.world (g.F.Shelf.faults c.args.shelf.now) c.drill.result c.drill.ensures.says;
+      shelf = drill_shelf d (boot_of_machines d.machines) (directives_of_drill d) before after c.drill.new.world (g.F.Shelf.faults c.args.shelf.now) c.drill.result c.drill.ensures.says;
       sink = c.drill.ensures.sink;
     })
 
 pub returns-in-Ok-Drill-clause-refused : goal.returns-in-Ok-Drill-clause-refused
 returns-in-Ok-Drill-clause-refused g c = λ usage taken.
     let d = c.in-Ok-Drill.drawn in
-    drill_taken d (boot_of d.machines) (directives_of d) (g.K.Sink.told c.args.out.now) (g.K.Sink.told c.drill.new.out) c.drill.new.world c.drill.result c.drill.ensures.says usage
+    drill_taken d (boot_of_machines d.machines) (directives_of_drill d) (g.K.Sink.told c.args.out.now) (g.K.Sink.told c.drill.new.out) c.drill.new.world c.drill.result c.drill.ensures.says usage
 
 pub returns-in-Ok-Drill-clause-shelf : goal.returns-in-Ok-Drill-clause-shelf
 returns-in-Ok-Drill-clause-shelf g c =
     let d = c.in-Ok-Drill.drawn in
-    drill_shelf d (boot_of d.machines) (directives_of d) (g.K.Sink.told c.args.out.now) (g.K.Sink.told c.drill.new.out) c.drill.new.world (g.F.Shelf.faults c.args.shelf.now) c.drill.result c.drill.ensures.says
+    drill_shelf d (boot_of_machines d.machines) (directives_of_drill d) (g.K.Sink.told c.args.out.now) (g.K.Sink.told c.drill.new.out) c.drill.new.world (g.F.Shelf.faults c.args.shelf.now) c.drill.result c.drill.ensures.says
 
 pub returns-in-Err-clause-meets : goal.returns-in-Err-clause-meets
 returns-in-Err-clause-meets g c =

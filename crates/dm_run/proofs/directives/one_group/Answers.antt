@@ -1,4 +1,4 @@
-use Rattle.dm_run.proofs.Names.{◌≡◌, List, refl, ap, sym, ◌∙◌, subst, Some, Err, Line, Answers, state_of, Step, OrNoMemory, AreWhole, AreReadBack, gave, Says, world_step}
+use Rattle.dm_run.proofs.Names.{◌≡◌, List, refl, ap, sym, ◌∙◌, subst, Some, Err, Line, Answers, world_state, Step, OrNoMemory, AreWhole, AreReadBack, gave, Says, world_step}
 use Rattle.dm_node.specs.declared.stop.Stop.{Stop}
 use Rattle.std.specs.Prelude.{Vec, OnOk}
 use Rattle.std.specs.declared.alloc.Global.{Global}
@@ -16,21 +16,21 @@ still w lines h = record { valid = h.valid; machines = h.machines; nodes = h.nod
 pub returns-in-Ok-clause-came : goal.returns-in-Ok-clause-came
 returns-in-Ok-clause-came g c = λ ds t n before h is e.
     let w = c.step.new.self in
-    let said : world_step c.args.world.now.boot (state_of c.args.world.now) n.step ≡ Some (Says (record { state = state_of w; lines = c.as_slice.result.now })) =
-    ap (world_step c.args.world.now.boot (state_of c.args.world.now)) e
-    ∙ (happens (state_of w) c.in-Ok.lines.items (world_step c.args.world.now.boot (state_of c.args.world.now) c.args.step.now) c.in-Ok.ensures.meets.answers
-    ∙ ap (λ (ls : List Line). Some (Says (record { state = state_of w; lines = ls }))) (sym c.as_slice.ensures.value)) in
+    let said : world_step c.args.world.now.boot (world_state c.args.world.now) n.step ≡ Some (Says (record { state = world_state w; lines = c.as_slice.result.now })) =
+    ap (world_step c.args.world.now.boot (world_state c.args.world.now)) e
+    ∙ (happens (world_state w) c.in-Ok.lines.items (world_step c.args.world.now.boot (world_state c.args.world.now) c.args.step.now) c.in-Ok.ensures.meets.answers
+    ∙ ap (λ (ls : List Line). Some (Says (record { state = world_state w; lines = ls }))) (sym c.as_slice.ensures.value)) in
     subst (λ (v : World). Came c.args.world.now.boot ds n.left before (g.K.Sink.told c.offer-offered.new.out) v c.offer-offered.result) (sym c.keep.ensures)
-    (came_on (Unit {0}) c.args.world.now.boot ds t n before (g.K.Sink.told c.args.out.now) (g.K.Sink.told c.offer-offered.new.out) (state_of c.args.world.now) (record w { lines = c.in-Ok.lines }) c.as_slice.result.now c.offer-offered.result c.requires.world.valid (still w c.in-Ok.lines c.in-Ok.ensures.meets.world) c.step.ensures.meets.boot h is said
-    (subst (λ (s : Step). AreReadBack (gave c.args.world.now.boot (state_of c.args.world.now) s)) (sym e) c.in-Ok.ensures.meets.again)
-    (subst (λ (s : Step). AreWhole (state_of c.args.world.now) s) (sym e) c.in-Ok.ensures.meets.whole) c.offer-offered.ensures.fits c.offer-offered.ensures.says)
+    (came_on (Unit {0}) c.args.world.now.boot ds t n before (g.K.Sink.told c.args.out.now) (g.K.Sink.told c.offer-offered.new.out) (world_state c.args.world.now) (record w { lines = c.in-Ok.lines }) c.as_slice.result.now c.offer-offered.result c.requires.world.valid (still w c.in-Ok.lines c.in-Ok.ensures.meets.world) c.step.ensures.meets.boot h is said
+    (subst (λ (s : Step). AreReadBack (gave c.args.world.now.boot (world_state c.args.world.now) s)) (sym e) c.in-Ok.ensures.meets.again)
+    (subst (λ (s : Step). AreWhole (world_state c.args.world.now) s) (sym e) c.in-Ok.ensures.meets.whole) c.offer-offered.ensures.fits c.offer-offered.ensures.says)
 
 pub returns-in-Ok-clause-after : goal.returns-in-Ok-clause-after
 returns-in-Ok-clause-after g c =
-    subst (λ (v : World). OnOk c.offer-offered.result (IsAfter c.args.world.now.boot (state_of c.args.world.now) c.args.step.now (state_of v))) (sym c.keep.ensures)
+    subst (λ (v : World). OnOk c.offer-offered.result (IsAfter c.args.world.now.boot (world_state c.args.world.now) c.args.step.now (world_state v))) (sym c.keep.ensures)
     (always_ok c.offer-offered.result _ (record {
       lines = c.in-Ok.lines.items;
-      happens = happens (state_of c.step.new.self) c.in-Ok.lines.items (world_step c.args.world.now.boot (state_of c.args.world.now) c.args.step.now) c.in-Ok.ensures.meets.answers;
+      happens = happens (world_state c.step.new.self) c.in-Ok.lines.items (world_step c.args.world.now.boot (world_state c.args.world.now) c.args.step.now) c.in-Ok.ensures.meets.answers;
       again = c.in-Ok.ensures.meets.again;
       whole = c.in-Ok.ensures.meets.whole;
     }))
@@ -41,12 +41,12 @@ returns-in-Ok-clause-world g c =
 
 pub returns-in-Err-NoMemory-clause-came : goal.returns-in-Err-NoMemory-clause-came
 returns-in-Err-NoMemory-clause-came g c = λ ds t n before h is e.
-    lacks_there c.args.world.now.boot ds t before (g.K.Sink.told c.args.out.now) (g.K.Sink.told c.args.out.now) (state_of c.args.world.now) h refl
+    lacks_there c.args.world.now.boot ds t before (g.K.Sink.told c.args.out.now) (g.K.Sink.told c.args.out.now) (world_state c.args.world.now) h refl
 
 pub returns-in-Err-Worn-clause-came : goal.returns-in-Err-Worn-clause-came
 returns-in-Err-Worn-clause-came g c = λ ds t n before h is e.
-    let answers = subst (λ (x : Stop). Answers (Err x) (state_of c.step.new.self) (world_step c.args.world.now.boot (state_of c.args.world.now) c.args.step.now)) c.in-Err-Worn.field-0-is c.in-Err-Worn.ensures.meets.answers in
-    let whole = subst (λ (x : Stop). OrNoMemory {X = List Line} (Err x) (AreWhole (state_of c.args.world.now) c.args.step.now)) c.in-Err-Worn.field-0-is c.in-Err-Worn.ensures.meets.whole in
-    worn_there c.args.world.now.boot ds t before (g.K.Sink.told c.args.out.now) (state_of c.args.world.now) n c.in-Err-Worn.from c.in-Err-Worn.to c.requires.world.valid h is
-    (ap (world_step c.args.world.now.boot (state_of c.args.world.now)) e ∙ worn_out c.in-Err-Worn.from c.in-Err-Worn.to (world_step c.args.world.now.boot (state_of c.args.world.now) c.args.step.now) answers)
-    (subst (λ (s : Step). AreWhole (state_of c.args.world.now) s) (sym e) whole)
+    let answers = subst (λ (x : Stop). Answers (Err x) (world_state c.step.new.self) (world_step c.args.world.now.boot (world_state c.args.world.now) c.args.step.now)) c.in-Err-Worn.field-0-is c.in-Err-Worn.ensures.meets.answers in
+    let whole = subst (λ (x : Stop). OrNoMemory {X = List Line} (Err x) (AreWhole (world_state c.args.world.now) c.args.step.now)) c.in-Err-Worn.field-0-is c.in-Err-Worn.ensures.meets.whole in
+    worn_there c.args.world.now.boot ds t before (g.K.Sink.told c.args.out.now) (world_state c.args.world.now) n c.in-Err-Worn.from c.in-Err-Worn.to c.requires.world.valid h is
+    (ap (world_step c.args.world.now.boot (world_state c.args.world.now)) e ∙ worn_out c.in-Err-Worn.from c.in-Err-Worn.to (world_step c.args.world.now.boot (world_state c.args.world.now) c.args.step.now) answers)
+    (subst (λ (s : Step). AreWhole (world_state c.args.world.now) s) (sym e) whole)

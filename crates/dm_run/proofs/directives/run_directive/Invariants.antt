@@ -1,4 +1,4 @@
-use Rattle.dm_run.proofs.Names.{◌≡◌, ◌-◌, ◌+◌, ◌^◌, ℕ, false, List, ◌∷◌, length, Option, Directive, all_of, todo_of, IsWorld, state_of, HasCome}
+use Rattle.dm_run.proofs.Names.{◌≡◌, ◌-◌, ◌+◌, ◌^◌, ℕ, false, List, ◌∷◌, length, Option, Directive, all_of, todo_of, IsWorld, world_state, HasCome}
 use Rattle.dm_run.proofs.Settling.{IsOnWay}
 use Rattle.dm_run.proofs.directives.run_directive.Given as goal
 
@@ -7,8 +7,8 @@ invariant-steps g l = record {
   world : IsWorld l.world;
   running : l.world.stopped ≡ false;
   boot : l.world.boot ≡ l.initial.world.boot;
-  come : (ds rest : List Directive) (before : Option (List ℕ)) → HasCome l.initial.world.boot ds (all_of (l.directive ∷ rest)) before (g.K.Sink.told l.initial.out) (state_of l.initial.world) → HasCome l.initial.world.boot ds (todo_of (length l.initial.world.boot.machines) l.cursor rest) before (g.K.Sink.told l.out) (state_of l.world);
-  way : IsOnWay l.initial.world.boot (state_of l.world) l.cursor (l.initial.world.groups + 2 ^ 90);
+  come : (ds rest : List Directive) (before : Option (List ℕ)) → HasCome l.initial.world.boot ds (all_of (l.directive ∷ rest)) before (g.K.Sink.told l.initial.out) (world_state l.initial.world) → HasCome l.initial.world.boot ds (todo_of (length l.initial.world.boot.machines) l.cursor rest) before (g.K.Sink.told l.out) (world_state l.world);
+  way : IsOnWay l.initial.world.boot (world_state l.world) l.cursor (l.initial.world.groups + 2 ^ 90);
   steady : g.K.Sink.faults l.out ≡ g.K.Sink.faults l.initial.out;
 }
 

@@ -1,4 +1,4 @@
-use Rattle.dm_run.proofs.Names.{[], refl, ◌∙◌, all_of, state_of}
+use Rattle.dm_run.proofs.Names.{[], refl, ◌∙◌, all_of, world_state}
 use Rattle.dm_run.proofs.Comes.{ended_by, lacks_there}
 use Rattle.dm_run.proofs.directives.say_end.Goals as goal
 
@@ -8,4 +8,4 @@ returns-in-Ok-clause-ended g c = λ ds before h.
 
 pub returns-in-Err-clause-ended : goal.returns-in-Err-clause-ended
 returns-in-Err-clause-ended g c = λ ds before h.
-    lacks_there c.args.world.now.boot ds (all_of []) before (g.K.Sink.told c.args.out.now) (g.K.Sink.told c.args.out.now) (state_of c.args.world.now) h refl
+    lacks_there c.args.world.now.boot ds (all_of []) before (g.K.Sink.told c.args.out.now) (g.K.Sink.told c.args.out.now) (world_state c.args.world.now) h refl

@@ -1,4 +1,4 @@
-use Rattle.dm_shape.proofs.Imports.{◌≡◌, ◌+◌, ◌*◌, ◌<◌, ◌≤◌, ℕ, List, [], Some, None, length, drop, ap, sym, ◌∙◌, arith, drop-length, below, number_after, read_number}
+use Rattle.dm_shape.proofs.Imports.{◌≡◌, ◌+◌, ◌*◌, ◌<◌, ◌≤◌, ℕ, List, [], Some, None, length, drop, ap, sym, ◌∙◌, arith, drop-length, if_below, number_after, read_number}
 use Rattle.dm_shape.proofs.Decimal.{after_digit, after_other, after_great, below_is, is_below, unpadded_number}
 use Rattle.dm_shape.proofs.number.number.Goals as goal
 
@@ -6,14 +6,14 @@ pub returns-in_err-digit-clause-value : goal.returns-in_err-digit-clause-value
 returns-in_err-digit-clause-value c =
     let none = after_other c.args.word.now c.loop-byte.byte-index c.loop-byte.n c.loop-byte-test.true (sym c.digit_of.ensures ∙ c.in_err-digit.was) in
     let whole = unpadded_number (c.args.most + 1) c.args.word.now (sym c.is_empty.ensures ∙ c.if-is_empty.false) (sym c.is_padded.ensures ∙ c.if-is_padded.false) in
-    c.from_residual.ensures ∙ sym (whole ∙ ap (λ o. below (c.args.most + 1) o) (sym c.loop-byte.invariant.so_far ∙ none))
+    c.from_residual.ensures ∙ sym (whole ∙ ap (λ o. if_below (c.args.most + 1) o) (sym c.loop-byte.invariant.so_far ∙ none))
 
 pub returns-in_err-n-clause-value : goal.returns-in_err-n-clause-value
 returns-in_err-n-clause-value c =
     let more = after_digit c.args.word.now c.loop-byte.byte-index c.loop-byte.n c.in_ok-digit.digit c.loop-byte-test.true (sym c.digit_of.ensures ∙ c.in_ok-digit.was) in
     let whole = unpadded_number (c.args.most + 1) c.args.word.now (sym c.is_empty.ensures ∙ c.if-is_empty.false) (sym c.is_padded.ensures ∙ c.if-is_padded.false) in
     let great = after_great (c.args.most + 1) (10 * c.loop-byte.n + c.in_ok-digit.digit) (drop (c.loop-byte.byte-index + 1) c.args.word.now) (sym c.with_digit.ensures ∙ c.in_err-n.was) in
-    c.from_residual-in_err-n.ensures ∙ sym (whole ∙ ap (λ o. below (c.args.most + 1) o) (sym c.loop-byte.invariant.so_far ∙ more) ∙ great)
+    c.from_residual-in_err-n.ensures ∙ sym (whole ∙ ap (λ o. if_below (c.args.most + 1) o) (sym c.loop-byte.invariant.so_far ∙ more) ∙ great)
 
 pub loop-byte-preserved : goal.loop-byte-preserved
 loop-byte-preserved c =
@@ -31,4 +31,4 @@ returns-clause-value c =
     let all : c.loop-byte.byte-index ≡ length c.args.word.now = omega arith in
     let end : drop c.loop-byte.byte-index c.args.word.now ≡ [] = ap (λ k. drop k c.args.word.now) all ∙ drop-length c.args.word.now in
     let within : c.loop-byte.n ≤ c.args.most = c.loop-byte.invariant.within in
-    sym (whole ∙ ap (λ o. below (c.args.most + 1) o) (sym c.loop-byte.invariant.so_far ∙ ap (λ xs. number_after c.loop-byte.n xs) end) ∙ below_is (c.args.most + 1) c.loop-byte.n (omega (arith, within)))
+    sym (whole ∙ ap (λ o. if_below (c.args.most + 1) o) (sym c.loop-byte.invariant.so_far ∙ ap (λ xs. number_after c.loop-byte.n xs) end) ∙ below_is (c.args.most + 1) c.loop-byte.n (omega (arith, within)))

@@ -1,11 +1,11 @@
 use Rattle.dm_world.proofs.Names.{◌++◌, ◌∙◌, ap, refl, sym, subst, tick, ActsLawfully, MayAct, HasStreams, ticks_lawfully, node_in}
-use Rattle.dm_node.specs.Meets.{state_of}
+use Rattle.dm_node.specs.Meets.{node_state}
 use Rattle.dm_world.proofs.Nodes.{acted_still, all_sendable, here_at, is_node_at, node_at}
 use Rattle.dm_world.proofs.step.send_again.Goals as goal
 
 pub tick-requires-clause-may : goal.tick-requires-clause-may
 tick-requires-clause-may c =
-    subst MayAct (sym (ap state_of c.index-nodes-from.is ∙ node_at c.args.boot.now c.args.nodes.now c.from.result c.args.m c.index-nodes-from.result c.from.ensures c.requires.within)) c.requires.may
+    subst MayAct (sym (ap node_state c.index-nodes-from.is ∙ node_at c.args.boot.now c.args.nodes.now c.from.result c.args.m c.index-nodes-from.result c.from.ensures c.requires.within)) c.requires.may
 
 pub tick-requires-clause-streams : goal.tick-requires-clause-streams
 tick-requires-clause-streams c = subst HasStreams (sym c.index-nodes-from.is) (is_node_at c.args.nodes.now c.from.result c.args.m c.index-nodes-from.result c.from.ensures c.requires.within c.requires.nodes).streams
@@ -15,16 +15,16 @@ returns-clause-answers c =
     let b = c.args.boot.now in
     let nodes = c.args.nodes.now in
     let n = node_in b nodes c.args.m in
-    let same = ap state_of c.index-nodes-from.is ∙ node_at b nodes c.from.result c.args.m c.index-nodes-from.result c.from.ensures c.requires.within in
+    let same = ap node_state c.index-nodes-from.is ∙ node_at b nodes c.from.result c.args.m c.index-nodes-from.result c.from.ensures c.requires.within in
     acted_still b nodes c.args.m c.tick.new.outs.items (tick n) c.requires.nodes refl
-    (c.in_ok-tick.ensures.outs ∙ ap (λ xs. xs ++ (tick (state_of c.index-nodes-from.result)).outs) c.requires.empty ∙ ap (λ s. (tick s).outs) same)
+    (c.in_ok-tick.ensures.outs ∙ ap (λ xs. xs ++ (tick (node_state c.index-nodes-from.result)).outs) c.requires.empty ∙ ap (λ s. (tick s).outs) same)
 
 pub returns-clause-outs : goal.returns-clause-outs
 returns-clause-outs c =
     let b = c.args.boot.now in
     let nodes = c.args.nodes.now in
     let n = node_in b nodes c.args.m in
-    let same = ap state_of c.index-nodes-from.is ∙ node_at b nodes c.from.result c.args.m c.index-nodes-from.result c.from.ensures c.requires.within in
+    let same = ap node_state c.index-nodes-from.is ∙ node_at b nodes c.from.result c.args.m c.index-nodes-from.result c.from.ensures c.requires.within in
     all_sendable c.args.m (tick n) c.tick.new.outs.items
-    (c.in_ok-tick.ensures.outs ∙ ap (λ xs. xs ++ (tick (state_of c.index-nodes-from.result)).outs) c.requires.empty ∙ ap (λ s. (tick s).outs) same)
+    (c.in_ok-tick.ensures.outs ∙ ap (λ xs. xs ++ (tick (node_state c.index-nodes-from.result)).outs) c.requires.empty ∙ ap (λ s. (tick s).outs) same)
     (subst (λ k. ActsLawfully k (tick n)) (here_at b nodes c.args.m c.index-nodes-from.result c.requires.within c.requires.nodes) (ticks_lawfully n c.requires.may))

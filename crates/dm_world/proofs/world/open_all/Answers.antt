@@ -1,5 +1,5 @@
-use Rattle.dm_world.proofs.Names.{◌≡◌, ◌++◌, ◌∷◌, ℕ, [], length, ◌+◌, ap, sym, subst, ◌∙◌, length-append, slice_get, Some, Node, here, opened, AreNodes, opened_here}
-use Rattle.dm_node.specs.Meets.{state_of}
+use Rattle.dm_world.proofs.Names.{◌≡◌, ◌++◌, ◌∷◌, ℕ, [], length, ◌+◌, ap, sym, subst, ◌∙◌, length-append, slice_get, Some, Node, here, node_opened, AreNodes, opened_here}
+use Rattle.dm_node.specs.Meets.{node_state}
 use Rattle.dm_world.proofs.Nodes.{are_pushed, opened_pushed}
 use Rattle.dm_world.proofs.world.open_all.Goals as goal
 
@@ -12,7 +12,7 @@ loop-here-preserved c =
     let size = c.loop-here.invariant.size in
     let state = c.in_ok-new.ensures.state in
     let is = c.in_ok-push.ensures.items in
-    let all : (k : ℕ) (n : Node) → slice_get (old ++ x ∷ []) k ≡ Some n → state_of n ≡ opened b k = opened_pushed b old x m size c.loop-here.invariant.opened state in
+    let all : (k : ℕ) (n : Node) → slice_get (old ++ x ∷ []) k ≡ Some n → node_state n ≡ node_opened b k = opened_pushed b old x m size c.loop-here.invariant.opened state in
     record {
       size = ap length is ∙ length-append old (x ∷ []) ∙ ap (λ k. k + 1) size;
       nodes = subst AreNodes (sym is) (are_pushed old x m size c.loop-here.invariant.nodes (record { streams = c.in_ok-new.ensures.streams; here = ap here state ∙ opened_here b m }));

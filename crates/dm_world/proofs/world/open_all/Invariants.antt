@@ -1,5 +1,5 @@
-use Rattle.dm_world.proofs.Names.{◌≡◌, ℕ, length, slice_get, Some, Node, opened, AreNodes}
-use Rattle.dm_node.specs.Meets.{state_of}
+use Rattle.dm_world.proofs.Names.{◌≡◌, ℕ, length, slice_get, Some, Node, node_opened, AreNodes}
+use Rattle.dm_node.specs.Meets.{node_state}
 use Rattle.dm_world.proofs.world.open_all.Given as goal
 
 abbrev pub invariant-loop-here : goal.invariant-loop-here
@@ -7,5 +7,5 @@ invariant-loop-here l =
     record {
       size : length l.nodes.items ≡ l.here;
       nodes : AreNodes l.nodes.items;
-      opened : (m : ℕ) (n : Node) → slice_get l.nodes.items m ≡ Some n → state_of n ≡ opened l.boot m;
+      opened : (m : ℕ) (n : Node) → slice_get l.nodes.items m ≡ Some n → node_state n ≡ node_opened l.boot m;
     }

@@ -1,6 +1,6 @@
 -- No lines are left.
 use Rattle.dm_asm.proofs.Names.{◌≡◌, ◌∙◌, ap, sym, length, arith, nat_tests, place_in, first_of, place_from}
-use Rattle.dm_asm.proofs.Cuts.{lines-none}
+use Rattle.dm_asm.proofs.Cuts.{source_lines-none}
 use Rattle.dm_asm.proofs.Defined.{first_of-None}
 use Rattle.dm_asm.proofs.labels.Labels.of.Goals as goal
 
@@ -10,6 +10,6 @@ returns c =
     record {
       ok = λ q.
           sym (first_of-None (place_in c.loop-rest.labels q))
-          ∙ ap (λ ls. first_of (place_in c.loop-rest.labels q) (place_from c.loop-rest.place.line c.loop-rest.place.address ls q)) (sym (lines-none c.loop-rest.rest.now none))
+          ∙ ap (λ ls. first_of (place_in c.loop-rest.labels q) (place_from c.loop-rest.place.line c.loop-rest.place.address ls q)) (sym (source_lines-none c.loop-rest.rest.now none))
           ∙ c.loop-rest.invariant.all q;
     }

@@ -1,4 +1,4 @@
-use Rattle.dm_drill.proofs.Names.{ℕ, List, take, sym, ap, ◌∙◌, Option, Line, one_more, shown, with_lines, Totals, Counted}
+use Rattle.dm_drill.proofs.Names.{ℕ, List, take, sym, ap, ◌∙◌, Option, Line, one_more, shown, with_group_lines, Totals, Counted}
 use Rattle.dm_drill.proofs.Counting.{lines_none, lines_more}
 use Rattle.dm_drill.proofs.counts.Counts.add_lines.Goals as goal
 
@@ -12,4 +12,4 @@ loop-line-preserved c =
     let i : ℕ = c.loop-line.line-index in
     c.in_ok-add.ensures
     ∙ (ap (one_more c.sort_of.result) c.loop-line.invariant
-    ∙ (ap (λ (s : Option Counted). one_more s (with_lines t (take i ls))) c.sort_of.ensures ∙ sym (lines_more t ls i _ c.loop-line-test.true)))
+    ∙ (ap (λ (s : Option Counted). one_more s (with_group_lines t (take i ls))) c.sort_of.ensures ∙ sym (lines_more t ls i _ c.loop-line-test.true)))

@@ -1,5 +1,5 @@
 -- One process more stands, and those that are left have their room.
-use Rattle.dm_kernel.proofs.Names.{◌≡◌, [], ◌∷◌, ◌+◌, ◌∙◌, drop, sym, subst, ap, slice_get, KernelState, begins, empty, with_all, state_of}
+use Rattle.dm_kernel.proofs.Names.{◌≡◌, [], ◌∷◌, ◌+◌, ◌∙◌, drop, sym, subst, ap, slice_get, KernelState, begins_process, empty, with_all, kernel_state}
 use Rattle.dm_kernel.proofs.Making.{drop_at, is_fine}
 use Rattle.dm_kernel.proofs.Opening.{HasRoomFor, is_state, room_from, room_then}
 use Rattle.dm_kernel.proofs.kernel.Kernel.new.Goals as goal
@@ -7,7 +7,7 @@ use Rattle.dm_kernel.proofs.kernel.Kernel.new.Goals as goal
 pub loop-process-init : goal.loop-process-init
 loop-process-init c =
     let b = c.args.boot.now in
-    let e : state_of c.in_ok-kernel.kernel ≡ empty b c.args.here = is_state c.in_ok-kernel.kernel (empty b c.args.here) c.in_ok-kernel.ensures in
+    let e : kernel_state c.in_ok-kernel.kernel ≡ empty b c.args.here = is_state c.in_ok-kernel.kernel (empty b c.args.here) c.in_ok-kernel.ensures in
     record {
       opens = λ i. with_all b (e i) (c.as_slice-process-items.ensures i);
       room =
@@ -31,9 +31,9 @@ loop-process-preserved c =
     let items = c.as_slice-process-items.result.now in
     let i = c.loop-process.process-index in
     let x = c.process-item.result in
-    let s = state_of c.loop-process.kernel in
+    let s = kernel_state c.loop-process.kernel in
     let d : drop i items ≡ x ∷ drop (i + 1) items = drop_at items i x c.loop-process-test.true c.process-item.is in
-    let e : state_of c.begin.new.self ≡ begins b s x (slice_get b.images x.image) = is_state c.begin.new.self (begins b s x (slice_get b.images x.image)) c.in_ok-begin.ensures in
+    let e : kernel_state c.begin.new.self ≡ begins_process b s x (slice_get b.images x.image) = is_state c.begin.new.self (begins_process b s x (slice_get b.images x.image)) c.in_ok-begin.ensures in
     record {
       opens = ap (λ (t : KernelState). with_all b t (drop (i + 1) items)) e ∙ sym (ap (with_all b s) d) ∙ c.loop-process.invariant.opens;
       room =

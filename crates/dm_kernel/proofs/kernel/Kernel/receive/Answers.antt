@@ -1,5 +1,5 @@
 -- The process is lawful, and the message is the one that it waits for.
-use Rattle.dm_kernel.proofs.Names.{◌≡◌, ◌∙◌, ap, sym, Some, option_copied_mut, first_on, at, here_of, state_of, receives, Receives, with_here}
+use Rattle.dm_kernel.proofs.Names.{◌≡◌, ◌∙◌, ap, sym, Some, option_copied_mut, first_on, at, here_of, kernel_state, receives, Receives, with_here}
 use Rattle.dm_kernel.proofs.Known.{has_some, is_here, of_here, sets}
 use Rattle.dm_kernel.proofs.Receiving.{received_at, says_one}
 use Rattle.dm_kernel.proofs.Serving.{is_awaited}
@@ -7,7 +7,7 @@ use Rattle.dm_kernel.proofs.kernel.Kernel.receive.Goals as goal
 
 pub complete_receive-completed-requires-clause-lawful : goal.complete_receive-completed-requires-clause-lawful
 complete_receive-completed-requires-clause-lawful c =
-    let s = state_of c.args.self.now in
+    let s = kernel_state c.args.self.now in
     let x = c.unwrap-process.result.now in
     let was : here_of (at c.args.self.now.records c.args.pid) ≡ Some x = sym c.here_mut.ensures.value ∙ ap option_copied_mut c.unwrap-process.ensures in
     let mine : Receives s c.args.pid c.args.mask c.args.place x = is_here (Receives s c.args.pid c.args.mask c.args.place) _ x was c.requires in
@@ -15,7 +15,7 @@ complete_receive-completed-requires-clause-lawful c =
 
 pub complete_receive-completed-requires-clause-awaited : goal.complete_receive-completed-requires-clause-awaited
 complete_receive-completed-requires-clause-awaited c =
-    let s = state_of c.args.self.now in
+    let s = kernel_state c.args.self.now in
     let x = c.unwrap-process.result.now in
     let was : here_of (at c.args.self.now.records c.args.pid) ≡ Some x = sym c.here_mut.ensures.value ∙ ap option_copied_mut c.unwrap-process.ensures in
     let mine : Receives s c.args.pid c.args.mask c.args.place x = is_here (Receives s c.args.pid c.args.mask c.args.place) _ x was c.requires in
@@ -23,7 +23,7 @@ complete_receive-completed-requires-clause-awaited c =
 
 pub returns : goal.returns
 returns c =
-    let s = state_of c.args.self.now in
+    let s = kernel_state c.args.self.now in
     let x = c.unwrap-process.result.now in
     let w = c.complete_receive-completed.new.process in
     let was : here_of (at c.args.self.now.records c.args.pid) ≡ Some x = sym c.here_mut.ensures.value ∙ ap option_copied_mut c.unwrap-process.ensures in

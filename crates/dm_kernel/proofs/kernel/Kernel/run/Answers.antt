@@ -1,5 +1,5 @@
 -- What executing comes to, from what it did to the process in its place.
-use Rattle.dm_kernel.proofs.Names.{◌≡◌, ◌∙◌, ap, refl, sym, subst, length, Some, option_copied_mut, at, Process, Answers, state_of, processor_of, Executes}
+use Rattle.dm_kernel.proofs.Names.{◌≡◌, ◌∙◌, ap, refl, sym, subst, length, Some, option_copied_mut, at, Process, Answers, kernel_state, processor_of, Executes}
 use Rattle.dm_kernel.specs.declared.run.Halt.TheVariants as halt
 use Rattle.dm_kernel.proofs.Known.{has_some, is_here, sets}
 use Rattle.dm_kernel.proofs.Serving.{Keeps, call_keeps, called_as, executes_as, has_place, has_run, runs_lawfully}
@@ -8,12 +8,12 @@ use Rattle.dm_kernel.proofs.kernel.Kernel.run.Goals as goal
 pub call-called-requires-clause-lawful : goal.call-called-requires-clause-lawful
 call-called-requires-clause-lawful c =
     let x = c.unwrap-process.result.now in
-    let mine : Executes (state_of c.args.self.now) c.args.pid x = is_here (Executes (state_of c.args.self.now) c.args.pid) _ x (sym c.here_mut.ensures.value ∙ ap option_copied_mut c.unwrap-process.ensures) c.requires.process in
+    let mine : Executes (kernel_state c.args.self.now) c.args.pid x = is_here (Executes (kernel_state c.args.self.now) c.args.pid) _ x (sym c.here_mut.ensures.value ∙ ap option_copied_mut c.unwrap-process.ensures) c.requires.process in
     runs_lawfully x (record { regs = c.execute-count.new.regs; bytes = c.execute-count.new.memory }) (has_run c.args.quantum x _ c.execute-count.ensures) mine.ready mine.acts.lawful
 
 pub after_call-requires : goal.after_call-requires
 after_call-requires c =
-    let s = state_of c.args.self.now in
+    let s = kernel_state c.args.self.now in
     let x = c.unwrap-process.result.now in
     let w = c.call-called.new.process in
     let mine : Executes s c.args.pid x = is_here (Executes s c.args.pid) _ x (sym c.here_mut.ensures.value ∙ ap option_copied_mut c.unwrap-process.ensures) c.requires.process in
@@ -24,7 +24,7 @@ after_call-requires c =
 
 pub end-requires : goal.end-requires
 end-requires c =
-    let s = state_of c.args.self.now in
+    let s = kernel_state c.args.self.now in
     let x = c.unwrap-process.result.now in
     let mine : Executes s c.args.pid x = is_here (Executes s c.args.pid) _ x (sym c.here_mut.ensures.value ∙ ap option_copied_mut c.unwrap-process.ensures) c.requires.process in
     let kept : Keeps (processor_of x) (record { regs = c.execute-count.new.regs; bytes = c.execute-count.new.memory }) = has_run c.args.quantum x _ c.execute-count.ensures in
@@ -35,7 +35,7 @@ end-requires c =
 
 pub returns-in-Call : goal.returns-in-Call
 returns-in-Call c =
-    let s = state_of c.args.self.now in
+    let s = kernel_state c.args.self.now in
     let x = c.unwrap-process.result.now in
     let w = c.call-called.new.process in
     let halted : c.execute-count.result.1 ≡ Some (halt.Call c.in-Call.number) = c.in-Some.is ∙ ap Some c.in-Call.is in

@@ -1,5 +1,5 @@
 -- A ready process executes, and one that waits takes its message.
-use Rattle.dm_kernel.proofs.Names.{◌≡◌, subst, at, Takes, Process, Service, Execute, Ready, Answers, state_of, Executes, IsHere, Receives, Serves}
+use Rattle.dm_kernel.proofs.Names.{◌≡◌, subst, at, Takes, Process, Service, Execute, Ready, Answers, kernel_state, Executes, IsHere, Receives, Serves}
 use Rattle.dm_process.specs.declared.process.Service.TheVariants.{Receive}
 use Rattle.dm_kernel.proofs.Known.{here_as}
 use Rattle.dm_kernel.proofs.Serving.{serves_ready, serves_waiting}
@@ -7,14 +7,14 @@ use Rattle.dm_kernel.proofs.kernel.Kernel.serve.Goals as goal
 
 pub run-requires-clause-process : goal.run-requires-clause-process
 run-requires-clause-process c =
-    let s = state_of c.args.self.now in
+    let s = kernel_state c.args.self.now in
     let o = at c.args.self.now.records c.args.pid in
     let h : IsHere (Serves s c.args.pid Execute) o = subst (λ (v : Service). IsHere (Serves s c.args.pid v) o) c.in-Execute.is c.requires.process in
     here_as (Serves s c.args.pid Execute) (Executes s c.args.pid) o (λ x m. record { acts = m.acts; ready = m.does }) h
 
 pub returns-in-Execute : goal.returns-in-Execute
 returns-in-Execute c =
-    let s = state_of c.args.self.now in
+    let s = kernel_state c.args.self.now in
     let o = at c.args.self.now.records c.args.pid in
     let h : IsHere (Serves s c.args.pid Execute) o = subst (λ (v : Service). IsHere (Serves s c.args.pid v) o) c.in-Execute.is c.requires.process in
     let ready : IsHere (λ (x : Process). x.status ≡ Ready) o = here_as (Serves s c.args.pid Execute) (λ (x : Process). x.status ≡ Ready) o (λ x m. m.does) h in
@@ -22,7 +22,7 @@ returns-in-Execute c =
 
 pub receive-requires : goal.receive-requires
 receive-requires c =
-    let s = state_of c.args.self.now in
+    let s = kernel_state c.args.self.now in
     let o = at c.args.self.now.records c.args.pid in
     let v = Receive c.in-Receive.mask c.in-Receive.place in
     let h : IsHere (Serves s c.args.pid v) o = subst (λ (v : Service). IsHere (Serves s c.args.pid v) o) c.in-Receive.is c.requires.process in
@@ -30,7 +30,7 @@ receive-requires c =
 
 pub returns-in-Receive : goal.returns-in-Receive
 returns-in-Receive c =
-    let s = state_of c.args.self.now in
+    let s = kernel_state c.args.self.now in
     let o = at c.args.self.now.records c.args.pid in
     let v = Receive c.in-Receive.mask c.in-Receive.place in
     let h : IsHere (Serves s c.args.pid v) o = subst (λ (v : Service). IsHere (Serves s c.args.pid v) o) c.in-Receive.is c.requires.process in

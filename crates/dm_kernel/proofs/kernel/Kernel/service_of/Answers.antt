@@ -1,5 +1,5 @@
 -- A process that is looked at stays as it is.
-use Rattle.dm_kernel.proofs.Names.{◌≡◌, ◌∙◌, Some, None, false, ap, refl, subst, sym, is_some, Pid, at, here_of, with_record, Here, Process, state_of, Known, known_is_runnable}
+use Rattle.dm_kernel.proofs.Names.{◌≡◌, ◌∙◌, Some, None, false, ap, refl, subst, sym, is_some, Pid, at, here_of, with_record, Here, Process, kernel_state, KernelKnown, known_is_runnable}
 use Rattle.dm_kernel.proofs.Known.{has_some, here_runs, is_here_as, none_runs, same_state, set_again}
 use Rattle.dm_kernel.proofs.Rounds.{here_does}
 use Rattle.dm_kernel.proofs.kernel.Kernel.service_of.Goals as goal
@@ -8,7 +8,7 @@ pub returns-in-Some-clause-unchanged : goal.returns-in-Some-clause-unchanged
 returns-in-Some-clause-unchanged c =
     let x = c.in-Some.process.now in
     let was : here_of (at c.args.self.now.records c.args.pid) ≡ Some x = sym c.in-Some.ensures.value in
-    same_state (state_of c.args.self.now) _ (λ q.
+    same_state (kernel_state c.args.self.now) _ (λ q.
     c.here_mut.follows.holds c.service.new.self (has_some _ x was) q
     ∙ ap (λ (y : Process). with_record (at c.args.self.now.records) c.args.pid (Here y) q) c.service.ensures.unchanged
     ∙ set_again (at c.args.self.now.records) c.args.pid x was q)
@@ -36,7 +36,7 @@ returns-in-Some-clause-service c =
     ) c.service.ensures.service
 
 pub returns-in-None-clause-unchanged : goal.returns-in-None-clause-unchanged
-returns-in-None-clause-unchanged c = same_state (state_of c.args.self.now) _ c.here_mut.follows.holds-at-none
+returns-in-None-clause-unchanged c = same_state (kernel_state c.args.self.now) _ c.here_mut.follows.holds-at-none
 
 pub returns-in-None-clause-runnable : goal.returns-in-None-clause-runnable
 returns-in-None-clause-runnable c =

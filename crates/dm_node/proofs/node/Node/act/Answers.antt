@@ -1,4 +1,4 @@
-use Rattle.dm_node.proofs.Names.{◌<◌, ◌∷◌, sym, ap, subst, ◌∙◌, Ok, into_iter_items, All-rest, IsLawfulPart, acts, routes, Answers, state_of}
+use Rattle.dm_node.proofs.Names.{◌<◌, ◌∷◌, sym, ap, subst, ◌∙◌, Ok, into_iter_items, All-rest, IsLawfulPart, acts, routes, Answers, node_state}
 use Rattle.dm_node.proofs.Parts.{all_done, gave_streams, line_said, message_routed, routed_counts}
 use Rattle.dm_node.proofs.node.Node.act.Goals as goal
 
@@ -14,7 +14,7 @@ route-requires-clause-numbers c = subst (λ k. k < 4294967296) (sym c.loop-part.
 pub loop-part-preserved : goal.loop-part-preserved
 loop-part-preserved c =
     let here = c.loop-part in
-    let n = state_of here.self in
+    let n = node_state here.self in
     let left = into_iter_items c.next.new.self in
     let gave = c.in_ok-route-in-Routes.ensures in
     let is = c.in-Some.ensures.steps.0 ∙ ap (λ p. p ∷ left) c.in-Routes.is in
@@ -35,7 +35,7 @@ loop-part-preserved c =
 pub loop-part-preserved-in-Continue-1 : goal.loop-part-preserved-in-Continue-1
 loop-part-preserved-in-Continue-1 c =
     let here = c.loop-part in
-    let n = state_of here.self in
+    let n = node_state here.self in
     let left = into_iter_items c.next.new.self in
     let is = c.in-Some.ensures.steps.0 ∙ ap (λ p. p ∷ left) c.in-Says.is in
     record {

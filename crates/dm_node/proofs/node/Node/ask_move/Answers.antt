@@ -1,4 +1,4 @@
-use Rattle.dm_node.proofs.Names.{◌≡◌, List, arith, refl, subst, sym, All, Option, None, Some, Kernel, Part, IsLawfulPart, IsLawfulTurned, MeetsSome, Turned, IsMachine, state_of}
+use Rattle.dm_node.proofs.Names.{◌≡◌, List, arith, refl, subst, sym, All, Option, None, Some, Kernel, Part, IsLawfulPart, IsLawfulTurned, MeetsSome, Turned, IsMachine, node_state}
 use Rattle.dm_kernel.specs.Asking as kernel
 use Rattle.dm_node.proofs.Parts.{turn_answered}
 use Rattle.dm_node.proofs.node.Node.ask_move.Goals as goal
@@ -10,13 +10,13 @@ lawful_parts k ps (Some t) h f = subst (All IsLawfulPart) (sym h.parts) (f t ref
 
 pub act-requires-clause-parts : goal.act-requires-clause-parts
 act-requires-clause-parts c =
-    let n = state_of c.args.self.now in
+    let n = node_state c.args.self.now in
     let few : IsMachine c.args.to = omega (arith, c.requires.to) in
     lawful_parts c.ask_move.new.self c.in-Ok.parts.items (kernel.asks_move n.kernel c.args.pid c.args.to) c.in-Ok.ensures
     (λ t is. c.moves_are_asked_lawfully.ensures n.kernel c.args.pid c.args.to t c.requires.may.kernel.here few c.requires.lawful is)
 
 pub returns-in-Ok : goal.returns-in-Ok
 returns-in-Ok c =
-    let n = state_of c.args.self.now in
+    let n = node_state c.args.self.now in
     turn_answered c.act.result c.act.new.self n c.ask_move.new.self c.in-Ok.parts.items (kernel.asks_move n.kernel c.args.pid c.args.to) c.args.outs.now.items c.act.new.outs.items c.in-Ok.ensures
     c.act.ensures

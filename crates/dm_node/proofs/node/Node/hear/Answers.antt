@@ -1,11 +1,11 @@
-use Rattle.dm_node.proofs.Names.{◌≡◌, ◌<◌, ◌≤◌, false, true, [], ◌∷◌, ◌++◌, sym, ap, subst, ◌∙◌, arith, is_some, due, window, with_acked, Says, lets_go, Gave, state_of, here, with_sender}
+use Rattle.dm_node.proofs.Names.{◌≡◌, ◌<◌, ◌≤◌, false, true, [], ◌∷◌, ◌++◌, sym, ap, subst, ◌∙◌, arith, is_some, due, window, with_acked, Says, lets_go, Gave, node_state, here, with_sender}
 use Rattle.dm_line.specs.declared.line.Line.TheVariants as line
 use Rattle.dm_node.proofs.Arrivals.{gave_before, none_goes, none_may_go, one_goes}
 use Rattle.dm_node.proofs.node.Node.hear.Goals as goal
 
 pub loop-round-init : goal.loop-round-init
 loop-round-init c =
-    let n = state_of c.args.self.now in
+    let n = node_state c.args.self.now in
     let from = c.args.from in
     let said = c.push.new.outs.items in
     let now = with_sender n from (with_acked (n.senders from) c.args.count) in
@@ -20,7 +20,7 @@ loop-round-init c =
 pub returns-then-not-branch : goal.returns-then-not-branch
 returns-then-not-branch c =
     let l = c.loop-round in
-    let n = state_of l.self in
+    let n = node_state l.self in
     let h : l._round < 8 = omega arith in
     let b = c.if-not-branch.true in
     let none : is_some (due (n.senders c.args.from)) ≡ false = sym c.in_ok-send_due.ensures.was ∙ b in
@@ -30,7 +30,7 @@ returns-then-not-branch c =
 pub loop-round-preserved : goal.loop-round-preserved
 loop-round-preserved c =
     let l = c.loop-round in
-    let n = state_of l.self in
+    let n = node_state l.self in
     let h : l._round < 8 = omega arith in
     let b = c.if-not-branch.false in
     let some : is_some (due (n.senders c.args.from)) ≡ true = sym c.in_ok-send_due.ensures.was ∙ b in

@@ -1,10 +1,10 @@
-use Rattle.dm_node.proofs.Names.{◌≡◌, ℕ, true, ◌++◌, ◌∷◌, [], ap, sym, subst, ◌∙◌, Message, Says, GaveActs, put_line, routes_away, state_of}
+use Rattle.dm_node.proofs.Names.{◌≡◌, ℕ, true, ◌++◌, ◌∷◌, [], ap, sym, subst, ◌∙◌, Message, Says, GaveActs, put_line, routes_away, node_state}
 use Rattle.dm_node.proofs.States.{given, given_goes}
 use Rattle.dm_node.proofs.node.Node.route_away.Goals as goal
 
 pub returns-in_ok-send_due : goal.returns-in_ok-send_due
 returns-in_ok-send_due c =
-    let n = state_of c.args.self.now in
+    let n = node_state c.args.self.now in
     let m = c.args.message in
     let to = c.get-said.result.now.to.at in
     let old = c.args.outs.now.items in
@@ -14,6 +14,6 @@ returns-in_ok-send_due c =
     subst (λ (t : ℕ). GaveActs c.send_due.new.self old new (routes_away n t m (n.senders t))) same
     (subst (GaveActs c.send_due.new.self old new)
     (sym (given n to m (n.senders to) true c.in_ok-give.ensures.not_worn (sym c.none_waits-at_once.ensures ∙ c.if-at_once.true)))
-    (given_goes n (state_of c.give.new.self) c.send_due.new.self to m old c.push.new.outs.items new c.in_ok-give.ensures.state
+    (given_goes n (node_state c.give.new.self) c.send_due.new.self to m old c.push.new.outs.items new c.in_ok-give.ensures.state
     (c.in_ok-push.ensures.ok ∙ ap (λ l. old ++ Says l ∷ []) put)
     c.in_ok-send_due.ensures.gave))

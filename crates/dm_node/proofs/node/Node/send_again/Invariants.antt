@@ -1,5 +1,5 @@
-use Rattle.dm_node.proofs.Names.{◌≡◌, ◌++◌, first_out, state_of}
+use Rattle.dm_node.proofs.Names.{◌≡◌, ◌++◌, first_out, node_state}
 use Rattle.dm_node.proofs.node.Node.send_again.Given as goal
 
 abbrev pub invariant-loop-place : goal.invariant-loop-place
-invariant-loop-place l = l.outs.items ≡ l.fn.outs.items ++ first_out (state_of l.self) l.to l.place
+invariant-loop-place l = l.outs.items ≡ l.fn.outs.items ++ first_out (node_state l.self) l.to l.place

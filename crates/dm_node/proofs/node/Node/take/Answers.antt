@@ -1,15 +1,15 @@
-use Rattle.dm_node.proofs.Names.{on_ok_weaker, after_arrival, arrival, state_of, with_receiver}
+use Rattle.dm_node.proofs.Names.{on_ok_weaker, after_arrival, arrival, node_state, with_receiver}
 use Rattle.dm_node.proofs.Arrivals.{message_came}
 use Rattle.dm_node.proofs.node.Node.take.Goals as goal
 
 pub returns : goal.returns
 returns c =
-    let n = state_of c.args.self.now in
+    let n = node_state c.args.self.now in
     let from = c.args.from in
     let seq = c.args.seq in
     let r = n.receivers from in
     on_ok_weaker c.acknowledge.result
-    (message_came (with_receiver n from (after_arrival r seq c.args.message)) (state_of c.receive-arrived.new.self) c.take_in.new.self from seq c.receive-arrived.result
+    (message_came (with_receiver n from (after_arrival r seq c.args.message)) (node_state c.receive-arrived.new.self) c.take_in.new.self from seq c.receive-arrived.result
     (arrival r seq c.args.message) c.args.outs.now.items c.take_in.new.outs.items c.acknowledge.new.outs.items c.receive-arrived.ensures.state c.receive-arrived.ensures.value
     c.in_ok-take_in.ensures)
     c.acknowledge.ensures

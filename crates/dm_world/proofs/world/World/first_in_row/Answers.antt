@@ -1,4 +1,4 @@
-use Rattle.dm_world.proofs.Names.{◌<◌, ◌≤◌, below, drop, length, sym, ap, ◌∙◌, arith, next_delivery, packets_on, state_of, undelivered}
+use Rattle.dm_world.proofs.Names.{◌<◌, ◌≤◌, below, drop, length, sym, ap, ◌∙◌, arith, next_delivery, packets_on, world_state, world_undelivered}
 use Rattle.dm_world.proofs.Passing.{first_unseen_is, row_none, row_nothing, row_over, row_same, row_some}
 use Rattle.dm_world.proofs.world.World.first_in_row.Goals as goal
 use Rattle.dm_world.proofs.world.World.first_in_row.Goals.{then-from-b+in_default, else-from-b}
@@ -8,7 +8,7 @@ pub returns-then-not-is_pending-clause-first : goal.returns-then-not-is_pending-
 returns-then-not-is_pending-clause-first c rest =
     let w = c.args.self.now in
     let n = length w.boot.machines in
-    row_nothing (state_of w) c.args.from (drop c.args.to (below n)) rest (λ b. first_unseen_is (packets_on w.wires c.args.from b) ∙ c.is_pending.ensures c.if-not-is_pending.true b)
+    row_nothing (world_state w) c.args.from (drop c.args.to (below n)) rest (λ b. first_unseen_is (packets_on w.wires c.args.from b) ∙ c.is_pending.ensures c.if-not-is_pending.true b)
 
 pub returns-in-Some-clause-first : goal.returns-in-Some-clause-first
 returns-in-Some-clause-first c rest =
@@ -18,7 +18,7 @@ returns-in-Some-clause-first c rest =
     let test = c.loop-b-test.true in
     let small : c.loop-b.b < n = omega (arith, all, test) in
     let found = first_unseen_is (packets_on w.wires c.args.from c.loop-b.b) ∙ sym c.unseen.ensures.first ∙ c.in-Some.is in
-    c.loop-b.invariant rest ∙ row_some n (state_of w) c.args.from c.loop-b.b c.in-Some.k rest small c.if-from-b.true found
+    c.loop-b.invariant rest ∙ row_some n (world_state w) c.args.from c.loop-b.b c.in-Some.k rest small c.if-from-b.true found
 
 pub returns-in-Some-clause-fresh : goal.returns-in-Some-clause-fresh
 returns-in-Some-clause-fresh c =
@@ -45,8 +45,8 @@ loop-b-preserved c rest =
     c.loop-b.invariant rest
     ∙ elim c.if-from-b.branch [
       | then-from-b+in_default v ↦
-          row_none n (state_of w) c.args.from c.loop-b.b rest small v.if-from-b.true (first_unseen_is (packets_on w.wires c.args.from c.loop-b.b) ∙ sym v.unseen.ensures.first ∙ v.in_default.is)
-      | else-from-b v ↦ ap (next_delivery (undelivered (state_of w))) (row_same n c.args.from c.loop-b.b rest small v.if-from-b.false)
+          row_none n (world_state w) c.args.from c.loop-b.b rest small v.if-from-b.true (first_unseen_is (packets_on w.wires c.args.from c.loop-b.b) ∙ sym v.unseen.ensures.first ∙ v.in_default.is)
+      | else-from-b v ↦ ap (next_delivery (world_undelivered (world_state w))) (row_same n c.args.from c.loop-b.b rest small v.if-from-b.false)
     ]
 
 pub returns-clause-first : goal.returns-clause-first
@@ -56,4 +56,4 @@ returns-clause-first c rest =
     let all = c.machines-b-end.ensures.all in
     let test = c.loop-b-test.false in
     let over : n ≤ c.loop-b.b = omega (arith, all, test) in
-    c.loop-b.invariant rest ∙ ap (next_delivery (undelivered (state_of w))) (row_over n c.args.from c.loop-b.b rest over)
+    c.loop-b.invariant rest ∙ ap (next_delivery (world_undelivered (world_state w))) (row_over n c.args.from c.loop-b.b rest over)

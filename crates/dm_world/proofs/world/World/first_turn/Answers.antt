@@ -1,4 +1,4 @@
-use Rattle.dm_world.proofs.Names.{◌+◌, ◌<◌, ◌≤◌, length, sym, ◌∙◌, arith, state_of, has_mail}
+use Rattle.dm_world.proofs.Names.{◌+◌, ◌<◌, ◌≤◌, length, sym, ◌∙◌, arith, world_state, world_has_mail}
 use Rattle.dm_world.proofs.Passes.{none_left, passes_over, stays_on, takes_next}
 use Rattle.dm_world.proofs.world.World.first_turn.Goals as goal
 
@@ -8,7 +8,7 @@ returns-then-takes_turn-clause-first c t =
     let n = length w.boot.machines in
     let all = c.machines-k-end.ensures.all in
     let test = c.loop-k-test.true in
-    c.loop-k.invariant.0 t ∙ takes_next n (state_of w) c.args.pass c.loop-k.k (omega (arith, all, test)) (sym c.takes_turn.ensures ∙ c.if-takes_turn.true) t
+    c.loop-k.invariant.0 t ∙ takes_next n (world_state w) c.args.pass c.loop-k.k (omega (arith, all, test)) (sym c.takes_turn.ensures ∙ c.if-takes_turn.true) t
 
 pub loop-k-preserved : goal.loop-k-preserved
 loop-k-preserved c =
@@ -17,8 +17,8 @@ loop-k-preserved c =
     let all = c.machines-k-end.ensures.all in
     let test = c.loop-k-test.true in
     let takes = sym c.takes_turn.ensures ∙ c.if-takes_turn.false in (
-      λ t. c.loop-k.invariant.0 t ∙ passes_over n (state_of w) c.args.pass c.loop-k.k t (omega (arith, all, test)) takes,
-      stays_on c.args.pass (has_mail (state_of w)) c.args.m c.loop-k.k (c.loop-k.k + 1) takes,
+      λ t. c.loop-k.invariant.0 t ∙ passes_over n (world_state w) c.args.pass c.loop-k.k t (omega (arith, all, test)) takes,
+      stays_on c.args.pass (world_has_mail (world_state w)) c.args.m c.loop-k.k (c.loop-k.k + 1) takes,
     )
 
 pub returns-clause-first : goal.returns-clause-first
@@ -27,4 +27,4 @@ returns-clause-first c t =
     let n = length w.boot.machines in
     let all = c.machines-k-end.ensures.all in
     let test = c.loop-k-test.false in
-    c.loop-k.invariant.0 t ∙ none_left n (state_of w) c.args.pass c.loop-k.k (omega (arith, all, test)) t
+    c.loop-k.invariant.0 t ∙ none_left n (world_state w) c.args.pass c.loop-k.k (omega (arith, all, test)) t

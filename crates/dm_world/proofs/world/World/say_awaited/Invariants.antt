@@ -1,6 +1,6 @@
-use Rattle.dm_world.proofs.Names.{◌≡◌, None, first_awaited, state_of}
+use Rattle.dm_world.proofs.Names.{◌≡◌, None, first_awaited, world_state}
 use Rattle.dm_world.proofs.world.World.say_awaited.Given as goal
 
 abbrev pub invariant-loop-m : goal.invariant-loop-m
 invariant-loop-m l =
-    record { none : first_awaited l.m (state_of l.self) l.pid ≡ None; same : l.lines.items ≡ l.fn.lines.items }
+    record { none : first_awaited l.m (world_state l.self) l.pid ≡ None; same : l.lines.items ≡ l.fn.lines.items }

@@ -1,6 +1,6 @@
-use Rattle.dm_world.proofs.Names.{◌≡◌, ◌++◌, held_line, homes_with, state_of}
+use Rattle.dm_world.proofs.Names.{◌≡◌, ◌++◌, held_line, homes_with, world_state}
 use Rattle.dm_world.proofs.world.World.say_holding_on.Given as goal
 
 abbrev pub invariant-loop-home : goal.invariant-loop-home
 invariant-loop-home l =
-    l.lines.items ≡ l.fn.lines.items ++ homes_with (state_of l.self) (held_line (state_of l.self) l.m) l.home
+    l.lines.items ≡ l.fn.lines.items ++ homes_with (world_state l.self) (held_line (world_state l.self) l.m) l.home

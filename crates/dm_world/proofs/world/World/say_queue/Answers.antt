@@ -1,4 +1,4 @@
-use Rattle.dm_world.proofs.Names.{ℕ, ◌<◌, List, length, arith, ap, Option, EndLine, NodeState, record_queue, state_of}
+use Rattle.dm_world.proofs.Names.{ℕ, ◌<◌, List, length, arith, ap, Option, EndLine, NodeState, record_queue, world_state}
 use Rattle.dm_world.proofs.Ending.{found}
 use Rattle.dm_world.proofs.world.World.say_queue.Goals as goal
 
@@ -6,7 +6,7 @@ pub returns-then-branch : goal.returns-then-branch
 returns-then-branch c =
     let m = c.loop-m.m in
     let n = length c.args.self.now.boot.machines in
-    let f : ℕ → Option (List EndLine) = λ m. record_queue c.args.pid (((state_of c.args.self.now).nodes m).kernel.records c.args.pid) in
+    let f : ℕ → Option (List EndLine) = λ m. record_queue c.args.pid (((world_state c.args.self.now).nodes m).kernel.records c.args.pid) in
     let within : m < n = grind (arith, c.loop-m-test.true, c.machines-m-end.ensures.all) in
     found f m n c.in_ok-say_known_queue.field-0 _ c.args.lines.now.items c.loop-m.lines.items c.say_known_queue.new.lines.items c.loop-m.invariant.none within
     (ap (λ (s : NodeState). record_queue c.args.pid (s.kernel.records c.args.pid)) c.machine.ensures.state) c.if-branch.true c.loop-m.invariant.same c.in_ok-say_known_queue.ensures

@@ -1,6 +1,6 @@
-use Rattle.dm_world.proofs.Names.{◌≡◌, None, first_says, record_queue, state_of}
+use Rattle.dm_world.proofs.Names.{◌≡◌, None, first_says, record_queue, world_state}
 use Rattle.dm_world.proofs.world.World.say_queue.Given as goal
 
 abbrev pub invariant-loop-m : goal.invariant-loop-m
 invariant-loop-m l =
-    record { none : first_says (λ m. record_queue l.pid (((state_of l.self).nodes m).kernel.records l.pid)) l.m ≡ None; same : l.lines.items ≡ l.fn.lines.items }
+    record { none : first_says (λ m. record_queue l.pid (((world_state l.self).nodes m).kernel.records l.pid)) l.m ≡ None; same : l.lines.items ≡ l.fn.lines.items }
