@@ -18,6 +18,7 @@ turn M|tick M|deliver M M K|migrate P M|idle M|ran P N|call P N N|send P I|wait 
 put M M I T P|packet M M K data N|packet M M K ack N|taken M M N|old M M N|early M M N|acked M M N|none|resent M N
 queued I|held I|forwarded I M|dropped I|served I|gone I|took I|created I P|nospace I N N|updated I N
 step 1 P|step 2 P|step 3 P|step 4 P|step 5 P|step 6 P N|step 7 P|step 8 P|lacks P N N|stays P|here I|nomove I|proto I|nochild P|pinned P
+asked I|answered I N
 final|process P ended N|registers P N N N N N N N N N N N N N N N N N|memory P N H|link P N L|server P N|name B L
 child N P at M|pending I|queue P I..|holding M P I..|inbox M I..|stream M M I..|end G
 """

@@ -65,7 +65,8 @@ class System(Drawing):
 
     def first_links(self):
         if self.careful:
-            return [self.link() for _ in range(4)] + ['{ to = "manager" }', '{ to = "switchboard" }']
+            links = [self.link() for _ in range(4)] + ['{ to = "manager" }', '{ to = "switchboard" }']
+            return links + [f'{{ control = "p{self.below(len(self.processes))}" }}']
         return [self.link() for _ in range(self.between(1, 6))]
 
     def link(self):
@@ -119,7 +120,8 @@ class System(Drawing):
     def part(self, memory, number):
         """A few lines of a program, and those of what stands behind it."""
         kinds = [self.send] * 5 + [self.receive] * 5 + [self.move] * 3 + [self.make] * 2 + [self.ask_switchboard] * 2
-        kinds += [self.ask_manager] * 2 + [self.out] * 2 + [self.compute] * 2 + [self.control, self.copy, self.drop, self.odd]
+        kinds += [self.ask_manager] * 2 + [self.ask_move] * 2 + [self.out] * 2 + [self.compute] * 2
+        kinds += [self.control, self.copy, self.drop, self.odd]
         return self.pick(kinds)(memory, f"d{number}")
 
     def rarely(self, n):
@@ -186,6 +188,11 @@ class System(Drawing):
         machine = self.below(self.machines + 1)
         image = self.below(self.images + 1)
         return self.over(label, [self.pick([1, 1, 1, 2]), machine, 0, image], [self.slot() for _ in range(self.pick([1, 2, 3, 4, 0]))], 4)
+
+    def ask_move(self, memory, label):
+        machine = self.below(self.machines + self.one_in(6))
+        body = [5, machine] if not self.rarely(6) else self.pick([[5], [5, machine, 0], [4, machine], [5, 255]])
+        return self.over(label, body, [self.slot() for _ in range(self.pick([0, 1, 1, 2]))], 6)
 
     def control(self, memory, label):
         return self.over(label, [self.pick([2, 3, 3, 4, 5])] + [0] * self.one_in(6), [self.slot()] * self.one_in(3))

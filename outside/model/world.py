@@ -13,7 +13,8 @@ from servers import Manager, Switchboard
 from values import MANAGER, SERVERS, SWITCHBOARD, Address, Message, Name, Pid, kernel_of
 
 CHUNK = 512
-TELLS_SENDER = ("user", "stop", "resume", "kill", "read", "write", "migrate")
+TELLS_SENDER = ("user", "stop", "resume", "kill", "read", "write", "migrate", "move")
+MOVED, STAYED, HAS_ENDED = 0, 1, 3  # what is answered to who asked for a move
 
 
 class Worn(Exception):
@@ -33,16 +34,22 @@ class Here:
 
 @dataclass
 class Frozen:
+    """One that leaves, and the message that asked for it where one did."""
+
     process: Process
     to: int
+    asked_by: Message | None
     held: list = field(default_factory=list)
 
 
 @dataclass
 class Incoming:
+    """One that comes, and the message that asked for it where one did."""
+
     source: int
     blocks: int
     moves: int
+    asked_by: Message | None
     process: Any = None
     held: list = field(default_factory=list)
 
@@ -287,7 +294,7 @@ class World:
             self.updated(server, message)
             return
         self.say("took", message.name)
-        sent = server.take(message)
+        sent = server.take(message, machine.number)
         if sent is not None:
             self.put(machine, sent)
 
@@ -301,8 +308,8 @@ class World:
             self.say("queued", name)
         elif kind == "update":
             self.updated(process, message)
-        elif kind == "migrate":
-            self.asked_to_move(machine, process, message)
+        elif kind in ("migrate", "move"):
+            self.is_to_move(machine, process, message)
         elif kind in ("stop", "resume"):
             process.stopped = kind == "stop"
             self.say("served", name)
@@ -320,9 +327,13 @@ class World:
 
     def handle_ended(self, machine, message):
         name, kind = message.name, message.kind
-        if kind in ("read", "write"):
+        if kind in ("read", "write", "move"):
             self.say("gone", name)
-            self.put(machine, answer(message, Address(message.to.pid, machine.number, message.to.moves), "gone", {}))
+            sender = Address(message.to.pid, machine.number, message.to.moves)
+            if kind == "move":
+                self.put(machine, answer(message, sender, "moved", {"result": HAS_ENDED}))
+            else:
+                self.put(machine, answer(message, sender, "gone", {}))
         elif kind == "migrate":
             self.say("nomove", name)
         elif kind == "update":
@@ -375,16 +386,29 @@ class World:
         request = self.own(machine, child, "migrate", {"machine": to})
         self.put(machine, Message(request.name, child, Address(MANAGER, 0), "migrate", request.what))
 
-    def asked_to_move(self, machine, process, message):
+    def is_to_move(self, machine, process, message):
+        """A schedule's request to move a process (migrate), or that of one who is told how it ended (move)."""
         to, pid = message.what["machine"], process.pid
+        asked_by = message if message.kind == "move" else None
+        if asked_by is not None:
+            self.say("asked", message.name)
         if to == machine.number:
-            self.say("here", message.name)
+            if asked_by is None:
+                self.say("here", message.name)
+            self.answered(machine, process, asked_by, MOVED)
             return
         machine.ring.remove(pid)
-        machine.records[pid] = Frozen(process, to)
+        machine.records[pid] = Frozen(process, to, asked_by)
         self.say("step", 1, pid)
         self.say("step", 2, pid)
-        self.to_kernel(machine, to, "ask", {"pid": pid, "blocks": process.blocks, "moves": process.moves})
+        ask = {"pid": pid, "blocks": process.blocks, "moves": process.moves, "asked_by": asked_by}
+        self.to_kernel(machine, to, "ask", ask)
+
+    def answered(self, machine, process, asked_by, result):
+        """A move has ended: who asked for it, if one did, is told."""
+        if asked_by is not None:
+            self.say("answered", asked_by.name, result)
+            self.put(machine, answer(asked_by, process.address(machine.number), "moved", {"result": result}))
 
     def on_ask(self, machine, message):
         pid, asked, source = message.what["pid"], message.what["blocks"], message.sender.at
@@ -393,15 +417,14 @@ class World:
             self.say("lacks", pid, slots, blocks)
             self.to_kernel(machine, source, "refuse", {"pid": pid})
             return
-        machine.records[pid] = Incoming(source, asked, message.what["moves"])
+        machine.records[pid] = Incoming(source, asked, message.what["moves"], message.what["asked_by"])
         self.say("step", 3, pid)
         self.to_kernel(machine, source, "pullstate", {"pid": pid, "chunk": 0})
 
     def on_refuse(self, machine, message):
         record = machine.records[message.what["pid"]]
         self.say("stays", message.what["pid"])
-        machine.stands(record.process)
-        machine.inbox.extendleft(reversed(record.held))
+        self.goes_on(machine, record, STAYED)
 
     def on_pullstate(self, machine, message):
         pid, chunk = message.what["pid"], message.what["chunk"]
@@ -451,5 +474,10 @@ class World:
         record = machine.records[pid]
         record.process.moves = record.moves + 1
         self.say("step", 8, pid)
+        self.goes_on(machine, record, MOVED)
+
+    def goes_on(self, machine, record, result):
+        """A process that was moving is served again; what was held for it comes before all else."""
         machine.stands(record.process)
         machine.inbox.extendleft(reversed(record.held))
+        self.answered(machine, record.process, record.asked_by, result)

@@ -2,6 +2,7 @@
 use Rattle.std.specs.Prelude.{ℕ, ◌==◌, if◌then◌else◌, codes, List, [], ◌∷◌}
 use Rattle.std.specs.Fmt.{decimal}
 use Rattle.dm_link.specs.declared.Pid.{Pid}
+use Rattle.dm_message.specs.Outcomes.{code_of_outcome}
 use Rattle.dm_onekernel.specs.Codes.{reply_code, why_code}
 use Rattle.dm_onekernel.specs.declared.label.Label.{Label}
 use Rattle.dm_onekernel.specs.declared.label.Label.TheVariants as label
@@ -46,6 +47,8 @@ label_note (label.Gone i) = note (codes "c0") (codes "gone, for " ∷ id_word i 
 label_note (label.Took i) = no_note
 label_note (label.Created i p) = note (codes "c1") (codes "makes " ∷ pid_word p ∷ [])
 label_note (label.NoSpace i s b) = note (codes "c1") (codes "no room: slots " ∷ decimal s ∷ codes ", blocks " ∷ decimal b ∷ [])
+label_note (label.Asked i) = note (codes "c3") (codes "is asked to move, " ∷ id_word i ∷ [])
+label_note (label.Answered i o) = note (codes "c3") (codes "answers " ∷ id_word i ∷ codes ": " ∷ decimal (code_of_outcome o) ∷ [])
 
 abbrev pub stage_words : Stage → List ℕ
 stage_words stage.Frozen = codes "1 is frozen: "

@@ -42,6 +42,8 @@ label_role (label.Gone i) = role.Note life.Same
 label_role (label.Took i) = role.Unseen
 label_role (label.Created i p) = role.Note (life.Made p)
 label_role (label.NoSpace i s b) = role.Note life.Same
+label_role (label.Asked i) = role.Note life.Same
+label_role (label.Answered i o) = role.Note life.Same
 
 -- acknowledgements aren't drawn
 abbrev pub packet_role : ℕ → ℕ → ℕ → Load → Role

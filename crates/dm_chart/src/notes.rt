@@ -1,6 +1,7 @@
 //! The notes beside machines, a row a line.
 ghost use Rattle.std.specs.Prelude.{◌≡◌, [], ◌∷◌, ◌++◌, OnOk, codes};
 ghost use Rattle.std.specs.Fmt.{decimal};
+ghost use Rattle.dm_message.specs.Outcomes.{code_of_outcome};
 ghost use Rattle.dm_onekernel.specs.Codes.{reply_code};
 ghost use Rattle.dm_text.specs.Words.{id_word, pid_word};
 ghost use Rattle.dm_chart.specs.Drawn.{draw_beside, draw_note};
@@ -11,7 +12,7 @@ use crate::frame::Frame;
 use dm_line::line::{Line, Stage};
 use dm_link::Pid;
 use dm_memory::NoMemory;
-use dm_message::MsgId;
+use dm_message::{MsgId, Outcome};
 use dm_onekernel::{Label, Reply};
 use dm_text::word::Word::{Byte, Message, Name, Number, Process};
 
@@ -292,7 +293,36 @@ fn put_label_note(
             free_blocks,
             ..
         } => put_no_space(into, frame, m, row, free_slots, free_blocks),
+        Label::Asked { id } => note_message(into, frame, m, row, STEP, "is asked to move, ", id),
+        Label::Answered { id, outcome } => put_answered(into, frame, m, row, id, outcome),
     }
+}
+
+/// The note of a request to move that is answered.
+fn put_answered(
+    into: &mut Vec<u8>,
+    frame: &Frame,
+    m: u8,
+    row: u32,
+    id: MsgId,
+    outcome: Outcome,
+) -> Result<(), NoMemory>
+    ensures { OnOk result (into.new.items ≡ into.old.items ++
+        draw_beside frame.now m row (codes "c3") (codes "answers " ∷ id_word id ∷ codes ": " ∷ decimal (code_of_outcome outcome) ∷ [])) }
+{
+    put_beside(
+        into,
+        frame,
+        m,
+        row,
+        STEP,
+        &[
+            Name("answers "),
+            Message(id),
+            Name(": "),
+            Byte(outcome.code()),
+        ],
+    )
 }
 
 /// The note of a call that was refused.

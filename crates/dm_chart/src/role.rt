@@ -116,7 +116,9 @@ fn label_role(label: Label) -> Role
         | Label::Refuse { .. }
         | Label::Dropped { .. }
         | Label::Gone { .. }
-        | Label::NoSpace { .. } => Role::Note(Life::Same),
+        | Label::NoSpace { .. }
+        | Label::Asked { .. }
+        | Label::Answered { .. } => Role::Note(Life::Same),
     }
 }
 

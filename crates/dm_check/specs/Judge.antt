@@ -90,6 +90,8 @@ told_label quantum (label.Gone i) ws = Falls NotDue
 told_label quantum (label.Took i) ws = Falls NotDue
 told_label quantum (label.Created i p) ws = falls_as_step (tells_made i ws)
 told_label quantum (label.NoSpace i s b) ws = Falls NotDue
+told_label quantum (label.Asked i) ws = Falls NotDue
+told_label quantum (label.Answered i o) ws = Falls NotDue
 
 -- the words of another line than the one that is due
 abbrev pub told : ℕ → Line → List (List ℕ) → Judgement

@@ -5,6 +5,7 @@ use Rattle.std.specs.declared.option.Option.TheVariants.{None, Some}
 use Rattle.dm_message.specs.declared.Message.{Message}
 use Rattle.dm_message.specs.declared.What.{What}
 use Rattle.dm_message.specs.declared.What.TheVariants as what
+use Rattle.dm_message.specs.declared.Outcome.TheVariants as ends
 use Rattle.dm_message.specs.Plain as plain
 use Rattle.dm_message.specs.Plain.{PlainMessage, PlainWhat, plain_message}
 use Rattle.dm_process.specs.declared.process.Process.{Process}
@@ -12,6 +13,7 @@ use Rattle.dm_onekernel.specs.PlainProcess.{PlainProcess}
 use Rattle.dm_onekernel.specs.Plain.{plain_process}
 use Rattle.dm_onekernel.specs.Options.{bind}
 use Rattle.dm_onekernel.specs.Pieces.{Served, answer_id, answer_to, reads, writes, written_at}
+use Rattle.dm_onekernel.specs.Service as service
 
 -- a request for a piece that lies within a memory of so many bytes
 abbrev pub IsWithin : ℕ → What → Type 0
@@ -19,10 +21,11 @@ IsWithin size (what.Read base len) = base + len ≤ size
 IsWithin size (what.Write base bytes) = base + length bytes.items ≤ size
 IsWithin size w = ⊥
 
--- a request for a piece, wherever it lies
+-- a request that is answered where its receiver has ended: for a piece, wherever it lies, or that the receiver move
 abbrev pub IsRequest : What → Type 0
 IsRequest (what.Read base len) = Unit {0}
 IsRequest (what.Write base bytes) = Unit {0}
+IsRequest (what.Move machine) = Unit {0}
 IsRequest w = ⊥
 
 -- an answer under the request's name to who asked: its receiver is `here`, so often moved
@@ -49,9 +52,14 @@ answer_with here p m (Some w) = Some (answer here p.moves m w)
 abbrev pub serving_answer : ℕ → Process → Message → Option Message
 serving_answer here p m = answer_with here p m (answer_of p m.what)
 
--- the answer where the owner has ended on machine `here`: as often moved as the request's address says
+-- what is answered where the receiver has ended
+abbrev pub gone_what : What → What
+gone_what (what.Move machine) = what.Moved ends.Ended
+gone_what w = what.Gone
+
+-- the answer where the receiver has ended on machine `here`: as often moved as the request's address says
 abbrev pub gone_answer : ℕ → Message → Message
-gone_answer here m = answer here m.to.moves m what.Gone
+gone_answer here m = answer here m.to.moves m (gone_what m.what)
 
 -- what the kernel without machines makes of a request
 abbrev pub plainly_served : PlainProcess → PlainMessage → PlainWhat → Option Served
@@ -68,4 +76,4 @@ served_plainly p m = bind m (λ m. plainly_served (plain_process p) m m.what)
 
 -- the same answer, without places
 abbrev pub plainly_gone : Option PlainMessage → Option PlainMessage
-plainly_gone m = bind m (λ m. Some (answer_to m plain.Gone))
+plainly_gone m = bind m (λ m. bind (service.gone_what m.what) (λ w. Some (answer_to m w)))

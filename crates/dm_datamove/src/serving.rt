@@ -3,11 +3,11 @@ ghost use Rattle.std.specs.Prelude.{◌≡◌, ◌<◌, Some, length};
 ghost use Rattle.dm_message.specs.Lawful.{IsLawfulMessage, IsLawfulWhat};
 ghost use Rattle.dm_message.specs.Plain.{plain_message};
 ghost use Rattle.dm_process.specs.Lawful.{IsLawfulProcess};
-ghost use Rattle.dm_datamove.specs.Serving.{IsRequest, IsWithin, after_serving, answer, answer_of, gone_answer, plain_served, plainly_gone, served_plainly, serving_answer};
+ghost use Rattle.dm_datamove.specs.Serving.{IsRequest, IsWithin, after_serving, answer, answer_of, gone_answer, gone_what, plain_served, plainly_gone, served_plainly, serving_answer};
 
 use crate::body_at;
 use dm_link::{Addr, MACHINES};
-use dm_message::{Message, MsgId, What};
+use dm_message::{Message, MsgId, Outcome, What};
 use dm_process::Process;
 use dm_processor::Cells;
 
@@ -77,7 +77,19 @@ pub fn serve(process: &mut Process, message: &Message, here: u8) -> Message
     serve_request(process, message, here)
 }
 
-/// The answer to a request for a piece where its receiver has ended, on machine `here`.
+/// What is answered to a request whose receiver has ended.
+fn gone_what(request: &What) -> What
+    ensures { result ≡ gone_what request.now }
+{
+    match request {
+        What::Move { .. } => What::Moved {
+            outcome: Outcome::Ended,
+        },
+        _ => What::Gone,
+    }
+}
+
+/// The answer to a request for a piece, or to one that its receiver move, where the receiver has ended, on machine `here`.
 pub fn gone(message: &Message, here: u8) -> Message
     requires lawful { IsLawfulMessage message.now }
     requires here { here < MACHINES }
@@ -86,5 +98,5 @@ pub fn gone(message: &Message, here: u8) -> Message
     ensures plain { plain_message result ≡ plainly_gone (plain_message message.now) }
     ensures lawful { IsLawfulMessage result }
 {
-    answer(message, here, message.to.moves, What::Gone)
+    answer(message, here, message.to.moves, gone_what(&message.what))
 }

@@ -39,6 +39,8 @@ sort_of_label (label.Gone id) = None
 sort_of_label (label.Took id) = None
 sort_of_label (label.Created id p) = None
 sort_of_label (label.NoSpace id s b) = None
+sort_of_label (label.Asked id) = None
+sort_of_label (label.Answered id o) = None
 
 -- as what a line is counted
 abbrev pub counted_as : Line → Option Counted

@@ -6,6 +6,7 @@ use Rattle.dm_link.specs.declared.Pid.{Pid}
 use Rattle.dm_message.specs.declared.Asker.{Asker}
 use Rattle.dm_message.specs.declared.Message.{Message}
 use Rattle.dm_message.specs.declared.MsgId.{MsgId}
+use Rattle.dm_message.specs.declared.Outcome.TheVariants as ends
 use Rattle.dm_message.specs.declared.What.TheVariants as what
 use Rattle.dm_process.specs.declared.process.Process.{Process}
 use Rattle.dm_room.specs.Room.{free_blocks, free_slots, has_room, with_reserved}
@@ -21,7 +22,7 @@ use Rattle.dm_line.specs.declared.line.Line.TheVariants as line
 use Rattle.dm_line.specs.declared.line.Stage.TheVariants as stage
 use Rattle.dm_kernel.specs.declared.part.Part.TheVariants.{Says, Routes}
 use Rattle.dm_kernel.specs.State.{KernelState, Turned, own, turned, with_known, with_sent}
-use Rattle.dm_kernel.specs.Departing.{takes_step}
+use Rattle.dm_kernel.specs.Departing.{takes_step, tells_asker}
 
 -- a process asks to come: its slot and its blocks are taken, and its first chunk is asked for; or what is free is said
 abbrev pub with_expected : Boot → KernelState → Pid → ℕ → ℕ → ℕ → Option Asker → KernelState
@@ -59,7 +60,8 @@ takes_piece s m p a = took_piece s m p (with_piece a m.what)
 abbrev pub restarts_as : KernelState → Pid → Arrival → Option Process → Option Turned
 restarts_as s p a None = None
 restarts_as s p a (Some x) =
-    turned (record s { records = with_record s.records p (Here x); ring = s.ring ++ p ∷ []; inbox = a.held ++ s.inbox }) (takes_step stage.Restarted p ∷ [])
+    turned (record s { records = with_record s.records p (Here x); ring = s.ring ++ p ∷ []; inbox = a.held ++ s.inbox })
+    (takes_step stage.Restarted p ∷ tells_asker s.here x ends.Done a.asker)
 
 abbrev pub restarts : KernelState → Pid → Arrival → Option Turned
 restarts s p a = restarts_as s p a (restarted a)

@@ -31,7 +31,7 @@ use Rattle.dm_kernel.specs.declared.part.Part.TheVariants.{Says, Routes}
 use Rattle.dm_kernel.specs.Begun.{child_of, with_child}
 use Rattle.dm_kernel.specs.declared.kernel.Servers.{Servers}
 use Rattle.dm_kernel.specs.Coming.{answers_ask, holds_arriving, restarts, takes_piece}
-use Rattle.dm_kernel.specs.Departing.{gives_piece, holds_leaving, leaves, migrates, stays}
+use Rattle.dm_kernel.specs.Departing.{asked_to_move, gives_piece, holds_leaving, leaves, migrates, stays}
 use Rattle.dm_kernel.specs.Following.{board_follows, forwards, manager_follows, process_follows, updated}
 use Rattle.dm_kernel.specs.State.{KernelState, KernelKnown, Turned, turned, says, with_here, without_process, drops}
 
@@ -87,7 +87,7 @@ here_handles s m x (what.PullBlock pid block) = None
 here_handles s m x (what.Memory pid block bytes) = None
 here_handles s m x (what.AllTaken pid) = None
 here_handles s m x (what.Restart pid) = None
-here_handles s m x (what.Move machine) = None
+here_handles s m x (what.Move machine) = asked_to_move s m x machine
 here_handles s m x (what.Moved outcome) = None
 here_handles s m x (what.CallOff pid) = None
 here_handles s m x (what.Bury pid) = None
@@ -122,7 +122,7 @@ ended_handles s m (what.PullBlock pid block) = None
 ended_handles s m (what.Memory pid block bytes) = None
 ended_handles s m (what.AllTaken pid) = None
 ended_handles s m (what.Restart pid) = None
-ended_handles s m (what.Move machine) = None
+ended_handles s m (what.Move machine) = is_gone s m
 ended_handles s m (what.Moved outcome) = None
 ended_handles s m (what.CallOff pid) = None
 ended_handles s m (what.Bury pid) = None
@@ -196,7 +196,7 @@ board_took s m v (Some t) = turned (record s { servers = Some (record v { board 
 
 abbrev pub board_handles : KernelState → Message → Option Servers → Option Turned
 board_handles s m None = None
-board_handles s m (Some v) = board_took s m v (board.takes v.board m.what)
+board_handles s m (Some v) = board_took s m v (board.takes s.here v.board m.what)
 
 abbrev pub told_manager : KernelState → Message → Servers → What → Option Turned
 told_manager s m v (what.Update about) = manager_follows s m v about
@@ -208,7 +208,7 @@ manager_took s m v (Some t) = turned (record s { servers = Some (record v { mana
 
 abbrev pub manager_handles : KernelState → Message → Option Servers → Option Turned
 manager_handles s m None = None
-manager_handles s m (Some v) = manager_took s m v (manage.takes v.manager m.id.n m.what)
+manager_handles s m (Some v) = manager_took s m v (manage.takes s.here v.manager m.id.n m.what)
 
 -- the receiver is a kernel, a server or a process
 abbrev pub handles : Boot → KernelState → Message → Option Turned

@@ -1,9 +1,11 @@
 -- The kernels whose processes state bytes can carry, whose messages packets can carry, and whose servers are such.
 use Rattle.std.specs.Prelude.{List, ◌≤◌}
 use Rattle.std.specs.List.{All}
+use Rattle.std.specs.declared.option.Option.{Option}
 use Rattle.std.specs.Option.{IfSome}
 use Rattle.dm_link.specs.declared.Pid.{Pid}
-use Rattle.dm_link.specs.Lawful.{IsMachine}
+use Rattle.dm_link.specs.Lawful.{IsLawfulAddr, IsMachine}
+use Rattle.dm_message.specs.declared.Asker.{Asker}
 use Rattle.dm_message.specs.Lawful.{IsLawfulMessage}
 use Rattle.dm_process.specs.Lawful.{IsLawfulProcess}
 use Rattle.dm_room.specs.Room.{Taken}
@@ -21,14 +23,20 @@ pub record IsLawfulPair (v : Servers) : Type 0 where
   pub board : IsLawfulBoard v.board
   pub manager : IsLawfulManager v.manager
 
+-- whoever waits to hear how a move ends is where packets can go
+abbrev pub IsLawfulAsker : Option Asker → Type 0
+IsLawfulAsker asker = IfSome asker (λ (k : Asker). IsLawfulAddr k.addr)
+
 -- a process that leaves goes to a machine
 pub record IsLawfulDeparture (d : Departure) : Type 0 where
   pub process : IsLawfulProcess d.process
   pub to : IsMachine d.to
+  pub asker : IsLawfulAsker d.asker
   pub held : All IsLawfulMessage d.held
 
 pub record IsLawfulArrival (a : Arrival) : Type 0 where
   pub home : IsMachine a.pid.home
+  pub asker : IsLawfulAsker a.asker
   pub held : All IsLawfulMessage a.held
 
 -- what is known of a process

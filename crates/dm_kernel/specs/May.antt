@@ -50,6 +50,7 @@ FitsHere s m x (what.Block bytes) = IsAwaited x.status m
 FitsHere s m x what.Written = IsAwaited x.status m
 FitsHere s m x what.Gone = IsAwaited x.status m
 FitsHere s m x (what.Migrate machine) = (x.moves < most) × (s.sent < most)
+FitsHere s m x (what.Move machine) = (x.moves < most) × (s.sent < most)
 FitsHere s m x (what.Update about) = ⊤
 FitsHere s m x w = ⊥
 
@@ -64,6 +65,7 @@ FitsEnded (what.Block bytes) = ⊤
 FitsEnded what.Written = ⊤
 FitsEnded what.Gone = ⊤
 FitsEnded (what.Migrate machine) = ⊤
+FitsEnded (what.Move machine) = ⊤
 FitsEnded (what.Update about) = ⊤
 FitsEnded w = ⊥
 

@@ -12,14 +12,14 @@ ghost use Rattle.dm_kernel.specs.State.{own, turned, with_known, with_sent};
 ghost use Rattle.dm_line.specs.declared.line.Line.TheVariants as line_;
 ghost use Rattle.dm_line.specs.declared.line.Stage.TheVariants as stage_;
 
-use crate::depart::step;
+use crate::depart::{step, tell_asker};
 use crate::kernel::Kernel;
 use crate::part::Part;
 use dm_line::line::{Line, Stage};
 use dm_link::Pid;
 use dm_lists::Queue;
 use dm_memory::{NoMemory, Parcel, list_of};
-use dm_message::{Message, MsgId, What};
+use dm_message::{Message, MsgId, Outcome, What};
 use dm_migrate::{Arriving, Ask, Asked, Wanted, answer_ask};
 use dm_onekernel::Boot;
 use dm_process::Process;
@@ -158,14 +158,18 @@ impl Kernel {
         self.say_and_route(said, pull)
     }
 
-    /// Lets a process go on that has come: it is served, and what was held is handled first.
+    /// Lets a process go on that has come: it is served, and what was held is handled first; whoever asked for the move is told.
     pub(crate) fn restart(&mut self, pid: Pid) -> Result<Vec<Part>, NoMemory>
         requires { IsSuch MayRestart (incoming_of (at self.old.records pid)) }
         ensures { Answers result self.new (bind (incoming_of (at self.old.records pid)) (restarts (kernel_state self.old) pid)) }
     {
-        let (process, held) = self.records.take_incoming(pid).restart();
+        let arriving = self.records.take_incoming(pid);
+        let asker = arriving.asker();
+        let (process, held) = arriving.restart();
+        let mut parts = list_of(self.alloc, [step(Stage::Restarted, pid)])?;
+        tell_asker(&process, self.here, Outcome::Done, asker, &mut parts)?;
         self.go_on(pid, process, held)?;
-        list_of(self.alloc, [step(Stage::Restarted, pid)])
+        Ok(parts)
     }
 
     /// Sets a process into its place, at the ring's back, and the messages that were held for it before the inbox.

@@ -1,13 +1,16 @@
 //! What a machine's kernel does where a process leaves it.
-ghost use Rattle.std.specs.Prelude.{◌≡◌, ◌≢◌, ◌<◌, ◌+◌, ◌++◌, ◌∷◌, [], IfOk, IfSome, IsSome, OnOk, length, map};
+ghost use Rattle.std.specs.Prelude.{◌≡◌, ◌≢◌, ◌<◌, ◌+◌, ◌++◌, ◌∷◌, [], IfOk, IfSome, IsSome, OnOk, Some, length, map};
 ghost use Rattle.dm_records.specs.Records.{at, frozen_of, here_of};
-ghost use Rattle.dm_migrate.specs.Departure.{CanMove, Departure};
+ghost use Rattle.dm_link.specs.Places.{kernel_at};
+ghost use Rattle.dm_migrate.specs.Departure.{CanMove, Departure, ask_of};
 ghost use Rattle.dm_migrate.specs.Pieces.{HasBlock, HasChunk, block_of, chunk_of, state_of};
 ghost use Rattle.dm_onekernel.specs.Options.{bind};
-ghost use Rattle.dm_kernel.specs.Departing.{freezes, gives_piece, holds_leaving, leaves, migrates, stays, takes_step};
+ghost use Rattle.dm_process.specs.declared.process.Process.{Process};
+ghost use Rattle.dm_kernel.specs.Departing.{asked_to_move, gives_piece, holds_leaving, leaves, migrates, stays, takes_step, tells_asker, with_frozen};
 ghost use Rattle.dm_kernel.specs.May.{IsSuch, MayLeave};
-ghost use Rattle.dm_kernel.specs.Meets.{Answers, kernel_state};
+ghost use Rattle.dm_kernel.specs.Meets.{Answers, IsIn, kernel_state};
 ghost use Rattle.dm_kernel.specs.Served.{CanFreeze, IsHere};
+ghost use Rattle.dm_kernel.specs.State.{own, with_sent};
 ghost use Rattle.dm_line.specs.declared.line.Line.TheVariants as line_;
 ghost use Rattle.dm_line.specs.declared.line.Stage.TheVariants as stage_;
 
@@ -17,8 +20,10 @@ use crate::ring::remove;
 use dm_line::line::{Line, Stage};
 use dm_link::{Addr, Pid};
 use dm_memory::{NoMemory, Parcel, list_of, push};
-use dm_message::{Message, What};
-use dm_migrate::freeze;
+use dm_message::{Asker, Message, Outcome, What};
+use dm_migrate::{asker_of, freeze, moved_answer, request_of};
+use dm_onekernel::Label;
+use dm_process::Process;
 use dm_records::Record;
 use std::alloc::Global;
 
@@ -33,23 +38,53 @@ impl Kernel {
         if to == self.here {
             self.say(Line::Here(message.id))
         } else {
-            self.freeze(message.to.pid, to)
+            let pid = message.to.pid;
+            let ask = self.freeze(pid, to, None)?;
+            self.say_frozen(pid, ask)
         }
     }
 
-    /// Freezes a process that is to leave for a machine: it isn't served any more, and that machine is asked.
-    fn freeze(&mut self, pid: Pid, to: u8) -> Result<Vec<Part>, NoMemory>
-        requires process { IsHere (CanFreeze (kernel_state self.old)) (at self.old.records pid) }
-        ensures answers { Answers result self.new (bind (here_of (at self.old.records pid)) (λ x. freezes (kernel_state self.old) pid x to)) }
+    /// Lets a process leave for a machine, as it is asked, and tells who asked how that ended; at once, where the process is
+    /// there already.
+    pub(crate) fn move_asked(&mut self, message: &Message, to: u8) -> Result<Vec<Part>, NoMemory>
+        requires { IsHere (CanFreeze (kernel_state self.old)) (at self.old.records message.now.to.pid) }
+        ensures answers { Answers result self.new (bind (here_of (at self.old.records message.now.to.pid))
+            (λ x. asked_to_move (kernel_state self.old) message.now x to)) }
+        ensures whole { OnOk result (to ≢ self.old.here → IfSome (here_of (at self.old.records message.now.to.pid)) CanMove) }
+    {
+        let pid = message.to.pid;
+        let here = self.here;
+        let asker = Some(asker_of(message));
+        let asked = Part::Says(Line::Label(Label::Asked { id: message.id }));
+        let mut parts = list_of(self.alloc, [asked])?;
+        if to == here {
+            let process = self.records.here_mut(pid).unwrap();
+            tell_asker(process, here, Outcome::Done, asker, &mut parts)?;
+        } else {
+            let ask = self.freeze(pid, to, asker)?;
+            push(&mut parts, step(Stage::Frozen, pid))?;
+            push(&mut parts, step(Stage::Asked, pid))?;
+            push(&mut parts, Part::Routes(ask))?;
+        }
+        Ok(parts)
+    }
+
+    /// Freezes a process that is to leave for a machine, and keeps who waits to hear how that ends: it isn't served any more. The
+    /// ask that is to go to that machine.
+    fn freeze(&mut self, pid: Pid, to: u8, asker: Option<Asker>) -> Result<Message, NoMemory>
+        requires { IsHere (CanFreeze (kernel_state self.old)) (at self.old.records pid) }
+        ensures state { (x : Process) → here_of (at self.old.records pid) ≡ Some x →
+            OnOk result (IsIn self.new (with_sent (with_frozen (kernel_state self.old) pid x to asker))) }
+        ensures ask { (x : Process) → here_of (at self.old.records pid) ≡ Some x →
+            IfOk result (λ m. m ≡ own (kernel_state self.old) (kernel_at to) (ask_of x asker)) }
         ensures whole { OnOk result (IfSome (here_of (at self.old.records pid)) CanMove) }
     {
         let process = self.records.take_here(pid);
-        match freeze(self.alloc, process, to, None) {
+        match freeze(self.alloc, process, to, asker) {
             Ok((leaving, ask)) => {
                 self.records.put_back(pid, Record::Frozen(leaving));
                 remove(&mut self.ring, pid);
-                let ask = self.send(Addr::of_kernel(to), ask);
-                self.say_asked(pid, ask)
+                Ok(self.send(Addr::of_kernel(to), ask))
             }
             Err((process, e)) => {
                 self.records.put_back(pid, Record::Here(process));
@@ -59,7 +94,7 @@ impl Kernel {
     }
 
     /// What is said of a process that is frozen, and the ask that goes out.
-    fn say_asked(&self, pid: Pid, ask: Message) -> Result<Vec<Part>, NoMemory>
+    fn say_frozen(&self, pid: Pid, ask: Message) -> Result<Vec<Part>, NoMemory>
         ensures { IfOk result (λ parts. parts.items ≡ takes_step stage_.Frozen pid ∷ takes_step stage_.Asked pid ∷ Part.Routes ask ∷ []) }
     {
         let frozen = step(Stage::Frozen, pid);
@@ -84,14 +119,19 @@ impl Kernel {
         }
     }
 
-    /// Lets a process that was to leave stay: it is served again, and what was held is handled first.
+    /// Lets a process that was to leave stay: it is served again, and what was held is handled first; whoever asked for the move
+    /// is told.
     pub(crate) fn stay(&mut self, pid: Pid) -> Result<Vec<Part>, NoMemory>
         requires { IsSome (frozen_of (at self.old.records pid)) }
         ensures { Answers result self.new (bind (frozen_of (at self.old.records pid)) (stays (kernel_state self.old) pid)) }
     {
-        let (process, held) = self.records.take_frozen(pid).stay();
+        let leaving = self.records.take_frozen(pid);
+        let asker = leaving.asker();
+        let (process, held) = leaving.stay();
+        let mut parts = list_of(self.alloc, [Part::Says(Line::Stays(pid))])?;
+        tell_asker(&process, self.here, Outcome::Stayed, asker, &mut parts)?;
         self.go_on(pid, process, held)?;
-        self.say(Line::Stays(pid))
+        Ok(parts)
     }
 
     /// Gives a chunk of the state bytes of a process that leaves.
@@ -174,6 +214,30 @@ impl Kernel {
         push(&mut parts, Part::Routes(Parcel::new(self.alloc, restart)?))?;
         Ok(parts)
     }
+}
+
+/// Tells who asked for the move of a process how it ended, if somebody asked; the process is on machine `here`.
+pub(crate) fn tell_asker(
+    process: &Process,
+    here: u8,
+    outcome: Outcome,
+    asker: Option<Asker>,
+    parts: &mut Vec<Part>,
+) -> Result<(), NoMemory>
+    ensures { OnOk result (parts.new.items ≡ parts.old.items ++ tells_asker here process.now outcome asker) }
+{
+    let Some(asker) = asker else {
+        return Ok(());
+    };
+    let id = request_of(asker);
+    push(
+        parts,
+        Part::Says(Line::Label(Label::Answered { id, outcome })),
+    )?;
+    push(
+        parts,
+        Part::Routes(moved_answer(process, here, outcome, asker)),
+    )
 }
 
 /// What is said of a step of a migration.

@@ -89,6 +89,7 @@ impl Kernel {
             What::Written => self.land_piece(said),
             What::Gone => self.land_piece(said),
             What::Migrate { machine } => self.migrate(said, *machine),
+            What::Move { machine } => self.move_asked(said, *machine),
             What::Update { about } => self.follow(said, *about),
             // No other kind is sent to a process: what a message must fit says so.
             _ => unreachable!(),
@@ -105,6 +106,7 @@ impl Kernel {
         match &message.what {
             What::Read { .. } => self.answer_gone(message),
             What::Write { .. } => self.answer_gone(message),
+            What::Move { .. } => self.answer_gone(message),
             What::User { .. } => self.drop_message(message),
             What::Stop => self.drop_message(message),
             What::Resume => self.drop_message(message),

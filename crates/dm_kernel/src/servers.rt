@@ -16,6 +16,7 @@ ghost use Rattle.dm_kernel.specs.State.{says};
 use crate::kernel::Kernel;
 use crate::part::Part;
 use dm_line::line::Line;
+use dm_link::MACHINES;
 use dm_memory::{NoMemory, Parcel, list_of};
 use dm_message::{Message, MsgId, What};
 use dm_onekernel::Label;
@@ -23,7 +24,8 @@ use dm_onekernel::Label;
 impl Kernel {
     /// Handles a message for the switchboard.
     pub(crate) fn for_board(&mut self, message: &Message) -> Result<Vec<Part>, NoMemory>
-        requires { FitsBoard message.now self.old.servers }
+        requires fits { FitsBoard message.now self.old.servers }
+        requires here { self.old.here < MACHINES }
         ensures { Answers result self.new (board_handles (kernel_state self.old) message.now self.old.servers) }
     {
         match &message.what {
@@ -36,15 +38,19 @@ impl Kernel {
     fn take_for_board(&mut self, message: &Message) -> Result<Vec<Part>, NoMemory>
         requires user { kind_of message.now.what ≡ kind.User }
         requires fits { IsSuch (λ (v : Servers). v.board.sent < u32.MAX) self.old.servers }
-        ensures { Answers result self.new (bind self.old.servers (λ v. board_took (kernel_state self.old) message.now v (takes v.board message.now.what))) }
+        requires here { self.old.here < MACHINES }
+        ensures { Answers result self.new (bind self.old.servers
+            (λ v. board_took (kernel_state self.old) message.now v (takes self.old.here v.board message.now.what))) }
     {
-        let took = self.servers.as_mut().unwrap().board.take(message)?;
+        let here = self.here;
+        let took = self.servers.as_mut().unwrap().board.take(message, here)?;
         self.took(message.id, took.answer)
     }
 
     /// Handles a message for the process manager.
     pub(crate) fn for_manager(&mut self, message: &Message) -> Result<Vec<Part>, NoMemory>
-        requires { FitsManager message.now self.old.servers }
+        requires fits { FitsManager message.now self.old.servers }
+        requires here { self.old.here < MACHINES }
         ensures { Answers result self.new (manager_handles (kernel_state self.old) message.now self.old.servers) }
     {
         match &message.what {
@@ -57,10 +63,12 @@ impl Kernel {
     fn take_for_manager(&mut self, message: &Message) -> Result<Vec<Part>, NoMemory>
         requires fits { IsSuch (λ (v : Servers). IsForManager v.manager message.now.id.n message.now.what × (v.manager.sent < u32.MAX) ×
             (length v.manager.children < 4294967295)) self.old.servers }
+        requires here { self.old.here < MACHINES }
         ensures { Answers result self.new (bind self.old.servers
-            (λ v. manager_took (kernel_state self.old) message.now v (manage.takes v.manager message.now.id.n message.now.what))) }
+            (λ v. manager_took (kernel_state self.old) message.now v (manage.takes self.old.here v.manager message.now.id.n message.now.what))) }
     {
-        let sent = self.servers.as_mut().unwrap().manager.take(message)?;
+        let here = self.here;
+        let sent = self.servers.as_mut().unwrap().manager.take(message, here)?;
         self.took(message.id, sent)
     }
 

@@ -94,7 +94,7 @@ impl Kernel {
         }
     }
 
-    /// Answers a request for a piece of a process that has ended.
+    /// Answers a request for a piece of a process that has ended, or one that it move.
     pub(crate) fn answer_gone(&self, message: &Message) -> Result<Vec<Part>, NoMemory>
         requires lawful { IsLawfulMessage message.now }
         requires here { self.now.here < MACHINES }

@@ -14,7 +14,7 @@ use Rattle.dm_onekernel.specs.declared.label.Label.TheVariants as label
 use Rattle.dm_onekernel.specs.declared.label.Why.{Why}
 use Rattle.dm_onekernel.specs.Boot.{IsValid}
 use Rattle.dm_onekernel.specs.PlainProcess.{PlainProcess, Moving}
-use Rattle.dm_onekernel.specs.Kernel.{Alive, Ended, OneKernel}
+use Rattle.dm_onekernel.specs.Kernel.{Alive, Ended, Note, OneKernel}
 use Rattle.dm_onekernel.specs.Pieces.{answer_id}
 use Rattle.dm_onekernel.specs.Start.{start}
 use Rattle.dm_onekernel.specs.Step.{step, replay}
@@ -35,6 +35,8 @@ reception id (label.Gone j) = 0
 reception id (label.Took j) = 0
 reception id (label.Created j child) = 0
 reception id (label.NoSpace j slots blocks) = 0
+reception id (label.Asked j) = 0
+reception id (label.Answered j o) = 0
 
 -- how many of these steps receive the message
 abbrev pub receptions : MsgId → List Label → ℕ
@@ -97,3 +99,39 @@ MoverHasOne =
     (b : Boot) (ls : List Label) (s : OneKernel) (p : Pid) (x : PlainProcess) (dir : Direction) (owner : Pid) (base own left pending : ℕ) →
     IsValid b → replay (start b) ls ≡ Some s → s.processes p ≡ Some (Alive x) → x.status ≡ Moving dir owner base own left pending →
     in_bag (s.bag (id_of p pending)) + in_bag (s.bag (answer_id (id_of p pending))) ≡ 1
+
+-- of the requests to move that processes follow: each process follows one at most, and each request is followed by one process at
+-- most, which lives; such a request isn't in the bag any more, nor is an answer to it
+pub record NotesAgree (s : OneKernel) : Type 0 where
+  pub noted : (p : Pid) (n : Note) → s.notes p ≡ Some n → s.noted n.id ≡ Some p
+  pub follows : (i : MsgId) (p : Pid) → s.noted i ≡ Some p → (n : Note) × (s.notes p ≡ Some n) × (n.id ≡ i)
+  pub lives : (p : Pid) (n : Note) → s.notes p ≡ Some n → (x : PlainProcess) × (s.processes p ≡ Some (Alive x))
+  pub taken : (i : MsgId) (p : Pid) → s.noted i ≡ Some p → (s.bag i ≡ None) × (s.bag (answer_id i) ≡ None)
+
+abbrev pub NotesAlwaysAgree : Type 0
+NotesAlwaysAgree = (b : Boot) (ls : List Label) (s : OneKernel) → IsValid b → replay (start b) ls ≡ Some s → NotesAgree s
+
+-- a step is one of a process: it executes, calls, receives or ends, or a message for it is served
+abbrev pub IsOwnStep : OneKernel → Pid → Label → Type 0
+IsOwnStep s p (label.Ran q k) = q ≡ p
+IsOwnStep s p (label.Call q n c) = q ≡ p
+IsOwnStep s p (label.Send q id) = q ≡ p
+IsOwnStep s p (label.Wait q) = q ≡ p
+IsOwnStep s p (label.Out q w) = q ≡ p
+IsOwnStep s p (label.End q y) = q ≡ p
+IsOwnStep s p (label.Receive q id) = q ≡ p
+IsOwnStep s p (label.Refuse q id c) = q ≡ p
+IsOwnStep s p (label.Served id) = (m : PlainMessage) × (s.bag id ≡ Some m) × (m.to ≡ p)
+IsOwnStep s p (label.Asked id) = (m : PlainMessage) × (s.bag id ≡ Some m) × (m.to ≡ p)
+IsOwnStep s p (label.Dropped id) = ⊥
+IsOwnStep s p (label.Gone id) = ⊥
+IsOwnStep s p (label.Took id) = ⊥
+IsOwnStep s p (label.Created id child) = ⊥
+IsOwnStep s p (label.NoSpace id slots blocks) = ⊥
+IsOwnStep s p (label.Answered id o) = ⊥
+
+-- while a process follows a request to move, no step is its own, and its value stays
+abbrev pub NotedRests : Type 0
+NotedRests =
+    (b : Boot) (ls : List Label) (s t : OneKernel) (l : Label) (p : Pid) (n : Note) → IsValid b → replay (start b) ls ≡ Some s → step s l ≡ Some t → s.notes p ≡ Some n
+    → (IsOwnStep s p l → ⊥) × (t.processes p ≡ s.processes p)

@@ -1,5 +1,5 @@
 //! What holds of every run of the kernel without machines, whatever the boot file and the steps.
-ghost use Rattle.dm_laws.specs.Laws.{CountsOnlyRise, EndedStays, EntersOnce, MoverHasOne, ReceivesOnce, StaysOrLeaves};
+ghost use Rattle.dm_laws.specs.Laws.{CountsOnlyRise, EndedStays, EntersOnce, MoverHasOne, NotedRests, NotesAlwaysAgree, ReceivesOnce, StaysOrLeaves};
 
 /// No message is received twice.
 pub fn received_once()
@@ -30,4 +30,16 @@ pub fn counts_only_rise()
 /// the answer to it.
 pub fn mover_has_one()
     ensures { MoverHasOne }
+{}
+
+/// A process follows one request to move at most, and a request is followed by one process at most, which lives. While it is
+/// followed, neither the request nor an answer to it is in the bag.
+pub fn notes_always_agree()
+    ensures { NotesAlwaysAgree }
+{}
+
+/// While a process follows a request to move, no step is its own: it doesn't execute, call, receive or end, no message for it is
+/// served, it is asked for no other move, and its value stays.
+pub fn noted_rests()
+    ensures { NotedRests }
 {}

@@ -5,6 +5,7 @@ ghost use Rattle.std.specs.Prelude.{◌≡◌, is_some};
 ghost use Rattle.dm_link.specs.Places.{relocated};
 ghost use Rattle.dm_message.specs.Kinds.{kind_of};
 ghost use Rattle.dm_message.specs.Lawful.{is_answer};
+ghost use Rattle.dm_message.specs.Outcomes.{code_of_outcome};
 ghost use Rattle.dm_message.specs.Plain.{plain_message, plain_what};
 
 mod copies;
@@ -167,6 +168,19 @@ pub enum Outcome {
     Stayed,
     /// The process had ended.
     Ended,
+}
+
+impl Outcome {
+    /// The number that stands for it in packets, in printed lines and in the manager's answer: 0, 1 or 3.
+    pub fn code(self) -> u8
+        ensures { result ≡ code_of_outcome self }
+    {
+        match self {
+            Outcome::Done => 0,
+            Outcome::Stayed => 1,
+            Outcome::Ended => 3,
+        }
+    }
 }
 
 impl MessageKind {

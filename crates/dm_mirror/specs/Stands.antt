@@ -51,7 +51,7 @@ HereStands l p queue x = ((q : List Message) × (l.processes p ≡ Some (record 
 -- a process that leaves for a machine is held back there, and can be carried whole
 pub record LeavesStand (l : Placed) (p : Pid) (queue held_ : List MsgId) (at : ℕ) (d : Departure) : Type 0 where
   pub to : d.to ≡ at
-  pub asker : d.asker ≡ None
+  pub asker : d.asker ≡ l.notes p
   pub here : HereStands l p queue d.process
   pub held : AreMessages l.bag held_ d.held
   pub whole : CanMove d.process
@@ -62,7 +62,7 @@ pub record ComesStand (l : Placed) (p : Pid) (held_ : List MsgId) (a : Arrival) 
   pub there : l.processes p ≡ Some process
   -- whatever waits for it
   pub whole : CanMove (record process { queue = [] })
-  pub pieces : a ≡ coming process None a.held a.wanted
+  pub pieces : a ≡ coming process (l.notes p) a.held a.wanted
   pub held : AreMessages l.bag held_ a.held
 
 -- what a machine knows of a process is what the lines say

@@ -4,6 +4,7 @@ use Rattle.std.specs.declared.option.Option.{Option}
 use Rattle.std.specs.declared.option.Option.TheVariants.{None, Some}
 use Rattle.dm_link.specs.declared.Pid.{Pid}
 use Rattle.dm_linkupdate.specs.Notice.{kernel_at}
+use Rattle.dm_message.specs.declared.Asker.{Asker}
 use Rattle.dm_message.specs.declared.Message.{Message}
 use Rattle.dm_message.specs.declared.MsgId.{MsgId}
 use Rattle.dm_message.specs.declared.What.{What}
@@ -36,17 +37,17 @@ abbrev pub Wants : Option Arrival → Wanted → Type 0
 Wants None w = ⊥
 Wants (Some a) w = a.wanted ≡ w
 
--- what the message carries, where so many pieces were asked for
-abbrev pub Carries : Pid → Process → ℕ → Option Arrival → What → Type 0
-Carries p x n a (what.Ask pid blocks moves size asker) = what.Ask pid blocks moves size asker ≡ ask_of x None
-Carries p x n a (what.Refuse pid slots blocks) = pid ≡ p
-Carries p x n a (what.PullState pid chunk) = (pid ≡ p) × IsAsked x n (Chunk chunk) × Wants a (Chunk chunk)
-Carries p x n a (what.State pid chunk last bytes) = (what.State pid chunk last bytes ≡ chunk_of x.pid (state_of x) chunk) × IsAsked x n (Chunk chunk) × Wants a (Chunk chunk)
-Carries p x n a (what.PullBlock pid block) = (pid ≡ p) × IsAsked x n (Block block) × Wants a (Block block)
-Carries p x n a (what.Memory pid block bytes) = (what.Memory pid block bytes ≡ block_of x.pid x.memory block) × IsAsked x n (Block block) × Wants a (Block block)
-Carries p x n a (what.AllTaken pid) = (pid ≡ p) × Wants a Nothing
-Carries p x n a (what.Restart pid) = (pid ≡ p) × Wants a Nothing
-Carries p x n a w = ⊥
+-- what the message carries, where so many pieces were asked for, and this one waits to hear how the move ends, if somebody does
+abbrev pub Carries : Pid → Process → Option Asker → ℕ → Option Arrival → What → Type 0
+Carries p x k n a (what.Ask pid blocks moves size asker) = what.Ask pid blocks moves size asker ≡ ask_of x k
+Carries p x k n a (what.Refuse pid slots blocks) = pid ≡ p
+Carries p x k n a (what.PullState pid chunk) = (pid ≡ p) × IsAsked x n (Chunk chunk) × Wants a (Chunk chunk)
+Carries p x k n a (what.State pid chunk last bytes) = (what.State pid chunk last bytes ≡ chunk_of x.pid (state_of x) chunk) × IsAsked x n (Chunk chunk) × Wants a (Chunk chunk)
+Carries p x k n a (what.PullBlock pid block) = (pid ≡ p) × IsAsked x n (Block block) × Wants a (Block block)
+Carries p x k n a (what.Memory pid block bytes) = (what.Memory pid block bytes ≡ block_of x.pid x.memory block) × IsAsked x n (Block block) × Wants a (Block block)
+Carries p x k n a (what.AllTaken pid) = (pid ≡ p) × Wants a Nothing
+Carries p x k n a (what.Restart pid) = (pid ≡ p) × Wants a Nothing
+Carries p x k n a w = ⊥
 
 -- the machine that the process comes to: the source's messages go there, and the others come from there
 abbrev pub destination_of : MsgId → Told → ℕ
@@ -63,7 +64,7 @@ pub record TokenStands (v : View) (l : Placed) (records : AllRecords) (p : Pid) 
   pub is : l.bag i ≡ Some message
   -- it comes from a kernel
   pub sender : message.sender ≡ kernel_at i.from.home
-  pub carries : Carries p process (v.asked p) (incoming_of (records (destination_of i t) p)) message.what
+  pub carries : Carries p process (l.notes p) (v.asked p) (incoming_of (records (destination_of i t) p)) message.what
 
 abbrev pub TokensStand : View → Placed → AllRecords → Type 0
 TokensStand v l records = (p : Pid) (i : MsgId) (t : Told) (z : Spot) → v.told i ≡ Some t → is_between t.kind ≡ true → t.about ≡ Of p → 1 ≤ standing v i z → TokenStands v l records p i t

@@ -1,6 +1,6 @@
 -- Where nothing is on its way between machines, all messages are queued, and each request to move has come to its end.
 use Rattle.std.specs.Prelude.{◌≡◌, ◌≢◌, ◌==◌, ℕ, Bool, true, false, List, []}
-use Rattle.std.specs.declared.option.Option.TheVariants.{Some}
+use Rattle.std.specs.declared.option.Option.TheVariants.{None, Some}
 use Rattle.dm_link.specs.declared.Pid.{Pid}
 use Rattle.dm_message.specs.declared.MsgId.{MsgId}
 use Rattle.dm_message.specs.declared.kind.MessageKind.TheVariants as kind
@@ -52,6 +52,8 @@ pub record AtRest (pt : Point) : Type 0 where
   pub untaken : (a b : ℕ) → untaken (pt.view.pair a b) ≡ []
   -- each message that there is waits in a queue
   pub waiting : (i : MsgId) (m : PlainMessage) → pt.kernel.bag i ≡ Some m → IsWaiting pt i m
+  -- no process follows a request to move
+  pub unasked : (p : Pid) → pt.kernel.notes p ≡ None
   -- no kernel's own message stands anywhere: no request to move, no message of a migration, no update
   pub own : (i : MsgId) (z : Spot) → is_kernels i ≡ true → standing pt.view i z ≡ 0
 

@@ -1,5 +1,5 @@
 -- Each directive to move a process comes to one end.
-use Rattle.std.specs.Prelude.{◌≡◌, ℕ, ◌+◌, ◌≤◌, Bool, false, if◌then◌else◌, List, [], ◌∷◌}
+use Rattle.std.specs.Prelude.{◌≡◌, ℕ, ◌+◌, ◌≤◌, Bool, true, false, not, ◌&&◌, if◌then◌else◌, List, [], ◌∷◌}
 use Rattle.std.specs.declared.option.Option.{Option}
 use Rattle.std.specs.declared.option.Option.TheVariants.{None, Some}
 use Rattle.dm_link.specs.declared.Pid.{Pid}
@@ -13,6 +13,9 @@ use Rattle.dm_line.specs.declared.line.Line.{Line}
 use Rattle.dm_line.specs.declared.line.Line.TheVariants as line
 use Rattle.dm_line.specs.declared.line.Stage.{Stage}
 use Rattle.dm_line.specs.declared.line.Stage.TheVariants as stage
+use Rattle.dm_onekernel.specs.declared.label.Label.TheVariants as label
+use Rattle.dm_rule.specs.Acts.{Act, act_of}
+use Rattle.dm_rule.specs.Acts as act
 use Rattle.dm_rule.specs.Point.{Point, first_point}
 use Rattle.dm_rule.specs.Quiet.{IsQuiet}
 use Rattle.dm_rule.specs.View.{Told}
@@ -95,10 +98,25 @@ ends told p (line.SentOn q n) = false
 ends told p (line.Lacks q s b) = false
 ends told p (line.Proto id) = false
 
+-- a request to move is answered
+abbrev pub is_answer_by : Act → Bool
+is_answer_by (act.Steps (label.Answered id o)) = true
+is_answer_by a = false
+
+abbrev pub is_answered_next : List Line → Bool
+is_answered_next [] = false
+is_answered_next (l ∷ ls) = is_answer_by (act_of l)
+
+-- how many of these lines end a move of the process that no process asked for: an end that is followed by the answer to a request is
+-- the end of that one
+abbrev pub own_ends : (MsgId → Option Told) → Pid → List Line → ℕ
+own_ends told p [] = 0
+own_ends told p (l ∷ ls) = (if ends told p l && not (is_answered_next ls) then 1 else 0) + own_ends told p ls
+
 -- wherever the rule leads, there are no more ends than directives to move a process; and as many, where nothing is on its way
 pub record Ends (pt : Point) (ls : List Line) (p : Pid) : Type 0 where
-  pub few : count (ends pt.view.told p) ls ≤ count (asks p) ls
-  pub all : IsQuiet pt.kernel.machines pt.view → count (ends pt.view.told p) ls ≡ count (asks p) ls
+  pub few : own_ends pt.view.told p ls ≤ count (asks p) ls
+  pub all : IsQuiet pt.kernel.machines pt.view → own_ends pt.view.told p ls ≡ count (asks p) ls
 
 abbrev pub EndsAlways : Type 0
 EndsAlways = (b : Boot) (es : List Step) (ls : List Line) (pt : Point) (p : Pid) → IsValid b → LeadsBy b (first_point b) es ls pt → Ends pt ls p

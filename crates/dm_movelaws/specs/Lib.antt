@@ -3,6 +3,7 @@ pub mod AtRest
 pub mod Counts
 pub mod Stages
 pub mod Ends
+pub mod Asked
 pub mod Promise
 pub mod Trail
 pub mod Lists

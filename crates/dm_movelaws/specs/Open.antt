@@ -99,6 +99,8 @@ IsAnothers s p (label.Gone id) = IsNotFor s p id
 IsAnothers s p (label.Took id) = IsNotFor s p id
 IsAnothers s p (label.Created id q) = (q ≢ p) × IsNotFor s p id
 IsAnothers s p (label.NoSpace id a b) = IsNotFor s p id
+IsAnothers s p (label.Asked id) = IsNotFor s p id
+IsAnothers s p (label.Answered id o) = s.noted id ≢ Some p
 
 -- the step that a line is, if it is one
 abbrev pub IsAnothersIf : OneKernel → Pid → Option Label → Type 0

@@ -1,5 +1,6 @@
 //! What holds of migrations wherever the rule leads, whoever ran by it.
 ghost use Rattle.dm_rule.specs.Trails.{TrailsAlways};
+ghost use Rattle.dm_movelaws.specs.Asked.{AnsweredAlways, AnswersHaveCauses, FollowsWhileMoving, MovedIsSaid};
 ghost use Rattle.dm_movelaws.specs.AtRest.{AtRestAlways, DropsAlways};
 ghost use Rattle.dm_movelaws.specs.Counts.{CountsKept, CountsStay};
 ghost use Rattle.dm_movelaws.specs.Ends.{EndsAlways};
@@ -75,7 +76,7 @@ pub fn at_rest_always()
 
 /// Wherever the rule leads from a boot file, directives to move a process have come to no more ends than there were directives, and
 /// to as many where nothing is on its way between machines: the manager has no such child, it is a server, it was there already, had
-/// ended, moved, or stays.
+/// ended, moved, or stays. An end that is followed by the answer to a request of a process's is the end of that request.
 pub fn ends_always()
     ensures { EndsAlways }
 {}
@@ -140,14 +141,15 @@ pub fn counts_promise()
     ensures { CountsPromise }
 {}
 
-/// Wherever the rule leads from a boot file, the manager's pending requests to make processes ascend by their numbers, below the
-/// count of the messages that it has sent: each stands there once, in the order in which they were sent.
+/// Wherever the rule leads from a boot file, the manager's pending requests, to make processes and to move them, ascend by their
+/// numbers, below the count of the messages that it has sent: each stands there once, in the order in which they were sent.
 pub fn pending_ascends()
     ensures { PendingAscends }
 {}
 
 /// Wherever the rule leads from a boot file, each pending request of the manager's has exactly one message in the bag under its
-/// number, the request or the answer to it; and each such message is of a pending request.
+/// number, the request or the answer to it, or else one process follows it, which moves; and each such message, and each request that
+/// a process follows, is of a pending request.
 pub fn pending_has_one()
     ensures { PendingHasOne }
 {}
@@ -204,4 +206,28 @@ pub fn protocol_moves()
 /// comes to, and how it stands there. A process that was never made has none.
 pub fn lives_are_said()
     ensures { LivesAreSaid }
+{}
+
+/// Wherever the rule leads from a boot file, each request to move a process is said to be asked once at most, and is answered no more
+/// often than it is asked; just as often, where nothing is on its way between machines.
+pub fn answered_always()
+    ensures { AnsweredAlways }
+{}
+
+/// Wherever the rule leads from a boot file, the line before the answer to a request to move is its cause: that the process was
+/// restarted where it was to go, or was there as it was asked, where the answer is that it has moved; that it stays, where that is the
+/// answer.
+pub fn answers_have_causes()
+    ensures { AnswersHaveCauses }
+{}
+
+/// Wherever the rule leads from a boot file, what is on its way to the manager as the answer to a request to move is what a line says:
+/// the request was answered so, or its receiver had ended.
+pub fn moved_is_said()
+    ensures { MovedIsSaid }
+{}
+
+/// Wherever the rule leads from a boot file, a process follows a request to move only while it moves.
+pub fn follows_while_moving()
+    ensures { FollowsWhileMoving }
 {}

@@ -1,4 +1,4 @@
--- The process manager: it makes processes, and stops, resumes and kills those that it made.
+-- The process manager: it makes processes, and stops, resumes, kills and moves those that it made.
 use Rattle.std.specs.Prelude.{ℕ, zero, suc, ◌+◌, ◌*◌, false, ◌==◌, ◌&&◌, nat_lt, if◌then◌else◌, List, [], ◌∷◌, ◌++◌, length, slice_get}
 use Rattle.std.specs.declared.option.Option.{Option}
 use Rattle.std.specs.declared.option.Option.TheVariants.{None, Some}
@@ -9,6 +9,10 @@ use Rattle.dm_link.specs.Plain.{PlainLink}
 use Rattle.dm_message.specs.Ids.{id_of}
 use Rattle.dm_message.specs.Plain as what
 use Rattle.dm_message.specs.Plain.{PlainMessage, PlainWhat}
+use Rattle.dm_message.specs.declared.Outcome.{Outcome}
+use Rattle.dm_message.specs.Outcomes.{code_of_outcome}
+use Rattle.dm_onekernel.specs.declared.request.PendingKind.{PendingKind}
+use Rattle.dm_onekernel.specs.declared.request.PendingKind.TheVariants as wanted
 use Rattle.dm_onekernel.specs.Boot.{manager}
 use Rattle.dm_onekernel.specs.Kernel.{Manager, Pending}
 use Rattle.dm_onekernel.specs.Switchboard.{goes_over}
@@ -23,6 +27,16 @@ abbrev pub answers_byte : Manager → PlainLink → ℕ → List PlainLink → M
 answers_byte g l code links =
     record { manager = record g { sent = g.sent + 1 }; message = Some (goes_over manager g.sent l (code ∷ []) links) }
 
+-- so it does where there is a link for the answer
+abbrev pub answers_over : Manager → Option PlainLink → ℕ → List PlainLink → ManagerTook
+answers_over g None code links = record { manager = g; message = None }
+answers_over g (Some l) code links = answers_byte g l code links
+
+-- the link for the answer to a request: the first that came with it
+abbrev pub first_link : List PlainLink → Option PlainLink
+first_link [] = None
+first_link (l ∷ ls) = Some l
+
 -- a message to a process or a kernel
 abbrev pub tells : Manager → Pid → PlainWhat → ManagerTook
 tells g to w =
@@ -33,11 +47,15 @@ abbrev pub bad_request : Manager → List PlainLink → ManagerTook
 bad_request g [] = record { manager = g; message = None }
 bad_request g (l ∷ ls) = answers_byte g l 2 []
 
--- a process is to be made: the request goes to the kernel of its machine, and waits for the answer
+-- a request of this kind is sent, and waits for the answer
+abbrev pub asks : Manager → PendingKind → Pid → PlainWhat → Option PlainLink → ManagerTook
+asks g kind to w answer =
+    let told = tells g to w in
+    record { manager = record told.manager { pending = g.pending ++ record { n = g.sent; kind = kind; answer = answer } ∷ [] }; message = told.message }
+
+-- a process is to be made: the request goes to the kernel of its machine
 abbrev pub asks_for : Manager → ℕ → ℕ → PlainLink → List PlainLink → ManagerTook
-asks_for g machine image answer links =
-    let told = tells g (pid_of machine 0) (what.Create image links) in
-    record { manager = record told.manager { pending = g.pending ++ record { n = g.sent; answer = answer } ∷ [] }; message = told.message }
+asks_for g machine image answer links = asks g wanted.Create (pid_of machine 0) (what.Create image links) (Some answer)
 
 -- over a link with code 0: the bytes 1, machine, image (two bytes), and links, the first for the answer, up to three more
 -- for the child
@@ -60,10 +78,17 @@ abbrev pub tells_child : Manager → Pid → Option PlainWhat → List PlainLink
 tells_child g child None links = bad_request g links
 tells_child g child (Some w) links = tells g child w
 
--- over a link whose code is the number of a child: one byte
-abbrev pub controls : Manager → Option Pid → List ℕ → List PlainLink → ManagerTook
-controls g (Some child) (operation ∷ []) links = tells_child g child (control_of operation) links
-controls g child body links = bad_request g links
+-- operation 5: the child is to move to a machine that there is; the answer goes over the first link, if there is one
+abbrev pub moves_child : Manager → ℕ → Pid → ℕ → List PlainLink → ManagerTook
+moves_child g machines child machine links =
+    if nat_lt machine machines then asks g wanted.Move child (what.Move machine) (first_link links) else bad_request g links
+
+-- over a link whose code is the number of a child: one byte, or operation 5 and a machine
+abbrev pub controls : Manager → ℕ → Option Pid → List ℕ → List PlainLink → ManagerTook
+controls g machines (Some child) (operation ∷ []) links = tells_child g child (control_of operation) links
+controls g machines (Some child) (operation ∷ machine ∷ []) links =
+    if operation == 5 then moves_child g machines child machine links else bad_request g links
+controls g machines child body links = bad_request g links
 
 -- child number n, from 1
 abbrev pub child_numbered : List Pid → ℕ → Option Pid
@@ -73,7 +98,7 @@ child_numbered children (suc n) = slice_get children n
 -- a user message that came over a link with this code
 abbrev pub takes_user : Manager → ℕ → ℕ → ℕ → List ℕ → List PlainLink → ManagerTook
 takes_user g machines images code body links =
-    if code == 0 then requests_child g machines images body links else controls g (child_numbered g.children code) body links
+    if code == 0 then requests_child g machines images body links else controls g machines (child_numbered g.children code) body links
 
 abbrev pub pending_numbered : ℕ → List Pending → Option Pending
 pending_numbered n [] = None
@@ -92,16 +117,22 @@ control_link n =
 abbrev pub takes_created : Manager → ℕ → Pid → Option Pending → Option ManagerTook
 takes_created g n child None = None
 takes_created g n child (Some r) =
-    Some (answers_byte (record g { children = g.children ++ child ∷ []; pending = without_pending n g.pending }) r.answer 0 (control_link (length g.children + 1) ∷ []))
+    Some (answers_over (record g { children = g.children ++ child ∷ []; pending = without_pending n g.pending }) r.answer 0 (control_link (length g.children + 1) ∷ []))
 
 -- there was no room for it
 abbrev pub takes_no_room : Manager → ℕ → Option Pending → Option ManagerTook
 takes_no_room g n None = None
-takes_no_room g n (Some r) = Some (answers_byte (record g { pending = without_pending n g.pending }) r.answer 1 [])
+takes_no_room g n (Some r) = Some (answers_over (record g { pending = without_pending n g.pending }) r.answer 1 [])
+
+-- a move has ended so: who asked for it is told, if there is a link for the answer
+abbrev pub takes_moved : Manager → ℕ → Outcome → Option Pending → Option ManagerTook
+takes_moved g n outcome None = None
+takes_moved g n outcome (Some r) = Some (answers_over (record g { pending = without_pending n g.pending }) r.answer (code_of_outcome outcome) [])
 
 -- user messages, and the answers to pending requests
 abbrev pub manager_takes : Manager → ℕ → ℕ → PlainMessage → PlainWhat → Option ManagerTook
 manager_takes g machines images m (what.User code channel body links) = Some (takes_user g machines images code body links)
 manager_takes g machines images m (what.Created child) = takes_created g m.id.n child (pending_numbered m.id.n g.pending)
 manager_takes g machines images m what.NoRoom = takes_no_room g m.id.n (pending_numbered m.id.n g.pending)
+manager_takes g machines images m (what.Moved outcome) = takes_moved g m.id.n outcome (pending_numbered m.id.n g.pending)
 manager_takes g machines images m w = None

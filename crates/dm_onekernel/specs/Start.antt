@@ -56,6 +56,8 @@ start b =
       processes = life_at b b.processes;
       made = λ m. starting_at m b.processes;
       bag = λ i. None;
+      notes = λ p. None;
+      noted = λ i. None;
       switchboard = record { names = []; sent = 0 };
       manager = record { children = map (λ (p : BootProcess). p.pid) b.processes; pending = []; sent = 0 };
     }

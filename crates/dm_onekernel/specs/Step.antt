@@ -5,7 +5,6 @@ use Rattle.std.specs.declared.option.Option.TheVariants.{None, Some}
 use Rattle.dm_link.specs.declared.Pid.{Pid}
 use Rattle.dm_message.specs.declared.MsgId.{MsgId}
 use Rattle.dm_message.specs.Ids.{id_eq}
-use Rattle.dm_message.specs.Plain as what
 use Rattle.dm_message.specs.Plain.{PlainMessage}
 use Rattle.dm_processor.specs.declared.registers.Regs.{Regs}
 use Rattle.dm_processor.specs.declared.registers.Fault.{Fault}
@@ -19,11 +18,11 @@ use Rattle.dm_onekernel.specs.declared.label.Why.TheVariants as why
 use Rattle.dm_onekernel.specs.Codes.{reply_eq, why_eq}
 use Rattle.dm_onekernel.specs.Options.{bind, when}
 use Rattle.dm_onekernel.specs.PlainProcess.{PlainProcess, PlainStatus, Ready, Waiting, Moving}
-use Rattle.dm_onekernel.specs.Kernel.{Life, Alive, Ended, OneKernel, with_process, with_sent}
+use Rattle.dm_onekernel.specs.Kernel.{Life, Alive, Ended, Note, OneKernel, with_process, with_sent}
 use Rattle.dm_onekernel.specs.Calls as calls
 use Rattle.dm_onekernel.specs.Pieces.{answer_to}
 use Rattle.dm_onekernel.specs.Receiving as receiving
-use Rattle.dm_onekernel.specs.Service.{without_message, serves, takes, creates, has_no_room, is_dropped, is_of_memory}
+use Rattle.dm_onekernel.specs.Service.{without_message, serves, takes, creates, has_no_room, is_dropped, gone_what, follows, ends_move}
 
 -- what the processor holds: registers and memory
 pub record Machine : Type 0 where
@@ -60,6 +59,14 @@ why_ended None = None
 why_ended (Some (Alive p)) = None
 why_ended (Some (Ended because)) = Some because
 
+-- a living process that follows no request to move
+abbrev pub unless_noted : Option Note → Option PlainProcess → Option PlainProcess
+unless_noted None o = o
+unless_noted (Some n) o = None
+
+abbrev pub at_hand : OneKernel → Pid → Option PlainProcess
+at_hand s p = unless_noted (s.notes p) (alive (s.processes p))
+
 -- a process that executes: it is ready and not stopped
 abbrev pub if_ready : PlainProcess → PlainStatus → Option PlainProcess
 if_ready p Ready = if p.stopped then None else Some p
@@ -67,7 +74,7 @@ if_ready p (Waiting mask base cap) = None
 if_ready p (Moving dir owner base own left pending) = None
 
 abbrev pub running : OneKernel → Pid → Option PlainProcess
-running s p = bind (alive (s.processes p)) (λ x. if_ready x x.status)
+running s p = bind (at_hand s p) (λ x. if_ready x x.status)
 
 -- what the next instruction of a process that executes comes to, if it isn't plain
 pub data Trap : Type 0 where
@@ -123,14 +130,14 @@ refuses s p c (receiving.Refuses reply x) = when (reply_eq c reply) (goes_on s p
 
 -- what a message of the bag would do to the receive of a process
 abbrev pub completing : OneKernel → Pid → MsgId → Option receiving.Completed
-completing s p id = bind (alive (s.processes p)) (λ x. bind (s.bag id) (receiving.completes_with p x))
+completing s p id = bind (at_hand s p) (λ x. bind (s.bag id) (receiving.completes_with p x))
 
 -- dropped and gone: the receiver has ended
 abbrev pub drops : OneKernel → MsgId → PlainMessage → Why → Option OneKernel
 drops s id m because = when (is_dropped m.what) (without_message s id)
 
 abbrev pub says_gone : OneKernel → MsgId → PlainMessage → Why → Option OneKernel
-says_gone s id m because = when (is_of_memory m.what) (with_sent (without_message s id) (Some (answer_to m what.Gone)))
+says_gone s id m because = bind (gone_what m.what) (λ w. Some (with_sent (without_message s id) (Some (answer_to m w))))
 
 -- one step, if it is one
 abbrev pub step : OneKernel → Label → Option OneKernel
@@ -142,12 +149,14 @@ step s (label.Out p w) = bind (next_trap s p) (outputs s p w)
 step s (label.End p y) = bind (next_trap s p) (ends s p y)
 step s (label.Receive p id) = bind (completing s p id) (receives s p id)
 step s (label.Refuse p id c) = bind (completing s p id) (refuses s p c)
-step s (label.Served id) = bind (s.bag id) (λ m. bind (alive (s.processes m.to)) (λ p. serves s id m p m.what))
+step s (label.Served id) = bind (s.bag id) (λ m. bind (at_hand s m.to) (λ p. serves s id m p m.what))
 step s (label.Took id) = bind (s.bag id) (takes s id)
 step s (label.Dropped id) = bind (s.bag id) (λ m. bind (why_ended (s.processes m.to)) (drops s id m))
 step s (label.Gone id) = bind (s.bag id) (λ m. bind (why_ended (s.processes m.to)) (says_gone s id m))
 step s (label.Created id child) = bind (s.bag id) (λ m. creates s id m child m.what)
 step s (label.NoSpace id free_slots free_blocks) = bind (s.bag id) (λ m. has_no_room s id m m.what)
+step s (label.Asked id) = bind (s.bag id) (λ m. bind (at_hand s m.to) (λ p. follows s id m m.what))
+step s (label.Answered id outcome) = bind (s.noted id) (λ p. bind (s.notes p) (λ n. ends_move s id p n outcome))
 
 -- the steps in order, if each is one
 abbrev pub replay : OneKernel → List Label → Option OneKernel

@@ -3,7 +3,7 @@ ghost use Rattle.std.specs.Prelude.{◌≡◌};
 ghost use Rattle.dm_onekernel.specs.Codes.{reply_code, why_code};
 
 use dm_link::Pid;
-use dm_message::MsgId;
+use dm_message::{MsgId, Outcome};
 use dm_processor::Fault;
 
 /// What a call gives back in register 0.
@@ -125,7 +125,7 @@ pub enum Label {
     Served {
         id: MsgId,
     },
-    /// A piece was asked of a process that had ended, which is answered.
+    /// A piece was asked of a process that had ended, or it was to move, which is answered.
     Gone {
         id: MsgId,
     },
@@ -144,5 +144,14 @@ pub enum Label {
         id: MsgId,
         free_slots: u8,
         free_blocks: u16,
+    },
+    /// A process is to move, as a message for it asks, and follows that request until it has moved, or stays.
+    Asked {
+        id: MsgId,
+    },
+    /// The request that a process follows is answered: it has moved, or stays.
+    Answered {
+        id: MsgId,
+        outcome: Outcome,
     },
 }

@@ -3,6 +3,8 @@
 
 pub mod boot;
 pub mod label;
+pub mod request;
 
 pub use boot::{Boot, BootImage, BootMachine, BootProcess, Format};
 pub use label::{Label, Reply, Why};
+pub use request::PendingKind;

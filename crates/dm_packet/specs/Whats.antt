@@ -11,6 +11,7 @@ use Rattle.dm_message.specs.declared.What.TheVariants as what
 use Rattle.dm_message.specs.declared.kind.MessageKind.{MessageKind}
 use Rattle.dm_message.specs.declared.kind.MessageKind.TheVariants as kind
 use Rattle.dm_message.specs.Ids.{bool_eq}
+pub use Rattle.dm_message.specs.Outcomes.{code_of_outcome}
 use Rattle.dm_message.specs.Kinds.{kind_numbered, number_of}
 use Rattle.dm_packet.specs.declared.PacketError.{PacketError}
 use Rattle.dm_packet.specs.declared.PacketError.TheVariants as bad
@@ -37,11 +38,6 @@ yes_or_no rule = coded bool_coded bit_of rule
 
 abbrev pub outcome_coded : ℕ → Option Outcome
 outcome_coded n = if n == 0 then Some ends.Done else if n == 1 then Some ends.Stayed else if n == 3 then Some ends.Ended else None
-
-abbrev pub code_of_outcome : Outcome → ℕ
-code_of_outcome ends.Done = 0
-code_of_outcome ends.Stayed = 1
-code_of_outcome ends.Ended = 3
 
 abbrev pub message_kind : Field MessageKind
 message_kind = coded kind_numbered number_of bad.MessageKind

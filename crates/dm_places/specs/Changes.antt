@@ -33,6 +33,8 @@ changed l (label.Gone id) = None
 changed l (label.Took id) = None
 changed l (label.Created id child) = Some child
 changed l (label.NoSpace id slots blocks) = None
+changed l (label.Asked id) = None
+changed l (label.Answered id o) = None
 
 abbrev pub is_named : Option Pid → Pid → Bool
 is_named None q = false
@@ -54,6 +56,8 @@ taken (label.Gone id) = Some id
 taken (label.Took id) = Some id
 taken (label.Created id child) = Some id
 taken (label.NoSpace id slots blocks) = Some id
+taken (label.Asked id) = Some id
+taken (label.Answered id o) = None
 
 abbrev pub taken_out : Placed → Option MsgId → Placed
 taken_out l None = l
@@ -75,6 +79,14 @@ is_took (label.Gone id) = false
 is_took (label.Took id) = true
 is_took (label.Created id child) = false
 is_took (label.NoSpace id slots blocks) = false
+is_took (label.Asked id) = false
+is_took (label.Answered id o) = false
+
+-- a process begins to follow a request to move, or has followed it
+abbrev pub is_note : Label → Bool
+is_note (label.Asked id) = true
+is_note (label.Answered id o) = true
+is_note e = false
 
 pub record Changes (l : Placed) (e : Label) (m : Placed) : Type 0 where
   pub processes : (q : Pid) → is_named (changed l e) q ≡ false → m.processes q ≡ l.processes q
@@ -83,6 +95,8 @@ pub record Changes (l : Placed) (e : Label) (m : Placed) : Type 0 where
   pub bag : (i : MsgId) → m.bag i ≡ (with_sent (taken_out l (taken e)) sent).bag i
   pub board : is_took e ≡ false → m.board ≡ l.board
   pub manager : is_took e ≡ false → m.manager ≡ l.manager
+  pub notes : is_note e ≡ false → (q : Pid) → m.notes q ≡ l.notes q
+  pub noted : is_note e ≡ false → (i : MsgId) → m.noted i ≡ l.noted i
 
 abbrev pub StepsChangeLittle : Type 0
 StepsChangeLittle = (here : ℕ) (f : Format) (images : List BootImage) (l m : Placed) (e : Label) → placed_step here f images l e ≡ Some m → Changes l e m

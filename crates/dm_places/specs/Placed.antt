@@ -1,13 +1,14 @@
 -- The kernel without machines, with places: processes and messages as machines have them, wherever they are; and when
 -- that mirrors a kernel, a view and addresses.
-use Rattle.std.specs.Prelude.{◌≡◌, ℕ, List, [], length, slice_get, option_map}
+use Rattle.std.specs.Prelude.{◌≡◌, ⊤, ℕ, List, [], length, slice_get, option_map}
 use Rattle.std.specs.declared.option.Option.{Option}
 use Rattle.std.specs.declared.option.Option.TheVariants.{None, Some}
 use Rattle.dm_link.specs.declared.Pid.{Pid}
 use Rattle.dm_link.specs.declared.Addr.{Addr}
 use Rattle.dm_link.specs.declared.Link.{Link}
-use Rattle.dm_link.specs.Names.{place_of}
+use Rattle.dm_link.specs.Names.{Place, place_of}
 use Rattle.dm_linktable.specs.Slots.{link_at}
+use Rattle.dm_message.specs.declared.Asker.{Asker}
 use Rattle.dm_message.specs.declared.MsgId.{MsgId}
 use Rattle.dm_message.specs.declared.Message.{Message}
 use Rattle.dm_message.specs.declared.What.{What}
@@ -16,7 +17,8 @@ use Rattle.dm_message.specs.Plain.{plain_message}
 use Rattle.dm_process.specs.declared.process.Process.{Process}
 use Rattle.dm_process.specs.declared.process.Status.{Status}
 use Rattle.dm_process.specs.declared.process.Status.TheVariants as status
-use Rattle.dm_onekernel.specs.Kernel.{OneKernel}
+use Rattle.dm_migrate.specs.Asking.{request_of}
+use Rattle.dm_onekernel.specs.Kernel.{Note, OneKernel}
 use Rattle.dm_onekernel.specs.Options.{bind}
 use Rattle.dm_onekernel.specs.Plain.{plain_process}
 use Rattle.dm_onekernel.specs.Step as kernel
@@ -25,13 +27,16 @@ use Rattle.dm_procman.specs.declared.pending.Pending.{Pending}
 use Rattle.dm_procman.specs.Managing.{Managing, plain_manager}
 use Rattle.dm_procman.specs.Taking.{child_address, pending_request}
 use Rattle.dm_rule.specs.View.{View}
-use Rattle.dm_rule.specs.Addresses.{Addresses, Slot, Owner, Receiver, Sender, Enclosed, Child, Name, Answer}
+use Rattle.dm_rule.specs.Addresses.{Addresses, Slot, Owner, Receiver, Sender, Enclosed, Child, Name, Answer, AskedBy}
 
 pub record Placed : Type 0 where
   -- the processes that are alive; whichever messages wait for them
   pub processes : Pid → Option Process
   -- the messages that nobody has got yet, those of machines' kernels too
   pub bag : MsgId → Option Message
+  -- who waits to hear how the move of a process ends, if somebody asked for it; and whose move each request is
+  pub notes : Pid → Option Asker
+  pub noted : MsgId → Option Pid
   pub board : Board
   pub manager : Managing
 
@@ -61,11 +66,22 @@ pub record MirrorsMessage (a : Addresses) (i : MsgId) (m : Message) : Type 0 whe
   pub sender : a (Sender i) ≡ place_of m.sender
   pub enclosed : (k : ℕ) (w : Link) → slice_get (enclosed m.what) k ≡ Some w → a (Enclosed i k) ≡ place_of w.addr
 
+-- who waits to hear, without places
+abbrev pub plain_note : Asker → Note
+plain_note k = record { id = request_of k; asker = k.addr.pid }
+
+-- the link for the answer to a request names this place, if there is one
+abbrev pub AnswerNames : Option Link → Place → Type 0
+AnswerNames None place = ⊤
+AnswerNames (Some l) place = place ≡ place_of l.addr
+
 -- without places it is the kernel without machines
 pub record MirrorsKernel (s : OneKernel) (l : Placed) : Type 0 where
   pub processes : (p : Pid) → kernel.alive (s.processes p) ≡ option_map plain_process (l.processes p)
   -- a message that has a plain meaning is one of the kernel's; the others are those that machines' kernels send themselves
   pub bag : (i : MsgId) → bind (l.bag i) plain_message ≡ s.bag i
+  pub notes : (p : Pid) → option_map plain_note (l.notes p) ≡ s.notes p
+  pub noted : (i : MsgId) → l.noted i ≡ s.noted i
   pub board : plain_board l.board ≡ s.switchboard
   pub manager : plain_manager l.manager ≡ s.manager
   pub machines : l.manager.machines ≡ s.machines
@@ -78,7 +94,8 @@ pub record MirrorsPlaces (v : View) (a : Addresses) (l : Placed) : Type 0 where
   pub name : (n : ℕ) (k : Named) → slice_get l.board.names n ≡ Some k → a (Name n) ≡ place_of k.link.addr
   -- children count from 1
   pub child : (n : ℕ) (c : Addr) → child_address l.manager.children n ≡ Some c → a (Child n) ≡ place_of c
-  pub answer : (n : ℕ) (r : Pending) → pending_request n l.manager.pending ≡ Some r → a (Answer n) ≡ place_of r.answer.addr
+  pub answer : (n : ℕ) (r : Pending) → pending_request n l.manager.pending ≡ Some r → AnswerNames r.answer (a (Answer n))
+  pub asker : (p : Pid) (k : Asker) → l.notes p ≡ Some k → a (AskedBy p) ≡ place_of k.addr
 
 pub record Mirrors (s : OneKernel) (v : View) (a : Addresses) (l : Placed) : Type 0 where
   pub plain : MirrorsKernel s l

@@ -6,7 +6,9 @@ use Rattle.std.specs.declared.option.Option.TheVariants.{None, Some}
 use Rattle.dm_link.specs.declared.Pid.{Pid}
 use Rattle.dm_link.specs.declared.Link.{Link}
 use Rattle.dm_link.specs.Names.{pid_eq}
+use Rattle.dm_message.specs.declared.Asker.{Asker}
 use Rattle.dm_message.specs.declared.MsgId.{MsgId}
+use Rattle.dm_message.specs.declared.Outcome.{Outcome}
 use Rattle.dm_message.specs.declared.Message.{Message}
 use Rattle.dm_message.specs.declared.What.{What}
 use Rattle.dm_message.specs.declared.What.TheVariants as what
@@ -25,6 +27,7 @@ use Rattle.dm_onekernel.specs.Boot.{slots_of, switchboard, manager}
 use Rattle.dm_onekernel.specs.Options.{bind}
 use Rattle.dm_onekernel.specs.Start.{memory_of, slots_with}
 use Rattle.dm_onekernel.specs.Step.{Machine, plain_steps}
+use Rattle.dm_migrate.specs.Asking.{asker_of, moved_answer}
 use Rattle.dm_datamove.specs.declared.Landed.{Landed}
 use Rattle.dm_datamove.specs.declared.Landed.TheVariants as landed
 use Rattle.dm_datamove.specs.Landing.{landing}
@@ -51,6 +54,13 @@ without_message l id = with_message l id None
 abbrev pub with_sent : Placed → Option Message → Placed
 with_sent l None = l
 with_sent l (Some m) = with_message l m.id (Some m)
+
+-- a process whose move somebody asked for, or for whose end nobody waits any more
+abbrev pub with_note : Placed → Pid → MsgId → Asker → Placed
+with_note l p id k = record l { notes = λ q. if pid_eq p q then Some k else l.notes q; noted = λ i. if id_eq id i then Some p else l.noted i }
+
+abbrev pub without_note : Placed → Pid → MsgId → Placed
+without_note l p id = record l { notes = λ q. if pid_eq p q then None else l.notes q; noted = λ i. if id_eq id i then None else l.noted i }
 
 -- a process that executes
 abbrev pub if_ready : Process → Status → Option Process
@@ -132,10 +142,10 @@ board_took l t = with_sent (record l { board = t.board }) t.took.answer
 abbrev pub manager_took : Placed → manage.Taken → Placed
 manager_took l t = with_sent (record l { manager = t.manager }) t.message
 
-abbrev pub takes : Placed → Message → Option Placed
-takes l m =
-    if pid_eq m.to.pid switchboard then bind (board.takes l.board m.what) (λ t. Some (board_took l t))
-    else if pid_eq m.to.pid manager then bind (manage.takes l.manager m.id.n m.what) (λ t. Some (manager_took l t))
+abbrev pub takes : ℕ → Placed → Message → Option Placed
+takes here l m =
+    if pid_eq m.to.pid switchboard then bind (board.takes here l.board m.what) (λ t. Some (board_took l t))
+    else if pid_eq m.to.pid manager then bind (manage.takes here l.manager m.id.n m.what) (λ t. Some (manager_took l t))
     else None
 
 -- created: a kernel makes a process, and says so
@@ -146,6 +156,11 @@ abbrev pub creates : ℕ → Format → List BootImage → Placed → Message �
 creates here f images l m child (what.Create image links) =
     bind (slice_get images image) (λ i. Some (with_sent (with_child l f child i links.items) (Some (answer here 0 m (what.Created child)))))
 creates here f images l m child w = None
+
+-- answered: a process tells who asked for its move how it ended
+abbrev pub ends_move : ℕ → Placed → MsgId → Pid → Outcome → Option Placed
+ends_move here l id p o =
+    bind (l.notes p) (λ k. bind (l.processes p) (λ x. Some (with_sent (without_note l p id) (Some (moved_answer here x o k)))))
 
 -- the kernel of machine `here` acts; what processes are made of is the boot file's
 abbrev pub placed_step : ℕ → Format → List BootImage → Placed → Label → Option Placed
@@ -161,7 +176,9 @@ placed_step here f images l (label.Dropped id) = Some (without_message l id)
 placed_step here f images l (label.Served id) =
     bind (l.bag id) (λ m. bind (l.processes m.to.pid) (λ x. serves here (without_message l id) m x m.what))
 placed_step here f images l (label.Gone id) = bind (l.bag id) (λ m. Some (with_sent (without_message l id) (Some (gone_answer here m))))
-placed_step here f images l (label.Took id) = bind (l.bag id) (takes (without_message l id))
+placed_step here f images l (label.Took id) = bind (l.bag id) (takes here (without_message l id))
 placed_step here f images l (label.Created id child) = bind (l.bag id) (λ m. creates here f images (without_message l id) m child m.what)
 placed_step here f images l (label.NoSpace id slots blocks) =
     bind (l.bag id) (λ m. Some (with_sent (without_message l id) (Some (answer here 0 m what.NoRoom))))
+placed_step here f images l (label.Asked id) = bind (l.bag id) (λ m. Some (with_note (without_message l id) m.to.pid id (asker_of m)))
+placed_step here f images l (label.Answered id o) = bind (l.noted id) (λ p. ends_move here l id p o)

@@ -9,19 +9,19 @@ use Rattle.dm_message.specs.declared.What.TheVariants as what
 use Rattle.dm_message.specs.Ids.{id_of}
 use Rattle.dm_onekernel.specs.Boot.{manager}
 
--- where the manager is
-abbrev pub address : Addr
-address = record { pid = manager; at = 0; moves = 0 }
+-- the manager on a machine
+abbrev pub address_at : ℕ → Addr
+address_at here = record { pid = manager; at = here; moves = 0 }
 
--- message number n to a process or a kernel
-abbrev pub message_to : ℕ → Addr → What → Message
-message_to n to w = record { id = id_of manager n; to = to; sender = address; what = w }
+-- its message number n to a process or a kernel
+abbrev pub message_to : ℕ → ℕ → Addr → What → Message
+message_to here n to w = record { id = id_of manager n; to = to; sender = address_at here; what = w }
 
--- one byte goes over a link, with links, as message number n
-abbrev pub answer_over : ℕ → Link → ℕ → List Link → Message
-answer_over n l code links = message_to n l.addr (what.User l.code l.channel (record { items = code ∷ [] }) (record { items = links }))
+-- one byte goes over a link, with links, as its message number n
+abbrev pub answer_over : ℕ → ℕ → Link → ℕ → List Link → Message
+answer_over here n l code links = message_to here n l.addr (what.User l.code l.channel (record { items = code ∷ [] }) (record { items = links }))
 
 -- the link by which child number n is controlled
-abbrev pub control_link : ℕ → Link
-control_link n =
-    record { addr = address; kind = kind.General; to_kernel = false; code = n; channel = 0; area = record { base = 0; len = 0; read = false; write = false } }
+abbrev pub control_link : ℕ → ℕ → Link
+control_link here n =
+    record { addr = address_at here; kind = kind.General; to_kernel = false; code = n; channel = 0; area = record { base = 0; len = 0; read = false; write = false } }

@@ -1,7 +1,10 @@
 -- What the process manager keeps, with the places that its addresses and links lead to.
-use Rattle.std.specs.Prelude.{ℕ, Bool, List, [], map, length}
+use Rattle.std.specs.Prelude.{ℕ, Bool, false, List, [], map, length, option_map}
+use Rattle.std.specs.declared.option.Option.{Option}
+use Rattle.std.specs.declared.option.Option.TheVariants.{None, Some}
 use Rattle.dm_link.specs.declared.Pid.{Pid}
 use Rattle.dm_link.specs.declared.Addr.{Addr}
+use Rattle.dm_link.specs.declared.Link.{Link}
 use Rattle.dm_link.specs.Places.{is_behind, retargeted, retargeted_link}
 use Rattle.dm_link.specs.Plain.{plain_link}
 use Rattle.dm_onekernel.specs.declared.boot.Boot.{Boot}
@@ -21,7 +24,7 @@ pub record Managing : Type 0 where
 
 -- the manager without places
 abbrev pub plain_pending : Pending → one.Pending
-plain_pending r = record { n = r.n; answer = plain_link r.answer }
+plain_pending r = record { n = r.n; kind = r.kind; answer = option_map plain_link r.answer }
 
 abbrev pub plain_child : Addr → Pid
 plain_child a = a.pid
@@ -40,12 +43,16 @@ child_at_home p = at_home p.pid
 abbrev pub starting : Boot → Managing
 starting b = record { children = map child_at_home b.processes; pending = []; sent = 0; machines = length b.machines; images = length b.images }
 
--- a request's link where it is told that a process is at another place, after so many moves
+-- a request's link, if it has one, where it is told that a process is at another place, after so many moves
 abbrev pub retargeted_pending : Pid → ℕ → ℕ → Pending → Pending
-retargeted_pending about at moves r = record { n = r.n; answer = retargeted_link about at moves r.answer }
+retargeted_pending about at moves r = record r { answer = option_map (retargeted_link about at moves) r.answer }
+
+abbrev pub answer_is_behind : Pid → ℕ → Option Link → Bool
+answer_is_behind about moves None = false
+answer_is_behind about moves (Some l) = is_behind about moves l.addr
 
 abbrev pub pending_is_behind : Pid → ℕ → Pending → Bool
-pending_is_behind about moves r = is_behind about moves r.answer.addr
+pending_is_behind about moves r = answer_is_behind about moves r.answer
 
 abbrev pub retargeted_manager : Pid → ℕ → ℕ → Managing → Managing
 retargeted_manager about at moves g =

@@ -14,7 +14,7 @@ use Rattle.dm_message.specs.declared.What.TheVariants as what
 use Rattle.dm_onekernel.specs.Boot.{manager, switchboard}
 use Rattle.dm_procman.specs.declared.moving.MoveError.{MoveError}
 use Rattle.dm_procman.specs.declared.moving.MoveError.TheVariants as no
-use Rattle.dm_procman.specs.Making.{address}
+use Rattle.dm_procman.specs.Making.{address_at}
 
 -- the address of the child of this name
 abbrev pub child_named : Pid → List Addr → Option Addr
@@ -23,7 +23,7 @@ child_named p children = find (λ a. pid_eq a.pid p) children
 -- the message that tells it to move
 abbrev pub tells_to_move : MsgId → ℕ → Option Addr → Result Message MoveError
 tells_to_move id machine None = Err no.Unknown
-tells_to_move id machine (Some child) = Ok (record { id = id; to = child; sender = address; what = what.Migrate machine })
+tells_to_move id machine (Some child) = Ok (record { id = id; to = child; sender = address_at 0; what = what.Migrate machine })
 
 -- the servers don't move, and others that aren't children are unknown
 abbrev pub moves_child : List Addr → Pid → ℕ → MsgId → Result Message MoveError

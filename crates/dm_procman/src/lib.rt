@@ -1,4 +1,5 @@
-//! The process manager: it makes processes, controls those that it made, and tells them to move (1983).
+//! The process manager: it makes processes, controls those that it made, and tells them to move, as they ask it themselves or
+//! as it is told (1983).
 #![tactic(auto)]
 
 ghost use Rattle.std.specs.Prelude.{◌≡◌, ◌+◌, ◌<◌, ◌≤◌, ◌^◌, false, IfOk, IfSome, IsSome, OnErr, Some, count_by, length};
@@ -11,7 +12,7 @@ ghost use Rattle.dm_procman.specs.Lawful.{IsLawfulManager};
 ghost use Rattle.dm_procman.specs.Managing.{pending_is_behind, plain_manager, retargeted_manager, starting};
 ghost use Rattle.dm_procman.specs.Moving.{moves_child};
 ghost use Rattle.dm_procman.specs.Plainly.{plain_taken, plainly_taken};
-ghost use Rattle.dm_procman.specs.Taking.{IsForManager, takes, takes_created, takes_no_room, takes_user, pending_request};
+ghost use Rattle.dm_procman.specs.Taking.{IsForManager, answers_over, takes, takes_created, takes_moved, takes_no_room, takes_user, pending_request};
 
 mod children;
 mod making;
@@ -21,9 +22,9 @@ mod requests;
 mod starting;
 
 use children::Children;
-use dm_link::{Addr, Link, Pid};
+use dm_link::{Addr, Link, MACHINES, Pid};
 use dm_memory::NoMemory;
-use dm_message::{MOST_LINKS, Message, MsgId, What};
+use dm_message::{MOST_LINKS, Message, MsgId, Outcome, What};
 use dm_onekernel::Boot;
 use making::{answer_over, control_link};
 pub use moving::MoveError;
@@ -33,7 +34,7 @@ use pending::take_pending;
 use std::alloc::Global;
 use std::marker::Model;
 
-/// The processes that were made, and the requests to make one that wait for an answer.
+/// The processes that were made, and the requests to make one, and to move one, that wait for an answer.
 ///
 /// Its model is a record of the children's addresses, child 1 first, the pending requests, the number of messages that
 /// were sent, and how many machines and images there are.
@@ -99,26 +100,27 @@ impl ProcMan {
         self.sent
     }
 
-    /// Takes a user message, or the answer to a pending request; the message that it sends, if any.
-    pub fn take(&mut self, message: &Message) -> Result<Option<Message>, NoMemory>
+    /// Takes a user message, or the answer to a pending request, on machine `here`; the message that it sends, if any.
+    pub fn take(&mut self, message: &Message, here: u8) -> Result<Option<Message>, NoMemory>
         requires row { IsForManager self.old message.now.id.n message.now.what }
         requires counts { self.old.sent < u32.MAX }
         requires children { length self.old.children < u32.MAX }
-        ensures exact { IfOk result (λ sent. takes self.old message.now.id.n message.now.what ≡ Some (record { manager = self.new; message = sent })) }
+        requires here { here < MACHINES }
+        ensures exact { IfOk result (λ sent. takes here self.old message.now.id.n message.now.what ≡ Some (record { manager = self.new; message = sent })) }
         ensures err { OnErr result (self.new ≡ self.old) }
         ensures plain { IfOk result (λ sent. plain_taken self.new sent ≡ plainly_taken self.old (plain_message message.now)) }
         ensures lawful { IsLawfulManager self.old → IsLawfulMessage message.now → IsLawfulManager self.new }
         ensures lawful_message { IsLawfulManager self.old → IsLawfulMessage message.now → IfOk result (λ sent. IfSome sent IsLawfulMessage) }
     {
-        self.take_what(message.id.n, &message.what)
+        self.take_what(here, message.id.n, &message.what)
     }
 
     /// Takes what a message says, by its number.
-    fn take_what(&mut self, number: u32, what: &What) -> Result<Option<Message>, NoMemory>
+    fn take_what(&mut self, here: u8, number: u32, what: &What) -> Result<Option<Message>, NoMemory>
         requires row { IsForManager self.old number what.now }
         requires counts { self.old.sent < u32.MAX }
         requires children { length self.old.children < u32.MAX }
-        ensures exact { IfOk result (λ sent. takes self.old number what.now ≡ Some (record { manager = self.new; message = sent })) }
+        ensures exact { IfOk result (λ sent. takes here self.old number what.now ≡ Some (record { manager = self.new; message = sent })) }
         ensures err { OnErr result (self.new ≡ self.old) }
     {
         match what {
@@ -127,9 +129,10 @@ impl ProcMan {
                 body,
                 links,
                 ..
-            } => self.take_user(*code, body.as_slice(), links.as_slice()),
-            What::Created { pid } => self.take_created(number, *pid),
-            What::NoRoom => Ok(Some(self.take_no_room(number))),
+            } => self.take_user(here, *code, body.as_slice(), links.as_slice()),
+            What::Created { pid } => self.take_created(here, number, *pid),
+            What::NoRoom => Ok(self.take_no_room(here, number)),
+            What::Moved { outcome } => Ok(self.take_moved(here, number, *outcome)),
             // No other kind is for the manager: `row` says so.
             _ => unreachable!(),
         }
@@ -138,28 +141,29 @@ impl ProcMan {
     /// Takes a user message that came over a link with this code.
     fn take_user(
         &mut self,
+        here: u8,
         code: u32,
         body: &[u8],
         links: &[Link],
     ) -> Result<Option<Message>, NoMemory>
         requires counts { self.old.sent < u32.MAX }
         requires links { length links.now ≤ MOST_LINKS }
-        ensures exact { IfOk result (λ sent. takes_user self.old code body.now links.now ≡ record { manager = self.new; message = sent }) }
+        ensures exact { IfOk result (λ sent. takes_user here self.old code body.now links.now ≡ record { manager = self.new; message = sent }) }
         ensures err { OnErr result (self.new ≡ self.old) }
     {
         if code == 0 {
-            self.request(body, links)
+            self.request(here, body, links)
         } else {
-            Ok(self.control(code, body, links))
+            self.control(here, code, body, links)
         }
     }
 
     /// Takes the news that the child of a pending request stands.
-    fn take_created(&mut self, number: u32, pid: Pid) -> Result<Option<Message>, NoMemory>
+    fn take_created(&mut self, here: u8, number: u32, pid: Pid) -> Result<Option<Message>, NoMemory>
         requires pending { IsSome (pending_request number self.old.pending) }
         requires counts { self.old.sent < u32.MAX }
         requires children { length self.old.children < u32.MAX }
-        ensures exact { IfOk result (λ sent. takes_created self.old number pid (pending_request number self.old.pending) ≡
+        ensures exact { IfOk result (λ sent. takes_created here self.old number pid (pending_request number self.old.pending) ≡
             Some (record { manager = self.new; message = sent })) }
         ensures err { OnErr result (self.new ≡ self.old) }
     {
@@ -170,18 +174,45 @@ impl ProcMan {
         };
         self.children.push(child)?;
         let request = take_pending(&mut self.pending, number);
-        let control = control_link(self.children.len() as u32);
-        Ok(Some(self.answer(&request.answer, 0, &[control])))
+        let control = control_link(here, self.children.len() as u32);
+        Ok(self.answer_pending(here, request, 0, &[control]))
     }
 
     /// Takes the news that there was no room for the child of a pending request.
-    fn take_no_room(&mut self, number: u32) -> Message
+    fn take_no_room(&mut self, here: u8, number: u32) -> Option<Message>
         requires pending { IsSome (pending_request number self.old.pending) }
         requires counts { self.old.sent < u32.MAX }
-        ensures { takes_no_room self.old number (pending_request number self.old.pending) ≡ Some (record { manager = self.new; message = Some result }) }
+        ensures { takes_no_room here self.old number (pending_request number self.old.pending) ≡ Some (record { manager = self.new; message = result }) }
     {
         let request = take_pending(&mut self.pending, number);
-        self.answer(&request.answer, 1, &[])
+        self.answer_pending(here, request, 1, &[])
+    }
+
+    /// Takes the news of how the move of a pending request ended.
+    fn take_moved(&mut self, here: u8, number: u32, outcome: Outcome) -> Option<Message>
+        requires pending { IsSome (pending_request number self.old.pending) }
+        requires counts { self.old.sent < u32.MAX }
+        ensures { takes_moved here self.old number outcome (pending_request number self.old.pending) ≡
+            Some (record { manager = self.new; message = result }) }
+    {
+        let request = take_pending(&mut self.pending, number);
+        self.answer_pending(here, request, outcome.code(), &[])
+    }
+
+    /// Answers a request that was pending with one byte and at most 4 links, over its link, if it has one.
+    fn answer_pending(
+        &mut self,
+        here: u8,
+        request: Pending,
+        code: u8,
+        links: &[Link],
+    ) -> Option<Message>
+        requires counts { self.old.sent < u32.MAX }
+        requires links { length links.now ≤ MOST_LINKS }
+        ensures { record { manager = self.new; message = result } ≡ answers_over here self.old request.answer code links.now }
+    {
+        let link = request.answer?;
+        Some(self.answer(here, &link, code, links))
     }
 
     /// The message that tells a child to move to machine `to`, under the name `id`.

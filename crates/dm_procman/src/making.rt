@@ -1,37 +1,41 @@
 //! The messages of the process manager.
 ghost use Rattle.std.specs.Prelude.{◌≡◌, ◌≤◌, length};
-ghost use Rattle.dm_procman.specs.Making.{answer_over, control_link, message_to};
+ghost use Rattle.dm_procman.specs.Making.{address_at, answer_over, control_link, message_to};
 
 use dm_link::{Addr, Area, Kind, Link, MANAGER};
 use dm_message::{Body, Enclosed, MOST_LINKS, Message, MsgId, What};
 
-/// Where the manager is.
-pub const ADDRESS: Addr = Addr {
-    pid: MANAGER,
-    at: 0,
-    moves: 0,
-};
+/// The manager on machine `here`.
+pub fn address_at(here: u8) -> Addr
+    ensures { result ≡ address_at here }
+{
+    Addr {
+        pid: MANAGER,
+        at: here,
+        moves: 0,
+    }
+}
 
-/// The manager's message of this number to a process or a kernel.
-pub fn message_to(number: u32, to: Addr, what: What) -> Message
-    ensures { result ≡ message_to number to what }
+/// The manager's message of this number from machine `here` to a process or a kernel.
+pub fn message_to(here: u8, number: u32, to: Addr, what: What) -> Message
+    ensures { result ≡ message_to here number to what }
 {
     Message {
         id: MsgId {
-            from: ADDRESS.pid,
+            from: MANAGER,
             n: number,
             answer: false,
         },
         to,
-        sender: ADDRESS,
+        sender: address_at(here),
         what,
     }
 }
 
-/// The manager's message of this number over a link: one byte, with at most 4 links.
-pub fn answer_over(number: u32, link: &Link, code: u8, links: &[Link]) -> Message
+/// The manager's message of this number from machine `here` over a link: one byte, with at most 4 links.
+pub fn answer_over(here: u8, number: u32, link: &Link, code: u8, links: &[Link]) -> Message
     requires { length links.now ≤ MOST_LINKS }
-    ensures { result ≡ answer_over number link.now code links.now }
+    ensures { result ≡ answer_over here number link.now code links.now }
 {
     let mut body = Body::new();
     body.push(code);
@@ -43,15 +47,15 @@ pub fn answer_over(number: u32, link: &Link, code: u8, links: &[Link]) -> Messag
         body,
         links: enclosed,
     };
-    message_to(number, link.addr, what)
+    message_to(here, number, link.addr, what)
 }
 
-/// The link by which a child is controlled; its code is the child's number, from 1.
-pub fn control_link(child: u32) -> Link
-    ensures { result ≡ control_link child }
+/// The link by which a child is controlled, to the manager on machine `here`; its code is the child's number, from 1.
+pub fn control_link(here: u8, child: u32) -> Link
+    ensures { result ≡ control_link here child }
 {
     Link {
-        addr: ADDRESS,
+        addr: address_at(here),
         kind: Kind::General,
         to_kernel: false,
         code: child,

@@ -6,7 +6,7 @@ ghost use Rattle.dm_procman.specs.Moving.{moves_child};
 
 use crate::Pending;
 use crate::children::Children;
-use crate::making::ADDRESS;
+use crate::making::address_at;
 use dm_link::{Addr, MANAGER, Pid, SWITCHBOARD};
 use dm_message::{Message, MsgId, What};
 use thiserror::Error;
@@ -31,7 +31,7 @@ pub fn move_child(children: &Children, pid: Pid, to: u8, id: MsgId) -> Result<Me
         Some(child) => Ok(Message {
             id,
             to: child,
-            sender: ADDRESS,
+            sender: address_at(0),
             what: What::Migrate { machine: to },
         }),
         None => Err(MoveError::Unknown),
@@ -61,9 +61,20 @@ pub fn retarget_pending(pending: &mut [Pending], about: Pid, at: u8, moves: u32)
 {
     let mut changed = 0;
     for request in pending.iter_mut() {
-        if request.answer.retarget(about, at, moves) {
+        if retarget_answer(request, about, at, moves) {
             changed += 1;
         }
     }
     changed
+}
+
+/// Tells the link for the answer to a request, if it has one; whether it changed.
+fn retarget_answer(request: &mut Pending, about: Pid, at: u8, moves: u32) -> bool
+    ensures request { request.new ≡ retargeted_pending about at moves request.old }
+    ensures changed { result ≡ pending_is_behind about moves request.old }
+{
+    match &mut request.answer {
+        Some(link) => link.retarget(about, at, moves),
+        None => false,
+    }
 }

@@ -1,16 +1,18 @@
-//! Requests to make a process that wait for an answer.
+//! Requests to make a process, and to move one, that wait for an answer.
 ghost use Rattle.std.specs.Prelude.{◌≡◌, IsSome, Some, position};
 ghost use Rattle.dm_procman.specs.Taking.{has_number, pending_request, without_pending};
 
 use dm_link::Link;
+use dm_onekernel::PendingKind;
 
-/// A request to make a process, without a taken answer.
+/// A request without a taken answer.
 #[derive(Clone, Copy, Debug, PartialEq, Eq)]
 pub struct Pending {
     /// Its number among the manager's messages.
     pub n: u32,
-    /// The link for the answer.
-    pub answer: Link,
+    pub kind: PendingKind,
+    /// The link for the answer, if there is one; a request to make a process always has it.
+    pub answer: Option<Link>,
 }
 
 /// Whether a request has this number.

@@ -1,6 +1,6 @@
-//! Requests of processes: that one be made, that a child be stopped, resumed or killed.
+//! Requests of processes: that one be made, that a child be stopped, resumed, killed or moved.
 ghost use Rattle.std.specs.Prelude.{◌≡◌, ◌<◌, ◌≤◌, ◌*◌, ◌+◌, ◌&&◌, IfOk, None, OnErr, Some, length, option_map};
-ghost use Rattle.dm_procman.specs.Taking.{answers, asks_for, bad_request, child_address, control_of, controls, requests, sends, wants_child};
+ghost use Rattle.dm_procman.specs.Taking.{answers, asks, asks_for, bad_request, child_address, control_of, controls, controls_child, requests, sends, wants_child, wants_move};
 ghost use Rattle.dm_procman.specs.Controls.{what_of};
 ghost use Rattle.dm_procman.specs.Making.{message_to};
 
@@ -10,9 +10,13 @@ use arrayvec::ArrayVec;
 use dm_link::{Addr, Link};
 use dm_memory::{NoMemory, push};
 use dm_message::{MOST_LINKS, Message, What};
+use dm_onekernel::PendingKind;
 
 /// The first byte of a request over a link with code 0: a process is to be made.
 const CREATE: u8 = 1;
+
+/// The first byte of a request over a link to a child that it move; a machine follows.
+const MOVE: u8 = 5;
 
 /// What a bad request is answered.
 const BAD_REQUEST: u8 = 2;
@@ -52,82 +56,108 @@ impl Control {
 
 impl ProcMan {
     /// Counts a message as sent.
-    fn send(&mut self, to: Addr, what: What) -> Message
+    fn send(&mut self, here: u8, to: Addr, what: What) -> Message
         requires { self.old.sent < u32.MAX }
-        ensures { record { manager = self.new; message = Some result } ≡ sends self.old (message_to self.old.sent to what) }
+        ensures { record { manager = self.new; message = Some result } ≡ sends self.old (message_to here self.old.sent to what) }
     {
-        let message = message_to(self.sent, to, what);
+        let message = message_to(here, self.sent, to, what);
         self.sent += 1;
         message
     }
 
     /// One byte goes over the link of an answer, with at most 4 links.
-    pub(crate) fn answer(&mut self, link: &Link, code: u8, links: &[Link]) -> Message
+    pub(crate) fn answer(&mut self, here: u8, link: &Link, code: u8, links: &[Link]) -> Message
         requires counts { self.old.sent < u32.MAX }
         requires links { length links.now ≤ MOST_LINKS }
-        ensures { record { manager = self.new; message = Some result } ≡ answers self.old link.now code links.now }
+        ensures { record { manager = self.new; message = Some result } ≡ answers here self.old link.now code links.now }
     {
-        let message = answer_over(self.sent, link, code, links);
+        let message = answer_over(here, self.sent, link, code, links);
         self.sent += 1;
         message
     }
 
     /// A bad request is answered over its first link, if it has one.
-    fn bad_request(&mut self, links: &[Link]) -> Option<Message>
+    fn bad_request(&mut self, here: u8, links: &[Link]) -> Option<Message>
         requires { self.old.sent < u32.MAX }
-        ensures { record { manager = self.new; message = result } ≡ bad_request self.old links.now }
+        ensures { record { manager = self.new; message = result } ≡ bad_request here self.old links.now }
     {
         let [first, ..] = links else {
             return None;
         };
-        Some(self.answer(first, BAD_REQUEST, &[]))
+        Some(self.answer(here, first, BAD_REQUEST, &[]))
+    }
+
+    /// Sends a request, which waits for the answer.
+    fn ask(
+        &mut self,
+        here: u8,
+        kind: PendingKind,
+        to: Addr,
+        what: What,
+        answer: Option<Link>,
+    ) -> Result<Message, NoMemory>
+        requires counts { self.old.sent < u32.MAX }
+        ensures exact { IfOk result (λ sent. asks here self.old kind to what answer ≡ record { manager = self.new; message = Some sent }) }
+        ensures err { OnErr result (self.new ≡ self.old) }
+    {
+        let pending = Pending {
+            n: self.sent,
+            kind,
+            answer,
+        };
+        push(&mut self.pending, pending)?;
+        Ok(self.send(here, to, what))
     }
 
     /// Takes a body that came over a link with code 0: it asks that a process be made.
     pub(crate) fn request(
         &mut self,
+        here: u8,
         body: &[u8],
         links: &[Link],
     ) -> Result<Option<Message>, NoMemory>
         requires counts { self.old.sent < u32.MAX }
         requires links { length links.now ≤ MOST_LINKS }
-        ensures exact { IfOk result (λ sent. requests self.old body.now links.now ≡ record { manager = self.new; message = sent }) }
+        ensures exact { IfOk result (λ sent. requests here self.old body.now links.now ≡ record { manager = self.new; message = sent }) }
         ensures err { OnErr result (self.new ≡ self.old) }
     {
         match body {
             [CREATE, machine, high, low] => {
                 let image = 256 * u16::from(*high) + u16::from(*low);
-                self.want_child(*machine, image, links)
+                self.want_child(here, *machine, image, links)
             },
-            _ => Ok(self.bad_request(links)),
+            _ => Ok(self.bad_request(here, links)),
         }
     }
 
     /// Asks for a process if there are that machine, that image, and a link for the answer.
     fn want_child(
         &mut self,
+        here: u8,
         machine: u8,
         image: u16,
         links: &[Link],
     ) -> Result<Option<Message>, NoMemory>
         requires counts { self.old.sent < u32.MAX }
         requires links { length links.now ≤ MOST_LINKS }
-        ensures exact { IfOk result (λ sent. wants_child self.old machine image links.now ≡ record { manager = self.new; message = sent }) }
+        ensures exact { IfOk result (λ sent. wants_child here self.old machine image links.now ≡ record { manager = self.new; message = sent }) }
         ensures err { OnErr result (self.new ≡ self.old) }
     {
         let [answer, others @ ..] = links else {
             return Ok(None);
         };
         if machine < self.machines && image < self.images {
-            self.ask_for(machine, image, *answer, others).map(Some)
+            self.ask_for(here, machine, image, *answer, others)
+                .map(Some)
         } else {
-            Ok(self.bad_request(links))
+            Ok(self.bad_request(here, links))
         }
     }
 
     /// Asks the kernel of a machine for a process; the request waits for the answer.
     fn ask_for(
         &mut self,
+        here: u8,
         machine: u8,
         image: u16,
         answer: Link,
@@ -135,39 +165,87 @@ impl ProcMan {
     ) -> Result<Message, NoMemory>
         requires counts { self.old.sent < u32.MAX }
         requires links { length links.now ≤ 3 }
-        ensures exact { IfOk result (λ sent. asks_for self.old machine image answer links.now ≡ record { manager = self.new; message = Some sent }) }
+        ensures exact { IfOk result (λ sent. asks_for here self.old machine image answer links.now ≡ record { manager = self.new; message = Some sent }) }
         ensures err { OnErr result (self.new ≡ self.old) }
     {
         let mut enclosed = ArrayVec::new();
         let _ = enclosed.try_extend_from_slice(links);
-        let pending = Pending {
-            n: self.sent,
-            answer,
+        let what = What::Create {
+            image,
+            links: enclosed,
         };
-        push(&mut self.pending, pending)?;
-        Ok(self.send(
+        self.ask(
+            here,
+            PendingKind::Create,
             Addr::of_kernel(machine),
-            What::Create {
-                image,
-                links: enclosed,
-            },
-        ))
+            what,
+            Some(answer),
+        )
     }
 
     /// Takes a body that came over a link with the number of a child as its code.
-    pub(crate) fn control(&mut self, code: u32, body: &[u8], links: &[Link]) -> Option<Message>
+    pub(crate) fn control(
+        &mut self,
+        here: u8,
+        code: u32,
+        body: &[u8],
+        links: &[Link],
+    ) -> Result<Option<Message>, NoMemory>
         requires { self.old.sent < u32.MAX }
-        ensures { controls self.old (child_address self.old.children code) body.now links.now ≡ record { manager = self.new; message = result } }
+        ensures exact { IfOk result (λ sent. controls here self.old (child_address self.old.children code) body.now links.now ≡
+            record { manager = self.new; message = sent }) }
+        ensures err { OnErr result (self.new ≡ self.old) }
     {
         let Some(child) = self.children.numbered(code) else {
-            return self.bad_request(links);
+            return Ok(self.bad_request(here, links));
         };
-        let [operation] = body else {
-            return self.bad_request(links);
-        };
-        match Control::from_byte(*operation) {
-            Some(control) => Some(self.send(child, control.what())),
-            None => self.bad_request(links),
+        match body {
+            [operation] => Ok(self.control_child(here, child, *operation, links)),
+            [MOVE, machine] => self.want_move(here, child, *machine, links),
+            _ => Ok(self.bad_request(here, links)),
         }
+    }
+
+    /// Stops, resumes or kills a child.
+    fn control_child(
+        &mut self,
+        here: u8,
+        child: Addr,
+        operation: u8,
+        links: &[Link],
+    ) -> Option<Message>
+        requires { self.old.sent < u32.MAX }
+        ensures { controls_child here self.old child (control_of operation) links.now ≡ record { manager = self.new; message = result } }
+    {
+        match Control::from_byte(operation) {
+            Some(control) => Some(self.send(here, child, control.what())),
+            None => self.bad_request(here, links),
+        }
+    }
+
+    /// Asks a child to move to a machine, if there is that machine; the request waits for the answer.
+    fn want_move(
+        &mut self,
+        here: u8,
+        child: Addr,
+        machine: u8,
+        links: &[Link],
+    ) -> Result<Option<Message>, NoMemory>
+        requires { self.old.sent < u32.MAX }
+        ensures exact { IfOk result (λ sent. wants_move here self.old child machine links.now ≡ record { manager = self.new; message = sent }) }
+        ensures err { OnErr result (self.new ≡ self.old) }
+    {
+        if machine >= self.machines {
+            return Ok(self.bad_request(here, links));
+        }
+        let answer = links.first().copied();
+        self.ask(
+            here,
+            PendingKind::Move,
+            child,
+            What::Move { machine },
+            answer,
+        )
+        .map(Some)
     }
 }

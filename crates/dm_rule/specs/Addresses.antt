@@ -24,7 +24,7 @@ use Rattle.dm_rule.specs.Acts.{Act, act_of}
 use Rattle.dm_rule.specs.Acts as act
 use Rattle.dm_rule.specs.View.{View, Told, About, Known, Frozen, Forward}
 use Rattle.dm_rule.specs.View as view
-pub use Rattle.dm_rule.specs.Holders.{Holder, Slot, Owner, Receiver, Sender, Enclosed, Child, Name, Answer, Addresses, is_slot, is_owner, is_receiver, is_sender, is_enclosed, is_child, is_name_holder, is_answer_holder, holder_eq, Gets, gets, given, acting_place, unmoved}
+pub use Rattle.dm_rule.specs.Holders.{Holder, Slot, Owner, Receiver, Sender, Enclosed, Child, Name, Answer, AskedBy, Addresses, is_asked_by, is_slot, is_owner, is_receiver, is_sender, is_enclosed, is_child, is_name_holder, is_answer_holder, holder_eq, Gets, gets, given, acting_place, unmoved}
 pub use Rattle.dm_rule.specs.Given.{encloses, enclosed_from, request_gets, sends_what, sends_next, send_gets, fills, fills_by, call_gets, slot_after, receives_links, receives_what, reception_gets, answer_gets, landing_gets, serves_what, serves_alive, service_gets, child_links, creates_what, creation_gets, place_named, board_finds, board_keeps, board_asks, board_gets, manager_controls, manager_tells, manager_sends, manager_answers, manager_gets, taking_gets, gives}
 
 -- a message that goes on, or that step 6 of a migration sends on, follows its receiver
@@ -92,7 +92,7 @@ abbrev pub place_told : About → Option (Pid × Place)
 place_told (view.Place p at moves) = Some (p, record { at = at; moves = moves })
 place_told a = None
 
--- whose address it is that a holder has: a process's or a server's own, or a message's
+-- whose address it is that a holder has: a process's or a server's own, or a message's, as is that of who asked a process to move
 abbrev pub belongs_to : Pid → Holder → Bool
 belongs_to q (Slot p k) = pid_eq p q
 belongs_to q (Owner p) = pid_eq p q
@@ -102,6 +102,7 @@ belongs_to q (Enclosed id k) = false
 belongs_to q (Child n) = pid_eq q manager
 belongs_to q (Name n) = pid_eq q switchboard
 belongs_to q (Answer n) = pid_eq q manager
+belongs_to q (AskedBy p) = false
 
 -- whom a link leads to, if there is one
 abbrev pub link_target : Option PlainLink → Option Pid
@@ -129,9 +130,10 @@ name_link (Some k) = Some k.link
 
 abbrev pub answer_link : Option Pending → Option PlainLink
 answer_link None = None
-answer_link (Some r) = Some r.answer
+answer_link (Some r) = r.answer
 
--- the process that a holder's address leads to, a row a holder; a message's addresses are updated on its way, not here
+-- the process that a holder's address leads to, a row a holder; a message's addresses are updated on its way, not here, nor is
+-- where the answer to a request to move goes
 abbrev pub leads_to : OneKernel → Holder → Option Pid
 leads_to s (Slot p k) = link_target (slot_of (kernel.alive (s.processes p)) k)
 leads_to s (Owner p) = owner_of (kernel.alive (s.processes p))
@@ -141,6 +143,7 @@ leads_to s (Enclosed id k) = None
 leads_to s (Child n) = manage.child_numbered s.manager.children n
 leads_to s (Name n) = link_target (name_link (slice_get s.switchboard.names n))
 leads_to s (Answer n) = link_target (answer_link (manage.pending_numbered n s.manager.pending))
+leads_to s (AskedBy p) = None
 
 abbrev pub is_pid : Pid → Option Pid → Bool
 is_pid p None = false
@@ -200,3 +203,4 @@ first_addresses b (Enclosed id k) = unmoved 0
 first_addresses b (Child n) = unmoved (boot_home (nth_child b.processes n))
 first_addresses b (Name n) = unmoved 0
 first_addresses b (Answer n) = unmoved 0
+first_addresses b (AskedBy p) = unmoved 0

@@ -26,6 +26,8 @@ IsOthers s p (label.Gone id) = ⊤
 IsOthers s p (label.Took id) = ⊤
 IsOthers s p (label.Created id q) = q ≢ p
 IsOthers s p (label.NoSpace id a b) = ⊤
+IsOthers s p (label.Asked id) = (m : PlainMessage) → s.bag id ≡ Some m → m.to ≢ p
+IsOthers s p (label.Answered id o) = ⊤
 
 abbrev pub Spares : OneKernel → Pid → Option Label → Type 0
 Spares s p None = ⊤

@@ -24,14 +24,16 @@ use Rattle.dm_onekernel.specs.Switchboard as board
 use Rattle.dm_onekernel.specs.Manager as manage
 use Rattle.dm_onekernel.specs.Step as kernel
 use Rattle.dm_rule.specs.View.{View}
-use Rattle.dm_rule.specs.Holders.{Slot, Owner, Receiver, Sender, Enclosed, Child, Name, Answer, Addresses, Gets, gets, acting_place, unmoved}
+use Rattle.dm_rule.specs.Holders.{Slot, Owner, Receiver, Sender, Enclosed, Child, Name, Answer, AskedBy, Addresses, Gets, gets, acting_place, unmoved}
 
 -- what a message bears, a row a kind: a user's, with what it carries; a request to make a process, with the links that it is to
--- begin with, or that it was made; a request for a piece of a data move, and an answer after which another may follow
+-- begin with, or that it was made; a request that one move; a request for a piece of a data move, and an answer after which another
+-- may follow
 pub data Burden : Type 0 where
   Letter : (code : ℕ) → (channel : ℕ) → (body : List ℕ) → (links : List PlainLink) → Burden
   Making : (links : List PlainLink) → Burden
   Made : (child : Pid) → Burden
+  Going : Burden
   Asking : Burden
   Landing : Burden
   Nothing : Burden
@@ -49,7 +51,7 @@ burden_of what.Stop = Nothing
 burden_of what.Resume = Nothing
 burden_of what.Kill = Nothing
 burden_of what.NoRoom = Nothing
-burden_of (what.Move machine) = Nothing
+burden_of (what.Move machine) = Going
 burden_of (what.Moved outcome) = Nothing
 
 -- the links of a message, in order, from places that are given
@@ -214,12 +216,13 @@ board_gets s v a id w = board_takes_burden s v a id (burden_of w)
 abbrev pub manager_controls : View → Addresses → ℕ → PlainMessage → List Gets
 manager_controls v a code sent = gets (Receiver sent.id) (a (Child code)) ∷ gets (Sender sent.id) (unmoved v.acting) ∷ []
 
--- the manager: a request to make a process goes to a kernel, a control message over the link to the child, and an answer
--- over the link that came with the request
+-- the manager: a request to make a process goes to a kernel, a control message and a request to move over the link to the child,
+-- and an answer over the link that came with the request; the link for the answer to a request is kept, if one came
 abbrev pub manager_tells_burden : View → Addresses → MsgId → ℕ → PlainMessage → Burden → List Gets
 manager_tells_burden v a id code sent (Making links) =
     gets (Receiver sent.id) (unmoved sent.to.home) ∷ gets (Sender sent.id) (unmoved v.acting) ∷ gets (Answer sent.id.n) (a (Enclosed id 0)) ∷ encloses sent.id 0 (enclosed_from a id 1 links)
 manager_tells_burden v a id code sent (Letter c channel body links) = gets (Receiver sent.id) (a (Enclosed id 0)) ∷ gets (Sender sent.id) (unmoved v.acting) ∷ []
+manager_tells_burden v a id code sent Going = gets (Answer sent.id.n) (a (Enclosed id 0)) ∷ manager_controls v a code sent
 manager_tells_burden v a id code sent w = manager_controls v a code sent
 
 abbrev pub manager_tells : View → Addresses → MsgId → ℕ → PlainMessage → PlainWhat → List Gets
@@ -230,12 +233,12 @@ abbrev pub manager_sends : View → Addresses → MsgId → ℕ → Option Plain
 manager_sends v a id code None = []
 manager_sends v a id code (Some sent) = manager_tells v a id code sent sent.what
 
--- a kernel's answer is passed on to whoever asked for the process: over the link that was kept with request n
+-- an answer is passed on to whoever asked that a process be made, or move: over the link that was kept with request n
 abbrev pub manager_answers : View → Addresses → ℕ → Option PlainMessage → List Gets
 manager_answers v a n None = []
 manager_answers v a n (Some sent) = gets (Receiver sent.id) (a (Answer n)) ∷ gets (Sender sent.id) (unmoved v.acting) ∷ gets (Enclosed sent.id 0) (unmoved v.acting) ∷ []
 
--- the manager takes a message: a user's, or a kernel's answer to a request of its own
+-- the manager takes a message: a user's, or the answer to a request of its own
 abbrev pub manager_takes_burden : OneKernel → View → Addresses → PlainMessage → Burden → Option manage.ManagerTook → List Gets
 manager_takes_burden s v a m w None = []
 manager_takes_burden s v a m (Letter code channel body links) (Some t) = manager_sends v a m.id code t.message
@@ -251,6 +254,16 @@ taking_gets s v a id None = []
 taking_gets s v a id (Some m) =
     if pid_eq m.to switchboard then board_gets s v a id m.what
     else manager_gets s v a m m.what (manage.manager_takes s.manager s.machines (length s.images) m m.what)
+
+-- a process that follows a request to move knows who sent it
+abbrev pub follows : Addresses → MsgId → Option PlainMessage → List Gets
+follows a id None = []
+follows a id (Some m) = gets (AskedBy m.to) (a (Sender id)) ∷ []
+
+-- and answers where it is then
+abbrev pub ends_move : View → Addresses → MsgId → Option Pid → List Gets
+ends_move v a id None = []
+ends_move v a id (Some p) = gets (Receiver (answer_id id)) (a (AskedBy p)) ∷ gets (Sender (answer_id id)) (acting_place v p) ∷ []
 
 -- what each label gives, a row a label
 abbrev pub gives : OneKernel → View → Addresses → Label → List Gets
@@ -268,3 +281,5 @@ gives s v a (label.Gone id) = answer_gets a id (record { at = v.acting; moves = 
 gives s v a (label.Took id) = taking_gets s v a id (s.bag id)
 gives s v a (label.Created id child) = creation_gets v a id child (s.bag id)
 gives s v a (label.NoSpace id f b) = answer_gets a id (unmoved v.acting)
+gives s v a (label.Asked id) = follows a id (s.bag id)
+gives s v a (label.Answered id o) = ends_move v a id (s.noted id)

@@ -8,7 +8,7 @@ use Rattle.dm_rule.specs.View.{View}
 
 -- what has an address: a link in a slot, the owner in a data move, a message's receiver, its sender and its links, the
 -- manager's link to a child, the switchboard's link at a place of its list, the link for the answer to a request of the
--- manager's
+-- manager's, who asked a process to move that follows that request
 pub data Holder : Type 0 where
   Slot : (process : Pid) → (slot : ℕ) → Holder
   Owner : (process : Pid) → Holder
@@ -18,6 +18,7 @@ pub data Holder : Type 0 where
   Child : (number : ℕ) → Holder
   Name : (place : ℕ) → Holder
   Answer : (n : ℕ) → Holder
+  AskedBy : (process : Pid) → Holder
 
 -- for each of these the machine that its address names, and how often the process had moved that it knows of
 abbrev pub Addresses : Type 0
@@ -56,6 +57,10 @@ abbrev pub is_answer_holder : ℕ → Holder → Bool
 is_answer_holder m (Answer n) = m == n
 is_answer_holder m h = false
 
+abbrev pub is_asked_by : Pid → Holder → Bool
+is_asked_by p (AskedBy q) = pid_eq p q
+is_asked_by p h = false
+
 -- two holders are the same
 abbrev pub holder_eq : Holder → Holder → Bool
 holder_eq (Slot p k) h = is_slot p k h
@@ -66,6 +71,7 @@ holder_eq (Enclosed i k) h = is_enclosed i k h
 holder_eq (Child m) h = is_child m h
 holder_eq (Name m) h = is_name_holder m h
 holder_eq (Answer m) h = is_answer_holder m h
+holder_eq (AskedBy p) h = is_asked_by p h
 
 -- a holder gets an address
 pub record Gets : Type 0 where

@@ -1,4 +1,4 @@
--- As long as nothing moves: each address names the home of its process, with count 0, and each message stands where its
+-- As long as nothing moves, or is asked to: each address names the home of its process, with count 0, and each message stands where its
 -- receiver is at home.
 use Rattle.std.specs.Prelude.{◌≡◌, ℕ, ◌+◌, Bool, true, ◌==◌, ◌&&◌, nat_le, List, [], ◌∷◌, slice_get}
 use Rattle.std.specs.declared.option.Option.{Option}
@@ -8,12 +8,12 @@ use Rattle.dm_link.specs.Plain.{PlainLink}
 use Rattle.dm_message.specs.declared.MsgId.{MsgId}
 use Rattle.dm_message.specs.Plain as what
 use Rattle.dm_message.specs.Plain.{PlainMessage, PlainWhat}
-use Rattle.dm_onekernel.specs.Kernel.{Pending, OneKernel}
+use Rattle.dm_onekernel.specs.Kernel.{Note, Pending, OneKernel}
 use Rattle.dm_onekernel.specs.Manager as manage
 use Rattle.dm_onekernel.specs.Step as kernel
 use Rattle.dm_rule.specs.Point.{Point}
 use Rattle.dm_rule.specs.Spots.{untaken}
-use Rattle.dm_rule.specs.Addresses.{Holder, Slot, Owner, Receiver, Sender, Enclosed, Child, Name, Answer, unmoved, link_target, slot_of, owner_of, name_link, answer_link}
+use Rattle.dm_rule.specs.Addresses.{Holder, Slot, Owner, Receiver, Sender, Enclosed, Child, Name, Answer, AskedBy, unmoved, link_target, slot_of, owner_of, name_link, answer_link}
 
 -- the links of a message
 abbrev pub links_in : PlainWhat → List PlainLink
@@ -44,6 +44,11 @@ abbrev pub enclosed_of : Option PlainMessage → ℕ → Option PlainLink
 enclosed_of None k = None
 enclosed_of (Some m) k = slice_get (links_in m.what) k
 
+-- who asked a process to move
+abbrev pub asker_in : Option Note → Option Pid
+asker_in None = None
+asker_in (Some n) = Some n.asker
+
 -- whom a holder's address is of
 abbrev pub names : OneKernel → Holder → Option Pid
 names s (Slot p k) = link_target (slot_of (kernel.alive (s.processes p)) k)
@@ -54,6 +59,7 @@ names s (Enclosed id k) = link_target (enclosed_of (s.bag id) k)
 names s (Child n) = manage.child_numbered s.manager.children n
 names s (Name n) = link_target (name_link (slice_get s.switchboard.names n))
 names s (Answer n) = link_target (answer_link (manage.pending_numbered n s.manager.pending))
+names s (AskedBy p) = asker_in (s.notes p)
 
 -- each process of these has this home
 abbrev pub are_home : ℕ → List Pid → Bool

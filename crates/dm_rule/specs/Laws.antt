@@ -7,9 +7,12 @@ use Rattle.dm_message.specs.declared.MsgId.{MsgId}
 use Rattle.dm_message.specs.declared.kind.MessageKind.{MessageKind}
 use Rattle.dm_onekernel.specs.declared.boot.Boot.{Boot}
 use Rattle.dm_onekernel.specs.Boot.{IsValid}
+use Rattle.dm_onekernel.specs.declared.label.Label.{Label}
+use Rattle.dm_onekernel.specs.declared.label.Label.TheVariants as label
+use Rattle.dm_line.specs.declared.line.Line.{Line}
 use Rattle.dm_schedule.specs.declared.Step.{Step}
 use Rattle.dm_schedule.specs.declared.Step.TheVariants as step
-use Rattle.dm_rule.specs.Point.{Point, first_point}
+use Rattle.dm_rule.specs.Point.{Point, first_point, label_of}
 use Rattle.dm_rule.specs.Parts.{Spelled}
 use Rattle.dm_rule.specs.Quiet.{IsQuiet, is_quiet}
 use Rattle.dm_rule.specs.View.{View}
@@ -44,6 +47,20 @@ abbrev pub AreStill : List Step → Type 0
 AreStill [] = ⊤
 AreStill (e ∷ es) = IsStill e × AreStill es
 
+-- no process is asked to move
+abbrev pub IsUnasked : Option Label → Type 0
+IsUnasked (Some (label.Asked id)) = ⊥
+IsUnasked l = ⊤
+
+abbrev pub AskNone : List Line → Type 0
+AskNone [] = ⊤
+AskNone (l ∷ ls) = IsUnasked (label_of l) × AskNone ls
+
+-- the rule leads from a point to another, group by group, and nothing moves on the way: no directive and no process has it move
+abbrev pub LeadsStill : Boot → Point → List Step → Point → Type 0
+LeadsStill b pt [] end = pt ≡ end
+LeadsStill b pt (e ∷ es) end = (w : Spelled) × IsStep pt.kernel.machines e × IsStill e × (group_of b pt e ≡ Some w) × AskNone w.lines × LeadsStill b w.point es end
+
 -- wherever the rule leads, each message that the kernel without machines holds stands exactly once among the queues, held
 -- lists, inboxes and streams of the printed lines, a kernel's own message at most once, and no other stands there
 abbrev pub StandsOnceAlways : Type 0
@@ -57,7 +74,7 @@ PairsStandAlways = (b : Boot) (es : List Step) (pt : Point) (m n : ℕ) → Lead
 -- wherever the rule leads without a migration, each address names the home of its process, and each message stands where its
 -- receiver is at home
 abbrev pub LeadHomeAlways : Type 0
-LeadHomeAlways = (b : Boot) (es : List Step) (pt : Point) → IsValid b → AreStill es → Leads b (first_point b) es pt → Homes pt
+LeadHomeAlways = (b : Boot) (es : List Step) (pt : Point) → IsValid b → LeadsStill b (first_point b) es pt → Homes pt
 
 -- wherever the rule leads, the first put of each message told what it is
 abbrev pub TellsRightAlways : Type 0

@@ -10,16 +10,20 @@ use Rattle.dm_message.specs.declared.kind.MessageKind.{MessageKind}
 use Rattle.dm_message.specs.declared.kind.MessageKind.TheVariants as kind
 use Rattle.dm_message.specs.Sorts.{Sort, sort_of}
 use Rattle.dm_message.specs.Sorts as sort
+use Rattle.dm_message.specs.declared.Outcome.{Outcome}
+use Rattle.dm_message.specs.declared.Outcome.TheVariants as ends
+use Rattle.dm_onekernel.specs.declared.label.Label.TheVariants as label
 use Rattle.dm_onekernel.specs.Boot.{switchboard, manager}
+use Rattle.dm_onekernel.specs.Pieces.{answer_id}
 use Rattle.dm_onekernel.specs.PlainProcess.{PlainProcess, PlainStatus, Ready, Waiting, Moving}
-use Rattle.dm_onekernel.specs.Kernel.{OneKernel, Pending}
+use Rattle.dm_onekernel.specs.Kernel.{Note, OneKernel, Pending}
 use Rattle.dm_onekernel.specs.Step as kernel
 use Rattle.dm_line.specs.declared.line.Line.TheVariants as line
 use Rattle.dm_line.specs.declared.line.Stage.TheVariants as stage
 use Rattle.dm_rule.specs.View.{Told, Known, Unknown, Here, Frozen, Incoming, Forward, Ended, target_of}
 use Rattle.dm_rule.specs.Addresses.{Addresses, Holder, Slot, Sender, Child, Name, Answer, is_behind, is_told_back, child_number, place_told}
 use Rattle.dm_rule.specs.Point.{Point}
-use Rattle.dm_rule.specs.Parts.{Part, Says, Again, Owns}
+use Rattle.dm_rule.specs.Parts.{Part, Says, Routes, Again, Owns}
 
 -- the bytes of a process's state: registers and the like, what it waits for or moves, and its links
 abbrev pub status_size : PlainStatus → ℕ
@@ -54,11 +58,27 @@ abbrev pub forwards_on : Addresses → MsgId → MessageKind → Pid → ℕ →
 forwards_on a id k sender to =
     Says (line.Forwarded id to) ∷ Again id to ∷ (if is_told_back k then Owns kind.Update sender (a (Sender id)).at ∷ [] else [])
 
--- a process is to move: to this very machine, or it is frozen, and the other machine is asked
+-- a process is frozen, and the other machine is asked
+abbrev pub leaves_for : Pid → ℕ → List Part
+leaves_for p to = Says (line.Migration stage.Frozen p) ∷ Says (line.Migration stage.Asked p) ∷ to_kernel kind.Ask to ∷ []
+
+-- a process is to move: to this very machine, or another
 abbrev pub moves_to : ℕ → MsgId → Pid → ℕ → List Part
-moves_to m id p to =
-    if m == to then Says (line.Here id) ∷ []
-    else Says (line.Migration stage.Frozen p) ∷ Says (line.Migration stage.Asked p) ∷ to_kernel kind.Ask to ∷ []
+moves_to m id p to = if m == to then Says (line.Here id) ∷ [] else leaves_for p to
+
+-- a request to move is answered
+abbrev pub answers_move : MsgId → Outcome → List Part
+answers_move id o = Says (line.Label (label.Answered id o)) ∷ Routes (answer_id id) ∷ []
+
+-- a process is asked to move: where it is already, that is answered at once
+abbrev pub asked_to_move : ℕ → MsgId → Pid → ℕ → List Part
+asked_to_move m id p to =
+    Says (line.Label (label.Asked id)) ∷ (if m == to then answers_move id ends.Done else leaves_for p to)
+
+-- a move has ended so: the request that the process followed is answered, if it followed one
+abbrev pub tells_asker : Option Note → Outcome → List Part
+tells_asker None o = []
+tells_asker (Some n) o = answers_move n.id o
 
 -- a machine takes a process, or says what is free
 abbrev pub accepts : ℕ → Pid → Bool → ℕ → ℕ → List Part
@@ -93,13 +113,13 @@ leaves id p ids k = None
 -- what a kernel is told of a process by another kernel; `fits` says whether there is room for it, and what is free
 abbrev pub told_step : Point → ℕ → MsgId → Pid → (Bool × ℕ × ℕ) → PlainProcess → Sort → Option (List Part)
 told_step pt m id p fits x (sort.Between sort.Ask) = Some (accepts id.from.home p fits.0 fits.1 fits.2)
-told_step pt m id p fits x (sort.Between sort.Refuse) = Some (Says (line.Stays p) ∷ [])
+told_step pt m id p fits x (sort.Between sort.Refuse) = Some (Says (line.Stays p) ∷ tells_asker (pt.kernel.notes p) ends.Stayed)
 told_step pt m id p fits x (sort.Between sort.PullState) = Some (gives_piece id kind.State)
 told_step pt m id p fits x (sort.Between sort.State) = Some (takes_chunk id p (pt.view.asked p == chunks_of x))
 told_step pt m id p fits x (sort.Between sort.PullBlock) = Some (gives_piece id kind.Memory)
 told_step pt m id p fits x (sort.Between sort.Memory) = Some (takes_block id p (pt.view.asked p == pieces_of x))
 told_step pt m id p fits x (sort.Between sort.AllTaken) = leaves id p (pt.view.queue m p ++ pt.view.held m p) (pt.view.known m p)
-told_step pt m id p fits x (sort.Between sort.Restart) = Some (Says (line.Migration stage.Restarted p) ∷ [])
+told_step pt m id p fits x (sort.Between sort.Restart) = Some (Says (line.Migration stage.Restarted p) ∷ tells_asker (pt.kernel.notes p) ends.Done)
 told_step pt m id p fits x s = None
 
 abbrev pub kernel_told : Point → ℕ → MsgId → Pid → (Bool × ℕ × ℕ) → PlainProcess → MessageKind → Option (List Part)

@@ -3,7 +3,10 @@ use Rattle.std.specs.Prelude.{List, [], ◌∷◌}
 use Rattle.std.specs.declared.option.Option.{Option}
 use Rattle.std.specs.declared.option.Option.TheVariants.{None, Some}
 use Rattle.dm_onekernel.specs.declared.boot.Boot.{Boot}
+use Rattle.dm_message.specs.Plain as what
+use Rattle.dm_message.specs.Plain.{PlainMessage, PlainWhat}
 use Rattle.dm_onekernel.specs.declared.label.Label.{Label}
+use Rattle.dm_onekernel.specs.declared.label.Label.TheVariants as label
 use Rattle.dm_onekernel.specs.Kernel.{OneKernel}
 use Rattle.dm_onekernel.specs.Options.{bind}
 use Rattle.dm_onekernel.specs.Start.{start}
@@ -11,8 +14,13 @@ use Rattle.dm_onekernel.specs.Step as kernel
 use Rattle.dm_line.specs.declared.line.Line.{Line}
 use Rattle.dm_rule.specs.Acts.{Act, act_of}
 use Rattle.dm_rule.specs.Acts as act
-use Rattle.dm_rule.specs.View.{View, view_after, first_view}
+use Rattle.dm_rule.specs.View.{About, NothingElse, Target, View, about, view_after, first_view}
 use Rattle.dm_rule.specs.Addresses.{Addresses, addresses_after, first_addresses}
+
+-- the machine that a message says its receiver is to move to
+abbrev pub machine_of : PlainWhat → About
+machine_of (what.Move machine) = Target machine
+machine_of w = NothingElse
 
 -- the kernel without machines, the view and the addresses
 pub record Point : Type 0 where
@@ -43,9 +51,22 @@ abbrev pub kernel_after : OneKernel → Option Label → Option OneKernel
 kernel_after s None = Some s
 kernel_after s (Some l) = kernel.step s l
 
+-- where a process goes that is asked to move, no line says: the kernel's message does
+abbrev pub machine_in : Option PlainMessage → About
+machine_in None = NothingElse
+machine_in (Some m) = machine_of m.what
+
+abbrev pub topic_by : OneKernel → About → Option Label → About
+topic_by s topic (Some (label.Asked id)) = machine_in (s.bag id)
+topic_by s topic l = topic
+
+-- the view behind a line: what the line changes, and what the group is about then
+abbrev pub seen : OneKernel → View → Line → View
+seen s v l = about (view_after v l) (topic_by s (view_after v l).topic (label_of l))
+
 -- the point behind a line, where the kernel behind it is known
 abbrev pub moved : Point → Line → OneKernel → Point
-moved pt l s = record { kernel = s; view = view_after pt.view l; addresses = addresses_after pt.kernel pt.view pt.addresses l }
+moved pt l s = record { kernel = s; view = seen pt.kernel pt.view l; addresses = addresses_after pt.kernel pt.view pt.addresses l }
 
 -- where a run stands after one more line, if the kernel can take its label
 abbrev pub after_line : Point → Line → Option Point

@@ -39,7 +39,7 @@ use Rattle.dm_rule.specs.Given as given
 use Rattle.dm_rule.specs.View.{View, Pair, SentLoad, Told, About, Of, Known, Unknown, Here, Frozen, Incoming, Forward, Ended}
 use Rattle.dm_rule.specs.Point.{Point, after_line}
 use Rattle.dm_rule.specs.Parts.{Part, Says, Routes, Transmits, Spelled, spelled, pair_window}
-use Rattle.dm_rule.specs.Migrating.{forwards_on, kernel_told, server_told, process_told, migrates}
+use Rattle.dm_rule.specs.Migrating.{asked_to_move, forwards_on, kernel_told, server_told, process_told, migrates}
 
 abbrev pub says : Label → Part
 says l = Says (line.Label l)
@@ -225,7 +225,7 @@ here_handles pt m id msg x what.Gone = landing_parts id (pieces.lands msg.to x m
 here_handles pt m id msg x (what.Create image links) = None
 here_handles pt m id msg x (what.Created pid) = None
 here_handles pt m id msg x what.NoRoom = None
-here_handles pt m id msg x (what.Move machine) = None
+here_handles pt m id msg x (what.Move machine) = Some (asked_to_move m id msg.to machine)
 here_handles pt m id msg x (what.Moved outcome) = None
 
 -- a message whose receiver has ended
@@ -242,7 +242,7 @@ ended_handles id what.Gone = Some (says (label.Dropped id) ∷ [])
 ended_handles id (what.Create image links) = None
 ended_handles id (what.Created pid) = None
 ended_handles id what.NoRoom = None
-ended_handles id (what.Move machine) = None
+ended_handles id (what.Move machine) = Some (says (label.Gone id) ∷ Routes (answer_id id) ∷ [])
 ended_handles id (what.Moved outcome) = None
 
 -- by what the machine knows of the receiver

@@ -159,6 +159,8 @@ after_label v (label.Gone id) = handled v id
 after_label v (label.Took id) = handled v id
 after_label v (label.Created id p) = with_ring (knowing (handled v id) p Here) (v.ring v.acting ++ p ∷ [])
 after_label v (label.NoSpace id s b) = handled v id
+after_label v (label.Asked id) = handled v id
+after_label v (label.Answered id o) = v
 
 abbrev pub with_pair : View → ℕ → ℕ → Pair → View
 with_pair v a b p = record v { pair = at_pair v.pair a b p }
@@ -311,10 +313,19 @@ abbrev pub after_proto : View → Option Told → View
 after_proto v None = about v NothingElse
 after_proto v (Some t) = about (follows_up v t.about t.kind) t.about
 
--- steps of migrations: 1, 3, 4, 5 and 8 handle the message at the front
+-- a process is frozen that is to go to this machine
+abbrev pub frozen_for : View → Pid → ℕ → View
+frozen_for v p m = about (with_ring (knowing v p (Frozen m)) (without p (v.ring v.acting))) (Of p)
+
+-- where the group has said already that the process is asked to move, its topic is that machine, and the message has gone from the
+-- inbox; else the message at the front tells where
+abbrev pub sets_off : View → Pid → About → View
+sets_off v p (Target m) = frozen_for v p m
+sets_off v p a = frozen_for (handled_first v) p (target_of (front_told v (v.inbox v.acting)))
+
+-- steps of migrations: 1, 3, 4, 5 and 8 handle the message at the front, but for step 1 of a process that is asked to move
 abbrev pub after_stage : View → Pid → Stage → View
-after_stage v p stage.Frozen =
-    about (with_ring (knowing (handled_first v) p (Frozen (target_of (front_told v (v.inbox v.acting))))) (without p (v.ring v.acting))) (Of p)
+after_stage v p stage.Frozen = sets_off v p v.topic
 after_stage v p stage.Asked = v
 after_stage v p stage.Accepted = about (asking (knowing (handled_first v) p (Incoming (front_of (v.inbox v.acting)))) p 1) (Of p)
 after_stage v p stage.StateTaken = about (asking (handled_first v) p (v.asked p + 1)) (Of p)

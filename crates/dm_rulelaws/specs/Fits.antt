@@ -14,7 +14,9 @@ use Rattle.dm_process.specs.declared.process.Direction.{Direction}
 use Rattle.dm_process.specs.declared.process.Direction.TheVariants as direction
 use Rattle.dm_onekernel.specs.Boot.{switchboard, manager}
 use Rattle.dm_onekernel.specs.PlainProcess.{PlainProcess, PlainStatus, Ready, Waiting, Moving}
-use Rattle.dm_onekernel.specs.Kernel.{Life, Alive, Ended, NamedLink, Pending, OneKernel}
+use Rattle.dm_onekernel.specs.declared.request.PendingKind.{PendingKind}
+use Rattle.dm_onekernel.specs.declared.request.PendingKind.TheVariants as wanted
+use Rattle.dm_onekernel.specs.Kernel.{Alive, Ended, Life, NamedLink, Note, OneKernel, Pending}
 use Rattle.dm_onekernel.specs.Manager as manage
 use Rattle.dm_onekernel.specs.Pieces.{piece_of}
 
@@ -85,10 +87,21 @@ awaits None n w = false
 awaits (Some (Alive x)) n w = status_awaits x.status n w
 awaits (Some (Ended because)) n w = true
 
--- a request to make a process that the manager has sent and that has no taken answer
-pub record IsPending (s : OneKernel) (i : MsgId) : Type 0 where
+-- there is a request, of this kind
+abbrev pub kind_eq : PendingKind → PendingKind → Bool
+kind_eq wanted.Create wanted.Create = true
+kind_eq wanted.Create wanted.Move = false
+kind_eq wanted.Move wanted.Create = false
+kind_eq wanted.Move wanted.Move = true
+
+abbrev pub is_for : PendingKind → Option Pending → Bool
+is_for kind None = false
+is_for kind (Some r) = kind_eq kind r.kind
+
+-- a request of this kind that the manager has sent and that has no taken answer
+pub record IsPending (s : OneKernel) (kind : PendingKind) (i : MsgId) : Type 0 where
   pub from : i.from ≡ manager
-  pub pending : is_some (manage.pending_numbered i.n s.manager.pending) ≡ true
+  pub pending : is_for kind (manage.pending_numbered i.n s.manager.pending) ≡ true
 
 -- a message of the bag under its name, a row a kind
 abbrev pub WhatFits : OneKernel → MsgId → PlainMessage → PlainWhat → Type 0
@@ -104,16 +117,29 @@ WhatFits s i m (what.Block bytes) = (m.to ≡ i.from) × (awaits (s.processes i.
 WhatFits s i m what.Written = (m.to ≡ i.from) × (awaits (s.processes i.from) i.n what.Written ≡ true)
 WhatFits s i m what.Gone = (m.to ≡ i.from) × (awaits (s.processes i.from) i.n what.Gone ≡ true)
 WhatFits s i m (what.Create image links) =
-    (m.to.num ≡ 0) × (nat_lt m.to.home s.machines ≡ true) × (nat_lt image (length s.images) ≡ true) × (m.sender ≡ manager) × (i.answer ≡ false) × IsPending s i × Each (LinkFits s.processes) links
-WhatFits s i m (what.Created child) = (m.to ≡ manager) × (i.answer ≡ true) × IsPending s i × (has_bytes 0 (s.processes child) ≡ true)
-WhatFits s i m what.NoRoom = (m.to ≡ manager) × (i.answer ≡ true) × IsPending s i
-WhatFits s i m (what.Move machine) = ⊥
-WhatFits s i m (what.Moved outcome) = ⊥
+    (m.to.num ≡ 0) × (nat_lt m.to.home s.machines ≡ true) × (nat_lt image (length s.images) ≡ true) × (m.sender ≡ manager) × (i.answer ≡ false) × IsPending s wanted.Create i × Each (LinkFits s.processes) links
+WhatFits s i m (what.Created child) = (m.to ≡ manager) × (i.answer ≡ true) × IsPending s wanted.Create i × (has_bytes 0 (s.processes child) ≡ true)
+WhatFits s i m what.NoRoom = (m.to ≡ manager) × (i.answer ≡ true) × IsPending s wanted.Create i
+WhatFits s i m (what.Move machine) =
+    (has_bytes 0 (s.processes m.to) ≡ true) × (nat_lt machine s.machines ≡ true) × (m.sender ≡ manager) × (i.answer ≡ false) × IsPending s wanted.Move i
+WhatFits s i m (what.Moved outcome) = (m.to ≡ manager) × (i.answer ≡ true) × IsPending s wanted.Move i
+
+-- a request to move that a process follows is the manager's, and has no taken answer
+pub record NoteFits (s : OneKernel) (n : Note) : Type 0 where
+  pub asker : n.asker ≡ manager
+  pub unanswered : n.id.answer ≡ false
+  pub pending : IsPending s wanted.Move n.id
+
+-- the link for the answer to a pending request; one to make a process has it
+pub record PendingFits (s : OneKernel) (r : Pending) : Type 0 where
+  pub answer : SlotFits s.processes r.answer
+  pub making : r.kind ≡ wanted.Create → is_some r.answer ≡ true
 
 -- all of it
 pub record KernelFits (s : OneKernel) : Type 0 where
   pub processes : (p : Pid) (x : PlainProcess) → s.processes p ≡ Some (Alive x) → ProcessFits s.processes x
   pub messages : (i : MsgId) (m : PlainMessage) → s.bag i ≡ Some m → WhatFits s i m m.what
   pub names : Each (λ (k : NamedLink). LinkFits s.processes k.link) s.switchboard.names
-  pub answers : Each (λ (r : Pending). LinkFits s.processes r.answer) s.manager.pending
+  pub answers : Each (PendingFits s) s.manager.pending
+  pub notes : (p : Pid) (n : Note) → s.notes p ≡ Some n → NoteFits s n
   pub children : Each (λ (p : Pid). has_bytes 0 (s.processes p) ≡ true) s.manager.children

@@ -19,7 +19,7 @@ use Rattle.dm_line.specs.declared.line.Line.{Line}
 use Rattle.dm_rule.specs.Parts.{Spelled}
 use Rattle.dm_rule.specs.Point.{Point, first_point, labels}
 use Rattle.dm_rule.specs.Rule.{group_of}
-use Rattle.dm_rule.specs.Laws.{IsStep, AreStill}
+use Rattle.dm_rule.specs.Laws.{IsStep, AreStill, AskNone}
 
 -- the rule leads from a point to another, and these are the lines, group after group
 abbrev pub LeadsBy : Boot → Point → List Step → List Line → Point → Type 0
@@ -56,6 +56,6 @@ pub record StandsOn (b : Boot) (ls : List Label) (i : MsgId) (channel : ℕ) : T
 -- received in the order in which they were sent
 abbrev pub ReceivesInOrder : Type 0
 ReceivesInOrder =
-    (b : Boot) (es : List Step) (ls : List Line) (pt : Point) (before between after : List Label) (from to : Pid) (n k channel : ℕ) → IsValid b → AreStill es → LeadsBy b (first_point b) es ls pt
+    (b : Boot) (es : List Step) (ls : List Line) (pt : Point) (before between after : List Label) (from to : Pid) (n k channel : ℕ) → IsValid b → AreStill es → AskNone ls → LeadsBy b (first_point b) es ls pt
     → labels ls ≡ before ++ label.Receive to (id_of from n) ∷ (between ++ label.Receive to (id_of from k) ∷ after)
     → StandsOn b before (id_of from n) channel → StandsOn b (before ++ label.Receive to (id_of from n) ∷ between) (id_of from k) channel → n < k

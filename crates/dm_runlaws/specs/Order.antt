@@ -1,4 +1,5 @@
--- Where no directive of a schedule moves a process, messages are received in the order in which they were sent.
+-- Where no directive of a schedule moves a process, and none is asked to move, messages are received in the order in which they were
+-- sent.
 use Rattle.std.specs.Prelude.{◌≡◌, ⊤, ℕ, ◌<◌, List, [], ◌∷◌, ◌++◌, length}
 use Rattle.std.specs.List.{All}
 use Rattle.dm_link.specs.declared.Pid.{Pid}
@@ -11,7 +12,7 @@ use Rattle.dm_schedule.specs.declared.Directive.{Directive}
 use Rattle.dm_schedule.specs.declared.Directive.TheVariants as directive
 use Rattle.dm_line.specs.declared.line.Line.{Line}
 use Rattle.dm_line.specs.Todo.{Todo}
-use Rattle.dm_rule.specs.Laws.{IsStill}
+use Rattle.dm_rule.specs.Laws.{AskNone, IsStill}
 use Rattle.dm_rule.specs.Point.{Point, labels}
 use Rattle.dm_rulelaws.specs.Order.{StandsOn}
 use Rattle.dm_mirror.specs.Run.{IsGood, joined}
@@ -32,6 +33,6 @@ MoveNothing (d ∷ ds) = MovesNothing d × MoveNothing ds
 abbrev pub GoodInOrder : Type 0
 GoodInOrder =
     (b : Boot) (ds : List Directive) (gs : List (List Line)) (end : Point) (left : Todo) (before between after : List Label) (from to : Pid) (n k channel : ℕ) →
-    IsValid b → All (IsDirective (length b.machines)) ds → MoveNothing ds → IsGood b ds gs end left
+    IsValid b → All (IsDirective (length b.machines)) ds → MoveNothing ds → AskNone (joined gs) → IsGood b ds gs end left
     → labels (joined gs) ≡ before ++ label.Receive to (id_of from n) ∷ (between ++ label.Receive to (id_of from k) ∷ after)
     → StandsOn b before (id_of from n) channel → StandsOn b (before ++ label.Receive to (id_of from n) ∷ between) (id_of from k) channel → n < k

@@ -57,6 +57,8 @@ row_of shape.Gone = row (codes "gone") (sort.Message ∷ [])
 row_of shape.Took = row (codes "took") (sort.Message ∷ [])
 row_of shape.Created = row (codes "created") (sort.Message ∷ sort.Process ∷ [])
 row_of shape.NoSpace = row (codes "nospace") (sort.Message ∷ sort.Number ∷ sort.Number ∷ [])
+row_of shape.Asked = row (codes "asked") (sort.Message ∷ [])
+row_of shape.Answered = row (codes "answered") (sort.Message ∷ sort.Number ∷ [])
 row_of shape.Idle = row (codes "idle") (sort.Machine ∷ [])
 row_of shape.Put = row (codes "put") (sort.Machine ∷ sort.Machine ∷ sort.Message ∷ sort.Kind ∷ sort.Process ∷ [])
 row_of shape.Packet = row (codes "packet") (sort.Machine ∷ sort.Machine ∷ sort.Packet ∷ choose choice.Load ∷ sort.Number ∷ [])
@@ -104,7 +106,7 @@ abbrev pub all_shapes : List Shape
 all_shapes =
     shape.Turn ∷ shape.Tick ∷ shape.Deliver ∷ shape.Migrate ∷ shape.Ran ∷ shape.Call ∷ shape.Send ∷ shape.Wait
     ∷ shape.Out ∷ shape.End ∷ shape.Receive ∷ shape.Refuse ∷ shape.Dropped ∷ shape.Served ∷ shape.Gone ∷ shape.Took
-    ∷ shape.Created ∷ shape.NoSpace ∷ shape.Idle ∷ shape.Put ∷ shape.Packet ∷ shape.Taken ∷ shape.Old ∷ shape.Early
+    ∷ shape.Created ∷ shape.NoSpace ∷ shape.Asked ∷ shape.Answered ∷ shape.Idle ∷ shape.Put ∷ shape.Packet ∷ shape.Taken ∷ shape.Old ∷ shape.Early
     ∷ shape.Acked ∷ shape.Nothing ∷ shape.Resent ∷ shape.Queued ∷ shape.Held ∷ shape.Forwarded ∷ shape.Updated
     ∷ shape.Stage ∷ shape.SentOn ∷ shape.Lacks ∷ shape.Stays ∷ shape.Here ∷ shape.NoMove ∷ shape.Proto ∷ shape.NoChild
     ∷ shape.Pinned ∷ shape.Final ∷ shape.Ended ∷ shape.Ready ∷ shape.Waiting ∷ shape.Moving ∷ shape.Registers

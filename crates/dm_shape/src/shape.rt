@@ -34,6 +34,8 @@ pub enum Shape {
     Took,
     Created,
     NoSpace,
+    Asked,
+    Answered,
     // The other lines of groups.
     Idle,
     Put,
@@ -78,7 +80,7 @@ pub enum Shape {
 }
 
 /// All shapes.
-const SHAPES: [Shape; 57] = [
+const SHAPES: [Shape; 59] = [
     Shape::Turn,
     Shape::Tick,
     Shape::Deliver,
@@ -97,6 +99,8 @@ const SHAPES: [Shape; 57] = [
     Shape::Took,
     Shape::Created,
     Shape::NoSpace,
+    Shape::Asked,
+    Shape::Answered,
     Shape::Idle,
     Shape::Put,
     Shape::Packet,

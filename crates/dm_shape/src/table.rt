@@ -99,6 +99,8 @@ impl Shape {
             Shape::Took => plain("took", &[Message]),
             Shape::Created => plain("created", &[Message, Process]),
             Shape::NoSpace => plain("nospace", &[Message, Number, Number]),
+            Shape::Asked => plain("asked", &[Message]),
+            Shape::Answered => plain("answered", &[Message, Number]),
             Shape::Idle => plain("idle", &[Machine]),
             Shape::Put => plain("put", &[Machine, Machine, Message, Kind, Process]),
             Shape::Packet => plain("packet", &[Machine, Machine, Packet, LOAD, Number]),

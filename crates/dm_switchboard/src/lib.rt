@@ -16,7 +16,7 @@ mod names;
 mod reply;
 mod requests;
 
-use dm_link::{Link, Pid};
+use dm_link::{Link, MACHINES, Pid};
 use dm_memory::NoMemory;
 use dm_message::{Message, What};
 use indexmap::IndexMap;
@@ -85,27 +85,32 @@ impl Switchboard {
         Some((name.as_slice(), link))
     }
 
-    /// Takes a user message, and answers a request that has a link for the answer.
-    pub fn take(&mut self, message: &Message) -> Result<Took, NoMemory>
+    /// Takes a user message on machine `here`, and answers a request that has a link for the answer.
+    pub fn take(&mut self, message: &Message, here: u8) -> Result<Took, NoMemory>
         requires user { kind_of message.now.what ≡ kind.User }
         requires counts { self.old.sent < u32.MAX }
-        ensures exact { IfOk result (λ t. takes self.old message.now.what ≡ Some (record { board = self.new; took = t })) }
+        requires here { here < MACHINES }
+        ensures exact { IfOk result (λ t. takes here self.old message.now.what ≡ Some (record { board = self.new; took = t })) }
         ensures err { OnErr result (self.new ≡ self.old) }
         ensures plain { IfOk result (λ t. plain_taken self.new t ≡ plainly_taken self.old (plain_message message.now)) }
         ensures lawful { IsLawfulBoard self.old → IsLawfulMessage message.now → IsLawfulBoard self.new }
         ensures lawful_answer { IsLawfulBoard self.old → IsLawfulMessage message.now → IfOk result (λ t. IfSome t.answer IsLawfulMessage) }
     {
         match &message.what {
-            What::User { body, links, .. } => self.take_request(body.as_slice(), links.as_slice()),
+            What::User { body, links, .. } => self.take_request(
+                here,
+                body.as_slice(),
+                links.as_slice(),
+            ),
             // No other kind is for the switchboard: `user` says so.
             _ => unreachable!(),
         }
     }
 
     /// Takes a request with its links, the first for the answer.
-    fn take_request(&mut self, body: &[u8], links: &[Link]) -> Result<Took, NoMemory>
+    fn take_request(&mut self, here: u8, body: &[u8], links: &[Link]) -> Result<Took, NoMemory>
         requires { self.old.sent < u32.MAX }
-        ensures exact { IfOk result (λ t. takes_request self.old body.now links.now ≡ record { board = self.new; took = t }) }
+        ensures exact { IfOk result (λ t. takes_request here self.old body.now links.now ≡ record { board = self.new; took = t }) }
         ensures err { OnErr result (self.new ≡ self.old) }
     {
         let [first, others @ ..] = links else {
@@ -115,7 +120,7 @@ impl Switchboard {
             });
         };
         let reply = ask(&mut self.names, body, others)?;
-        let answer = reply.over(first, self.sent);
+        let answer = reply.over(here, first, self.sent);
         self.sent += 1;
         Ok(Took {
             reply: Some(reply),

@@ -1,16 +1,20 @@
 //! What the switchboard answers.
 ghost use Rattle.std.specs.Prelude.{◌≡◌};
-ghost use Rattle.dm_switchboard.specs.Taking.{answer_over, code_of_reply, links_of_reply};
+ghost use Rattle.dm_switchboard.specs.Taking.{address_at, answer_over, code_of_reply, links_of_reply};
 
 use dm_link::{Addr, Link, SWITCHBOARD};
 use dm_message::{Body, Enclosed, Message, MsgId, What};
 
-/// Where the switchboard is.
-const ADDRESS: Addr = Addr {
-    pid: SWITCHBOARD,
-    at: 0,
-    moves: 0,
-};
+/// The switchboard on machine `here`.
+fn address_at(here: u8) -> Addr
+    ensures { result ≡ address_at here }
+{
+    Addr {
+        pid: SWITCHBOARD,
+        at: here,
+        moves: 0,
+    }
+}
 
 /// The answer to a request.
 #[derive(Clone, Copy, Debug, PartialEq, Eq)]
@@ -51,20 +55,20 @@ impl Reply {
         links
     }
 
-    /// The message that carries it over a link, the switchboard's message of this number.
-    pub(crate) fn over(self, link: &Link, number: u32) -> Message
-        ensures { result ≡ answer_over number link.now self }
+    /// The message that carries it over a link, the switchboard's message of this number from machine `here`.
+    pub(crate) fn over(self, here: u8, link: &Link, number: u32) -> Message
+        ensures { result ≡ answer_over here number link.now self }
     {
         let mut body = Body::new();
         body.push(self.code());
         Message {
             id: MsgId {
-                from: ADDRESS.pid,
+                from: SWITCHBOARD,
                 n: number,
                 answer: false,
             },
             to: link.addr,
-            sender: ADDRESS,
+            sender: address_at(here),
             what: What::User {
                 code: link.code,
                 channel: link.channel,

@@ -50,6 +50,8 @@ LabelFits (label.Gone i) = IdFits i
 LabelFits (label.Took i) = IdFits i
 LabelFits (label.Created i p) = IdFits i × PidFits p
 LabelFits (label.NoSpace i s b) = IdFits i × (s < 2 ^ 8) × (b < 2 ^ 16)
+LabelFits (label.Asked i) = IdFits i
+LabelFits (label.Answered i o) = IdFits i
 
 abbrev pub LoadFits : Load → Type 0
 LoadFits (load.Data n) = n < 2 ^ 32

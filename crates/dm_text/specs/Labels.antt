@@ -1,6 +1,7 @@
 -- The heads of groups, and the steps of the kernel without machines, as words.
 use Rattle.std.specs.Prelude.{ℕ, codes, List, [], ◌∷◌}
 use Rattle.std.specs.Fmt.{decimal}
+use Rattle.dm_message.specs.Outcomes.{code_of_outcome}
 use Rattle.dm_onekernel.specs.Codes.{reply_code, why_code}
 use Rattle.dm_onekernel.specs.declared.label.Label.{Label}
 use Rattle.dm_onekernel.specs.declared.label.Label.TheVariants as label
@@ -29,3 +30,5 @@ label_words (label.Gone id) = codes "gone" ∷ id_word id ∷ []
 label_words (label.Took id) = codes "took" ∷ id_word id ∷ []
 label_words (label.Created id p) = codes "created" ∷ id_word id ∷ pid_word p ∷ []
 label_words (label.NoSpace id s b) = codes "nospace" ∷ id_word id ∷ decimal s ∷ decimal b ∷ []
+label_words (label.Asked id) = codes "asked" ∷ id_word id ∷ []
+label_words (label.Answered id o) = codes "answered" ∷ id_word id ∷ decimal (code_of_outcome o) ∷ []

@@ -6,7 +6,7 @@ use Rattle.dm_onekernel.specs.declared.label.Label.TheVariants as label
 use Rattle.dm_schedule.specs.declared.Step.TheVariants as step
 use Rattle.dm_line.specs.declared.line.Line.{Line}
 use Rattle.dm_line.specs.declared.line.Line.TheVariants as line
-use Rattle.dm_text.specs.Reading.{read_u8, read_u16, read_u32, read_u64, read_pid, read_id, read_reply, read_why}
+use Rattle.dm_text.specs.Reading.{read_u8, read_u16, read_u32, read_u64, read_pid, read_id, read_reply, read_outcome, read_why}
 use Rattle.dm_text.specs.Rows.{is, of1, of2, of3}
 
 abbrev pub head_named : List ℕ → List (List ℕ) → Option Line
@@ -33,4 +33,6 @@ label_named w ws =
     else if is w (codes "took") then of1 read_id (λ i. line.Label (label.Took i)) ws
     else if is w (codes "created") then of2 read_id read_pid (λ i p. line.Label (label.Created i p)) ws
     else if is w (codes "nospace") then of3 read_id read_u8 read_u16 (λ i s b. line.Label (label.NoSpace i s b)) ws
+    else if is w (codes "asked") then of1 read_id (λ i. line.Label (label.Asked i)) ws
+    else if is w (codes "answered") then of2 read_id read_outcome (λ i o. line.Label (label.Answered i o)) ws
     else None

@@ -6,6 +6,9 @@ use Rattle.std.specs.declared.option.Option.TheVariants.{None, Some}
 use Rattle.dm_link.specs.declared.Pid.{Pid}
 use Rattle.dm_link.specs.Names.{pid_of}
 use Rattle.dm_message.specs.declared.MsgId.{MsgId}
+use Rattle.dm_message.specs.declared.Outcome.{Outcome}
+use Rattle.dm_message.specs.declared.Outcome.TheVariants as ends
+use Rattle.dm_message.specs.Outcomes.{code_of_outcome}
 use Rattle.dm_message.specs.declared.kind.MessageKind.{MessageKind}
 use Rattle.dm_message.specs.Kinds.{word_of, all_kinds}
 use Rattle.dm_processor.specs.declared.registers.Fault.TheVariants as fault
@@ -111,6 +114,10 @@ replies = reply.Done ∷ reply.NoLink ∷ reply.TableFull ∷ reply.BadKind ∷ 
 abbrev pub whys : List Why
 whys = why.Exit ∷ why.Fault fault.OutOfRange ∷ why.Fault fault.UnknownOpcode ∷ why.Fault fault.Unaligned ∷ why.UnknownCall ∷ why.Killed ∷ []
 
+-- all outcomes of a requested move
+abbrev pub outcomes : List Outcome
+outcomes = ends.Done ∷ ends.Stayed ∷ ends.Ended ∷ []
+
 -- the reply with this code
 abbrev pub reply_with : Option ℕ → Option Reply
 reply_with None = None
@@ -121,6 +128,11 @@ abbrev pub why_with : Option ℕ → Option Why
 why_with None = None
 why_with (Some n) = first_where (λ y. why_code y == n) whys
 
+-- the outcome with this code
+abbrev pub outcome_with : Option ℕ → Option Outcome
+outcome_with None = None
+outcome_with (Some n) = first_where (λ o. code_of_outcome o == n) outcomes
+
 -- the reply that a word numbers
 unfoldable pub read_reply : List ℕ → Option Reply
 read_reply w = reply_with (read_u8 w)
@@ -128,3 +140,7 @@ read_reply w = reply_with (read_u8 w)
 -- the reason for an end that a word numbers
 unfoldable pub read_why : List ℕ → Option Why
 read_why w = why_with (read_u8 w)
+
+-- the outcome of a requested move that a word numbers
+unfoldable pub read_outcome : List ℕ → Option Outcome
+read_outcome w = outcome_with (read_u8 w)

@@ -4,8 +4,8 @@ ghost use Rattle.dm_text.specs.Labels.{head_words, label_words};
 ghost use Rattle.dm_text.specs.Text.{spelled_line};
 
 use crate::rows::{
-    put_call, put_created, put_machine, put_message, put_message_room, put_pair_number,
-    put_process, put_process_message, put_process_number, put_refuse,
+    put_answered, put_call, put_created, put_machine, put_message, put_message_room,
+    put_pair_number, put_process, put_process_message, put_process_number, put_refuse,
 };
 use crate::within::LINE_ROOM;
 use dm_onekernel::Label;
@@ -48,5 +48,7 @@ pub(crate) fn put_label(into: &mut Vec<u8>, label: Label)
             free_slots,
             free_blocks,
         } => { put_message_room(into, b"nospace", id, free_slots, free_blocks) }
+        Label::Asked { id } => put_message(into, b"asked", id),
+        Label::Answered { id, outcome } => put_answered(into, id, outcome),
     }
 }

@@ -2,6 +2,7 @@
 ghost use Rattle.std.specs.Prelude.{◌≡◌, ◌+◌, ◌≤◌, ◌∷◌, ◌++◌, [], codes, length, vec_capacity, vec_len};
 ghost use Rattle.std.specs.Fmt.{decimal};
 ghost use Rattle.dm_message.specs.Kinds.{word_of};
+ghost use Rattle.dm_message.specs.Outcomes.{code_of_outcome};
 ghost use Rattle.dm_onekernel.specs.Codes.{reply_code};
 ghost use Rattle.dm_text.specs.Text.{spelled_line};
 ghost use Rattle.dm_text.specs.Words.{id_word, pid_word};
@@ -11,7 +12,7 @@ use crate::within::{
     put_spaced_pid, put_spaced_word,
 };
 use dm_link::Pid;
-use dm_message::{MessageKind, MsgId};
+use dm_message::{MessageKind, MsgId, Outcome};
 use dm_onekernel::Reply;
 
 /// Puts a line of a name alone.
@@ -208,6 +209,17 @@ pub(crate) fn put_created(into: &mut Vec<u8>, id: MsgId, pid: Pid)
     put_bytes(into, b"created");
     put_spaced_id(into, id);
     put_spaced_pid(into, pid);
+    end_line(into);
+}
+
+/// Puts the line of a request to move that is answered.
+pub(crate) fn put_answered(into: &mut Vec<u8>, id: MsgId, outcome: Outcome)
+    requires { vec_len into.old + LINE_ROOM ≤ vec_capacity into.old }
+    ensures { into.new.items ≡ into.old.items ++ spelled_line (codes "answered" ∷ id_word id ∷ decimal (code_of_outcome outcome) ∷ []) }
+{
+    put_bytes(into, b"answered");
+    put_spaced_id(into, id);
+    put_spaced_number(into, u64::from(outcome.code()));
     end_line(into);
 }
 
