@@ -32,7 +32,8 @@ pub fn processes_of(
     requires few { count (process_tables (view document.now.top.now)) ≤ MOST_PROCESSES }
     requires many { length starts.now ≡ count (process_tables (view document.now.top.now)) }
     ensures sound { IfOk result (λ read. read.sound ≡ all_sound (view document.now.top.now)) }
-    ensures processes { IfOk result (λ read. read.processes ≡ linked_all (view document.now.top.now) starts.now starts.now (process_tables (view document.now.top.now))) }
+    ensures processes { IfOk result (λ read. read.processes ≡
+        linked_all (view document.now.top.now) starts.now starts.now (process_tables (view document.now.top.now))) }
 {
     let tables = items_at(document.top, "process");
     let mut processes = with_room(alloc, starts.len())?;

@@ -1,28 +1,30 @@
 //! What processes take of their machines.
 ghost use Rattle.std.specs.Prelude.{◌≡◌, ◌+◌, ◌<◌, ◌≤◌, replicate, slice_index, slice_set};
 
+use dm_link::MACHINES;
+
 /// How many slots and blocks of each machine are taken.
 #[derive(Clone, Copy)]
 pub struct Taken {
-    slots: [u32; 16],
-    blocks: [u32; 16],
+    slots: [u32; MACHINES as usize],
+    blocks: [u32; MACHINES as usize],
 }
 
 impl Taken {
     /// Nothing is taken.
     pub fn new() -> Taken
-        ensures slots { result.slots ≡ replicate 16 0 }
-        ensures blocks { result.blocks ≡ replicate 16 0 }
+        ensures slots { result.slots ≡ replicate MACHINES 0 }
+        ensures blocks { result.blocks ≡ replicate MACHINES 0 }
     {
         Taken {
-            slots: [0; 16],
-            blocks: [0; 16],
+            slots: [0; MACHINES as usize],
+            blocks: [0; MACHINES as usize],
         }
     }
 
     /// The slots that are taken on a machine.
     pub fn slots(&self, machine: u8) -> u32
-        requires { machine < 16 }
+        requires { machine < MACHINES }
         ensures { result ≡ slice_index self.now.slots machine }
     {
         self.slots[usize::from(machine)]
@@ -30,7 +32,7 @@ impl Taken {
 
     /// The blocks that are taken on a machine.
     pub fn blocks(&self, machine: u8) -> u32
-        requires { machine < 16 }
+        requires { machine < MACHINES }
         ensures { result ≡ slice_index self.now.blocks machine }
     {
         self.blocks[usize::from(machine)]
@@ -38,7 +40,7 @@ impl Taken {
 
     /// Takes one slot more of a machine, and so many blocks.
     pub fn add(&mut self, machine: u8, blocks: u32)
-        requires machine { machine < 16 }
+        requires machine { machine < MACHINES }
         requires slots { slice_index self.old.slots machine ≤ 255 }
         requires blocks { slice_index self.old.blocks machine + blocks ≤ 65535 }
         ensures slots { self.new.slots ≡ slice_set self.old.slots machine (slice_index self.old.slots machine + 1) }

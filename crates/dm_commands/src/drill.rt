@@ -38,7 +38,8 @@ pub fn drill<K: Sink>(
     world: &mut Option<World>,
 ) -> Status
     requires { IsWithin drill.now }
-    ensures says { DrilledSays drill.now (boot_of_machines drill.now.machines) (directives_of_drill drill.now) (K.told out.old) (K.told out.new) world.new result }
+    ensures says { DrilledSays drill.now (boot_of_machines drill.now.machines) (directives_of_drill drill.now)
+        (K.told out.old) (K.told out.new) world.new result }
     ensures sink { BlamesSink (K.faults out.old) (K.faults out.new) result }
     ensures writes { K.faults out.old ≤ K.faults out.new }
 {

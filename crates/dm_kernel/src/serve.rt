@@ -42,7 +42,8 @@ impl Kernel {
     fn run(&mut self, pid: Pid, quantum: u32) -> Result<Vec<Part>, NoMemory>
         requires here { self.old.here < MACHINES }
         requires process { IsHere (Executes (kernel_state self.old) pid) (at self.old.records pid) }
-        ensures { Answers result self.new (bind (here_of (at self.old.records pid)) (λ x. executes (kernel_state self.old) pid x (ran quantum (processor_of x)))) }
+        ensures { Answers result self.new (bind (here_of (at self.old.records pid))
+            (λ x. executes (kernel_state self.old) pid x (ran quantum (processor_of x)))) }
     {
         let here = self.here;
         let process = self.records.here_mut(pid).unwrap();
@@ -109,7 +110,8 @@ impl Kernel {
     /// Lets a process that waits take the message at a place of its queue, or refuses it that.
     fn receive(&mut self, pid: Pid, mask: u32, place: usize) -> Result<Vec<Part>, NoMemory>
         requires { IsHere (Receives (kernel_state self.old) pid mask place) (at self.old.records pid) }
-        ensures { Answers result self.new (bind (here_of (at self.old.records pid)) (λ x. receives (kernel_state self.old) pid x mask (first_on mask x.queue))) }
+        ensures { Answers result self.new (bind (here_of (at self.old.records pid))
+            (λ x. receives (kernel_state self.old) pid x mask (first_on mask x.queue))) }
     {
         let process = self.records.here_mut(pid).unwrap();
         let id = process.queue.at(place).id;

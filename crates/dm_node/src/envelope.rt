@@ -47,15 +47,13 @@ impl Envelope {
         requires { IsOk (packet_of bytes.now) }
         ensures { IfOk result (λ e. packet_of bytes.now ≡ Ok e) }
     {
-        match decode(bytes) {
-            Ok(
-                Packet::Data {
-                    from,
-                    to,
-                    seq,
-                    message,
-                },
-            ) => {
+        match decode(bytes).unwrap() {
+            Packet::Data {
+                from,
+                to,
+                seq,
+                message,
+            } => {
                 let message = Parcel::new(alloc, message)?;
                 let contents = Contents::Data {
                     from,
@@ -65,12 +63,10 @@ impl Envelope {
                 };
                 Ok(Envelope { contents })
             }
-            Ok(Packet::Ack { from, to, count }) => {
+            Packet::Ack { from, to, count } => {
                 let contents = Contents::Ack { from, to, count };
                 Ok(Envelope { contents })
             }
-            // A packet is spelled: what is required says so.
-            Err(_) => unreachable!(),
         }
     }
 

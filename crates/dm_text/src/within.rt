@@ -30,7 +30,7 @@ fn grow(into: &mut Vec<u8>) -> Result<(), NoMemory>
     ensures items { into.new.items ≡ into.old.items }
 {
     let len = into.len();
-    append_zeros(into, 256)?;
+    append_zeros(into, LINE_ROOM as u32)?;
     into.truncate(len);
     Ok(())
 }

@@ -15,7 +15,7 @@ use std::marker::Model;
 pub struct Wire {
     pairs: Vec<Packets>,
     /// Of each sender, whether there may be a packet that isn't marked.
-    pending: [bool; 16],
+    pending: [bool; MACHINES as usize],
     alloc: Global,
 }
 
@@ -86,7 +86,7 @@ impl Wire {
     {
         Wire {
             pairs: Vec::new(alloc),
-            pending: [false; 16],
+            pending: [false; MACHINES as usize],
             alloc,
         }
     }

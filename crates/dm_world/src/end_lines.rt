@@ -120,7 +120,8 @@ impl World {
     /// The lines of a process, by the first machine that awaits it; whether there is one.
     fn say_awaited(&self, pid: Pid, lines: &mut Vec<EndLine>) -> Result<bool, NoMemory>
         requires { IsWorld self.now }
-        ensures { IfOk result (λ said. SaysSome said lines.old.items lines.new.items (first_awaited (length self.now.boot.machines) (world_state self.now) pid)) }
+        ensures { IfOk result (λ said. SaysSome said lines.old.items lines.new.items
+            (first_awaited (length self.now.boot.machines) (world_state self.now) pid)) }
     {
         for m in 0..self.machines() {
             if say_expected(self.machine(m), m, pid, lines)? {

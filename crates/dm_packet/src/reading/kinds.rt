@@ -10,7 +10,7 @@ use super::parts::{
     u16_at_most, yes_or_no_at,
 };
 use crate::PacketError;
-use dm_message::{MessageKind, What};
+use dm_message::{CHUNK, MOST_BODY, MessageKind, What};
 
 #[tactic(auto, unfolding(crate::specs::Whats::read_what))]
 fn user_at<'a>(bytes: &'a [u8], into: &mut What) -> Result<&'a [u8], PacketError>
@@ -18,7 +18,7 @@ fn user_at<'a>(bytes: &'a [u8], into: &mut What) -> Result<&'a [u8], PacketError
 {
     let (code, rest) = u32_at(bytes)?;
     let (channel, rest) = channel_at(rest)?;
-    let (body, rest) = bytes_within_at(rest, 0, 256)?;
+    let (body, rest) = bytes_within_at(rest, 0, MOST_BODY as u16)?;
     let (links, rest) = links_at(rest, 4)?;
     *into = What::User {
         code,
@@ -56,7 +56,7 @@ fn write_at<'a>(bytes: &'a [u8], into: &mut What) -> Result<&'a [u8], PacketErro
 fn block_at<'a>(bytes: &'a [u8], into: &mut What) -> Result<&'a [u8], PacketError>
     ensures { ReadsInto result into.new (read_what kinds.Block bytes.now) }
 {
-    let (bytes, rest) = bytes_within_at(bytes, 1, 256)?;
+    let (bytes, rest) = bytes_within_at(bytes, 1, MOST_BODY as u16)?;
     *into = What::Block { bytes: kept(bytes) };
     Ok(rest)
 }
@@ -122,7 +122,7 @@ fn state_at<'a>(bytes: &'a [u8], into: &mut What) -> Result<&'a [u8], PacketErro
     let (pid, rest) = pid_at(bytes)?;
     let (chunk, rest) = u32_at(rest)?;
     let (last, rest) = yes_or_no_at(rest, PacketError::Flags)?;
-    let (bytes, rest) = bytes_within_at(rest, 1, 512)?;
+    let (bytes, rest) = bytes_within_at(rest, 1, CHUNK as u16)?;
     *into = What::State {
         pid,
         chunk,

@@ -7,7 +7,7 @@ ghost use Rattle.dm_packet.specs.Whats.{asker, at_most, blocks_field, message_ki
 use super::fields::{addr_at, byte_at, run_at, u16_at, u32_at};
 use crate::PacketError;
 use dm_link::Pid;
-use dm_message::{Asker, MessageKind, Outcome};
+use dm_message::{Asker, MOST_BODY, MessageKind, Outcome};
 
 /// Whether nothing follows: a packet, and the state bytes of a process, end with their last field.
 pub fn is_over(rest: &[u8]) -> bool
@@ -54,7 +54,7 @@ pub fn outcome_at(bytes: &[u8]) -> Result<(Outcome, &[u8]), PacketError>
 fn is_piece(base: u32, len: u16) -> bool
     ensures { result ≡ ((nat_le 1 len && nat_le len 256) && nat_le (base + len) 65536) }
 {
-    len >= 1 && len <= 256 && u64::from(base) + u64::from(len) <= 65_536
+    len >= 1 && len <= MOST_BODY as u16 && u64::from(base) + u64::from(len) <= 65_536
 }
 
 /// The length of a piece that begins at an address.
