@@ -13,7 +13,7 @@ use Rattle.dm_onekernel.specs.Calls.{Exit, Out, Make, Copy, Drop, Send, Receive,
 use Rattle.dm_onekernel.specs.Codes.{reply_code, why_code}
 use Rattle.dm_onekernel.specs.Manager.{control_of}
 use Rattle.dm_onekernel.specs.Pieces.{piece_of}
-use Rattle.dm_onekernel.specs.Service.{is_dropped, is_of_memory}
+use Rattle.dm_onekernel.specs.Service.{gone_what, is_dropped}
 use Rattle.dm_onekernel.specs.Switchboard as board
 use Rattle.dm_onekernel.specs.Switchboard.{code_of_answer}
 
@@ -66,6 +66,6 @@ pub dropped :
 dropped = refl
 
 pub answered :
-    map is_of_memory kinds
-    ≡ false ∷ false ∷ false ∷ false ∷ true ∷ true ∷ false ∷ false ∷ false ∷ false ∷ false ∷ false ∷ false ∷ false ∷ []
+    map gone_what kinds
+    ≡ None ∷ None ∷ None ∷ None ∷ Some what.Gone ∷ Some what.Gone ∷ None ∷ None ∷ None ∷ None ∷ None ∷ None ∷ Some (what.Moved outcome.Ended) ∷ None ∷ []
 answered = refl
