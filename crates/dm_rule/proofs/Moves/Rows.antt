@@ -1,7 +1,7 @@
 -- The rows of migration keep that each message stands once.
 use Rattle.dm_rule.proofs.Names.{◌≡◌, ℕ, ◌==◌, Bool, true, false, List, [], ◌∷◌, ◌++◌, refl, ap, ◌∙◌, sym, subst, length, ◌/◌, if◌then◌else◌, Option, None, Some, Pid, pid_of, pid_eq, MsgId, MessageKind, Stage, Boot, switchboard, manager}
 use Rattle.dm_rule.proofs.Names.{PlainProcess, Line, View, Told, About, NothingElse, Of, Known, Unknown, Here, Frozen, Forward, Ended, view_after, handled, handled_first, receiver_of, is_kernels, target_of, with_ring, knowing, released}
-use Rattle.dm_rule.proofs.Names.{after_proto, follows_up, asks_on, held_for, Addresses, Sender, Child, is_told_back, Point, moved, Part, Says, Again, Owns, Spelled, spelled, to_kernel, forwards_on, moves_to, accepts, takes_chunk}
+use Rattle.dm_rule.proofs.Names.{after_proto, follows_up, asks_on, held_for, Addresses, Sender, Child, is_told_back, Point, moved, seen, Part, Says, Again, Owns, Spelled, spelled, to_kernel, forwards_on, moves_to, accepts, takes_chunk}
 use Rattle.dm_rule.proofs.Names.{takes_block, gives_piece, sends_on, leaves, kernel_told, chunks_of, pieces_of, here_told, ended_told, process_told, server_told, migrates, fits, free_room, kernel_hears, hears, Spot, Queue, Held, Inbox}
 use Rattle.dm_rule.proofs.Names.{Untaken, ids_at, bind-is, label_of}
 use Rattle.dm_rule.proofs.Names.{Label, Note, Outcome, Target, Routes, answer_id, answers_move, frozen_for, front_told, leaves_for, tells_asker}
@@ -135,7 +135,7 @@ ends_row : (pt : Point) (l : Line) (q : Option Note) (o : Outcome) (w : Spelled)
 ends_row pt l None o w none quiet fit h e = line_ends pt l w none h e
 ends_row pt l (Some n) o w none quiet fit h e =
     let k = line_next pt l (answers_move n.id o) w none e in
-    State-at None k.rest.point w.point k.point (answers_row (moved pt l pt.kernel) n.id o k.rest h (fits_as pt.view (view_after pt.view l) (pair_same pt.view l quiet) fit) k.more)
+    State-at None k.rest.point w.point k.point (answers_row (moved pt l pt.kernel) n.id o k.rest h (fits_as pt.view (seen pt.kernel pt.view l) (pair_same pt.view l quiet) fit) k.more)
 
 -- a process leaves, once it is frozen
 pub goes_row : (pt : Point) (p : Pid) (to : ℕ) (w : Spelled) → State None (moved pt (Line.Migration Stage.Frozen p) pt.kernel) → PairsFit pt.view → spelled pt (leaves_for p to) ≡ Some w → State None w.point

@@ -218,7 +218,7 @@ says_calm pt next l ls h fits quiet is leads =
     let (s, step, then_) = bind-is (kernel_after pt.kernel (label_of l)) (λ s. Some (moved pt l s)) mid first in
     let g : moved pt l s ≡ mid = cc in
     let e : mid ≡ next = cc in
-    subst (λ (q : Point). (Calm pt.view q.view) × (PairsFit q.view)) (g ∙ e) (calm_about pt.view (view_after pt.view l) (seen pt.kernel pt.view l).topic (line_calm pt s l h quiet step), fits_as pt.view (view_after pt.view l) (pair_same pt.view l (quiet_touches pt.view l quiet)) fits)
+    subst (λ (q : Point). (Calm pt.view q.view) × (PairsFit q.view)) (g ∙ e) (calm_about pt.view (view_after pt.view l) (seen pt.kernel pt.view l).topic (line_calm pt s l h quiet step), fits_as pt.view (seen pt.kernel pt.view l) (pair_same pt.view l (quiet_touches pt.view l quiet)) fits)
 
 tame_kind : (v : View) (i : MsgId) (t : Told) → Tame v i → v.told i ≡ Some t → is_between t.kind ≡ false
 tame_kind v i t h told = tame_plain v i h t told

@@ -35,7 +35,7 @@ line_first pt l ps w h quiet calm phases go e =
     let next : Fit (moved pt l k.s) = record {
       phases = phases k.s k.is;
       sane = sane_line pt (moved pt l k.s) l quiet (ap (λ (o : Option OneKernel). bind o (λ s. Some (moved pt l s))) k.is) h.sane;
-      fits = fits_as pt.view (view_after pt.view l) (pair_same pt.view l calm) h.fits;
+      fits = fits_as pt.view (seen pt.kernel pt.view l) (pair_same pt.view l calm) h.fits;
     } in
     subst (λ (q : Point). InPhases q.view) k.point (go k.s next k.rest k.more)
 
