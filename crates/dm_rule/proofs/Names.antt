@@ -30,14 +30,14 @@ pub use Rattle.dm_onekernel.specs.Service.{is_dropped}
 pub use Rattle.dm_onekernel.specs.Start.{slots_with}
 pub use Rattle.dm_onekernel.specs.Step.{machine_of, with_machine}
 pub use Rattle.dm_onekernel.specs.declared.boot.Format.TheVariants.{One}
-pub use Rattle.dm_laws.proofs.Counted.{pending_of}
+pub use Rattle.dm_laws.proofs.Counted.{is_of_memory, pending_of}
 pub use Rattle.dm_laws.proofs.Entered.{Entered, Made, asks, counts, is_counted, request_id, unentered}
 pub use Rattle.dm_laws.proofs.Equal.{id_eq-is, id_eq-same, id_eq-swap, pid_eq-is, pid_eq-same}
 pub use Rattle.dm_laws.proofs.Grown.{LifeGrows}
 pub use Rattle.dm_laws.proofs.Movers.{sent_at, sent_off, stayed}
 pub use Rattle.dm_laws.proofs.Names.{Alive, Boot, BootImage, BootProcess, CallNumber, Called, Direction, Ends, IsValid, Label, Life, Manager, Moving, MsgId, None, OneKernel, Option, Outputs, Pending, PlainLink, PlainMessage, PlainProcess}
 pub use Rattle.dm_laws.proofs.Names.{PlainStatus, PlainWhat, Ready, Replies, Reply, Sends, Some, Waiting, Waits, Why, answer_id, answer_to, begun, bind, cases_Bool, direction_numbered, entry, false≢true, first_failed, first_life}
-pub use Rattle.dm_laws.proofs.Names.{first_number, id_eq, id_of, in_bag, inl, inr, is_of_memory, is_some, life_at, manager, nat_le, option_map, pid_of, plain_link, processes_are_valid, reception, reg, start, starting_at, switchboard, when}
+pub use Rattle.dm_laws.proofs.Names.{first_number, id_eq, id_of, in_bag, inl, inr, is_some, life_at, manager, nat_le, option_map, pid_of, plain_link, processes_are_valid, reception, reg, start, starting_at, switchboard, when}
 pub use Rattle.dm_laws.proofs.Names.{with_process, with_sent, without_message, ⊤, ◌⊎◌}
 pub use Rattle.dm_laws.proofs.Runs.{after_step, start-sound}
 pub use Rattle.dm_laws.proofs.Servers.{ServerSends, why_ended-is}

@@ -12,13 +12,13 @@ pub use Rattle.dm_onekernel.specs.Pieces.{written_at}
 pub use Rattle.dm_onekernel.specs.Refusals.{Check}
 pub use Rattle.dm_onekernel.specs.Start.{memory_of}
 pub use Rattle.dm_onekernel.specs.declared.boot.Format.{Format}
-pub use Rattle.dm_laws.proofs.Counted.{is_piece}
+pub use Rattle.dm_laws.proofs.Counted.{is_of_memory, is_piece}
 pub use Rattle.dm_laws.proofs.Equal.{pid_eq-swap}
 pub use Rattle.dm_laws.proofs.Grown.{Grown}
 pub use Rattle.dm_laws.proofs.Movers.{One, came, out_at, out_off}
 pub use Rattle.dm_laws.proofs.Names.{Alive, Boot, BootImage, BootProcess, CallNumber, Called, Direction, Ended, Ends, IsValid, Label, Life, Manager, Moving, MsgId, None, OneKernel, Option, Outputs, Pending, PlainLink, PlainMessage}
 pub use Rattle.dm_laws.proofs.Names.{PlainProcess, PlainStatus, PlainWhat, Ready, Replies, Reply, Sends, Some, Switchboard, Waiting, Waits, Why, answer_id, answer_to, begun, bind, cases_Bool, direction_numbered, entry, false≢true}
-pub use Rattle.dm_laws.proofs.Names.{first_failed, first_life, first_number, id_eq, id_of, in_bag, inl, inr, is_of_memory, is_some, life_at, manager, nat_le, option_map, pid_of, plain_link, processes_are_valid, reception, reg, replay}
+pub use Rattle.dm_laws.proofs.Names.{first_failed, first_life, first_number, id_eq, id_of, in_bag, inl, inr, is_some, life_at, manager, nat_le, option_map, pid_of, plain_link, processes_are_valid, reception, reg, replay}
 pub use Rattle.dm_laws.proofs.Names.{start, starting_at, switchboard, when, with_process, with_sent, without_message, ⊤, ◌⊎◌}
 pub use Rattle.dm_rule.proofs.Bags.{BagStep, bag_call, bag_created, bag_dropped, bag_end, bag_gone, bag_no_space, bag_out, bag_ran, bag_receive, bag_refuse, bag_sends, bag_served, bag_took, bag_wait, board_id, id_in, if_some-is, landed_id}
 pub use Rattle.dm_rule.proofs.Bags.{manager_id, served_id, took_id, zero_if}
