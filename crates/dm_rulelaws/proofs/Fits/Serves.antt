@@ -1,9 +1,8 @@
 -- What kernels do with messages keeps that all fits.
 use Rattle.dm_rulelaws.proofs.Names.{◌≡◌, ℕ, ◌+◌, ◌-◌, ◌≤◌, ◌==◌, ◌&&◌, Bool, true, false, List, length, take, drop, refl, ap, ◌∙◌, sym, subst, nat_le, arith, if◌then◌else◌, Option, None, Some, nat_tests, length-take, length-drop, Pid}
 use Rattle.dm_rulelaws.proofs.Names.{MsgId, id_eq, id_of, Label, Reply, PlainMessage, PlainWhat, Direction, Why, bind, PlainProcess, PlainStatus, Moving, Life, Alive, Ended, OneKernel, with_process, with_sent, answer_id, answer_to}
-use Rattle.dm_rulelaws.proofs.Names.{without_message, is_of_memory, is_dropped, is_piece, pending_of, id_eq-same, One, stayed, out_at, Sound, bind-is, when-is, at_hand-is, Each, Lives, has_bytes, SlotFits, move_fits, ProcessFits, piece_fits}
-use Rattle.dm_rulelaws.proofs.Names.{status_awaits, awaits, WhatFits, KernelFits}
-use Rattle.dm_rulelaws.proofs.Names.{sym, inl, inr, cases_Bool, pid_eq, IsPending, Note, NoteFits, Outcome, PendingKind, ends_move-is, note-is, with_note, without_note}
+use Rattle.dm_rulelaws.proofs.Names.{without_message, is_of_memory, is_dropped, is_piece, pending_of, id_eq-same, One, stayed, out_at, Sound, bind-is, when-is, at_hand-is, Each, Lives, has_bytes, SlotFits, move_fits, ProcessFits}
+use Rattle.dm_rulelaws.proofs.Names.{piece_fits, status_awaits, awaits, WhatFits, KernelFits, inl, inr, cases_Bool, pid_eq, IsPending, Note, NoteFits, Outcome, PendingKind, ends_move-is, note-is, with_note, without_note}
 use Rattle.dm_rulelaws.proofs.Fits.Creates.{pending_at}
 use Rattle.dm_onekernel.specs.Pieces as pieces
 use Rattle.dm_onekernel.specs.Service as service
@@ -344,7 +343,6 @@ asked_step r e s t id is fits =
 unnoted_fits : (s : OneKernel) (p : Pid) (id : MsgId) → KernelFits s → KernelFits (without_note s p id)
 unnoted_fits s p id h =
     let t = without_note s p id in
-    let was : (q : Pid) (n : Note) (c : Bool) → (if c then None else s.notes q) ≡ Some n → s.notes q ≡ Some n = λ q n. unnoted q n in
     carries s t (record {
       rises = λ q n e. e;
       alive = h.processes;
@@ -355,7 +353,7 @@ unnoted_fits s p id h =
       images = refl;
       names = h.names;
       answers = h.answers;
-      notes = λ q n is. was q n (pid_eq p q) is;
+      notes = λ q n is. unnoted q n (pid_eq p q) is;
       noted = λ q n is. pending_on s t PendingKind.Move n.id refl;
       children = h.children;
     }) h
