@@ -69,7 +69,7 @@ pub use Rattle.dm_rule.proofs.Phases.Rests.{rests_here}
 pub use Rattle.dm_rule.proofs.Phases.Stand.{InPhases, calm_phases, token_at, token_is}
 pub use Rattle.dm_rule.proofs.Requests.{by_migrates}
 pub use Rattle.dm_rule.proofs.Rooted.Groups.{moves_away, rooted}
-pub use Rattle.dm_rule.proofs.Seen.{aim, sets}
+pub use Rattle.dm_rule.proofs.Seen.{aim, seen_none, sets}
 pub use Rattle.dm_rule.proofs.Serving.{Stops, by_forwards, by_handles, by_round}
 pub use Rattle.dm_rule.proofs.Standing.{StandsAsBag-elsewhere, StandsAsBag-one, times-append}
 pub use Rattle.dm_rule.proofs.States.{State, put_told_off}

@@ -1,7 +1,7 @@
 -- What each row of a turn needs: processes that run, and messages of the bag.
-use Rattle.dm_rulelaws.proofs.Names.{refl, ◌<◌, false, ◌≡◌, sym, Stage, MessageKind, PlainWhat, Outcome, About, is_fixed, to_kernel, machine_in, Target, answers_move, leaves_for, aim, ℕ, ◌+◌, List, [], ◌∷◌, ap, ◌∙◌, subst, Option, None, Some}
-use Rattle.dm_rulelaws.proofs.Names.{Pid, pid_of, MsgId, plain_kind, Label, PlainMessage, Boot, first_number, PlainProcess, OneKernel, bind-is, Line, Forward, Point, label_of, kernel_after, moved, after_line, after, Part, Says, Routes}
-use Rattle.dm_rulelaws.proofs.Names.{lines_of, forwards_on, Stops, by_round, by_handles}
+use Rattle.dm_rulelaws.proofs.Names.{refl, ◌<◌, false, ◌≡◌, sym, Stage, MessageKind, PlainWhat, Outcome, About, is_fixed, to_kernel, machine_in, Target, answers_move, leaves_for, aim, ℕ, ◌+◌, List, [], ◌∷◌, ap, ◌∙◌, subst, Option, None}
+use Rattle.dm_rulelaws.proofs.Names.{Some, Pid, pid_of, MsgId, plain_kind, Label, PlainMessage, Boot, first_number, PlainProcess, OneKernel, bind-is, Line, Forward, Point, label_of, kernel_after, moved, after_line, after, Part, Says}
+use Rattle.dm_rulelaws.proofs.Names.{Routes, lines_of, forwards_on, Stops, by_round, by_handles}
 use Rattle.dm_rule.specs.Point.{machine_of}
 use Rattle.dm_rulelaws.proofs.Based.Needs.{said_by}
 use Rattle.dm_rulelaws.proofs.Fits.Serves.{asked_noted}
