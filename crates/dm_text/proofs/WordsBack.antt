@@ -198,7 +198,7 @@ read_why_back y = rw (read_u8_back (why_code y) (why_small y)) (why_back y)
 pub word_why : (y : Why) → above 32 (decimal (why_code y)) ≡ true
 word_why y = word_decimal 32 (why_code y) (omega arith) (below_u8 (why_code y) (why_small y))
 
-outcome_small : (o : Outcome) → code_of_outcome o < 2 ^ 8
+pub outcome_small : (o : Outcome) → code_of_outcome o < 2 ^ 8
 outcome_small ends.Done = omega arith
 outcome_small ends.Stayed = omega arith
 outcome_small ends.Ended = omega arith
