@@ -1,6 +1,6 @@
 -- The service of a request, without places and lawfully.
 use Rattle.dm_datamove.proofs.Names.{◌≡◌, ◌∙◌, ℕ, ◌+◌, ◌<◌, ◌≤◌, length, List, take, drop, Some, refl, ap, arith, common_steps, nat_tests, Addr, MsgId, Message, What, plain_message, IsLawfulMessage, Process, IsLawfulProcess, written_at}
-use Rattle.dm_datamove.proofs.Names.{IsWithin, after_serving, answer, answer_of, answer_with, plain_served, served_plainly, serving_answer}
+use Rattle.dm_datamove.proofs.Names.{IsWithin, after_serving, answer, answer_of, answer_with, plain_served, served_plainly, serving_answer, sym, subst, IsRequest, gone_answer, plainly_gone}
 use Rattle.dm_message.specs.declared.What.TheVariants as what
 
 of_what : (here : ℕ) (p : Process) (id : MsgId) (to sender : Addr) (w : What) (a : Message) → IsWithin (length p.memory) w
@@ -70,3 +70,24 @@ answers_what here p id to sender w a machine h lawful e = absurd h
 -- so is the answer
 pub answers_lawfully : (here : ℕ) (p : Process) (m a : Message) → here < 16 → IsWithin (length p.memory) m.what → IsLawfulMessage m → serving_answer here p m ≡ Some a → IsLawfulMessage a
 answers_lawfully here p m a machine h lawful e = answers_what here p m.id m.to m.sender m.what a machine h lawful e
+
+gone_of_what : (here : ℕ) (id : MsgId) (to sender : Addr) (w : What) → IsRequest w
+    → plain_message (gone_answer here (record { id = id; to = to; sender = sender; what = w })) ≡ plainly_gone (plain_message (record { id = id; to = to; sender = sender; what = w }))
+gone_of_what here id to sender (what.Read base len) h = refl
+gone_of_what here id to sender (what.Write base bytes) h = refl
+gone_of_what here id to sender (what.Move machine) h = refl
+gone_of_what here id to sender w h = absurd h
+
+-- what is answered where the receiver has ended is what the kernel without machines answers
+pub gone_plainly : (here : ℕ) (m a : Message) → IsRequest m.what → a ≡ gone_answer here m → plain_message a ≡ plainly_gone (plain_message m)
+gone_plainly here m a h e = ap plain_message e ∙ gone_of_what here m.id m.to m.sender m.what h
+
+gone_what_lawfully : (here : ℕ) (id : MsgId) (to sender : Addr) (w : What) → here < 16 → IsRequest w → IsLawfulMessage (record { id = id; to = to; sender = sender; what = w })
+    → IsLawfulMessage (gone_answer here (record { id = id; to = to; sender = sender; what = w }))
+gone_what_lawfully here id to sender (what.Read base len) machine h l = record { from = l.from; answer = refl; to = l.sender; sender = record { home = l.to.home; at = omega (arith, machine) }; what = tt }
+gone_what_lawfully here id to sender (what.Write base bytes) machine h l = record { from = l.from; answer = refl; to = l.sender; sender = record { home = l.to.home; at = omega (arith, machine) }; what = tt }
+gone_what_lawfully here id to sender (what.Move other) machine h l = record { from = l.from; answer = refl; to = l.sender; sender = record { home = l.to.home; at = omega (arith, machine) }; what = tt }
+gone_what_lawfully here id to sender w machine h l = absurd h
+
+pub gone_lawfully : (here : ℕ) (m a : Message) → here < 16 → IsRequest m.what → IsLawfulMessage m → a ≡ gone_answer here m → IsLawfulMessage a
+gone_lawfully here m a machine h l e = subst IsLawfulMessage (sym e) (gone_what_lawfully here m.id m.to m.sender m.what machine h l)

@@ -1,6 +1,6 @@
 -- Messages are numbered by the counts of their senders, and a process that moves data remembers the number of its request.
 use Rattle.dm_laws.proofs.Names.{◌≡◌, ℕ, ◌+◌, ◌==◌, Bool, true, false, refl, ◌⊎◌, inl, inr, ⊤, if◌then◌else◌, Option, None, Some, Pid, PlainLink, id_of, PlainMessage, PlainWhat, direction_numbered, Direction, Reply, first_empty, link_at}
-use Rattle.dm_laws.proofs.Names.{reg, PlainProcess, PlainStatus, Ready, Waiting, Moving, Called, Replies, Sends, Waits, Outputs, Ends, CallNumber, Out, Make, Copy, Drop, Send, Receive, Move, call_number, first_failed, is_of_memory}
+use Rattle.dm_laws.proofs.Names.{reg, PlainProcess, PlainStatus, Waiting, Moving, Called, Replies, Sends, Waits, Outputs, Ends, CallNumber, Out, Make, Copy, Drop, Send, Receive, Move, call_number, first_failed}
 use Rattle.dm_onekernel.specs.Calls as calls
 use Rattle.dm_onekernel.specs.Pieces as pieces
 use Rattle.dm_onekernel.specs.Receiving as receiving
@@ -9,6 +9,12 @@ use Rattle.dm_onekernel.specs.Receiving as receiving
 abbrev pub pending_of : PlainStatus → Option ℕ
 pending_of (Moving dir owner base own left pending) = Some pending
 pending_of _ = None
+
+-- the kinds that ask for a piece
+abbrev pub is_of_memory : PlainWhat → Bool
+is_of_memory (PlainWhat.Read base len) = true
+is_of_memory (PlainWhat.Write base bytes) = true
+is_of_memory w = false
 
 -- what a message that a process sends is to the process: a user message, and it moves no data, or the request that it waits for
 abbrev pub IsSentSo : Pid → PlainProcess → PlainMessage → PlainProcess → Type 0

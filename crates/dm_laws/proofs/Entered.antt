@@ -1,6 +1,6 @@
 -- A name is given to one message: what entered the bag is counted by its sender, and answers take the place of requests.
-use Rattle.dm_laws.proofs.Names.{◌≡◌, ℕ, ◌+◌, ◌≤◌, Bool, true, false, refl, nat_lt, nat_le, is_some, inl, inr, arith, if◌then◌else◌, Option, None, Some, cases_Bool, nat_tests, Pid, pid_eq, MsgId, id_eq, PlainMessage, PlainWhat, switchboard}
-use Rattle.dm_laws.proofs.Names.{manager, Life, Alive, Ended, OneKernel, with_process, with_sent, answer_id, answer_to, without_message, in_bag}
+use Rattle.dm_laws.proofs.Names.{◌≡◌, ℕ, ◌+◌, ◌≤◌, Bool, true, false, nat_lt, nat_le, is_some, inl, inr, arith, if◌then◌else◌, Option, None, Some, cases_Bool, nat_tests, Pid, pid_eq, MsgId, id_eq, PlainMessage, PlainWhat, switchboard}
+use Rattle.dm_laws.proofs.Names.{manager, Life, Alive, Ended, OneKernel, with_process, with_sent, answer_id, without_message, in_bag}
 use Rattle.dm_laws.proofs.Equal.{pid_eq-is, id_eq-is, id_eq-same, id_eq-swap}
 
 -- the life of a process counts number n
@@ -24,6 +24,7 @@ abbrev pub asks : PlainWhat → Bool
 asks (PlainWhat.Read base len) = true
 asks (PlainWhat.Write base bytes) = true
 asks (PlainWhat.Create image links) = true
+asks (PlainWhat.Move machine) = true
 asks w = false
 
 -- r counts receptions, e what entered
@@ -127,24 +128,20 @@ Entered-own r e s t m w h =
       ];
     }
 
--- an answer takes the place of a request
-pub Entered-answer : (r e : MsgId → ℕ) (s : OneKernel) (id : MsgId) (m : PlainMessage) (w : PlainWhat) → s.bag id ≡ Some m → asks m.what ≡ true → asks w ≡ false → Entered r e s
-    → Entered r (λ i. e i + (if id_eq (answer_id id) i then 1 else 0)) (with_sent (without_message s id) (Some (answer_to m w)))
-Entered-answer r e s id m w there asking answering h =
-    let name : m.id ≡ id = h.named id m there in
-    let request : id.answer ≡ false = h.requests id m there asking in
+-- an answer enters, whose request has come and gone
+pub Entered-answer : (r e : MsgId → ℕ) (s : OneKernel) (id : MsgId) (a : PlainMessage) → a.id ≡ answer_id id → id.answer ≡ false → 1 ≤ e id → e (answer_id id) ≡ 0 → s.bag id ≡ None → asks a.what ≡ false → Entered r e s
+    → Entered r (λ i. e i + (if id_eq (answer_id id) i then 1 else 0)) (with_sent s (Some a))
+Entered-answer r e s id a name request entered zero_ gone answering h =
     let same_request : request_id (answer_id id) ≡ id = grind arith in
-    let entered : 1 ≤ e id = let f = h.fewer id in grind (arith, nat_tests) in
-    let zero_ : e (answer_id id) ≡ 0 = let a = h.answers (answer_id id) refl in grind (arith, nat_tests) in
     let counted : counts s (answer_id id) ≡ true = let c = h.counted id entered in grind arith in
     record {
       counted = λ i k. elim (cases_Bool (id_eq (answer_id id) i)) [
         | inl same ↦ let is = id_eq-is (answer_id id) i same in let c = counted in grind arith
         | inr apart ↦ let c = h.counted i in grind (arith, nat_tests)
       ];
-      answers = λ i a k. elim (cases_Bool (id_eq (answer_id id) i)) [
+      answers = λ i b k. elim (cases_Bool (id_eq (answer_id id) i)) [
         | inl same ↦ let is = id_eq-is (answer_id id) i same in let z = id_eq-same id in grind (arith, nat_tests)
-        | inr apart ↦ let c = h.answers i a in grind (arith, nat_tests)
+        | inr apart ↦ let c = h.answers i b in grind (arith, nat_tests)
       ];
       once = λ i. elim (cases_Bool (id_eq (answer_id id) i)) [
         | inl same ↦ let is = id_eq-is (answer_id id) i same in grind (arith, nat_tests)
@@ -158,7 +155,7 @@ Entered-answer r e s id m w there asking answering h =
         | inl same ↦ let is = id_eq-is (answer_id id) i same in grind arith
         | inr apart ↦ let c = h.named i x in grind arith
       ];
-      requests = λ i x k a. elim (cases_Bool (id_eq (answer_id id) i)) [
+      requests = λ i x k b. elim (cases_Bool (id_eq (answer_id id) i)) [
         | inl same ↦ let is = id_eq-is (answer_id id) i same in grind arith
         | inr apart ↦ let c = h.requests i x in grind arith
       ];

@@ -1,6 +1,8 @@
 -- What only grows: lives go on or end, and counts rise.
-use Rattle.dm_laws.proofs.Names.{◌≡◌, ℕ, ◌≤◌, Bool, refl, ap, sym, subst, inl, inr, arith, length, ⊤, if◌then◌else◌, Option, None, Some, cases_Bool, Pid, pid_eq, Life, Alive, Ended, OneKernel, with_process}
+use Rattle.dm_laws.proofs.Names.{◌≡◌, ℕ, ◌≤◌, Bool, refl, ap, sym, subst, inl, inr, arith, length, ⊤, if◌then◌else◌, ◌∙◌, Option, None, Some, cases_Bool, Pid, pid_eq, Life, Alive, Ended, Note, PlainProcess, Switchboard, Manager, OneKernel}
+use Rattle.dm_laws.proofs.Names.{with_process}
 use Rattle.dm_laws.proofs.Equal.{pid_eq-is}
+use Rattle.dm_laws.proofs.Notes.{other_process}
 
 abbrev pub AliveGrows : ℕ → Option Life → Type 0
 AliveGrows n None = ⊥
@@ -56,3 +58,30 @@ with_process-lives s p life g q = elim (cases_Bool (pid_eq p q)) [
       subst (LifeGrows (s.processes q)) (sym (ap (λ (b : Bool). if b then Some life else s.processes q) same)) (subst (λ v. LifeGrows (s.processes v) (Some life)) is g)
   | inr apart ↦ subst (LifeGrows (s.processes q)) (sym (ap (λ (b : Bool). if b then Some life else s.processes q) apart)) (LifeGrows-same (s.processes q))
 ]
+
+-- what one step does to processes: they only grow, and one that follows a request rests
+pub record Went (s t : OneKernel) : Type 0 where
+  pub grown : Grown s t
+  pub rests : (p : Pid) (n : Note) → s.notes p ≡ Some n → t.processes p ≡ s.processes p
+
+-- a process goes on, or ends, that follows nothing
+pub Went-process : (s t : OneKernel) (p : Pid) (x : PlainProcess) (life : Life) → s.processes p ≡ Some (Alive x) → LifeGrows (Some (Alive x)) (Some life) → s.notes p ≡ None
+    → ((q : Pid) → t.processes q ≡ (with_process s p life).processes q) → ((m : ℕ) → t.made m ≡ s.made m) → t.switchboard ≡ s.switchboard → t.manager ≡ s.manager → Went s t
+Went-process s t p x life is grows free same made b g = record {
+  grown = record {
+    lives = λ q. subst (LifeGrows (s.processes q)) (sym (same q)) (with_process-lives s p life (subst (λ v. LifeGrows v (Some life)) (sym is) grows) q);
+    switchboard = let k : t.switchboard.sent ≡ s.switchboard.sent = ap (λ (v : Switchboard). v.sent) b in omega (arith, k);
+    manager = let k : t.manager.sent ≡ s.manager.sent = ap (λ (v : Manager). v.sent) g in omega (arith, k);
+    made = λ m. let k = made m in omega (arith, k);
+    children = let k : length t.manager.children ≡ length s.manager.children = ap (λ (v : Manager). length v.children) g in omega (arith, k);
+  };
+  rests = λ q n notes. same q ∙ ap (λ (c : Bool). if c then Some life else s.processes q) (other_process s p q n free notes);
+}
+
+-- no process changes
+pub Went-bag : (s t : OneKernel) → ((q : Pid) → t.processes q ≡ s.processes q) → ((m : ℕ) → t.made m ≡ s.made m) → s.switchboard.sent ≤ t.switchboard.sent → s.manager.sent ≤ t.manager.sent
+    → length s.manager.children ≤ length t.manager.children → Went s t
+Went-bag s t same made b g c = record {
+  grown = record { lives = λ q. subst (LifeGrows (s.processes q)) (sym (same q)) (LifeGrows-same (s.processes q)); switchboard = b; manager = g; made = λ m. let k = made m in omega (arith, k); children = c };
+  rests = λ q n notes. same q;
+}

@@ -3,6 +3,7 @@ pub mod Equal
 pub mod Counted
 pub mod Entered
 pub mod Movers
+pub mod Notes
 pub mod Grown
 pub mod Start
 pub mod Sound

@@ -1,8 +1,8 @@
 -- A process that moves data has one message under its pending number: the request for its piece, or the answer.
 use Rattle.dm_laws.proofs.Names.{◌≡◌, ℕ, Bool, true, false, refl, ap, ◌∙◌, sym, subst, ◌⊎◌, inl, inr, arith, if◌then◌else◌, Option, None, Some, cases_Bool, false≢true, nat_tests, Pid, pid_eq, MsgId, id_eq, id_of, PlainMessage, PlainWhat}
-use Rattle.dm_laws.proofs.Names.{PlainProcess, Alive, Ended, OneKernel, with_process, with_sent, answer_id, answer_to, without_message, is_of_memory}
+use Rattle.dm_laws.proofs.Names.{PlainProcess, Alive, Ended, OneKernel, with_process, with_sent, answer_id, answer_to, without_message}
 use Rattle.dm_laws.proofs.Equal.{pid_eq-is, id_eq-is, id_eq-same}
-use Rattle.dm_laws.proofs.Counted.{is_piece, pending_of}
+use Rattle.dm_laws.proofs.Counted.{is_of_memory, is_piece, pending_of}
 
 -- the request of a piece, or its answer, and not both
 abbrev pub One : Option PlainMessage → Option PlainMessage → Type 0
@@ -10,6 +10,9 @@ One None None = ⊥
 One (Some m) None = is_of_memory m.what ≡ true
 One None (Some m) = is_piece m.what ≡ true
 One (Some m) (Some n) = ⊥
+
+pub One-same : (a b c d : Option PlainMessage) → c ≡ a → d ≡ b → One a b → One c d
+One-same a b c d e f h = subst (λ v. One c v) (sym f) (subst (λ v. One v b) (sym e) h)
 
 pub record Movers (s : OneKernel) : Type 0 where
   pub senders : (i : MsgId) (m : PlainMessage) → s.bag i ≡ Some m → is_of_memory m.what ≡ true → m.sender ≡ i.from
@@ -67,6 +70,19 @@ unawaited s id m there a b h q z n alive waits =
     let g = id_eq-is id (answer_id (id_of q n)) in
     grind (arith, nat_tests)
 
+-- an answer that isn't there yet, to a request that has gone
+pub answer_unawaited : (s : OneKernel) (id : MsgId) → id.answer ≡ false → s.bag id ≡ None → s.bag (answer_id id) ≡ None → Movers s → IsUnawaited s (answer_id id)
+answer_unawaited s id request gone none h q z n alive waits =
+    let off : id_eq (answer_id id) (id_of q n) ≡ false = grind (arith, nat_tests) in (
+      off,
+      elim (cases_Bool (id_eq (answer_id id) (answer_id (id_of q n)))) [
+        | inl same ↦
+            let names : id ≡ id_of q n = let f = id_eq-is (answer_id id) (answer_id (id_of q n)) same in grind arith in
+            absurd (One-same (s.bag (id_of q n)) (s.bag (answer_id (id_of q n))) None None (sym gone ∙ ap s.bag names) (sym none ∙ ap (λ i. s.bag (answer_id i)) names) (h.mover q z n alive waits))
+        | inr apart ↦ apart
+      ],
+    )
+
 -- the bag at one name, after a message came or went
 pub sent_at : (s : OneKernel) (m : PlainMessage) (i : MsgId) → id_eq m.id i ≡ true → (with_sent s (Some m)).bag i ≡ Some m
 sent_at s m i e = ap (λ (b : Bool). if b then Some m else s.bag i) e
@@ -79,9 +95,6 @@ out_off s id i e = ap (λ (b : Bool). if b then None else s.bag i) e
 
 pub out_at : (s : OneKernel) (id i : MsgId) → id_eq id i ≡ true → (without_message s id).bag i ≡ None
 out_at s id i e = ap (λ (b : Bool). if b then None else s.bag i) e
-
-pub One-same : (a b c d : Option PlainMessage) → c ≡ a → d ≡ b → One a b → One c d
-One-same a b c d e f h = subst (λ v. One c v) (sym f) (subst (λ v. One v b) (sym e) h)
 
 -- what the bag has under a name is the new message, or was there
 pub came : (s : OneKernel) (m x : PlainMessage) (i : MsgId) → (with_sent s (Some m)).bag i ≡ Some x → ((m ≡ x) × (m.id ≡ i)) ⊎ (s.bag i ≡ Some x)

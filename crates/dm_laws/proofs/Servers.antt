@@ -1,18 +1,19 @@
 -- What servers do keeps, and what becomes of messages for the ended and for kernels.
-use Rattle.dm_laws.proofs.Names.{◌≡◌, ℕ, ◌+◌, ◌*◌, ◌≤◌, ◌==◌, ◌&&◌, Bool, true, false, List, [], ◌∷◌, ◌++◌, refl, ap, ◌∙◌, sym, subst, nat_lt, is_some, arith, length, if◌then◌else◌, slice_get, Option, None, Some, false≢true, nat_tests, Pid}
-use Rattle.dm_laws.proofs.Names.{pid_eq, pid_of, PlainLink, MsgId, id_of, PlainMessage, PlainWhat, BootImage, Label, Why, first_number, switchboard, manager, bind, PlainProcess, Life, Alive, Ended, Pending, Switchboard, Manager, OneKernel}
-use Rattle.dm_laws.proofs.Names.{with_process, with_sent, answer_id, answer_to, begun, without_message, is_of_memory, reception}
+use Rattle.dm_laws.proofs.Names.{◌≡◌, ℕ, ◌+◌, ◌*◌, ◌≤◌, ◌==◌, ◌&&◌, Bool, true, false, List, [], ◌∷◌, ◌++◌, refl, ap, ◌∙◌, sym, subst, nat_lt, is_some, arith, length, if◌then◌else◌, slice_get, Option, None, Some, cases_Bool, inl, inr}
+use Rattle.dm_laws.proofs.Names.{false≢true, nat_tests, Pid, pid_eq, pid_of, PlainLink, MsgId, id_of, PlainMessage, PlainWhat, BootImage, Label, Why, first_number, switchboard, manager, bind, PlainProcess, Life, Alive, Ended, Note, Outcome}
+use Rattle.dm_laws.proofs.Names.{Pending, Switchboard, Manager, OneKernel, with_process, with_sent, with_note, without_note, answer_id, answer_to, begun, without_message, gone_what, reception, code_of_outcome, PendingKind}
 use Rattle.dm_onekernel.specs.Switchboard as board
 use Rattle.dm_onekernel.specs.Manager as manage
 use Rattle.dm_onekernel.specs.Service as service
 use Rattle.dm_onekernel.specs.Step as step
 use Rattle.dm_laws.proofs.Equal.{pid_eq-is, id_eq-same}
-use Rattle.dm_laws.proofs.Counted.{is_piece}
+use Rattle.dm_laws.proofs.Counted.{is_of_memory, is_piece}
 use Rattle.dm_laws.proofs.Entered.{Made, asks, counts, is_counted}
 use Rattle.dm_laws.proofs.Movers.{Movers, other_names, IsUnawaited, unawaited, stayed, sent_at}
-use Rattle.dm_laws.proofs.Grown.{LifeGrows, LifeGrows-same, with_process-lives}
-use Rattle.dm_laws.proofs.Sound.{Sound, Serves, plus, leaves, sends, answers, server_sends, served_on, born}
-use Rattle.dm_laws.proofs.Steps.{bind-is, when-is, After, quiet, puts, was_none, Grown-bag}
+use Rattle.dm_laws.proofs.Notes.{Notes}
+use Rattle.dm_laws.proofs.Grown.{LifeGrows, Went-bag, with_process-lives}
+use Rattle.dm_laws.proofs.Sound.{Sound, Serves, plus, leaves, sends, answers, begins, follows_no_more, server_sends, served_on, born}
+use Rattle.dm_laws.proofs.Steps.{bind-is, when-is, After, quiet, puts, was_none, at_hand-is}
 
 -- a server's answer: nothing, and its count stays, or a message under its count, which it raises
 abbrev pub ServerSends : Pid → ℕ → Option PlainMessage → ℕ → Type 0
@@ -42,6 +43,10 @@ manager_bad : (g : Manager) (links : List PlainLink) → ManagerSends g (manage.
 manager_bad g [] = record { sends = refl; children = omega arith }
 manager_bad g (l ∷ ls) = manager_answers g g l 2 [] refl (omega arith)
 
+manager_over : (g h : Manager) (l : Option PlainLink) (code : ℕ) (links : List PlainLink) → h.sent ≡ g.sent → length g.children ≤ length h.children → ManagerSends g (manage.answers_over h l code links)
+manager_over g h None code links e le = record { sends = e; children = le }
+manager_over g h (Some l) code links e le = manager_answers g h l code links e le
+
 manager_if : (g : Manager) (b : Bool) (x y : manage.ManagerTook) → ManagerSends g x → ManagerSends g y → ManagerSends g (if b then x else y)
 manager_if g true x y h k = h
 manager_if g false x y h k = k
@@ -68,10 +73,16 @@ manager_controls_child : (g : Manager) (child : Pid) (o : Option PlainWhat) (lin
 manager_controls_child g child None links h = manager_bad g links
 manager_controls_child g child (Some w) links h = let k = h w refl in record { sends = (refl, refl, k.0, k.1); children = omega arith }
 
-manager_controls : (g : Manager) (child : Option Pid) (body : List ℕ) (links : List PlainLink) → ManagerSends g (manage.controls g child body links)
-manager_controls g (Some child) (a ∷ []) links = manager_controls_child g child (manage.control_of a) links (control_is (a == 2) (a == 3) (a == 4))
-manager_controls g None (a ∷ []) links = manager_bad g links
-manager_controls g _ _ links = manager_bad g links
+manager_controls : (g : Manager) (machines : ℕ) (child : Option Pid) (body : List ℕ) (links : List PlainLink) → ManagerSends g (manage.controls g machines child body links)
+manager_controls g machines (Some child) (a ∷ []) links = manager_controls_child g child (manage.control_of a) links (control_is (a == 2) (a == 3) (a == 4))
+manager_controls g machines (Some child) (a ∷ m ∷ []) links =
+    manager_if g (a == 5) (manage.moves_child g machines child m links) (manage.bad_request g links)
+    (manager_if g (nat_lt m machines) (manage.asks g PendingKind.Move child (PlainWhat.Move m) (manage.first_link links)) (manage.bad_request g links)
+    (record { sends = (refl, refl, refl, refl); children = omega arith }) (manager_bad g links))
+    (manager_bad g links)
+manager_controls g machines None (a ∷ []) links = manager_bad g links
+manager_controls g machines None (a ∷ m ∷ []) links = manager_bad g links
+manager_controls g machines _ _ links = manager_bad g links
 
 append-longer : {A : Type 0} (xs : List A) (y : A) → length (xs ++ y ∷ []) ≡ length xs + 1
 append-longer [] y = refl
@@ -81,15 +92,22 @@ manager_created : (g : Manager) (n : ℕ) (child : Pid) (o : Option Pending) (k 
 manager_created g n child None k e = cc
 manager_created g n child (Some r) k e =
     let h = record g { children = g.children ++ child ∷ []; pending = manage.without_pending n g.pending } in
-    let f : manage.answers_byte h r.answer 0 (manage.control_link (length g.children + 1) ∷ []) ≡ k = cc in
-    subst (ManagerSends g) f (manager_answers g h r.answer 0 (manage.control_link (length g.children + 1) ∷ []) refl (let z = append-longer g.children child in omega (arith, z)))
+    let f : manage.answers_over h r.answer 0 (manage.control_link (length g.children + 1) ∷ []) ≡ k = cc in
+    subst (ManagerSends g) f (manager_over g h r.answer 0 (manage.control_link (length g.children + 1) ∷ []) refl (let z = append-longer g.children child in omega (arith, z)))
 
 manager_no_room : (g : Manager) (n : ℕ) (o : Option Pending) (k : manage.ManagerTook) → manage.takes_no_room g n o ≡ Some k → ManagerSends g k
 manager_no_room g n None k e = cc
 manager_no_room g n (Some r) k e =
     let h = record g { pending = manage.without_pending n g.pending } in
-    let f : manage.answers_byte h r.answer 1 [] ≡ k = cc in
-    subst (ManagerSends g) f (manager_answers g h r.answer 1 [] refl (omega arith))
+    let f : manage.answers_over h r.answer 1 [] ≡ k = cc in
+    subst (ManagerSends g) f (manager_over g h r.answer 1 [] refl (omega arith))
+
+manager_moved : (g : Manager) (n : ℕ) (outcome : Outcome) (o : Option Pending) (k : manage.ManagerTook) → manage.takes_moved g n outcome o ≡ Some k → ManagerSends g k
+manager_moved g n outcome None k e = cc
+manager_moved g n outcome (Some r) k e =
+    let h = record g { pending = manage.without_pending n g.pending } in
+    let f : manage.answers_over h r.answer (code_of_outcome outcome) [] ≡ k = cc in
+    subst (ManagerSends g) f (manager_over g h r.answer (code_of_outcome outcome) [] refl (omega arith))
 
 pub manager_takes_lem : (g : Manager) (machines images : ℕ) (m : PlainMessage) (w : PlainWhat) (k : manage.ManagerTook) → manage.manager_takes g machines images m w ≡ Some k
     → (is_of_memory w ≡ false) × (is_piece w ≡ false) × ManagerSends g k
@@ -98,11 +116,12 @@ manager_takes_lem g machines images m (PlainWhat.User code channel body links) k
       refl,
       refl,
       subst (ManagerSends g) f
-          (manager_if g (code == 0) (manage.requests_child g machines images body links) (manage.controls g (manage.child_numbered g.children code) body links)
-          (manager_requests g machines images body links) (manager_controls g (manage.child_numbered g.children code) body links)),
+          (manager_if g (code == 0) (manage.requests_child g machines images body links) (manage.controls g machines (manage.child_numbered g.children code) body links)
+          (manager_requests g machines images body links) (manager_controls g machines (manage.child_numbered g.children code) body links)),
     )
 manager_takes_lem g machines images m (PlainWhat.Created child) k e = (refl, refl, manager_created g m.id.n child (manage.pending_numbered m.id.n g.pending) k e)
 manager_takes_lem g machines images m PlainWhat.NoRoom k e = (refl, refl, manager_no_room g m.id.n (manage.pending_numbered m.id.n g.pending) k e)
+manager_takes_lem g machines images m (PlainWhat.Moved outcome) k e = (refl, refl, manager_moved g m.id.n outcome (manage.pending_numbered m.id.n g.pending) k e)
 manager_takes_lem g machines images m _ k e = cc
 
 counts_at : (b c : Bool) (n x x' g g' : ℕ) (l l' : Option Life) → l' ≡ l → g ≤ g' → x ≤ x' → (if b then nat_lt n x else if c then nat_lt n g else is_counted n l) ≡ true → (if b then nat_lt n x' else if c then nat_lt n g' else is_counted n l') ≡ true
@@ -129,22 +148,20 @@ after_board r e s id k un sends h None is =
     let count : k.switchboard.sent ≡ s.switchboard.sent = subst (λ o. ServerSends switchboard s.switchboard.sent o k.switchboard.sent) is sends in
     let u = without_message s id in
     let t = record u { switchboard = k.switchboard } in
-    let w : Serves u t = record { processes = λ p. refl; made = λ n. refl; bag = λ i. refl; grows = λ i f. counts_board u t i refl refl (omega (arith, count)) f } in
-    quiet r e s t (Label.Took id) (λ i. refl) (stayed s id)
-    (record { lives = λ p. LifeGrows-same (s.processes p); switchboard = omega (arith, count); manager = omega arith; made = λ n. omega arith; children = omega arith })
+    let w : Serves u t = record { processes = λ p. refl; made = λ n. refl; bag = λ i. refl; notes = λ p. refl; noted = λ i. refl; grows = λ i f. counts_board u t i refl refl (omega (arith, count)) f } in
+    quiet r e s t (Label.Took id) (λ i. refl) (stayed s id) (Went-bag s t (λ q. refl) (λ n. refl) (omega (arith, count)) (omega arith) (omega arith))
     (served_on r e u t w (leaves r e s id un h))
 after_board r e s id k un sends h (Some m) is =
     let all = subst (λ o. ServerSends switchboard s.switchboard.sent o k.switchboard.sent) is sends in
     let (name, count, memory, piece) = all in
     let u = without_message s id in
     let t = record u { switchboard = k.switchboard } in
-    let w : Serves u t = record { processes = λ p. refl; made = λ n. refl; bag = λ i. refl; grows = λ i f. counts_board u t i refl refl (omega (arith, count)) f } in
+    let w : Serves u t = record { processes = λ p. refl; made = λ n. refl; bag = λ i. refl; notes = λ p. refl; noted = λ i. refl; grows = λ i f. counts_board u t i refl refl (omega (arith, count)) f } in
     let fresh : counts u m.id ≡ false = ap (counts u) name ∙ (let z : nat_lt s.switchboard.sent s.switchboard.sent ≡ false = grind (arith, nat_tests) in z) in
     let counted : counts t m.id ≡ true = ap (counts t) name ∙ (let z : nat_lt s.switchboard.sent k.switchboard.sent ≡ true = grind (arith, nat_tests) in z) in
     let after = server_sends r e u t m w fresh counted (ap (λ (v : MsgId). v.answer) name) memory piece (leaves r e s id un h) in
     puts r e s t m (Label.Took id) (λ i. refl) (was_none r e s (with_sent t (Some m)) m.id m (sent_at t m m.id (id_eq-same m.id)) after h) (stayed s id)
-    (record { lives = λ p. LifeGrows-same (s.processes p); switchboard = omega (arith, count); manager = omega arith; made = λ n. omega arith; children = omega arith })
-    after
+    (Went-bag s (with_sent t (Some m)) (λ q. refl) (λ n. refl) (omega (arith, count)) (omega arith) (omega arith)) after
 
 after_manager : (r e : MsgId → ℕ) (s : OneKernel) (id : MsgId) (k : manage.ManagerTook) → IsUnawaited s id → ManagerSends s.manager k → Sound r e s
     → (o : Option PlainMessage) → k.message ≡ o → After r e s (Label.Took id) (with_sent (record (without_message s id) { manager = k.manager }) o)
@@ -153,9 +170,8 @@ after_manager r e s id k un sends h None is =
     let more = sends.children in
     let u = without_message s id in
     let t = record u { manager = k.manager } in
-    let w : Serves u t = record { processes = λ p. refl; made = λ n. refl; bag = λ i. refl; grows = λ i f. counts_manager u t i refl refl (omega (arith, count)) f } in
-    quiet r e s t (Label.Took id) (λ i. refl) (stayed s id)
-    (record { lives = λ p. LifeGrows-same (s.processes p); switchboard = omega arith; manager = omega (arith, count); made = λ n. omega arith; children = more })
+    let w : Serves u t = record { processes = λ p. refl; made = λ n. refl; bag = λ i. refl; notes = λ p. refl; noted = λ i. refl; grows = λ i f. counts_manager u t i refl refl (omega (arith, count)) f } in
+    quiet r e s t (Label.Took id) (λ i. refl) (stayed s id) (Went-bag s t (λ q. refl) (λ n. refl) (omega arith) (omega (arith, count)) more)
     (served_on r e u t w (leaves r e s id un h))
 after_manager r e s id k un sends h (Some m) is =
     let all = subst (λ o. ServerSends manager s.manager.sent o k.manager.sent) is sends.sends in
@@ -163,13 +179,12 @@ after_manager r e s id k un sends h (Some m) is =
     let more = sends.children in
     let u = without_message s id in
     let t = record u { manager = k.manager } in
-    let w : Serves u t = record { processes = λ p. refl; made = λ n. refl; bag = λ i. refl; grows = λ i f. counts_manager u t i refl refl (omega (arith, count)) f } in
+    let w : Serves u t = record { processes = λ p. refl; made = λ n. refl; bag = λ i. refl; notes = λ p. refl; noted = λ i. refl; grows = λ i f. counts_manager u t i refl refl (omega (arith, count)) f } in
     let fresh : counts u m.id ≡ false = ap (counts u) name ∙ (let z : nat_lt s.manager.sent s.manager.sent ≡ false = grind (arith, nat_tests) in z) in
     let counted : counts t m.id ≡ true = ap (counts t) name ∙ (let z : nat_lt s.manager.sent k.manager.sent ≡ true = grind (arith, nat_tests) in z) in
     let after = server_sends r e u t m w fresh counted (ap (λ (v : MsgId). v.answer) name) memory piece (leaves r e s id un h) in
     puts r e s t m (Label.Took id) (λ i. refl) (was_none r e s (with_sent t (Some m)) m.id m (sent_at t m m.id (id_eq-same m.id)) after h) (stayed s id)
-    (record { lives = λ p. LifeGrows-same (s.processes p); switchboard = omega arith; manager = omega (arith, count); made = λ n. omega arith; children = more })
-    after
+    (Went-bag s (with_sent t (Some m)) (λ q. refl) (λ n. refl) (omega arith) (omega (arith, count)) more) after
 
 -- took: by which server
 takes_by : (r e : MsgId → ℕ) (s t : OneKernel) (id : MsgId) (m : PlainMessage) (b c : Bool) → s.bag id ≡ Some m
@@ -225,7 +240,7 @@ after_dropped r e s t id is h =
     let k = when-is (service.is_dropped m.what) (without_message s id) t last in
     let un = dropped_unawaited s id m y there (why_ended-is (s.processes m.to) y gone) (not_memory m.what k.0) h.movers in
     subst (After r e s (Label.Dropped id)) k.1
-    (quiet r e s (without_message s id) (Label.Dropped id) (λ i. refl) (stayed s id) (Grown-bag s (without_message s id) (λ q. refl) (λ n. refl) refl refl) (leaves r e s id un h))
+    (quiet r e s (without_message s id) (Label.Dropped id) (λ i. refl) (stayed s id) (Went-bag s (without_message s id) (λ q. refl) (λ n. refl) (omega arith) (omega arith) (omega arith)) (leaves r e s id un h))
 
 -- an answer takes the place of a request, and no process changes
 answer_row : (r e : MsgId → ℕ) (s : OneKernel) (id : MsgId) (m : PlainMessage) (w : PlainWhat) (l : Label) → s.bag id ≡ Some m → asks m.what ≡ true → asks w ≡ false → is_of_memory w ≡ false → is_piece w ≡ is_of_memory m.what
@@ -237,20 +252,26 @@ answer_row r e s id m w l there asking answering memory piece none h =
     subst (λ v. Sound r (λ i. e i + plus v i) t) (sym (ap answer_id name)) (answers r e s id m w there asking answering memory piece h) in
     puts r e s (without_message s id) (answer_to m w) l none
     (was_none r e s t (answer_to m w).id (answer_to m w) (sent_at (without_message s id) (answer_to m w) (answer_to m w).id (id_eq-same (answer_to m w).id)) after h)
-    (stayed s id) (Grown-bag s t (λ q. refl) (λ n. refl) refl refl) after
+    (stayed s id) (Went-bag s t (λ q. refl) (λ n. refl) (omega arith) (omega arith) (omega arith)) after
 
-memory_asks : (w : PlainWhat) → is_of_memory w ≡ true → asks w ≡ true
-memory_asks (PlainWhat.Read a b) e = refl
-memory_asks (PlainWhat.Write a b) e = refl
-memory_asks (PlainWhat.Create a b) e = refl
-memory_asks _ e = cc
+-- what is answered where the receiver has ended
+abbrev pub IsGoneSo : PlainWhat → PlainWhat → Type 0
+IsGoneSo v w = (asks v ≡ true) × (asks w ≡ false) × (is_of_memory w ≡ false) × (is_piece w ≡ is_of_memory v)
+
+pub gone_so : (v w : PlainWhat) → gone_what v ≡ Some w → IsGoneSo v w
+gone_so (PlainWhat.Read a b) w e = let f : PlainWhat.Gone ≡ w = cc in (refl, sym (ap asks f), sym (ap is_of_memory f), sym (ap is_piece f))
+gone_so (PlainWhat.Write a b) w e = let f : PlainWhat.Gone ≡ w = cc in (refl, sym (ap asks f), sym (ap is_of_memory f), sym (ap is_piece f))
+gone_so (PlainWhat.Move a) w e = let f : PlainWhat.Moved Outcome.Ended ≡ w = cc in (refl, sym (ap asks f), sym (ap is_of_memory f), sym (ap is_piece f))
+gone_so _ w e = cc
 
 pub after_gone : (r e : MsgId → ℕ) (s t : OneKernel) (id : MsgId) → step.step s (Label.Gone id) ≡ Some t → Sound r e s → After r e s (Label.Gone id) t
 after_gone r e s t id is h =
     let (m, there, rest) = bind-is (s.bag id) (λ v. bind (step.why_ended (s.processes v.to)) (step.says_gone s id v)) t is in
     let (y, gone, last) = bind-is (step.why_ended (s.processes m.to)) (step.says_gone s id m) t rest in
-    let k = when-is (is_of_memory m.what) (with_sent (without_message s id) (Some (answer_to m PlainWhat.Gone))) t last in
-    subst (After r e s (Label.Gone id)) k.1 (answer_row r e s id m PlainWhat.Gone (Label.Gone id) there (memory_asks m.what k.0) refl refl (sym k.0) (λ i. refl) h)
+    let (w, is_gone, so) = bind-is (gone_what m.what) (λ v. Some (with_sent (without_message s id) (Some (answer_to m v)))) t last in
+    let (asking, answering, memory, piece) = gone_so m.what w is_gone in
+    let k : with_sent (without_message s id) (Some (answer_to m w)) ≡ t = cc in
+    subst (After r e s (Label.Gone id)) k (answer_row r e s id m w (Label.Gone id) there asking answering memory piece (λ i. refl) h)
 
 -- a kernel answers a request for a process
 no_room_row : (r e : MsgId → ℕ) (s t : OneKernel) (id : MsgId) (m : PlainMessage) (w : PlainWhat) (a b : ℕ) → m.what ≡ w → s.bag id ≡ Some m → service.has_no_room s id m w ≡ Some t → Sound r e s → After r e s (Label.NoSpace id a b) t
@@ -271,6 +292,12 @@ none_below s p (Some l) e h n = absurd (let k = h (ap is_some e) in let z : nat_
 -- the next number of a home is no process's
 next_is_new : (s : OneKernel) (home : ℕ) → Made s → s.processes (pid_of home (first_number + s.made home)) ≡ None
 next_is_new s home h = none_below s (pid_of home (first_number + s.made home)) (s.processes (pid_of home (first_number + s.made home))) refl (h.most (pid_of home (first_number + s.made home))) refl
+
+unborn : (e : MsgId → ℕ) (s : OneKernel) (p q : Pid) (n : Note) → s.processes p ≡ None → s.notes q ≡ Some n → Notes e s → pid_eq p q ≡ false
+unborn e s p q n none notes h = elim (cases_Bool (pid_eq p q)) [
+  | inl same ↦ let (x, alive) = h.lives q n notes in absurd (let k : None ≡ Some (Alive x) = sym none ∙ ap s.processes (pid_eq-is p q same) ∙ alive in cc)
+  | inr apart ↦ apart
+]
 
 created_row : (r e : MsgId → ℕ) (s t : OneKernel) (id : MsgId) (m : PlainMessage) (child : Pid) (links : List PlainLink) (image : BootImage) → s.bag id ≡ Some m → asks m.what ≡ true → is_of_memory m.what ≡ false
     → service.creates_of s id m child links image ≡ Some t → Sound r e s → After r e s (Label.Created id child) t
@@ -297,11 +324,14 @@ created_row r e s t id m child links image there asking memory is h =
     (was_none r e s t_ (answer_to m (PlainWhat.Created child)).id (answer_to m (PlainWhat.Created child)) (sent_at u (answer_to m (PlainWhat.Created child)) (answer_to m (PlainWhat.Created child)).id (id_eq-same (answer_to m (PlainWhat.Created child)).id)) after h)
     (stayed s id)
     (record {
-      lives = with_process-lives s child (Alive y) (subst (λ w. LifeGrows w (Some (Alive y))) (sym none) tt);
-      switchboard = omega arith;
-      manager = omega arith;
-      made = λ n. grind (arith, nat_tests);
-      children = omega arith;
+      grown = record {
+        lives = with_process-lives s child (Alive y) (subst (λ w. LifeGrows w (Some (Alive y))) (sym none) tt);
+        switchboard = omega arith;
+        manager = omega arith;
+        made = λ n. grind (arith, nat_tests);
+        children = omega arith;
+      };
+      rests = λ q n notes. ap (λ (b : Bool). if b then Some (Alive y) else s.processes q) (unborn e s child q n none notes h.notes);
     }) after)
 
 creates_row : (r e : MsgId → ℕ) (s t : OneKernel) (id : MsgId) (m : PlainMessage) (child : Pid) (w : PlainWhat) → m.what ≡ w → s.bag id ≡ Some m → service.creates s id m child w ≡ Some t → Sound r e s → After r e s (Label.Created id child) t
@@ -314,3 +344,45 @@ pub after_created : (r e : MsgId → ℕ) (s t : OneKernel) (id : MsgId) (child 
 after_created r e s t id child is h =
     let (m, there, rest) = bind-is (s.bag id) (λ v. service.creates s id v child v.what) t is in
     creates_row r e s t id m child m.what refl there rest h
+
+-- a process is asked to move
+follows_row : (r e : MsgId → ℕ) (s t : OneKernel) (id : MsgId) (m : PlainMessage) (x : PlainProcess) (w : PlainWhat) → m.what ≡ w → s.bag id ≡ Some m → s.notes m.to ≡ None
+    → s.processes m.to ≡ Some (Alive x) → service.follows s id m w ≡ Some t → Sound r e s → After r e s (Label.Asked id) t
+follows_row r e s t id m x (PlainWhat.Move machine) w there free alive is h =
+    let u = with_note (without_message s id) m.to (record { id = id; asker = m.sender }) in
+    let k : u ≡ t = cc in
+    subst (After r e s (Label.Asked id)) k
+    (quiet r e s u (Label.Asked id) (λ i. refl) (stayed s id) (Went-bag s u (λ q. refl) (λ n. refl) (omega arith) (omega arith) (omega arith)) (begins r e s id m machine x there w free alive h))
+follows_row r e s t id m x _ w there free alive is h = cc
+
+pub after_asked : (r e : MsgId → ℕ) (s t : OneKernel) (id : MsgId) → step.step s (Label.Asked id) ≡ Some t → Sound r e s → After r e s (Label.Asked id) t
+after_asked r e s t id is h =
+    let (m, there, rest) = bind-is (s.bag id) (λ v. bind (step.at_hand s v.to) (λ p. service.follows s id v v.what)) t is in
+    let (x, at, last) = bind-is (step.at_hand s m.to) (λ p. service.follows s id m m.what) t rest in
+    let (free, alive) = at_hand-is s m.to x at in
+    follows_row r e s t id m x m.what refl there free alive last h
+
+-- the answer to a request that a process followed
+pub ends_move-is : (s t : OneKernel) (id : MsgId) (p : Pid) (n : Note) (o : Outcome) → service.ends_move s id p n o ≡ Some t → service.move_ended s id p n o ≡ t
+ends_move-is s t id p n Outcome.Done e = cc
+ends_move-is s t id p n Outcome.Stayed e = cc
+ends_move-is s t id p n Outcome.Ended e = cc
+
+ends_row : (r e : MsgId → ℕ) (s : OneKernel) (p : Pid) (n : Note) (o : Outcome) → s.notes p ≡ Some n → Sound r e s → After r e s (Label.Answered n.id o) (service.move_ended s n.id p n o)
+ends_row r e s p n o is h =
+    let u = without_note s p n.id in
+    let a : PlainMessage = record { id = answer_id n.id; to = n.asker; sender = p; what = PlainWhat.Moved o } in
+    let after = follows_no_more r e s p n o is h in
+    puts r e s u a (Label.Answered n.id o) (λ i. refl) (was_none r e s (with_sent u (Some a)) a.id a (sent_at u a a.id (id_eq-same a.id)) after h) (λ i z f. f)
+    (Went-bag s (with_sent u (Some a)) (λ q. refl) (λ n. refl) (omega arith) (omega arith) (omega arith)) after
+
+-- the note of the process that follows a request is of that request
+pub note-is : (e : MsgId → ℕ) (s : OneKernel) (id : MsgId) (p : Pid) (n : Note) → s.noted id ≡ Some p → s.notes p ≡ Some n → Notes e s → n.id ≡ id
+note-is e s id p n noted notes h = let (k, there, is) = h.follows id p noted in let f : Some n ≡ Some k = sym notes ∙ there in let g : n ≡ k = cc in ap (λ (v : Note). v.id) g ∙ is
+
+pub after_answered : (r e : MsgId → ℕ) (s t : OneKernel) (id : MsgId) (o : Outcome) → step.step s (Label.Answered id o) ≡ Some t → Sound r e s → After r e s (Label.Answered id o) t
+after_answered r e s t id o is h =
+    let (p, noted, rest) = bind-is (s.noted id) (λ v. bind (s.notes v) (λ n. service.ends_move s id v n o)) t is in
+    let (n, notes, last) = bind-is (s.notes p) (λ v. service.ends_move s id p v o) t rest in
+    subst (After r e s (Label.Answered id o)) (ends_move-is s t id p n o last)
+    (subst (λ i. After r e s (Label.Answered i o) (service.move_ended s i p n o)) (note-is e s id p n noted notes h.notes) (ends_row r e s p n o notes h))

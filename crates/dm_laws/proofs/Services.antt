@@ -1,29 +1,32 @@
 -- What the steps of kernels and servers keep.
 use Rattle.dm_laws.proofs.Names.{◌≡◌, ℕ, ◌+◌, ◌-◌, ◌==◌, Bool, true, false, refl, ap, ◌∙◌, sym, subst, inl, inr, arith, if◌then◌else◌, take, drop, Option, None, Some, fun_ext, false≢true, Pid, pid_eq, MsgId, id_of, PlainMessage, PlainWhat}
-use Rattle.dm_laws.proofs.Names.{Direction, Label, bind, PlainProcess, PlainStatus, Ready, Waiting, Moving, Life, Alive, Ended, OneKernel, with_process, with_sent, answer_id, answer_to, without_message, is_of_memory, reception, Reply, Why}
+use Rattle.dm_laws.proofs.Names.{Direction, Label, bind, PlainProcess, PlainStatus, Ready, Moving, Life, Alive, Ended, OneKernel, with_process, with_sent, answer_id, answer_to, without_message, reception, Reply, Why}
 use Rattle.dm_onekernel.specs.Pieces as pieces
 use Rattle.dm_onekernel.specs.Service as service
 use Rattle.dm_onekernel.specs.Step as step
 use Rattle.dm_laws.proofs.Equal.{pid_eq-same, id_eq-same}
-use Rattle.dm_laws.proofs.Counted.{Sent, requests-sent, is_piece, pending_of}
+use Rattle.dm_laws.proofs.Counted.{Sent, requests-sent, is_of_memory, is_piece, pending_of}
 use Rattle.dm_laws.proofs.Entered.{asks}
 use Rattle.dm_laws.proofs.Movers.{IsUnawaited, unawaited, unawaited_taken, stayed, sent_at}
+use Rattle.dm_laws.proofs.Grown.{Went-process}
 use Rattle.dm_laws.proofs.Sound.{Sound, plus, goes, ending, leaves, sends, answers}
-use Rattle.dm_laws.proofs.Steps.{Sent-from, bind-is, After, quiet, puts, was_none, Grown-process, Grown-ended}
+use Rattle.dm_laws.proofs.Steps.{Sent-from, bind-is, After, quiet, puts, was_none}
 
 -- the process takes a message that nobody waits for
-takes_quiet : (r e : MsgId → ℕ) (s : OneKernel) (id : MsgId) (m : PlainMessage) (x y : PlainProcess) (l : Label) → IsUnawaited s id → s.processes m.to ≡ Some (Alive x) → y.sent ≡ x.sent → pending_of y.status ≡ pending_of x.status
+takes_quiet : (r e : MsgId → ℕ) (s : OneKernel) (id : MsgId) (m : PlainMessage) (x y : PlainProcess) (l : Label) → IsUnawaited s id
+    → s.processes m.to ≡ Some (Alive x) → s.notes m.to ≡ None → y.sent ≡ x.sent → pending_of y.status ≡ pending_of x.status
     → ((i : MsgId) → reception i l ≡ 0) → Sound r e s → After r e s l (service.changed s id m y)
-takes_quiet r e s id m x y l un is sent pending none h =
+takes_quiet r e s id m x y l un is free sent pending none h =
     let u = without_message s id in
-    quiet r e s (service.changed s id m y) l none (stayed s id) (Grown-process s (service.changed s id m y) m.to x y is (omega (arith, sent)) (λ q. refl) (λ n. refl) refl refl)
+    quiet r e s (service.changed s id m y) l none (stayed s id) (Went-process s (service.changed s id m y) m.to x (Alive y) is (omega (arith, sent)) free (λ q. refl) (λ n. refl) refl refl)
     (goes r e u m.to x y is sent (inl pending) (leaves r e s id un h))
 
 -- a piece is served
-serves_piece : (r e : MsgId → ℕ) (s : OneKernel) (id : MsgId) (m : PlainMessage) (x y : PlainProcess) (w : PlainWhat) (l : Label) → s.bag id ≡ Some m → s.processes m.to ≡ Some (Alive x) → y.sent ≡ x.sent → pending_of y.status ≡ pending_of x.status
+serves_piece : (r e : MsgId → ℕ) (s : OneKernel) (id : MsgId) (m : PlainMessage) (x y : PlainProcess) (w : PlainWhat) (l : Label) → s.bag id ≡ Some m → s.processes m.to ≡ Some (Alive x) → s.notes m.to ≡ None
+    → y.sent ≡ x.sent → pending_of y.status ≡ pending_of x.status
     → is_of_memory m.what ≡ true → asks m.what ≡ true → asks w ≡ false → is_of_memory w ≡ false → is_piece w ≡ true → ((i : MsgId) → reception i l ≡ 0) → Sound r e s
     → After r e s l (service.answered s id m (record { process = y; answer = answer_to m w }))
-serves_piece r e s id m x y w l there is sent pending memory asking answering not_memory piece none h =
+serves_piece r e s id m x y w l there is free sent pending memory asking answering not_memory piece none h =
     let v = step.goes_on s m.to y in
     let on = goes r e s m.to x y is sent (inl pending) h in
     let after = answers r e v id m w there asking answering not_memory (piece ∙ sym memory) on in
@@ -33,7 +36,7 @@ serves_piece r e s id m x y w l there is sent pending memory asking answering no
     let after_ : Sound r (λ i. e i + plus (answer_to m w).id i) t = subst (λ v. Sound r (λ i. e i + plus v i) t) (sym a_id) after in
     puts r e s (without_message v id) (answer_to m w) l none
     (was_none r e s t (answer_to m w).id (answer_to m w) (sent_at (without_message v id) (answer_to m w) (answer_to m w).id (id_eq-same (answer_to m w).id)) after_ h)
-    (stayed v id) (Grown-process s t m.to x y is (omega (arith, sent)) (λ q. refl) (λ n. refl) refl refl) after_
+    (stayed v id) (Went-process s t m.to x (Alive y) is (omega (arith, sent)) free (λ q. refl) (λ n. refl) refl refl) after_
 
 -- what a landing comes to
 abbrev pub LandsSo : Pid → PlainProcess → pieces.Landed → Type 0
@@ -97,16 +100,17 @@ twice : (s : OneKernel) (p : Pid) (a b : Life) → with_process (with_process s 
 twice s p a b = ap (λ (f : Pid → Option Life). record s { processes = f }) (fun_ext (λ q. twice_at (pid_eq p q) (Some b) (Some a) (s.processes q)))
 
 -- an answer has come
-after_lands : (r e : MsgId → ℕ) (s : OneKernel) (id : MsgId) (m : PlainMessage) (x : PlainProcess) (c : pieces.Landed) (l : Label) → s.bag id ≡ Some m → s.processes m.to ≡ Some (Alive x) → is_piece m.what ≡ true → LandsSo m.to x c
+after_lands : (r e : MsgId → ℕ) (s : OneKernel) (id : MsgId) (m : PlainMessage) (x : PlainProcess) (c : pieces.Landed) (l : Label) → s.bag id ≡ Some m → s.processes m.to ≡ Some (Alive x) → s.notes m.to ≡ None
+    → is_piece m.what ≡ true → LandsSo m.to x c
     → ((i : MsgId) → reception i l ≡ 0) → Sound r e s → After r e s l (service.landed s id m c)
-after_lands r e s id m x (pieces.Done reply y) l there is piece lands none h =
+after_lands r e s id m x (pieces.Done reply y) l there is free piece lands none h =
     let from : id.from ≡ m.to = sym (h.movers.returns id m there piece).0 in
     let v = step.goes_on s m.to y in
     let on = goes r e s m.to x y is lands.0 (inr lands.1) h in
     let sent = lands.0 in
-    quiet r e s (without_message v id) l none (stayed v id) (Grown-process s (without_message v id) m.to x y is (omega (arith, sent)) (λ q. refl) (λ n. refl) refl refl)
+    quiet r e s (without_message v id) l none (stayed v id) (Went-process s (without_message v id) m.to x (Alive y) is (omega (arith, sent)) free (λ q. refl) (λ n. refl) refl refl)
     (leaves r e v id (unawaited_taken s m.to y id lands.1 from) on)
-after_lands r e s id m x (pieces.Next request y) l there is piece lands none h =
+after_lands r e s id m x (pieces.Next request y) l there is free piece lands none h =
     let from : id.from ≡ m.to = sym (h.movers.returns id m there piece).0 in
     let still = record x { status = Ready } in
     let v = step.goes_on s m.to still in
@@ -120,51 +124,51 @@ after_lands r e s id m x (pieces.Next request y) l there is piece lands none h =
     let count = lands.0.count in
     puts r e s (with_process (without_message s id) m.to (Alive y)) request l none
     (was_none r e s t request.id request (sent_at (with_process (without_message s id) m.to (Alive y)) request request.id (id_eq-same request.id)) after h)
-    (stayed s id) (Grown-process s t m.to x y is (omega (arith, count)) (λ q. refl) (λ n. refl) refl refl) after
+    (stayed s id) (Went-process s t m.to x (Alive y) is (omega (arith, count)) free (λ q. refl) (λ n. refl) refl refl) after
 
 if_some-is : {A : Type 0} (b : Bool) (x y : A) → (if b then Some x else None) ≡ Some y → x ≡ y
 if_some-is true x y e = cc
 if_some-is false x y e = cc
 
-lands_row : (r e : MsgId → ℕ) (s t : OneKernel) (id : MsgId) (m : PlainMessage) (x : PlainProcess) → s.bag id ≡ Some m → s.processes m.to ≡ Some (Alive x) → is_piece m.what ≡ true
+lands_row : (r e : MsgId → ℕ) (s t : OneKernel) (id : MsgId) (m : PlainMessage) (x : PlainProcess) → s.bag id ≡ Some m → s.processes m.to ≡ Some (Alive x) → s.notes m.to ≡ None → is_piece m.what ≡ true
     → bind (pieces.lands m.to x m x.status) (λ c. Some (service.landed s id m c)) ≡ Some t → Sound r e s → After r e s (Label.Served id) t
-lands_row r e s t id m x there is piece e_ h =
+lands_row r e s t id m x there is free piece e_ h =
     let (c, lands, last) = bind-is (pieces.lands m.to x m x.status) (λ v. Some (service.landed s id m v)) t e_ in
     let k : service.landed s id m c ≡ t = cc in
-    subst (After r e s (Label.Served id)) k (after_lands r e s id m x c (Label.Served id) there is piece (lands-is m.to x m x.status c lands) (λ i. refl) h)
+    subst (After r e s (Label.Served id)) k (after_lands r e s id m x c (Label.Served id) there is free piece (lands-is m.to x m x.status c lands) (λ i. refl) h)
 
 -- served: a row a kind
-pub after_serves : (r e : MsgId → ℕ) (s t : OneKernel) (id : MsgId) (m : PlainMessage) (x : PlainProcess) (w : PlainWhat) → m.what ≡ w → s.bag id ≡ Some m → s.processes m.to ≡ Some (Alive x)
+pub after_serves : (r e : MsgId → ℕ) (s t : OneKernel) (id : MsgId) (m : PlainMessage) (x : PlainProcess) (w : PlainWhat) → m.what ≡ w → s.bag id ≡ Some m → s.processes m.to ≡ Some (Alive x) → s.notes m.to ≡ None
     → service.serves s id m x w ≡ Some t → Sound r e s → After r e s (Label.Served id) t
-after_serves r e s t id m x PlainWhat.Stop w there is e_ h =
+after_serves r e s t id m x PlainWhat.Stop w there is free e_ h =
     let y = record x { stopped = true } in
     let k : service.changed s id m y ≡ t = cc in
-    subst (After r e s (Label.Served id)) k (takes_quiet r e s id m x y (Label.Served id) (unawaited s id m there (ap is_of_memory w) (ap is_piece w) h.movers) is refl refl (λ i. refl) h)
-after_serves r e s t id m x PlainWhat.Resume w there is e_ h =
+    subst (After r e s (Label.Served id)) k (takes_quiet r e s id m x y (Label.Served id) (unawaited s id m there (ap is_of_memory w) (ap is_piece w) h.movers) is free refl refl (λ i. refl) h)
+after_serves r e s t id m x PlainWhat.Resume w there is free e_ h =
     let y = record x { stopped = false } in
     let k : service.changed s id m y ≡ t = cc in
-    subst (After r e s (Label.Served id)) k (takes_quiet r e s id m x y (Label.Served id) (unawaited s id m there (ap is_of_memory w) (ap is_piece w) h.movers) is refl refl (λ i. refl) h)
-after_serves r e s t id m x PlainWhat.Kill w there is e_ h =
+    subst (After r e s (Label.Served id)) k (takes_quiet r e s id m x y (Label.Served id) (unawaited s id m there (ap is_of_memory w) (ap is_piece w) h.movers) is free refl refl (λ i. refl) h)
+after_serves r e s t id m x PlainWhat.Kill w there is free e_ h =
     let u = without_message s id in
     let v = with_process u m.to (Ended Why.Killed) in
     let k : v ≡ t = cc in
     let un = unawaited s id m there (ap is_of_memory w) (ap is_piece w) h.movers in
     subst (After r e s (Label.Served id)) k
-    (quiet r e s v (Label.Served id) (λ i. refl) (stayed s id) (Grown-ended s v m.to x Why.Killed is (λ q. refl) (λ n. refl) refl refl) (ending r e u m.to x Why.Killed is (leaves r e s id un h)))
-after_serves r e s t id m x (PlainWhat.Read base len) w there is e_ h =
+    (quiet r e s v (Label.Served id) (λ i. refl) (stayed s id) (Went-process s v m.to x (Ended Why.Killed) is tt free (λ q. refl) (λ n. refl) refl refl) (ending r e u m.to x Why.Killed is free (leaves r e s id un h)))
+after_serves r e s t id m x (PlainWhat.Read base len) w there is free e_ h =
     let (c, served, last) = bind-is (pieces.reads x m base len) (λ v. Some (service.answered s id m v)) t e_ in
     let k = if_some-is _ (record { process = x; answer = answer_to m (PlainWhat.Block (take len (drop base x.memory))) }) c served in
     let f : service.answered s id m c ≡ t = cc in
     subst (After r e s (Label.Served id)) (ap (service.answered s id m) k ∙ f)
-    (serves_piece r e s id m x x (PlainWhat.Block (take len (drop base x.memory))) (Label.Served id) there is refl refl (ap is_of_memory w) (ap asks w) refl refl refl (λ i. refl) h)
-after_serves r e s t id m x (PlainWhat.Write base bytes) w there is e_ h =
+    (serves_piece r e s id m x x (PlainWhat.Block (take len (drop base x.memory))) (Label.Served id) there is free refl refl (ap is_of_memory w) (ap asks w) refl refl refl (λ i. refl) h)
+after_serves r e s t id m x (PlainWhat.Write base bytes) w there is free e_ h =
     let (c, served, last) = bind-is (pieces.writes x m base bytes) (λ v. Some (service.answered s id m v)) t e_ in
     let y = record x { memory = pieces.written_at x.memory base bytes } in
     let k = if_some-is _ (record { process = y; answer = answer_to m PlainWhat.Written }) c served in
     let f : service.answered s id m c ≡ t = cc in
     subst (After r e s (Label.Served id)) (ap (service.answered s id m) k ∙ f)
-    (serves_piece r e s id m x y PlainWhat.Written (Label.Served id) there is refl refl (ap is_of_memory w) (ap asks w) refl refl refl (λ i. refl) h)
-after_serves r e s t id m x (PlainWhat.Block bytes) w there is e_ h = lands_row r e s t id m x there is (ap is_piece w) e_ h
-after_serves r e s t id m x PlainWhat.Written w there is e_ h = lands_row r e s t id m x there is (ap is_piece w) e_ h
-after_serves r e s t id m x PlainWhat.Gone w there is e_ h = lands_row r e s t id m x there is (ap is_piece w) e_ h
-after_serves r e s t id m x _ w there is e_ h = cc
+    (serves_piece r e s id m x y PlainWhat.Written (Label.Served id) there is free refl refl (ap is_of_memory w) (ap asks w) refl refl refl (λ i. refl) h)
+after_serves r e s t id m x (PlainWhat.Block bytes) w there is free e_ h = lands_row r e s t id m x there is free (ap is_piece w) e_ h
+after_serves r e s t id m x PlainWhat.Written w there is free e_ h = lands_row r e s t id m x there is free (ap is_piece w) e_ h
+after_serves r e s t id m x PlainWhat.Gone w there is free e_ h = lands_row r e s t id m x there is free (ap is_piece w) e_ h
+after_serves r e s t id m x _ w there is free e_ h = cc

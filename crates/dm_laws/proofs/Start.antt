@@ -5,6 +5,7 @@ use Rattle.dm_laws.proofs.Counted.{pending_of}
 use Rattle.dm_laws.proofs.Equal.{pid_eq-is}
 use Rattle.dm_laws.proofs.Entered.{Entered, Made}
 use Rattle.dm_laws.proofs.Movers.{Movers}
+use Rattle.dm_laws.proofs.Notes.{Notes}
 
 starting-append : (m : ℕ) (ps qs : List BootProcess) → starting_at m (ps ++ qs) ≡ starting_at m ps + starting_at m qs
 starting-append m [] qs = omega arith
@@ -64,4 +65,12 @@ start-movers b = record {
   requests = λ i m k. absurd (let f : None ≡ Some m = k in cc);
   returns = λ i m k. absurd (let f : None ≡ Some m = k in cc);
   mover = λ p x n alive waits. absurd (let k : None ≡ Some n = sym (none_waits b b.processes p x alive) ∙ waits in cc);
+}
+
+pub start-notes : (b : Boot) → Notes (λ i. 0) (start b)
+start-notes b = record {
+  noted = λ p n k. absurd (let f : None ≡ Some n = k in cc);
+  follows = λ i p k. absurd (let f : None ≡ Some p = k in cc);
+  lives = λ p n k. absurd (let f : None ≡ Some n = k in cc);
+  followed = λ i p k. absurd (let f : None ≡ Some p = k in cc);
 }

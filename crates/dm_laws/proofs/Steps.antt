@@ -1,14 +1,13 @@
 -- What each step of the kernel without machines keeps.
-use Rattle.dm_laws.proofs.Names.{◌≡◌, ℕ, ◌+◌, ◌≤◌, ◌&&◌, Bool, true, false, refl, ap, ◌∙◌, sym, subst, is_some, is_none, ◌⊎◌, inl, inr, arith, length, ⊤, if◌then◌else◌, Option, None, Some, cases_Bool, Pid, MsgId, id_eq, id_of, PlainMessage}
-use Rattle.dm_laws.proofs.Names.{PlainWhat, Row, instruction, Label, Reply, Why, bind, when, PlainProcess, PlainStatus, Ready, Waiting, Moving, Life, Alive, Ended, Switchboard, Manager, OneKernel, with_process, with_sent, without_message}
-use Rattle.dm_laws.proofs.Names.{is_of_memory, reception, entry, in_bag}
+use Rattle.dm_laws.proofs.Names.{◌≡◌, ℕ, ◌+◌, ◌≤◌, ◌&&◌, Bool, true, false, refl, ap, ◌∙◌, sym, subst, is_some, is_none, ◌⊎◌, inl, inr, arith, ⊤, if◌then◌else◌, Option, None, Some, cases_Bool, Pid, MsgId, id_eq, id_of, PlainMessage}
+use Rattle.dm_laws.proofs.Names.{PlainWhat, Row, instruction, Label, Reply, Why, bind, when, PlainProcess, PlainStatus, Ready, Waiting, Life, Alive, Ended, Note, OneKernel, with_process, with_sent, without_message, reception, entry, in_bag}
 use Rattle.dm_onekernel.specs.Calls as calls
 use Rattle.dm_onekernel.specs.Receiving as receiving
 use Rattle.dm_onekernel.specs.Step as step
 use Rattle.dm_laws.proofs.Equal.{id_eq-is, id_eq-same}
-use Rattle.dm_laws.proofs.Counted.{Sent, Counts, Completes, call-counts, completes-is, is_piece, pending_of}
+use Rattle.dm_laws.proofs.Counted.{Sent, Counts, Completes, call-counts, completes-is, is_of_memory, is_piece, pending_of}
 use Rattle.dm_laws.proofs.Movers.{unawaited, stayed, came, sent_at, sent_off}
-use Rattle.dm_laws.proofs.Grown.{Grown, LifeGrows, LifeGrows-same, with_process-lives}
+use Rattle.dm_laws.proofs.Grown.{Grown, Went, Went-process}
 use Rattle.dm_laws.proofs.Sound.{Sound, Sound-same, plus, goes, ending, received, sends}
 
 -- what there is where a chain of steps gave something
@@ -24,6 +23,7 @@ when-is false x t e = cc
 pub record After (r e : MsgId → ℕ) (s : OneKernel) (l : Label) (t : OneKernel) : Type 0 where
   pub sound : Sound (λ i. r i + reception i l) (λ i. e i + entry i s t) t
   pub grown : Grown s t
+  pub rests : (p : Pid) (n : Note) → s.notes p ≡ Some n → t.processes p ≡ s.processes p
   pub only : (i : MsgId) (x y : PlainMessage) → s.bag i ≡ Some x → t.bag i ≡ Some y → x ≡ y
 
 abbrev pub Sub : OneKernel → OneKernel → Type 0
@@ -38,11 +38,12 @@ entry_of None (Some x) h = absurd (let k : None ≡ Some x = h x refl in cc)
 entry_of (Some y) b h = refl
 
 -- nothing enters
-pub quiet : (r e : MsgId → ℕ) (s t : OneKernel) (l : Label) → ((i : MsgId) → reception i l ≡ 0) → Sub t s → Grown s t → Sound r e t → After r e s l t
-quiet r e s t l none sub grown h = record {
+pub quiet : (r e : MsgId → ℕ) (s t : OneKernel) (l : Label) → ((i : MsgId) → reception i l ≡ 0) → Sub t s → Went s t → Sound r e t → After r e s l t
+quiet r e s t l none sub went h = record {
   sound = Sound-same r e (λ i. r i + reception i l) (λ i. e i + entry i s t) t (λ i. let k = none i in omega (arith, k))
       (λ i. let k : entry i s t ≡ 0 = entry_of (s.bag i) (t.bag i) (sub i) in omega (arith, k)) h;
-  grown = grown;
+  grown = went.grown;
+  rests = went.rests;
   only = λ i x y was there. let f : Some x ≡ Some y = sym was ∙ sub i y there in cc;
 }
 
@@ -59,12 +60,13 @@ entry_put s u m i none sub = elim (cases_Bool (id_eq m.id i)) [
 ]
 
 -- one message enters
-pub puts : (r e : MsgId → ℕ) (s u : OneKernel) (m : PlainMessage) (l : Label) → ((i : MsgId) → reception i l ≡ 0) → s.bag m.id ≡ None → Sub u s → Grown s (with_sent u (Some m))
+pub puts : (r e : MsgId → ℕ) (s u : OneKernel) (m : PlainMessage) (l : Label) → ((i : MsgId) → reception i l ≡ 0) → s.bag m.id ≡ None → Sub u s → Went s (with_sent u (Some m))
     → Sound r (λ i. e i + plus m.id i) (with_sent u (Some m)) → After r e s l (with_sent u (Some m))
-puts r e s u m l none fresh sub grown h = record {
+puts r e s u m l none fresh sub went h = record {
   sound = Sound-same r (λ i. e i + plus m.id i) (λ i. r i + reception i l) (λ i. e i + entry i s (with_sent u (Some m))) (with_sent u (Some m)) (λ i. let k = none i in omega (arith, k))
       (λ i. ap (λ n. e i + n) (entry_put s u m i fresh sub)) h;
-  grown = grown;
+  grown = went.grown;
+  rests = went.rests;
   only = λ i x y was there. elim (came u m y i there) [
     | inl is ↦ let f : None ≡ Some x = sym fresh ∙ ap s.bag is.1 ∙ was in cc
     | inr before ↦ let f : Some x ≡ Some y = sym was ∙ sub i y before in cc
@@ -83,43 +85,23 @@ was_none_of r e s i (Some m) f once h =
 pub was_none : (r e : MsgId → ℕ) (s t : OneKernel) (i : MsgId) (m : PlainMessage) → t.bag i ≡ Some m → Sound r (λ j. e j + plus i j) t → Sound r e s → s.bag i ≡ None
 was_none r e s t i m there after h = was_none_of r e s i (s.bag i) refl (after.entered.once i) h
 
-pub Grown-process : (s t : OneKernel) (p : Pid) (x y : PlainProcess) → s.processes p ≡ Some (Alive x) → x.sent ≤ y.sent → ((q : Pid) → t.processes q ≡ (with_process s p (Alive y)).processes q)
-    → ((m : ℕ) → t.made m ≡ s.made m) → t.switchboard ≡ s.switchboard → t.manager ≡ s.manager → Grown s t
-Grown-process s t p x y is le same made b g = record {
-  lives = λ q. subst (LifeGrows (s.processes q)) (sym (same q)) (with_process-lives s p (Alive y) (subst (λ v. LifeGrows v (Some (Alive y))) (sym is) le) q);
-  switchboard = let k : t.switchboard.sent ≡ s.switchboard.sent = ap (λ (v : Switchboard). v.sent) b in omega (arith, k);
-  manager = let k : t.manager.sent ≡ s.manager.sent = ap (λ (v : Manager). v.sent) g in omega (arith, k);
-  made = λ m. let k = made m in omega (arith, k);
-  children = let k : length t.manager.children ≡ length s.manager.children = ap (λ (v : Manager). length v.children) g in omega (arith, k);
-}
-
-pub Grown-ended : (s t : OneKernel) (p : Pid) (x : PlainProcess) (y : Why) → s.processes p ≡ Some (Alive x) → ((q : Pid) → t.processes q ≡ (with_process s p (Ended y)).processes q)
-    → ((m : ℕ) → t.made m ≡ s.made m) → t.switchboard ≡ s.switchboard → t.manager ≡ s.manager → Grown s t
-Grown-ended s t p x y is same made b g = record {
-  lives = λ q. subst (LifeGrows (s.processes q)) (sym (same q)) (with_process-lives s p (Ended y) (subst (λ v. LifeGrows v (Some (Ended y))) (sym is) tt) q);
-  switchboard = let k : t.switchboard.sent ≡ s.switchboard.sent = ap (λ (v : Switchboard). v.sent) b in omega (arith, k);
-  manager = let k : t.manager.sent ≡ s.manager.sent = ap (λ (v : Manager). v.sent) g in omega (arith, k);
-  made = λ m. let k = made m in omega (arith, k);
-  children = let k : length t.manager.children ≡ length s.manager.children = ap (λ (v : Manager). length v.children) g in omega (arith, k);
-}
-
-pub Grown-bag : (s t : OneKernel) → ((q : Pid) → t.processes q ≡ s.processes q) → ((m : ℕ) → t.made m ≡ s.made m) → t.switchboard ≡ s.switchboard → t.manager ≡ s.manager → Grown s t
-Grown-bag s t same made b g = record {
-  lives = λ q. subst (LifeGrows (s.processes q)) (sym (same q)) (LifeGrows-same (s.processes q));
-  switchboard = let k : t.switchboard.sent ≡ s.switchboard.sent = ap (λ (v : Switchboard). v.sent) b in omega (arith, k);
-  manager = let k : t.manager.sent ≡ s.manager.sent = ap (λ (v : Manager). v.sent) g in omega (arith, k);
-  made = λ m. let k = made m in omega (arith, k);
-  children = let k : length t.manager.children ≡ length s.manager.children = ap (λ (v : Manager). length v.children) g in omega (arith, k);
-}
-
--- a process that executes is alive, and moves no data
+-- a process that executes is alive, moves no data, and follows no request
 pub record Runs (s : OneKernel) (p : Pid) (x : PlainProcess) : Type 0 where
   pub alive : s.processes p ≡ Some (Alive x)
   pub still : pending_of x.status ≡ None
+  pub free : s.notes p ≡ None
 
 pub alive-is : (l : Option Life) (x : PlainProcess) → step.alive l ≡ Some x → l ≡ Some (Alive x)
 alive-is (Some (Alive y)) x e = cc
 alive-is _ x e = cc
+
+-- a process at hand lives, and follows no request
+unless_noted-is : (n : Option Note) (o : Option PlainProcess) (x : PlainProcess) → step.unless_noted n o ≡ Some x → (n ≡ None) × (o ≡ Some x)
+unless_noted-is None o x e = (refl, e)
+unless_noted-is (Some n) o x e = cc
+
+pub at_hand-is : (s : OneKernel) (p : Pid) (x : PlainProcess) → step.at_hand s p ≡ Some x → (s.notes p ≡ None) × (s.processes p ≡ Some (Alive x))
+at_hand-is s p x e = let k = unless_noted-is (s.notes p) (step.alive (s.processes p)) x e in (k.0, alive-is (s.processes p) x k.1)
 
 if_stopped-is : (y : PlainProcess) (b : Bool) (x : PlainProcess) → (if b then None else Some y) ≡ Some x → (y ≡ x) × (pending_of Ready ≡ None)
 if_stopped-is y true x e = cc
@@ -129,11 +111,12 @@ if_ready-is : (y : PlainProcess) (st : PlainStatus) (x : PlainProcess) → step.
 if_ready-is y Ready x e = if_stopped-is y y.stopped x e
 if_ready-is y _ x e = cc
 
-runs : (s : OneKernel) (p : Pid) (x : PlainProcess) → step.running s p ≡ Some x → Runs s p x
+pub runs : (s : OneKernel) (p : Pid) (x : PlainProcess) → step.running s p ≡ Some x → Runs s p x
 runs s p x e =
-    let (y, is, ready) = bind-is (step.alive (s.processes p)) (λ v. step.if_ready v v.status) x e in
+    let (y, is, ready) = bind-is (step.at_hand s p) (λ v. step.if_ready v v.status) x e in
     let k = if_ready-is y y.status x ready in
-    record { alive = alive-is (s.processes p) x (is ∙ ap Some k.0); still = sym (ap (λ (v : PlainProcess). pending_of v.status) k.0) ∙ k.1 }
+    let (free, alive) = at_hand-is s p x (is ∙ ap Some k.0) in
+    record { alive = alive; still = sym (ap (λ (v : PlainProcess). pending_of v.status) k.0) ∙ k.1; free = free }
 
 -- what a process that has a call or a fault next is, and what the call counts
 abbrev pub NextCounts : Pid → PlainProcess → step.Trap → Type 0
@@ -166,20 +149,20 @@ after_ran r e s t p k is h =
     let u = step.goes_on s p (step.with_machine x m) in
     let eq : u ≡ t = cc in
     subst (After r e s (Label.Ran p k)) eq
-    (quiet r e s u (Label.Ran p k) (λ i. refl) (λ i z f. f) (Grown-process s u p x (step.with_machine x m) w.alive (omega arith) (λ q. refl) (λ n. refl) refl refl)
+    (quiet r e s u (Label.Ran p k) (λ i. refl) (λ i z f. f) (Went-process s u p x (Alive (step.with_machine x m)) w.alive (omega arith) w.free (λ q. refl) (λ n. refl) refl refl)
     (goes r e s p x (step.with_machine x m) w.alive refl (inl refl) h))
 
-process_goes : (r e : MsgId → ℕ) (s : OneKernel) (p : Pid) (x y : PlainProcess) (l : Label) → s.processes p ≡ Some (Alive x) → y.sent ≡ x.sent → (pending_of y.status ≡ pending_of x.status) ⊎ (pending_of y.status ≡ None)
+process_goes : (r e : MsgId → ℕ) (s : OneKernel) (p : Pid) (x y : PlainProcess) (l : Label) → s.processes p ≡ Some (Alive x) → s.notes p ≡ None → y.sent ≡ x.sent → (pending_of y.status ≡ pending_of x.status) ⊎ (pending_of y.status ≡ None)
     → ((i : MsgId) → reception i l ≡ 0) → Sound r e s → After r e s l (step.goes_on s p y)
-process_goes r e s p x y l is sent pending none h =
-    quiet r e s (step.goes_on s p y) l none (λ i z f. f) (Grown-process s (step.goes_on s p y) p x y is (omega (arith, sent)) (λ q. refl) (λ n. refl) refl refl) (goes r e s p x y is sent pending h)
+process_goes r e s p x y l is free sent pending none h =
+    quiet r e s (step.goes_on s p y) l none (λ i z f. f) (Went-process s (step.goes_on s p y) p x (Alive y) is (omega (arith, sent)) free (λ q. refl) (λ n. refl) refl refl) (goes r e s p x y is sent pending h)
 
 pub after_replies : (r e : MsgId → ℕ) (s t : OneKernel) (p : Pid) (n : ℕ) (c : Reply) (next : step.Trap) → Nexts s p next → step.replies s p n c next ≡ Some t → Sound r e s → After r e s (Label.Call p n c) t
 after_replies r e s t p n c (step.Calls number (calls.Replies reply y)) w is h =
     let (z, sent, pending, counted) = w.counts in
     let k = when-is _ (step.goes_on s p y) t is in
     subst (After r e s (Label.Call p n c)) k.1
-    (process_goes r e s p w.x y (Label.Call p n c) w.is.alive (counted.0 ∙ sent) (inl (counted.1 ∙ pending)) (λ i. refl) h)
+    (process_goes r e s p w.x y (Label.Call p n c) w.is.alive w.is.free (counted.0 ∙ sent) (inl (counted.1 ∙ pending)) (λ i. refl) h)
 after_replies r e s t p n c _ w is h = cc
 
 -- a process sends as one of the same count
@@ -195,40 +178,41 @@ Sent-from p x z m y sent pending w = record {
   ];
 }
 
-process_sends : (r e : MsgId → ℕ) (s : OneKernel) (p : Pid) (x y : PlainProcess) (m : PlainMessage) (l : Label) → s.processes p ≡ Some (Alive x) → Sent p x m y → ((i : MsgId) → reception i l ≡ 0) → Sound r e s
+process_sends : (r e : MsgId → ℕ) (s : OneKernel) (p : Pid) (x y : PlainProcess) (m : PlainMessage) (l : Label) → s.processes p ≡ Some (Alive x) → s.notes p ≡ None → Sent p x m y → ((i : MsgId) → reception i l ≡ 0) → Sound r e s
     → After r e s l (with_sent (step.goes_on s p y) (Some m))
-process_sends r e s p x y m l is sent none h =
+process_sends r e s p x y m l is free sent none h =
     let u = step.goes_on s p y in
     let after = sends r e s p x y m is sent h in
     let count = sent.count in
     puts r e s u m l none (was_none r e s (with_sent u (Some m)) m.id m (sent_at u m m.id (id_eq-same m.id)) after h) (λ i z f. f)
-    (Grown-process s (with_sent u (Some m)) p x y is (omega (arith, count)) (λ q. refl) (λ n. refl) refl refl) after
+    (Went-process s (with_sent u (Some m)) p x (Alive y) is (omega (arith, count)) free (λ q. refl) (λ n. refl) refl refl) after
 
 pub after_sends : (r e : MsgId → ℕ) (s t : OneKernel) (p : Pid) (id : MsgId) (next : step.Trap) → Nexts s p next → step.sends s p id next ≡ Some t → Sound r e s → After r e s (Label.Send p id) t
 after_sends r e s t p id (step.Calls number (calls.Sends m y)) w is h =
     let (z, sent, pending, counted) = w.counts in
     let k = when-is _ (with_sent (step.goes_on s p y) (Some m)) t is in
     subst (After r e s (Label.Send p id)) k.1
-    (process_sends r e s p w.x y m (Label.Send p id) w.is.alive (Sent-from p w.x z m y sent pending counted) (λ i. refl) h)
+    (process_sends r e s p w.x y m (Label.Send p id) w.is.alive w.is.free (Sent-from p w.x z m y sent pending counted) (λ i. refl) h)
 after_sends r e s t p id _ w is h = cc
 
 pub after_waits : (r e : MsgId → ℕ) (s t : OneKernel) (p : Pid) (next : step.Trap) → Nexts s p next → step.waits s p next ≡ Some t → Sound r e s → After r e s (Label.Wait p) t
 after_waits r e s t p (step.Calls number (calls.Waits y)) w is h =
     let (z, sent, pending, counted) = w.counts in
     let k : step.goes_on s p y ≡ t = cc in
-    subst (After r e s (Label.Wait p)) k (process_goes r e s p w.x y (Label.Wait p) w.is.alive (counted.0 ∙ sent) (inr counted.1) (λ i. refl) h)
+    subst (After r e s (Label.Wait p)) k (process_goes r e s p w.x y (Label.Wait p) w.is.alive w.is.free (counted.0 ∙ sent) (inr counted.1) (λ i. refl) h)
 after_waits r e s t p _ w is h = cc
 
 pub after_outputs : (r e : MsgId → ℕ) (s t : OneKernel) (p : Pid) (word : ℕ) (next : step.Trap) → Nexts s p next → step.outputs s p word next ≡ Some t → Sound r e s → After r e s (Label.Out p word) t
 after_outputs r e s t p word (step.Calls number (calls.Outputs put y)) w is h =
     let (z, sent, pending, counted) = w.counts in
     let k = when-is _ (step.goes_on s p y) t is in
-    subst (After r e s (Label.Out p word)) k.1 (process_goes r e s p w.x y (Label.Out p word) w.is.alive (counted.0 ∙ sent) (inl (counted.1 ∙ pending)) (λ i. refl) h)
+    subst (After r e s (Label.Out p word)) k.1 (process_goes r e s p w.x y (Label.Out p word) w.is.alive w.is.free (counted.0 ∙ sent) (inl (counted.1 ∙ pending)) (λ i. refl) h)
 after_outputs r e s t p word _ w is h = cc
 
-process_ends : (r e : MsgId → ℕ) (s : OneKernel) (p : Pid) (x : PlainProcess) (y : Why) (l : Label) → s.processes p ≡ Some (Alive x) → ((i : MsgId) → reception i l ≡ 0) → Sound r e s → After r e s l (with_process s p (Ended y))
-process_ends r e s p x y l is none h =
-    quiet r e s (with_process s p (Ended y)) l none (λ i z f. f) (Grown-ended s (with_process s p (Ended y)) p x y is (λ q. refl) (λ n. refl) refl refl) (ending r e s p x y is h)
+process_ends : (r e : MsgId → ℕ) (s : OneKernel) (p : Pid) (x : PlainProcess) (y : Why) (l : Label) → s.processes p ≡ Some (Alive x) → s.notes p ≡ None
+    → ((i : MsgId) → reception i l ≡ 0) → Sound r e s → After r e s l (with_process s p (Ended y))
+process_ends r e s p x y l is free none h =
+    quiet r e s (with_process s p (Ended y)) l none (λ i z f. f) (Went-process s (with_process s p (Ended y)) p x (Ended y) is tt free (λ q. refl) (λ n. refl) refl refl) (ending r e s p x y is free h)
 
 pub after_ends : (r e : MsgId → ℕ) (s t : OneKernel) (p : Pid) (y : Why) (next : step.Trap) → Nexts s p next → step.ends s p y next ≡ Some t → Sound r e s → After r e s (Label.End p y) t
 after_ends r e s t p y (step.Calls number (calls.Replies reply z)) w is h = cc
@@ -237,12 +221,13 @@ after_ends r e s t p y (step.Calls number (calls.Waits z)) w is h = cc
 after_ends r e s t p y (step.Calls number (calls.Outputs word z)) w is h = cc
 after_ends r e s t p y _ w is h =
     let k = when-is _ (with_process s p (Ended y)) t is in
-    subst (After r e s (Label.End p y)) k.1 (process_ends r e s p w.x y (Label.End p y) w.is.alive (λ i. refl) h)
+    subst (After r e s (Label.End p y)) k.1 (process_ends r e s p w.x y (Label.End p y) w.is.alive w.is.free (λ i. refl) h)
 
 -- a receive that ends: the process waited, and the message is a user's
 pub record Completing (s : OneKernel) (p : Pid) (id : MsgId) (c : receiving.Completed) : Type 0 where
   pub x : PlainProcess
   pub alive : s.processes p ≡ Some (Alive x)
+  pub free : s.notes p ≡ None
   pub m : PlainMessage
   pub there : s.bag id ≡ Some m
   pub memory : is_of_memory m.what ≡ false
@@ -272,10 +257,11 @@ completes_with-is p x m false c e = completes_status-is p x m x.status c e
 
 pub completing : (s : OneKernel) (p : Pid) (id : MsgId) (c : receiving.Completed) → step.completing s p id ≡ Some c → Completing s p id c
 completing s p id c e =
-    let (x, is, rest) = bind-is (step.alive (s.processes p)) (λ v. bind (s.bag id) (receiving.completes_with p v)) c e in
+    let (x, is, rest) = bind-is (step.at_hand s p) (λ v. bind (s.bag id) (receiving.completes_with p v)) c e in
     let (m, there, last) = bind-is (s.bag id) (receiving.completes_with p x) c rest in
     let k = completes_with-is p x m x.stopped c last in
-    record { x = x; alive = alive-is (s.processes p) x is; m = m; there = there; memory = k.0; piece = k.1; is = k.2 }
+    let (free, alive) = at_hand-is s p x is in
+    record { x = x; alive = alive; free = free; m = m; there = there; memory = k.0; piece = k.1; is = k.2 }
 
 pub after_receives : (r e : MsgId → ℕ) (s t : OneKernel) (p : Pid) (id : MsgId) (c : receiving.Completed) → Completing s p id c → step.receives s p id c ≡ Some t → Sound r e s → After r e s (Label.Receive p id) t
 after_receives r e s t p id (receiving.Receives y) w is h =
@@ -284,12 +270,14 @@ after_receives r e s t p id (receiving.Receives y) w is h =
     let un = unawaited s id w.m w.there w.memory w.piece h.movers in
     let got = received r e s id (ap is_some w.there) un h in
     let on = goes (λ i. r i + (if id_eq i id then 1 else 0)) e u p w.x y w.alive w.is.0 (inr w.is.1) got in
+    let went = Went-process s v p w.x (Alive y) w.alive (let f = w.is.0 in omega (arith, f)) w.free (λ q. refl) (λ n. refl) refl refl in
     let k : v ≡ t = cc in
     subst (After r e s (Label.Receive p id)) k
     (record {
       sound = Sound-same (λ i. r i + (if id_eq i id then 1 else 0)) e (λ i. r i + reception i (Label.Receive p id)) (λ i. e i + entry i s v) v (λ i. refl)
           (λ i. let z : entry i s v ≡ 0 = entry_of (s.bag i) (v.bag i) (stayed s id i) in omega (arith, z)) on;
-      grown = Grown-process s v p w.x y w.alive (let f = w.is.0 in omega (arith, f)) (λ q. refl) (λ n. refl) refl refl;
+      grown = went.grown;
+      rests = went.rests;
       only = λ i a b was there. let f : Some a ≡ Some b = sym was ∙ stayed s id i b there in cc;
     })
 after_receives r e s t p id (receiving.Refuses reply y) w is h = cc
@@ -298,4 +286,4 @@ pub after_refuses : (r e : MsgId → ℕ) (s t : OneKernel) (p : Pid) (id : MsgI
 after_refuses r e s t p id reply (receiving.Receives y) w is h = cc
 after_refuses r e s t p id reply (receiving.Refuses d y) w is h =
     let k = when-is _ (step.goes_on s p y) t is in
-    subst (After r e s (Label.Refuse p id reply)) k.1 (process_goes r e s p w.x y (Label.Refuse p id reply) w.alive w.is.0 (inr w.is.1) (λ i. refl) h)
+    subst (After r e s (Label.Refuse p id reply)) k.1 (process_goes r e s p w.x y (Label.Refuse p id reply) w.alive w.free w.is.0 (inr w.is.1) (λ i. refl) h)

@@ -44,8 +44,9 @@ pub use Rattle.dm_switchboard.proofs.Plain.{plain_request}
 pub use Rattle.dm_procman.proofs.Names.{Boot, BootProcess, IsForManager, IsValid, Managing, PlainLink, answer_over, at_home, child_named, control_link, manager, message_to, moves_child, pending_is_behind, pending_request, plain_child}
 pub use Rattle.dm_procman.proofs.Names.{plain_manager, plain_pending, process_is_valid, processes_are_valid, slice_get-map, starting_at, tells_to_move, ◌||◌}
 pub use Rattle.dm_procman.proofs.Plain.{plain_created, plain_no_room, plain_user}
+pub use Rattle.dm_laws.proofs.Counted.{is_of_memory}
 pub use Rattle.dm_laws.proofs.Names.{Alive, BootImage, Called, Label, Life, Manager, Moving, OneKernel, PlainMessage, PlainProcess, PlainStatus, Ready, Reply, Switchboard, Waiting, Why, answer_id, answer_to, bind, entry, false≢true}
-pub use Rattle.dm_laws.proofs.Names.{first_failed, first_life, first_number, id_eq, id_of, is_of_memory, life_at, option_map, pid_of, reception, replay, start, when, with_process, without_message, ⊤}
+pub use Rattle.dm_laws.proofs.Names.{first_failed, first_life, first_number, id_eq, id_of, life_at, option_map, pid_of, reception, replay, start, when, with_process, without_message, ⊤}
 pub use Rattle.dm_laws.proofs.Runs.{reached, received_once}
 pub use Rattle.dm_laws.proofs.Servers.{board_takes_lem, manager_takes_lem}
 pub use Rattle.dm_laws.proofs.Sound.{not_counted}

@@ -7,10 +7,10 @@ pub use Rattle.dm_schedule.proofs.Names.{append-nil, append_assoc, drop-length, 
 pub use Rattle.dm_process.proofs.Names.{slice_get}
 pub use Rattle.dm_onekernel.specs.Pieces.{piece_of}
 pub use Rattle.dm_onekernel.specs.Service.{manager_took}
-pub use Rattle.dm_laws.proofs.Counted.{Sent}
+pub use Rattle.dm_laws.proofs.Counted.{Sent, is_of_memory}
 pub use Rattle.dm_laws.proofs.Names.{Alive, Boot, BootImage, BootProcess, CallNumber, Called, Copy, Direction, Drop, IsValid, Label, Life, Make, Manager, Move, Moving, MsgId, None, OneKernel, Option, Pending, PlainLink, PlainMessage}
 pub use Rattle.dm_laws.proofs.Names.{PlainProcess, PlainStatus, PlainWhat, Ready, Receive, Reply, Send, Sends, Some, Waiting, Waits, Why, answer_id, answer_to, bind, bool_eq, call_number, cases_Bool, direction_numbered, entry, false≢true}
-pub use Rattle.dm_laws.proofs.Names.{first_failed, first_life, first_number, id_eq, id_of, in_bag, inl, inr, is_of_memory, is_some, life_at, manager, nat_le, option_map, pid_of, plain_link, reception, receptions, reg, replay, start}
+pub use Rattle.dm_laws.proofs.Names.{first_failed, first_life, first_number, id_eq, id_of, in_bag, inl, inr, is_some, life_at, manager, nat_le, option_map, pid_of, plain_link, reception, receptions, reg, replay, start}
 pub use Rattle.dm_laws.proofs.Names.{switchboard, with_process, with_sent, without_message, ⊤, ◌⊎◌}
 pub use Rattle.dm_laws.proofs.Runs.{ended_stays, reached}
 pub use Rattle.dm_laws.proofs.Servers.{board_takes_lem, manager_takes_lem}

@@ -2,7 +2,7 @@
 pub use Rattle.arrayvec.specs.ArrayVec.{ArrayVec}
 pub use Rattle.indexmap.proofs.CallerLemmas.{insert_entry-new}
 pub use Rattle.indexmap.specs.Layout.{set_value_at}
-pub use Rattle.std.proofs.Common.{Bool, List, Some, [], ap, arith, count_by, false, if◌then◌else◌, is_some, length, map, nat_eq, refl, slice_get, subst, suc, sym, true, zero, ℕ, ◌++◌, ◌+◌, ◌==◌, ◌∙◌, ◌∷◌, ◌≡◌, ◌≤◌}
+pub use Rattle.std.proofs.Common.{Bool, List, Some, [], ap, arith, count_by, false, if◌then◌else◌, is_some, length, map, nat_eq, refl, slice_get, subst, suc, sym, true, zero, ℕ, ◌++◌, ◌+◌, ◌<◌, ◌==◌, ◌∙◌, ◌∷◌, ◌≡◌, ◌≤◌}
 pub use Rattle.std.proofs.lemmas.Grind.{common_steps}
 pub use Rattle.std.proofs.lemmas.List.Elements.{All-map, All-push}
 pub use Rattle.std.specs.Cmp.Lexicographic.{pointwise}

@@ -1,6 +1,6 @@
 -- What the switchboard keeps and gives is lawful.
-use Rattle.dm_switchboard.proofs.Imports.{◌≡◌, ◌≤◌, ℕ, suc, Bool, true, false, ◌==◌, if◌then◌else◌, List, [], ◌∷◌, length, map, refl, sym, subst, arith, common_steps, All-map, All-push, All, IfSome, IfOk, OnErr, Option, None, Result, Ok}
-use Rattle.dm_switchboard.proofs.Imports.{Err, ArrayVec, Pid, Addr, Link, IsMachine, IsLawfulAddr, IsLawfulEnclosed, is_behind, relocated, retargeted_link, NoMemory, Message, IsLawfulMessage, IsLawfulWhat, is_general, bytes_eq, is_name}
+use Rattle.dm_switchboard.proofs.Imports.{◌≡◌, ◌<◌, ◌≤◌, ℕ, suc, Bool, true, false, ◌==◌, if◌then◌else◌, List, [], ◌∷◌, length, map, refl, sym, subst, arith, common_steps, All-map, All-push, All, IfSome, IfOk, OnErr, Option, None, Result}
+use Rattle.dm_switchboard.proofs.Imports.{Ok, Err, ArrayVec, Pid, Addr, Link, IsMachine, IsLawfulAddr, IsLawfulEnclosed, is_behind, relocated, retargeted_link, NoMemory, Message, IsLawfulMessage, IsLawfulWhat, is_general, bytes_eq, is_name}
 use Rattle.dm_switchboard.proofs.Imports.{Took, Reply, Board, Named, retargeted_named, IsLawfulBoard, IsLawfulNamed, Asked, Taken, answer_over, asks, asks_to_look_up, asks_to_register, bad_request, found_or_unknown, link_named}
 use Rattle.dm_switchboard.proofs.Imports.{links_of_reply, looks_up, registers, registers_new, takes_request}
 use Rattle.std.specs.declared.option.Option.TheVariants.{Some}
@@ -73,41 +73,42 @@ few_links reply.Taken = omega arith
 few_links reply.BadLink = omega arith
 few_links reply.BadRequest = omega arith
 
-answer_lawful : (n : ℕ) (l : Link) (r : Reply) → IsLawfulEnclosed l → IsLawfulReply r → IsLawfulMessage (answer_over n l r)
-answer_lawful n l r e h = record {
+answer_lawful : (here n : ℕ) (l : Link) (r : Reply) → here < 16 → IsLawfulEnclosed l → IsLawfulReply r → IsLawfulMessage (answer_over here n l r)
+answer_lawful here n l r machine e h = record {
   from = omega arith;
   answer = refl;
   to = e.link.addr;
-  sender = record { home = omega arith; at = omega arith };
+  sender = record { home = omega arith; at = omega (arith, machine) };
   what = (e.link.channel, omega arith, few_links r, h);
 }
 
 -- what a request leaves and gives
-request_lawful : (b : Board) (body : List ℕ) (ls : List Link) (t : Taken) → takes_request b body ls ≡ t → IsLawfulBoard b → All IsLawfulEnclosed ls → IsLawfulBoard t.board × IfSome t.took.answer IsLawfulMessage
-request_lawful b body [] t is h e =
+request_lawful : (here : ℕ) (b : Board) (body : List ℕ) (ls : List Link) (t : Taken) → here < 16 → takes_request here b body ls ≡ t → IsLawfulBoard b → All IsLawfulEnclosed ls
+    → IsLawfulBoard t.board × IfSome t.took.answer IsLawfulMessage
+request_lawful here b body [] t machine is h e =
     let P : Taken → Type 0 = λ t. IsLawfulBoard t.board × IfSome t.took.answer IsLawfulMessage in
     subst P is (h, tt {0})
-request_lawful b body (l ∷ ls) t is h e =
+request_lawful here b body (l ∷ ls) t machine is h e =
     let P : Taken → Type 0 = λ t. IsLawfulBoard t.board × IfSome t.took.answer IsLawfulMessage in
     let a = asks_lawful b.names body ls h (all_tail IsLawfulEnclosed l ls e) in
-    subst P is (a.0, answer_lawful b.sent l (asks b.names body ls).reply (all_head IsLawfulEnclosed l ls e) a.1)
+    subst P is (a.0, answer_lawful here b.sent l (asks b.names body ls).reply machine (all_head IsLawfulEnclosed l ls e) a.1)
 
 links_lawful : (m : Message) (code channel : ℕ) (body : ArrayVec ℕ) (links : ArrayVec Link) → m.what ≡ what.User code channel body links → IsLawfulMessage m → All IsLawfulEnclosed links.items
 links_lawful m code channel body links is l = (subst IsLawfulWhat is l.what).3
 
-pub board_after : (r : Result Took NoMemory) (old new : Board) (m : Message) (code channel : ℕ) (body : ArrayVec ℕ) (links : ArrayVec Link) (bs : List ℕ) (ls : List Link)
-    → m.what ≡ what.User code channel body links → ls ≡ links.items
-    → IfOk r (λ t. takes_request old bs ls ≡ record { board = new; took = t }) → OnErr r (new ≡ old)
+pub board_after : (here : ℕ) (r : Result Took NoMemory) (old new : Board) (m : Message) (code channel : ℕ) (body : ArrayVec ℕ) (links : ArrayVec Link) (bs : List ℕ) (ls : List Link)
+    → here < 16 → m.what ≡ what.User code channel body links → ls ≡ links.items
+    → IfOk r (λ t. takes_request here old bs ls ≡ record { board = new; took = t }) → OnErr r (new ≡ old)
     → IsLawfulBoard old → IsLawfulMessage m → IsLawfulBoard new
-board_after (Err e) old new m code channel body links bs ls is el h same l k = subst IsLawfulBoard (sym same) l
-board_after (Ok t) old new m code channel body links bs ls is el h same l k = (request_lawful old bs ls (record { board = new; took = t }) h l (subst (All IsLawfulEnclosed) (sym el) (links_lawful m code channel body links is k))).0
+board_after here (Err e) old new m code channel body links bs ls machine is el h same l k = subst IsLawfulBoard (sym same) l
+board_after here (Ok t) old new m code channel body links bs ls machine is el h same l k = (request_lawful here old bs ls (record { board = new; took = t }) machine h l (subst (All IsLawfulEnclosed) (sym el) (links_lawful m code channel body links is k))).0
 
-pub answer_after : (r : Result Took NoMemory) (old new : Board) (m : Message) (code channel : ℕ) (body : ArrayVec ℕ) (links : ArrayVec Link) (bs : List ℕ) (ls : List Link)
-    → m.what ≡ what.User code channel body links → ls ≡ links.items
-    → IfOk r (λ t. takes_request old bs ls ≡ record { board = new; took = t })
+pub answer_after : (here : ℕ) (r : Result Took NoMemory) (old new : Board) (m : Message) (code channel : ℕ) (body : ArrayVec ℕ) (links : ArrayVec Link) (bs : List ℕ) (ls : List Link)
+    → here < 16 → m.what ≡ what.User code channel body links → ls ≡ links.items
+    → IfOk r (λ t. takes_request here old bs ls ≡ record { board = new; took = t })
     → IsLawfulBoard old → IsLawfulMessage m → IfOk r (λ t. IfSome t.answer IsLawfulMessage)
-answer_after (Err e) old new m code channel body links bs ls is el h l k = h
-answer_after (Ok t) old new m code channel body links bs ls is el h l k = (request_lawful old bs ls (record { board = new; took = t }) h l (subst (All IsLawfulEnclosed) (sym el) (links_lawful m code channel body links is k))).1
+answer_after here (Err e) old new m code channel body links bs ls machine is el h l k = h
+answer_after here (Ok t) old new m code channel body links bs ls machine is el h l k = (request_lawful here old bs ls (record { board = new; took = t }) machine h l (subst (All IsLawfulEnclosed) (sym el) (links_lawful m code channel body links is k))).1
 
 addr_either : (behind : Bool) (at moves : ℕ) (a : Addr) → IsMachine at → IsLawfulAddr a → IsLawfulAddr (if behind then relocated at moves a else a)
 addr_either true at moves a m l = record { home = l.home; at = m }

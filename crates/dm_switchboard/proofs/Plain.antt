@@ -78,30 +78,30 @@ plain_asks ks (operation ∷ name) ls =
     ∙ sym (done_to_both plain_asked (operation == 2) (asks_to_look_up ks name ls) (bad_request ks)))
     ∙ sym (done_to_both plain_asked (operation == 1) (asks_to_register ks name ls) (looks_or_not ks operation name ls))
 
-pub plain_answer : (n : ℕ) (l : Link) (r : Reply) → plain_message (answer_over n l r) ≡ Some (one.goes_over switchboard n (plain_link l) (one.code_of_answer (plain_reply r) ∷ []) (one.links_of_answer (plain_reply r)))
-plain_answer n l reply.Registered = refl
-plain_answer n l (reply.Found k) = refl
-plain_answer n l reply.Unknown = refl
-plain_answer n l reply.Taken = refl
-plain_answer n l reply.BadLink = refl
-plain_answer n l reply.BadRequest = refl
+pub plain_answer : (here n : ℕ) (l : Link) (r : Reply) → plain_message (answer_over here n l r) ≡ Some (one.goes_over switchboard n (plain_link l) (one.code_of_answer (plain_reply r) ∷ []) (one.links_of_answer (plain_reply r)))
+plain_answer here n l reply.Registered = refl
+plain_answer here n l (reply.Found k) = refl
+plain_answer here n l reply.Unknown = refl
+plain_answer here n l reply.Taken = refl
+plain_answer here n l reply.BadLink = refl
+plain_answer here n l reply.BadRequest = refl
 
-pub plain_request : (b : Board) (body : List ℕ) (ls : List Link) (t : Taken) → takes_request b body ls ≡ t → plain_taken t.board t.took ≡ Some (one.takes_request (plain_board b) body (map plain_link ls))
-plain_request b body [] t e = ap (λ (t : Taken). plain_taken t.board t.took) (sym e)
-plain_request b body (l ∷ ls) t e =
+pub plain_request : (here : ℕ) (b : Board) (body : List ℕ) (ls : List Link) (t : Taken) → takes_request here b body ls ≡ t → plain_taken t.board t.took ≡ Some (one.takes_request (plain_board b) body (map plain_link ls))
+plain_request here b body [] t e = ap (λ (t : Taken). plain_taken t.board t.took) (sym e)
+plain_request here b body (l ∷ ls) t e =
     let a : Asked = asks b.names body ls in
     ap (λ (t : Taken). plain_taken t.board t.took) (sym e)
-    ∙ (λ i. Some (record { switchboard = record { names = map plain_named a.names; sent = b.sent + 1 }; answer = plain_answer b.sent l a.reply i }))
+    ∙ (λ i. Some (record { switchboard = record { names = map plain_named a.names; sent = b.sent + 1 }; answer = plain_answer here b.sent l a.reply i }))
     ∙ ap (λ p. Some (one.board_answers (plain_board b) (plain_link l) p)) (sym (plain_asks b.names body ls))
 
 -- a user message has the row of the kernel without machines
-pub plain_after : (r : Result Took NoMemory) (old new : Board) (m : Message) (code channel : ℕ) (body : ArrayVec ℕ) (links : ArrayVec Link) (bs : List ℕ) (ls : List Link)
+pub plain_after : (here : ℕ) (r : Result Took NoMemory) (old new : Board) (m : Message) (code channel : ℕ) (body : ArrayVec ℕ) (links : ArrayVec Link) (bs : List ℕ) (ls : List Link)
     → m.what ≡ what.User code channel body links → bs ≡ body.items → ls ≡ links.items
-    → IfOk r (λ t. takes_request old bs ls ≡ record { board = new; took = t })
+    → IfOk r (λ t. takes_request here old bs ls ≡ record { board = new; took = t })
     → IfOk r (λ t. plain_taken new t ≡ plainly_taken old (plain_message m))
-plain_after (Err e) old new m code channel body links bs ls is eb el h = h
-plain_after (Ok t) old new m code channel body links bs ls is eb el h =
-    plain_request old body.items links.items (record { board = new; took = t }) (ap (λ x. takes_request old x links.items) (sym eb) ∙ ap (takes_request old bs) (sym el) ∙ h)
+plain_after here (Err e) old new m code channel body links bs ls is eb el h = h
+plain_after here (Ok t) old new m code channel body links bs ls is eb el h =
+    plain_request here old body.items links.items (record { board = new; took = t }) (ap (λ x. takes_request here old x links.items) (sym eb) ∙ ap (takes_request here old bs) (sym el) ∙ h)
     ∙ sym (ap (λ w. plainly_taken old (with_what m (plain_what w))) is)
 
 plain_retargeted_link : (p : Pid) (m c : ℕ) (l : Link) → plain_link (retargeted_link p m c l) ≡ plain_link l

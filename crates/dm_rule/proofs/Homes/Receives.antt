@@ -9,6 +9,7 @@ use Rattle.dm_rule.specs.Addresses as addresses
 use Rattle.dm_rule.proofs.Homes.{place_as, pid_as, HomeProcess, AtHome}
 use Rattle.dm_rule.proofs.Homes.Rows.{at_home_process, at_home_out, home_goes, alive_on}
 use Rattle.dm_rule.proofs.Homes.Steps.{OnlySlots, only_none}
+use Rattle.dm_rule.proofs.Names.{at_hand-is}
 
 -- the lowest empty slot is one, and it is empty
 pub set_at : {L : Type 0} (slots : List (Option L)) (k : ℕ) (y : Option L) → nat_lt k (length slots) ≡ true → link_at (slice_set slots k y) k ≡ y
@@ -100,7 +101,7 @@ only_more a p None place gs h = h
 only_more a p (Some slot) place gs h = record {
   others = λ q e. let w = h.others q e in record { slot = λ k. ap (λ (c : Bool). if c && (slot == k) then place else given a gs (Slot q k)) e ∙ w.slot k; owner = w.owner };
   messages = λ i. let w = h.messages i in record { receiver = w.receiver; sender = w.sender; enclosed = w.enclosed };
-  servers = let w = h.servers in record { child = w.child; name = w.name; answer = w.answer };
+  servers = let w = h.servers in record { child = w.child; name = w.name; answer = w.answer; asked = w.asked };
 }
 
 pub only_receives : (a : Addresses) (p : Pid) (id : MsgId) (ls : List PlainLink) (n : ℕ) (slots : List (Option PlainLink)) → OnlySlots a (given a (receives_links a p id n slots ls)) p
@@ -163,7 +164,8 @@ record Completing (P : Pid → Place → Type 0) (s : OneKernel) (a : Addresses)
 
 completing_home : (P : Pid → Place → Type 0) (s : OneKernel) (a : Addresses) (p : Pid) (id : MsgId) (d : receiving.Completed) → AtHome P s a → kernel.completing s p id ≡ Some d → Completing P s a p id d
 completing_home P s a p id d h e =
-    let (x, alive, rest) = bind-is (kernel.alive (s.processes p)) (λ (y : PlainProcess). bind (s.bag id) (receiving.completes_with p y)) d e in
+    let (x, hand, rest) = bind-is (kernel.at_hand s p) (λ (y : PlainProcess). bind (s.bag id) (receiving.completes_with p y)) d e in
+    let alive : kernel.alive (s.processes p) ≡ Some x = ap kernel.alive (at_hand-is s p x hand).1 in
     let (m, there, last) = bind-is (s.bag id) (receiving.completes_with p x) d rest in
     let hm = h.messages id m there in
     record {

@@ -1,22 +1,25 @@
-use Rattle.dm_procman.proofs.Names.{◌≡◌, false, length, get_or, set, ap, ◌∙◌, arith, General, Pending, pending_is_behind, retargeted_pending}
+use Rattle.dm_procman.proofs.Names.{◌≡◌, false, length, get_or, set, ap, ◌∙◌, arith, None, Pending, pending_is_behind, retargeted_pending}
 use Rattle.dm_procman.proofs.Following.{all_counted, all_followed, counted, counted_next, counted_within, followed, later_followed, set_followed}
+use Rattle.dm_onekernel.specs.declared.request.PendingKind.TheVariants as wanted
 use Rattle.dm_procman.proofs.moving.retarget_pending.Goals as goal
-use Rattle.dm_procman.proofs.moving.retarget_pending.Goals.{then-retarget, else-retarget}
+use Rattle.dm_procman.proofs.moving.retarget_pending.Goals.{then-retarget_answer, else-retarget_answer}
 
 -- what stands behind the end
 abbrev nothing : Pending
-nothing = record { n = 0; answer = record { addr = record { pid = record { home = 0; num = 0 }; at = 0; moves = 0 }; kind = General; to_kernel = false; code = 0; channel = 0; area = record { base = 0; len = 0; read = false; write = false } } }
+nothing = record { n = 0; kind = wanted.Create; answer = None }
 
 pub loop-request-preserved : goal.loop-request-preserved
 loop-request-preserved c =
     let told = c.loop-request.invariant.told in
-    let behind = c.retarget.ensures.changed ∙ ap (λ xs. pending_is_behind c.args.about c.args.moves (get_or xs c.loop-request.request-index nothing)) told ∙ ap (pending_is_behind c.args.about c.args.moves) (later_followed (retargeted_pending c.args.about c.args.at c.args.moves) c.loop-request.request-index c.args.pending.now nothing) in
+    let behind = c.retarget_answer.ensures.changed ∙ ap (λ xs. pending_is_behind c.args.about c.args.moves (get_or xs c.loop-request.request-index nothing)) told ∙ ap (pending_is_behind c.args.about c.args.moves) (later_followed (retargeted_pending c.args.about c.args.at c.args.moves) c.loop-request.request-index c.args.pending.now nothing) in
     let next = counted_next (pending_is_behind c.args.about c.args.moves) c.loop-request.request-index c.args.pending.now nothing c.loop-request-test.true in
     record {
-      told = ap (λ l. let r : Pending = record { n = (get_or c.loop-request.pending c.loop-request.request-index nothing).n; answer = l } in set c.loop-request.pending c.loop-request.request-index r) c.retarget.ensures.link ∙ ap (λ xs. set xs c.loop-request.request-index (retargeted_pending c.args.about c.args.at c.args.moves (get_or xs c.loop-request.request-index nothing))) told ∙ set_followed (retargeted_pending c.args.about c.args.at c.args.moves) c.loop-request.request-index c.args.pending.now nothing c.loop-request-test.true;
-      changed = elim c.if-retarget.branch [
-        | then-retarget w ↦ grind (arith, w.changed-is, w.if-retarget.true, behind, next, c.loop-request.invariant.changed)
-        | else-retarget w ↦ grind (arith, w.changed-is, w.if-retarget.false, behind, next, c.loop-request.invariant.changed)
+      told = ap (set c.loop-request.pending c.loop-request.request-index) c.retarget_answer.ensures.request
+          ∙ ap (λ xs. set xs c.loop-request.request-index (retargeted_pending c.args.about c.args.at c.args.moves (get_or xs c.loop-request.request-index nothing))) told
+          ∙ set_followed (retargeted_pending c.args.about c.args.at c.args.moves) c.loop-request.request-index c.args.pending.now nothing c.loop-request-test.true;
+      changed = elim c.if-retarget_answer.branch [
+        | then-retarget_answer w ↦ grind (arith, w.changed-is, w.if-retarget_answer.true, behind, next, c.loop-request.invariant.changed)
+        | else-retarget_answer w ↦ grind (arith, w.changed-is, w.if-retarget_answer.false, behind, next, c.loop-request.invariant.changed)
       ];
     }
 
