@@ -1,7 +1,8 @@
 -- What each step does to the bag: the message that goes, and the one that enters.
 use Rattle.dm_rule.proofs.Names.{◌≡◌, ℕ, ◌≤◌, Bool, true, false, zero, suc, refl, ap, ◌∙◌, sym, subst, nat_lt, arith, length, ◌⊎◌, inl, inr, if◌then◌else◌, slice_get, take, drop, Option, None, Some, cases_Bool, nat_tests, Pid, pid_eq}
-use Rattle.dm_rule.proofs.Names.{MsgId, id_eq, id_of, Called, PlainMessage, PlainWhat, Label, Why, switchboard, manager, bind, PlainProcess, Alive, OneKernel, with_process, with_sent, answer_id, answer_to, without_message, is_of_memory}
-use Rattle.dm_rule.proofs.Names.{id_eq-is, id_eq-same, Entered, request_id, counts, is_counted, unentered, asks, Sound, not_server, counts_process, bind-is, when-is, alive-is, nexts, Nexts, LandsSo, lands-is, ServerSends, in_bag}
+use Rattle.dm_rule.proofs.Names.{MsgId, id_eq, id_of, Called, PlainMessage, PlainWhat, Label, Why, switchboard, manager, bind, PlainProcess, Alive, OneKernel, with_process, with_sent, answer_id, answer_to, without_message, id_eq-is}
+use Rattle.dm_rule.proofs.Names.{id_eq-same, Entered, request_id, counts, is_counted, unentered, asks, Sound, not_server, counts_process, bind-is, when-is, at_hand-is, nexts, Nexts, LandsSo, lands-is, ServerSends, in_bag, Note, Outcome}
+use Rattle.dm_rule.proofs.Names.{with_note, without_note, board_takes_lem, ends_move-is, manager_takes_lem}
 use Rattle.dm_onekernel.specs.Kernel.{Ended}
 use Rattle.dm_onekernel.specs.Pieces as pieces
 use Rattle.dm_onekernel.specs.Receiving as receiving
@@ -9,7 +10,6 @@ use Rattle.dm_onekernel.specs.Switchboard as board
 use Rattle.dm_onekernel.specs.Manager as manage
 use Rattle.dm_onekernel.specs.Service as service
 use Rattle.dm_onekernel.specs.Step as step
-use Rattle.dm_laws.proofs.Servers.{board_takes_lem, manager_takes_lem}
 use Rattle.dm_rule.proofs.Lines.{hidden}
 
 -- one message may go, and one may enter: it is there then, and never was before
@@ -64,6 +64,7 @@ out_of (Label.Gone id) = Some id
 out_of (Label.Took id) = Some id
 out_of (Label.Created id p) = Some id
 out_of (Label.NoSpace id a b) = Some id
+out_of (Label.Asked id) = Some id
 out_of _ = None
 
 abbrev pub landed_id : Option pieces.Landed → Option MsgId
@@ -205,18 +206,39 @@ answers_in r e s t u id m w is same there asking h =
     subst (λ v. BagStep e s v (Some id) (Some (answer_id id))) is
     (subst (λ j. BagStep e s (with_sent u (Some (answer_to m w))) (Some id) (Some j)) name (steps_in r e s u (Some id) (answer_to m w) same zero_ h.entered))
 
-memory_asks : (w : PlainWhat) → is_of_memory w ≡ true → asks w ≡ true
-memory_asks (PlainWhat.Read a b) e = refl
-memory_asks (PlainWhat.Write a b) e = refl
-memory_asks (PlainWhat.Create a b) e = refl
-memory_asks _ e = cc
+gone_asks : (v w : PlainWhat) → service.gone_what v ≡ Some w → asks v ≡ true
+gone_asks (PlainWhat.Read a b) w e = refl
+gone_asks (PlainWhat.Write a b) w e = refl
+gone_asks (PlainWhat.Create a b) w e = refl
+gone_asks (PlainWhat.Move machine) w e = refl
+gone_asks _ w e = cc
 
 pub bag_gone : (r e : MsgId → ℕ) (s t : OneKernel) (id : MsgId) → step.step s (Label.Gone id) ≡ Some t → Sound r e s → BagStep e s t (Some id) (Some (answer_id id))
 bag_gone r e s t id is h =
     let (m, there, rest) = bind-is (s.bag id) (λ v. bind (step.why_ended (s.processes v.to)) (step.says_gone s id v)) t is in
     let (y, gone, last) = bind-is (step.why_ended (s.processes m.to)) (step.says_gone s id m) t rest in
-    let k = when-is (is_of_memory m.what) (with_sent (without_message s id) (Some (answer_to m PlainWhat.Gone))) t last in
-    answers_in r e s t (without_message s id) id m PlainWhat.Gone k.1 (λ i. refl) there (memory_asks m.what k.0) h
+    let (w, answer, end) = bind-is (service.gone_what m.what) (λ v. Some (with_sent (without_message s id) (Some (answer_to m v)))) t last in
+    answers_in r e s t (without_message s id) id m w (let f : with_sent (without_message s id) (Some (answer_to m w)) ≡ t = cc in f) (λ i. refl) there (gone_asks m.what w answer) h
+
+-- a process begins to follow a request: that goes; the answer to it enters where it ends
+follows_out : (e : MsgId → ℕ) (s t : OneKernel) (id : MsgId) (m : PlainMessage) (w : PlainWhat) → service.follows s id m w ≡ Some t → BagStep e s t (Some id) None
+follows_out e s t id m (PlainWhat.Move machine) is =
+    let u = with_note (without_message s id) m.to (record { id = id; asker = m.sender }) in
+    out_is e s t u id (let f : u ≡ t = cc in f) (λ i. refl)
+follows_out e s t id m _ is = cc
+
+pub bag_asked : (e : MsgId → ℕ) (s t : OneKernel) (id : MsgId) → step.step s (Label.Asked id) ≡ Some t → BagStep e s t (Some id) None
+bag_asked e s t id is =
+    let (m, there, rest) = bind-is (s.bag id) (λ v. bind (step.at_hand s v.to) (λ p. service.follows s id v v.what)) t is in
+    let (x, hand, last) = bind-is (step.at_hand s m.to) (λ p. service.follows s id m m.what) t rest in
+    follows_out e s t id m m.what last
+
+pub bag_answered : (r e : MsgId → ℕ) (s t : OneKernel) (id : MsgId) (o : Outcome) → step.step s (Label.Answered id o) ≡ Some t → Sound r e s → BagStep e s t None (Some (answer_id id))
+bag_answered r e s t id o is h =
+    let (p, noted, rest) = bind-is (s.noted id) (λ v. bind (s.notes v) (λ n. service.ends_move s id v n o)) t is in
+    let (n, notes, last) = bind-is (s.notes p) (λ v. service.ends_move s id p v o) t rest in
+    let a : PlainMessage = record { id = answer_id id; to = n.asker; sender = p; what = PlainWhat.Moved o } in
+    subst (λ v. BagStep e s v None (Some (answer_id id))) (ends_move-is s t id p n o last) (steps_in r e s (without_note s p id) None a (λ i. refl) (h.notes.followed id p noted).unanswered h.entered)
 
 no_room_in : (r e : MsgId → ℕ) (s t : OneKernel) (id : MsgId) (m : PlainMessage) (w : PlainWhat) → m.what ≡ w → s.bag id ≡ Some m → service.has_no_room s id m w ≡ Some t → Sound r e s → BagStep e s t (Some id) (Some (answer_id id))
 no_room_in r e s t id m (PlainWhat.Create image links) w there is h =
@@ -283,9 +305,10 @@ pub record ServedStep (e : MsgId → ℕ) (s t : OneKernel) (id : MsgId) : Type 
 
 pub bag_served : (r e : MsgId → ℕ) (s t : OneKernel) (id : MsgId) → step.step s (Label.Served id) ≡ Some t → Sound r e s → ServedStep e s t id
 bag_served r e s t id is h =
-    let (m, there, rest) = bind-is (s.bag id) (λ v. bind (step.alive (s.processes v.to)) (λ p. service.serves s id v p v.what)) t is in
-    let (x, alive, last) = bind-is (step.alive (s.processes m.to)) (λ p. service.serves s id m p m.what) t rest in
-    record { m = m; there = there; x = x; alive = alive-is (s.processes m.to) x alive; is = served_in r e s t id m x m.what refl there (alive-is (s.processes m.to) x alive) last h }
+    let (m, there, rest) = bind-is (s.bag id) (λ v. bind (step.at_hand s v.to) (λ p. service.serves s id v p v.what)) t is in
+    let (x, hand, last) = bind-is (step.at_hand s m.to) (λ p. service.serves s id m p m.what) t rest in
+    let (free, alive) = at_hand-is s m.to x hand in
+    record { m = m; there = there; x = x; alive = alive; is = served_in r e s t id m x m.what refl there alive last h }
 
 -- a server's message is fresh, if it sends one
 board_in : (r e : MsgId → ℕ) (s t : OneKernel) (id : MsgId) (k : board.BoardTook) (o : Option PlainMessage) → k.answer ≡ o → ServerSends switchboard s.switchboard.sent o k.switchboard.sent → with_sent (record (without_message s id) { switchboard = k.switchboard }) o ≡ t → Sound r e s

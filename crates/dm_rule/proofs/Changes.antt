@@ -1,7 +1,7 @@
 -- A step of the kernel without machines: where it leads, row by row. Whatever holds where each row leads holds where the step leads.
 use Rattle.dm_rule.proofs.Names.{◌≡◌, ℕ, ◌+◌, ◌==◌, ◌&&◌, Bool, true, false, take, drop, refl, ap, ◌∙◌, sym, subst, length, nat_le, if◌then◌else◌, slice_get, Option, None, Some, Pid, pid_of, pid_eq, MsgId, id_eq, Label, Reply, Why}
 use Rattle.dm_rule.proofs.Names.{reply_eq, why_eq, PlainMessage, PlainWhat, BootImage, first_number, switchboard, manager, bind, PlainProcess, PlainStatus, Ready, Alive, OneKernel, with_process, with_sent, without_message, answer_to}
-use Rattle.dm_rule.proofs.Names.{is_of_memory, plain_kind, bind-is, when-is, alive-is, Nexts, nexts, is_dropped, why_ended-is, Runs, Completing, completing, pending_of}
+use Rattle.dm_rule.proofs.Names.{plain_kind, bind-is, when-is, at_hand-is, Nexts, nexts, is_dropped, why_ended-is, Runs, Completing, completing, pending_of, Note, Outcome, with_note}
 use Rattle.dm_onekernel.specs.Kernel.{Ended}
 use Rattle.dm_onekernel.specs.Calls as calls
 use Rattle.dm_onekernel.specs.Manager as manage
@@ -17,10 +17,11 @@ pub record Next (s : OneKernel) (p : Pid) (next : kernel.Trap) : Type 0 where
   pub is : kernel.next_trap s p ≡ Some next
   pub so : Nexts s p next
 
--- a message of the bag, whose receiver lives
+-- a message of the bag, whose receiver lives, and follows no request to move
 pub record Lives (s : OneKernel) (id : MsgId) (m : PlainMessage) (x : PlainProcess) : Type 0 where
   pub there : s.bag id ≡ Some m
   pub alive : s.processes m.to ≡ Some (Alive x)
+  pub free : s.notes m.to ≡ None
 
 -- or has ended
 pub record Over (s : OneKernel) (id : MsgId) (m : PlainMessage) (y : Why) : Type 0 where
@@ -47,6 +48,12 @@ pub record Asked (s : OneKernel) (id : MsgId) (m : PlainMessage) (image : ℕ) (
   pub what : m.what ≡ PlainWhat.Create image links
   pub kernel : service.is_kernel s m.to ≡ true
 
+-- a process follows a request to move, whose end is said so
+pub record Follows (s : OneKernel) (id : MsgId) (o : Outcome) (p : Pid) (n : Note) : Type 0 where
+  pub noted : s.noted id ≡ Some p
+  pub notes : s.notes p ≡ Some n
+  pub ends : service.ends_move s id p n o ≡ Some (service.move_ended s id p n o)
+
 pub record Changes (P : OneKernel → Type 0) (s : OneKernel) (l : Label) : Type 0 where
   pub ran : (p : Pid) (k : ℕ) (x : PlainProcess) (m : kernel.Machine) → l ≡ Label.Ran p k → Runs s p x → P (kernel.goes_on s p (kernel.with_machine x m))
   pub replies : (p : Pid) (n k : ℕ) (c d : Reply) (y : PlainProcess) → l ≡ Label.Call p n c → Next s p (kernel.Calls k (calls.Replies d y)) → P (kernel.goes_on s p y)
@@ -57,7 +64,7 @@ pub record Changes (P : OneKernel → Type 0) (s : OneKernel) (l : Label) : Type
   pub receives : (p : Pid) (id : MsgId) (y : PlainProcess) → l ≡ Label.Receive p id → Completing s p id (receiving.Receives y) → kernel.completing s p id ≡ Some (receiving.Receives y) → P (kernel.goes_on (without_message s id) p y)
   pub refuses : (p : Pid) (id : MsgId) (c d : Reply) (y : PlainProcess) → l ≡ Label.Refuse p id c → Completing s p id (receiving.Refuses d y) → kernel.completing s p id ≡ Some (receiving.Refuses d y) → P (kernel.goes_on s p y)
   pub dropped : (id : MsgId) (m : PlainMessage) (y : Why) → l ≡ Label.Dropped id → Over s id m y → is_dropped m.what ≡ true → P (without_message s id)
-  pub gone : (id : MsgId) (m : PlainMessage) (y : Why) → l ≡ Label.Gone id → Over s id m y → is_of_memory m.what ≡ true → P (with_sent (without_message s id) (Some (answer_to m PlainWhat.Gone)))
+  pub gone : (id : MsgId) (m : PlainMessage) (y : Why) → l ≡ Label.Gone id → Over s id m y → (w : PlainWhat) → service.gone_what m.what ≡ Some w → P (with_sent (without_message s id) (Some (answer_to m w)))
   pub stops : (id : MsgId) (m : PlainMessage) (x : PlainProcess) (b : Bool) → l ≡ Label.Served id → Lives s id m x → Mild m → P (service.changed s id m (record x { stopped = b }))
   pub kills : (id : MsgId) (m : PlainMessage) (x : PlainProcess) → l ≡ Label.Served id → Lives s id m x → m.what ≡ PlainWhat.Kill → P (with_process (without_message s id) m.to (Ended Why.Killed))
   pub reads : (id : MsgId) (m : PlainMessage) (x : PlainProcess) (base len : ℕ) → l ≡ Label.Served id → Lives s id m x → m.what ≡ PlainWhat.Read base len → P (with_sent (service.changed s id m x) (Some (answer_to m (PlainWhat.Block (take len (drop base x.memory))))))
@@ -70,6 +77,8 @@ pub record Changes (P : OneKernel → Type 0) (s : OneKernel) (l : Label) : Type
   pub creates : (id : MsgId) (child : Pid) (m : PlainMessage) (image : ℕ) (links : _) (i : BootImage) → l ≡ Label.Created id child → Asked s id m image links → slice_get s.images image ≡ Some i → pid_eq child (pid_of m.to.home (first_number + s.made m.to.home)) ≡ true
       → P (with_sent (service.with_created (without_message s id) child i links) (Some (answer_to m (PlainWhat.Created child))))
   pub no_room : (id : MsgId) (a b : ℕ) (m : PlainMessage) (image : ℕ) (links : _) → l ≡ Label.NoSpace id a b → Asked s id m image links → P (with_sent (without_message s id) (Some (answer_to m PlainWhat.NoRoom)))
+  pub asked : (id : MsgId) (m : PlainMessage) (x : PlainProcess) (machine : ℕ) → l ≡ Label.Asked id → Lives s id m x → m.what ≡ PlainWhat.Move machine → P (with_note (without_message s id) m.to (record { id = id; asker = m.sender }))
+  pub answered : (id : MsgId) (o : Outcome) (p : Pid) (n : Note) → l ≡ Label.Answered id o → Follows s id o p n → P (service.move_ended s id p n o)
 
 given : (P : OneKernel → Type 0) (u t : OneKernel) → P u → Some u ≡ Some t → P t
 given P u t h e = let k : u ≡ t = cc in subst P k h
@@ -85,9 +94,10 @@ if_ready_is y _ x e = cc
 
 pub running_is : (s : OneKernel) (p : Pid) (x : PlainProcess) → kernel.running s p ≡ Some x → Runs s p x
 running_is s p x e =
-    let (y, is, ready) = bind-is (kernel.alive (s.processes p)) (λ v. kernel.if_ready v v.status) x e in
+    let (y, is, ready) = bind-is (kernel.at_hand s p) (λ v. kernel.if_ready v v.status) x e in
     let k = if_ready_is y y.status x ready in
-    record { alive = alive-is (s.processes p) x (is ∙ ap Some k.0); still = sym (ap (λ (v : PlainProcess). pending_of v.status) k.0) ∙ k.1 }
+    let (free, alive) = at_hand-is s p x (is ∙ ap Some k.0) in
+    record { alive = alive; still = sym (ap (λ (v : PlainProcess). pending_of v.status) k.0) ∙ k.1; free = free }
 
 replies_step : (P : OneKernel → Type 0) (s t : OneKernel) (p : Pid) (n : ℕ) (c : Reply) (next : kernel.Trap) → Changes P s (Label.Call p n c) → Next s p next → kernel.replies s p n c next ≡ Some t → P t
 replies_step P s t p n c (kernel.Calls k (calls.Replies d y)) h w e = subst P (when-is ((n == k) && reply_eq c d) (kernel.goes_on s p y) t e).1 (h.replies p n k c d y refl w)
@@ -170,6 +180,18 @@ no_room_step P s t id a b m (PlainWhat.Create image links) is h there e =
     subst P k.1 (h.no_room id a b m image links refl (record { there = there; what = is; kernel = k.0 }))
 no_room_step P s t id a b m _ is h there e = cc
 
+lives : (s : OneKernel) (id : MsgId) (m : PlainMessage) (x : PlainProcess) → s.bag id ≡ Some m → kernel.at_hand s m.to ≡ Some x → Lives s id m x
+lives s id m x there hand = let (free, alive) = at_hand-is s m.to x hand in record { there = there; alive = alive; free = free }
+
+follows_step : (P : OneKernel → Type 0) (s t : OneKernel) (id : MsgId) (m : PlainMessage) (x : PlainProcess) (w : PlainWhat) → m.what ≡ w → Changes P s (Label.Asked id) → Lives s id m x → service.follows s id m w ≡ Some t → P t
+follows_step P s t id m x (PlainWhat.Move machine) is h w e = given P (with_note (without_message s id) m.to (record { id = id; asker = m.sender })) t (h.asked id m x machine refl w is) e
+follows_step P s t id m x _ is h w e = cc
+
+move_ends_step : (P : OneKernel → Type 0) (s t : OneKernel) (id : MsgId) (p : Pid) (n : Note) (o : Outcome) → Changes P s (Label.Answered id o) → s.noted id ≡ Some p → s.notes p ≡ Some n → service.ends_move s id p n o ≡ Some t → P t
+move_ends_step P s t id p n Outcome.Ended h noted notes e = cc
+move_ends_step P s t id p n Outcome.Done h noted notes e = given P (service.move_ended s id p n Outcome.Done) t (h.answered id Outcome.Done p n refl (record { noted = noted; notes = notes; ends = refl })) e
+move_ends_step P s t id p n Outcome.Stayed h noted notes e = given P (service.move_ended s id p n Outcome.Stayed) t (h.answered id Outcome.Stayed p n refl (record { noted = noted; notes = notes; ends = refl })) e
+
 pub by_step : (P : OneKernel → Type 0) (s t : OneKernel) (l : Label) → Changes P s l → kernel.step s l ≡ Some t → P t
 by_step P s t (Label.Ran p k) h e =
     let (x, running, rest) = bind-is (kernel.running s p) (λ (w : PlainProcess). bind (kernel.plain_steps k (kernel.machine_of w)) (λ (m : kernel.Machine). Some (kernel.goes_on s p (kernel.with_machine w m)))) t e in
@@ -190,12 +212,20 @@ by_step P s t (Label.Dropped id) h e =
 by_step P s t (Label.Gone id) h e =
     let (m, there, rest) = bind-is (s.bag id) (λ v. bind (kernel.why_ended (s.processes v.to)) (kernel.says_gone s id v)) t e in
     let (y, over, last) = bind-is (kernel.why_ended (s.processes m.to)) (kernel.says_gone s id m) t rest in
-    let k = when-is (is_of_memory m.what) (with_sent (without_message s id) (Some (answer_to m PlainWhat.Gone))) t last in
-    subst P k.1 (h.gone id m y refl (record { there = there; ended = why_ended-is (s.processes m.to) y over }) k.0)
+    let (w, answer, end) = bind-is (service.gone_what m.what) (λ v. Some (with_sent (without_message s id) (Some (answer_to m v)))) t last in
+    given P (with_sent (without_message s id) (Some (answer_to m w))) t (h.gone id m y refl (record { there = there; ended = why_ended-is (s.processes m.to) y over }) w answer) end
 by_step P s t (Label.Served id) h e =
-    let (m, there, rest) = bind-is (s.bag id) (λ v. bind (kernel.alive (s.processes v.to)) (λ p. service.serves s id v p v.what)) t e in
-    let (x, alive, last) = bind-is (kernel.alive (s.processes m.to)) (λ p. service.serves s id m p m.what) t rest in
-    serves_step P s t id m x m.what refl h (record { there = there; alive = alive-is (s.processes m.to) x alive }) last
+    let (m, there, rest) = bind-is (s.bag id) (λ v. bind (kernel.at_hand s v.to) (λ p. service.serves s id v p v.what)) t e in
+    let (x, hand, last) = bind-is (kernel.at_hand s m.to) (λ p. service.serves s id m p m.what) t rest in
+    serves_step P s t id m x m.what refl h (lives s id m x there hand) last
 by_step P s t (Label.Took id) h e = let (m, there, rest) = bind-is (s.bag id) (service.takes s id) t e in takes_step P s t id m (pid_eq m.to switchboard) (pid_eq m.to manager) refl refl h there rest
 by_step P s t (Label.Created id child) h e = let (m, there, rest) = bind-is (s.bag id) (λ v. service.creates s id v child v.what) t e in creates_step P s t id m child m.what refl h there rest
 by_step P s t (Label.NoSpace id a b) h e = let (m, there, rest) = bind-is (s.bag id) (λ v. service.has_no_room s id v v.what) t e in no_room_step P s t id a b m m.what refl h there rest
+by_step P s t (Label.Asked id) h e =
+    let (m, there, rest) = bind-is (s.bag id) (λ v. bind (kernel.at_hand s v.to) (λ p. service.follows s id v v.what)) t e in
+    let (x, hand, last) = bind-is (kernel.at_hand s m.to) (λ p. service.follows s id m m.what) t rest in
+    follows_step P s t id m x m.what refl h (lives s id m x there hand) last
+by_step P s t (Label.Answered id o) h e =
+    let (p, noted, rest) = bind-is (s.noted id) (λ q. bind (s.notes q) (λ n. service.ends_move s id q n o)) t e in
+    let (n, notes, last) = bind-is (s.notes p) (λ n. service.ends_move s id p n o) t rest in
+    move_ends_step P s t id p n o h noted notes last

@@ -162,7 +162,7 @@ State-group b pt (Step.Turn m) w e fits h =
     let g = group_is b pt (Step.Turn m) w e in
     State-at None g.rest.point w.point g.point
     (turns_row b pt (moved pt (Line.Head (Step.Turn m)) pt.kernel) m (pt.view.inbox m) g.parts g.rest (begun pt (Step.Turn m) h (λ z. turn_off pt.view m z) (λ i. refl))
-    (record { within = fits.within; home = fits.home }) refl (record { kernel = refl; queue = λ q. refl; held = λ q. refl }) g.is g.said)
+    (record { within = fits.within; home = fits.home }) refl refl (record { kernel = refl; queue = λ q. refl; held = λ q. refl }) g.is g.said)
 State-group b pt (Step.Tick m) w e fits h =
     let g = group_is b pt (Step.Tick m) w e in
     let f : Says (Line.Resent m (rule.outstanding_count pt.view m pt.kernel.machines)) ∷ rule.resends pt.view m pt.kernel.machines ≡ g.parts = let k = g.is in cc in

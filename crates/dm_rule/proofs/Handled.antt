@@ -1,7 +1,8 @@
 -- What a turn says keeps that each message stands once.
 use Rattle.dm_rule.proofs.Names.{◌≡◌, ℕ, ◌+◌, ◌≤◌, ◌==◌, Bool, true, false, List, [], ◌∷◌, refl, ap, ◌∙◌, sym, subst, arith, length, if◌then◌else◌, slice_get, Option, None, Some, Pid, pid_eq, MsgId, Label, PlainMessage, PlainWhat, bind}
 use Rattle.dm_rule.proofs.Names.{OneKernel, Line, at_record, without_id, View, view_after, handled, receiver_of, Point, label_of, kernel_after, moved, Part, Says, Routes, Spelled, spelled, Spot, Queue, times, ids_at, id_eq-same, bind-is}
-use Rattle.dm_rule.proofs.Names.{Boot, BootImage, Why, first_number, switchboard, manager, PlainProcess, PlainStatus, Ready, Waiting, Moving, answer_id, pid_of, forwards_on, says, drop_parts, plain_kind, instruction}
+use Rattle.dm_rule.proofs.Names.{Boot, BootImage, Why, first_number, switchboard, manager, PlainProcess, PlainStatus, Ready, Waiting, Moving, answer_id, pid_of, forwards_on, says, drop_parts, plain_kind, instruction, NothingElse, Outcome}
+use Rattle.dm_rule.proofs.Names.{Target, answers_move, asked_to_move, leaves_for, machine_in, machine_of}
 use Rattle.dm_onekernel.specs.Step as kernel
 use Rattle.dm_rule.specs.View as view
 use Rattle.dm_rule.proofs.Lines.{Stands-queued, Stands-dequeued, without_counts}
@@ -13,13 +14,13 @@ use Rattle.dm_onekernel.specs.Receiving as receiving
 use Rattle.dm_onekernel.specs.Switchboard as board
 use Rattle.dm_onekernel.specs.Manager as manage
 use Rattle.dm_rule.specs.Rule as rule
-use Rattle.dm_rule.proofs.Bags.{served_id, landed_id, board_id, manager_id, took_id, id_in, bag_ran, bag_call, bag_sends, bag_wait, bag_out, bag_end, bag_receive, bag_refuse, bag_dropped, bag_served, bag_gone, bag_took, bag_created, bag_no_space}
+use Rattle.dm_rule.proofs.Bags.{served_id, landed_id, board_id, manager_id, took_id, id_in, bag_ran, bag_call, bag_sends, bag_wait, bag_out, bag_end, bag_receive, bag_refuse, bag_dropped, bag_served, bag_gone, bag_asked, bag_took, bag_created, bag_no_space}
 use Rattle.dm_rule.proofs.States.{State, says_next, said, State-at, by_label, by_line, PairsFit}
 use Rattle.dm_rule.proofs.Bags.{BagStep}
 use Rattle.dm_rule.proofs.Turns.{served_keeps, serving_off, created_off, quiet_label, front_label, dropped_off, dropped_told, front_unqueued, all_dropped, ended_off, gone_out}
 use Rattle.dm_rule.proofs.Letters.{letters, letter_of}
 use Rattle.dm_rule.proofs.Said.{fits_as, one_line, line_and_route}
-use Rattle.dm_rule.proofs.Moves.Rows.{held_row, forwards_row, hears_row, SeesSame}
+use Rattle.dm_rule.proofs.Moves.Rows.{held_row, forwards_row, hears_row, answers_row, asked_row, SeesSame}
 
 -- a message may enter by a line, and is routed if it does
 line_and_maybe : (pt : Point) (l : Line) (o : Option PlainMessage) (w : Spelled) → spelled pt (Says l ∷ rule.routes o) ≡ Some w → (view_after pt.view l).pair ≡ pt.view.pair → PairsFit pt.view
@@ -114,6 +115,24 @@ gone_row pt i is w h fits front e =
     line_and_route pt (Line.Label (Label.Gone i)) (answer_id i) w e refl fits
     (λ s k. front_label pt (Label.Gone i) s i is (Some (answer_id i)) h front k refl (bag_gone h.r h.e pt.kernel s i k h.sound) (λ z. refl) (λ j. refl))
 
+-- a process is asked to move: where it is already, that is answered at once, else it leaves
+asked_by : (pt : Point) (i : MsgId) (p : Pid) (to : ℕ) (same : Bool) (w : Spelled) → State None pt → PairsFit pt.view → pt.view.topic ≡ Target to → spelled pt (if same then answers_move i Outcome.Done else leaves_for p to) ≡ Some w → State None w.point
+asked_by pt i p to true w h fits topic e = answers_row pt i Outcome.Done w h fits e
+asked_by pt i p to false w h fits topic e = asked_row pt p to w h fits topic e
+
+pub asked_state : (pt : Point) (i : MsgId) (is : List MsgId) (s : OneKernel) → State None pt → pt.view.inbox pt.view.acting ≡ i ∷ is → kernel.step pt.kernel (Label.Asked i) ≡ Some s → State None (moved pt (Line.Label (Label.Asked i)) s)
+asked_state pt i is s h front k = front_label pt (Label.Asked i) s i is None h front k refl (bag_asked h.e pt.kernel s i k) (λ z. refl) (λ j. refl)
+
+asks_row : (pt : Point) (m : ℕ) (i : MsgId) (is : List MsgId) (msg : PlainMessage) (to : ℕ) (w : Spelled) → State None pt → PairsFit pt.view → pt.view.inbox pt.view.acting ≡ i ∷ is → pt.kernel.bag i ≡ Some msg → msg.what ≡ PlainWhat.Move to
+    → spelled pt (asked_to_move m i msg.to to) ≡ Some w → State None w.point
+asks_row pt m i is msg to w h fits front there what e =
+    let l = Label.Asked i in
+    let k = says_next pt (Line.Label l) (if m == to then answers_move i Outcome.Done else leaves_for msg.to to) w e in
+    let next = moved pt (Line.Label l) k.s in
+    let asked = asked_state pt i is k.s h front k.is in
+    let topic : next.view.topic ≡ Target to = ap machine_in there ∙ ap machine_of what in
+    State-at None k.rest.point w.point k.point (asked_by next i msg.to to (m == to) k.rest asked (fits_as pt.view next.view refl fits) topic k.more)
+
 dropped_row : (pt : Point) (i : MsgId) (is : List MsgId) (w : Spelled) → State None pt → pt.view.inbox pt.view.acting ≡ i ∷ is → spelled pt (says (Label.Dropped i) ∷ []) ≡ Some w → State None w.point
 dropped_row pt i is w h front e =
     one_line pt (Line.Label (Label.Dropped i)) w e
@@ -204,6 +223,7 @@ here_row o pt m i is msg x (PlainWhat.Write a b) parts w h fits front there aliv
 here_row o pt m i is msg x (PlainWhat.Block a) parts w h fits front there alive k queue e n = lands_row pt i is msg x (pieces.lands msg.to x msg x.status) parts w h fits front there alive (ap (served_id i msg x) k) e n
 here_row o pt m i is msg x PlainWhat.Written parts w h fits front there alive k queue e n = lands_row pt i is msg x (pieces.lands msg.to x msg x.status) parts w h fits front there alive (ap (served_id i msg x) k) e n
 here_row o pt m i is msg x PlainWhat.Gone parts w h fits front there alive k queue e n = lands_row pt i is msg x (pieces.lands msg.to x msg x.status) parts w h fits front there alive (ap (served_id i msg x) k) e n
+here_row o pt m i is msg x (PlainWhat.Move a) parts w h fits front there alive k queue e n = let f : asked_to_move m i msg.to a ≡ parts = cc in asks_row pt m i is msg a w h fits front there k (ap (spelled pt) f ∙ n)
 here_row o pt m i is msg x _ parts w h fits front there alive k queue e n = cc
 
 ended_row : (pt : Point) (i : MsgId) (is : List MsgId) (k : PlainWhat) (parts : List Part) (w : Spelled) → State None pt → PairsFit pt.view → pt.view.inbox pt.view.acting ≡ i ∷ is → rule.ended_handles i k ≡ Some parts → spelled pt parts ≡ Some w → State None w.point
@@ -212,7 +232,7 @@ ended_row pt i is (PlainWhat.Write a b) parts w h fits front e n = let f : says 
 ended_row pt i is (PlainWhat.Create a b) parts w h fits front e n = cc
 ended_row pt i is (PlainWhat.Created a) parts w h fits front e n = cc
 ended_row pt i is PlainWhat.NoRoom parts w h fits front e n = cc
-ended_row pt i is (PlainWhat.Move a) parts w h fits front e n = cc
+ended_row pt i is (PlainWhat.Move a) parts w h fits front e n = let f : says (Label.Gone i) ∷ Routes (answer_id i) ∷ [] ≡ parts = cc in gone_row pt i is w h fits front (ap (spelled pt) f ∙ n)
 ended_row pt i is (PlainWhat.Moved a) parts w h fits front e n = cc
 ended_row pt i is _ parts w h fits front e n = let f : says (Label.Dropped i) ∷ [] ≡ parts = cc in dropped_row pt i is w h front (ap (spelled pt) f ∙ n)
 
@@ -294,15 +314,15 @@ goes_round_row b o pt m (Some p) parts w h fits same queue e n =
     ap (λ s. rule.serves_status b.quantum s p (pt.view.queue pt.view.acting p) x x.status) (sym same) ∙ ap (λ q. rule.serves_status b.quantum o.kernel p q x x.status) (sym (queue p)) ∙ rest in
     serves_row pt b.quantum p x x.status parts w h fits here n
 
-comes_row : (b : Boot) (o pt : Point) (m : ℕ) (i : MsgId) (is : List MsgId) (t : Option PlainMessage) (parts : List Part) (w : Spelled) (h : State None pt) → PairsFit pt.view → pt.view.inbox pt.view.acting ≡ i ∷ is → SeesSame o pt m → o.kernel.bag i ≡ t
+comes_row : (b : Boot) (o pt : Point) (m : ℕ) (i : MsgId) (is : List MsgId) (t : Option PlainMessage) (parts : List Part) (w : Spelled) (h : State None pt) → PairsFit pt.view → pt.view.topic ≡ NothingElse → pt.view.inbox pt.view.acting ≡ i ∷ is → SeesSame o pt m → o.kernel.bag i ≡ t
     → rule.comes_to b o m i t ≡ Some parts → spelled pt parts ≡ Some w → State None w.point
-comes_row b o pt m i is None parts w h fits front sees there e n =
-    hears_row b o pt m i is (o.view.told i) parts w h fits front (ap (λ (s : OneKernel). s.bag i) (sym sees.kernel) ∙ there) sees e n
-comes_row b o pt m i is (Some msg) parts w h fits front sees there e n =
+comes_row b o pt m i is None parts w h fits topic front sees there e n =
+    hears_row b o pt m i is (o.view.told i) parts w h fits topic front (ap (λ (s : OneKernel). s.bag i) (sym sees.kernel) ∙ there) sees e n
+comes_row b o pt m i is (Some msg) parts w h fits topic front sees there e n =
     let here : pt.kernel.bag i ≡ Some msg = ap (λ (s : OneKernel). s.bag i) (sym sees.kernel) ∙ there in
     handles_by b o pt m i is msg (msg.to.num == 0) (pid_eq msg.to switchboard) (pid_eq msg.to manager) parts w h fits front here sees.kernel (sees.queue msg.to) refl refl e n
 
-pub turns_row : (b : Boot) (o pt : Point) (m : ℕ) (inbox : List MsgId) (parts : List Part) (w : Spelled) (h : State None pt) → PairsFit pt.view → pt.view.inbox pt.view.acting ≡ inbox → SeesSame o pt m
+pub turns_row : (b : Boot) (o pt : Point) (m : ℕ) (inbox : List MsgId) (parts : List Part) (w : Spelled) (h : State None pt) → PairsFit pt.view → pt.view.topic ≡ NothingElse → pt.view.inbox pt.view.acting ≡ inbox → SeesSame o pt m
     → rule.turns b o m inbox ≡ Some parts → spelled pt parts ≡ Some w → State None w.point
-turns_row b o pt m [] parts w h fits front sees e n = goes_round_row b o pt m (rule.first_runnable o.kernel (o.view.queue m) (o.view.ring m)) parts w h fits sees.kernel sees.queue e n
-turns_row b o pt m (i ∷ is) parts w h fits front sees e n = comes_row b o pt m i is (o.kernel.bag i) parts w h fits front sees refl e n
+turns_row b o pt m [] parts w h fits topic front sees e n = goes_round_row b o pt m (rule.first_runnable o.kernel (o.view.queue m) (o.view.ring m)) parts w h fits sees.kernel sees.queue e n
+turns_row b o pt m (i ∷ is) parts w h fits topic front sees e n = comes_row b o pt m i is (o.kernel.bag i) parts w h fits topic front sees refl e n

@@ -2,7 +2,7 @@
 use Rattle.dm_rule.proofs.Names.{◌≡◌, ℕ, ◌==◌, ◌||◌, Bool, true, false, List, [], ◌∷◌, ◌++◌, refl, ap, ◌∙◌, subst, length, ◌/◌, ⊤, if◌then◌else◌, Option, None, Some, Pid, pid_of, pid_eq, MsgId, MessageKind, Line, Stage, Boot, switchboard}
 use Rattle.dm_rule.proofs.Names.{manager, PlainProcess, Told, About, Of, Known, Unknown, Here, Frozen, Incoming, Forward, Ended, target_of, Point, Part, Says, Again, Owns, Addresses, Sender, is_told_back, place_told, to_kernel, forwards_on}
 use Rattle.dm_rule.proofs.Names.{moves_to, accepts, takes_chunk, takes_block, gives_piece, sends_on, leaves, kernel_told, chunks_of, pieces_of, updates, here_told, ended_told, process_told, server_told, fits, free_room, kernel_hears, hears}
-use Rattle.dm_rule.proofs.Names.{bind-is, behind_count}
+use Rattle.dm_rule.proofs.Names.{bind-is, behind_count, Label, Note, Outcome, Routes, answer_id, answers_move, tells_asker, leaves_for}
 use Rattle.dm_onekernel.specs.Step as kernel
 
 -- a process's messages go on, and it has left
@@ -19,7 +19,8 @@ pub record Leaves (o : Point) (m : ℕ) (k : MessageKind) (p : Pid) (ids : List 
 pub record Tells (P : List Part → Type 0) (o : Point) (m : ℕ) (id : MsgId) (k : MessageKind) (p : Pid) : Type 0 where
   pub accepted : k ≡ MessageKind.Ask → P (Says (Line.Migration Stage.Accepted p) ∷ to_kernel MessageKind.PullState id.from.home ∷ [])
   pub lacks : (slots blocks : ℕ) → P (Says (Line.Lacks p slots blocks) ∷ to_kernel MessageKind.Refuse id.from.home ∷ [])
-  pub stays : k ≡ MessageKind.Refuse → P (Says (Line.Stays p) ∷ [])
+  pub stays : k ≡ MessageKind.Refuse → o.kernel.notes p ≡ None → P (Says (Line.Stays p) ∷ [])
+  pub stays_asked : k ≡ MessageKind.Refuse → (n : Note) → o.kernel.notes p ≡ Some n → P (Says (Line.Stays p) ∷ answers_move n.id Outcome.Stayed)
   pub state : P (gives_piece id MessageKind.State)
   pub next_chunk : P (Says (Line.Proto id) ∷ to_kernel MessageKind.PullState id.from.home ∷ [])
   pub last_chunk : P (Says (Line.Migration Stage.StateTaken p) ∷ to_kernel MessageKind.PullBlock id.from.home ∷ [])
@@ -27,7 +28,8 @@ pub record Tells (P : List Part → Type 0) (o : Point) (m : ℕ) (id : MsgId) (
   pub next_block : P (Says (Line.Proto id) ∷ to_kernel MessageKind.PullBlock id.from.home ∷ [])
   pub last_block : P (Says (Line.Migration Stage.MemoryTaken p) ∷ to_kernel MessageKind.AllTaken id.from.home ∷ [])
   pub left : (ids : List MsgId) (to : ℕ) → Leaves o m k p ids to → P (left_parts id p ids to)
-  pub restarted : k ≡ MessageKind.Restart → P (Says (Line.Migration Stage.Restarted p) ∷ [])
+  pub restarted : k ≡ MessageKind.Restart → o.kernel.notes p ≡ None → P (Says (Line.Migration Stage.Restarted p) ∷ [])
+  pub restarted_asked : k ≡ MessageKind.Restart → (n : Note) → o.kernel.notes p ≡ Some n → P (Says (Line.Migration Stage.Restarted p) ∷ answers_move n.id Outcome.Done)
 
 -- what a machine knows of a receiver that is a process
 pub record At (o : Point) (m : ℕ) (t : Told) (k : Known) : Type 0 where
@@ -44,7 +46,7 @@ pub record Heard (P : List Part → Type 0) (o : Point) (m : ℕ) (id : MsgId) (
   pub coming : (from : ℕ) → At o m t (Incoming from) → P (Says (Line.Held id) ∷ [])
   pub forwarded : (to moves : ℕ) → At o m t (Forward to moves) → P (forwards_on o.addresses id t.kind manager to)
   pub stays_here : At o m t Here → P (Says (Line.Here id) ∷ [])
-  pub frozen : (to : ℕ) → At o m t Here → P (Says (Line.Migration Stage.Frozen t.receiver) ∷ Says (Line.Migration Stage.Asked t.receiver) ∷ to_kernel MessageKind.Ask to ∷ [])
+  pub frozen : (to : ℕ) → At o m t Here → P (leaves_for t.receiver to)
 
 given : (P : List Part → Type 0) (qs ps : List Part) → P qs → Some qs ≡ Some ps → P ps
 given P qs ps h e = let k : qs ≡ ps = cc in subst P k h
@@ -52,6 +54,11 @@ given P qs ps h e = let k : qs ≡ ps = cc in subst P k h
 by_test : (P : List Part → Type 0) (c : Bool) (ps qs : List Part) → P ps → P qs → P (if c then ps else qs)
 by_test P true ps qs h k = h
 by_test P false ps qs h k = k
+
+-- whoever asked for a move is told how it ended, if somebody asked
+by_asker : (P : List Part → Type 0) (l : Line) (r : Outcome) (q : Option Note) → (q ≡ None → P (Says l ∷ [])) → ((n : Note) → q ≡ Some n → P (Says l ∷ answers_move n.id r)) → P (Says l ∷ tells_asker q r)
+by_asker P l r None alone asked = alone refl
+by_asker P l r (Some n) alone asked = asked n refl
 
 by_leaves : (P : List Part → Type 0) (o : Point) (m : ℕ) (id : MsgId) (p : Pid) (ids : List MsgId) (k : Known) (ps : List Part) → ids ≡ o.view.queue m p ++ o.view.held m p → ((to : ℕ) → Leaves o m MessageKind.AllTaken p ids to → P (left_parts id p ids to)) → o.view.known m p ≡ k → leaves id p ids k ≡ Some ps → P ps
 by_leaves P o m id p ids (Frozen to) ps lists h is e = given P (left_parts id p ids to) ps (h to (record { kind = refl; known = is; lists = lists })) e
@@ -61,7 +68,8 @@ by_told : (P : List Part → Type 0) (o : Point) (m : ℕ) (id : MsgId) (p : Pid
 by_told P o m id p room x MessageKind.Ask ps h e =
     given P (accepts id.from.home p room.0 room.1 room.2) ps
     (by_test P room.0 (Says (Line.Migration Stage.Accepted p) ∷ to_kernel MessageKind.PullState id.from.home ∷ []) (Says (Line.Lacks p room.1 room.2) ∷ to_kernel MessageKind.Refuse id.from.home ∷ []) (h.accepted refl) (h.lacks room.1 room.2)) e
-by_told P o m id p room x MessageKind.Refuse ps h e = given P (Says (Line.Stays p) ∷ []) ps (h.stays refl) e
+by_told P o m id p room x MessageKind.Refuse ps h e =
+    given P (Says (Line.Stays p) ∷ tells_asker (o.kernel.notes p) Outcome.Stayed) ps (by_asker P (Line.Stays p) Outcome.Stayed (o.kernel.notes p) (h.stays refl) (h.stays_asked refl)) e
 by_told P o m id p room x MessageKind.PullState ps h e = given P (gives_piece id MessageKind.State) ps h.state e
 by_told P o m id p room x MessageKind.State ps h e =
     given P (takes_chunk id p (o.view.asked p == chunks_of x)) ps
@@ -71,7 +79,9 @@ by_told P o m id p room x MessageKind.Memory ps h e =
     given P (takes_block id p (o.view.asked p == pieces_of x)) ps
     (by_test P (o.view.asked p == pieces_of x) (Says (Line.Migration Stage.MemoryTaken p) ∷ to_kernel MessageKind.AllTaken id.from.home ∷ []) (Says (Line.Proto id) ∷ to_kernel MessageKind.PullBlock id.from.home ∷ []) h.last_block h.next_block) e
 by_told P o m id p room x MessageKind.AllTaken ps h e = by_leaves P o m id p (o.view.queue m p ++ o.view.held m p) (o.view.known m p) ps refl (h.left (o.view.queue m p ++ o.view.held m p)) refl e
-by_told P o m id p room x MessageKind.Restart ps h e = given P (Says (Line.Migration Stage.Restarted p) ∷ []) ps (h.restarted refl) e
+by_told P o m id p room x MessageKind.Restart ps h e =
+    let l = Line.Migration Stage.Restarted p in
+    given P (Says l ∷ tells_asker (o.kernel.notes p) Outcome.Done) ps (by_asker P l Outcome.Done (o.kernel.notes p) (h.restarted refl) (h.restarted_asked refl)) e
 by_told P o m id p room x _ ps h e = cc
 
 pub by_kernel : (P : List Part → Type 0) (b : Boot) (o : Point) (m : ℕ) (id : MsgId) (k : MessageKind) (a : About) (ps : List Part) → ((p : Pid) (x : PlainProcess) → a ≡ Of p → kernel.alive (o.kernel.processes p) ≡ Some x → Tells P o m id k p)
@@ -89,7 +99,7 @@ by_here : (P : List Part → Type 0) (o : Point) (m : ℕ) (id : MsgId) (t : Tol
 by_here P o m id t MessageKind.Migrate ps is h at_ e =
     let to = target_of (Some t) in
     given P (moves_to m id t.receiver to) ps
-    (by_test P (m == to) (Says (Line.Here id) ∷ []) (Says (Line.Migration Stage.Frozen t.receiver) ∷ Says (Line.Migration Stage.Asked t.receiver) ∷ to_kernel MessageKind.Ask to ∷ []) (h.stays_here at_) (h.frozen to at_)) e
+    (by_test P (m == to) (Says (Line.Here id) ∷ []) (leaves_for t.receiver to) (h.stays_here at_) (h.frozen to at_)) e
 by_here P o m id t MessageKind.Update ps is h at_ e = given P (updates o id t) ps (h.updated is) e
 by_here P o m id t _ ps is h at_ e = cc
 
@@ -132,12 +142,13 @@ IsHeardLine (Line.Forwarded i to) = ⊤
 IsHeardLine (Line.Here i) = ⊤
 IsHeardLine _ = ⊥
 
--- what each such line keeps, each message that goes on, and each that a kernel sends
+-- what each such line keeps, each message that goes on, and each that a kernel sends; and that a request is answered
 pub record Kept (P : List Part → Type 0) : Type 0 where
   pub none : P []
   pub says : (l : Line) (ps : List Part) → IsHeardLine l → P ps → P (Says l ∷ ps)
   pub again : (i : MsgId) (to : ℕ) (ps : List Part) → P ps → P (Again i to ∷ ps)
   pub owns : (k : MessageKind) (q : Pid) (to : ℕ) (ps : List Part) → P ps → P (Owns k q to ∷ ps)
+  pub answers : (i : MsgId) (r : Outcome) → P (answers_move i r)
 
 kept_on : (P : List Part → Type 0) → Kept P → (to : ℕ) (ids : List MsgId) (ps : List Part) → P ps → P (sends_on to ids ++ ps)
 kept_on P c to [] ps h = h
@@ -160,7 +171,8 @@ heard_kept P c o m id t =
       told = λ p x about alive. record {
         accepted = λ ask. two (Line.Migration Stage.Accepted p) MessageKind.PullState home tt;
         lacks = λ slots blocks. two (Line.Lacks p slots blocks) MessageKind.Refuse home tt;
-        stays = λ kind. one (Line.Stays p) tt;
+        stays = λ kind none. one (Line.Stays p) tt;
+        stays_asked = λ kind n is. c.says (Line.Stays p) (answers_move n.id Outcome.Stayed) tt (c.answers n.id Outcome.Stayed);
         state = two (Line.Proto id) MessageKind.State home tt;
         next_chunk = two (Line.Proto id) MessageKind.PullState home tt;
         last_chunk = two (Line.Migration Stage.StateTaken p) MessageKind.PullBlock home tt;
@@ -170,7 +182,8 @@ heard_kept P c o m id t =
         left = λ ids to frozen.
             (let end = Says (Line.Migration Stage.Left p) ∷ to_kernel MessageKind.Restart home ∷ [] in
             c.says (Line.SentOn p (length ids)) (sends_on to ids ++ end) tt (kept_on P c to ids end (two (Line.Migration Stage.Left p) MessageKind.Restart home tt)));
-        restarted = λ kind. one (Line.Migration Stage.Restarted p) tt;
+        restarted = λ kind none. one (Line.Migration Stage.Restarted p) tt;
+        restarted_asked = λ kind n is. c.says (Line.Migration Stage.Restarted p) (answers_move n.id Outcome.Done) tt (c.answers n.id Outcome.Done);
       };
       updated = λ kind. one (Line.Updated id (behind_count o.kernel o.addresses t.receiver (place_told t.about))) tt;
       updated_none = λ kind at_. one (Line.Updated id 0) tt;

@@ -14,8 +14,8 @@ pub mod Lines
 pub mod Parts
 pub mod Groups
 pub mod Turns
-use Rattle.dm_rule.proofs.Names.{◌≡◌, ℕ, true, refl, ap, ◌∙◌, sym, subst, slice_get, Option, None, Some, Pid, Place, PlainLink, link_at, MsgId, PlainMessage, PlainProcess, NamedLink, Pending, OneKernel, links_in, to_of, sender_of}
-use Rattle.dm_rule.proofs.Names.{enclosed_of, names, ascends, Addresses, Holder, Slot, Owner, Receiver, Sender, Enclosed, Child, Name, Answer, unmoved, link_target, slot_of, owner_in, owner_of, name_link, answer_link}
+use Rattle.dm_rule.proofs.Names.{◌≡◌, ℕ, true, refl, ap, ◌∙◌, sym, subst, slice_get, Option, None, Some, Pid, Place, PlainLink, link_at, MsgId, PlainMessage, PlainProcess, NamedLink, Pending, Note, OneKernel, links_in, to_of, sender_of}
+use Rattle.dm_rule.proofs.Names.{enclosed_of, names, ascends, Addresses, Holder, Slot, Owner, Receiver, Sender, Enclosed, Child, Name, Answer, AskedBy, unmoved, link_target, slot_of, owner_in, owner_of, name_link, answer_link, asker_in}
 use Rattle.dm_onekernel.specs.Manager as manage
 use Rattle.dm_onekernel.specs.Step as kernel
 
@@ -50,7 +50,8 @@ pub record AtHome (P : Pid → Place → Type 0) (s : OneKernel) (a : Addresses)
   pub messages : (i : MsgId) (m : PlainMessage) → s.bag i ≡ Some m → HomeMessage P a i m
   pub children : (n : ℕ) (q : Pid) → manage.child_numbered s.manager.children n ≡ Some q → P q (a (Child n))
   pub named : (n : ℕ) (k : NamedLink) → slice_get s.switchboard.names n ≡ Some k → P k.link.to (a (Name n))
-  pub answers : (n : ℕ) (r : Pending) → manage.pending_numbered n s.manager.pending ≡ Some r → P r.answer.to (a (Answer n))
+  pub answers : (n : ℕ) (r : Pending) (l : PlainLink) → manage.pending_numbered n s.manager.pending ≡ Some r → r.answer ≡ Some l → P l.to (a (Answer n))
+  pub askers : (p : Pid) (n : Note) → s.notes p ≡ Some n → P n.asker (a (AskedBy p))
   -- whoever never moved is at home
   pub rooted : (q : Pid) → P q (unmoved q.home)
   pub pending : ascends 0 s.manager.pending s.manager.sent ≡ true
@@ -61,13 +62,13 @@ HomesAre P s a = (h : Holder) (q : Pid) → names s h ≡ Some q → P q (a h)
 at_home_of : (P : Pid → Place → Type 0) (p q : Pid) (pl : Place) → Some p ≡ Some q → P p pl → P q pl
 at_home_of P p q pl e f = let k : p ≡ q = cc in pid_as P k f
 
-slot_home_of : (P : Pid → Place → Type 0) (a : Addresses) (p : Pid) (k : ℕ) (q : Pid) (o : Option PlainLink) → ((l : PlainLink) → o ≡ Some l → P l.to (a (Slot p k))) → link_target o ≡ Some q → P q (a (Slot p k))
-slot_home_of P a p k q None h e = cc
-slot_home_of P a p k q (Some l) h e = at_home_of P l.to q (a (Slot p k)) e (h l refl)
+link_home : (P : Pid → Place → Type 0) (pl : Place) (q : Pid) (o : Option PlainLink) → ((l : PlainLink) → o ≡ Some l → P l.to pl) → link_target o ≡ Some q → P q pl
+link_home P pl q None h e = cc
+link_home P pl q (Some l) h e = at_home_of P l.to q pl e (h l refl)
 
 slot_home : (P : Pid → Place → Type 0) (a : Addresses) (p : Pid) (k : ℕ) (q : Pid) (o : Option PlainProcess) → ((x : PlainProcess) → o ≡ Some x → HomeProcess P a p x) → link_target (slot_of o k) ≡ Some q → P q (a (Slot p k))
 slot_home P a p k q None h e = cc
-slot_home P a p k q (Some x) h e = slot_home_of P a p k q (link_at x.links k) (λ l f. (h x refl).slots k l f) e
+slot_home P a p k q (Some x) h e = link_home P (a (Slot p k)) q (link_at x.links k) (λ l f. (h x refl).slots k l f) e
 
 owner_home : (P : Pid → Place → Type 0) (a : Addresses) (p q : Pid) (o : Option PlainProcess) → ((x : PlainProcess) → o ≡ Some x → HomeProcess P a p x) → owner_of o ≡ Some q → P q (a (Owner p))
 owner_home P a p q None h e = cc
@@ -81,21 +82,21 @@ sender_home : (P : Pid → Place → Type 0) (a : Addresses) (i : MsgId) (q : Pi
 sender_home P a i q None h e = cc
 sender_home P a i q (Some m) h e = at_home_of P m.sender q (a (Sender i)) e (h m refl).sender
 
-enclosed_home_of : (P : Pid → Place → Type 0) (a : Addresses) (i : MsgId) (k : ℕ) (q : Pid) (o : Option PlainLink) → ((l : PlainLink) → o ≡ Some l → P l.to (a (Enclosed i k))) → link_target o ≡ Some q → P q (a (Enclosed i k))
-enclosed_home_of P a i k q None h e = cc
-enclosed_home_of P a i k q (Some l) h e = at_home_of P l.to q (a (Enclosed i k)) e (h l refl)
-
 enclosed_home : (P : Pid → Place → Type 0) (a : Addresses) (i : MsgId) (k : ℕ) (q : Pid) (o : Option PlainMessage) → ((m : PlainMessage) → o ≡ Some m → HomeMessage P a i m) → link_target (enclosed_of o k) ≡ Some q → P q (a (Enclosed i k))
 enclosed_home P a i k q None h e = cc
-enclosed_home P a i k q (Some m) h e = enclosed_home_of P a i k q (slice_get (links_in m.what) k) (λ l f. (h m refl).enclosed k l f) e
+enclosed_home P a i k q (Some m) h e = link_home P (a (Enclosed i k)) q (slice_get (links_in m.what) k) (λ l f. (h m refl).enclosed k l f) e
 
 name_home : (P : Pid → Place → Type 0) (a : Addresses) (n : ℕ) (q : Pid) (o : Option NamedLink) → ((k : NamedLink) → o ≡ Some k → P k.link.to (a (Name n))) → link_target (name_link o) ≡ Some q → P q (a (Name n))
 name_home P a n q None h e = cc
 name_home P a n q (Some k) h e = at_home_of P k.link.to q (a (Name n)) e (h k refl)
 
-answer_home : (P : Pid → Place → Type 0) (a : Addresses) (n : ℕ) (q : Pid) (o : Option Pending) → ((r : Pending) → o ≡ Some r → P r.answer.to (a (Answer n))) → link_target (answer_link o) ≡ Some q → P q (a (Answer n))
+answer_home : (P : Pid → Place → Type 0) (a : Addresses) (n : ℕ) (q : Pid) (o : Option Pending) → ((r : Pending) (l : PlainLink) → o ≡ Some r → r.answer ≡ Some l → P l.to (a (Answer n))) → link_target (answer_link o) ≡ Some q → P q (a (Answer n))
 answer_home P a n q None h e = cc
-answer_home P a n q (Some r) h e = at_home_of P r.answer.to q (a (Answer n)) e (h r refl)
+answer_home P a n q (Some r) h e = link_home P (a (Answer n)) q r.answer (λ l f. h r l refl f) e
+
+asker_home : (P : Pid → Place → Type 0) (a : Addresses) (p q : Pid) (o : Option Note) → ((n : Note) → o ≡ Some n → P n.asker (a (AskedBy p))) → asker_in o ≡ Some q → P q (a (AskedBy p))
+asker_home P a p q None h e = cc
+asker_home P a p q (Some n) h e = at_home_of P n.asker q (a (AskedBy p)) e (h n refl)
 
 pub homes_are : (P : Pid → Place → Type 0) (s : OneKernel) (a : Addresses) → AtHome P s a → HomesAre P s a
 homes_are P s a h (Slot p k) q e = slot_home P a p k q (kernel.alive (s.processes p)) (h.processes p) e
@@ -106,6 +107,7 @@ homes_are P s a h (Enclosed i k) q e = enclosed_home P a i k q (s.bag i) (h.mess
 homes_are P s a h (Child n) q e = h.children n q e
 homes_are P s a h (Name n) q e = name_home P a n q (slice_get s.switchboard.names n) (h.named n) e
 homes_are P s a h (Answer n) q e = answer_home P a n q (manage.pending_numbered n s.manager.pending) (h.answers n) e
+homes_are P s a h (AskedBy p) q e = asker_home P a p q (s.notes p) (h.askers p) e
 
 pub at_home : (P : Pid → Place → Type 0) (s : OneKernel) (a : Addresses) → ((q : Pid) → P q (unmoved q.home)) → HomesAre P s a → ascends 0 s.manager.pending s.manager.sent ≡ true → AtHome P s a
 at_home P s a rooted h numbers = record {
@@ -122,5 +124,6 @@ at_home P s a rooted h numbers = record {
   };
   children = λ n q e. h (Child n) q e;
   named = λ n k e. h (Name n) k.link.to (ap (λ (o : Option NamedLink). link_target (name_link o)) e);
-  answers = λ n r e. h (Answer n) r.answer.to (ap (λ (o : Option Pending). link_target (answer_link o)) e);
+  answers = λ n r l e f. h (Answer n) l.to (ap (λ (o : Option Pending). link_target (answer_link o)) e ∙ ap link_target f);
+  askers = λ p n e. h (AskedBy p) n.asker (ap asker_in e);
 }

@@ -1,6 +1,6 @@
 -- Only a put tells of a message, and counts a kernel's own.
-use Rattle.dm_rule.proofs.Names.{◌≡◌, ℕ, ◌+◌, ◌==◌, not, filter, Bool, true, false, refl, Option, None, Some, Pid, MsgId, MessageKind, Label, Step, Line, Stage, View, Told, About, Of, view_after, after_head, after_label, after_stage}
-use Rattle.dm_rule.proofs.Names.{after_proto, follows_up, asks_on, queued_for, held_for, dropped_for, forwarded_for, served_told, kills, receiver_of, taken_id, oldest, with_pair, handled}
+use Rattle.dm_rule.proofs.Names.{◌≡◌, ℕ, ◌+◌, ◌==◌, not, filter, Bool, true, false, refl, Option, None, Some, Pid, MsgId, MessageKind, Label, Step, Line, Stage, View, Told, About, Of, Target, sets_off, view_after, after_head, after_label}
+use Rattle.dm_rule.proofs.Names.{after_stage, after_proto, follows_up, asks_on, queued_for, held_for, dropped_for, forwarded_for, served_told, kills, receiver_of, taken_id, oldest, with_pair, handled}
 
 -- nothing is told or counted
 pub record Hushed (v w : View) : Type 0 where
@@ -64,7 +64,12 @@ label_hush v (Label.Dropped id) = let h = dropped_hush (handled v id) id (receiv
 label_hush v (Label.Served id) = let h = served_hush (handled v id) (v.told id) in record { count = h.count; told = h.told }
 label_hush v _ = record { count = refl; told = refl }
 
+sets_hush : (v : View) (p : Pid) (a : About) → Hushed v (sets_off v p a)
+sets_hush v p (Target m) = record { count = refl; told = refl }
+sets_hush v p _ = record { count = refl; told = refl }
+
 stage_hush : (v : View) (p : Pid) (s : Stage) → Hushed v (after_stage v p s)
+stage_hush v p Stage.Frozen = sets_hush v p v.topic
 stage_hush v p Stage.Asked = hush v
 stage_hush v p _ = record { count = refl; told = refl }
 

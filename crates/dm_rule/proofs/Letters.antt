@@ -57,16 +57,17 @@ in_first s t i go j is e = let (m, there, rest) = bind-is (s.bag i) go t is in r
 pub gone_in : (s t : OneKernel) (l : Label) (j : MsgId) → step.step s l ≡ Some t → out_of l ≡ Some j → InBag s j
 gone_in s t (Label.Receive p id) j is e =
     let (done, completing, last) = bind-is (step.completing s p id) (step.receives s p id) t is in
-    let (x, alive, more) = bind-is (step.alive (s.processes p)) (λ x. bind (s.bag id) (receiving.completes_with p x)) done completing in
+    let (x, alive, more) = bind-is (step.at_hand s p) (λ x. bind (s.bag id) (receiving.completes_with p x)) done completing in
     let (m, there, rest) = bind-is (s.bag id) (receiving.completes_with p x) done more in
     let f : id ≡ j = cc in
     record { message = m; there = ap s.bag (sym f) ∙ there }
 gone_in s t (Label.Dropped id) j is e = in_first s t id (λ m. bind (step.why_ended (s.processes m.to)) (step.drops s id m)) j is (let f : id ≡ j = cc in f)
-gone_in s t (Label.Served id) j is e = in_first s t id (λ m. bind (step.alive (s.processes m.to)) (λ p. service.serves s id m p m.what)) j is (let f : id ≡ j = cc in f)
+gone_in s t (Label.Served id) j is e = in_first s t id (λ m. bind (step.at_hand s m.to) (λ p. service.serves s id m p m.what)) j is (let f : id ≡ j = cc in f)
 gone_in s t (Label.Gone id) j is e = in_first s t id (λ m. bind (step.why_ended (s.processes m.to)) (step.says_gone s id m)) j is (let f : id ≡ j = cc in f)
 gone_in s t (Label.Took id) j is e = in_first s t id (service.takes s id) j is (let f : id ≡ j = cc in f)
 gone_in s t (Label.Created id p) j is e = in_first s t id (λ m. service.creates s id m p m.what) j is (let f : id ≡ j = cc in f)
 gone_in s t (Label.NoSpace id a b) j is e = in_first s t id (λ m. service.has_no_room s id m m.what) j is (let f : id ≡ j = cc in f)
+gone_in s t (Label.Asked id) j is e = in_first s t id (λ m. bind (step.at_hand s m.to) (λ p. service.follows s id m m.what)) j is (let f : id ≡ j = cc in f)
 gone_in s t _ j is e = cc
 
 -- a step, seen in the messages that are under way

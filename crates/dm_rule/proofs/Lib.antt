@@ -6,6 +6,7 @@ pub mod SettleWorked
 pub mod Standing
 pub mod Once
 pub mod Lines
+pub mod Seen
 pub mod Bags
 pub mod Letters
 pub mod Hushed

@@ -1,5 +1,5 @@
 -- A line is said, alone or before a message that is routed.
-use Rattle.dm_rule.proofs.Names.{◌≡◌, ℕ, ◌≤◌, [], ◌∷◌, sym, subst, length, None, Some, MsgId, OneKernel, Line, View, Pair, view_after, Point, label_of, kernel_after, moved, Says, Routes, Spelled, spelled}
+use Rattle.dm_rule.proofs.Names.{◌≡◌, ℕ, ◌≤◌, [], ◌∷◌, sym, subst, length, None, Some, MsgId, OneKernel, Line, View, Pair, view_after, Point, label_of, kernel_after, moved, seen, Says, Routes, Spelled, spelled}
 use Rattle.dm_rule.proofs.States.{State, says_next, said, State-at, PairsFit, routes_next}
 
 pub fits_as : (v w : View) → w.pair ≡ v.pair → PairsFit v → PairsFit w
@@ -19,5 +19,5 @@ pub line_and_route : (pt : Point) (l : Line) (i : MsgId) (w : Spelled) → spell
     → ((s : OneKernel) → kernel_after pt.kernel (label_of l) ≡ Some s → State (Some i) (moved pt l s)) → State None w.point
 line_and_route pt l i w e pair fits h =
     let k = says_next pt l (Routes i ∷ []) w e in
-    let n = routes_next (moved pt l k.s) i [] k.rest (h k.s k.is) (fits_as pt.view (view_after pt.view l) pair fits) k.more in
+    let n = routes_next (moved pt l k.s) i [] k.rest (h k.s k.is) (fits_as pt.view (seen pt.kernel pt.view l) pair fits) k.more in
     State-at None k.rest.point w.point k.point (State-at None n.rest.point k.rest.point n.point (State-at None n.next n.rest.point (said n.next n.rest n.more) n.stands))

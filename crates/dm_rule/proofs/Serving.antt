@@ -1,8 +1,10 @@
 -- A turn that serves a process, or handles a message of the bag: what comes of it, row by row. Whatever holds of the parts of each row holds of what comes of the turn.
 use Rattle.dm_rule.proofs.Names.{◌≡◌, ℕ, ◌+◌, ◌==◌, ◌||◌, Bool, true, false, List, [], ◌∷◌, refl, ap, ◌∙◌, subst, length, if◌then◌else◌, slice_get, Option, None, Some, Pid, pid_of, pid_eq, MsgId, MessageKind, Label, Reply, Why, plain_kind}
-use Rattle.dm_rule.proofs.Names.{PlainMessage, PlainWhat, instruction, BootImage, Boot, first_number, switchboard, manager, bind, PlainProcess, PlainStatus, Ready, Waiting, Moving, answer_id, machine_of, with_machine, Line, Known, Unknown}
-use Rattle.dm_rule.proofs.Names.{Here, Frozen, Incoming, Forward, Ended, Addresses, Sender, is_told_back, Point, Part, Says, Routes, Again, Owns, forwards_on, Room, says, drop_parts, called, stops, executes, ran, completion_parts}
+use Rattle.dm_rule.proofs.Names.{PlainMessage, PlainWhat, instruction, BootImage, Boot, first_number, switchboard, manager, bind, PlainProcess, PlainStatus, Ready, Waiting, Moving, answer_id, with_machine, Line, Known, Unknown, Here}
+use Rattle.dm_rule.proofs.Names.{Frozen, Incoming, Forward, Ended, Addresses, Sender, is_told_back, Point, Part, Says, Routes, Again, Owns, forwards_on, Room, says, drop_parts, called, stops, executes, ran, completion_parts}
 use Rattle.dm_rule.proofs.Names.{reception_parts, first_awaited, serves_status, goes_round, has_room, free_room, creation_parts, kernel_handles, routes, board_took, manager_parts, here_handles, ended_handles, process_handles, bind-is}
+use Rattle.dm_rule.proofs.Names.{Outcome, answers_move, asked_to_move, leaves_for, arith, nat_tests, sym}
+use Rattle.dm_onekernel.specs.Step.{machine_of}
 use Rattle.dm_onekernel.specs.Calls as calls
 use Rattle.dm_onekernel.specs.Pieces as pieces
 use Rattle.dm_onekernel.specs.Receiving as receiving
@@ -90,6 +92,8 @@ pub record Handles (P : List Part → Type 0) (o : Point) (m : ℕ) (id : MsgId)
   pub served : To o m msg Here → is_kill (plain_kind msg.what) ≡ false → P (says (Label.Served id) ∷ [])
   pub answers : To o m msg Here → is_kill (plain_kind msg.what) ≡ false → (i : MsgId) → P (says (Label.Served id) ∷ Routes i ∷ [])
   pub kills : To o m msg Here → is_kill (plain_kind msg.what) ≡ true → P (says (Label.Served id) ∷ drop_parts (o.view.queue m msg.to))
+  pub moved : To o m msg Here → msg.what ≡ PlainWhat.Move m → P (says (Label.Asked id) ∷ answers_move id Outcome.Done)
+  pub sets_off : (to : ℕ) → To o m msg Here → msg.what ≡ PlainWhat.Move to → (m == to) ≡ false → P (says (Label.Asked id) ∷ leaves_for msg.to to)
   pub gone : To o m msg Ended → P (says (Label.Gone id) ∷ Routes (answer_id id) ∷ [])
   pub dropped : To o m msg Ended → P (says (Label.Dropped id) ∷ [])
   pub leaving : (to : ℕ) → To o m msg (Frozen to) → P (Says (Line.Held id) ∷ [])
@@ -134,6 +138,12 @@ by_here P o m id msg x (PlainWhat.Write base bytes) ps is to h e = given P (says
 by_here P o m id msg x (PlainWhat.Block bytes) ps is to h e = let mild = ap (λ w. is_kill (plain_kind w)) is in by_lands P id (pieces.lands msg.to x msg x.status) ps (h.served to mild) (h.answers to mild) e
 by_here P o m id msg x PlainWhat.Written ps is to h e = let mild = ap (λ w. is_kill (plain_kind w)) is in by_lands P id (pieces.lands msg.to x msg x.status) ps (h.served to mild) (h.answers to mild) e
 by_here P o m id msg x PlainWhat.Gone ps is to h e = let mild = ap (λ w. is_kill (plain_kind w)) is in by_lands P id (pieces.lands msg.to x msg x.status) ps (h.served to mild) (h.answers to mild) e
+by_here P o m id msg x (PlainWhat.Move machine) ps is to h e =
+    given P (asked_to_move m id msg.to machine) ps (by_machine (m == machine) refl) e
+  where
+    by_machine : (c : Bool) → (m == machine) ≡ c → P (says (Label.Asked id) ∷ (if c then answers_move id Outcome.Done else leaves_for msg.to machine))
+    by_machine true same = let k : m ≡ machine = grind (arith, nat_tests) in h.moved to (is ∙ ap PlainWhat.Move (sym k))
+    by_machine false apart = h.sets_off machine to is apart
 by_here P o m id msg x _ ps is to h e = cc
 
 by_ended : (P : List Part → Type 0) (o : Point) (m : ℕ) (id : MsgId) (msg : PlainMessage) (w : PlainWhat) (ps : List Part) → To o m msg Ended → Handles P o m id msg → ended_handles id w ≡ Some ps → P ps
@@ -142,7 +152,7 @@ by_ended P o m id msg (PlainWhat.Write base bytes) ps to h e = given P (says (La
 by_ended P o m id msg (PlainWhat.Create image links) ps to h e = cc
 by_ended P o m id msg (PlainWhat.Created p) ps to h e = cc
 by_ended P o m id msg PlainWhat.NoRoom ps to h e = cc
-by_ended P o m id msg (PlainWhat.Move machine) ps to h e = cc
+by_ended P o m id msg (PlainWhat.Move machine) ps to h e = given P (says (Label.Gone id) ∷ Routes (answer_id id) ∷ []) ps (h.gone to) e
 by_ended P o m id msg (PlainWhat.Moved outcome) ps to h e = cc
 by_ended P o m id msg _ ps to h e = given P (says (Label.Dropped id) ∷ []) ps (h.dropped to) e
 
@@ -217,8 +227,8 @@ loose_round L c b o m q ps idle = by_round L b o m q ps idle (λ p x is alive. r
 
 -- a message of the bag, where only these rows say more
 pub loose_handles : (P L : List Part → Type 0) → Loose L → ((ps : List Part) → L ps → P ps) → (b : Boot) (o : Point) (m : ℕ) (id : MsgId) (msg : PlainMessage) (ps : List Part) → (To o m msg Here → P (Says (Line.Queued id) ∷ [])) → P (Says (Line.Held id) ∷ [])
-    → ((to moves : ℕ) → To o m msg (Forward to moves) → P (forwards_on o.addresses id (plain_kind msg.what) msg.sender to)) → rule.handles b o m id msg ≡ Some ps → P ps
-loose_handles P L c up b o m id msg ps queued held forwarded =
+    → ((to : ℕ) → To o m msg Here → msg.what ≡ PlainWhat.Move to → (m == to) ≡ false → P (says (Label.Asked id) ∷ leaves_for msg.to to)) → ((to moves : ℕ) → To o m msg (Forward to moves) → P (forwards_on o.addresses id (plain_kind msg.what) msg.sender to)) → rule.handles b o m id msg ≡ Some ps → P ps
+loose_handles P L c up b o m id msg ps queued held leaves forwarded =
     let one : (l : Label) → P (says l ∷ []) = λ l. up (says l ∷ []) (c.label l [] c.none) in
     let routed : (l : Label) (i : MsgId) → P (says l ∷ Routes i ∷ []) = λ l i. up (says l ∷ Routes i ∷ []) (c.label l (Routes i ∷ []) (c.routes i [] c.none)) in
     by_handles P b o m id msg ps (record {
@@ -229,6 +239,8 @@ loose_handles P L c up b o m id msg ps queued held forwarded =
       served = λ to mild. one (Label.Served id);
       answers = λ to mild i. routed (Label.Served id) i;
       kills = λ to kills. up (says (Label.Served id) ∷ drop_parts (o.view.queue m msg.to)) (c.label (Label.Served id) (drop_parts (o.view.queue m msg.to)) (loose_drops L c (o.view.queue m msg.to)));
+      moved = λ to is. up (says (Label.Asked id) ∷ answers_move id Outcome.Done) (c.label (Label.Asked id) (answers_move id Outcome.Done) (c.label (Label.Answered id Outcome.Done) (Routes (answer_id id) ∷ []) (c.routes (answer_id id) [] c.none)));
+      sets_off = leaves;
       gone = λ to. routed (Label.Gone id) (answer_id id);
       dropped = λ to. one (Label.Dropped id);
       leaving = λ n to. held;

@@ -1,12 +1,13 @@
 -- Each group keeps that each message stands once.
 use Rattle.dm_rule.proofs.Names.{◌≡◌, ℕ, ◌+◌, ◌≤◌, ◌==◌, Bool, true, false, List, [], ◌∷◌, refl, ap, ◌∙◌, sym, subst, arith, length, inl, inr, if◌then◌else◌, Option, None, Some, cases_Bool, nat_tests, Pid, MsgId, MessageKind, plain_kind}
-use Rattle.dm_rule.proofs.Names.{id_eq, PlainMessage, Label, bind, OneKernel, Line, Load, View, Told, view_after, Receiver, Point, label_of, kernel_after, moved, after_line, after, Part, Says, Routes, Transmits, Spelled, lines_of, puts}
-use Rattle.dm_rule.proofs.Names.{goes_out, packet_line, behind, spelled, Spot, Untaken, ids_at, entry, in_bag, reception, id_eq-is, id_eq-same, Sound, bind-is, after_step, false≢true, pid_of, id_of, at_machine, is_kernels}
+use Rattle.dm_rule.proofs.Names.{id_eq, PlainMessage, Label, bind, OneKernel, Line, Load, View, Told, view_after, Receiver, Point, label_of, kernel_after, moved, seen, after_line, after, Part, Says, Routes, Transmits, Spelled, lines_of}
+use Rattle.dm_rule.proofs.Names.{puts, goes_out, packet_line, behind, spelled, Spot, Untaken, ids_at, entry, in_bag, reception, id_eq-is, id_eq-same, Sound, bind-is, after_step, false≢true, pid_of, id_of, at_machine, is_kernels}
 use Rattle.dm_onekernel.specs.Step as kernel
 use Rattle.dm_rule.specs.View as view
 use Rattle.dm_rule.proofs.Hushed.{is_put, hushed}
 use Rattle.dm_rule.proofs.Letters.{letters, letters_step, letter_of, not_kernels}
 use Rattle.dm_rule.proofs.Lines.{Bag, hidden, hidden_off, having, Stands, Stands-same, Stands-stays, Stands-put-home, Stands-put-away, untold_tells, pair_keeps}
+use Rattle.dm_rule.proofs.Seen.{Stands-about}
 use Rattle.dm_rule.proofs.Bags.{BagStep}
 
 -- where a group has come: what is under way, but a message that is still to be routed, stands once
@@ -39,7 +40,8 @@ by_label pt l s out put h is gone bag stands told =
       r = λ i. h.r i + reception i l;
       e = λ i. h.e i + entry i pt.kernel s;
       sound = a.sound;
-      stands = Stands-same (hidden out (letters h.own pt.kernel.bag)) (hidden put (letters h.own s.bag)) (view_after pt.view (Line.Label l)) (letters_step h.e h.own pt.kernel s out put bag gone put_in) stands;
+      stands = Stands-about (hidden put (letters h.own s.bag)) (view_after pt.view (Line.Label l)) (seen pt.kernel pt.view (Line.Label l)).topic
+          (Stands-same (hidden out (letters h.own pt.kernel.bag)) (hidden put (letters h.own s.bag)) (view_after pt.view (Line.Label l)) (letters_step h.e h.own pt.kernel s out put bag gone put_in) stands);
       untold = λ i zero_ other. told i ∙ h.untold i (omega (arith, zero_)) other;
       pending = λ j k. told j ∙ h.untold j (bag.fresh j k) (put_in j k);
       there = bag.there;
@@ -53,7 +55,7 @@ by_line pend pt l quiet h stands told = record {
   r = h.r;
   e = h.e;
   sound = h.sound;
-  stands = stands;
+  stands = Stands-about (hidden pend (letters h.own pt.kernel.bag)) (view_after pt.view l) (seen pt.kernel pt.view l).topic stands;
   untold = λ i zero_ other. told i ∙ h.untold i zero_ other;
   pending = λ j k. told j ∙ h.pending j k;
   there = h.there;

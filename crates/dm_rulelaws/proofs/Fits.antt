@@ -5,5 +5,6 @@ pub mod Receives
 pub mod Steps
 pub mod Serves
 pub mod Creates
+pub mod Constants
 pub mod Servers
 pub mod Start

@@ -2,6 +2,7 @@
 use Rattle.dm_rulelaws.proofs.Names.{◌≡◌, ℕ, ◌+◌, List, [], ◌∷◌, ◌++◌, refl, ap, ◌∙◌, subst, Option, None, Some, MsgId, Boot, Label, OneKernel, bind, replay, entry, reception, after_step, start-sound, Sound, bind-is, Step, Line, Point}
 use Rattle.dm_rulelaws.proofs.Names.{first_point, label_of, labels, with_label, kernel_after, after_line, after, moved, Part, Spelled, spelled, group_of, Leads, KernelFits, FitsAlways, by_parts, by_group}
 use Rattle.dm_onekernel.specs.Step as kernel
+use Rattle.dm_rulelaws.proofs.Fits.Constants.{InOrder, step_constant}
 use Rattle.dm_rulelaws.proofs.Fits.Start.{fits_step, start_fits}
 
 -- one line
@@ -40,20 +41,20 @@ pub group_replay : (b : Boot) (pt : Point) (d : Step) (w : Spelled) → group_of
 group_replay b pt d w = by_group (λ v. replay pt.kernel (labels v.lines) ≡ Some v.point.kernel) b pt d w (λ ps rest is said. spelled_replay ps (moved pt (Line.Head d) pt.kernel) rest said)
 
 -- all fits wherever a run comes
-pub replay_fits : (ls : List Label) (r e : MsgId → ℕ) (s t : OneKernel) → replay s ls ≡ Some t → Sound r e s → KernelFits s → (r' : MsgId → ℕ) × (e' : MsgId → ℕ) × Sound r' e' t × KernelFits t
-replay_fits [] r e s t is h fits =
+pub replay_fits : (ls : List Label) (r e : MsgId → ℕ) (s t : OneKernel) → replay s ls ≡ Some t → Sound r e s → InOrder s.manager → KernelFits s → (r' : MsgId → ℕ) × (e' : MsgId → ℕ) × Sound r' e' t × InOrder t.manager × KernelFits t
+replay_fits [] r e s t is h order fits =
     let f : s ≡ t = cc in
-    (r, e, subst (Sound r e) f h, subst KernelFits f fits)
-replay_fits (l ∷ ls) r e s t is h fits =
+    (r, e, subst (Sound r e) f h, subst (λ (v : OneKernel). InOrder v.manager) f order, subst KernelFits f fits)
+replay_fits (l ∷ ls) r e s t is h order fits =
     let (u, first, rest) = bind-is (kernel.step s l) (λ (v : OneKernel). replay v ls) t is in
     let a = after_step r e s u l first h in
-    replay_fits ls (λ i. r i + reception i l) (λ i. e i + entry i s u) u t rest a.sound (fits_step r e s u l first h fits)
+    replay_fits ls (λ i. r i + reception i l) (λ i. e i + entry i s u) u t rest a.sound ((step_constant s u l first).pending order) (fits_step r e s u l first h order fits)
 
-fits_on : (b : Boot) (es : List Step) (pt end : Point) (r e : MsgId → ℕ) → Leads b pt es end → Sound r e pt.kernel → KernelFits pt.kernel → KernelFits end.kernel
-fits_on b [] pt end r e leads h fits = subst (λ (v : Point). KernelFits v.kernel) leads fits
-fits_on b (d ∷ ds) pt end r e (w, fit, is, more) h fits =
-    let (r', e', sound, on) = replay_fits (labels w.lines) r e pt.kernel w.point.kernel (group_replay b pt d w is) h fits in
-    fits_on b ds w.point end r' e' more sound on
+fits_on : (b : Boot) (es : List Step) (pt end : Point) (r e : MsgId → ℕ) → Leads b pt es end → Sound r e pt.kernel → InOrder pt.kernel.manager → KernelFits pt.kernel → KernelFits end.kernel
+fits_on b [] pt end r e leads h order fits = subst (λ (v : Point). KernelFits v.kernel) leads fits
+fits_on b (d ∷ ds) pt end r e (w, fit, is, more) h order fits =
+    let (r', e', sound, ordered, on) = replay_fits (labels w.lines) r e pt.kernel w.point.kernel (group_replay b pt d w is) h order fits in
+    fits_on b ds w.point end r' e' more sound ordered on
 
 pub fits_always : FitsAlways
-fits_always b es pt valid leads = fits_on b es (first_point b) pt (λ i. 0) (λ i. 0) leads (start-sound b valid) (start_fits b valid)
+fits_always b es pt valid leads = fits_on b es (first_point b) pt (λ i. 0) (λ i. 0) leads (start-sound b valid) refl (start_fits b valid)

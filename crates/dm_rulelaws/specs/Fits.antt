@@ -131,8 +131,8 @@ pub record NoteFits (s : OneKernel) (n : Note) : Type 0 where
   pub pending : IsPending s wanted.Move n.id
 
 -- the link for the answer to a pending request; one to make a process has it
-pub record PendingFits (s : OneKernel) (r : Pending) : Type 0 where
-  pub answer : SlotFits s.processes r.answer
+pub record PendingFits (ps : Lives) (r : Pending) : Type 0 where
+  pub answer : SlotFits ps r.answer
   pub making : r.kind ≡ wanted.Create → is_some r.answer ≡ true
 
 -- all of it
@@ -140,6 +140,6 @@ pub record KernelFits (s : OneKernel) : Type 0 where
   pub processes : (p : Pid) (x : PlainProcess) → s.processes p ≡ Some (Alive x) → ProcessFits s.processes x
   pub messages : (i : MsgId) (m : PlainMessage) → s.bag i ≡ Some m → WhatFits s i m m.what
   pub names : Each (λ (k : NamedLink). LinkFits s.processes k.link) s.switchboard.names
-  pub answers : Each (PendingFits s) s.manager.pending
+  pub answers : Each (PendingFits s.processes) s.manager.pending
   pub notes : (p : Pid) (n : Note) → s.notes p ≡ Some n → NoteFits s n
   pub children : Each (λ (p : Pid). has_bytes 0 (s.processes p) ≡ true) s.manager.children

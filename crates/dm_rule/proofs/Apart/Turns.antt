@@ -8,14 +8,20 @@ use Rattle.dm_rule.proofs.Requests.{by_migrates}
 use Rattle.dm_rule.proofs.Hearing.{IsHeardLine, hears_kept}
 use Rattle.dm_rule.proofs.Apart.Rows.{apart_of}
 
--- a kernel's own message is handled: no label
+-- a kernel's own message is handled: no label, but that a request to move is answered
 apart_line : (y : Pid) (l : Line) → IsHeardLine l → (z : OneKernel) → Spares z y (label_of l)
 apart_line y (Line.Label l) h z = absurd h
 apart_line y _ h z = tt
 
 hears_apart : (z : OneKernel) (y : Pid) (b : Boot) (o : Point) (m : ℕ) (id : MsgId) (q : Option Told) → ApartOf z y (rule.hears b o m id q)
 hears_apart z y b o m id q =
-    apart_of z y (rule.hears b o m id q) (λ ps e. apart_first z y ps (hears_kept (AllApart y) (record { none = tt; says = λ l ps h k. (apart_line y l h, k); again = λ i to ps k. (λ s. tt, k); owns = λ k q to ps h. (λ s. tt, h) }) b o m id q ps e))
+    apart_of z y (rule.hears b o m id q) (λ ps e. apart_first z y ps (hears_kept (AllApart y) (record {
+      none = tt;
+      says = λ l ps h k. (apart_line y l h, k);
+      again = λ i to ps k. (λ s. tt, k);
+      owns = λ k q to ps h. (λ s. tt, h);
+      answers = λ i r. (λ s. tt, (λ s. tt, tt));
+    }) b o m id q ps e))
 
 -- a turn
 other_is : (z : OneKernel) (y : Pid) (id : MsgId) (msg : PlainMessage) → z.bag id ≡ Some msg → msg.to ≢ y → ForOther z y id

@@ -147,7 +147,7 @@ user_sent P v a p x l over some is h =
         sender = ap (λ (c : Bool). if c then acting_place v p else given a (encloses id 0 ps) (Sender i)) e ∙ s.sender;
         enclosed = s.enclosed;
       };
-      servers = let s = encloses_servers a id 0 ps in record { child = s.child; name = s.name; answer = s.answer };
+      servers = let s = encloses_servers a id 0 ps in record { child = s.child; name = s.name; answer = s.answer; asked = s.asked };
     }
 
 sends_by : (P : Pid → Place → Type 0) (v : View) (a : Addresses) (p : Pid) (x : PlainProcess) (l : PlainLink) (b c d e : Bool) → d ≡ calls.any_empty x.links (calls.listed x) → link_at x.links (reg x.regs 1) ≡ Some l → P p (acting_place v p) → HomeProcess P a p x
@@ -188,7 +188,7 @@ move_sent P v a p m x y to there from none links owner is h = record {
     sender = ap (λ (c : Bool). if c then acting_place v p else a (Sender i)) e;
     enclosed = λ k. refl;
   };
-  servers = record { child = λ n. refl; name = λ n. refl; answer = λ n. refl };
+  servers = record { child = λ n. refl; name = λ n. refl; answer = λ n. refl; asked = λ q. refl };
 }
 
 begins_home : (P : Pid → Place → Type 0) (v : View) (a : Addresses) (p : Pid) (x : PlainProcess) (l : PlainLink) (dir : Direction) (base own left : ℕ) → link_at x.links (reg x.regs 1) ≡ Some l → P p (acting_place v p) → HomeProcess P a p x

@@ -1,7 +1,7 @@
 -- A group keeps all of it where its first part is said where it belongs.
 use Rattle.dm_rule.proofs.Names.{◌≡◌, ℕ, zero, suc, ◌+◌, ◌==◌, Bool, true, false, List, [], ◌∷◌, ◌++◌, length, refl, ap, ◌∙◌, sym, subst, ◌⊎◌, inl, inr, ⊤, if◌then◌else◌, Option, None, Some, Pid, MsgId, Boot, Label, OneKernel, bind}
 use Rattle.dm_rule.proofs.Names.{bind-is, Line, Load, View, Pair, queued_for, handled, Point, after, after_line, moved, Part, Says, Transmits, Spelled, behind, spelled, lines_of, slice_get, ◌-◌, nat_lt, pair_window, Step, actor, begins}
-use Rattle.dm_rule.proofs.Names.{marked, SentLoad, NothingElse, group_of, outcome, headed, IsStill}
+use Rattle.dm_rule.proofs.Names.{marked, SentLoad, NothingElse, group_of, outcome, headed, IsStill, AskNone}
 use Rattle.dm_rule.specs.View as view
 use Rattle.dm_rule.proofs.Homes.Labels.{SaidAt, RingsHome, rings_same}
 use Rattle.dm_rule.proofs.Homes.Lists.{stands, queue_lists}
@@ -13,9 +13,21 @@ use Rattle.dm_rule.proofs.Homes.Parts.{PartAnywhere, PartsAnywhere, parts_keep, 
 abbrev pub FirstGood : OneKernel → (MsgId → ℕ) → ℕ → Part → Type 0
 FirstGood s e m p = PartAnywhere m p ⊎ (((l : Label) × (p ≡ Says (Line.Label l)) × SaidAt s m l) ⊎ ((id : MsgId) × (p ≡ Says (Line.Queued id)) × (stands s e m id ≡ true)))
 
+-- then the parts of the group keep all of it; where the first says that a process is asked to move, nothing is claimed
 abbrev pub PartsGood : OneKernel → (MsgId → ℕ) → ℕ → List Part → Type 0
 PartsGood s e m [] = ⊤
-PartsGood s e m (p ∷ ps) = FirstGood s e m p × PartsAnywhere m ps
+PartsGood s e m (p ∷ ps) = (FirstGood s e m p × PartsAnywhere m ps) ⊎ ((id : MsgId) × (p ≡ Says (Line.Label (Label.Asked id))))
+
+-- no process is asked in the first of these lines
+ask_first : (ls ms : List Line) → AskNone (ls ++ ms) → AskNone ls
+ask_first [] ms h = tt
+ask_first (l ∷ ls) ms h = (h.0, ask_first ls ms h.1)
+
+not_asked : (pt : Point) (id : MsgId) (p : Part) (ls : List Line) → p ≡ Says (Line.Label (Label.Asked id)) → lines_of pt p ≡ Some ls → AskNone ls → ⊥
+not_asked pt id p ls is lines none =
+    let f : Some (Line.Label (Label.Asked id) ∷ []) ≡ Some ls = ap (lines_of pt) (sym is) ∙ lines in
+    let g : ls ≡ Line.Label (Label.Asked id) ∷ [] = cc in
+    (subst AskNone g none).0
 
 acting_queued : (v : View) (id : MsgId) (o : Option Pid) → (queued_for v id o).acting ≡ v.acting
 acting_queued v id None = refl
@@ -51,42 +63,49 @@ first_keeps none r e pt pt' p ls good h is next = elim good [
   ]
 ]
 
-good_keep : NoneReplaced → (ps : List Part) (r e : MsgId → ℕ) (m : ℕ) (pt : Point) (w : Spelled) → pt.view.acting ≡ m → PartsGood pt.kernel e m ps → Home r e pt → spelled pt ps ≡ Some w → Kept m w.point
-good_keep none [] r e m pt w acting at h is = parts_keep none [] r e m pt w acting tt h is
-good_keep none (p ∷ ps) r e m pt w acting at h is =
+good_keep : NoneReplaced → (ps : List Part) (r e : MsgId → ℕ) (m : ℕ) (pt : Point) (w : Spelled) → pt.view.acting ≡ m → PartsGood pt.kernel e m ps → Home r e pt → spelled pt ps ≡ Some w → AskNone w.lines → Kept m w.point
+good_keep none [] r e m pt w acting at h is ask = parts_keep none [] r e m pt w acting tt h is
+good_keep none (p ∷ ps) r e m pt w acting at h is ask =
     let (ls, lines, rest) = bind-is (lines_of pt p) (λ (xs : List Line). bind (after pt xs) (λ (q : Point). bind (spelled q ps) (λ (z : Spelled). Some (behind xs z)))) w is in
     let (next, comes, last) = bind-is (after pt ls) (λ (q : Point). bind (spelled q ps) (λ (z : Spelled). Some (behind ls z))) w rest in
     let (z, more, end) = bind-is (spelled next ps) (λ (y : Spelled). Some (behind ls y)) w last in
     let f : behind ls z ≡ w = cc in
-    let k = first_keeps none r e pt next p ls (subst (λ (n : ℕ). FirstGood pt.kernel e n p) (sym acting) at.0) h lines comes in
-    subst (λ (x : Spelled). Kept m x.point) f (parts_keep none ps k.r k.e m next z (k.acting ∙ acting) at.1 k.home more)
+    let first : AskNone ls = ask_first ls z.lines (subst (λ (x : Spelled). AskNone x.lines) (sym f) ask) in
+    elim at [
+      | inl good ↦
+          let k = first_keeps none r e pt next p ls (subst (λ (n : ℕ). FirstGood pt.kernel e n p) (sym acting) good.0) h lines comes in
+          subst (λ (x : Spelled). Kept m x.point) f (parts_keep none ps k.r k.e m next z (k.acting ∙ acting) good.1 k.home more)
+      | inr asked ↦ absurd (not_asked pt asked.0 p ls asked.1 lines first)
+    ]
 
 -- the head
 pub begun_home : (r e : MsgId → ℕ) (pt : Point) (m : ℕ) → Home r e pt → Home r e (record { kernel = pt.kernel; view = begins pt.view m NothingElse; addresses = pt.addresses })
 begun_home r e pt m h = record { sound = h.sound; at = h.at; rings = record { moves = h.rings.moves; ring = h.rings.ring; known = h.rings.known }; lists = record { inbox = h.lists.inbox; queue = h.lists.queue; untaken = h.lists.untaken } }
 
-spells : NoneReplaced → (r e : MsgId → ℕ) (m : ℕ) (begun : Point) (ps : List Part) (d : Step) (w : Spelled) → begun.view.acting ≡ m → PartsGood begun.kernel e m ps → Home r e begun → bind (spelled begun ps) (λ (z : Spelled). Some (headed (Line.Head d) z)) ≡ Some w → Kept m w.point
-spells none r e m begun ps d w acting good h is =
+spells : NoneReplaced → (r e : MsgId → ℕ) (m : ℕ) (begun : Point) (ps : List Part) (d : Step) (w : Spelled) → begun.view.acting ≡ m → PartsGood begun.kernel e m ps → Home r e begun
+    → bind (spelled begun ps) (λ (z : Spelled). Some (headed (Line.Head d) z)) ≡ Some w → AskNone w.lines → Kept m w.point
+spells none r e m begun ps d w acting good h is ask =
     let (z, more, end) = bind-is (spelled begun ps) (λ (y : Spelled). Some (headed (Line.Head d) y)) w is in
     let f : headed (Line.Head d) z ≡ w = cc in
-    subst (λ (x : Spelled). Kept m x.point) f (good_keep none ps r e m begun z acting good h more)
+    subst (λ (x : Spelled). Kept m x.point) f (good_keep none ps r e m begun z acting good h more (subst (λ (x : Spelled). AskNone x.lines) (sym f) ask).1)
 
 -- a group whose parts are good where the run stands
-pub group_keeps : NoneReplaced → (b : Boot) (r e : MsgId → ℕ) (pt : Point) (d : Step) (w : Spelled) → IsStill d → group_of b pt d ≡ Some w → Home r e pt → ((ps : List Part) → outcome b pt d ≡ Some ps → PartsGood pt.kernel e (actor d) ps) → Kept (actor d) w.point
-group_keeps none b r e pt (Step.Turn m) w still is h good =
+pub group_keeps : NoneReplaced → (b : Boot) (r e : MsgId → ℕ) (pt : Point) (d : Step) (w : Spelled) → IsStill d → group_of b pt d ≡ Some w → AskNone w.lines → Home r e pt
+    → ((ps : List Part) → outcome b pt d ≡ Some ps → PartsGood pt.kernel e (actor d) ps) → Kept (actor d) w.point
+group_keeps none b r e pt (Step.Turn m) w still is ask h good =
     let (ps, comes, rest) = bind-is (outcome b pt (Step.Turn m)) (λ (xs : List Part). bind (after_line pt (Line.Head (Step.Turn m))) (λ (q : Point). bind (spelled q xs) (λ (z : Spelled). Some (headed (Line.Head (Step.Turn m)) z)))) w is in
-    spells none r e m (moved pt (Line.Head (Step.Turn m)) pt.kernel) ps (Step.Turn m) w refl (good ps comes) (begun_home r e pt m h) rest
-group_keeps none b r e pt (Step.Tick m) w still is h good =
+    spells none r e m (moved pt (Line.Head (Step.Turn m)) pt.kernel) ps (Step.Turn m) w refl (good ps comes) (begun_home r e pt m h) rest ask
+group_keeps none b r e pt (Step.Tick m) w still is ask h good =
     let (ps, comes, rest) = bind-is (outcome b pt (Step.Tick m)) (λ (xs : List Part). bind (after_line pt (Line.Head (Step.Tick m))) (λ (q : Point). bind (spelled q xs) (λ (z : Spelled). Some (headed (Line.Head (Step.Tick m)) z)))) w is in
-    spells none r e m (moved pt (Line.Head (Step.Tick m)) pt.kernel) ps (Step.Tick m) w refl (good ps comes) (begun_home r e pt m h) rest
-group_keeps none b r e pt (Step.Deliver a c k) w still is h good =
+    spells none r e m (moved pt (Line.Head (Step.Tick m)) pt.kernel) ps (Step.Tick m) w refl (good ps comes) (begun_home r e pt m h) rest ask
+group_keeps none b r e pt (Step.Deliver a c k) w still is ask h good =
     let (ps, comes, rest) = bind-is (outcome b pt (Step.Deliver a c k)) (λ (xs : List Part). bind (after_line pt (Line.Head (Step.Deliver a c k))) (λ (q : Point). bind (spelled q xs) (λ (z : Spelled). Some (headed (Line.Head (Step.Deliver a c k)) z)))) w is in
     let v = begins pt.view c NothingElse in
     let begun = begun_home r e pt c h in
     let p = marked (pt.view.pair a c) k in
     spells none r e c (moved pt (Line.Head (Step.Deliver a c k)) pt.kernel) ps (Step.Deliver a c k) w refl (good ps comes)
-    (record { sound = h.sound; at = h.at; rings = rings_same v (view.with_pair v a c p) refl refl refl begun.rings; lists = same_lists pt.kernel e v a c p refl refl begun.lists }) rest
-group_keeps none b r e pt (Step.Migrate p m) w still is h good = absurd still
+    (record { sound = h.sound; at = h.at; rings = rings_same v (view.with_pair v a c p) refl refl refl begun.rings; lists = same_lists pt.kernel e v a c p refl refl begun.lists }) rest ask
+group_keeps none b r e pt (Step.Migrate p m) w still is ask h good = absurd still
 
 -- parts that may stand anywhere
 parts_append : (m : ℕ) (ps qs : List Part) → PartsAnywhere m ps → PartsAnywhere m qs → PartsAnywhere m (ps ++ qs)
@@ -126,17 +145,17 @@ arrives_good m a b p q (Some s) = comes_good m a b p q s.load
 
 pub anywhere_good : (s : OneKernel) (e : MsgId → ℕ) (m : ℕ) (ps : List Part) → PartsAnywhere m ps → PartsGood s e m ps
 anywhere_good s e m [] h = tt
-anywhere_good s e m (p ∷ ps) h = (inl h.0, h.1)
+anywhere_good s e m (p ∷ ps) h = inl (inl h.0, h.1)
 
-pub tick_keeps : NoneReplaced → (b : Boot) (r e : MsgId → ℕ) (pt : Point) (m : ℕ) (w : Spelled) → group_of b pt (Step.Tick m) ≡ Some w → Home r e pt → Kept m w.point
-tick_keeps none b r e pt m w is h =
-    group_keeps none b r e pt (Step.Tick m) w tt is h
+pub tick_keeps : NoneReplaced → (b : Boot) (r e : MsgId → ℕ) (pt : Point) (m : ℕ) (w : Spelled) → group_of b pt (Step.Tick m) ≡ Some w → AskNone w.lines → Home r e pt → Kept m w.point
+tick_keeps none b r e pt m w is ask h =
+    group_keeps none b r e pt (Step.Tick m) w tt is ask h
     (λ ps comes. let f : Says (Line.Resent m (rule.outstanding_count pt.view m pt.kernel.machines)) ∷ rule.resends pt.view m pt.kernel.machines ≡ ps = cc in
-    subst (PartsGood pt.kernel e m) f (inl tt, resends_good m m pt.view pt.kernel.machines))
+    subst (PartsGood pt.kernel e m) f (inl (inl tt, resends_good m m pt.view pt.kernel.machines)))
 
-pub deliver_keeps : NoneReplaced → (b : Boot) (r e : MsgId → ℕ) (pt : Point) (a c k : ℕ) (w : Spelled) → group_of b pt (Step.Deliver a c k) ≡ Some w → Home r e pt → Kept c w.point
-deliver_keeps none b r e pt a c k w is h =
-    group_keeps none b r e pt (Step.Deliver a c k) w tt is h
+pub deliver_keeps : NoneReplaced → (b : Boot) (r e : MsgId → ℕ) (pt : Point) (a c k : ℕ) (w : Spelled) → group_of b pt (Step.Deliver a c k) ≡ Some w → AskNone w.lines → Home r e pt → Kept c w.point
+deliver_keeps none b r e pt a c k w is ask h =
+    group_keeps none b r e pt (Step.Deliver a c k) w tt is ask h
     (λ ps comes. let parts = rule.arrives a c (pt.view.pair a c) (pt.view.pair c a) (slice_get (pt.view.pair a c).wire k) in
     let f : parts ≡ ps = cc in
     subst (PartsGood pt.kernel e c) f (anywhere_good pt.kernel e c parts (arrives_good c a c (pt.view.pair a c) (pt.view.pair c a) (slice_get (pt.view.pair a c).wire k))))

@@ -7,7 +7,7 @@ use Rattle.dm_rule.specs.View as view
 use Rattle.dm_rule.proofs.Homes.{IsHome, AtHome}
 use Rattle.dm_rule.proofs.Homes.Steps.{ran_home, call_home, send_home, wait_home, out_home, end_home}
 use Rattle.dm_rule.proofs.Homes.Receives.{receive_home, refuse_home}
-use Rattle.dm_rule.proofs.Homes.Serves.{Named, ReceivedAt, ServedAt, EndedAt, dropped_home, gone_home, no_space_home, served_home, created_home}
+use Rattle.dm_rule.proofs.Homes.Serves.{Named, ReceivedAt, ServedAt, EndedAt, dropped_home, gone_home, no_space_home, served_home, created_home, AnsweredAt, asked_home, answered_home}
 use Rattle.dm_rule.proofs.Homes.Manager.{took_home}
 
 -- a label is said where its process is at home, or where its message's receiver is
@@ -26,6 +26,8 @@ SaidAt s m (Label.Gone id) = ReceivedAt s m id
 SaidAt s m (Label.Took id) = ReceivedAt s m id
 SaidAt s m (Label.Created id child) = ReceivedAt s m id × (child.home ≡ m)
 SaidAt s m (Label.NoSpace id f b) = ReceivedAt s m id
+SaidAt s m (Label.Asked id) = ⊤
+SaidAt s m (Label.Answered id o) = (p : Pid) → s.noted id ≡ Some p → p.home ≡ m
 
 here_home : (v : View) (p : Pid) → ((q : Pid) → v.moves q ≡ 0) → p.home ≡ v.acting → acting_place v p ≡ unmoved p.home
 here_home v p still at = ap (λ (n : ℕ). record { at = v.acting; moves = n }) (still p) ∙ ap unmoved (sym at)
@@ -41,6 +43,7 @@ SaidOn P s v a (Label.Gone id) = EndedAt P s v a id
 SaidOn P s v a (Label.Took id) = ReceivedAt s v.acting id
 SaidOn P s v a (Label.Created id child) = ReceivedAt s v.acting id
 SaidOn P s v a (Label.NoSpace id f b) = ReceivedAt s v.acting id
+SaidOn P s v a (Label.Answered id o) = AnsweredAt P s v id
 SaidOn P s v a _ = ⊤
 
 -- each label keeps addresses where they may be
@@ -59,6 +62,8 @@ label_on P s t v a (Label.Gone id) is named at h = gone_home P s t v a id is nam
 label_on P s t v a (Label.Took id) is named at h = took_home P s t v a id is named at h
 label_on P s t v a (Label.Created id child) is named at h = created_home P s t v a id child is named at h
 label_on P s t v a (Label.NoSpace id f b) is named at h = no_space_home P s t v a id f b is named at h
+label_on P s t v a (Label.Asked id) is named at h = asked_home P s t v a id is h
+label_on P s t v a (Label.Answered id o) is named at h = answered_home P s t v a id o is at h
 
 -- as long as nothing moves
 said_home : (s : OneKernel) (v : View) (a : Addresses) (l : Label) → ((q : Pid) → v.moves q ≡ 0) → SaidAt s v.acting l → AtHome IsHome s a → SaidOn IsHome s v a l
@@ -72,6 +77,7 @@ said_home s v a (Label.Gone id) still at h = λ m there.
 said_home s v a (Label.Took id) still at h = at
 said_home s v a (Label.Created id child) still at h = at.0
 said_home s v a (Label.NoSpace id f b) still at h = at
+said_home s v a (Label.Answered id o) still at h = λ p noted. here_home v p still (at p noted)
 said_home s v a _ still at h = tt
 
 pub label_home : (s t : OneKernel) (v : View) (a : Addresses) (l : Label) → kernel.step s l ≡ Some t → Named s → ((q : Pid) → v.moves q ≡ 0) → SaidAt s v.acting l → AtHome IsHome s a → AtHome IsHome t (given a (gives s v a l))
@@ -174,4 +180,5 @@ label_rings s v (Label.Gone id) at h = handled_rings v id h
 label_rings s v (Label.Took id) at h = handled_rings v id h
 label_rings s v (Label.Created id p) at h = rings_set v (after_label v (Label.Created id p)) (v.ring v.acting ++ p ∷ []) refl refl (known_set v v.acting p Here refl h) (joins_home v.acting p (v.ring v.acting) at.1 (h.ring v.acting)) h
 label_rings s v (Label.NoSpace id f b) at h = handled_rings v id h
+label_rings s v (Label.Asked id) at h = handled_rings v id h
 label_rings s v _ at h = h

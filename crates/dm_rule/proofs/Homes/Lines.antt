@@ -2,7 +2,7 @@
 use Rattle.dm_rule.proofs.Names.{◌≡◌, ℕ, ◌+◌, ◌≤◌, ◌==◌, ◌&&◌, Bool, true, false, List, [], ◌∷◌, ◌++◌, length, drop, refl, ap, ◌∙◌, sym, subst, is_some, arith, nat_le, if◌then◌else◌, Option, None, Some, nat_tests, Pid, Place, MsgId}
 use Rattle.dm_rule.proofs.Names.{MessageKind, plain_kind, PlainMessage, Boot, Label, IsValid, OneKernel, entry, in_bag, reception, Sound, bind-is, after_step, start-sound, Line, Load, untaken, View, Pair, Told, after_label, after_put}
 use Rattle.dm_rule.proofs.Names.{handled, ◌||◌, pid_eq, PlainWhat, BootProcess, switchboard, manager, Known, Unknown, Here, known_at, Addresses, Receiver, Gets, given, own_gives, first_gives, addresses_after, Point, first_point, after}
-use Rattle.dm_rule.proofs.Names.{after_line, moved, Routes, lines_of, puts, packet_line, goes_out, Homes, is_for_home}
+use Rattle.dm_rule.proofs.Names.{after_line, moved, Routes, lines_of, puts, packet_line, goes_out, Homes, is_for_home, gives, topic_by, About}
 use Rattle.std.proofs.Common.{is_none}
 use Rattle.dm_onekernel.specs.Step as kernel
 use Rattle.dm_rule.specs.View as view
@@ -61,18 +61,28 @@ old_of (Some y) b e x entered once there same = ap Some (same y refl)
 old_of None None e x entered once there same = cc
 old_of None (Some z) e x entered once there same = absurd (let f : 1 ≤ e = grind (arith, nat_tests) in omega (arith, f, once))
 
+-- what a group is about changes none of it
+topic_home : (r e : MsgId → ℕ) (s : OneKernel) (v : View) (t : About) (a : Addresses) → Home r e (record { kernel = s; view = v; addresses = a }) → Home r e (record { kernel = s; view = view.about v t; addresses = a })
+topic_home r e s v t a h = record {
+  sound = h.sound;
+  at = h.at;
+  rings = record { moves = h.rings.moves; ring = h.rings.ring; known = h.rings.known };
+  lists = record { inbox = h.lists.inbox; queue = h.lists.queue; untaken = h.lists.untaken };
+}
+
 -- a label
 label_line : NoneReplaced → (r e : MsgId → ℕ) (pt : Point) (l : Label) (t : OneKernel) → kernel.step pt.kernel l ≡ Some t → SaidAt pt.kernel pt.view.acting l → Home r e pt
     → Home (λ i. r i + reception i l) (λ i. e i + entry i pt.kernel t) (moved pt (Line.Label l) t)
 label_line none r e pt l t is at h =
     let a = after_step r e pt.kernel t l is h.sound in
     let old : Old e pt.kernel t = λ i x entered there. old_of (pt.kernel.bag i) (t.bag i) (e i) x entered (a.sound.entered.once i) there (λ y was. none r e pt.kernel t l is h.sound i y x was there) in
-    record {
+    topic_home (λ i. r i + reception i l) (λ i. e i + entry i pt.kernel t) t (after_label pt.view l) (topic_by pt.kernel (after_label pt.view l).topic (Some l)) (given pt.addresses (gives pt.kernel pt.view pt.addresses l))
+    (record {
       sound = a.sound;
       at = label_home pt.kernel t pt.view pt.addresses l is h.sound.entered.named h.rings.moves at h.at;
       rings = label_rings pt.kernel pt.view l at h.rings;
       lists = lists_on pt.kernel t e (λ i. e i + entry i pt.kernel t) (after_label pt.view l) old (λ i. omega arith) (label_lists pt.kernel e pt.view l h.lists);
-    }
+    })
 
 acting_kills : (v : View) (k : MessageKind) (o : Option Pid) → (view.kills k v o).acting ≡ v.acting
 acting_kills v MessageKind.Kill (Some p) = refl

@@ -156,6 +156,7 @@ label_lists s e v (Label.Gone id) h = handled_lists s e v id h
 label_lists s e v (Label.Took id) h = handled_lists s e v id h
 label_lists s e v (Label.Created id p) h = let k = handled_lists s e v id h in record { inbox = k.inbox; queue = k.queue; untaken = k.untaken }
 label_lists s e v (Label.NoSpace id f b) h = handled_lists s e v id h
+label_lists s e v (Label.Asked id) h = handled_lists s e v id h
 label_lists s e v _ h = h
 
 -- queued

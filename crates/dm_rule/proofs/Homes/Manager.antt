@@ -1,14 +1,15 @@
 -- What the process manager does keeps addresses where they may be.
 use Rattle.dm_rule.proofs.Names.{◌≡◌, ℕ, zero, suc, ◌+◌, ◌==◌, ◌&&◌, Bool, true, false, List, [], ◌∷◌, ◌++◌, refl, ap, ◌∙◌, sym, subst, inl, inr, arith, nat_lt, length, if◌then◌else◌, slice_get, Option, None, Some, nat_tests, Pid, Place}
 use Rattle.dm_rule.proofs.Names.{pid_eq, PlainLink, MsgId, id_eq, id_of, Label, PlainMessage, PlainWhat, bind, OneKernel, without_message, id_eq-same, bind-is, View, Addresses, Gets, gets, given, gives, Receiver, Sender, Enclosed, unmoved}
-use Rattle.dm_rule.proofs.Names.{pid_of, ◌*◌, Pending, Manager, switchboard, manager, Child, Name, Answer, encloses, enclosed_from, board_gets, manager_sends, manager_answers, manager_gets, links_in, ascends}
+use Rattle.dm_rule.proofs.Names.{pid_of, ◌*◌, Pending, Manager, switchboard, manager, Child, Name, Answer, encloses, enclosed_from, board_gets, manager_sends, manager_answers, manager_gets, links_in, ascends, AskedBy, Outcome}
+use Rattle.dm_rule.proofs.Names.{code_of_outcome, PendingKind}
 use Rattle.dm_onekernel.specs.Step as kernel
 use Rattle.dm_rule.specs.Addresses as addresses
 use Rattle.dm_onekernel.specs.Service as service
 use Rattle.dm_onekernel.specs.Switchboard as board
 use Rattle.dm_onekernel.specs.Manager as manage
 use Rattle.dm_rule.proofs.Homes.{place_as, pid_as, acts_at, AtHome}
-use Rattle.dm_rule.proofs.Homes.Rows.{SameProcess, SameMessage, sent_home, at_home_out, process_same, encloses_servers, encloses_process, encloses_message, encloses_at}
+use Rattle.dm_rule.proofs.Homes.Rows.{SameProcess, SameMessage, sent_home, at_home_out, process_same, message_same, encloses_servers, encloses_process, encloses_message, encloses_at}
 use Rattle.dm_rule.proofs.Homes.Serves.{two, two_sends, Named, ReceivedAt}
 use Rattle.dm_rule.proofs.Homes.Servers.{get_last, ascends_more, ascends_last, ascends_without, numbered_from, pending_last, still_pending, board_row}
 
@@ -26,12 +27,12 @@ took_if P s v a id mid code false k l h j = j
 counted : (P : Pid → Place → Type 0) (s : OneKernel) (a : Addresses) (id : MsgId) → AtHome P s a → AtHome P (record (without_message s id) { manager = record s.manager { sent = s.manager.sent + 1 } }) a
 counted P s a id h =
     let u = at_home_out P s a id h in
-    record { processes = u.processes; messages = u.messages; children = u.children; named = u.named; answers = u.answers; rooted = u.rooted; pending = ascends_more s.manager.pending 0 s.manager.sent h.pending }
+    record { processes = u.processes; messages = u.messages; children = u.children; named = u.named; answers = u.answers; askers = u.askers; rooted = u.rooted; pending = ascends_more s.manager.pending 0 s.manager.sent h.pending }
 
 bad_home : (P : Pid → Place → Type 0) (s : OneKernel) (v : View) (a : Addresses) (id mid : MsgId) (code : ℕ) (links : List PlainLink) → LinksHome P a mid links → v.acting ≡ 0 → AtHome P s a → TookAt P s v a id mid code (manage.bad_request s.manager links)
 bad_home P s v a id mid code [] en at h =
     let u = at_home_out P s a id h in
-    record { processes = u.processes; messages = u.messages; children = u.children; named = u.named; answers = u.answers; rooted = u.rooted; pending = u.pending }
+    record { processes = u.processes; messages = u.messages; children = u.children; named = u.named; answers = u.answers; askers = u.askers; rooted = u.rooted; pending = u.pending }
 bad_home P s v a id mid code (l ∷ ls) en at h =
     let m = board.goes_over manager s.manager.sent l (2 ∷ []) [] in
     two_sends P (record (without_message s id) { manager = record s.manager { sent = s.manager.sent + 1 } }) a m (a (Enclosed mid 0)) (unmoved v.acting) (counted P s a id h) refl (en 0 l refl) (acts_at P manager v.acting (h.rooted manager) at)
@@ -40,6 +41,20 @@ pub enclosed_at : (a : Addresses) (id : MsgId) (n : ℕ) (ls : List PlainLink) (
 enclosed_at a id n [] k w e = cc
 enclosed_at a id n (l ∷ ls) zero w e = let f : n ≡ n + 0 = omega arith in ap (λ (i : ℕ). Some (a (Enclosed id i))) f
 enclosed_at a id n (l ∷ ls) (suc k) w e = let f : (n + 1) + k ≡ n + suc k = omega arith in enclosed_at a id (n + 1) ls k w e ∙ ap (λ (i : ℕ). Some (a (Enclosed id i))) f
+
+-- the first link of a message, which is kept with a request
+first_home : (P : Pid → Place → Type 0) (a : Addresses) (mid : MsgId) (links : List PlainLink) (w : PlainLink) → LinksHome P a mid links → manage.first_link links ≡ Some w → P w.to (a (Enclosed mid 0))
+first_home P a mid [] w en e = cc
+first_home P a mid (l ∷ ls) w en e = en 0 w e
+
+-- the links that are kept, once one more request is pending
+asked_answers : (P : Pid → Place → Type 0) (s : OneKernel) (a c : Addresses) (z : Pending) (pl : Place) → ((k : ℕ) → c (Answer k) ≡ a (Answer k)) → z.n ≡ s.manager.sent → ((l : PlainLink) → z.answer ≡ Some l → P l.to pl) → AtHome P s a
+    → (k : ℕ) (r : Pending) (w : PlainLink) → manage.pending_numbered k (s.manager.pending ++ z ∷ []) ≡ Some r → r.answer ≡ Some w → P w.to (if z.n == k then pl else c (Answer k))
+asked_answers P s a c z pl same count new h k r w e f =
+    elim (pending_last s.manager.pending k z r (λ q i. let g = (numbered_from s.manager.pending 0 s.manager.sent k q h.pending i).1 in let y : (z.n == k) ≡ false = grind (arith, nat_tests) in y) e) [
+      | inl g ↦ place_as P (ap (λ (d : Bool). if d then pl else c (Answer k)) g.0) (new w (ap (λ (v : Pending). v.answer) g.1 ∙ f))
+      | inr g ↦ place_as P (ap (λ (d : Bool). if d then pl else c (Answer k)) g.0 ∙ same k) (h.answers k r w g.1 f)
+    ]
 
 asks_for_home : (P : Pid → Place → Type 0) (s : OneKernel) (v : View) (a : Addresses) (id mid : MsgId) (code machine image : ℕ) (l : PlainLink) (ls : List PlainLink) → LinksHome P a mid (l ∷ ls) → v.acting ≡ 0 → AtHome P s a
     → TookAt P s v a id mid code (manage.asks_for s.manager machine image l ls)
@@ -54,6 +69,7 @@ asks_for_home P s v a id mid code machine image l ls en at h =
     let c = given a (encloses sent 0 ps) in
     let b = given c (gets (Receiver sent) to ∷ gets (Sender sent) from ∷ gets (Answer n) pl ∷ []) in
     let k = manage.asks_for s.manager machine image l ls in
+    let z : Pending = record { n = n; kind = PendingKind.Create; answer = Some l } in
     let m : PlainMessage = record { id = sent; to = pid_of machine 0; sender = manager; what = PlainWhat.Create image ls } in
     let t = record (without_message s id) { manager = k.manager } in
     let servers = encloses_servers a sent 0 ps in
@@ -72,12 +88,10 @@ asks_for_home P s v a id mid code machine image l ls en at h =
           });
       children = λ j q e. place_as P (servers.child j) (h.children j q e);
       named = λ j w e. place_as P (servers.name j) (h.named j w e);
-      answers = λ j r e. elim (pending_last s.manager.pending n j l r (λ q f. let g = (numbered_from s.manager.pending 0 n j q h.pending f).1 in let z : (n == j) ≡ false = grind (arith, nat_tests) in z) e) [
-        | inl g ↦ place_as P (ap (λ (d : Bool). if d then pl else c (Answer j)) g.0) (pid_as P (ap (λ (w : PlainLink). w.to) g.1) (en 0 l refl))
-        | inr g ↦ place_as P (ap (λ (d : Bool). if d then pl else c (Answer j)) g.0 ∙ servers.answer j) (h.answers j r g.1)
-      ];
+      answers = asked_answers P s a c z pl servers.answer refl (λ w e. first_home P a mid (l ∷ ls) w en e) h;
+      askers = λ q o e. place_as P (servers.asked q) (h.askers q o e);
       rooted = h.rooted;
-      pending = ascends_last s.manager.pending 0 n l h.pending;
+      pending = ascends_last s.manager.pending 0 z h.pending;
     }
 
 wants_home : (P : Pid → Place → Type 0) (s : OneKernel) (v : View) (a : Addresses) (id mid : MsgId) (code machine image : ℕ) (links : List PlainLink) → LinksHome P a mid links → v.acting ≡ 0 → AtHome P s a
@@ -108,16 +122,55 @@ control_by P s v a id mid code child false true d links to en at h = tells_home 
 control_by P s v a id mid code child false false true links to en at h = tells_home P s v a id code child PlainWhat.Kill refl to at h
 control_by P s v a id mid code child false false false links to en at h = bad_home P s v a id mid code links en at h
 
+-- a child is to move
+moves_home : (P : Pid → Place → Type 0) (s : OneKernel) (v : View) (a : Addresses) (id mid : MsgId) (code : ℕ) (child : Pid) (machine : ℕ) (links : List PlainLink) → P child (a (Child code)) → LinksHome P a mid links → v.acting ≡ 0 → AtHome P s a
+    → TookAt P s v a id mid code (manage.asks s.manager PendingKind.Move child (PlainWhat.Move machine) (manage.first_link links))
+moves_home P s v a id mid code child machine links to en at h =
+    let u = at_home_out P s a id h in
+    let n = s.manager.sent in
+    let z : Pending = record { n = n; kind = PendingKind.Move; answer = manage.first_link links } in
+    let pl = a (Enclosed mid 0) in
+    let b = given a (gets (Answer n) pl ∷ []) in
+    let k = manage.asks s.manager PendingKind.Move child (PlainWhat.Move machine) (manage.first_link links) in
+    let m : PlainMessage = record { id = id_of manager n; to = child; sender = manager; what = PlainWhat.Move machine } in
+    let kept : AtHome P (record (without_message s id) { manager = k.manager }) b = record {
+      processes = λ q x e. process_same P a b q x (record { slot = λ i. refl; owner = refl }) (u.processes q x e);
+      messages = λ i x e. message_same P a b i x (record { receiver = refl; sender = refl; enclosed = λ j. refl }) (u.messages i x e);
+      children = u.children;
+      named = u.named;
+      answers = asked_answers P s a a z pl (λ i. refl) refl (λ w e. first_home P a mid links w en e) h;
+      askers = u.askers;
+      rooted = h.rooted;
+      pending = ascends_last s.manager.pending 0 z h.pending;
+    } in
+    let w = two_sends P (record (without_message s id) { manager = k.manager }) b m (a (Child code)) (unmoved v.acting) kept refl to (acts_at P manager v.acting (h.rooted manager) at) in
+    record {
+      processes = λ q x there. let y = w.processes q x there in record { slots = y.slots; owner = y.owner };
+      messages = λ i x there. let y = w.messages i x there in record { receiver = y.receiver; sender = y.sender; enclosed = y.enclosed };
+      children = w.children;
+      named = w.named;
+      answers = w.answers;
+      askers = w.askers;
+      rooted = w.rooted;
+      pending = w.pending;
+    }
+
 controls_home : (P : Pid → Place → Type 0) (s : OneKernel) (v : View) (a : Addresses) (id mid : MsgId) (code : ℕ) (o : Option Pid) (body : List ℕ) (links : List PlainLink) → manage.child_numbered s.manager.children code ≡ o → LinksHome P a mid links → v.acting ≡ 0 → AtHome P s a
-    → TookAt P s v a id mid code (manage.controls s.manager o body links)
+    → TookAt P s v a id mid code (manage.controls s.manager s.machines o body links)
 controls_home P s v a id mid code (Some child) (op ∷ []) links is en at h = control_by P s v a id mid code child (op == 2) (op == 3) (op == 4) links (h.children code child is) en at h
+controls_home P s v a id mid code (Some child) (op ∷ machine ∷ []) links is en at h =
+    let k = manage.asks s.manager PendingKind.Move child (PlainWhat.Move machine) (manage.first_link links) in
+    let bad = bad_home P s v a id mid code links en at h in
+    took_if P s v a id mid code (op == 5) (manage.moves_child s.manager s.machines child machine links) (manage.bad_request s.manager links)
+    (took_if P s v a id mid code (nat_lt machine s.machines) k (manage.bad_request s.manager links) (moves_home P s v a id mid code child machine links (h.children code child is) en at h) bad) bad
 controls_home P s v a id mid code None (b ∷ []) links is en at h = bad_home P s v a id mid code links en at h
+controls_home P s v a id mid code None (b ∷ machine ∷ []) links is en at h = bad_home P s v a id mid code links en at h
 controls_home P s v a id mid code _ _ links is en at h = bad_home P s v a id mid code links en at h
 
 user_home : (P : Pid → Place → Type 0) (s : OneKernel) (v : View) (a : Addresses) (id mid : MsgId) (code : ℕ) (body : List ℕ) (links : List PlainLink) → LinksHome P a mid links → v.acting ≡ 0 → AtHome P s a
     → TookAt P s v a id mid code (manage.takes_user s.manager s.machines (length s.images) code body links)
 user_home P s v a id mid code body links en at h =
-    took_if P s v a id mid code (code == 0) (manage.requests_child s.manager s.machines (length s.images) body links) (manage.controls s.manager (manage.child_numbered s.manager.children code) body links)
+    took_if P s v a id mid code (code == 0) (manage.requests_child s.manager s.machines (length s.images) body links) (manage.controls s.manager s.machines (manage.child_numbered s.manager.children code) body links)
     (requests_home P s v a id mid code body links en at h) (controls_home P s v a id mid code (manage.child_numbered s.manager.children code) body links refl en at h)
 
 -- an answer about a child
@@ -130,16 +183,30 @@ enclosed_one P a sent pl ls h k w e =
     place_as P (ap (λ (c : Bool). if c then pl else a (Enclosed sent k)) same) f.1
 
 -- the manager goes on as g, and answers over the link of a request
-answers_home : (P : Pid → Place → Type 0) (s : OneKernel) (v : View) (a c : Addresses) (id : MsgId) (n : ℕ) (r : Pending) (g : Manager) (byte : ℕ) (ls : List PlainLink) → manage.pending_numbered n s.manager.pending ≡ Some r → v.acting ≡ 0 → AtHome P s a
+answers_home : (P : Pid → Place → Type 0) (s : OneKernel) (v : View) (a c : Addresses) (id : MsgId) (n : ℕ) (r : Pending) (g : Manager) (byte : ℕ) (ls : List PlainLink) (o : Option PlainLink) → r.answer ≡ o
+    → manage.pending_numbered n s.manager.pending ≡ Some r → v.acting ≡ 0 → AtHome P s a
     → ((k : ℕ) (w : PlainLink) → slice_get ls k ≡ Some w → (k ≡ 0) × (P w.to (unmoved v.acting))) → g.sent ≡ s.manager.sent → g.pending ≡ manage.without_pending n s.manager.pending
-    → ((q : Pid) → SameProcess a c q) → ((i : MsgId) → SameMessage a c i) → ((k : ℕ) → c (Name k) ≡ a (Name k)) → ((k : ℕ) → c (Answer k) ≡ a (Answer k)) → ((k : ℕ) (q : Pid) → manage.child_numbered g.children k ≡ Some q → P q (c (Child k)))
-    → AtHome P (service.manager_took s id (manage.answers_byte g r.answer byte ls)) (given c (gets (Receiver (id_of manager g.sent)) (a (Answer n)) ∷ gets (Sender (id_of manager g.sent)) (unmoved v.acting) ∷ gets (Enclosed (id_of manager g.sent) 0) (unmoved v.acting) ∷ []))
-answers_home P s v a c id n r g byte ls there at h one count pending process message name answer child =
+    → ((q : Pid) → SameProcess a c q) → ((i : MsgId) → SameMessage a c i) → ((k : ℕ) → c (Name k) ≡ a (Name k)) → ((k : ℕ) → c (Answer k) ≡ a (Answer k)) → ((q : Pid) → c (AskedBy q) ≡ a (AskedBy q))
+    → ((k : ℕ) (q : Pid) → manage.child_numbered g.children k ≡ Some q → P q (c (Child k)))
+    → AtHome P (service.manager_took s id (manage.answers_over g o byte ls)) (given c (manager_answers v a n (manage.answers_over g o byte ls).message))
+answers_home P s v a c id n r g byte ls None is there at h one count pending process message name answer asked child =
+    let u = at_home_out P s a id h in
+    record {
+      processes = λ q x e. process_same P a c q x (process q) (u.processes q x e);
+      messages = λ i x e. message_same P a c i x (message i) (u.messages i x e);
+      children = child;
+      named = λ k w e. place_as P (name k) (h.named k w e);
+      answers = λ k w l e f. place_as P (answer k) (h.answers k w l (still_pending s.manager.pending 0 s.manager.sent n k w h.pending (ap (manage.pending_numbered k) (sym pending) ∙ e)) f);
+      askers = λ q w e. place_as P (asked q) (h.askers q w e);
+      rooted = h.rooted;
+      pending = ap (λ (ps : List Pending). ascends 0 ps g.sent) pending ∙ ap (ascends 0 (manage.without_pending n s.manager.pending)) count ∙ ascends_without s.manager.pending 0 s.manager.sent n h.pending;
+    }
+answers_home P s v a c id n r g byte ls (Some over) is there at h one count pending process message name answer asked child =
     let sent = id_of manager g.sent in
     let from = unmoved v.acting in
     let to = a (Answer n) in
     let b = given c (gets (Receiver sent) to ∷ gets (Sender sent) from ∷ gets (Enclosed sent 0) from ∷ []) in
-    let m = board.goes_over manager g.sent r.answer (byte ∷ []) ls in
+    let m = board.goes_over manager g.sent over (byte ∷ []) ls in
     let u = at_home_out P s a id h in
     let t = record (without_message s id) { manager = record g { sent = g.sent + 1 } } in
     record {
@@ -151,13 +218,14 @@ answers_home P s v a c id n r g byte ls there at h one count pending process mes
             enclosed = λ k. ap (λ (d : Bool). if d && (0 == k) then from else c (Enclosed i k)) e ∙ w.enclosed k;
           })
           (record {
-            receiver = place_as P (ap (λ (d : Bool). if d then to else c (Receiver sent)) (id_eq-same sent)) (h.answers n r there);
+            receiver = place_as P (ap (λ (d : Bool). if d then to else c (Receiver sent)) (id_eq-same sent)) (h.answers n r over there is);
             sender = place_as P (ap (λ (d : Bool). if d then from else c (Sender sent)) (id_eq-same sent)) (acts_at P manager v.acting (h.rooted manager) at);
             enclosed = enclosed_one P c sent from ls one;
           });
       children = child;
       named = λ k w e. place_as P (name k) (h.named k w e);
-      answers = λ k w e. place_as P (answer k) (h.answers k w (still_pending s.manager.pending 0 s.manager.sent n k w h.pending (ap (manage.pending_numbered k) (sym pending) ∙ e)));
+      answers = λ k w l e f. place_as P (answer k) (h.answers k w l (still_pending s.manager.pending 0 s.manager.sent n k w h.pending (ap (manage.pending_numbered k) (sym pending) ∙ e)) f);
+      askers = λ q w e. place_as P (asked q) (h.askers q w e);
       rooted = h.rooted;
       pending = ap (λ (ps : List Pending). ascends 0 ps (g.sent + 1)) pending ∙ ap (λ (i : ℕ). ascends 0 (manage.without_pending n s.manager.pending) (i + 1)) count
           ∙ ascends_more (manage.without_pending n s.manager.pending) 0 s.manager.sent (ascends_without s.manager.pending 0 s.manager.sent n h.pending);
@@ -181,36 +249,58 @@ one_link : (P : Pid → Place → Type 0) (place : Place) (l : PlainLink) → P 
 one_link P place l at zero w e = let f : l ≡ w = cc in (refl, pid_as P (ap (λ (u : PlainLink). u.to) f) at)
 one_link P place l at (suc k) w e = absurd (let f : None ≡ Some w = e in cc)
 
+-- what the manager has told about a child comes last, but for the child that it adds
+over_child : (P : Pid → Place → Type 0) (t : OneKernel) (a : Addresses) (v : View) (n k : ℕ) (pl : Place) (g : Manager) (byte : ℕ) (ls : List PlainLink) (o : Option PlainLink)
+    → AtHome P t (given (given a (gets (Child k) pl ∷ [])) (manager_answers v a n (manage.answers_over g o byte ls).message)) → AtHome P t (given a (gets (Child k) pl ∷ manager_answers v a n (manage.answers_over g o byte ls).message))
+over_child P t a v n k pl g byte ls None w = w
+over_child P t a v n k pl g byte ls (Some l) w = record {
+  processes = λ q x there. let z = w.processes q x there in record { slots = z.slots; owner = z.owner };
+  messages = λ i x there. let z = w.messages i x there in record { receiver = z.receiver; sender = z.sender; enclosed = z.enclosed };
+  children = w.children;
+  named = w.named;
+  answers = w.answers;
+  askers = w.askers;
+  rooted = w.rooted;
+  pending = w.pending;
+}
+
 created_by : (P : Pid → Place → Type 0) (s : OneKernel) (v : View) (a : Addresses) (id : MsgId) (m : PlainMessage) (child : Pid) (o : Option Pending) (k : manage.ManagerTook) → manage.pending_numbered m.id.n s.manager.pending ≡ o → manage.takes_created s.manager m.id.n child o ≡ Some k
     → v.acting ≡ 0 → AtHome P s a → AtHome P (service.manager_took s id k) (given a (gets (Child (length s.manager.children + 1)) (unmoved child.home) ∷ manager_answers v a m.id.n k.message))
 created_by P s v a id m child None k is e at h = cc
 created_by P s v a id m child (Some r) k is e at h =
     let g = record s.manager { children = s.manager.children ++ child ∷ []; pending = manage.without_pending m.id.n s.manager.pending } in
     let l = manage.control_link (length s.manager.children + 1) in
-    let f : manage.answers_byte g r.answer 0 (l ∷ []) ≡ k = cc in
+    let t = manage.answers_over g r.answer 0 (l ∷ []) in
+    let f : t ≡ k = cc in
     let c = given a (gets (Child (length s.manager.children + 1)) (unmoved child.home) ∷ []) in
-    let w = answers_home P s v a c id m.id.n r g 0 (l ∷ []) is at h (one_link P (unmoved v.acting) l (acts_at P l.to v.acting (h.rooted l.to) at)) refl refl (λ q. record { slot = λ i. refl; owner = refl }) (λ i. record { receiver = refl; sender = refl; enclosed = λ j. refl }) (λ i. refl) (λ i. refl)
+    let w = answers_home P s v a c id m.id.n r g 0 (l ∷ []) r.answer refl is at h (one_link P (unmoved v.acting) l (acts_at P l.to v.acting (h.rooted l.to) at)) refl refl
+    (λ q. record { slot = λ i. refl; owner = refl }) (λ i. record { receiver = refl; sender = refl; enclosed = λ j. refl }) (λ i. refl) (λ i. refl) (λ q. refl)
     (λ n q there. child_last P s.manager.children child n q a (h.rooted child) h.children there) in
-    let u : AtHome P (service.manager_took s id (manage.answers_byte g r.answer 0 (l ∷ []))) (given a (gets (Child (length s.manager.children + 1)) (unmoved child.home) ∷ manager_answers v a m.id.n (manage.answers_byte g r.answer 0 (l ∷ [])).message)) =
-    record {
-      processes = λ q x there. let z = w.processes q x there in record { slots = z.slots; owner = z.owner };
-      messages = λ i x there. let z = w.messages i x there in record { receiver = z.receiver; sender = z.sender; enclosed = z.enclosed };
-      children = w.children;
-      named = w.named;
-      answers = w.answers;
-      rooted = w.rooted;
-      pending = w.pending;
-    } in
-    subst (λ (t : manage.ManagerTook). AtHome P (service.manager_took s id t) (given a (gets (Child (length s.manager.children + 1)) (unmoved child.home) ∷ manager_answers v a m.id.n t.message))) f u
+    subst (λ (t : manage.ManagerTook). AtHome P (service.manager_took s id t) (given a (gets (Child (length s.manager.children + 1)) (unmoved child.home) ∷ manager_answers v a m.id.n t.message))) f
+    (over_child P (service.manager_took s id t) a v m.id.n (length s.manager.children + 1) (unmoved child.home) g 0 (l ∷ []) r.answer w)
+
+-- a request has ended otherwise
+ended_by : (P : Pid → Place → Type 0) (s : OneKernel) (v : View) (a : Addresses) (id : MsgId) (n byte : ℕ) (r : Pending) (k : manage.ManagerTook) → manage.pending_numbered n s.manager.pending ≡ Some r
+    → manage.answers_over (record s.manager { pending = manage.without_pending n s.manager.pending }) r.answer byte [] ≡ k → v.acting ≡ 0 → AtHome P s a → AtHome P (service.manager_took s id k) (given a (manager_answers v a n k.message))
+ended_by P s v a id n byte r k is f at h =
+    let g = record s.manager { pending = manage.without_pending n s.manager.pending } in
+    let w = answers_home P s v a a id n r g byte [] r.answer refl is at h (λ i x there. absurd (let z : None ≡ Some x = there in cc)) refl refl
+    (λ q. record { slot = λ i. refl; owner = refl }) (λ i. record { receiver = refl; sender = refl; enclosed = λ j. refl }) (λ i. refl) (λ i. refl) (λ q. refl) h.children in
+    subst (λ (t : manage.ManagerTook). AtHome P (service.manager_took s id t) (given a (manager_answers v a n t.message))) f w
 
 no_room_by : (P : Pid → Place → Type 0) (s : OneKernel) (v : View) (a : Addresses) (id : MsgId) (n : ℕ) (o : Option Pending) (k : manage.ManagerTook) → manage.pending_numbered n s.manager.pending ≡ o → manage.takes_no_room s.manager n o ≡ Some k
     → v.acting ≡ 0 → AtHome P s a → AtHome P (service.manager_took s id k) (given a (manager_answers v a n k.message))
 no_room_by P s v a id n None k is e at h = cc
 no_room_by P s v a id n (Some r) k is e at h =
     let g = record s.manager { pending = manage.without_pending n s.manager.pending } in
-    let f : manage.answers_byte g r.answer 1 [] ≡ k = cc in
-    let w = answers_home P s v a a id n r g 1 [] is at h (λ i x there. absurd (let z : None ≡ Some x = there in cc)) refl refl (λ q. record { slot = λ i. refl; owner = refl }) (λ i. record { receiver = refl; sender = refl; enclosed = λ j. refl }) (λ i. refl) (λ i. refl) h.children in
-    subst (λ (t : manage.ManagerTook). AtHome P (service.manager_took s id t) (given a (manager_answers v a n t.message))) f w
+    ended_by P s v a id n 1 r k is (let f : manage.answers_over g r.answer 1 [] ≡ k = cc in f) at h
+
+moved_by : (P : Pid → Place → Type 0) (s : OneKernel) (v : View) (a : Addresses) (id : MsgId) (n : ℕ) (outcome : Outcome) (o : Option Pending) (k : manage.ManagerTook) → manage.pending_numbered n s.manager.pending ≡ o
+    → manage.takes_moved s.manager n outcome o ≡ Some k → v.acting ≡ 0 → AtHome P s a → AtHome P (service.manager_took s id k) (given a (manager_answers v a n k.message))
+moved_by P s v a id n outcome None k is e at h = cc
+moved_by P s v a id n outcome (Some r) k is e at h =
+    let g = record s.manager { pending = manage.without_pending n s.manager.pending } in
+    ended_by P s v a id n (code_of_outcome outcome) r k is (let f : manage.answers_over g r.answer (code_of_outcome outcome) [] ≡ k = cc in f) at h
 
 manager_row : (P : Pid → Place → Type 0) (s t : OneKernel) (v : View) (a : Addresses) (id : MsgId) (m : PlainMessage) (w : PlainWhat) → m.what ≡ w → m.id ≡ id → s.bag id ≡ Some m → v.acting ≡ 0 → AtHome P s a
     → bind (manage.manager_takes s.manager s.machines (length s.images) m w) (λ (k : manage.ManagerTook). Some (service.manager_took s id k)) ≡ Some t
@@ -233,6 +323,13 @@ manager_row P s t v a id m PlainWhat.NoRoom is name there at h e =
     let f : service.manager_took s id k ≡ t = cc in
     subst (λ (u : OneKernel). AtHome P u (given a (manager_gets s v a m PlainWhat.NoRoom o))) f
     (subst (λ (p : Option manage.ManagerTook). AtHome P (service.manager_took s id k) (given a (manager_gets s v a m PlainWhat.NoRoom p))) (sym took) (no_room_by P s v a id m.id.n (manage.pending_numbered m.id.n s.manager.pending) k refl took at h))
+manager_row P s t v a id m (PlainWhat.Moved outcome) is name there at h e =
+    let o = manage.takes_moved s.manager m.id.n outcome (manage.pending_numbered m.id.n s.manager.pending) in
+    let (k, took, last) = bind-is o (λ (x : manage.ManagerTook). Some (service.manager_took s id x)) t e in
+    let f : service.manager_took s id k ≡ t = cc in
+    subst (λ (u : OneKernel). AtHome P u (given a (manager_gets s v a m (PlainWhat.Moved outcome) o))) f
+    (subst (λ (p : Option manage.ManagerTook). AtHome P (service.manager_took s id k) (given a (manager_gets s v a m (PlainWhat.Moved outcome) p))) (sym took)
+    (moved_by P s v a id m.id.n outcome (manage.pending_numbered m.id.n s.manager.pending) k refl took at h))
 manager_row P s t v a id m _ is name there at h e = cc
 
 takes_by : (P : Pid → Place → Type 0) (s t : OneKernel) (v : View) (a : Addresses) (id : MsgId) (m : PlainMessage) (b c : Bool) → pid_eq m.to switchboard ≡ b → pid_eq m.to manager ≡ c → m.id ≡ id → s.bag id ≡ Some m → m.to.home ≡ v.acting → AtHome P s a

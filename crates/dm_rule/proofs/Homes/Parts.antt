@@ -26,6 +26,8 @@ said_at s m (Label.Gone id) h = absurd h
 said_at s m (Label.Took id) h = absurd h
 said_at s m (Label.Created id child) h = absurd h
 said_at s m (Label.NoSpace id f b) h = absurd h
+said_at s m (Label.Asked id) h = absurd h
+said_at s m (Label.Answered id o) h = absurd h
 said_at s m _ h = h
 
 -- lines that may stand anywhere in a group

@@ -2,7 +2,7 @@
 use Rattle.dm_rule.proofs.Names.{◌≡◌, ℕ, zero, suc, ◌+◌, ◌==◌, ◌&&◌, Bool, true, false, List, [], ◌∷◌, ◌++◌, refl, ap, ◌∙◌, sym, subst, inl, inr, arith, nat_lt, length, if◌then◌else◌, cond, slice_get, slice_set, is_none, position_or_len}
 use Rattle.dm_rule.proofs.Names.{Option, None, Some, cases_Bool, false≢true, nat_tests, Pid, Place, pid_eq, PlainLink, first_empty, link_at, MsgId, Label, PlainMessage, PlainWhat, on_mask, Regs, Reply, reply_eq, reply_code, bind}
 use Rattle.dm_rule.proofs.Names.{PlainProcess, PlainStatus, Ready, Waiting, setting, Alive, OneKernel, first_failed, without_message, pid_eq-same, bind-is, when-is, View, Addresses, Gets, given, gives, Slot, Enclosed, fills, receives_links}
-use Rattle.dm_rule.proofs.Names.{receives_what, slot_after, links_in}
+use Rattle.dm_rule.proofs.Names.{receives_what, slot_after, links_in, at_hand-is}
 use Rattle.dm_onekernel.specs.Receiving as receiving
 use Rattle.dm_onekernel.specs.Step as kernel
 use Rattle.dm_rule.specs.Addresses as addresses
@@ -100,7 +100,7 @@ only_more a p None place gs h = h
 only_more a p (Some slot) place gs h = record {
   others = λ q e. let w = h.others q e in record { slot = λ k. ap (λ (c : Bool). if c && (slot == k) then place else given a gs (Slot q k)) e ∙ w.slot k; owner = w.owner };
   messages = λ i. let w = h.messages i in record { receiver = w.receiver; sender = w.sender; enclosed = w.enclosed };
-  servers = let w = h.servers in record { child = w.child; name = w.name; answer = w.answer };
+  servers = let w = h.servers in record { child = w.child; name = w.name; answer = w.answer; asked = w.asked };
 }
 
 pub only_receives : (a : Addresses) (p : Pid) (id : MsgId) (ls : List PlainLink) (n : ℕ) (slots : List (Option PlainLink)) → OnlySlots a (given a (receives_links a p id n slots ls)) p
@@ -163,7 +163,8 @@ record Completing (P : Pid → Place → Type 0) (s : OneKernel) (a : Addresses)
 
 completing_home : (P : Pid → Place → Type 0) (s : OneKernel) (a : Addresses) (p : Pid) (id : MsgId) (d : receiving.Completed) → AtHome P s a → kernel.completing s p id ≡ Some d → Completing P s a p id d
 completing_home P s a p id d h e =
-    let (x, alive, rest) = bind-is (kernel.alive (s.processes p)) (λ (y : PlainProcess). bind (s.bag id) (receiving.completes_with p y)) d e in
+    let (x, hand, rest) = bind-is (kernel.at_hand s p) (λ (y : PlainProcess). bind (s.bag id) (receiving.completes_with p y)) d e in
+    let alive : kernel.alive (s.processes p) ≡ Some x = ap kernel.alive (at_hand-is s p x hand).1 in
     let (m, there, last) = bind-is (s.bag id) (receiving.completes_with p x) d rest in
     let hm = h.messages id m there in
     record {

@@ -1,7 +1,7 @@
 -- What processes do keeps addresses where they may be.
 use Rattle.dm_rule.proofs.Names.{◌≡◌, ℕ, zero, suc, ◌+◌, ◌==◌, ◌&&◌, Bool, true, false, List, [], ◌∷◌, refl, ap, ◌∙◌, sym, subst, inl, inr, arith, if◌then◌else◌, slice_get, None, Some, cases_Bool, nat_tests, Pid, Place, pid_eq, MsgId}
 use Rattle.dm_rule.proofs.Names.{id_eq, PlainMessage, PlainProcess, PlainStatus, Ready, Life, Alive, OneKernel, with_process, with_sent, without_message, pid_eq-is, id_eq-is, id_eq-same, sent_at, sent_off, stayed, bind-is, Addresses, given}
-use Rattle.dm_rule.proofs.Names.{Slot, Owner, Receiver, Sender, Enclosed, Child, Name, Answer, encloses}
+use Rattle.dm_rule.proofs.Names.{Slot, Owner, Receiver, Sender, Enclosed, Child, Name, Answer, AskedBy, encloses, at_hand-is}
 use Rattle.dm_onekernel.specs.Step as kernel
 use Rattle.dm_rule.proofs.Homes.{place_as, HomeProcess, HomeMessage, AtHome}
 
@@ -15,11 +15,12 @@ pub record SameMessage (a b : Addresses) (i : MsgId) : Type 0 where
   pub sender : b (Sender i) ≡ a (Sender i)
   pub enclosed : (k : ℕ) → b (Enclosed i k) ≡ a (Enclosed i k)
 
--- those of the servers
+-- those of the servers, and of who asked a process to move
 pub record SameServers (a b : Addresses) : Type 0 where
   pub child : (n : ℕ) → b (Child n) ≡ a (Child n)
   pub name : (n : ℕ) → b (Name n) ≡ a (Name n)
   pub answer : (n : ℕ) → b (Answer n) ≡ a (Answer n)
+  pub asked : (p : Pid) → b (AskedBy p) ≡ a (AskedBy p)
 
 pub process_same : (P : Pid → Place → Type 0) (a b : Addresses) (p : Pid) (x : PlainProcess) → SameProcess a b p → HomeProcess P a p x → HomeProcess P b p x
 process_same P a b p x w h = record { slots = λ k l e. place_as P (w.slot k) (h.slots k l e); owner = λ q e. place_as P w.owner (h.owner q e) }
@@ -56,7 +57,8 @@ at_home_process P s a b p life h off on messages servers = record {
   messages = λ i m e. message_same P a b i m (messages i) (h.messages i m e);
   children = λ n q e. place_as P (servers.child n) (h.children n q e);
   named = λ n k e. place_as P (servers.name n) (h.named n k e);
-  answers = λ n r e. place_as P (servers.answer n) (h.answers n r e);
+  answers = λ n r l e f. place_as P (servers.answer n) (h.answers n r l e f);
+  askers = λ q n e. place_as P (servers.asked q) (h.askers q n e);
   rooted = h.rooted;
   pending = h.pending;
 }
@@ -69,7 +71,8 @@ at_home_sends P s a b p life m h off on messages sent servers = record {
   messages = sent_home P s a b m h.messages messages sent;
   children = λ n q e. place_as P (servers.child n) (h.children n q e);
   named = λ n k e. place_as P (servers.name n) (h.named n k e);
-  answers = λ n r e. place_as P (servers.answer n) (h.answers n r e);
+  answers = λ n r l e f. place_as P (servers.answer n) (h.answers n r l e f);
+  askers = λ q n e. place_as P (servers.asked q) (h.askers q n e);
   rooted = h.rooted;
   pending = h.pending;
 }
@@ -81,6 +84,7 @@ at_home_out P s a id h = record {
   children = h.children;
   named = h.named;
   answers = h.answers;
+  askers = h.askers;
   rooted = h.rooted;
   pending = h.pending;
 }
@@ -88,7 +92,7 @@ at_home_out P s a id h = record {
 pub at_home_goes : (P : Pid → Place → Type 0) (s : OneKernel) (a : Addresses) (p : Pid) (life : Life) → AtHome P s a → ((y : PlainProcess) → kernel.alive (Some life) ≡ Some y → HomeProcess P a p y) → AtHome P (with_process s p life) a
 at_home_goes P s a p life h on =
     at_home_process P s a a p life h (λ q e. record { slot = λ k. refl; owner = refl }) on (λ i. record { receiver = refl; sender = refl; enclosed = λ k. refl })
-    (record { child = λ n. refl; name = λ n. refl; answer = λ n. refl })
+    (record { child = λ n. refl; name = λ n. refl; answer = λ n. refl; asked = λ q. refl })
 
 pub alive_on : (P : Pid → Place → Type 0) (a : Addresses) (p : Pid) (x : PlainProcess) → HomeProcess P a p x → (y : PlainProcess) → kernel.alive (Some (Alive x)) ≡ Some y → HomeProcess P a p y
 alive_on P a p x h y e = let f : x ≡ y = cc in subst (HomeProcess P a p) f h
@@ -108,8 +112,8 @@ running_home_of P a p y _ x h e = cc
 
 pub running_home : (P : Pid → Place → Type 0) (s : OneKernel) (a : Addresses) (p : Pid) (x : PlainProcess) → AtHome P s a → kernel.running s p ≡ Some x → HomeProcess P a p x
 running_home P s a p x h e =
-    let (y, is, ready) = bind-is (kernel.alive (s.processes p)) (λ (v : PlainProcess). kernel.if_ready v v.status) x e in
-    running_home_of P a p y y.status x (h.processes p y is) ready
+    let (y, is, ready) = bind-is (kernel.at_hand s p) (λ (v : PlainProcess). kernel.if_ready v v.status) x e in
+    running_home_of P a p y y.status x (h.processes p y (ap kernel.alive (at_hand-is s p y is).1)) ready
 
 -- links of an enclosing list
 encloses_slot : (a : Addresses) (id : MsgId) (n : ℕ) (ps : List Place) (q : Pid) (k : ℕ) → given a (encloses id n ps) (Slot q k) ≡ a (Slot q k)
@@ -140,13 +144,17 @@ encloses_answer : (a : Addresses) (id : MsgId) (n : ℕ) (ps : List Place) (k : 
 encloses_answer a id n [] k = refl
 encloses_answer a id n (p ∷ ps) k = encloses_answer a id (n + 1) ps k
 
+encloses_asked : (a : Addresses) (id : MsgId) (n : ℕ) (ps : List Place) (q : Pid) → given a (encloses id n ps) (AskedBy q) ≡ a (AskedBy q)
+encloses_asked a id n [] q = refl
+encloses_asked a id n (p ∷ ps) q = encloses_asked a id (n + 1) ps q
+
 encloses_other : (a : Addresses) (id : MsgId) (n : ℕ) (ps : List Place) (i : MsgId) (k : ℕ) → id_eq id i ≡ false → given a (encloses id n ps) (Enclosed i k) ≡ a (Enclosed i k)
 encloses_other a id n [] i k e = refl
 encloses_other a id n (p ∷ ps) i k e =
     ap (λ (c : Bool). if c && (n == k) then p else given a (encloses id (n + 1) ps) (Enclosed i k)) e ∙ encloses_other a id (n + 1) ps i k e
 
 pub encloses_servers : (a : Addresses) (id : MsgId) (n : ℕ) (ps : List Place) → SameServers a (given a (encloses id n ps))
-encloses_servers a id n ps = record { child = encloses_child a id n ps; name = encloses_name a id n ps; answer = encloses_answer a id n ps }
+encloses_servers a id n ps = record { child = encloses_child a id n ps; name = encloses_name a id n ps; answer = encloses_answer a id n ps; asked = encloses_asked a id n ps }
 
 pub encloses_process : (a : Addresses) (id : MsgId) (n : ℕ) (ps : List Place) (q : Pid) → SameProcess a (given a (encloses id n ps)) q
 encloses_process a id n ps q = record { slot = encloses_slot a id n ps q; owner = encloses_owner a id n ps q }

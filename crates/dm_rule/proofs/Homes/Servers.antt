@@ -1,7 +1,7 @@
 -- What servers do keeps addresses where they may be.
 use Rattle.dm_rule.proofs.Names.{◌≡◌, ℕ, zero, suc, ◌+◌, ◌==◌, ◌&&◌, Bool, true, false, List, [], ◌∷◌, ◌++◌, refl, ap, ◌∙◌, sym, subst, ◌⊎◌, inl, inr, arith, nat_lt, nat_le, length, if◌then◌else◌, slice_get, Option, None, Some, cases_Bool}
 use Rattle.dm_rule.proofs.Names.{nat_tests, Pid, Place, PlainLink, MsgId, id_eq, id_of, PlainMessage, PlainWhat, bind, OneKernel, without_message, id_eq-same, View, Addresses, gets, given, Receiver, Sender, Enclosed, unmoved, NamedLink}
-use Rattle.dm_rule.proofs.Names.{Pending, switchboard, is_general, Child, Name, Answer, place_named, board_finds, board_keeps, board_gets, links_in, ascends}
+use Rattle.dm_rule.proofs.Names.{Pending, switchboard, is_general, Child, Name, Answer, AskedBy, place_named, board_finds, board_keeps, board_gets, links_in, ascends}
 use Rattle.dm_onekernel.specs.Service as service
 use Rattle.dm_onekernel.specs.Switchboard as board
 use Rattle.dm_onekernel.specs.Manager as manage
@@ -46,11 +46,11 @@ ascends_less (p ∷ ps) from less to le e =
     let f : nat_le less p.n ≡ true = grind (arith, nat_tests) in
     ap (λ (b : Bool). b && ascends (p.n + 1) ps to) f ∙ k.1
 
-pub ascends_last : (ps : List Pending) (from to : ℕ) (l : PlainLink) → ascends from ps to ≡ true → ascends from (ps ++ record { n = to; answer = l } ∷ []) (to + 1) ≡ true
-ascends_last [] from to l e = grind (arith, nat_tests)
-ascends_last (p ∷ ps) from to l e =
-    let k = and-both (nat_le from p.n) (ascends (p.n + 1) ps to) e in
-    ap (λ (b : Bool). b && ascends (p.n + 1) (ps ++ record { n = to; answer = l } ∷ []) (to + 1)) k.0 ∙ ascends_last ps (p.n + 1) to l k.1
+pub ascends_last : (ps : List Pending) (from : ℕ) (z : Pending) → ascends from ps z.n ≡ true → ascends from (ps ++ z ∷ []) (z.n + 1) ≡ true
+ascends_last [] from z e = grind (arith, nat_tests)
+ascends_last (p ∷ ps) from z e =
+    let k = and-both (nat_le from p.n) (ascends (p.n + 1) ps z.n) e in
+    ap (λ (b : Bool). b && ascends (p.n + 1) (ps ++ z ∷ []) (z.n + 1)) k.0 ∙ ascends_last ps (p.n + 1) z k.1
 
 pub ascends_without : (ps : List Pending) (from to n : ℕ) → ascends from ps to ≡ true → ascends from (manage.without_pending n ps) to ≡ true
 ascends_without [] from to n e = e
@@ -80,32 +80,24 @@ numbered_from (p ∷ ps) from to n r e f =
           (let g : nat_le from n ≡ true = grind (arith, nat_tests) in g, h.1)
     ]
 
-pub pending_last : (ps : List Pending) (to n : ℕ) (l : PlainLink) (r : Pending) → ((q : Pending) → manage.pending_numbered n ps ≡ Some q → (to == n) ≡ false) → manage.pending_numbered n (ps ++ record { n = to; answer = l } ∷ []) ≡ Some r
-    → (((to == n) ≡ true) × (l ≡ r.answer)) ⊎ (((to == n) ≡ false) × (manage.pending_numbered n ps ≡ Some r))
-pending_last [] to n l r h e = elim (cases_Bool (to == n)) [
-  | inl same ↦
-      let z : Pending = record { n = to; answer = l } in
-      let f : Some z ≡ Some r = sym (ap (λ (b : Bool). if b then Some z else None) same) ∙ e in
-      let g : z ≡ r = cc in
-      inl (same, ap (λ (v : Pending). v.answer) g)
-  | inr apart ↦
-      let z : Pending = record { n = to; answer = l } in
-      absurd (let f : None ≡ Some r = sym (ap (λ (b : Bool). if b then Some z else None) apart) ∙ e in cc)
+pub pending_last : (ps : List Pending) (n : ℕ) (z r : Pending) → ((q : Pending) → manage.pending_numbered n ps ≡ Some q → (z.n == n) ≡ false) → manage.pending_numbered n (ps ++ z ∷ []) ≡ Some r
+    → (((z.n == n) ≡ true) × (z ≡ r)) ⊎ (((z.n == n) ≡ false) × (manage.pending_numbered n ps ≡ Some r))
+pending_last [] n z r h e = elim (cases_Bool (z.n == n)) [
+  | inl same ↦ let f : Some z ≡ Some r = sym (ap (λ (b : Bool). if b then Some z else None) same) ∙ e in inl (same, let g : z ≡ r = cc in g)
+  | inr apart ↦ absurd (let f : None ≡ Some r = sym (ap (λ (b : Bool). if b then Some z else None) apart) ∙ e in cc)
 ]
-pending_last (p ∷ ps) to n l r h e =
-    let z : Pending = record { n = to; answer = l } in
-    elim (cases_Bool (p.n == n)) [
-      | inl same ↦
-          let one : manage.pending_numbered n (p ∷ ps) ≡ Some p = ap (λ (b : Bool). if b then Some p else manage.pending_numbered n ps) same in
-          let f : Some p ≡ Some r = sym (ap (λ (b : Bool). if b then Some p else manage.pending_numbered n (ps ++ z ∷ [])) same) ∙ e in
-          inr (h p one, one ∙ f)
-      | inr apart ↦
-          let off : manage.pending_numbered n (p ∷ ps) ≡ manage.pending_numbered n ps = ap (λ (b : Bool). if b then Some p else manage.pending_numbered n ps) apart in
-          elim (pending_last ps to n l r (λ q f. h q (off ∙ f)) (sym (ap (λ (b : Bool). if b then Some p else manage.pending_numbered n (ps ++ z ∷ [])) apart) ∙ e)) [
-            | inl g ↦ inl g
-            | inr g ↦ inr (g.0, off ∙ g.1)
-          ]
-    ]
+pending_last (p ∷ ps) n z r h e = elim (cases_Bool (p.n == n)) [
+  | inl same ↦
+      let one : manage.pending_numbered n (p ∷ ps) ≡ Some p = ap (λ (b : Bool). if b then Some p else manage.pending_numbered n ps) same in
+      let f : Some p ≡ Some r = sym (ap (λ (b : Bool). if b then Some p else manage.pending_numbered n (ps ++ z ∷ [])) same) ∙ e in
+      inr (h p one, one ∙ f)
+  | inr apart ↦
+      let off : manage.pending_numbered n (p ∷ ps) ≡ manage.pending_numbered n ps = ap (λ (b : Bool). if b then Some p else manage.pending_numbered n ps) apart in
+      elim (pending_last ps n z r (λ q f. h q (off ∙ f)) (sym (ap (λ (b : Bool). if b then Some p else manage.pending_numbered n (ps ++ z ∷ [])) apart) ∙ e)) [
+        | inl g ↦ inl g
+        | inr g ↦ inr (g.0, off ∙ g.1)
+      ]
+]
 
 pub still_pending : (ps : List Pending) (from to n k : ℕ) (r : Pending) → ascends from ps to ≡ true → manage.pending_numbered k (manage.without_pending n ps) ≡ Some r → manage.pending_numbered k ps ≡ Some r
 still_pending [] from to n k r e f = f
@@ -135,6 +127,7 @@ pub record AskedHome (P : Pid → Place → Type 0) (a b : Addresses) (sent : Ms
   pub message : (i : MsgId) → id_eq sent i ≡ false → SameMessage a b i
   pub child : (n : ℕ) → b (Child n) ≡ a (Child n)
   pub answer : (n : ℕ) → b (Answer n) ≡ a (Answer n)
+  pub asked : (q : Pid) → b (AskedBy q) ≡ a (AskedBy q)
 
 abbrev NamesHome : (Pid → Place → Type 0) → Addresses → List NamedLink → Type 0
 NamesHome P a names = (n : ℕ) (w : NamedLink) → slice_get names n ≡ Some w → P w.link.to (a (Name n))
@@ -150,6 +143,7 @@ plain_asked P a sent names k none h = record {
   message = λ i e. record { receiver = refl; sender = refl; enclosed = λ n. refl };
   child = λ n. refl;
   answer = λ n. refl;
+  asked = λ q. refl;
 }
 
 asks_if : (P : Pid → Place → Type 0) (a : Addresses) (id sent : MsgId) (names : List NamedLink) (body : List ℕ) (b : Bool) (k l : board.Asked) → AsksHome P a id sent names body k → AsksHome P a id sent names body l → AsksHome P a id sent names body (if b then k else l)
@@ -198,6 +192,7 @@ looks_up_home P a id sent names op name (Some l) is h =
       message = λ i e. record { receiver = refl; sender = refl; enclosed = λ n. ap (λ (c : Bool). if c && (0 == n) then pl else a (Enclosed i n)) e };
       child = λ n. refl;
       answer = λ n. refl;
+      asked = λ q. refl;
     }
 
 registers_home : (P : Pid → Place → Type 0) (a : Addresses) (id sent : MsgId) (names : List NamedLink) (op : ℕ) (name : List ℕ) (l : PlainLink) (o : Option PlainLink) → P l.to (a (Enclosed id 1)) → NamesHome P a names
@@ -213,6 +208,7 @@ registers_home P a id sent names op name l None at h = record {
   message = λ i e. record { receiver = refl; sender = refl; enclosed = λ n. refl };
   child = λ n. refl;
   answer = λ n. refl;
+  asked = λ q. refl;
 }
 
 to_register : (P : Pid → Place → Type 0) (a : Addresses) (id sent : MsgId) (names : List NamedLink) (op : ℕ) (name : List ℕ) (ls : List PlainLink) → ((n : ℕ) (w : PlainLink) → slice_get ls n ≡ Some w → P w.to (a (Enclosed id (suc n)))) → NamesHome P a names
@@ -241,7 +237,7 @@ board_request : (P : Pid → Place → Type 0) (s : OneKernel) (v : View) (a : A
     → AtHome P (service.switchboard_took s id (board.takes_request s.switchboard body links)) (given a (board_gets s v a id (PlainWhat.User code channel body links)))
 board_request P s v a id code channel body [] en at h =
     let u = at_home_out P s a id h in
-    record { processes = u.processes; messages = u.messages; children = u.children; named = u.named; answers = u.answers; rooted = u.rooted; pending = u.pending }
+    record { processes = u.processes; messages = u.messages; children = u.children; named = u.named; answers = u.answers; askers = u.askers; rooted = u.rooted; pending = u.pending }
 board_request P s v a id code channel body (l ∷ ls) en at h =
     let u = at_home_out P s a id h in
     let sent = id_of switchboard s.switchboard.sent in
@@ -263,7 +259,8 @@ board_request P s v a id code channel body (l ∷ ls) en at h =
           });
       children = λ n q e. place_as P (k.child n) (h.children n q e);
       named = k.named;
-      answers = λ n r e. place_as P (k.answer n) (h.answers n r e);
+      answers = λ n r l e f. place_as P (k.answer n) (h.answers n r l e f);
+      askers = λ q n e. place_as P (k.asked q) (h.askers q n e);
       rooted = h.rooted;
       pending = h.pending;
     }

@@ -2,14 +2,16 @@
 use Rattle.dm_rule.proofs.Names.{◌≡◌, ℕ, zero, suc, ◌+◌, ◌==◌, ◌&&◌, Bool, true, false, List, [], ◌∷◌, ◌++◌, refl, ap, ◌∙◌, sym, subst, arith, nat_le, length, ⊤, if◌then◌else◌, map, slice_get, Option, None, Some, nat_tests, Pid, Place}
 use Rattle.dm_rule.proofs.Names.{pid_eq, PlainLink, link_at, MsgId, id_eq, Label, Why, PlainMessage, PlainWhat, Reply, bind, PlainProcess, PlainStatus, Moving, Alive, OneKernel, with_process, with_sent, without_message, pid_eq-same}
 use Rattle.dm_rule.proofs.Names.{id_eq-same, bind-is, when-is, View, Addresses, Gets, gets, given, gives, Slot, Owner, Receiver, Sender, Enclosed, unmoved, acting_place, owner_in, replicate, ◌-◌, take, drop, Direction, BootImage, slots_of}
-use Rattle.dm_rule.proofs.Names.{first_number, answer_id, answer_to, begun, pid_of, answer_gets, serves_what, landing_gets, child_links, links_in}
+use Rattle.dm_rule.proofs.Names.{first_number, answer_id, answer_to, begun, pid_of, answer_gets, serves_what, landing_gets, child_links, links_in, at_hand-is, AskedBy, Note, Outcome, with_note, without_note, cases_Bool, inl, inr}
+use Rattle.dm_rule.proofs.Names.{ends_move-is}
 use Rattle.dm_onekernel.specs.Kernel.{Ended}
 use Rattle.dm_onekernel.specs.Step as kernel
+use Rattle.dm_rule.specs.Given as giving
 use Rattle.dm_rule.specs.Addresses as addresses
 use Rattle.dm_onekernel.specs.Pieces as pieces
 use Rattle.dm_onekernel.specs.Service as service
 use Rattle.dm_rule.proofs.Homes.{place_as, pid_as, acts_at, HomeProcess, HomeMessage, AtHome}
-use Rattle.dm_rule.proofs.Homes.Rows.{SameProcess, SameMessage, SameServers, sent_home, at_home_process, at_home_out, home_goes, alive_on, process_same}
+use Rattle.dm_rule.proofs.Homes.Rows.{SameProcess, SameMessage, SameServers, sent_home, at_home_process, at_home_out, home_goes, alive_on, message_same, process_same}
 use Rattle.dm_rule.proofs.Homes.Steps.{OnlySlots, only_none, at_home_ended}
 
 -- the receiver and the sender of a new message get places
@@ -20,7 +22,7 @@ pub two_process : (a : Addresses) (i : MsgId) (to from : Place) (q : Pid) → Sa
 two_process a i to from q = record { slot = λ k. refl; owner = refl }
 
 pub two_servers : (a : Addresses) (i : MsgId) (to from : Place) → SameServers a (given a (two i to from))
-two_servers a i to from = record { child = λ n. refl; name = λ n. refl; answer = λ n. refl }
+two_servers a i to from = record { child = λ n. refl; name = λ n. refl; answer = λ n. refl; asked = λ q. refl }
 
 pub two_off : (a : Addresses) (i : MsgId) (to from : Place) (j : MsgId) → id_eq i j ≡ false → SameMessage a (given a (two i to from)) j
 two_off a i to from j e = record {
@@ -44,6 +46,7 @@ two_sends P s a m to from h none e f = record {
   children = h.children;
   named = h.named;
   answers = h.answers;
+  askers = h.askers;
   rooted = h.rooted;
   pending = h.pending;
 }
@@ -79,14 +82,21 @@ abbrev pub EndedAt : (Pid → Place → Type 0) → OneKernel → View → Addre
 EndedAt P s v a id = (m : PlainMessage) → s.bag id ≡ Some m → P m.to (record { at = v.acting; moves = (a (Receiver id)).moves })
 
 -- gone
+gone_links : (v w : PlainWhat) → service.gone_what v ≡ Some w → links_in w ≡ []
+gone_links (PlainWhat.Read x1 x2) w e = let f : PlainWhat.Gone ≡ w = cc in sym (ap links_in f)
+gone_links (PlainWhat.Write x1 x2) w e = let f : PlainWhat.Gone ≡ w = cc in sym (ap links_in f)
+gone_links (PlainWhat.Move x1) w e = let f : PlainWhat.Moved Outcome.Ended ≡ w = cc in sym (ap links_in f)
+gone_links _ w e = cc
+
 pub gone_home : (P : Pid → Place → Type 0) (s t : OneKernel) (v : View) (a : Addresses) (id : MsgId) → kernel.step s (Label.Gone id) ≡ Some t → Named s → EndedAt P s v a id → AtHome P s a → AtHome P t (given a (gives s v a (Label.Gone id)))
 gone_home P s t v a id is named at h =
     let (m, there, rest) = bind-is (s.bag id) (λ (w : PlainMessage). bind (kernel.why_ended (s.processes w.to)) (kernel.says_gone s id w)) t is in
-    let (y, gone, last) = bind-is (kernel.why_ended (s.processes m.to)) (kernel.says_gone s id m) t rest in
-    let k = when-is (service.is_of_memory m.what) (with_sent (without_message s id) (Some (answer_to m PlainWhat.Gone))) t last in
+    let (y, gone, end) = bind-is (kernel.why_ended (s.processes m.to)) (kernel.says_gone s id m) t rest in
+    let (w, what, last) = bind-is (service.gone_what m.what) (λ (v : PlainWhat). Some (with_sent (without_message s id) (Some (answer_to m v)))) t end in
+    let k : with_sent (without_message s id) (Some (answer_to m w)) ≡ t = cc in
     let from : Place = record { at = v.acting; moves = (a (Receiver id)).moves } in
-    subst (λ (u : OneKernel). AtHome P u (given a (answer_gets a id from))) k.1
-    (answer_sent P s (without_message s id) a id m PlainWhat.Gone from (named id m there) there h (at_home_out P s a id h) refl (at m there))
+    subst (λ (u : OneKernel). AtHome P u (given a (answer_gets a id from))) k
+    (answer_sent P s (without_message s id) a id m w from (named id m there) there h (at_home_out P s a id h) (gone_links m.what w what) (at m there))
 
 -- no room
 no_room_row : (P : Pid → Place → Type 0) (s t : OneKernel) (v : View) (a : Addresses) (id : MsgId) (m : PlainMessage) (w : PlainWhat) → service.has_no_room s id m w ≡ Some t → s.bag id ≡ Some m → Named s → ReceivedAt s v.acting id → AtHome P s a
@@ -229,8 +239,9 @@ serve_row P s t v a id m x _ w is there name hx at h = cc
 
 pub served_home : (P : Pid → Place → Type 0) (s t : OneKernel) (v : View) (a : Addresses) (id : MsgId) → kernel.step s (Label.Served id) ≡ Some t → Named s → ServedAt P s v id → AtHome P s a → AtHome P t (given a (gives s v a (Label.Served id)))
 served_home P s t v a id is named at h =
-    let (m, there, rest) = bind-is (s.bag id) (λ (w : PlainMessage). bind (kernel.alive (s.processes w.to)) (λ (p : PlainProcess). service.serves s id w p w.what)) t is in
-    let (x, alive, last) = bind-is (kernel.alive (s.processes m.to)) (λ (p : PlainProcess). service.serves s id m p m.what) t rest in
+    let (m, there, rest) = bind-is (s.bag id) (λ (w : PlainMessage). bind (kernel.at_hand s w.to) (λ (p : PlainProcess). service.serves s id w p w.what)) t is in
+    let (x, hand, last) = bind-is (kernel.at_hand s m.to) (λ (p : PlainProcess). service.serves s id m p m.what) t rest in
+    let alive : kernel.alive (s.processes m.to) ≡ Some x = ap kernel.alive (at_hand-is s m.to x hand).1 in
     let gs_is : serves_what v a id m x m.what ≡ gives s v a (Label.Served id) =
     ap (addresses.serves_alive v a id m) (sym alive) ∙ ap (addresses.service_gets s v a id) (sym there) in
     subst (λ (gs : List Gets). AtHome P t (given a gs)) gs_is
@@ -262,7 +273,7 @@ only_child a child id (l ∷ ls) n =
     record {
       others = λ q e. let w = h.others q e in record { slot = λ k. ap (λ (c : Bool). if c && (n == k) then a (Enclosed id n) else b (Slot q k)) e ∙ w.slot k; owner = w.owner };
       messages = λ i. let w = h.messages i in record { receiver = w.receiver; sender = w.sender; enclosed = w.enclosed };
-      servers = let w = h.servers in record { child = w.child; name = w.name; answer = w.answer };
+      servers = let w = h.servers in record { child = w.child; name = w.name; answer = w.answer; asked = w.asked };
     }
 
 begun_at_home : (P : Pid → Place → Type 0) (s : OneKernel) (a : Addresses) (id : MsgId) (m : PlainMessage) (child : Pid) (image : BootImage) (links : List PlainLink) → AtHome P s a → s.bag id ≡ Some m → links_in m.what ≡ links
@@ -279,7 +290,7 @@ begun_at_home P s a id m child image links h there is =
       owner = λ q e. absurd (let f : None ≡ Some q = e in cc);
     } in
     let u = at_home_process P (without_message s id) a b child (Alive y) (at_home_out P s a id h) o.others (alive_on P b child y hy) o.messages o.servers in
-    record { processes = u.processes; messages = u.messages; children = u.children; named = u.named; answers = u.answers; rooted = u.rooted; pending = u.pending }
+    record { processes = u.processes; messages = u.messages; children = u.children; named = u.named; answers = u.answers; askers = u.askers; rooted = u.rooted; pending = u.pending }
 
 created_row : (P : Pid → Place → Type 0) (s t : OneKernel) (v : View) (a : Addresses) (id : MsgId) (m : PlainMessage) (child : Pid) (links : List PlainLink) (image : BootImage) → service.creates_of s id m child links image ≡ Some t → s.bag id ≡ Some m → links_in m.what ≡ links
     → Named s → ReceivedAt s v.acting id → AtHome P s a → AtHome P t (given a (answer_gets a id (unmoved v.acting) ++ child_links a child id 0 links))
@@ -305,3 +316,66 @@ pub created_home : (P : Pid → Place → Type 0) (s t : OneKernel) (v : View) (
 created_home P s t v a id child is named at h =
     let (m, there, rest) = bind-is (s.bag id) (λ (w : PlainMessage). service.creates s id w child w.what) t is in
     subst (λ (gs : List Gets). AtHome P t (given a gs)) (ap (addresses.creation_gets v a id child) (sym there)) (creates_row P s t v a id m child m.what refl rest there named at h)
+
+-- a process is asked to move: it knows who sent the request
+asked_row : (P : Pid → Place → Type 0) (s t : OneKernel) (a : Addresses) (id : MsgId) (m : PlainMessage) (w : PlainWhat) → service.follows s id m w ≡ Some t → s.bag id ≡ Some m → AtHome P s a → AtHome P t (given a (gets (AskedBy m.to) (a (Sender id)) ∷ []))
+asked_row P s t a id m (PlainWhat.Move machine) is there h =
+    let u = at_home_out P s a id h in
+    let n : Note = record { id = id; asker = m.sender } in
+    let pl = a (Sender id) in
+    let b = given a (gets (AskedBy m.to) pl ∷ []) in
+    let k : with_note (without_message s id) m.to n ≡ t = cc in
+    subst (λ (v : OneKernel). AtHome P v b) k
+    (record {
+      processes = λ q x e. process_same P a b q x (record { slot = λ i. refl; owner = refl }) (u.processes q x e);
+      messages = λ i x e. message_same P a b i x (record { receiver = refl; sender = refl; enclosed = λ j. refl }) (u.messages i x e);
+      children = u.children;
+      named = u.named;
+      answers = u.answers;
+      askers = λ q o e. elim (cases_Bool (pid_eq m.to q)) [
+        | inl same ↦
+            let f : Some n ≡ Some o = sym (ap (λ (c : Bool). if c then Some n else s.notes q) same) ∙ e in
+            let g : n ≡ o = cc in
+            place_as P (ap (λ (c : Bool). if c then pl else a (AskedBy q)) same) (pid_as P (ap (λ (v : Note). v.asker) g) (h.messages id m there).sender)
+        | inr apart ↦ place_as P (ap (λ (c : Bool). if c then pl else a (AskedBy q)) apart) (h.askers q o (sym (ap (λ (c : Bool). if c then Some n else s.notes q) apart) ∙ e))
+      ];
+      rooted = u.rooted;
+      pending = u.pending;
+    })
+asked_row P s t a id m _ is there h = cc
+
+pub asked_home : (P : Pid → Place → Type 0) (s t : OneKernel) (v : View) (a : Addresses) (id : MsgId) → kernel.step s (Label.Asked id) ≡ Some t → AtHome P s a → AtHome P t (given a (gives s v a (Label.Asked id)))
+asked_home P s t v a id is h =
+    let (m, there, rest) = bind-is (s.bag id) (λ (w : PlainMessage). bind (kernel.at_hand s w.to) (λ (p : PlainProcess). service.follows s id w w.what)) t is in
+    let (x, hand, last) = bind-is (kernel.at_hand s m.to) (λ (p : PlainProcess). service.follows s id m m.what) t rest in
+    subst (λ (gs : List Gets). AtHome P t (given a gs)) (ap (giving.follows a id) (sym there)) (asked_row P s t a id m m.what last there h)
+
+-- the process that follows a request is where that is answered
+abbrev pub AnsweredAt : (Pid → Place → Type 0) → OneKernel → View → MsgId → Type 0
+AnsweredAt P s v id = (p : Pid) → s.noted id ≡ Some p → P p (acting_place v p)
+
+still_noted : (s : OneKernel) (p q : Pid) (id : MsgId) (n : Note) → (without_note s p id).notes q ≡ Some n → s.notes q ≡ Some n
+still_noted s p q id n e = elim (cases_Bool (pid_eq p q)) [
+  | inl same ↦ absurd (let f : None ≡ Some n = sym (ap (λ (c : Bool). if c then None else s.notes q) same) ∙ e in cc)
+  | inr apart ↦ sym (ap (λ (c : Bool). if c then None else s.notes q) apart) ∙ e
+]
+
+pub answered_home : (P : Pid → Place → Type 0) (s t : OneKernel) (v : View) (a : Addresses) (id : MsgId) (o : Outcome) → kernel.step s (Label.Answered id o) ≡ Some t → AnsweredAt P s v id
+    → AtHome P s a → AtHome P t (given a (gives s v a (Label.Answered id o)))
+answered_home P s t v a id o is at h =
+    let (p, noted, rest) = bind-is (s.noted id) (λ (q : Pid). bind (s.notes q) (λ (n : Note). service.ends_move s id q n o)) t is in
+    let (n, notes, last) = bind-is (s.notes p) (λ (k : Note). service.ends_move s id p k o) t rest in
+    let u = without_note s p id in
+    let m : PlainMessage = record { id = answer_id id; to = n.asker; sender = p; what = PlainWhat.Moved o } in
+    let left : AtHome P u a = record {
+      processes = h.processes;
+      messages = h.messages;
+      children = h.children;
+      named = h.named;
+      answers = h.answers;
+      askers = λ q k e. h.askers q k (still_noted s p q id k e);
+      rooted = h.rooted;
+      pending = h.pending;
+    } in
+    subst (λ (w : OneKernel). AtHome P w (given a (gives s v a (Label.Answered id o)))) (ends_move-is s t id p n o last)
+    (subst (λ (gs : List Gets). AtHome P (service.move_ended s id p n o) (given a gs)) (ap (giving.ends_move v a id) (sym noted)) (two_sends P u a m (a (AskedBy p)) (acting_place v p) left refl (h.askers p n notes) (at p noted)))

@@ -101,7 +101,8 @@ start_at_home b valid = record {
   messages = λ i m e. absurd (let f : None ≡ Some m = e in cc);
   children = λ n q e. child_home b.processes n q e;
   named = λ n k e. absurd (let f : None ≡ Some k = e in cc);
-  answers = λ n r e. absurd (let f : None ≡ Some r = e in cc);
+  answers = λ n r l e f. absurd (let g : None ≡ Some r = e in cc);
+  askers = λ p n e. absurd (let f : None ≡ Some n = e in cc);
   pending = refl;
 }
 

@@ -47,7 +47,7 @@ pub only_none : (a : Addresses) (p : Pid) → OnlySlots a a p
 only_none a p = record {
   others = λ q e. record { slot = λ k. refl; owner = refl };
   messages = λ i. record { receiver = refl; sender = refl; enclosed = λ k. refl };
-  servers = record { child = λ n. refl; name = λ n. refl; answer = λ n. refl };
+  servers = record { child = λ n. refl; name = λ n. refl; answer = λ n. refl; asked = λ q. refl };
 }
 
 only_fills : (a : Addresses) (p : Pid) (o : Option ℕ) (place : Place) → OnlySlots a (given a (fills p o place)) p
@@ -55,7 +55,7 @@ only_fills a p None place = only_none a p
 only_fills a p (Some slot) place = record {
   others = fills_others a p (Some slot) place;
   messages = λ i. record { receiver = refl; sender = refl; enclosed = λ k. refl };
-  servers = record { child = λ n. refl; name = λ n. refl; answer = λ n. refl };
+  servers = record { child = λ n. refl; name = λ n. refl; answer = λ n. refl; asked = λ q. refl };
 }
 
 only_fills_by : (v : View) (a : Addresses) (p : Pid) (x : PlainProcess) (n : calls.CallNumber) → OnlySlots a (given a (fills_by v a p x n)) p

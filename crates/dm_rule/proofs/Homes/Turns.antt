@@ -1,7 +1,7 @@
 -- A turn keeps all of it.
 use Rattle.dm_rule.proofs.Names.{◌≡◌, ℕ, ◌+◌, ◌==◌, ◌&&◌, Bool, true, false, List, [], ◌∷◌, refl, ap, ◌∙◌, sym, subst, inl, inr, arith, nat_le, ⊤, if◌then◌else◌, Option, None, Some, nat_tests, Pid, MsgId, PlainMessage, Boot, Label}
-use Rattle.dm_rule.proofs.Names.{OneKernel, after_step, Point, first_point, Part, Routes, Spelled, Homes, is_for_home, are_home, IsStill, AreStill, Leads, LeadHomeAlways, ◌≤◌, false≢true, is_kernels, Step, actor, group_of, pid_of}
-use Rattle.dm_rule.proofs.Names.{first_number, Known, Frozen, Incoming, Forward}
+use Rattle.dm_rule.proofs.Names.{OneKernel, after_step, Point, first_point, Part, Routes, Spelled, Homes, is_for_home, are_home, IsStill, LeadHomeAlways, ◌≤◌, false≢true, is_kernels, Step, actor, group_of, pid_of, first_number, Known}
+use Rattle.dm_rule.proofs.Names.{Frozen, Incoming, Forward, AskNone, LeadsStill}
 use Rattle.dm_onekernel.specs.Step as kernel
 use Rattle.dm_rule.proofs.Homes.Labels.{SaidAt}
 use Rattle.dm_rule.proofs.Homes.Lists.{stands, all_stand}
@@ -28,7 +28,7 @@ good_of s e m None ps h is = cc
 good_of s e m (Some qs) ps h is = let f : qs ≡ ps = cc in subst (PartsGood s e m) f h
 
 says_first : (s : OneKernel) (e : MsgId → ℕ) (m : ℕ) (l : Label) (ps : List Part) → SaidAt s m l → PartsAnywhere m ps → PartsGood s e m (rule.says l ∷ ps)
-says_first s e m l ps at h = (inr (inl (l, refl, at)), h)
+says_first s e m l ps at h = inl (inr (inl (l, refl, at)), h)
 
 drops_good : (m : ℕ) (ids : List MsgId) → PartsAnywhere m (rule.drop_parts ids)
 drops_good m [] = tt
@@ -55,7 +55,7 @@ some_good s e m None h = tt
 some_good s e m (Some ps) h = h ps refl
 
 round_good : (b : Boot) (e : MsgId → ℕ) (pt : Point) (m : ℕ) (o : Option Pid) → ((p : Pid) → o ≡ Some p → p.home ≡ m) → GoodOf pt.kernel e m (rule.goes_round b pt m o)
-round_good b e pt m o at = some_good pt.kernel e m (rule.goes_round b pt m o) (λ ps. by_round (PartsGood pt.kernel e m) b pt m o ps (inl tt, tt) (λ p x is alive. record {
+round_good b e pt m o at = some_good pt.kernel e m (rule.goes_round b pt m o) (λ ps. by_round (PartsGood pt.kernel e m) b pt m o ps (inl (inl tt, tt)) (λ p x is alive. record {
   runs = λ k rest stops. says_first pt.kernel e m (Label.Ran p k) rest (at p is) (stops (PartsAnywhere m) (record {
     over = tt;
     replies = λ n r. (at p is, tt);
@@ -64,8 +64,8 @@ round_good b e pt m o at = some_good pt.kernel e m (rule.goes_round b pt m o) (�
     outputs = λ word. (at p is, tt);
     ends = λ y. (at p is, drops_good m (pt.view.queue m p));
   }));
-  takes = λ mask id first. (inl (at p is), tt);
-  refuses = λ id r. (inl (at p is), tt);
+  takes = λ mask id first. inl (inl (at p is), tt);
+  refuses = λ id r. inl (inl (at p is), tt);
 }))
 
 -- the message at the front of the inbox
@@ -86,12 +86,14 @@ handles_good b e pt m id (Some k) h there f =
       created = λ fixed. says_first s e m (Label.Created id (pid_of m (first_number + s.made m))) (Routes (pieces.answer_id id) ∷ []) (f.0, refl) (tt, tt);
       no_space = λ fixed slots blocks. says_first s e m (Label.NoSpace id slots blocks) (Routes (pieces.answer_id id) ∷ []) f.0 (tt, tt);
       took = λ fixed sent. says_first s e m (Label.Took id) (rule.routes sent) f.0 (routes_good m sent);
-      queued = λ to user. (inr (inr (id, refl, f.1)), tt);
+      queued = λ to user. inl (inr (inr (id, refl, f.1)), tt);
       served = λ to mild. says_first s e m (Label.Served id) [] f.0 tt;
       answers = λ to mild i. says_first s e m (Label.Served id) (Routes i ∷ []) f.0 (tt, tt);
       kills = λ to kills. says_first s e m (Label.Served id) (rule.drop_parts (pt.view.queue m k.to)) f.0 (drops_good m (pt.view.queue m k.to));
+      moved = λ to what. inr (id, refl);
+      sets_off = λ machine to what apart. inr (id, refl);
       gone = λ to. says_first s e m (Label.Gone id) (Routes (pieces.answer_id id) ∷ []) f.0 (tt, tt);
-      dropped = λ to. (inl tt, tt);
+      dropped = λ to. inl (inl tt, tt);
       leaving = λ n to. absurd (moved_off (Frozen n) to.known refl);
       coming = λ n to. absurd (moved_off (Incoming n) to.known refl);
       forwarded = λ n c to. absurd (moved_off (Forward n c) to.known refl);
@@ -118,25 +120,26 @@ in_bag_at r e pt m i js front entered state h none =
     let zero_ : e i ≡ 0 = kernels_fresh r e pt.kernel i h.sound mine in
     absurd (omega (arith, least, zero_))
 
-pub turn_keeps : NoneReplaced → (b : Boot) (r e : MsgId → ℕ) (pt : Point) (m : ℕ) (w : Spelled) → group_of b pt (Step.Turn m) ≡ Some w → State None pt → Home r e pt → Kept m w.point
-turn_keeps none b r e pt m w is state h =
-    group_keeps none b r e pt (Step.Turn m) w tt is h (λ ps comes. good_of pt.kernel e m (rule.turns b pt m (pt.view.inbox m)) ps (turns_good b r e pt m (pt.view.inbox m) (λ i js front entered. in_bag_at r e pt m i js front entered state h) (h.lists.inbox m) h) comes)
+pub turn_keeps : NoneReplaced → (b : Boot) (r e : MsgId → ℕ) (pt : Point) (m : ℕ) (w : Spelled) → group_of b pt (Step.Turn m) ≡ Some w → AskNone w.lines → State None pt → Home r e pt → Kept m w.point
+turn_keeps none b r e pt m w is ask state h =
+    group_keeps none b r e pt (Step.Turn m) w tt is ask h
+    (λ ps comes. good_of pt.kernel e m (rule.turns b pt m (pt.view.inbox m)) ps (turns_good b r e pt m (pt.view.inbox m) (λ i js front entered. in_bag_at r e pt m i js front entered state h) (h.lists.inbox m) h) comes)
 
 -- each group keeps all of it
-pub home_group : NoneReplaced → (b : Boot) (r e : MsgId → ℕ) (pt : Point) (d : Step) (w : Spelled) → IsStill d → group_of b pt d ≡ Some w → State None pt → Home r e pt → Kept (actor d) w.point
-home_group none b r e pt (Step.Turn m) w still is state h = turn_keeps none b r e pt m w is state h
-home_group none b r e pt (Step.Tick m) w still is state h = tick_keeps none b r e pt m w is h
-home_group none b r e pt (Step.Deliver a c k) w still is state h = deliver_keeps none b r e pt a c k w is h
-home_group none b r e pt (Step.Migrate p m) w still is state h = absurd still
+pub home_group : NoneReplaced → (b : Boot) (r e : MsgId → ℕ) (pt : Point) (d : Step) (w : Spelled) → IsStill d → group_of b pt d ≡ Some w → AskNone w.lines → State None pt → Home r e pt → Kept (actor d) w.point
+home_group none b r e pt (Step.Turn m) w still is ask state h = turn_keeps none b r e pt m w is ask state h
+home_group none b r e pt (Step.Tick m) w still is ask state h = tick_keeps none b r e pt m w is ask h
+home_group none b r e pt (Step.Deliver a c k) w still is ask state h = deliver_keeps none b r e pt a c k w is ask h
+home_group none b r e pt (Step.Migrate p m) w still is ask state h = absurd still
 
 pub none_replaced : NoneReplaced
 none_replaced r e s t l is h i x y was there = (after_step r e s t l is h).only i x y was there
 
-home_on : (b : Boot) (es : List Step) (r e : MsgId → ℕ) (pt end : Point) → AreStill es → Leads b pt es end → Pairs pt.view → State None pt → Home r e pt → Homes end
-home_on b [] r e pt end still leads pairs state h = subst Homes leads (homes_of r e pt h)
-home_on b (d ∷ es) r e pt end still (w, fit, is, rest) pairs state h =
-    let k = home_group none_replaced b r e pt d w still.0 is state h in
-    home_on b es k.r k.e w.point end still.1 rest (Pairs-group b pt d w fit is pairs) (State-group b pt d w is (fits pt.view pairs) state) k.home
+home_on : (b : Boot) (es : List Step) (r e : MsgId → ℕ) (pt end : Point) → LeadsStill b pt es end → Pairs pt.view → State None pt → Home r e pt → Homes end
+home_on b [] r e pt end leads pairs state h = subst Homes leads (homes_of r e pt h)
+home_on b (d ∷ es) r e pt end (w, fit, still, is, ask, rest) pairs state h =
+    let k = home_group none_replaced b r e pt d w still is ask state h in
+    home_on b es k.r k.e w.point end rest (Pairs-group b pt d w fit is pairs) (State-group b pt d w is (fits pt.view pairs) state) k.home
 
 pub lead_home_always : LeadHomeAlways
-lead_home_always b es pt valid still leads = home_on b es (λ i. 0) (λ i. 0) (first_point b) pt still leads (Pairs-start b) (State-start b valid) (home_start b valid)
+lead_home_always b es pt valid leads = home_on b es (λ i. 0) (λ i. 0) (first_point b) pt leads (Pairs-start b) (State-start b valid) (home_start b valid)

@@ -1,21 +1,24 @@
 -- The rows of migration keep that each message stands once.
 use Rattle.dm_rule.proofs.Names.{◌≡◌, ℕ, ◌==◌, Bool, true, false, List, [], ◌∷◌, ◌++◌, refl, ap, ◌∙◌, sym, subst, length, ◌/◌, if◌then◌else◌, Option, None, Some, Pid, pid_of, pid_eq, MsgId, MessageKind, Stage, Boot, switchboard, manager}
 use Rattle.dm_rule.proofs.Names.{PlainProcess, Line, View, Told, About, NothingElse, Of, Known, Unknown, Here, Frozen, Forward, Ended, view_after, handled, handled_first, receiver_of, is_kernels, target_of, with_ring, knowing, released}
-use Rattle.dm_rule.proofs.Names.{after_proto, follows_up, asks_on, held_for, Addresses, Sender, Child, is_told_back, Point, moved, Part, Says, Again, Owns, Spelled, spelled, to_kernel, forwards_on, moves_to, accepts, takes_chunk}
+use Rattle.dm_rule.proofs.Names.{after_proto, follows_up, asks_on, held_for, Addresses, Sender, Child, is_told_back, Point, moved, seen, Part, Says, Again, Owns, Spelled, spelled, to_kernel, forwards_on, moves_to, accepts, takes_chunk}
 use Rattle.dm_rule.proofs.Names.{takes_block, gives_piece, sends_on, leaves, kernel_told, chunks_of, pieces_of, here_told, ended_told, process_told, server_told, migrates, fits, free_room, kernel_hears, hears, Spot, Queue, Held, Inbox}
-use Rattle.dm_rule.proofs.Names.{Untaken, ids_at, bind-is}
+use Rattle.dm_rule.proofs.Names.{Untaken, ids_at, bind-is, label_of, Label, Note, Outcome, Target, Routes, answer_id, answers_move, frozen_for, front_told, leaves_for, tells_asker}
 use Rattle.dm_onekernel.specs.Step as kernel
 use Rattle.dm_rule.specs.View as view
 use Rattle.dm_rule.proofs.Lines.{hidden, Stands-stays}
 use Rattle.dm_rule.proofs.Letters.{letters}
 use Rattle.dm_rule.proofs.Hushed.{is_put, hushed}
-use Rattle.dm_rule.proofs.Pairs.Lines.{pair_same}
+use Rattle.dm_rule.proofs.Pairs.Lines.{touches, pair_same}
 use Rattle.dm_rule.proofs.States.{State, State-at, by_line, PairsFit, said}
-use Rattle.dm_rule.proofs.Said.{fits_as}
+use Rattle.dm_rule.proofs.Said.{fits_as, line_and_route}
 use Rattle.dm_rule.proofs.Moves.Lists.{Stands-held, Stands-released, both_lists, first_off}
 use Rattle.dm_rule.proofs.Moves.States.{Between, by_own, front_way, front_kernels}
 use Rattle.dm_rule.proofs.Moves.Sent.{Way, Steady, steadied, line_next, line_ends, line_owns, owns_ends, again_next, all_again, forwarded_way, sent_way}
 use Rattle.dm_rule.proofs.Requests.{by_migrates}
+use Rattle.dm_rule.proofs.Seen.{about_off, frozen_is, frozen_asked}
+use Rattle.dm_rule.proofs.Bags.{bag_answered}
+use Rattle.dm_rule.proofs.Turns.{quiet_label}
 
 -- what the rule saw before the head is what stands behind it
 pub record SeesSame (o pt : Point) (m : ℕ) : Type 0 where
@@ -67,17 +70,19 @@ follows_off v a MessageKind.State z = asks_off v a z
 follows_off v a MessageKind.Memory z = asks_off v a z
 follows_off v a _ z = refl
 
-about_off : (v : View) (a : About) (z : Spot) → ids_at (view.about v a) z ≡ ids_at v z
-about_off v a (Queue m q) = refl
-about_off v a _ = refl
-
 pub proto_off : (v : View) (o : Option Told) (z : Spot) → ids_at (after_proto v o) z ≡ ids_at v z
 proto_off v None z = about_off v NothingElse z
 proto_off v (Some t) z = about_off (follows_up v t.about t.kind) t.about z ∙ follows_off v t.about t.kind z
 
-pub frozen_off : (v : View) (p : Pid) (z : Spot) → ids_at (view_after v (Line.Migration Stage.Frozen p)) z ≡ ids_at (handled_first v) z
-frozen_off v p (Queue m q) = refl
-frozen_off v p _ = refl
+for_off : (v : View) (p : Pid) (to : ℕ) (z : Spot) → ids_at (frozen_for v p to) z ≡ ids_at v z
+for_off v p to (Queue m q) = refl
+for_off v p to _ = refl
+
+pub frozen_off : (v : View) (p : Pid) → v.topic ≡ NothingElse → (z : Spot) → ids_at (view_after v (Line.Migration Stage.Frozen p)) z ≡ ids_at (handled_first v) z
+frozen_off v p quiet z = ap (λ (w : View). ids_at w z) (frozen_is v p quiet) ∙ for_off (handled_first v) p (target_of (front_told v (v.inbox v.acting))) z
+
+pub asked_off : (v : View) (p : Pid) (to : ℕ) → v.topic ≡ Target to → (z : Spot) → ids_at (view_after v (Line.Migration Stage.Frozen p)) z ≡ ids_at v z
+asked_off v p to asked z = ap (λ (w : View). ids_at w z) (frozen_asked v p to asked) ∙ for_off v p to z
 
 pub accepted_off : (v : View) (p : Pid) (z : Spot) → ids_at (view_after v (Line.Migration Stage.Accepted p)) z ≡ ids_at (handled_first v) z
 accepted_off v p (Queue m q) = refl
@@ -119,18 +124,43 @@ comes_back pt l i is p quiet h front mine off =
     let u = home_again (handled_first pt.view) p in
     Stands-released bag u (view_after pt.view l) p off (λ j. ap (λ (f : MsgId → Option Told). f j) (hushed pt.view l quiet).told) (Stands-stays bag (handled_first pt.view) u (home_off (handled_first pt.view) p) (λ j. refl) s))
 
--- a process is asked to move
-moves_row : (pt : Point) (i : MsgId) (is : List MsgId) (p : Pid) (to : ℕ) (same : Bool) (w : Spelled) → State None pt → PairsFit pt.view → pt.view.inbox pt.view.acting ≡ i ∷ is → is_kernels i ≡ true
-    → spelled pt (if same then Says (Line.Here i) ∷ [] else Says (Line.Migration Stage.Frozen p) ∷ Says (Line.Migration Stage.Asked p) ∷ to_kernel MessageKind.Ask to ∷ []) ≡ Some w → State None w.point
-moves_row pt i is p to true w h fit front mine e = line_ends pt (Line.Here i) w refl (goes_front pt (Line.Here i) i is refl h front mine (λ z. refl)) e
-moves_row pt i is p to false w h fit front mine e =
+-- a request to move is answered
+pub answers_row : (pt : Point) (i : MsgId) (o : Outcome) (w : Spelled) → State None pt → PairsFit pt.view → spelled pt (answers_move i o) ≡ Some w → State None w.point
+answers_row pt i o w h fit e =
+    line_and_route pt (Line.Label (Label.Answered i o)) (answer_id i) w e refl fit (λ s k. quiet_label pt (Label.Answered i o) s (Some (answer_id i)) h k (bag_answered h.r h.e pt.kernel s i o k h.sound) (λ z. refl) (λ j. refl))
+
+-- a line that ends a move is followed by the answer, if somebody asked for it
+ends_row : (pt : Point) (l : Line) (q : Option Note) (o : Outcome) (w : Spelled) → label_of l ≡ None → touches l ≡ false → PairsFit pt.view → State None (moved pt l pt.kernel) → spelled pt (Says l ∷ tells_asker q o) ≡ Some w → State None w.point
+ends_row pt l None o w none quiet fit h e = line_ends pt l w none h e
+ends_row pt l (Some n) o w none quiet fit h e =
+    let k = line_next pt l (answers_move n.id o) w none e in
+    State-at None k.rest.point w.point k.point (answers_row (moved pt l pt.kernel) n.id o k.rest h (fits_as pt.view (seen pt.kernel pt.view l) (pair_same pt.view l quiet) fit) k.more)
+
+-- a process leaves, once it is frozen
+pub goes_row : (pt : Point) (p : Pid) (to : ℕ) (w : Spelled) → State None (moved pt (Line.Migration Stage.Frozen p) pt.kernel) → PairsFit pt.view → spelled pt (leaves_for p to) ≡ Some w → State None w.point
+goes_row pt p to w there fit e =
     let l = Line.Migration Stage.Frozen p in
     let next = moved pt l pt.kernel in
     let n = line_next pt l (Says (Line.Migration Stage.Asked p) ∷ to_kernel MessageKind.Ask to ∷ []) w refl e in
-    let there : State None next = goes_first pt l i is refl h front mine (λ z. frozen_off pt.view p z) in
     let fit' : PairsFit next.view = fits_as pt.view next.view (pair_same pt.view l refl) fit in
     State-at None n.rest.point w.point n.point
     (line_owns next (Line.Migration Stage.Asked p) MessageKind.Ask (pid_of to 0) to n.rest refl refl fit' (by_line None next (Line.Migration Stage.Asked p) refl there there.stands (λ j. refl)) n.more)
+
+-- it was asked to move in this group
+pub frozen_state : (pt : Point) (p : Pid) (to : ℕ) → State None pt → pt.view.topic ≡ Target to → State None (moved pt (Line.Migration Stage.Frozen p) pt.kernel)
+frozen_state pt p to h asked =
+    let l = Line.Migration Stage.Frozen p in
+    let told : (j : MsgId) → (view_after pt.view l).told j ≡ pt.view.told j = λ j. ap (λ (f : MsgId → Option Told). f j) (hushed pt.view l refl).told in
+    by_line None pt l refl h (Stands-stays (letters h.own pt.kernel.bag) pt.view (view_after pt.view l) (λ z. asked_off pt.view p to asked z) told h.stands) told
+
+pub asked_row : (pt : Point) (p : Pid) (to : ℕ) (w : Spelled) → State None pt → PairsFit pt.view → pt.view.topic ≡ Target to → spelled pt (leaves_for p to) ≡ Some w → State None w.point
+asked_row pt p to w h fit asked e = goes_row pt p to w (frozen_state pt p to h asked) fit e
+
+-- a directive has it move
+moves_row : (pt : Point) (i : MsgId) (is : List MsgId) (p : Pid) (to : ℕ) (same : Bool) (w : Spelled) → State None pt → PairsFit pt.view → pt.view.topic ≡ NothingElse → pt.view.inbox pt.view.acting ≡ i ∷ is → is_kernels i ≡ true
+    → spelled pt (if same then Says (Line.Here i) ∷ [] else leaves_for p to) ≡ Some w → State None w.point
+moves_row pt i is p to true w h fit topic front mine e = line_ends pt (Line.Here i) w refl (goes_front pt (Line.Here i) i is refl h front mine (λ z. refl)) e
+moves_row pt i is p to false w h fit topic front mine e = goes_row pt p to w (goes_first pt (Line.Migration Stage.Frozen p) i is refl h front mine (λ z. frozen_off pt.view p topic z)) fit e
 
 accepts_row : (pt : Point) (i : MsgId) (is : List MsgId) (p : Pid) (from : ℕ) (room : Bool) (slots blocks : ℕ) (w : Spelled) → State None pt → PairsFit pt.view → pt.view.inbox pt.view.acting ≡ i ∷ is → is_kernels i ≡ true → spelled pt (accepts from p room slots blocks) ≡ Some w → State None w.point
 accepts_row pt i is p from true slots blocks w h fit front mine e =
@@ -183,23 +213,28 @@ both_same o pt m p sees = sym (ap (λ (q : List MsgId). q ++ o.view.held m p) (s
 told_row : (o pt : Point) (m : ℕ) (i : MsgId) (is : List MsgId) (p : Pid) (room : Bool × ℕ × ℕ) (x : PlainProcess) (k : MessageKind) (parts : List Part) (w : Spelled) → State None pt → PairsFit pt.view → pt.view.inbox pt.view.acting ≡ i ∷ is → is_kernels i ≡ true → SeesSame o pt m
     → kernel_told o m i p room x k ≡ Some parts → spelled pt parts ≡ Some w → State None w.point
 told_row o pt m i is p room x MessageKind.Ask parts w h fit front mine sees e n = accepts_row pt i is p i.from.home room.0 room.1 room.2 w h fit front mine (given pt (accepts i.from.home p room.0 room.1 room.2) parts w e n)
-told_row o pt m i is p room x MessageKind.Refuse parts w h fit front mine sees e n = line_ends pt (Line.Stays p) w refl (comes_back pt (Line.Stays p) i is p refl h front mine (λ z. refl)) (given pt (Says (Line.Stays p) ∷ []) parts w e n)
+told_row o pt m i is p room x MessageKind.Refuse parts w h fit front mine sees e n =
+    let q = o.kernel.notes p in
+    ends_row pt (Line.Stays p) q Outcome.Stayed w refl refl fit (comes_back pt (Line.Stays p) i is p refl h front mine (λ z. refl)) (given pt (Says (Line.Stays p) ∷ tells_asker q Outcome.Stayed) parts w e n)
 told_row o pt m i is p room x MessageKind.PullState parts w h fit front mine sees e n = proto_row pt i is MessageKind.State w h fit front mine (given pt (gives_piece i MessageKind.State) parts w e n)
 told_row o pt m i is p room x MessageKind.State parts w h fit front mine sees e n = chunk_row pt i is p (o.view.asked p == chunks_of x) w h fit front mine (given pt (takes_chunk i p (o.view.asked p == chunks_of x)) parts w e n)
 told_row o pt m i is p room x MessageKind.PullBlock parts w h fit front mine sees e n = proto_row pt i is MessageKind.Memory w h fit front mine (given pt (gives_piece i MessageKind.Memory) parts w e n)
 told_row o pt m i is p room x MessageKind.Memory parts w h fit front mine sees e n = block_row pt i is p (o.view.asked p == pieces_of x) w h fit front mine (given pt (takes_block i p (o.view.asked p == pieces_of x)) parts w e n)
 told_row o pt m i is p room x MessageKind.AllTaken parts w h fit front mine sees e n = leaves_row pt i is p (o.view.queue m p ++ o.view.held m p) (o.view.known m p) parts w h fit front mine (both_same o pt m p sees) e n
-told_row o pt m i is p room x MessageKind.Restart parts w h fit front mine sees e n = line_ends pt (Line.Migration Stage.Restarted p) w refl (comes_back pt (Line.Migration Stage.Restarted p) i is p refl h front mine (λ z. restarted_off pt.view p z)) (given pt (Says (Line.Migration Stage.Restarted p) ∷ []) parts w e n)
+told_row o pt m i is p room x MessageKind.Restart parts w h fit front mine sees e n =
+    let q = o.kernel.notes p in
+    let l = Line.Migration Stage.Restarted p in
+    ends_row pt l q Outcome.Done w refl refl fit (comes_back pt l i is p refl h front mine (λ z. restarted_off pt.view p z)) (given pt (Says l ∷ tells_asker q Outcome.Done) parts w e n)
 told_row o pt m i is p room x _ parts w h fit front mine sees e n = cc
 
 updated_row : (o pt : Point) (i : MsgId) (is : List MsgId) (n : ℕ) (parts : List Part) (w : Spelled) → State None pt → pt.view.inbox pt.view.acting ≡ i ∷ is → is_kernels i ≡ true → Some (Says (Line.Updated i n) ∷ []) ≡ Some parts → spelled pt parts ≡ Some w → State None w.point
 updated_row o pt i is n parts w h front mine e k = line_ends pt (Line.Updated i n) w refl (goes_front pt (Line.Updated i n) i is refl h front mine (λ z. refl)) (given pt (Says (Line.Updated i n) ∷ []) parts w e k)
 
-here_row : (o pt : Point) (m : ℕ) (i : MsgId) (is : List MsgId) (t : Told) (k : MessageKind) (parts : List Part) (w : Spelled) → State None pt → PairsFit pt.view → pt.view.inbox pt.view.acting ≡ i ∷ is → is_kernels i ≡ true
+here_row : (o pt : Point) (m : ℕ) (i : MsgId) (is : List MsgId) (t : Told) (k : MessageKind) (parts : List Part) (w : Spelled) → State None pt → PairsFit pt.view → pt.view.topic ≡ NothingElse → pt.view.inbox pt.view.acting ≡ i ∷ is → is_kernels i ≡ true
     → here_told o m i t k ≡ Some parts → spelled pt parts ≡ Some w → State None w.point
-here_row o pt m i is t MessageKind.Migrate parts w h fit front mine e n = moves_row pt i is t.receiver (target_of (Some t)) (m == target_of (Some t)) w h fit front mine (given pt (moves_to m i t.receiver (target_of (Some t))) parts w e n)
-here_row o pt m i is t MessageKind.Update parts w h fit front mine e n = updated_row o pt i is _ parts w h front mine e n
-here_row o pt m i is t _ parts w h fit front mine e n = cc
+here_row o pt m i is t MessageKind.Migrate parts w h fit topic front mine e n = moves_row pt i is t.receiver (target_of (Some t)) (m == target_of (Some t)) w h fit topic front mine (given pt (moves_to m i t.receiver (target_of (Some t))) parts w e n)
+here_row o pt m i is t MessageKind.Update parts w h fit topic front mine e n = updated_row o pt i is _ parts w h front mine e n
+here_row o pt m i is t _ parts w h fit topic front mine e n = cc
 
 ended_row : (pt : Point) (i : MsgId) (is : List MsgId) (k : MessageKind) (parts : List Part) (w : Spelled) → State None pt → pt.view.inbox pt.view.acting ≡ i ∷ is → is_kernels i ≡ true → ended_told i k ≡ Some parts → spelled pt parts ≡ Some w → State None w.point
 ended_row pt i is MessageKind.Migrate parts w h front mine e n = line_ends pt (Line.NoMove i) w refl (goes_front pt (Line.NoMove i) i is refl h front mine (λ z. refl)) (given pt (Says (Line.NoMove i) ∷ []) parts w e n)
@@ -210,14 +245,14 @@ server_row : (o pt : Point) (i : MsgId) (is : List MsgId) (t : Told) (k : Messag
 server_row o pt i is t MessageKind.Update parts w h front mine e n = updated_row o pt i is _ parts w h front mine e n
 server_row o pt i is t _ parts w h front mine e n = cc
 
-process_row : (o pt : Point) (m : ℕ) (i : MsgId) (is : List MsgId) (t : Told) (k : Known) (parts : List Part) (w : Spelled) → State None pt → PairsFit pt.view → pt.view.inbox pt.view.acting ≡ i ∷ is → is_kernels i ≡ true
+process_row : (o pt : Point) (m : ℕ) (i : MsgId) (is : List MsgId) (t : Told) (k : Known) (parts : List Part) (w : Spelled) → State None pt → PairsFit pt.view → pt.view.topic ≡ NothingElse → pt.view.inbox pt.view.acting ≡ i ∷ is → is_kernels i ≡ true
     → process_told o m i t k ≡ Some parts → spelled pt parts ≡ Some w → State None w.point
-process_row o pt m i is t Unknown parts w h fit front mine e n = cc
-process_row o pt m i is t Here parts w h fit front mine e n = here_row o pt m i is t t.kind parts w h fit front mine e n
-process_row o pt m i is t (Forward at moves) parts w h fit front mine e n =
+process_row o pt m i is t Unknown parts w h fit topic front mine e n = cc
+process_row o pt m i is t Here parts w h fit topic front mine e n = here_row o pt m i is t t.kind parts w h fit topic front mine e n
+process_row o pt m i is t (Forward at moves) parts w h fit topic front mine e n =
     forwards_row pt o.addresses i is t.kind manager at w h fit front (given pt (forwards_on o.addresses i t.kind manager at) parts w e n)
-process_row o pt m i is t Ended parts w h fit front mine e n = ended_row pt i is t.kind parts w h front mine e n
-process_row o pt m i is t _ parts w h fit front mine e n = held_row pt i is w h front (given pt (Says (Line.Held i) ∷ []) parts w e n)
+process_row o pt m i is t Ended parts w h fit topic front mine e n = ended_row pt i is t.kind parts w h front mine e n
+process_row o pt m i is t _ parts w h fit topic front mine e n = held_row pt i is w h front (given pt (Says (Line.Held i) ∷ []) parts w e n)
 
 kernel_row : (b : Boot) (o pt : Point) (m : ℕ) (i : MsgId) (is : List MsgId) (k : MessageKind) (a : About) (parts : List Part) (w : Spelled) → State None pt → PairsFit pt.view → pt.view.inbox pt.view.acting ≡ i ∷ is → is_kernels i ≡ true → SeesSame o pt m
     → kernel_hears b o m i k a ≡ Some parts → spelled pt parts ≡ Some w → State None w.point
@@ -226,18 +261,18 @@ kernel_row b o pt m i is k (Of p) parts w h fit front mine sees e n =
     told_row o pt m i is p (fits (free_room b o m) (length x.memory / 256)) x k parts w h fit front mine sees last n
 kernel_row b o pt m i is k _ parts w h fit front mine sees e n = cc
 
-hears_by : (b : Boot) (o pt : Point) (m : ℕ) (i : MsgId) (is : List MsgId) (t : Told) (c d g : Bool) (parts : List Part) (w : Spelled) → State None pt → PairsFit pt.view → pt.view.inbox pt.view.acting ≡ i ∷ is → is_kernels i ≡ true → SeesSame o pt m
+hears_by : (b : Boot) (o pt : Point) (m : ℕ) (i : MsgId) (is : List MsgId) (t : Told) (c d g : Bool) (parts : List Part) (w : Spelled) → State None pt → PairsFit pt.view → pt.view.topic ≡ NothingElse → pt.view.inbox pt.view.acting ≡ i ∷ is → is_kernels i ≡ true → SeesSame o pt m
     → (if c then kernel_hears b o m i t.kind t.about else if d then server_told o i t t.kind else if g then server_told o i t t.kind else process_told o m i t (o.view.known m t.receiver)) ≡ Some parts → spelled pt parts ≡ Some w → State None w.point
-hears_by b o pt m i is t true d g parts w h fit front mine sees e n = kernel_row b o pt m i is t.kind t.about parts w h fit front mine sees e n
-hears_by b o pt m i is t false true g parts w h fit front mine sees e n = server_row o pt i is t t.kind parts w h front mine e n
-hears_by b o pt m i is t false false true parts w h fit front mine sees e n = server_row o pt i is t t.kind parts w h front mine e n
-hears_by b o pt m i is t false false false parts w h fit front mine sees e n = process_row o pt m i is t (o.view.known m t.receiver) parts w h fit front mine e n
+hears_by b o pt m i is t true d g parts w h fit topic front mine sees e n = kernel_row b o pt m i is t.kind t.about parts w h fit front mine sees e n
+hears_by b o pt m i is t false true g parts w h fit topic front mine sees e n = server_row o pt i is t t.kind parts w h front mine e n
+hears_by b o pt m i is t false false true parts w h fit topic front mine sees e n = server_row o pt i is t t.kind parts w h front mine e n
+hears_by b o pt m i is t false false false parts w h fit topic front mine sees e n = process_row o pt m i is t (o.view.known m t.receiver) parts w h fit topic front mine e n
 
-pub hears_row : (b : Boot) (o pt : Point) (m : ℕ) (i : MsgId) (is : List MsgId) (t : Option Told) (parts : List Part) (w : Spelled) → State None pt → PairsFit pt.view → pt.view.inbox pt.view.acting ≡ i ∷ is → pt.kernel.bag i ≡ None → SeesSame o pt m
+pub hears_row : (b : Boot) (o pt : Point) (m : ℕ) (i : MsgId) (is : List MsgId) (t : Option Told) (parts : List Part) (w : Spelled) → State None pt → PairsFit pt.view → pt.view.topic ≡ NothingElse → pt.view.inbox pt.view.acting ≡ i ∷ is → pt.kernel.bag i ≡ None → SeesSame o pt m
     → hears b o m i t ≡ Some parts → spelled pt parts ≡ Some w → State None w.point
-hears_row b o pt m i is None parts w h fit front none sees e n = cc
-hears_row b o pt m i is (Some t) parts w h fit front none sees e n =
-    hears_by b o pt m i is t (t.receiver.num == 0) (pid_eq t.receiver switchboard) (pid_eq t.receiver manager) parts w h fit front (front_kernels pt i is h front none) sees e n
+hears_row b o pt m i is None parts w h fit topic front none sees e n = cc
+hears_row b o pt m i is (Some t) parts w h fit topic front none sees e n =
+    hears_by b o pt m i is t (t.receiver.num == 0) (pid_eq t.receiver switchboard) (pid_eq t.receiver manager) parts w h fit topic front (front_kernels pt i is h front none) sees e n
 
 -- the directive to migrate
 pub migrates_row : (o pt : Point) (p : Pid) (w : Spelled) → State None pt → PairsFit pt.view → spelled pt (migrates o p) ≡ Some w → State None w.point

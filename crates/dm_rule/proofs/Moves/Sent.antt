@@ -1,7 +1,7 @@
 -- Messages that go on: one that is forwarded, and all that stand in the lists of a process that has left.
 use Rattle.dm_rule.proofs.Names.{◌≡◌, ℕ, zero, suc, ◌+◌, ◌≤◌, ◌==◌, ◌&&◌, Bool, true, false, List, [], ◌∷◌, ◌++◌, refl, ap, ◌∙◌, sym, subst, arith, length, ◌⊎◌, inl, inr, if◌then◌else◌, Option, None, Some, cases_Bool, nat_tests, Pid, MsgId}
 use Rattle.dm_rule.proofs.Names.{MessageKind, id_eq, bind, Label, OneKernel, Line, Load, View, Pair, Told, view_after, handled, handled_first, receiver_of, is_kernels, own_id, forwarded_for, routed_on, after_put, Point, label_of}
-use Rattle.dm_rule.proofs.Names.{kernel_after, moved, after, Part, Says, Again, Owns, Spelled, lines_of, puts, behind, spelled, sends_on, Spot, Queue, Held, times, ids_at, standing, id_eq-is, bind-is}
+use Rattle.dm_rule.proofs.Names.{kernel_after, moved, seen, after, Part, Says, Again, Owns, Spelled, lines_of, puts, behind, spelled, sends_on, Spot, Queue, Held, times, ids_at, standing, id_eq-is, bind-is}
 use Rattle.std.proofs.Common.{length-append}
 use Rattle.dm_rule.proofs.Once.{one_of}
 use Rattle.dm_rule.proofs.Lines.{Bag, hidden, Stands, Stands-same, Stands-handled}
@@ -122,7 +122,7 @@ pub line_owns : (pt : Point) (l : Line) (k : MessageKind) (q : Pid) (b : ℕ) (w
 line_owns pt l k q b w none quiet fits h e =
     let n = line_next pt l (Owns k q b ∷ []) w none e in
     State-at None n.rest.point w.point n.point
-    (owns_ends (moved pt l pt.kernel) k q b n.rest (record { state = h; fits = fits_as pt.view (view_after pt.view l) (pair_same pt.view l quiet) fits }) n.more)
+    (owns_ends (moved pt l pt.kernel) k q b n.rest (record { state = h; fits = fits_as pt.view (seen pt.kernel pt.view l) (pair_same pt.view l quiet) fits }) n.more)
 
 -- the messages that were on the way are put again
 pub again_next : (pt : Point) (b : ℕ) (i : MsgId) (is : List MsgId) (ps : List Part) (w : Spelled) → Way (i ∷ is) pt → spelled pt (Again i b ∷ ps) ≡ Some w → PutNext (Way is) ps w

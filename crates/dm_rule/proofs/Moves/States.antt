@@ -1,11 +1,12 @@
 -- What migration says keeps that each message stands once: the kernels' own messages come and go, and messages go on.
 use Rattle.dm_rule.proofs.Names.{◌≡◌, ℕ, suc, ◌+◌, ◌≤◌, ◌==◌, Bool, true, false, List, [], ◌∷◌, refl, ap, ◌∙◌, sym, subst, arith, inl, inr, if◌then◌else◌, Option, None, Some, cases_Bool, false≢true, nat_tests, Pid, pid_of, MsgId}
-use Rattle.dm_rule.proofs.Names.{MessageKind, id_eq, id_of, PlainMessage, Line, Load, at_machine, View, Told, view_after, handled_first, receiver_of, is_kernels, own_id, to_of, Point, moved, Spot, Inbox, Untaken, times, ids_at, standing}
-use Rattle.dm_rule.proofs.Names.{id_eq-is, id_eq-same, Sound}
+use Rattle.dm_rule.proofs.Names.{MessageKind, id_eq, id_of, PlainMessage, Line, Load, at_machine, View, Told, view_after, handled_first, receiver_of, is_kernels, own_id, to_of, Point, moved, seen, Spot, Inbox, Untaken, times, ids_at}
+use Rattle.dm_rule.proofs.Names.{standing, id_eq-is, id_eq-same, Sound}
 use Rattle.dm_rule.specs.View as view
 use Rattle.dm_rule.proofs.Once.{one_of}
 use Rattle.dm_rule.proofs.Lines.{Bag, hidden, having, Stands, Stands-same, Stands-stays, Stands-handled, untold_tells, having_off, pair_keeps, not_true}
 use Rattle.dm_rule.proofs.Letters.{letters, letters_own, letters_bag}
+use Rattle.dm_rule.proofs.Seen.{Stands-about}
 use Rattle.dm_rule.proofs.Hushed.{is_put, hushed}
 use Rattle.dm_rule.proofs.States.{State, PairsFit, put_stands, put_told_off, numbered_as}
 use Rattle.dm_rule.proofs.Moves.Lists.{without_all, without_off, under_way, first_off}
@@ -53,7 +54,7 @@ by_own pt l i is quiet h front mine go =
       e = h.e;
       sound = h.sound;
       own = hidden (Some i) h.own;
-      stands = Stands-same (hidden (Some i) bag) (letters (hidden (Some i) h.own) pt.kernel.bag) (view_after pt.view l) (hidden_letters h.own pt.kernel.bag i mine) (go first);
+      stands = Stands-about (letters (hidden (Some i) h.own) pt.kernel.bag) (view_after pt.view l) (seen pt.kernel pt.view l).topic (Stands-same (hidden (Some i) bag) (letters (hidden (Some i) h.own) pt.kernel.bag) (view_after pt.view l) (hidden_letters h.own pt.kernel.bag i mine) (go first));
       untold = λ j zero_ other. ap (λ (f : MsgId → Option Told). f j) hush.told ∙ h.untold j zero_ other;
       numbered = numbered_as pt.view (view_after pt.view l) hush.count hush.told h.numbered;
       pending = λ j k. cc;

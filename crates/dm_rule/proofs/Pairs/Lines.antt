@@ -1,8 +1,9 @@
 -- What lines and parts keep of the pairs of machines.
 use Rattle.dm_rule.proofs.Names.{◌≡◌, ℕ, ◌<◌, ◌≤◌, ◌==◌, Bool, true, false, List, [], ◌∷◌, ◌++◌, refl, ap, ◌∙◌, sym, subst, arith, length, ⊤, if◌then◌else◌, Option, None, Some, Pid, MsgId, MessageKind, plain_kind, Label, bind, Line, Load}
 use Rattle.dm_rule.proofs.Names.{Stage, View, Pair, Told, view_after, after_label, after_stage, after_packet, queued_for, held_for, dropped_for, forwarded_for, served_told, kills, receiver_of, taken_id, handled, own_id, after_proto}
-use Rattle.dm_rule.proofs.Names.{follows_up, asks_on, About, NothingElse, Receiver, Point, kernel_after, label_of, moved, after_line, after, Part, Says, Routes, Again, Owns, Transmits, Spelled, spelled, behind, lines_of, puts, packet_line}
-use Rattle.dm_rule.proofs.Names.{goes_out}
+use Rattle.dm_rule.proofs.Names.{follows_up, asks_on, About, NothingElse, Target, seen, sets_off, Receiver, Point, kernel_after, label_of, moved, after_line, after, Part, Says, Routes, Again, Owns, Transmits, Spelled, spelled, behind}
+use Rattle.dm_rule.proofs.Names.{lines_of, puts, packet_line, goes_out, IsUnasked}
+use Rattle.dm_rule.proofs.Seen.{seen_is}
 use Rattle.dm_rule.proofs.Pairs.Stand.{Later}
 use Rattle.dm_rule.proofs.Pairs.Moves.{Paired, Goes, Goes-same, again_goes, ack_goes, route_out, route_packed, route_home}
 pub use Rattle.dm_laws.proofs.Steps.{bind-is}
@@ -51,8 +52,12 @@ label_pair v (Label.Dropped id) = dropped_pair (handled v id) id (receiver_of (v
 label_pair v (Label.Served id) = served_pair (handled v id) (v.told id)
 label_pair v _ = refl
 
+sets_pair : (v : View) (p : Pid) (a : About) → (sets_off v p a).pair ≡ v.pair
+sets_pair v p (Target m) = refl
+sets_pair v p _ = refl
+
 pub stage_pair : (v : View) (p : Pid) (s : Stage) → (after_stage v p s).pair ≡ v.pair
-stage_pair v p Stage.Frozen = refl
+stage_pair v p Stage.Frozen = sets_pair v p v.topic
 stage_pair v p _ = refl
 
 pub asks_pair : (v : View) (a : About) → (asks_on v a).pair ≡ v.pair
@@ -85,22 +90,22 @@ pair_same v (Line.Proto id) e = proto_pair (handled v id) (v.told id)
 pair_same v _ e = refl
 
 -- the view after a line
-pub line_view : (pt next : Point) (l : Line) → after_line pt l ≡ Some next → next.view ≡ view_after pt.view l
+pub line_view : (pt next : Point) (l : Line) → after_line pt l ≡ Some next → next.view ≡ seen pt.kernel pt.view l
 line_view pt next l e =
     let (s, k, is) = bind-is (kernel_after pt.kernel (label_of l)) (λ s. Some (moved pt l s)) next e in
     let f : moved pt l s ≡ next = cc in
     sym (ap (λ (q : Point). q.view) f)
 
-pub one_view : (pt next : Point) (l : Line) → after pt (l ∷ []) ≡ Some next → next.view ≡ view_after pt.view l
+pub one_view : (pt next : Point) (l : Line) → after pt (l ∷ []) ≡ Some next → next.view ≡ seen pt.kernel pt.view l
 one_view pt next l e =
     let (mid, first, rest) = bind-is (after_line pt l) (λ q. after q []) next e in
     let f : mid ≡ next = cc in
     sym (ap (λ (q : Point). q.view) f) ∙ line_view pt mid l first
 
-pub two_views : (pt next : Point) (l k : Line) → after pt (l ∷ k ∷ []) ≡ Some next → next.view ≡ view_after (view_after pt.view l) k
-two_views pt next l k e =
+pub two_views : (pt next : Point) (l k : Line) → IsUnasked (label_of l) → IsUnasked (label_of k) → after pt (l ∷ k ∷ []) ≡ Some next → next.view ≡ view_after (view_after pt.view l) k
+two_views pt next l k first_off next_off e =
     let (mid, first, rest) = bind-is (after_line pt l) (λ q. after q (k ∷ [])) next e in
-    one_view mid next k rest ∙ ap (λ (v : View). view_after v k) (line_view pt mid l first)
+    one_view mid next k rest ∙ seen_is mid.kernel mid.view k next_off ∙ ap (λ (v : View). view_after v k) (line_view pt mid l first ∙ seen_is pt.kernel pt.view l first_off)
 
 -- a part first, and where the others lead from there
 pub record Onward (pt : Point) (p : Part) (ps : List Part) (w : Spelled) : Type 0 where
@@ -120,7 +125,7 @@ onward pt p ps w e =
     let f : behind ls rest ≡ w = cc in
     record { lines = ls; lines_are = lines; next = next; leads = leads; rest = rest; on = on; end = ap (λ (x : Spelled). x.point) f }
 
-pub says_view : (pt : Point) (l : Line) (ps : List Part) (w : Spelled) (o : Onward pt (Says l) ps w) → o.next.view ≡ view_after pt.view l
+pub says_view : (pt : Point) (l : Line) (ps : List Part) (w : Spelled) (o : Onward pt (Says l) ps w) → o.next.view ≡ seen pt.kernel pt.view l
 says_view pt l ps w o =
     let f : l ∷ [] ≡ o.lines = let g = o.lines_are in cc in
     one_view pt o.next l (ap (after pt) f ∙ o.leads)
@@ -140,7 +145,7 @@ puts_goes pt next b id k q false false e f is h =
     subst (λ (v : View). Goes pt.view.pair v.pair) (sym (one_view pt next (Line.Put pt.view.acting b id k q) is)) (route_out pt.view.pair pt.view.acting b id e h)
 puts_goes pt next b id k q false true e f is h =
     let p = packet_line pt.view pt.view.acting b (Load.Data (length (pt.view.pair pt.view.acting b).ids)) in
-    subst (λ (v : View). Goes pt.view.pair v.pair) (sym (two_views pt next (Line.Put pt.view.acting b id k q) p is)) (route_packed pt.view.pair pt.view.acting b id e f h)
+    subst (λ (v : View). Goes pt.view.pair v.pair) (sym (two_views pt next (Line.Put pt.view.acting b id k q) p tt tt is)) (route_packed pt.view.pair pt.view.acting b id e f h)
 
 puts_lead : (pt next : Point) (b : ℕ) (id : MsgId) (k : MessageKind) (q : Pid) (ls : List Line) → Some (puts pt.view b id k q) ≡ Some ls → after pt ls ≡ Some next → Paired pt.view.pair → Goes pt.view.pair next.view.pair
 puts_lead pt next b id k q ls is leads h =

@@ -14,7 +14,7 @@ fit_line (Line.Acked a b n) h = absurd h
 fit_line _ h = refl
 
 fit_kept : (f : ℕ → ℕ → Pair) → Kept (AllFit f)
-fit_kept f = record { none = tt; says = λ l ps h k. (fit_line l h, k); again = λ i to ps k. (tt, k); owns = λ k q to ps h. (tt, h) }
+fit_kept f = record { none = tt; says = λ l ps h k. (fit_line l h, k); again = λ i to ps k. (tt, k); owns = λ k q to ps h. (tt, h); answers = λ i r. (refl, (tt, tt)) }
 
 pub forwards_fit : (f : ℕ → ℕ → Pair) (a : Addresses) (id : MsgId) (k : MessageKind) (sender : Pid) (to : ℕ) → AllFit f (forwards_on a id k sender to)
 forwards_fit f a id k sender to = kept_forward (AllFit f) (fit_kept f) a id k sender to

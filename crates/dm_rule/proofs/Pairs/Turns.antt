@@ -11,7 +11,7 @@ fit_loose f = record { none = tt; label = λ l ps h. (refl, h); routes = λ i ps
 comes_fit : (f : ℕ → ℕ → Pair) (b : Boot) (pt : Point) (m : ℕ) (id : MsgId) (o : Option PlainMessage) (ps : List Part) → comes_to b pt m id o ≡ Some ps → AllFit f ps
 comes_fit f b pt m id None ps e = hears_fit f b pt m id (pt.view.told id) ps e
 comes_fit f b pt m id (Some msg) ps e =
-    loose_handles (AllFit f) (AllFit f) (fit_loose f) (λ qs h. h) b pt m id msg ps (λ here. (refl, tt)) (refl, tt) (λ to moves at_. forwards_fit f pt.addresses id (plain_kind msg.what) msg.sender to) e
+    loose_handles (AllFit f) (AllFit f) (fit_loose f) (λ qs h. h) b pt m id msg ps (λ here. (refl, tt)) (refl, tt) (λ to here is apart. (refl, (refl, (refl, (tt, tt))))) (λ to moves at_. forwards_fit f pt.addresses id (plain_kind msg.what) msg.sender to) e
 
 pub turns_fit : (f : ℕ → ℕ → Pair) (b : Boot) (pt : Point) (m : ℕ) (ids : List MsgId) (ps : List Part) → turns b pt m ids ≡ Some ps → AllFit f ps
 turns_fit f b pt m [] ps e = loose_round (AllFit f) (fit_loose f) b pt m (first_runnable pt.kernel (pt.view.queue m) (pt.view.ring m)) ps (refl, tt) e

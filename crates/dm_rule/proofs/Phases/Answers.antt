@@ -10,6 +10,7 @@ use Rattle.dm_rule.proofs.Hushed.{is_put, hushed}
 use Rattle.dm_rule.proofs.Pairs.Lines.{touches, pair_same}
 use Rattle.dm_rule.proofs.States.{State, PairsFit, by_packet, puts_next, said}
 use Rattle.dm_rule.proofs.Said.{fits_as}
+use Rattle.dm_rule.proofs.Seen.{seen_none}
 use Rattle.dm_rule.proofs.Moves.Lists.{first_off}
 use Rattle.dm_rule.proofs.Moves.States.{by_own_put}
 use Rattle.dm_rule.proofs.Moves.Sent.{line_next, fits_put, fits_packet}
@@ -138,9 +139,10 @@ answer_row pt l i is t k b w h u none quiet calm front told there off others kno
     let v = pt.view in
     let n = line_next pt l (Owns k (pid_of b 0) b ∷ []) w none e in
     let next = moved pt l pt.kernel in
-    let learns = first_learns pt l i is t u.p h.state quiet front told (λ x. ap (λ (y : Told). y.about) u.told) off others in
+    let same : next.view ≡ view_after v l = seen_none pt.kernel v l none in
+    let learns = subst (λ (x : View). Learns v x u.p) (sym same) (first_learns pt l i is t u.p h.state quiet front told (λ x. ap (λ (y : Told). y.about) u.told) off others) in
     let apart : is_apart (Moves k u.s u.d None) ≡ true = still_apart v h.phases u.p u.k k u.s u.d i u.phase between in
     let turned = learns_phases v next.view u.p (Moves k u.s u.d None) h.phases (none_only u.p) learns refl apart known
-    (λ j x z. subst (λ (y : MsgId). standing next.view y z ≡ 0) (token_one (h.phases.of u.p) u.k u.s u.d i j u.phase x) (front_gone pt l i is h.state quiet front off z)) in
+    (λ j x z. ap (λ (y : View). standing y j z) same ∙ subst (λ (y : MsgId). standing (view_after v l) y z ≡ 0) (token_one (h.phases.of u.p) u.k u.s u.d i j u.phase x) (front_gone pt l i is h.state quiet front off z)) in
     let whole : WholeBut (Some u.p) next = record { state = there; fits = fits_as v next.view (pair_same v l calm) h.fits; phases = turned.phases } in
-    subst Whole n.point (owns_whole next u.p k u.s u.d b n.rest whole turned.now topic (acting ∙ u.acting ∙ turn) to n.more)
+    subst Whole n.point (owns_whole next u.p k u.s u.d b n.rest whole turned.now (ap (λ (x : View). x.topic) same ∙ topic) (acting ∙ u.acting ∙ turn) to n.more)

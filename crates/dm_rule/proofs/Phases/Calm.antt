@@ -1,7 +1,9 @@
 -- What leaves the migrations of all processes as they are.
 use Rattle.dm_rule.proofs.Names.{◌≡◌, ◌⊎◌, ℕ, ◌≤◌, ◌==◌, ◌&&◌, not, true, false, refl, ap, ◌∙◌, sym, subst, inl, inr, Option, Some, cases_Bool, false≢true, Pid, MsgId, MessageKind, id_eq, View, Told, Spot, Queue, Held, Inbox, Untaken}
-use Rattle.dm_rule.proofs.Names.{standing, id_eq-is, is_between, is_apart, told_between, Phase, Moves, knows, token_in, sender_in, receiver_in, IsToken, HasToken, Alone, IsIn, left_true}
+use Rattle.dm_rule.proofs.Names.{standing, id_eq-is, is_between, is_apart, told_between, Phase, Moves, knows, token_in, sender_in, receiver_in, IsToken, HasToken, Alone, IsIn, left_true, About, times}
+use Rattle.dm_rule.specs.View as view
 use Rattle.dm_rule.proofs.Lines.{not_true}
+use Rattle.dm_rule.proofs.Seen.{about_off}
 
 -- the machine that a spot is on, or leads to
 abbrev pub machine_of : Spot → ℕ
@@ -123,3 +125,7 @@ calm_still v w known told spots = record {
   back = λ i t e b z s. inl (subst (λ n. 1 ≤ n) (spots i z) s);
   on = λ i t e b z s. (z, subst (λ n. 1 ≤ n) (sym (spots i z)) s);
 }
+
+-- the topic is no part of it
+pub calm_about : (v w : View) (a : About) → Calm v w → Calm v (view.about w a)
+calm_about v w a c = calm_trans v w (view.about w a) c (calm_still w (view.about w a) (λ m p. refl) (λ i. refl) (λ i z. ap (times i) (about_off w a z)))

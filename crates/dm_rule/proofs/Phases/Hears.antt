@@ -2,18 +2,20 @@
 use Rattle.dm_rule.proofs.Names.{◌≡◌, ℕ, ◌==◌, Bool, true, false, List, [], ◌∷◌, ◌++◌, refl, ap, ◌∙◌, sym, subst, length, arith, ◌/◌, if◌then◌else◌, Option, None, Some, false≢true, nat_tests, Pid, pid_eq, MsgId, MessageKind, Line, Stage}
 use Rattle.dm_rule.proofs.Names.{Boot, switchboard, manager, PlainProcess, View, Told, About, Of, Known, Unknown, Here, Forward, Ended, is_kernels, target_of, Addresses, Sender, is_told_back, Point, Part, Says, Owns, Spelled, spelled}
 use Rattle.dm_rule.proofs.Names.{to_kernel, forwards_on, moves_to, accepts, takes_chunk, takes_block, gives_piece, kernel_told, chunks_of, pieces_of, updates, here_told, ended_told, process_told, server_told, fits, free_room, kernel_hears}
-use Rattle.dm_rule.proofs.Names.{hears, is_between, bind-is}
+use Rattle.dm_rule.proofs.Names.{hears, is_between, bind-is, Label, Note, NothingElse, Outcome, bind, kernel_after, label_of, leaves_for, moved, tells_asker}
 use Rattle.dm_onekernel.specs.Step as kernel
-use Rattle.dm_rule.proofs.States.{State}
+use Rattle.dm_rule.proofs.Hushed.{is_put}
+use Rattle.dm_rule.proofs.States.{State, State-at}
+use Rattle.dm_rule.proofs.Moves.Sent.{line_next}
 use Rattle.dm_rule.proofs.Moves.States.{front_kernels}
 use Rattle.dm_rule.proofs.Moves.Rows.{SeesSame, given, both_same, hears_row}
-use Rattle.dm_rule.proofs.Telling.{Sane}
+use Rattle.dm_rule.proofs.Telling.{Sane, sane_line}
 use Rattle.dm_rule.proofs.Phases.Calm.{calm_same}
 use Rattle.dm_rule.proofs.Phases.Quiet.{Tame, AllQuiet, parts_settle}
 use Rattle.dm_rule.proofs.Phases.Stand.{InPhases, calm_phases}
 use Rattle.dm_rule.proofs.Phases.Answers.{Whole, due}
 use Rattle.dm_rule.proofs.Phases.Pieces.{ask_row, pull_state_row, pull_block_row, chunk_row, block_row}
-use Rattle.dm_rule.proofs.Phases.Rests.{stays_row, restart_row, frozen_row}
+use Rattle.dm_rule.proofs.Phases.Rests.{stays_whole, restart_whole, frozen_row}
 use Rattle.dm_rule.proofs.Phases.Leaves.{leaves_row}
 
 -- what the rule saw before the head is what stands behind it
@@ -21,6 +23,7 @@ pub record SeesAll (o pt : Point) (m : ℕ) : Type 0 where
   pub same : SeesSame o pt m
   pub acting : pt.view.acting ≡ m
   pub known : (q : Pid) → o.view.known m q ≡ pt.view.known pt.view.acting q
+  pub topic : pt.view.topic ≡ NothingElse
 
 -- quiet parts
 pub quiet_row : (parts : List Part) (pt : Point) (w : Spelled) → Whole pt → Sane pt → State None w.point → AllQuiet pt.view parts → spelled pt parts ≡ Some w → Whole w.point
@@ -35,61 +38,76 @@ told_quiet v false q to = tt
 pub forwards_quiet : (v : View) (a : Addresses) (i : MsgId) (k : MessageKind) (sender : Pid) (to : ℕ) → Tame v i → AllQuiet v (forwards_on a i k sender to)
 forwards_quiet v a i k sender to tame = (tame, (tame, told_quiet v (is_told_back k) sender (a (Sender i)).at))
 
+-- a line that ends a move is followed by the answer, if somebody asked for it
+asker_quiet : (v : View) (q : Option Note) (r : Outcome) → AllQuiet v (tells_asker q r)
+asker_quiet v None r = tt
+asker_quiet v (Some n) r = (tt, (tt, tt))
+
+ends_row : (pt : Point) (l : Line) (q : Option Note) (r : Outcome) (w : Spelled) → label_of l ≡ None → is_put l ≡ false → Whole (moved pt l pt.kernel) → Sane pt → State None w.point → spelled pt (Says l ∷ tells_asker q r) ≡ Some w → Whole w.point
+ends_row pt l q r w none quiet h sane state e =
+    let next = moved pt l pt.kernel in
+    let n = line_next pt l (tells_asker q r) w none e in
+    let sane_ : Sane next = sane_line pt next l quiet (ap (λ (o : Option Label). bind (kernel_after pt.kernel o) (λ s. Some (moved pt l s))) none) sane in
+    subst Whole n.point (quiet_row (tells_asker q r) next n.rest h sane_ (State-at None w.point n.rest.point (sym n.point) state) (asker_quiet next.view q r) n.more)
+
 about_same : (p q : Pid) → Of p ≡ Of q → p ≡ q
 about_same p q e = cc
 
 -- a message of the protocol, by its kind
-told_row : (o pt : Point) (m : ℕ) (i : MsgId) (is : List MsgId) (t : Told) (p : Pid) (room : Bool × ℕ × ℕ) (x : PlainProcess) (k : MessageKind) (parts : List Part) (w : Spelled) (h : Whole pt) → pt.view.inbox pt.view.acting ≡ i ∷ is → pt.view.told i ≡ Some t → is_kernels i ≡ true → SeesAll o pt m
+told_row : (o pt : Point) (m : ℕ) (i : MsgId) (is : List MsgId) (t : Told) (p : Pid) (room : Bool × ℕ × ℕ) (x : PlainProcess) (k : MessageKind) (parts : List Part) (w : Spelled) (h : Whole pt) → Sane pt → State None w.point → pt.view.inbox pt.view.acting ≡ i ∷ is → pt.view.told i ≡ Some t → is_kernels i ≡ true → SeesAll o pt m
     → t.kind ≡ k → t.about ≡ Of p → kernel_told o m i p room x k ≡ Some parts → spelled pt parts ≡ Some w → Whole w.point
-told_row o pt m i is t p room x MessageKind.Ask parts w h front told mine sees e about g n =
+told_row o pt m i is t p room x MessageKind.Ask parts w h sane state front told mine sees e about g n =
     let u = due pt i is t h.phases front told (ap is_between e) in
     let pu : u.p ≡ p = about_same u.p p (sym (ap (λ (y : Told). y.about) u.told) ∙ about) in
     let ku : u.k ≡ MessageKind.Ask = sym (ap (λ (y : Told). y.kind) u.told) ∙ e in
     let mine_ : kernel_told o m i u.p room x MessageKind.Ask ≡ Some parts = subst (λ (q : Pid). kernel_told o m i q room x MessageKind.Ask ≡ Some parts) (sym pu) g in
     ask_row pt i is t room.0 room.1 room.2 w h u ku front told mine (given pt (accepts i.from.home u.p room.0 room.1 room.2) parts w mine_ n)
-told_row o pt m i is t p room x MessageKind.Refuse parts w h front told mine sees e about g n =
+told_row o pt m i is t p room x MessageKind.Refuse parts w h sane state front told mine sees e about g n =
     let u = due pt i is t h.phases front told (ap is_between e) in
     let pu : u.p ≡ p = about_same u.p p (sym (ap (λ (y : Told). y.about) u.told) ∙ about) in
     let ku : u.k ≡ MessageKind.Refuse = sym (ap (λ (y : Told). y.kind) u.told) ∙ e in
     let mine_ : kernel_told o m i u.p room x MessageKind.Refuse ≡ Some parts = subst (λ (q : Pid). kernel_told o m i q room x MessageKind.Refuse ≡ Some parts) (sym pu) g in
-    stays_row pt i is t w h u ku front told mine (given pt (Says (Line.Stays u.p) ∷ []) parts w mine_ n)
-told_row o pt m i is t p room x MessageKind.PullState parts w h front told mine sees e about g n =
+    let q = o.kernel.notes u.p in
+    ends_row pt (Line.Stays u.p) q Outcome.Stayed w refl refl (stays_whole pt i is t h u ku front told mine) sane state (given pt (Says (Line.Stays u.p) ∷ tells_asker q Outcome.Stayed) parts w mine_ n)
+told_row o pt m i is t p room x MessageKind.PullState parts w h sane state front told mine sees e about g n =
     let u = due pt i is t h.phases front told (ap is_between e) in
     let pu : u.p ≡ p = about_same u.p p (sym (ap (λ (y : Told). y.about) u.told) ∙ about) in
     let ku : u.k ≡ MessageKind.PullState = sym (ap (λ (y : Told). y.kind) u.told) ∙ e in
     let mine_ : kernel_told o m i u.p room x MessageKind.PullState ≡ Some parts = subst (λ (q : Pid). kernel_told o m i q room x MessageKind.PullState ≡ Some parts) (sym pu) g in
     pull_state_row pt i is t w h u ku front told mine (given pt (gives_piece i MessageKind.State) parts w mine_ n)
-told_row o pt m i is t p room x MessageKind.State parts w h front told mine sees e about g n =
+told_row o pt m i is t p room x MessageKind.State parts w h sane state front told mine sees e about g n =
     let u = due pt i is t h.phases front told (ap is_between e) in
     let pu : u.p ≡ p = about_same u.p p (sym (ap (λ (y : Told). y.about) u.told) ∙ about) in
     let ku : u.k ≡ MessageKind.State = sym (ap (λ (y : Told). y.kind) u.told) ∙ e in
     let mine_ : kernel_told o m i u.p room x MessageKind.State ≡ Some parts = subst (λ (q : Pid). kernel_told o m i q room x MessageKind.State ≡ Some parts) (sym pu) g in
     chunk_row pt i is t (o.view.asked u.p == chunks_of x) w h u ku front told mine (given pt (takes_chunk i u.p (o.view.asked u.p == chunks_of x)) parts w mine_ n)
-told_row o pt m i is t p room x MessageKind.PullBlock parts w h front told mine sees e about g n =
+told_row o pt m i is t p room x MessageKind.PullBlock parts w h sane state front told mine sees e about g n =
     let u = due pt i is t h.phases front told (ap is_between e) in
     let pu : u.p ≡ p = about_same u.p p (sym (ap (λ (y : Told). y.about) u.told) ∙ about) in
     let ku : u.k ≡ MessageKind.PullBlock = sym (ap (λ (y : Told). y.kind) u.told) ∙ e in
     let mine_ : kernel_told o m i u.p room x MessageKind.PullBlock ≡ Some parts = subst (λ (q : Pid). kernel_told o m i q room x MessageKind.PullBlock ≡ Some parts) (sym pu) g in
     pull_block_row pt i is t w h u ku front told mine (given pt (gives_piece i MessageKind.Memory) parts w mine_ n)
-told_row o pt m i is t p room x MessageKind.Memory parts w h front told mine sees e about g n =
+told_row o pt m i is t p room x MessageKind.Memory parts w h sane state front told mine sees e about g n =
     let u = due pt i is t h.phases front told (ap is_between e) in
     let pu : u.p ≡ p = about_same u.p p (sym (ap (λ (y : Told). y.about) u.told) ∙ about) in
     let ku : u.k ≡ MessageKind.Memory = sym (ap (λ (y : Told). y.kind) u.told) ∙ e in
     let mine_ : kernel_told o m i u.p room x MessageKind.Memory ≡ Some parts = subst (λ (q : Pid). kernel_told o m i q room x MessageKind.Memory ≡ Some parts) (sym pu) g in
     block_row pt i is t (o.view.asked u.p == pieces_of x) w h u ku front told mine (given pt (takes_block i u.p (o.view.asked u.p == pieces_of x)) parts w mine_ n)
-told_row o pt m i is t p room x MessageKind.AllTaken parts w h front told mine sees e about g n =
+told_row o pt m i is t p room x MessageKind.AllTaken parts w h sane state front told mine sees e about g n =
     let u = due pt i is t h.phases front told (ap is_between e) in
     let pu : u.p ≡ p = about_same u.p p (sym (ap (λ (y : Told). y.about) u.told) ∙ about) in
     let ku : u.k ≡ MessageKind.AllTaken = sym (ap (λ (y : Told). y.kind) u.told) ∙ e in
     let mine_ : kernel_told o m i u.p room x MessageKind.AllTaken ≡ Some parts = subst (λ (q : Pid). kernel_told o m i q room x MessageKind.AllTaken ≡ Some parts) (sym pu) g in
     leaves_row pt i is t (o.view.queue m u.p ++ o.view.held m u.p) (o.view.known m u.p) parts w h u ku front told mine (both_same o pt m u.p sees.same) mine_ n
-told_row o pt m i is t p room x MessageKind.Restart parts w h front told mine sees e about g n =
+told_row o pt m i is t p room x MessageKind.Restart parts w h sane state front told mine sees e about g n =
     let u = due pt i is t h.phases front told (ap is_between e) in
     let pu : u.p ≡ p = about_same u.p p (sym (ap (λ (y : Told). y.about) u.told) ∙ about) in
     let ku : u.k ≡ MessageKind.Restart = sym (ap (λ (y : Told). y.kind) u.told) ∙ e in
     let mine_ : kernel_told o m i u.p room x MessageKind.Restart ≡ Some parts = subst (λ (q : Pid). kernel_told o m i q room x MessageKind.Restart ≡ Some parts) (sym pu) g in
-    restart_row pt i is t w h u ku front told mine (given pt (Says (Line.Migration Stage.Restarted u.p) ∷ []) parts w mine_ n)
-told_row o pt m i is t p room x _ parts w h front told mine sees e about g n = cc
+    let q = o.kernel.notes u.p in
+    let l = Line.Migration Stage.Restarted u.p in
+    ends_row pt l q Outcome.Done w refl refl (restart_whole pt i is t h u ku front told mine) sane state (given pt (Says l ∷ tells_asker q Outcome.Done) parts w mine_ n)
+told_row o pt m i is t p room x _ parts w h sane state front told mine sees e about g n = cc
 
 -- the others, at a process or a server
 tame_of : (v : View) (i : MsgId) (t : Told) → v.told i ≡ Some t → is_between t.kind ≡ false → Tame v i
@@ -100,10 +118,10 @@ one_quiet pt p parts w h sane state quiet e n = quiet_row p pt w h sane state qu
 
 moves_row : (o pt : Point) (m : ℕ) (i : MsgId) (is : List MsgId) (t : Told) (same : Bool) (w : Spelled) (h : Whole pt) → Sane pt → State None w.point → is_between t.kind ≡ false → pt.view.inbox pt.view.acting ≡ i ∷ is → pt.view.told i ≡ Some t → is_kernels i ≡ true → SeesAll o pt m
     → pt.view.known pt.view.acting t.receiver ≡ Here → (m == target_of (Some t)) ≡ same
-    → spelled pt (if same then Says (Line.Here i) ∷ [] else Says (Line.Migration Stage.Frozen t.receiver) ∷ Says (Line.Migration Stage.Asked t.receiver) ∷ to_kernel MessageKind.Ask (target_of (Some t)) ∷ []) ≡ Some w → Whole w.point
+    → spelled pt (if same then Says (Line.Here i) ∷ [] else leaves_for t.receiver (target_of (Some t))) ≡ Some w → Whole w.point
 moves_row o pt m i is t true w h sane state plain front told mine sees here e n = quiet_row (Says (Line.Here i) ∷ []) pt w h sane state (tame_of pt.view i t told plain, tt) n
 moves_row o pt m i is t false w h sane state plain front told mine sees here e n =
-    frozen_row pt i is t t.receiver (target_of (Some t)) w h plain front told mine here refl (ap (λ (a : ℕ). a == target_of (Some t)) sees.acting ∙ e) n
+    frozen_row pt i is t t.receiver (target_of (Some t)) w h sees.topic plain front told mine here refl (ap (λ (a : ℕ). a == target_of (Some t)) sees.acting ∙ e) n
 
 here_row : (o pt : Point) (m : ℕ) (i : MsgId) (is : List MsgId) (t : Told) (k : MessageKind) (parts : List Part) (w : Spelled) (h : Whole pt) → Sane pt → State None w.point → is_between t.kind ≡ false → pt.view.inbox pt.view.acting ≡ i ∷ is → pt.view.told i ≡ Some t → is_kernels i ≡ true → SeesAll o pt m
     → pt.view.known pt.view.acting t.receiver ≡ Here → here_told o m i t k ≡ Some parts → spelled pt parts ≡ Some w → Whole w.point
@@ -129,12 +147,12 @@ process_row o pt m i is t (Forward at moves) parts w h sane state plain front to
 process_row o pt m i is t Ended parts w h sane state plain front told mine sees here g n = ended_row pt i t t.kind parts w h sane state (tame_of pt.view i t told plain) g n
 process_row o pt m i is t _ parts w h sane state plain front told mine sees here g n = one_quiet pt (Says (Line.Held i) ∷ []) parts w h sane state (tame_of pt.view i t told plain, tt) g n
 
-kernel_row : (b : Boot) (o pt : Point) (m : ℕ) (i : MsgId) (is : List MsgId) (t : Told) (a : About) (parts : List Part) (w : Spelled) (h : Whole pt) → pt.view.inbox pt.view.acting ≡ i ∷ is → pt.view.told i ≡ Some t → is_kernels i ≡ true → SeesAll o pt m
+kernel_row : (b : Boot) (o pt : Point) (m : ℕ) (i : MsgId) (is : List MsgId) (t : Told) (a : About) (parts : List Part) (w : Spelled) (h : Whole pt) → Sane pt → State None w.point → pt.view.inbox pt.view.acting ≡ i ∷ is → pt.view.told i ≡ Some t → is_kernels i ≡ true → SeesAll o pt m
     → t.about ≡ a → kernel_hears b o m i t.kind a ≡ Some parts → spelled pt parts ≡ Some w → Whole w.point
-kernel_row b o pt m i is t (Of p) parts w h front told mine sees about g n =
+kernel_row b o pt m i is t (Of p) parts w h sane state front told mine sees about g n =
     let (x, there, last) = bind-is (kernel.alive (o.kernel.processes p)) (λ x. kernel_told o m i p (fits (free_room b o m) (length x.memory / 256)) x t.kind) parts g in
-    told_row o pt m i is t p (fits (free_room b o m) (length x.memory / 256)) x t.kind parts w h front told mine sees refl about last n
-kernel_row b o pt m i is t _ parts w h front told mine sees about g n = cc
+    told_row o pt m i is t p (fits (free_room b o m) (length x.memory / 256)) x t.kind parts w h sane state front told mine sees refl about last n
+kernel_row b o pt m i is t _ parts w h sane state front told mine sees about g n = cc
 
 -- what isn't for a kernel is none of the protocol
 pub zero_num : (n : ℕ) → n ≡ 0 → (n == 0) ≡ true
@@ -148,7 +166,7 @@ plain_by pt i is t h false e front told off = refl
 
 hears_by : (b : Boot) (o pt : Point) (m : ℕ) (i : MsgId) (is : List MsgId) (t : Told) (c d g : Bool) (parts : List Part) (w : Spelled) (h : Whole pt) → Sane pt → State None w.point → (t.receiver.num == 0) ≡ c → pt.view.inbox pt.view.acting ≡ i ∷ is → pt.view.told i ≡ Some t → is_kernels i ≡ true → SeesAll o pt m
     → (if c then kernel_hears b o m i t.kind t.about else if d then server_told o i t t.kind else if g then server_told o i t t.kind else process_told o m i t (o.view.known m t.receiver)) ≡ Some parts → spelled pt parts ≡ Some w → Whole w.point
-hears_by b o pt m i is t true d g parts w h sane state c front told mine sees e n = kernel_row b o pt m i is t t.about parts w h front told mine sees refl e n
+hears_by b o pt m i is t true d g parts w h sane state c front told mine sees e n = kernel_row b o pt m i is t t.about parts w h sane state front told mine sees refl e n
 hears_by b o pt m i is t false true g parts w h sane state c front told mine sees e n = server_row o pt i t t.kind parts w h sane state (tame_of pt.view i t told (plain_by pt i is t h.phases (is_between t.kind) refl front told c)) e n
 hears_by b o pt m i is t false false true parts w h sane state c front told mine sees e n = server_row o pt i t t.kind parts w h sane state (tame_of pt.view i t told (plain_by pt i is t h.phases (is_between t.kind) refl front told c)) e n
 hears_by b o pt m i is t false false false parts w h sane state c front told mine sees e n =
@@ -160,4 +178,4 @@ pub phases_hears : (b : Boot) (o pt : Point) (m : ℕ) (i : MsgId) (is : List Ms
 phases_hears b o pt m i is None parts w h sane front none told sees e n = cc
 phases_hears b o pt m i is (Some t) parts w h sane front none told sees e n =
     hears_by b o pt m i is t (t.receiver.num == 0) (pid_eq t.receiver switchboard) (pid_eq t.receiver manager) parts w h sane
-    (hears_row b o pt m i is (Some t) parts w h.state h.fits front none sees.same e n) refl front told (front_kernels pt i is h.state front none) sees e n
+    (hears_row b o pt m i is (Some t) parts w h.state h.fits sees.topic front none sees.same e n) refl front told (front_kernels pt i is h.state front none) sees e n

@@ -1,13 +1,13 @@
 -- Heads, deliveries, ticks and the directive to migrate leave all processes in their phases.
 use Rattle.dm_rule.proofs.Names.{◌≡◌, ◌⊎◌, ℕ, zero, suc, ◌+◌, ◌≤◌, ◌==◌, ◌&&◌, Bool, true, not, filter, List, [], ◌∷◌, ◌++◌, drop, length, refl, ap, ◌∙◌, sym, subst, inl, inr, arith, if◌then◌else◌, slice_get, Option, None, Some, cases_Bool}
-use Rattle.dm_rule.proofs.Names.{nat_tests, Pid, MsgId, Step, Line, at_machine, at_pair, View, Pair, view_after, after_head, taken_id, with_pair, Point, moved, Part, Says, Transmits, Spelled, packet_line, spelled, migrates, Spot, Queue}
-use Rattle.dm_rule.proofs.Names.{Held, Inbox, Untaken, times, untaken, ids_at, standing}
+use Rattle.dm_rule.proofs.Names.{nat_tests, Pid, MsgId, Step, Line, at_machine, at_pair, View, Pair, view_after, after_head, taken_id, with_pair, Point, moved, seen, Part, Says, Transmits, Spelled, packet_line, spelled, migrates, Spot}
+use Rattle.dm_rule.proofs.Names.{Queue, Held, Inbox, Untaken, times, untaken, ids_at, standing}
 use Rattle.dm_rule.proofs.Standing.{times-append}
 use Rattle.dm_rule.proofs.Once.{one_of}
 use Rattle.dm_rule.proofs.Lines.{parts, eq_is, at_place, past_place, pair_keeps}
 use Rattle.dm_rule.proofs.States.{says_next, transmits_next, said}
 use Rattle.dm_rule.proofs.Groups.{IsNetLine, IsNet, early_off, acked_off, turn_off, tick_off, deliver_off, migrate_off}
-use Rattle.dm_rule.proofs.Phases.Calm.{Came, Calm, calm_same, calm_trans, calm_still}
+use Rattle.dm_rule.proofs.Phases.Calm.{Came, Calm, calm_about, calm_same, calm_trans, calm_still}
 use Rattle.dm_rule.proofs.Phases.Lines.{packet_calm}
 use Rattle.dm_rule.proofs.Phases.Quiet.{AllQuiet, moves_none}
 use Rattle.dm_rule.proofs.Requests.{by_migrates}
@@ -131,7 +131,7 @@ pub net_parts : (ps : List Part) (pt : Point) (w : Spelled) → IsNet ps → spe
 net_parts [] pt w h e = subst (λ (q : Point). Calm pt.view q.view) (said pt w e) (calm_same pt.view)
 net_parts (Says l ∷ ps) pt w h e =
     let k = says_next pt l ps w e in
-    subst (λ (q : Point). Calm pt.view q.view) k.point (calm_trans pt.view (view_after pt.view l) k.rest.point.view (net_calm pt.view l h.0) (net_parts ps (moved pt l k.s) k.rest h.1 k.more))
+    subst (λ (q : Point). Calm pt.view q.view) k.point (calm_trans pt.view (seen pt.kernel pt.view l) k.rest.point.view (calm_about pt.view (view_after pt.view l) (seen pt.kernel pt.view l).topic (net_calm pt.view l h.0)) (net_parts ps (moved pt l k.s) k.rest h.1 k.more))
 net_parts (Transmits a b l ∷ ps) pt w h e =
     let k = transmits_next pt a b l ps w e in
     subst (λ (q : Point). Calm pt.view q.view) k.point (calm_trans pt.view (view_after pt.view (packet_line pt.view a b l)) k.rest.point.view (packet_calm pt.view a b (length (pt.view.pair a b).wire) l) (net_parts ps (moved pt (packet_line pt.view a b l) pt.kernel) k.rest h.1 k.more))

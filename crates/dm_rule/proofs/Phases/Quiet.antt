@@ -1,7 +1,7 @@
 -- Parts that leave the migrations of all processes as they are.
 use Rattle.dm_rule.proofs.Names.{◌≡◌, ℕ, ◌==◌, Bool, true, false, List, [], ◌∷◌, length, refl, ap, ◌∙◌, sym, subst, arith, ⊤, if◌then◌else◌, Option, None, Some, false≢true, Pid, MsgId, MessageKind, Load, Stage, id_eq, plain_kind}
-use Rattle.dm_rule.proofs.Names.{PlainMessage, Label, OneKernel, bind, Line, at_record, without_id, View, Told, own_id, view_after, handled, receiver_of, kills, served_told, Receiver, Point, label_of, kernel_after, moved, after_line, after}
-use Rattle.dm_rule.proofs.Names.{Part, Says, Routes, Again, Owns, Transmits, Spelled, lines_of, puts, goes_out, packet_line, behind, spelled, Spot, Queue, times, ids_at, standing, is_between, bind-is}
+use Rattle.dm_rule.proofs.Names.{PlainMessage, Label, OneKernel, bind, Line, at_record, without_id, View, Told, own_id, view_after, handled, receiver_of, kills, served_told, Receiver, Point, label_of, kernel_after, moved, seen, after_line}
+use Rattle.dm_rule.proofs.Names.{after, Part, Says, Routes, Again, Owns, Transmits, Spelled, lines_of, puts, goes_out, packet_line, behind, spelled, Spot, Queue, times, ids_at, standing, is_between, bind-is}
 use Rattle.dm_onekernel.specs.Step as kernel
 use Rattle.dm_rule.specs.View as view
 use Rattle.dm_rule.proofs.Bags.{out_of}
@@ -13,7 +13,7 @@ use Rattle.dm_rule.proofs.Said.{fits_as}
 use Rattle.dm_rule.proofs.Turns.{served_keeps}
 use Rattle.dm_rule.proofs.Moves.Sent.{fits_put, fits_packet}
 use Rattle.dm_rule.proofs.Telling.{Sane, plain_not, Sayable, part_sane}
-use Rattle.dm_rule.proofs.Phases.Calm.{Calm, Plain, calm_same, calm_trans, calm_others, calm_still}
+use Rattle.dm_rule.proofs.Phases.Calm.{Calm, Plain, calm_about, calm_same, calm_trans, calm_others, calm_still}
 use Rattle.dm_rule.proofs.Phases.Lines.{handled_spots, queued_spots, held_spots, dropped_spots, forwarded_spots, queued_known, held_known, dropped_known, forwarded_known, record_times, without_times, put_calm, packet_calm}
 pub use Rattle.dm_rule.proofs.Serving.{is_kill}
 
@@ -166,6 +166,8 @@ label_calm pt s (Label.Gone id) h quiet is =
     hushed_calm pt.view (Line.Label (Label.Gone id)) id refl (gone_plain pt s (Label.Gone id) id h is refl) (λ m q. refl) (λ j e z. handled_spots pt.view id j e z)
 label_calm pt s (Label.Took id) h quiet is =
     hushed_calm pt.view (Line.Label (Label.Took id)) id refl (gone_plain pt s (Label.Took id) id h is refl) (λ m q. refl) (λ j e z. handled_spots pt.view id j e z)
+label_calm pt s (Label.Asked id) h quiet is =
+    hushed_calm pt.view (Line.Label (Label.Asked id)) id refl (gone_plain pt s (Label.Asked id) id h is refl) (λ m q. refl) (λ j e z. handled_spots pt.view id j e z)
 label_calm pt s (Label.Created id p) h quiet is = absurd quiet
 label_calm pt s (Label.NoSpace id a b) h quiet is =
     hushed_calm pt.view (Line.Label (Label.NoSpace id a b)) id refl (gone_plain pt s (Label.NoSpace id a b) id h is refl) (λ m q. refl) (λ j e z. handled_spots pt.view id j e z)
@@ -216,7 +218,7 @@ says_calm pt next l ls h fits quiet is leads =
     let (s, step, then_) = bind-is (kernel_after pt.kernel (label_of l)) (λ s. Some (moved pt l s)) mid first in
     let g : moved pt l s ≡ mid = cc in
     let e : mid ≡ next = cc in
-    subst (λ (q : Point). (Calm pt.view q.view) × (PairsFit q.view)) (g ∙ e) (line_calm pt s l h quiet step, fits_as pt.view (view_after pt.view l) (pair_same pt.view l (quiet_touches pt.view l quiet)) fits)
+    subst (λ (q : Point). (Calm pt.view q.view) × (PairsFit q.view)) (g ∙ e) (calm_about pt.view (view_after pt.view l) (seen pt.kernel pt.view l).topic (line_calm pt s l h quiet step), fits_as pt.view (seen pt.kernel pt.view l) (pair_same pt.view l (quiet_touches pt.view l quiet)) fits)
 
 tame_kind : (v : View) (i : MsgId) (t : Told) → Tame v i → v.told i ≡ Some t → is_between t.kind ≡ false
 tame_kind v i t h told = tame_plain v i h t told

@@ -2,8 +2,7 @@
 use Rattle.dm_rule.proofs.Names.{◌≡◌, ◌⊎◌, ℕ, zero, suc, ◌+◌, ◌≤◌, ◌==◌, ◌&&◌, Bool, true, false, not, List, [], ◌∷◌, ◌++◌, refl, ap, ◌∙◌, sym, subst, inl, inr, arith, if◌then◌else◌, Option, None, Some, cases_Bool, false≢true, nat_tests}
 use Rattle.dm_rule.proofs.Names.{Pid, pid_eq, MsgId, MessageKind, Stage, id_eq, Line, at_machine, at_record, View, Told, Of, Known, Unknown, Here, Frozen, Incoming, Forward, view_after, handled_first, released, is_kernels, target_of}
 use Rattle.dm_rule.proofs.Names.{front_told, Point, label_of, moved, Says, Spelled, spelled, to_kernel, Spot, Queue, Held, Inbox, Untaken, times, ids_at, standing, is_between, is_restart, is_early, kind_comes, is_away, is_here, is_over}
-use Rattle.dm_rule.proofs.Names.{Phase, Nowhere, Rests, Over, Moves, knows, token_in, receiver_in, id_eq-is, pid_eq-is, pid_eq-same}
-use Rattle.dm_rule.specs.Phases.{kind_leaves}
+use Rattle.dm_rule.proofs.Names.{Phase, Nowhere, Rests, Over, Moves, knows, token_in, receiver_in, id_eq-is, pid_eq-is, pid_eq-same, NothingElse, Target, frozen_for, leaves_for, kind_leaves}
 use Rattle.dm_rule.proofs.Standing.{times-append}
 use Rattle.dm_rule.proofs.Lines.{Bag, hidden, Stands, Stands-stays, Stands-handled, parts, eq_is}
 use Rattle.dm_rule.proofs.Letters.{letters}
@@ -11,13 +10,14 @@ use Rattle.dm_rule.proofs.Hushed.{is_put, hushed}
 use Rattle.dm_rule.proofs.Pairs.Lines.{touches, pair_same}
 use Rattle.dm_rule.proofs.States.{State, by_line}
 use Rattle.dm_rule.proofs.Said.{fits_as}
+use Rattle.dm_rule.proofs.Seen.{seen_none, frozen_is, frozen_asked}
 use Rattle.dm_rule.proofs.Moves.Lists.{Stands-released, first_off}
 use Rattle.dm_rule.proofs.Moves.Sent.{line_next}
-use Rattle.dm_rule.proofs.Moves.Rows.{goes_first, comes_back, home_again, home_off, frozen_off, restarted_off}
+use Rattle.dm_rule.proofs.Moves.Rows.{goes_first, comes_back, home_again, home_off, frozen_off, asked_off, frozen_state, restarted_off}
 use Rattle.dm_rule.proofs.Phases.Calm.{Came}
 use Rattle.dm_rule.proofs.Phases.Lines.{handled_spots}
 use Rattle.dm_rule.proofs.Phases.Stand.{none_only, Learns, learns_phases}
-use Rattle.dm_rule.proofs.Phases.Answers.{WholeBut, Whole, whole_ends, Due, owns_whole, nowhere_of, first_learns, token_one}
+use Rattle.dm_rule.proofs.Phases.Answers.{WholeBut, Whole, Due, owns_whole, nowhere_of, first_learns, token_one}
 use Rattle.dm_rule.proofs.Phases.Pieces.{record_off, due_known}
 
 -- held messages come to the inbox
@@ -166,32 +166,31 @@ and_true false x y = refl
 at_acting : (v : View) (a m : ℕ) (p : Pid) (x : Known) → v.acting ≡ a → at_record v.known v.acting p x m p ≡ (if a == m then x else v.known m p)
 at_acting v a m p x e = ap (λ (n : ℕ). at_record v.known n p x m p) e ∙ ap (λ (c : Bool). if (a == m) && c then x else v.known m p) (pid_eq-same p) ∙ and_true (a == m) x (v.known m p)
 
--- a line brings it home, and nothing is put
-home_row : (pt : Point) (l : Line) (i : MsgId) (is : List MsgId) (t : Told) (at : ℕ) (w : Spelled) (h : Whole pt) (u : Due pt i t h.phases) → label_of l ≡ None → is_put l ≡ false → touches l ≡ false → pt.view.inbox pt.view.acting ≡ i ∷ is → pt.view.told i ≡ Some t → is_kernels i ≡ true
+-- a line brings it home
+home_whole : (pt : Point) (l : Line) (i : MsgId) (is : List MsgId) (t : Told) (at : ℕ) (h : Whole pt) (u : Due pt i t h.phases) → label_of l ≡ None → is_put l ≡ false → touches l ≡ false → pt.view.inbox pt.view.acting ≡ i ∷ is → pt.view.told i ≡ Some t → is_kernels i ≡ true
     → ((z : Spot) → ids_at (view_after pt.view l) z ≡ ids_at (released (before_home pt.view u.p) u.p) z) → (view_after pt.view l).known ≡ at_record pt.view.known pt.view.acting u.p Here → ((m : ℕ) → knows (Rests at) m (at_record pt.view.known pt.view.acting u.p Here m u.p) ≡ true)
-    → spelled pt (Says l ∷ []) ≡ Some w → Whole w.point
-home_row pt l i is t at w h u none quiet calm front told mine off learned known e =
+    → Whole (moved pt l pt.kernel)
+home_whole pt l i is t at h u none quiet calm front told mine off learned known =
     let v = pt.view in
     let next = moved pt l pt.kernel in
-    let n = line_next pt l [] w none e in
+    let same : next.view ≡ view_after v l = seen_none pt.kernel v l none in
     let others : (m : ℕ) (q : Pid) → pid_eq u.p q ≡ false → (view_after v l).known m q ≡ v.known m q = λ m q apart. ap (λ (f : ℕ → Pid → Known). f m q) learned ∙ record_off v.known v.acting u.p Here m q apart in
-    let learns = back_learns pt l i is t u.p h.state quiet front told (ap (λ (x : Told). x.about) u.told) off others in
+    let learns = subst (λ (x : View). Learns v x u.p) (sym same) (back_learns pt l i is t u.p h.state quiet front told (ap (λ (x : Told). x.about) u.told) off others) in
     let turned = learns_phases v next.view u.p (Rests at) h.phases (none_only u.p) learns refl refl (λ m. ap (λ (f : ℕ → Pid → Known). knows (Rests at) m (f m u.p)) learned ∙ known m)
-    (λ j x z. subst (λ (y : MsgId). standing next.view y z ≡ 0) (token_one (h.phases.of u.p) u.k u.s u.d i j u.phase x) (back_gone pt l i is u.p h.state quiet front off z)) in
-    let whole : Whole next = record { state = comes_back pt l i is u.p quiet h.state front mine off; fits = fits_as v next.view (pair_same v l calm) h.fits; phases = turned.phases } in
-    subst Whole n.point (whole_ends next n.rest whole n.more)
+    (λ j x z. ap (λ (y : View). standing y j z) same ∙ subst (λ (y : MsgId). standing (view_after v l) y z ≡ 0) (token_one (h.phases.of u.p) u.k u.s u.d i j u.phase x) (back_gone pt l i is u.p h.state quiet front off z)) in
+    record { state = comes_back pt l i is u.p quiet h.state front mine off; fits = fits_as v next.view (pair_same v l calm) h.fits; phases = turned.phases }
 
-pub stays_row : (pt : Point) (i : MsgId) (is : List MsgId) (t : Told) (w : Spelled) (h : Whole pt) (u : Due pt i t h.phases) → u.k ≡ MessageKind.Refuse → pt.view.inbox pt.view.acting ≡ i ∷ is → pt.view.told i ≡ Some t → is_kernels i ≡ true → spelled pt (Says (Line.Stays u.p) ∷ []) ≡ Some w → Whole w.point
-stays_row pt i is t w h u e front told mine is_ =
+pub stays_whole : (pt : Point) (i : MsgId) (is : List MsgId) (t : Told) (h : Whole pt) (u : Due pt i t h.phases) → u.k ≡ MessageKind.Refuse → pt.view.inbox pt.view.acting ≡ i ∷ is → pt.view.told i ≡ Some t → is_kernels i ≡ true → Whole (moved pt (Line.Stays u.p) pt.kernel)
+stays_whole pt i is t h u e front told mine =
     let at : pt.view.acting ≡ u.s = u.acting ∙ ap (λ (k : MessageKind). receiver_in k u.s u.d) e in
-    home_row pt (Line.Stays u.p) i is t u.s w h u refl refl refl front told mine (λ z. refl) refl
-    (λ m. ap (knows (Rests u.s) m) (at_acting pt.view u.s m u.p Here at) ∙ refused_if u.k u.s u.d m (Some i) (u.s == m) (pt.view.known m u.p) (ap is_early e) refl (due_known pt i t h.phases u m)) is_
+    home_whole pt (Line.Stays u.p) i is t u.s h u refl refl refl front told mine (λ z. refl) refl
+    (λ m. ap (knows (Rests u.s) m) (at_acting pt.view u.s m u.p Here at) ∙ refused_if u.k u.s u.d m (Some i) (u.s == m) (pt.view.known m u.p) (ap is_early e) refl (due_known pt i t h.phases u m))
 
-pub restart_row : (pt : Point) (i : MsgId) (is : List MsgId) (t : Told) (w : Spelled) (h : Whole pt) (u : Due pt i t h.phases) → u.k ≡ MessageKind.Restart → pt.view.inbox pt.view.acting ≡ i ∷ is → pt.view.told i ≡ Some t → is_kernels i ≡ true → spelled pt (Says (Line.Migration Stage.Restarted u.p) ∷ []) ≡ Some w → Whole w.point
-restart_row pt i is t w h u e front told mine is_ =
+pub restart_whole : (pt : Point) (i : MsgId) (is : List MsgId) (t : Told) (h : Whole pt) (u : Due pt i t h.phases) → u.k ≡ MessageKind.Restart → pt.view.inbox pt.view.acting ≡ i ∷ is → pt.view.told i ≡ Some t → is_kernels i ≡ true → Whole (moved pt (Line.Migration Stage.Restarted u.p) pt.kernel)
+restart_whole pt i is t h u e front told mine =
     let at : pt.view.acting ≡ u.d = u.acting ∙ ap (λ (k : MessageKind). receiver_in k u.s u.d) e in
-    home_row pt (Line.Migration Stage.Restarted u.p) i is t u.d w h u refl refl refl front told mine (λ z. restarted_off pt.view u.p z) refl
-    (λ m. ap (knows (Rests u.d) m) (at_acting pt.view u.d m u.p Here at) ∙ restarted_if u.k u.s u.d m (Some i) (u.d == m) (pt.view.known m u.p) (ap is_restart e) refl (due_known pt i t h.phases u m)) is_
+    home_whole pt (Line.Migration Stage.Restarted u.p) i is t u.d h u refl refl refl front told mine (λ z. restarted_off pt.view u.p z) refl
+    (λ m. ap (knows (Rests u.d) m) (at_acting pt.view u.d m u.p Here at) ∙ restarted_if u.k u.s u.d m (Some i) (u.d == m) (pt.view.known m u.p) (ap is_restart e) refl (due_known pt i t h.phases u m))
 
 rests_if : (at m : ℕ) (b : Bool) → (at == m) ≡ b → (if b then is_here Here else is_away Here) ≡ true → Rests at ≡ Rests m
 rests_if at m true e h = ap (λ (n : ℕ). Rests n) (eq_is at m e)
@@ -226,23 +225,51 @@ frozen_if a to m false y e f h =
     ap (λ (c : Bool). if c then kind_leaves MessageKind.Ask to y else if to == m then kind_comes MessageKind.Ask a y else is_away y) e
     ∙ away_comes a y (to == m) (sym (ap (λ (c : Bool). if c then is_here y else is_away y) e) ∙ h)
 
-pub frozen_row : (pt : Point) (i : MsgId) (is : List MsgId) (t : Told) (p : Pid) (to : ℕ) (w : Spelled) (h : Whole pt) → is_between t.kind ≡ false → pt.view.inbox pt.view.acting ≡ i ∷ is → pt.view.told i ≡ Some t → is_kernels i ≡ true → pt.view.known pt.view.acting p ≡ Here → target_of (Some t) ≡ to → (pt.view.acting == to) ≡ false
-    → spelled pt (Says (Line.Migration Stage.Frozen p) ∷ Says (Line.Migration Stage.Asked p) ∷ to_kernel MessageKind.Ask to ∷ []) ≡ Some w → Whole w.point
-frozen_row pt i is t p to w h plain front told mine here target apart e =
+-- the view behind step 1 is that of a process frozen, seen from a view that knows and does the same
+frozen_ends : (pt : Point) (p : Pid) (to : ℕ) (w : Spelled) (h : Whole pt) → State None (moved pt (Line.Migration Stage.Frozen p) pt.kernel) → Learns pt.view (view_after pt.view (Line.Migration Stage.Frozen p)) p → pt.view.known pt.view.acting p ≡ Here → (pt.view.acting == to) ≡ false
+    → (u : View) → view_after pt.view (Line.Migration Stage.Frozen p) ≡ frozen_for u p to → u.known ≡ pt.view.known → u.acting ≡ pt.view.acting → spelled pt (leaves_for p to) ≡ Some w → Whole w.point
+frozen_ends pt p to w h there learns here apart u at known acting e =
     let v = pt.view in
     let a = v.acting in
     let l = Line.Migration Stage.Frozen p in
     let next = moved pt l pt.kernel in
     let n = line_next pt l (Says (Line.Migration Stage.Asked p) ∷ to_kernel MessageKind.Ask to ∷ []) w refl e in
     let phase : h.phases.of p ≡ Rests a = rests_here (h.phases.of p) a (sym (ap (knows (h.phases.of p) a) here) ∙ (h.phases.each p).known a) in
-    let aim : target_of (front_told v (v.inbox a)) ≡ to = ap (λ (is : List MsgId). target_of (front_told v is)) front ∙ ap target_of told ∙ target in
-    let learns = first_learns pt l i is t p h.state refl front told (λ b. absurd (false≢true (sym plain ∙ b))) (λ z. frozen_off v p z) (λ m q off. record_off v.known a p (Frozen (target_of (front_told v (v.inbox a)))) m q off) in
     let rested : (m : ℕ) → knows (Rests a) m (v.known m p) ≡ true = λ m. subst (λ (x : Phase). knows x m (v.known m p) ≡ true) phase ((h.phases.each p).known m) in
+    let now : (m : ℕ) → next.view.known m p ≡ (if a == m then Frozen to else v.known m p) =
+    λ m. ap (λ (x : View). x.known m p) at ∙ ap (λ (f : ℕ → Pid → Known). at_record f u.acting p (Frozen to) m p) known ∙ ap (λ (x : ℕ). at_record v.known x p (Frozen to) m p) acting ∙ at_acting v a m p (Frozen to) refl in
     let turned = learns_phases v next.view p (Moves MessageKind.Ask a to None) h.phases (none_only p) learns refl (ap not apart)
-    (λ m. ap (knows (Moves MessageKind.Ask a to None) m) (at_acting v a m p (Frozen (target_of (front_told v (v.inbox a)))) refl) ∙ ap (λ (x : ℕ). knows (Moves MessageKind.Ask a to None) m (if a == m then Frozen x else v.known m p)) aim ∙ frozen_if a to m (a == m) (v.known m p) refl apart (rested m))
+    (λ m. ap (knows (Moves MessageKind.Ask a to None) m) (now m) ∙ frozen_if a to m (a == m) (v.known m p) refl apart (rested m))
     (λ j x z. absurd (let f : None ≡ Some j = sym (ap token_in phase) ∙ x in cc)) in
-    let whole : WholeBut (Some p) next = record { state = goes_first pt l i is refl h.state front mine (λ z. frozen_off v p z); fits = fits_as v next.view (pair_same v l refl) h.fits; phases = turned.phases } in
+    let whole : WholeBut (Some p) next = record { state = there; fits = fits_as v next.view (pair_same v l refl) h.fits; phases = turned.phases } in
     let asked = Line.Migration Stage.Asked p in
     let k = line_next next asked (to_kernel MessageKind.Ask to ∷ []) n.rest refl n.more in
     let then_ : WholeBut (Some p) (moved next asked next.kernel) = record { state = by_line None next asked refl whole.state whole.state.stands (λ j. refl); fits = whole.fits; phases = turned.phases } in
-    subst Whole n.point (subst Whole k.point (owns_whole (moved next asked next.kernel) p MessageKind.Ask a to to k.rest then_ turned.now refl refl refl k.more))
+    subst Whole n.point (subst Whole k.point (owns_whole (moved next asked next.kernel) p MessageKind.Ask a to to k.rest then_ turned.now (ap (λ (x : View). x.topic) at) (ap (λ (x : View). x.acting) at ∙ acting) refl k.more))
+
+-- a directive has it move
+pub frozen_row : (pt : Point) (i : MsgId) (is : List MsgId) (t : Told) (p : Pid) (to : ℕ) (w : Spelled) (h : Whole pt) → pt.view.topic ≡ NothingElse → is_between t.kind ≡ false → pt.view.inbox pt.view.acting ≡ i ∷ is → pt.view.told i ≡ Some t → is_kernels i ≡ true → pt.view.known pt.view.acting p ≡ Here → target_of (Some t) ≡ to → (pt.view.acting == to) ≡ false
+    → spelled pt (leaves_for p to) ≡ Some w → Whole w.point
+frozen_row pt i is t p to w h topic plain front told mine here target apart e =
+    let v = pt.view in
+    let l = Line.Migration Stage.Frozen p in
+    let aim : target_of (front_told v (v.inbox v.acting)) ≡ to = ap (λ (is : List MsgId). target_of (front_told v is)) front ∙ ap target_of told ∙ target in
+    let at : view_after v l ≡ frozen_for (handled_first v) p to = frozen_is v p topic ∙ ap (frozen_for (handled_first v) p) aim in
+    let learns = first_learns pt l i is t p h.state refl front told (λ b. absurd (false≢true (sym plain ∙ b))) (λ z. frozen_off v p topic z) (λ m q off. ap (λ (x : View). x.known m q) at ∙ record_off v.known v.acting p (Frozen to) m q off) in
+    frozen_ends pt p to w h (goes_first pt l i is refl h.state front mine (λ z. frozen_off v p topic z)) learns here apart (handled_first v) at refl refl e
+
+-- it was asked to move in this group
+pub asked_row : (pt : Point) (p : Pid) (to : ℕ) (w : Spelled) → Whole pt → pt.view.topic ≡ Target to → pt.view.known pt.view.acting p ≡ Here → (pt.view.acting == to) ≡ false → spelled pt (leaves_for p to) ≡ Some w → Whole w.point
+asked_row pt p to w h topic here apart e =
+    let v = pt.view in
+    let l = Line.Migration Stage.Frozen p in
+    let at : view_after v l ≡ frozen_for v p to = frozen_asked v p to topic in
+    let same : (j : MsgId) → (view_after v l).told j ≡ v.told j = λ j. ap (λ (f : MsgId → Option Told). f j) (hushed v l refl).told in
+    let learns : Learns v (view_after v l) p = record {
+      calm = λ m q off. ap (λ (x : View). x.known m q) at ∙ record_off v.known v.acting p (Frozen to) m q off;
+      fresh = λ j x k b. sym (same j) ∙ k;
+      kept = λ j x k. same j ∙ k;
+      back = λ j x k b z st. inl (subst (λ n. 1 ≤ n) (ap (times j) (asked_off v p to topic z)) st);
+      on = λ j x q off k b ab z st. (z, subst (λ n. 1 ≤ n) (sym (ap (times j) (asked_off v p to topic z))) st);
+    } in
+    frozen_ends pt p to w h (frozen_state pt p to h.state topic) learns here apart v at refl refl e

@@ -1,16 +1,20 @@
 -- A turn that handles a message of the bag, or serves a process: each process stays in a phase.
 use Rattle.dm_rule.proofs.Names.{◌≡◌, ℕ, ◌+◌, Bool, true, false, List, [], ◌∷◌, refl, ap, ◌∙◌, subst, if◌then◌else◌, Option, None, Some, Pid, pid_of, MsgId, MessageKind, Label, plain_kind, PlainMessage, Boot, Why, first_number, bind}
-use Rattle.dm_rule.proofs.Names.{OneKernel, answer_id, Line, View, Told, Unknown, Here, view_after, Point, label_of, kernel_after, moved, Part, Says, Routes, Spelled, spelled, forwards_on}
+use Rattle.dm_rule.proofs.Names.{OneKernel, answer_id, Line, View, Told, Unknown, Here, view_after, Point, label_of, kernel_after, moved, Part, Says, Routes, Spelled, spelled, forwards_on, ◌==◌, NothingElse, Outcome, PlainWhat}
+use Rattle.dm_rule.proofs.Names.{answers_move, leaves_for, machine_in, seen, machine_of}
 use Rattle.dm_rule.specs.Rule as rule
 use Rattle.dm_rule.proofs.Hushed.{is_put}
 use Rattle.dm_rule.proofs.Pairs.Lines.{touches, pair_same}
-use Rattle.dm_rule.proofs.States.{PairsFit, says_next}
+use Rattle.dm_rule.proofs.States.{PairsFit, State, says_next}
 use Rattle.dm_rule.proofs.Said.{fits_as}
 use Rattle.dm_rule.proofs.Telling.{Sane, sane_line}
-use Rattle.dm_rule.proofs.Phases.Calm.{calm_same}
+use Rattle.dm_rule.proofs.Phases.Calm.{calm_about, calm_same}
 use Rattle.dm_rule.proofs.Phases.Quiet.{Tame, Mild, is_kill, AllQuiet, parts_settle, plain_in_bag, line_calm}
 use Rattle.dm_rule.proofs.Phases.Stand.{InPhases, calm_phases}
 use Rattle.dm_rule.proofs.Phases.Hears.{forwards_quiet}
+use Rattle.dm_rule.proofs.Handled.{asked_state}
+use Rattle.dm_rule.proofs.Phases.Answers.{Whole}
+use Rattle.dm_rule.proofs.Phases.Rests.{asked_row}
 use Rattle.dm_rule.proofs.Phases.Lives.{end_line_phases, created_phases, killed_phases}
 use Rattle.dm_rule.proofs.Serving.{Stops, by_round, by_handles}
 
@@ -23,14 +27,14 @@ pub quiet_parts : (parts : List Part) (pt : Point) (w : Spelled) → Fit pt → 
 quiet_parts parts pt w h quiet e = calm_phases pt.view w.point.view (parts_settle parts pt.view pt w quiet (record { calm = calm_same pt.view; sane = h.sane; fits = h.fits }) e).calm h.phases
 
 -- a line after which the phases are known, and then quiet parts
-line_first : (pt : Point) (l : Line) (ps : List Part) (w : Spelled) → Fit pt → is_put l ≡ false → touches l ≡ false → ((s : OneKernel) → kernel_after pt.kernel (label_of l) ≡ Some s → InPhases (view_after pt.view l))
+line_first : (pt : Point) (l : Line) (ps : List Part) (w : Spelled) → Fit pt → is_put l ≡ false → touches l ≡ false → ((s : OneKernel) → kernel_after pt.kernel (label_of l) ≡ Some s → InPhases (seen pt.kernel pt.view l))
     → ((s : OneKernel) → (next : Fit (moved pt l s)) → (rest : Spelled) → spelled (moved pt l s) ps ≡ Some rest → InPhases rest.point.view) → spelled pt (Says l ∷ ps) ≡ Some w → InPhases w.point.view
 line_first pt l ps w h quiet calm phases go e =
     let k = says_next pt l ps w e in
     let next : Fit (moved pt l k.s) = record {
       phases = phases k.s k.is;
       sane = sane_line pt (moved pt l k.s) l quiet (ap (λ (o : Option OneKernel). bind o (λ s. Some (moved pt l s))) k.is) h.sane;
-      fits = fits_as pt.view (view_after pt.view l) (pair_same pt.view l calm) h.fits;
+      fits = fits_as pt.view (seen pt.kernel pt.view l) (pair_same pt.view l calm) h.fits;
     } in
     subst (λ (q : Point). InPhases q.view) k.point (go k.s next k.rest k.more)
 
@@ -63,6 +67,9 @@ pub record Front (pt : Point) (i : MsgId) (msg : PlainMessage) : Type 0 where
   pub there : pt.kernel.bag i ≡ Some msg
   pub told : Told
   pub is : pt.view.told i ≡ Some told
+  pub state : State None pt
+  pub others : List MsgId
+  pub front : pt.view.inbox pt.view.acting ≡ i ∷ others
 
 front_tame : (pt : Point) (i : MsgId) (msg : PlainMessage) → Fit pt → Front pt i msg → Tame pt.view i
 front_tame pt i msg h f = record { what = f.told; told = f.is; plain = plain_in_bag pt i msg h.sane f.there f.told f.is }
@@ -93,14 +100,25 @@ creates_row pt i msg child true slots blocks w h f unknown e =
     (λ s next rest more. quiet_parts (Routes (answer_id i) ∷ []) (moved pt l s) rest next (tt, tt) more) e
 creates_row pt i msg child false slots blocks w h f unknown e = quiet_parts (rule.says (Label.NoSpace i slots blocks) ∷ Routes (answer_id i) ∷ []) pt w h (tt, (tt, tt)) e
 
+-- a process is asked to move to another machine, and leaves
+asks_row : (pt : Point) (i : MsgId) (msg : PlainMessage) (to : ℕ) (w : Spelled) (h : Fit pt) → Front pt i msg → msg.what ≡ PlainWhat.Move to → pt.view.known pt.view.acting msg.to ≡ Here → (pt.view.acting == to) ≡ false
+    → spelled pt (rule.says (Label.Asked i) ∷ leaves_for msg.to to) ≡ Some w → InPhases w.point.view
+asks_row pt i msg to w h f what here apart e =
+    let l = Line.Label (Label.Asked i) in
+    let k = says_next pt l (leaves_for msg.to to) w e in
+    let next = moved pt l k.s in
+    let calm = calm_about pt.view (view_after pt.view l) next.view.topic (line_calm pt k.s l h.sane tt k.is) in
+    let whole : Whole next = record { state = asked_state pt i f.others k.s f.state f.front k.is; fits = fits_as pt.view next.view refl h.fits; phases = calm_phases pt.view next.view calm h.phases } in
+    subst (λ (q : Point). InPhases q.view) k.point (asked_row next msg.to to k.rest whole (ap machine_in f.there ∙ ap machine_of what) here apart k.more).phases
+
 kill_is : (k : MessageKind) → is_kill k ≡ true → k ≡ MessageKind.Kill
 kill_is MessageKind.Kill e = refl
 kill_is _ e = cc
 
 -- a message of the bag is handled, where nothing is known of the process that would be made next
-pub phases_handles : (b : Boot) (o pt : Point) (m : ℕ) (i : MsgId) (msg : PlainMessage) (parts : List Part) (w : Spelled) (h : Fit pt) → Front pt i msg → ((n : ℕ) → pt.view.known n (pid_of m (first_number + o.kernel.made m)) ≡ Unknown) → pt.view.known pt.view.acting msg.to ≡ o.view.known m msg.to
+pub phases_handles : (b : Boot) (o pt : Point) (m : ℕ) (i : MsgId) (msg : PlainMessage) (parts : List Part) (w : Spelled) (h : Fit pt) → Front pt i msg → ((n : ℕ) → pt.view.known n (pid_of m (first_number + o.kernel.made m)) ≡ Unknown) → pt.view.known pt.view.acting msg.to ≡ o.view.known m msg.to → pt.view.acting ≡ m
     → rule.handles b o m i msg ≡ Some parts → spelled pt parts ≡ Some w → InPhases w.point.view
-phases_handles b o pt m i msg parts w h f unknown known is = by_handles (Into pt) b o m i msg parts (record {
+phases_handles b o pt m i msg parts w h f unknown known acting is = by_handles (Into pt) b o m i msg parts (record {
   created = λ fixed w. creates_row pt i msg (pid_of m (first_number + o.kernel.made m)) true 0 0 w h f unknown;
   no_space = λ fixed slots blocks w. creates_row pt i msg (pid_of m (first_number + o.kernel.made m)) false slots blocks w h f unknown;
   took = λ fixed sent w. quiet_parts (rule.says (Label.Took i) ∷ rule.routes sent) pt w h (tt, routes_quiet pt.view sent);
@@ -108,6 +126,8 @@ phases_handles b o pt m i msg parts w h f unknown known is = by_handles (Into pt
   served = λ to mild w. quiet_parts (rule.says (Label.Served i) ∷ []) pt w h (front_mild pt i msg h f mild, tt);
   answers = λ to mild j w. quiet_parts (rule.says (Label.Served i) ∷ Routes j ∷ []) pt w h (front_mild pt i msg h f mild, (tt, tt));
   kills = λ to kills w. killed_row pt i msg (o.view.queue m msg.to) w h f (kill_is (plain_kind msg.what) kills) (known ∙ to.known);
+  moved = λ to what w. quiet_parts (rule.says (Label.Asked i) ∷ answers_move i Outcome.Done) pt w h (tt, (tt, (tt, tt)));
+  sets_off = λ machine to what apart w. asks_row pt i msg machine w h f what (known ∙ to.known) (ap (λ (a : ℕ). a == machine) acting ∙ apart);
   gone = λ to w. quiet_parts (rule.says (Label.Gone i) ∷ Routes (answer_id i) ∷ []) pt w h (tt, (tt, tt));
   dropped = λ to w. quiet_parts (rule.says (Label.Dropped i) ∷ []) pt w h (tt, tt);
   leaving = λ n to w. quiet_parts (Says (Line.Held i) ∷ []) pt w h (front_tame pt i msg h f, tt);

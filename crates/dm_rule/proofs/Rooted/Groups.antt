@@ -10,8 +10,9 @@ use Rattle.dm_rule.proofs.Phases.Stand.{InPhases, calm_phases}
 use Rattle.dm_rule.proofs.Phases.Answers.{due}
 use Rattle.dm_rule.proofs.Phases.Net.{head_calm}
 use Rattle.dm_rule.proofs.Phases.Groups.{Rooted}
+use Rattle.dm_rule.proofs.Lives.{Kept}
 use Rattle.dm_rule.proofs.Rings.{AllHere}
-use Rattle.dm_rule.proofs.Rooted.Lines.{Roots, Needs, line_roots}
+use Rattle.dm_rule.proofs.Rooted.Lines.{Roots, Needs, kept_by, line_roots}
 use Rattle.dm_rule.proofs.Rooted.Rows.{NeedsPart, First, FirstOf, loose_first}
 use Rattle.dm_rule.proofs.Rooted.Turns.{Asks, turns_first, net_loose, migrates_loose}
 
@@ -25,34 +26,39 @@ quiet_put pt a b i k q h = record { rings = record { each = h.rings.each }; live
 quiet_packet : (pt : Point) (a b k : ℕ) (l : Load) → Grounded pt → Grounded (moved pt (Line.Packet a b k l) pt.kernel)
 quiet_packet pt a b k l h = record { rings = record { each = h.rings.each }; lives = record { none = h.lives.none } }
 
+-- what was made stays so on the way
+record Onto (pt next : Point) : Type 0 where
+  ground : Grounded next
+  kept : Kept pt.kernel next.kernel
+
 puts_by : (pt next : Point) (b : ℕ) (i : MsgId) (k : MessageKind) (q : Pid) (c d : Bool) → Grounded pt
-    → after pt (Line.Put pt.view.acting b i k q ∷ (if c then [] else if d then packet_line pt.view pt.view.acting b (Load.Data (length (pt.view.pair pt.view.acting b).ids)) ∷ [] else [])) ≡ Some next → Grounded next
+    → after pt (Line.Put pt.view.acting b i k q ∷ (if c then [] else if d then packet_line pt.view pt.view.acting b (Load.Data (length (pt.view.pair pt.view.acting b).ids)) ∷ [] else [])) ≡ Some next → Onto pt next
 puts_by pt next b i k q true d h is =
-    let f : moved pt (Line.Put pt.view.acting b i k q) pt.kernel ≡ next = cc in subst Grounded f (quiet_put pt pt.view.acting b i k q h)
+    let f : moved pt (Line.Put pt.view.acting b i k q) pt.kernel ≡ next = cc in subst (Onto pt) f (record { ground = quiet_put pt pt.view.acting b i k q h; kept = λ p none. none })
 puts_by pt next b i k q false false h is =
-    let f : moved pt (Line.Put pt.view.acting b i k q) pt.kernel ≡ next = cc in subst Grounded f (quiet_put pt pt.view.acting b i k q h)
+    let f : moved pt (Line.Put pt.view.acting b i k q) pt.kernel ≡ next = cc in subst (Onto pt) f (record { ground = quiet_put pt pt.view.acting b i k q h; kept = λ p none. none })
 puts_by pt next b i k q false true h is =
     let n = length (pt.view.pair pt.view.acting b).wire in
     let l = Load.Data (length (pt.view.pair pt.view.acting b).ids) in
     let mid = moved pt (Line.Put pt.view.acting b i k q) pt.kernel in
     let f : moved mid (Line.Packet pt.view.acting b n l) mid.kernel ≡ next = cc in
-    subst Grounded f (quiet_packet mid pt.view.acting b n l (quiet_put pt pt.view.acting b i k q h))
+    subst (Onto pt) f (record { ground = quiet_packet mid pt.view.acting b n l (quiet_put pt pt.view.acting b i k q h); kept = λ p none. none })
 
-puts_ground : (pt next : Point) (b : ℕ) (i : MsgId) (k : MessageKind) (q : Pid) (ls : List Line) → Grounded pt → Some (puts pt.view b i k q) ≡ Some ls → after pt ls ≡ Some next → Grounded next
+puts_ground : (pt next : Point) (b : ℕ) (i : MsgId) (k : MessageKind) (q : Pid) (ls : List Line) → Grounded pt → Some (puts pt.view b i k q) ≡ Some ls → after pt ls ≡ Some next → Onto pt next
 puts_ground pt next b i k q ls h is leads =
     let f : puts pt.view b i k q ≡ ls = cc in
     puts_by pt next b i k q (pt.view.acting == b) (goes_out (pt.view.pair pt.view.acting b)) h (ap (after pt) f ∙ leads)
 
-one_line : (pt next : Point) (l : Line) (ls : List Line) → Needs pt l → Sane pt → Some (l ∷ []) ≡ Some ls → after pt ls ≡ Some next → Grounded pt → Grounded next
+one_line : (pt next : Point) (l : Line) (ls : List Line) → Needs pt l → Sane pt → Some (l ∷ []) ≡ Some ls → after pt ls ≡ Some next → Grounded pt → Onto pt next
 one_line pt next l ls need sane is leads h =
     let f : l ∷ [] ≡ ls = cc in
     let (mid, first, last) = bind-is (after_line pt l) (λ q. after q []) next (ap (after pt) f ∙ leads) in
     let (s, step_, then_) = bind-is (kernel_after pt.kernel (label_of l)) (λ s. Some (moved pt l s)) mid first in
     let g : moved pt l s ≡ mid = cc in
     let e : mid ≡ next = cc in
-    subst Grounded (g ∙ e) (line_roots pt s l need sane step_ h)
+    subst (Onto pt) (g ∙ e) (record { ground = line_roots pt s l need sane step_ h; kept = kept_by pt.kernel s (label_of l) pt sane refl step_ })
 
-part_ground : (pt next : Point) (p : Part) (ls : List Line) → NeedsPart pt p → Sane pt → lines_of pt p ≡ Some ls → after pt ls ≡ Some next → Grounded pt → Grounded next
+part_ground : (pt next : Point) (p : Part) (ls : List Line) → NeedsPart pt p → Sane pt → lines_of pt p ≡ Some ls → after pt ls ≡ Some next → Grounded pt → Onto pt next
 part_ground pt next (Says l) ls need sane is leads h = one_line pt next l ls need sane is leads h
 part_ground pt next (Routes i) ls need sane is leads h =
     let (m, there, last) = bind-is (pt.kernel.bag i) (λ m. Some (puts pt.view (pt.addresses (Receiver i)).at i (plain_kind m.what) m.to)) ls is in
@@ -70,7 +76,8 @@ parts_ground (p ∷ ps) pt w ok need sane is h =
     let (next, leads, last) = bind-is (after pt ls) (λ (q : Point). bind (spelled q ps) (λ (z : Spelled). Some (behind ls z))) w rest in
     let (z, more, end) = bind-is (spelled next ps) (λ (y : Spelled). Some (behind ls y)) w last in
     let f : behind ls z ≡ w = cc in
-    subst (λ (x : Spelled). Grounded x.point) f (parts_ground ps next z ok.1 (loose_first next ps need.1) (part_sane pt next p ls ok.0 lines leads sane) more (part_ground pt next p ls need.0 sane lines leads h))
+    let onto = part_ground pt next p ls need.0 sane lines leads h in
+    subst (λ (x : Spelled). Grounded x.point) f (parts_ground ps next z ok.1 (loose_first pt.kernel next ps onto.kept need.1) (part_sane pt next p ls ok.0 lines leads sane) more onto.ground)
 
 -- what the phases say: a process that is asked for is here nowhere
 pub moves_away : (k : MessageKind) (s d m : ℕ) (o : Option MsgId) (b c : Bool) → (s == m) ≡ b → (d == m) ≡ c → knows (Moves k s d o) m Here ≡ false
@@ -138,13 +145,13 @@ roots_group b pt (Step.Turn m) w e phases sane h =
     (turns_first start b pt m (pt.view.inbox m) refl ground.lives (λ p. refl) (λ p runs. (rooted pt sane h).served m p runs) (λ i is t front told. asks_by start i is t there front told))) sane h
 roots_group b pt (Step.Tick m) w e phases sane h =
     group_ground b pt (Step.Tick m) w e
-    (λ ps is. first_some (begun pt (Step.Tick m)) (rule.outcome b pt (Step.Tick m)) ps is (tt, net_loose (rule.resends pt.view m pt.kernel.machines) (resends_net pt.view m pt.kernel.machines))) sane h
+    (λ ps is. first_some (begun pt (Step.Tick m)) (rule.outcome b pt (Step.Tick m)) ps is (tt, net_loose pt.kernel (rule.resends pt.view m pt.kernel.machines) (resends_net pt.view m pt.kernel.machines))) sane h
 roots_group b pt (Step.Deliver a c k) w e phases sane h =
     let qs = rule.arrives a c (pt.view.pair a c) (pt.view.pair c a) (slice_get (pt.view.pair a c).wire k) in
     let start = begun pt (Step.Deliver a c k) in
     group_ground b pt (Step.Deliver a c k) w e
-    (λ ps is. first_some start (rule.outcome b pt (Step.Deliver a c k)) ps is (loose_first start qs (net_loose qs (arrives_net a c (pt.view.pair a c) (pt.view.pair c a) (slice_get (pt.view.pair a c).wire k))))) sane h
+    (λ ps is. first_some start (rule.outcome b pt (Step.Deliver a c k)) ps is (loose_first pt.kernel start qs (λ q none. none) (net_loose pt.kernel qs (arrives_net a c (pt.view.pair a c) (pt.view.pair c a) (slice_get (pt.view.pair a c).wire k))))) sane h
 roots_group b pt (Step.Migrate p m) w e phases sane h =
     let start = begun pt (Step.Migrate p m) in
     group_ground b pt (Step.Migrate p m) w e
-    (λ ps is. first_some start (rule.outcome b pt (Step.Migrate p m)) ps is (loose_first start (migrates pt p) (migrates_loose pt p))) sane h
+    (λ ps is. first_some start (rule.outcome b pt (Step.Migrate p m)) ps is (loose_first pt.kernel start (migrates pt p) (λ q none. none) (migrates_loose pt.kernel pt p))) sane h

@@ -1,10 +1,11 @@
 -- Rings list what is here, and nothing is known of what was never made: a line after the other.
 use Rattle.dm_rule.proofs.Names.{◌≡◌, ℕ, ◌+◌, ◌≤◌, ◌==◌, Bool, not, filter, [], ◌∷◌, ◌++◌, refl, ap, ◌∙◌, sym, subst, ⊤, if◌then◌else◌, slice_get, Option, None, Some, Pid, MsgId, MessageKind, Step, Stage, PlainMessage, PlainWhat, Label}
 use Rattle.dm_rule.proofs.Names.{Why, bind, Life, Alive, OneKernel, with_sent, answer_to, without_message, begun, Line, at_machine, at_record, without, moved_back, View, Told, About, Of, Known, Unknown, Here, Frozen, Incoming, Ended}
-use Rattle.dm_rule.proofs.Names.{view_after, handled, receiver_of, kills, served_told, target_of, front_told, front_of, gone_to, Point, label_of, kernel_after, pid_eq-same, bind-is, when-is, nexts, after_step}
+use Rattle.dm_rule.proofs.Names.{view_after, handled, receiver_of, kills, served_told, target_of, front_told, front_of, gone_to, Point, label_of, kernel_after, pid_eq-same, bind-is, when-is, nexts, after_step, at_hand-is, seen}
 use Rattle.dm_onekernel.specs.Service as service
 use Rattle.dm_onekernel.specs.Step as kernel
 use Rattle.dm_rule.specs.View as view
+use Rattle.dm_rule.proofs.Seen.{aim, sets}
 use Rattle.dm_rule.proofs.Telling.{Sane}
 use Rattle.dm_rule.proofs.Rings.{Rings, all_moved, learnt_without, learnt_last, rings_same, rings_ring, rings_learn, rings_known}
 use Rattle.dm_rule.proofs.Lives.{Lives, Lived, Kept, lived_alive, grown_none, lives_same, lives_learn}
@@ -93,7 +94,7 @@ served_roots s v None lived h = h
 served_roots s v (Some t) lived h = kills_roots t.kind s v t.receiver (lived t refl) h
 
 -- what steps of the kernel say of the process that they name
-kept_by : (s t : OneKernel) (l : Option Label) (pt : Point) → Sane pt → pt.kernel ≡ s → kernel_after s l ≡ Some t → Kept s t
+pub kept_by : (s t : OneKernel) (l : Option Label) (pt : Point) → Sane pt → pt.kernel ≡ s → kernel_after s l ≡ Some t → Kept s t
 kept_by s t None pt h is e p none = ap (λ (k : OneKernel). k.processes p) (let f : s ≡ t = cc in f) ∙ none
 kept_by s t (Some l) pt h is e p none =
     let a = after_step h.r h.e pt.kernel t l (ap (λ (k : OneKernel). kernel.step k l) is ∙ e) h.sound in
@@ -110,10 +111,11 @@ ends_lived s t p y kept e =
 
 served_lived : (pt : Point) (t : OneKernel) (id : MsgId) → Sane pt → Kept pt.kernel t → kernel.step pt.kernel (Label.Served id) ≡ Some t → (u : Told) → pt.view.told id ≡ Some u → Lived t u.receiver
 served_lived pt t id h kept e u told none le =
-    let (m, there, rest) = bind-is (pt.kernel.bag id) (λ m. bind (kernel.alive (pt.kernel.processes m.to)) (λ p. service.serves pt.kernel id m p m.what)) t e in
-    let (x, alive, last) = bind-is (kernel.alive (pt.kernel.processes m.to)) (λ p. service.serves pt.kernel id m p m.what) t rest in
+    let (m, there, rest) = bind-is (pt.kernel.bag id) (λ m. bind (kernel.at_hand pt.kernel m.to) (λ p. service.serves pt.kernel id m p m.what)) t e in
+    let (x, hand, last) = bind-is (kernel.at_hand pt.kernel m.to) (λ p. service.serves pt.kernel id m p m.what) t rest in
+    let (free, alive) = at_hand-is pt.kernel m.to x hand in
     let to : u.receiver ≡ m.to = h.tells.receiver id m u there told in
-    lived_alive pt.kernel m.to (pt.kernel.processes m.to) x alive refl (kept m.to (ap t.processes (sym to) ∙ none)) (subst (λ (q : Pid). 3 ≤ q.num) to le)
+    alive_lived pt.kernel t m.to (Alive x) kept alive (ap t.processes (sym to) ∙ none) (subst (λ (q : Pid). 3 ≤ q.num) to le)
 
 created_some : (s t : OneKernel) (id : MsgId) (m : PlainMessage) (child : Pid) (w : PlainWhat) → service.creates s id m child w ≡ Some t → Lived t child
 created_some s t id m child (PlainWhat.Create image links) e none le =
@@ -161,6 +163,7 @@ label_roots pt t (Label.Took id) need sane kept e h = roots_idle pt.kernel t pt.
 label_roots pt t (Label.Created id p) need sane kept e h =
     roots_comes pt.kernel t pt.view (view_after pt.view (Line.Label (Label.Created id p))) p kept (created_lived pt.kernel t id p e) refl refl h
 label_roots pt t (Label.NoSpace id a b) need sane kept e h = roots_idle pt.kernel t pt.view (handled pt.view id) kept (record { known = refl; ring = refl }) h
+label_roots pt t (Label.Asked id) need sane kept e h = roots_idle pt.kernel t pt.view (handled pt.view id) kept (record { known = refl; ring = refl }) h
 label_roots pt t _ need sane kept e h = roots_kept pt.kernel t pt.view kept h
 
 gone_here : (k : Known) (moves : ℕ) → k ≡ Here → gone_to k moves ≡ Here
@@ -184,12 +187,17 @@ line_by pt t (Line.Taken a b n) need sane kept e h =
     let p = pt.view.pair a b in
     let i = taken_idles (view.with_pair pt.view a b (record p { taken = p.taken + 1; kept = filter (λ k. not (k == n)) p.kept })) b (view.oldest p) in
     roots_idle pt.kernel t pt.view (view_after pt.view (Line.Taken a b n)) kept (record { known = i.known; ring = i.ring }) h
-line_by pt t (Line.Migration Stage.Frozen p) need sane kept e h = roots_leaves pt.kernel t pt.view (view_after pt.view (Line.Migration Stage.Frozen p)) p (Frozen (target_of (front_told pt.view (pt.view.inbox pt.view.acting)))) kept (λ none le. need (kept p none) le) refl refl h
+line_by pt t (Line.Migration Stage.Frozen p) need sane kept e h =
+    let k = sets pt.view p pt.view.topic in
+    roots_leaves pt.kernel t pt.view (view_after pt.view (Line.Migration Stage.Frozen p)) p (Frozen (aim pt.view pt.view.topic)) kept (λ none le. need (kept p none) le) k.known k.ring h
 line_by pt t (Line.Migration Stage.Accepted p) need sane kept e h = roots_known pt.kernel t pt.view (view_after pt.view (Line.Migration Stage.Accepted p)) p (Incoming (front_of (pt.view.inbox pt.view.acting))) kept (λ none le. absurd (need.0 (kept p none) le)) refl refl (λ here. absurd (need.1 here)) h
 line_by pt t (Line.Migration Stage.Left p) need sane kept e h = roots_known pt.kernel t pt.view (view_after pt.view (Line.Migration Stage.Left p)) p (gone_to (pt.view.known pt.view.acting p) (pt.view.moves p + 1)) kept (λ none le. ap (λ (x : Known). gone_to x (pt.view.moves p + 1)) (h.lives.none p (kept p none) le pt.view.acting)) refl refl (gone_here (pt.view.known pt.view.acting p) (pt.view.moves p + 1)) h
 line_by pt t (Line.Migration Stage.Restarted p) need sane kept e h = roots_comes pt.kernel t pt.view (view_after pt.view (Line.Migration Stage.Restarted p)) p kept (λ none le. need (kept p none) le) refl refl h
 line_by pt t (Line.Stays p) need sane kept e h = roots_comes pt.kernel t pt.view (view_after pt.view (Line.Stays p)) p kept (λ none le. need (kept p none) le) refl refl h
 line_by pt t any_ need sane kept e h = roots_idle pt.kernel t pt.view (view_after pt.view any_) kept (record { known = refl; ring = refl }) h
 
-pub line_roots : (pt : Point) (t : OneKernel) (l : Line) → Needs pt l → Sane pt → kernel_after pt.kernel (label_of l) ≡ Some t → Roots pt.kernel pt.view → Roots t (view_after pt.view l)
-line_roots pt t l need sane e h = line_by pt t l need sane (kept_by pt.kernel t (label_of l) pt sane refl e) e h
+roots_about : (s : OneKernel) (v : View) (a : About) → Roots s v → Roots s (view.about v a)
+roots_about s v a h = record { rings = record { each = h.rings.each }; lives = record { none = h.lives.none } }
+
+pub line_roots : (pt : Point) (t : OneKernel) (l : Line) → Needs pt l → Sane pt → kernel_after pt.kernel (label_of l) ≡ Some t → Roots pt.kernel pt.view → Roots t (seen pt.kernel pt.view l)
+line_roots pt t l need sane e h = roots_about t (view_after pt.view l) (seen pt.kernel pt.view l).topic (line_by pt t l need sane (kept_by pt.kernel t (label_of l) pt sane refl e) e h)

@@ -1,6 +1,7 @@
 -- What the first line of a group needs, and that the others need nothing.
-use Rattle.dm_rule.proofs.Names.{◌≡◌, ℕ, List, [], ◌∷◌, refl, ⊤, Option, None, Some, Pid, MsgId, MessageKind, plain_kind, PlainMessage, Boot, Here, Addresses, Point, Part, Says, forwards_on}
+use Rattle.dm_rule.proofs.Names.{◌≡◌, ℕ, List, [], ◌∷◌, refl, ⊤, Option, None, Some, Pid, MsgId, MessageKind, plain_kind, PlainMessage, Boot, Here, Addresses, Point, Part, Says, forwards_on, OneKernel, ◌∙◌}
 use Rattle.dm_rule.specs.Rule as rule
+use Rattle.dm_rule.proofs.Lives.{Kept, Lives, lived_here}
 use Rattle.dm_rule.proofs.Rooted.Lines.{Needs}
 use Rattle.dm_rule.proofs.Serving.{by_round, by_handles, by_forwards}
 
@@ -8,42 +9,47 @@ abbrev pub NeedsPart : Point → Part → Type 0
 NeedsPart pt (Says l) = Needs pt l
 NeedsPart pt _ = ⊤
 
-abbrev pub AllLoose : List Part → Type 0
-AllLoose [] = ⊤
-AllLoose (p ∷ ps) = ((pt : Point) → NeedsPart pt p) × AllLoose ps
+-- wherever what this kernel has made is made
+abbrev pub AllLoose : OneKernel → List Part → Type 0
+AllLoose s [] = ⊤
+AllLoose s (p ∷ ps) = ((pt : Point) → Kept s pt.kernel → NeedsPart pt p) × AllLoose s ps
 
 abbrev pub First : Point → List Part → Type 0
 First pt [] = ⊤
-First pt (p ∷ ps) = NeedsPart pt p × AllLoose ps
+First pt (p ∷ ps) = NeedsPart pt p × AllLoose pt.kernel ps
 
 abbrev pub FirstOf : Point → Option (List Part) → Type 0
 FirstOf pt None = ⊤
 FirstOf pt (Some ps) = First pt ps
 
-pub loose_first : (pt : Point) (ps : List Part) → AllLoose ps → First pt ps
-loose_first pt [] h = tt
-loose_first pt (p ∷ ps) h = (h.0 pt, h.1)
+loose_later : (s t : OneKernel) (ps : List Part) → Kept s t → AllLoose s ps → AllLoose t ps
+loose_later s t [] kept h = tt
+loose_later s t (p ∷ ps) kept h = (λ pt k. h.0 pt (λ q none. kept q (k q none)), loose_later s t ps kept h.1)
+
+pub loose_first : (s : OneKernel) (pt : Point) (ps : List Part) → Kept s pt.kernel → AllLoose s ps → First pt ps
+loose_first s pt [] kept h = tt
+loose_first s pt (p ∷ ps) kept h = (h.0 pt kept, loose_later s pt.kernel ps kept h.1)
 
 pub first_of : (pt : Point) (o : Option (List Part)) → ((ps : List Part) → o ≡ Some ps → First pt ps) → FirstOf pt o
 first_of pt None h = tt
 first_of pt (Some ps) h = h ps refl
 
 -- a process is served
-drops_loose : (ids : List MsgId) → AllLoose (rule.drop_parts ids)
-drops_loose [] = tt
-drops_loose (i ∷ is) = (λ pt. tt, drops_loose is)
+drops_loose : (s : OneKernel) (ids : List MsgId) → AllLoose s (rule.drop_parts ids)
+drops_loose s [] = tt
+drops_loose s (i ∷ is) = (λ pt k. tt, drops_loose s is)
 
 pub round_first : (pt : Point) (b : Boot) (o : Point) (m : ℕ) (q : Option Pid) → ((p : Pid) → q ≡ Some p → pt.view.known pt.view.acting p ≡ Here) → FirstOf pt (rule.goes_round b o m q)
 round_first pt b o m q here = first_of pt (rule.goes_round b o m q) (λ ps. by_round (First pt) b o m q ps (tt, tt) (λ p x is alive. record {
   runs = λ k rest stops. (
     here p is,
-    stops AllLoose (record {
+    stops (AllLoose pt.kernel) (record {
       over = tt;
-      replies = λ n r. (λ z. tt, tt);
-      sends = λ id. (λ z. tt, (λ z. tt, tt));
-      waits = (λ z. tt, tt);
-      outputs = λ word. (λ z. tt, tt);
-      ends = λ y. (λ z. tt, drops_loose (o.view.queue m p));
+      replies = λ n r. (λ z k. tt, tt);
+      sends = λ id. (λ z k. tt, (λ z k. tt, tt));
+      waits = (λ z k. tt, tt);
+      outputs = λ word. (λ z k. tt, tt);
+      ends = λ y. (λ z k. tt, drops_loose pt.kernel (o.view.queue m p));
     }),
   );
   takes = λ mask id first. (here p is, tt);
@@ -51,23 +57,25 @@ round_first pt b o m q here = first_of pt (rule.goes_round b o m q) (λ ps. by_r
 }))
 
 -- a message of the bag is handled
-routes_loose : (o : Option PlainMessage) → AllLoose (rule.routes o)
-routes_loose None = tt
-routes_loose (Some m) = (λ pt. tt, tt)
+routes_loose : (s : OneKernel) (o : Option PlainMessage) → AllLoose s (rule.routes o)
+routes_loose s None = tt
+routes_loose s (Some m) = (λ pt k. tt, tt)
 
 pub forwards_first : (pt : Point) (a : Addresses) (id : MsgId) (k : MessageKind) (sender : Pid) (to : ℕ) → First pt (forwards_on a id k sender to)
-forwards_first pt a id k sender to = by_forwards (First pt) a id k sender to (tt, (λ q. tt, tt)) (tt, (λ q. tt, (λ q. tt, tt)))
+forwards_first pt a id k sender to = by_forwards (First pt) a id k sender to (tt, (λ q k. tt, tt)) (tt, (λ q k. tt, (λ q k. tt, tt)))
 
-pub handles_first : (pt : Point) (b : Boot) (o : Point) (m : ℕ) (id : MsgId) (msg : PlainMessage) → FirstOf pt (rule.handles b o m id msg)
-handles_first pt b o m id msg = first_of pt (rule.handles b o m id msg) (λ ps. by_handles (First pt) b o m id msg ps (record {
-  created = λ fixed. (tt, (λ q. tt, tt));
-  no_space = λ fixed slots blocks. (tt, (λ q. tt, tt));
-  took = λ fixed sent. (tt, routes_loose sent);
+pub handles_first : (pt : Point) (b : Boot) (o : Point) (m : ℕ) (id : MsgId) (msg : PlainMessage) → Lives pt.kernel pt.view → ((p : Pid) → pt.view.known pt.view.acting p ≡ o.view.known m p) → FirstOf pt (rule.handles b o m id msg)
+handles_first pt b o m id msg lives known = first_of pt (rule.handles b o m id msg) (λ ps. by_handles (First pt) b o m id msg ps (record {
+  created = λ fixed. (tt, (λ q k. tt, tt));
+  no_space = λ fixed slots blocks. (tt, (λ q k. tt, tt));
+  took = λ fixed sent. (tt, routes_loose pt.kernel sent);
   queued = λ to user. (tt, tt);
   served = λ to mild. (tt, tt);
-  answers = λ to mild i. (tt, (λ q. tt, tt));
-  kills = λ to kills. (tt, drops_loose (o.view.queue m msg.to));
-  gone = λ to. (tt, (λ q. tt, tt));
+  answers = λ to mild i. (tt, (λ q k. tt, tt));
+  kills = λ to kills. (tt, drops_loose pt.kernel (o.view.queue m msg.to));
+  moved = λ to what. (tt, (λ q k. tt, (λ q k. tt, tt)));
+  sets_off = λ machine to what apart. (tt, (λ q k none le. lived_here pt.kernel pt.view msg.to pt.view.acting lives (known msg.to ∙ to.known) (k msg.to none) le, (λ q k. tt, (λ q k. tt, tt))));
+  gone = λ to. (tt, (λ q k. tt, tt));
   dropped = λ to. (tt, tt);
   leaving = λ n to. (tt, tt);
   coming = λ n to. (tt, tt);

@@ -11,9 +11,9 @@ use Rattle.dm_rule.proofs.Requests.{by_migrates}
 use Rattle.dm_rule.proofs.Hearing.{by_hears}
 
 -- a kernel's own message is handled
-again_loose : (to : ℕ) (ids : List MsgId) (ps : List Part) → AllLoose ps → AllLoose (sends_on to ids ++ ps)
-again_loose to [] ps h = h
-again_loose to (i ∷ is) ps h = (λ q. tt, again_loose to is ps h)
+again_loose : (s : OneKernel) (to : ℕ) (ids : List MsgId) (ps : List Part) → AllLoose s ps → AllLoose s (sends_on to ids ++ ps)
+again_loose s to [] ps h = h
+again_loose s to (i ∷ is) ps h = (λ q k. tt, again_loose s to is ps h)
 
 -- a process that is asked for is here nowhere
 abbrev pub Asks : Point → Told → Type 0
@@ -29,17 +29,19 @@ hears_first pt b o m id q same lives known asks = first_of pt (rule.hears b o m 
     λ p x alive. lived_alive pt.kernel p (pt.kernel.processes p) x (ap (λ (s : OneKernel). kernel.alive (s.processes p)) same ∙ alive) refl in
     record {
       told = λ p x about alive. record {
-        accepted = λ ask. ((lived p x alive, asks t is ask p about), (λ q. tt, tt));
-        lacks = λ slots blocks. (tt, (λ q. tt, tt));
-        stays = λ kind. (lived p x alive, tt);
-        state = (tt, (λ q. tt, tt));
-        next_chunk = (tt, (λ q. tt, tt));
-        last_chunk = (tt, (λ q. tt, tt));
-        memory = (tt, (λ q. tt, tt));
-        next_block = (tt, (λ q. tt, tt));
-        last_block = (tt, (λ q. tt, tt));
-        left = λ ids to frozen. (tt, again_loose to ids (Says (Line.Migration Stage.Left p) ∷ to_kernel MessageKind.Restart id.from.home ∷ []) (λ q. tt, (λ q. tt, tt)));
-        restarted = λ kind. (lived p x alive, tt);
+        accepted = λ ask. ((lived p x alive, asks t is ask p about), (λ q k. tt, tt));
+        lacks = λ slots blocks. (tt, (λ q k. tt, tt));
+        stays = λ kind none. (lived p x alive, tt);
+        stays_asked = λ kind n there. (lived p x alive, (λ q k. tt, (λ q k. tt, tt)));
+        state = (tt, (λ q k. tt, tt));
+        next_chunk = (tt, (λ q k. tt, tt));
+        last_chunk = (tt, (λ q k. tt, tt));
+        memory = (tt, (λ q k. tt, tt));
+        next_block = (tt, (λ q k. tt, tt));
+        last_block = (tt, (λ q k. tt, tt));
+        left = λ ids to frozen. (tt, again_loose pt.kernel to ids (Says (Line.Migration Stage.Left p) ∷ to_kernel MessageKind.Restart id.from.home ∷ []) (λ q k. tt, (λ q k. tt, tt)));
+        restarted = λ kind none. (lived p x alive, tt);
+        restarted_asked = λ kind n there. (lived p x alive, (λ q k. tt, (λ q k. tt, tt)));
       };
       updated = λ kind. (tt, tt);
       updated_none = λ kind at_. (tt, tt);
@@ -48,14 +50,14 @@ hears_first pt b o m id q same lives known asks = first_of pt (rule.hears b o m 
       coming = λ from at_. (tt, tt);
       forwarded = λ to moves at_. forwards_first pt o.addresses id t.kind manager to;
       stays_here = λ at_. (tt, tt);
-      frozen = λ to at_. (lived_here pt.kernel pt.view t.receiver pt.view.acting lives (known t.receiver ∙ at_.known), (λ q. tt, (λ q. tt, tt)));
+      frozen = λ to at_. (lived_here pt.kernel pt.view t.receiver pt.view.acting lives (known t.receiver ∙ at_.known), (λ q k. tt, (λ q k. tt, tt)));
     }
     )))
 
 -- a turn
 comes_first : (pt : Point) (b : Boot) (o : Point) (m : ℕ) (id : MsgId) (q : Option PlainMessage) → pt.kernel ≡ o.kernel → Lives pt.kernel pt.view → ((p : Pid) → pt.view.known pt.view.acting p ≡ o.view.known m p) → ((t : Told) → o.view.told id ≡ Some t → Asks pt t) → FirstOf pt (rule.comes_to b o m id q)
 comes_first pt b o m id None same lives known asks = hears_first pt b o m id (o.view.told id) same lives known asks
-comes_first pt b o m id (Some msg) same lives known asks = handles_first pt b o m id msg
+comes_first pt b o m id (Some msg) same lives known asks = handles_first pt b o m id msg lives known
 
 pub turns_first : (pt : Point) (b : Boot) (o : Point) (m : ℕ) (inbox : List MsgId) → pt.kernel ≡ o.kernel → Lives pt.kernel pt.view → ((p : Pid) → pt.view.known pt.view.acting p ≡ o.view.known m p)
     → ((p : Pid) → rule.first_runnable o.kernel (o.view.queue m) (o.view.ring m) ≡ Some p → pt.view.known pt.view.acting p ≡ Here)
@@ -73,11 +75,11 @@ net_needs (Line.Resent m n) h pt = tt
 net_needs Line.Nothing h pt = tt
 net_needs _ h pt = absurd h
 
-pub net_loose : (ps : List Part) → IsNet ps → AllLoose ps
-net_loose [] h = tt
-net_loose (Says l ∷ ps) h = (net_needs l h.0, net_loose ps h.1)
-net_loose (Transmits a b l ∷ ps) h = (λ pt. tt, net_loose ps h.1)
-net_loose _ h = absurd h.0
+pub net_loose : (s : OneKernel) (ps : List Part) → IsNet ps → AllLoose s ps
+net_loose s [] h = tt
+net_loose s (Says l ∷ ps) h = (λ pt k. net_needs l h.0 pt, net_loose s ps h.1)
+net_loose s (Transmits a b l ∷ ps) h = (λ pt k. tt, net_loose s ps h.1)
+net_loose s _ h = absurd h.0
 
-pub migrates_loose : (o : Point) (p : Pid) → AllLoose (migrates o p)
-migrates_loose o p = by_migrates AllLoose o p (λ pt. tt, tt) (λ pt. tt, tt) (λ n off is. (λ pt. tt, tt))
+pub migrates_loose : (s : OneKernel) (o : Point) (p : Pid) → AllLoose s (migrates o p)
+migrates_loose s o p = by_migrates (AllLoose s) o p (λ pt k. tt, tt) (λ pt k. tt, tt) (λ n off is. (λ pt k. tt, tt))

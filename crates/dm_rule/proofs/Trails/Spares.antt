@@ -2,7 +2,7 @@
 use Rattle.dm_rule.proofs.Names.{◌≡◌, ℕ, ◌+◌, ◌==◌, ◌&&◌, Bool, true, false, not, List, [], ◌∷◌, ◌++◌, length, map, refl, ap, ◌∙◌, sym, subst, if◌then◌else◌, Option, None, Some, false≢true, Pid, Place, pid_eq, PlainLink, first_empty, MsgId}
 use Rattle.dm_rule.proofs.Names.{id_eq, id_of, PlainMessage, PlainWhat, Label, Reply, switchboard, manager, bind, PlainProcess, reg, NamedLink, OneKernel, with_sent, answer_id, id_eq-is, id_eq-same, sent_at, bind-is, when-is, View}
 use Rattle.dm_rule.proofs.Names.{is_kernels, Addresses, Holder, Slot, Owner, Receiver, Sender, Enclosed, Answer, Gets, gets, given, gives, holder_eq, unmoved, encloses, enclosed_from, sends_what, fills, fills_by, call_gets, receives_links}
-use Rattle.dm_rule.proofs.Names.{receives_what, slot_after, landing_gets, serves_what, child_links, board_finds, board_keeps, board_gets, manager_tells, manager_sends, manager_answers, manager_gets, both_true}
+use Rattle.dm_rule.proofs.Names.{receives_what, slot_after, landing_gets, serves_what, child_links, board_finds, board_keeps, board_gets, manager_tells, manager_sends, manager_answers, manager_gets, both_true, at_hand-is}
 use Rattle.dm_onekernel.specs.Calls as calls
 use Rattle.dm_onekernel.specs.Pieces as pieces
 use Rattle.dm_onekernel.specs.Switchboard as board
@@ -10,6 +10,7 @@ use Rattle.dm_onekernel.specs.Manager as manage
 use Rattle.dm_onekernel.specs.Service as service
 use Rattle.dm_onekernel.specs.Step as kernel
 use Rattle.dm_rule.specs.Addresses as addresses
+use Rattle.dm_rule.specs.Given as request
 use Rattle.dm_rule.proofs.Lines.{not_true}
 
 -- these are none of a message's receiver and sender
@@ -222,6 +223,15 @@ takes_spares s t v a id m false true i out own e =
     manager_takes_spares s v a m m.what o i (λ j g. let h : k ≡ j = (let z : Some k ≡ Some j = sym is ∙ g in cc) in subst (λ (y : manage.ManagerTook). (x : PlainMessage) → y.message ≡ Some x → id_eq x.id i ≡ false) h (took_outside s t id k i k.message refl out own f))
 takes_spares s t v a id m false false i out own e = cc
 
+-- a request to move
+follows_spares : (a : Addresses) (id : MsgId) (o : Option PlainMessage) (i : MsgId) → spares i (request.follows a id o) ≡ true
+follows_spares a id None i = refl
+follows_spares a id (Some m) i = refl
+
+ends_spares : (v : View) (a : Addresses) (id : MsgId) (o : Option Pid) (i : MsgId) → is_kernels i ≡ true → spares i (request.ends_move v a id o) ≡ true
+ends_spares v a id None i own = refl
+ends_spares v a id (Some p) i own = two_more i (answer_id id) [] (answers_apart i id own) refl
+
 -- a row a label
 pub gives_spares : (s t : OneKernel) (v : View) (a : Addresses) (l : Label) (i : MsgId) → kernel.step s l ≡ Some t → Outside t → is_kernels i ≡ true → spares i (gives s v a l) ≡ true
 gives_spares s t v a (Label.Call p n c) i is out own = made_spares v a p n c (kernel.running s p) i
@@ -230,8 +240,9 @@ gives_spares s t v a (Label.Send p id) i is out own =
     sends_spares s v a p id (kernel.running s p) i (apart i id own (send_other s t p id n rest out))
 gives_spares s t v a (Label.Receive p id) i is out own = receives_spares a p id (kernel.alive (s.processes p)) (s.bag id) i
 gives_spares s t v a (Label.Served id) i is out own =
-    let (m, there, rest) = bind-is (s.bag id) (λ (w : PlainMessage). bind (kernel.alive (s.processes w.to)) (λ (p : PlainProcess). service.serves s id w p w.what)) t is in
-    let (x, alive, last) = bind-is (kernel.alive (s.processes m.to)) (λ (p : PlainProcess). service.serves s id m p m.what) t rest in
+    let (m, there, rest) = bind-is (s.bag id) (λ (w : PlainMessage). bind (kernel.at_hand s w.to) (λ (p : PlainProcess). service.serves s id w p w.what)) t is in
+    let (x, hand, last) = bind-is (kernel.at_hand s m.to) (λ (p : PlainProcess). service.serves s id m p m.what) t rest in
+    let alive : kernel.alive (s.processes m.to) ≡ Some x = ap kernel.alive (at_hand-is s m.to x hand).1 in
     let gs_is : serves_what v a id m x m.what ≡ gives s v a (Label.Served id) = ap (addresses.serves_alive v a id m) (sym alive) ∙ ap (addresses.service_gets s v a id) (sym there) in
     subst (λ (gs : List Gets). spares i gs ≡ true) gs_is (serve_spares s t v a id m x m.what i out own last)
 gives_spares s t v a (Label.Gone id) i is out own = two_more i (answer_id id) [] (answers_apart i id own) refl
@@ -240,4 +251,6 @@ gives_spares s t v a (Label.Took id) i is out own =
     subst (λ (gs : List Gets). spares i gs ≡ true) (ap (addresses.taking_gets s v a id) (sym there)) (takes_spares s t v a id m (pid_eq m.to switchboard) (pid_eq m.to manager) i out own rest)
 gives_spares s t v a (Label.Created id child) i is out own = creates_spares v a id child (s.bag id) i own
 gives_spares s t v a (Label.NoSpace id f b) i is out own = two_more i (answer_id id) [] (answers_apart i id own) refl
+gives_spares s t v a (Label.Asked id) i is out own = follows_spares a id (s.bag id) i
+gives_spares s t v a (Label.Answered id o) i is out own = ends_spares v a id (s.noted id) i own
 gives_spares s t v a _ i is out own = refl

@@ -1,9 +1,9 @@
 -- Each line of a migration, of an end and of a birth keeps what machines know in agreement with the trails.
 use Rattle.dm_rule.proofs.Names.{◌≡◌, ◌≢◌, ℕ, ◌+◌, ◌==◌, ◌&&◌, Bool, true, false, not, List, [], ◌∷◌, ◌++◌, length, refl, ap, ◌∙◌, sym, subst, inl, inr, arith, if◌then◌else◌, slice_get, Option, Some, cases_Bool, false≢true, nat_tests}
 use Rattle.dm_rule.proofs.Names.{append-nil, Pid, pid_eq, MsgId, MessageKind, Line, Stage, at_record, View, Known, Unknown, Here, Frozen, Incoming, Forward, Ended, view_after, front_of, front_told, target_of, gone_to, Nowhere, Moves, IsIn}
-use Rattle.dm_rule.proofs.Names.{kind_comes, is_restart, is_early, is_between, is_away, Trails, Trail, StoodOnTrail, destination, trails_after, pid_eq-is, pid_eq-same}
-use Rattle.dm_rule.specs.Phases.{kind_leaves}
+use Rattle.dm_rule.proofs.Names.{kind_comes, is_restart, is_early, is_between, is_away, Trails, Trail, StoodOnTrail, destination, trails_after, pid_eq-is, pid_eq-same, kind_leaves}
 use Rattle.dm_rule.proofs.Lines.{eq_is, parts, not_true}
+use Rattle.dm_rule.proofs.Seen.{aim, sets}
 use Rattle.dm_rule.proofs.Trails.Known.{trail_same, trail_learns, trail_made, trail_grows, trail_left, home_alone}
 
 -- where a process moves: the source holds it, and the destination expects it
@@ -59,8 +59,8 @@ set_trail v w t p q x known on h = elim (cases_Bool (pid_eq p q)) [
 -- step 1: it leaves
 pub frozen_trail : (v : View) (t : Trails) (p q : Pid) → v.known v.acting p ≡ Here → Trail v t q → Trail (view_after v (Line.Migration Stage.Frozen p)) t q
 frozen_trail v t p q here h =
-    let x = Frozen (target_of (front_told v (v.inbox v.acting))) in
-    set_trail v (view_after v (Line.Migration Stage.Frozen p)) t p q x refl (λ known on. trail_learns v (view_after v (Line.Migration Stage.Frozen p)) t p x v.acting known (λ k j e. cc) (λ e. cc) (λ e. let f : Here ≡ Unknown = sym here ∙ e in cc) on) h
+    let x = Frozen (aim v v.topic) in
+    set_trail v (view_after v (Line.Migration Stage.Frozen p)) t p q x (sets v p v.topic).known (λ known on. trail_learns v (view_after v (Line.Migration Stage.Frozen p)) t p x v.acting known (λ k j e. cc) (λ e. cc) (λ e. let f : Here ≡ Unknown = sym here ∙ e in cc) on) h
 
 -- step 3: it is accepted, and its source knows it
 pub accepted_trail : (v : View) (t : Trails) (p q : Pid) (k : MessageKind) (s d : ℕ) (o : Option MsgId) → IsIn v p (Moves k s d o) → is_restart k ≡ false → Trail v t q → Trail (view_after v (Line.Migration Stage.Accepted p)) t q

@@ -2,10 +2,11 @@
 use Rattle.dm_rule.proofs.Names.{◌≡◌, ◌≢◌, ℕ, ◌+◌, ◌≤◌, Bool, true, false, List, ◌++◌, length, refl, ap, ◌∙◌, sym, subst, ⊤, ◌==◌, not, filter, slice_get, Option, None, Some, Pid, MsgId, MessageKind, manager, Label, OneKernel, Step}
 use Rattle.dm_rule.proofs.Names.{bind-is, Line, Stage, View, Told, Known, Unknown, Here, Frozen, Forward, is_kernels, own_id, view_after, after_label, after_head, after_put, after_proto, handled, taken_id, queued_for, held_for}
 use Rattle.dm_rule.proofs.Names.{forwarded_for, forward_about, served_told, kills, receiver_of, Addresses, Receiver, Sender, given, forwards, all_follow, own_gives, first_gives, addresses_after, ascends, Nowhere, Moves, IsIn, is_restart}
-use Rattle.dm_rule.proofs.Names.{is_early, Point, moved, after_line, times, Trails, Trail, StoodOnTrail, IsOn, AddressesOn, OwnOn, trails_after}
+use Rattle.dm_rule.proofs.Names.{is_early, Point, moved, after_line, times, Trails, Trail, StoodOnTrail, IsOn, AddressesOn, OwnOn, trails_after, PlainMessage, PlainWhat, gives, machine_in, seen, machine_of}
 use Rattle.dm_onekernel.specs.Step as kernel
 use Rattle.dm_rule.specs.View as view
 use Rattle.dm_rule.proofs.Hushed.{hushed}
+use Rattle.dm_rule.proofs.Seen.{sets}
 use Rattle.dm_rule.proofs.Homes.Serves as serves
 use Rattle.dm_rule.proofs.Homes.Labels.{SaidOn}
 use Rattle.dm_rule.proofs.Phases.Lines.{queued_known, held_known, dropped_known, forwarded_known}
@@ -171,11 +172,26 @@ label_trail pt t (Label.Served id) q fits h = served_trail (handled pt.view id) 
 label_trail pt t (Label.Dropped id) q fits h = trail_same pt.view (after_label pt.view (Label.Dropped id)) t t q (λ m. dropped_known (handled pt.view id) id (receiver_of (pt.view.told id)) m q) refl h
 label_trail pt t any_ q fits h = trail_same pt.view (after_label pt.view any_) t t q (λ m. refl) refl h
 
+-- where an asked process goes is no place of a process
+move_place : (w : PlainWhat) (p : Pid) (m c : ℕ) → machine_of w ≡ view.Place p m c → ⊥
+move_place (PlainWhat.Move machine) p m c e = cc
+move_place _ p m c e = cc
+
+moved_place : (o : Option PlainMessage) (p : Pid) (m c : ℕ) → machine_in o ≡ view.Place p m c → ⊥
+moved_place None p m c e = cc
+moved_place (Some x) p m c e = move_place x.what p m c e
+
+label_place : (s : OneKernel) (v : View) (l : Label) (p : Pid) (m c : ℕ) → (seen s v (Line.Label l)).topic ≡ view.Place p m c → (after_label v l).topic ≡ view.Place p m c
+label_place s v (Label.Asked id) p m c e = absurd (moved_place (s.bag id) p m c e)
+label_place s v _ p m c e = e
+
 label_treads : (pt : Point) (s : OneKernel) (t : Trails) (l : Label) → kernel.step pt.kernel l ≡ Some s → LabelFits pt t l → Treads pt t → Treads (moved pt (Line.Label l) s) t
 label_treads pt s t l is fits h = record {
-  trail = λ q. label_trail pt t l q fits.known (h.trail q);
+  trail = λ q. trail_same (after_label pt.view l) (seen pt.kernel pt.view (Line.Label l)) t t q (λ m. refl) refl (label_trail pt t l q fits.known (h.trail q));
   links = label_links pt.kernel s pt.view pt.addresses t l is fits.named fits.said h.trail h.pending h.links;
-  own = label_own pt.kernel s pt.view pt.addresses t l is (fits.outside s is) h.own;
+  own =
+      (let own = label_own pt.kernel s pt.view pt.addresses t l is (fits.outside s is) h.own in
+      own_as (after_label pt.view l) (seen pt.kernel pt.view (Line.Label l)) (given pt.addresses (gives pt.kernel pt.view pt.addresses l)) t refl (λ p m c e. own.topic p m c (label_place pt.kernel pt.view l p m c e)) own);
   pending = label_pending pt.kernel s pt.view pt.addresses t l is fits.named fits.said h.trail h.pending h.links;
 }
 
@@ -267,7 +283,9 @@ put_treads pt t x y id k q fits h =
 
 -- a step of a migration
 stage_treads : (pt : Point) (t : Trails) (p : Pid) (s : Stage) → StageFits pt t p s → Treads pt t → Treads (moved pt (Line.Migration s p) pt.kernel) t
-stage_treads pt t p Stage.Frozen here h = learns_treads pt (view_after pt.view (Line.Migration Stage.Frozen p)) t (λ q. frozen_trail pt.view t p q here (h.trail q)) refl (λ r m c e. cc) h
+stage_treads pt t p Stage.Frozen here h =
+    let k = sets pt.view p pt.view.topic in
+    learns_treads pt (view_after pt.view (Line.Migration Stage.Frozen p)) t (λ q. frozen_trail pt.view t p q here (h.trail q)) k.told (λ r m c e. let f : view.Of p ≡ view.Place r m c = sym k.topic ∙ e in cc) h
 stage_treads pt t p Stage.Asked fits h = quiet_treads pt (view_after pt.view (Line.Migration Stage.Asked p)) t (λ m q. refl) refl h.own.topic h
 stage_treads pt t p Stage.Accepted fits h = learns_treads pt (view_after pt.view (Line.Migration Stage.Accepted p)) t (λ q. accepted_trail pt.view t p q fits.k fits.s fits.d fits.o fits.phase fits.off (h.trail q)) refl (λ r m c e. cc) h
 stage_treads pt t p Stage.Left fits h = learns_treads pt (view_after pt.view (Line.Migration Stage.Left p)) t (λ q. left_line_trail pt.view t p q fits.d fits.holds fits.at fits.long fits.apart (h.trail q)) refl (λ r m c e. cc) h

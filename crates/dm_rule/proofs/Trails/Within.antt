@@ -4,6 +4,7 @@ use Rattle.dm_rule.proofs.Names.{Stage, at_record, View, Told, Known, Unknown, H
 use Rattle.dm_rule.proofs.Names.{receiver_of, front_of, front_told, target_of, gone_to, Trails, Trail}
 use Rattle.dm_rule.specs.View as view
 use Rattle.dm_rule.proofs.Lines.{eq_is, parts}
+use Rattle.dm_rule.proofs.Seen.{aim, sets}
 use Rattle.dm_rule.proofs.Homes.Lines.{acting_label}
 use Rattle.dm_rule.proofs.Phases.Lines.{queued_known, held_known, dropped_known, forwarded_known}
 use Rattle.dm_rule.proofs.Phases.Pieces.{proto_known, proto_acting}
@@ -65,7 +66,7 @@ label_within n v (Label.Dropped id) h = within_same n v (after_label v (Label.Dr
 label_within n v _ h = record { known = h.known; acting = h.acting }
 
 stage_within : (n : ℕ) (v : View) (p : Pid) (s : Stage) → Within n v → Within n (view_after v (Line.Migration s p))
-stage_within n v p Stage.Frozen h = within_set n v (view_after v (Line.Migration Stage.Frozen p)) p (Frozen (target_of (front_told v (v.inbox v.acting)))) refl refl h
+stage_within n v p Stage.Frozen h = let k = sets v p v.topic in within_set n v (view_after v (Line.Migration Stage.Frozen p)) p (Frozen (aim v v.topic)) k.known k.acting h
 stage_within n v p Stage.Asked h = h
 stage_within n v p Stage.Accepted h = within_set n v (view_after v (Line.Migration Stage.Accepted p)) p (Incoming (front_of (v.inbox v.acting))) refl refl h
 stage_within n v p Stage.Left h = within_set n v (view_after v (Line.Migration Stage.Left p)) p (gone_to (v.known v.acting p) (v.moves p + 1)) refl refl h

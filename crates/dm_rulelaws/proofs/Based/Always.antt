@@ -33,7 +33,7 @@ based_group b pt d w fit is h =
     let phased = phased_group b pt d w fit is h.phased in
     let same = constant_group b pt d w is in
     let waits = waits_group b pt d w is h.phased h.known (waits_by pt h.phased h.queued h.held) in
-    let (r, e, sound, fits) = replay_fits (labels w.lines) h.phased.state.r h.phased.state.e pt.kernel w.point.kernel (group_replay b pt d w is) h.phased.state.sound h.fits in
+    let (r, e, sound, order, fits) = replay_fits (labels w.lines) h.phased.state.r h.phased.state.e pt.kernel w.point.kernel (group_replay b pt d w is) h.phased.state.sound h.pending h.fits in
     record {
       phased = phased;
       fits = fits;

@@ -1,24 +1,23 @@
 -- A process that is made, or not for want of room, keeps that all fits.
 use Rattle.dm_rulelaws.proofs.Names.{◌≡◌, ℕ, zero, suc, ◌+◌, ◌-◌, ◌&&◌, true, false, List, [], ◌∷◌, ◌++◌, length, map, replicate, refl, ap, ◌∙◌, sym, subst, is_some, nat_le, nat_lt, arith, slice_get, Option, None, Some, false≢true}
 use Rattle.dm_rulelaws.proofs.Names.{nat_tests, Pid, pid_eq, pid_of, PlainLink, MsgId, Label, PlainMessage, PlainWhat, BootImage, first_number, slots_of, Format, Life, Alive, Manager, OneKernel, with_process, with_sent, answer_id}
-use Rattle.dm_rulelaws.proofs.Names.{answer_to, without_message, begun, pid_eq-is, Sound, bind-is, when-is, Each, Lives, has_bytes, LinkFits, SlotFits, ProcessFits, awaits, IsPending, WhatFits, KernelFits}
+use Rattle.dm_rulelaws.proofs.Names.{answer_to, without_message, begun, pid_eq-is, Sound, bind-is, when-is, Each, Lives, has_bytes, LinkFits, SlotFits, ProcessFits, awaits, is_for, IsPending, WhatFits, KernelFits, PendingKind}
 use Rattle.dm_onekernel.specs.Manager as manage
 use Rattle.dm_onekernel.specs.Service as service
 use Rattle.dm_onekernel.specs.Step as kernel
-use Rattle.dm_rulelaws.proofs.Fits.Rises.{both, Becomes, carries, set_fits, set_at, out_fits, put_fits}
+use Rattle.dm_rulelaws.proofs.Fits.Rises.{both, Becomes, carries, pending_on, set_fits, set_at, out_fits, put_fits}
 
--- a request to make a process is answered under its number
-pending_at : (s u : OneKernel) (id : MsgId) (m : PlainMessage) → m.id ≡ id → u.manager ≡ s.manager → IsPending s id → IsPending u (answer_id m.id)
-pending_at s u id m name same p = record {
-  from = ap (λ (i : MsgId). i.from) name ∙ p.from;
-  pending = ap (λ (i : MsgId). is_some (manage.pending_numbered i.n u.manager.pending)) name ∙ ap (λ (g : Manager). is_some (manage.pending_numbered id.n g.pending)) same ∙ p.pending;
-}
+-- a request is answered under its number
+pub pending_at : (s u : OneKernel) (kind : PendingKind) (id : MsgId) (m : PlainMessage) → m.id ≡ id → u.manager ≡ s.manager → IsPending s kind id → IsPending u kind (answer_id m.id)
+pending_at s u kind id m name same p =
+    let k = pending_on s u kind id same p in
+    record { from = ap (λ (i : MsgId). i.from) name ∙ k.from; pending = ap (λ (i : MsgId). is_for kind (manage.pending_numbered i.n u.manager.pending)) name ∙ k.pending }
 
 no_space_row : (r e : MsgId → ℕ) (s t : OneKernel) (id : MsgId) (m : PlainMessage) (w : PlainWhat) → m.what ≡ w → WhatFits s id m w → s.bag id ≡ Some m → service.has_no_room s id m w ≡ Some t → Sound r e s → KernelFits s → KernelFits t
 no_space_row r e s t id m (PlainWhat.Create image links) w f there is h fits =
     let k = when-is (service.is_kernel s m.to) (with_sent (without_message s id) (Some (answer_to m PlainWhat.NoRoom))) t is in
     let (num, home, numbered, sender, request, pending, each) = f in
-    subst KernelFits k.1 (put_fits (without_message s id) (answer_to m PlainWhat.NoRoom) (sender, refl, pending_at s (without_message s id) id m (h.entered.named id m there) refl pending) (out_fits s id fits))
+    subst KernelFits k.1 (put_fits (without_message s id) (answer_to m PlainWhat.NoRoom) (sender, refl, pending_at s (without_message s id) PendingKind.Create id m (h.entered.named id m there) refl pending) (out_fits s id fits))
 no_space_row r e s t id m _ w f there is h fits = cc
 
 pub no_space_step : (r e : MsgId → ℕ) (s t : OneKernel) (id : MsgId) (a b : ℕ) → kernel.step s (Label.NoSpace id a b) ≡ Some t → Sound r e s → KernelFits s → KernelFits t
@@ -75,15 +74,17 @@ created_row r e s t id m child image links number f there is h fits =
       alive = on.processes;
       bag = λ i n g. g;
       waits = λ i n g z. z;
-      pending = λ i n g c z. record { from = z.from; pending = z.pending };
+      pending = λ i n g kind c. pending_on w u kind i refl;
       machines = refl;
       images = refl;
       names = on.names;
       answers = on.answers;
+      notes = λ p n g. g;
+      noted = λ p n g. pending_on w u PendingKind.Move n.id refl;
       children = on.children;
     }) on in
     subst KernelFits k.1
-    (put_fits u (answer_to m (PlainWhat.Created child)) (sender, refl, pending_at s u id m (h.entered.named id m there) refl pending, ap (has_bytes 0) (set_at v child (Alive y)) ∙ (let z : nat_le 0 (length y.memory) ≡ true = grind (arith, nat_tests) in z)) up)
+    (put_fits u (answer_to m (PlainWhat.Created child)) (sender, refl, pending_at s u PendingKind.Create id m (h.entered.named id m there) refl pending, ap (has_bytes 0) (set_at v child (Alive y)) ∙ (let z : nat_le 0 (length y.memory) ≡ true = grind (arith, nat_tests) in z)) up)
 
 creates_row : (r e : MsgId → ℕ) (s t : OneKernel) (id : MsgId) (m : PlainMessage) (child : Pid) (w : PlainWhat) → WhatFits s id m w → s.bag id ≡ Some m → service.creates s id m child w ≡ Some t → Sound r e s → KernelFits s → KernelFits t
 creates_row r e s t id m child (PlainWhat.Create image links) f there is h fits =

@@ -1,7 +1,7 @@
 -- What a process becomes by its instructions, its calls and its receives fits.
 use Rattle.dm_rulelaws.proofs.Names.{◌≡◌, ℕ, zero, suc, ◌+◌, ◌≤◌, ◌&&◌, Bool, true, false, List, [], ◌∷◌, length, refl, ap, ◌∙◌, sym, subst, nat_le, arith, ⊤, if◌then◌else◌, Option, None, Some, common_steps, Pid, pid_eq, PlainLink}
 use Rattle.dm_rulelaws.proofs.Names.{first_empty, MsgId, PlainMessage, PlainWhat, on_mask, Row, instruction, Regs, KeepsLengths, instruction-lengths, Reply, bind, PlainProcess, PlainStatus, Ready, Waiting, Alive, OneKernel, written_at}
-use Rattle.dm_rulelaws.proofs.Names.{first_failed, pending_of, bind-is, alive-is, Runs, Each, Lives, has_bytes, LinkFits, SlotFits, move_fits, ProcessFits, WhatFits, KernelFits}
+use Rattle.dm_rulelaws.proofs.Names.{first_failed, pending_of, bind-is, at_hand-is, Runs, Each, Lives, has_bytes, LinkFits, SlotFits, move_fits, ProcessFits, WhatFits, KernelFits}
 use Rattle.dm_onekernel.specs.Receiving as receiving
 use Rattle.dm_onekernel.specs.Calls as calls
 use Rattle.dm_onekernel.specs.Step as kernel
@@ -19,9 +19,10 @@ ready_is y x _ e = cc
 
 pub running_is : (s : OneKernel) (p : Pid) (x : PlainProcess) → kernel.running s p ≡ Some x → Runs s p x
 running_is s p x e =
-    let (y, is, ready) = bind-is (kernel.alive (s.processes p)) (λ (v : PlainProcess). kernel.if_ready v v.status) x e in
+    let (y, is, ready) = bind-is (kernel.at_hand s p) (λ (v : PlainProcess). kernel.if_ready v v.status) x e in
     let k = ready_is y x y.status ready in
-    record { alive = alive-is (s.processes p) x (is ∙ ap Some k.0); still = sym (ap (λ (v : PlainProcess). pending_of v.status) k.0) ∙ k.1 }
+    let (free, alive) = at_hand-is s p x (is ∙ ap Some k.0) in
+    record { alive = alive; still = sym (ap (λ (v : PlainProcess). pending_of v.status) k.0) ∙ k.1; free = free }
 
 -- memory never shrinks
 pub written_longer : (memory : List ℕ) (base : ℕ) (bytes : List ℕ) → length memory ≤ length (written_at memory base bytes)
@@ -136,8 +137,8 @@ pub record Completing (s : OneKernel) (p : Pid) (d : receiving.Completed) : Type
 
 pub completing_is : (s : OneKernel) (p : Pid) (id : MsgId) (d : receiving.Completed) → KernelFits s → kernel.completing s p id ≡ Some d → Completing s p d
 completing_is s p id d h e =
-    let (x, is, rest) = bind-is (kernel.alive (s.processes p)) (λ (v : PlainProcess). bind (s.bag id) (receiving.completes_with p v)) d e in
+    let (x, is, rest) = bind-is (kernel.at_hand s p) (λ (v : PlainProcess). bind (s.bag id) (receiving.completes_with p v)) d e in
     let (m, there, last) = bind-is (s.bag id) (receiving.completes_with p x) d rest in
-    let alive = alive-is (s.processes p) x is in
+    let (free, alive) = at_hand-is s p x is in
     let k = completes_with_fits s p x id m x.stopped d (h.messages id m there) (h.processes p x alive) last in
     record { x = x; alive = alive; still = k.0; fits = k.1 }

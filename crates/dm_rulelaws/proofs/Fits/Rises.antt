@@ -1,7 +1,8 @@
 -- What fits goes on fitting as long as processes are only made, end, and keep their memory.
 use Rattle.dm_rulelaws.proofs.Names.{◌≡◌, ℕ, ◌+◌, ◌≤◌, ◌&&◌, ◌||◌, Bool, true, false, List, [], ◌∷◌, length, refl, ap, ◌∙◌, sym, subst, nat_le, nat_lt, inl, inr, arith, if◌then◌else◌, Option, None, Some, cases_Bool, nat_tests, Pid, pid_eq}
 use Rattle.dm_rulelaws.proofs.Names.{PlainLink, MsgId, PlainMessage, PlainWhat, PlainProcess, PlainStatus, Moving, Life, Alive, Ended, NamedLink, Pending, OneKernel, with_process, with_sent, without_message, pid_eq-is, pid_eq-same, stayed}
-use Rattle.dm_rulelaws.proofs.Names.{came, Each, Lives, has_bytes, is_server, takes_users, gives_no_right, LinkFits, SlotFits, move_fits, ProcessFits, awaits, IsPending, WhatFits, KernelFits}
+use Rattle.dm_rulelaws.proofs.Names.{came, Each, Lives, has_bytes, is_server, takes_users, gives_no_right, LinkFits, SlotFits, move_fits, ProcessFits, awaits, is_for, IsPending, WhatFits, NoteFits, PendingFits, KernelFits, Manager, Note, PendingKind}
+use Rattle.dm_onekernel.specs.Manager as manage
 pub use Rattle.dm_rule.proofs.Homes.Servers.{and-both as both}
 pub use Rattle.dm_line.proofs.Below.{both_true as two}
 
@@ -37,16 +38,28 @@ move_on ps qs up x y le _ h = refl
 pub process_on : (ps qs : Lives) → Rises ps qs → (x : PlainProcess) → ProcessFits ps x → ProcessFits qs x
 process_on ps qs up x h = record { slots = Each-on (SlotFits ps) (SlotFits qs) (slot_on ps qs up) x.links h.slots; move = move_on ps qs up x x (omega arith) x.status h.move }
 
--- kinds that are about children
+pub pending_fits : (ps qs : Lives) → Rises ps qs → (r : Pending) → PendingFits ps r → PendingFits qs r
+pending_fits ps qs up r h = record { answer = slot_on ps qs up r.answer h.answer; making = h.making }
+
+-- kinds that are about children: requests to make them or to move them, and the answers
 abbrev pub of_child : PlainWhat → Bool
 of_child (PlainWhat.Create image links) = true
 of_child (PlainWhat.Created child) = true
 of_child PlainWhat.NoRoom = true
+of_child (PlainWhat.Move machine) = true
+of_child (PlainWhat.Moved outcome) = true
 of_child w = false
+
+-- what the manager waits for stays, where the manager does
+pub pending_on : (s t : OneKernel) (kind : PendingKind) (i : MsgId) → t.manager ≡ s.manager → IsPending s kind i → IsPending t kind i
+pending_on s t kind i same h = record { from = h.from; pending = ap (λ (g : Manager). is_for kind (manage.pending_numbered i.n g.pending)) same ∙ h.pending }
+
+pub note_on : (s t : OneKernel) (n : Note) → t.manager ≡ s.manager → NoteFits s n → NoteFits t n
+note_on s t n same h = record { asker = h.asker; unanswered = h.unanswered; pending = pending_on s t PendingKind.Move n.id same h.pending }
 
 -- a message fits on where processes rise, whoever awaits it still does, and its request is still pending
 pub what_on : (s t : OneKernel) (i : MsgId) (m : PlainMessage) (w : PlainWhat) → Rises s.processes t.processes → (awaits (s.processes i.from) i.n w ≡ true → awaits (t.processes i.from) i.n w ≡ true)
-    → (of_child w ≡ true → IsPending s i → IsPending t i) → t.machines ≡ s.machines → t.images ≡ s.images → WhatFits s i m w → WhatFits t i m w
+    → ((kind : PendingKind) → of_child w ≡ true → IsPending s kind i → IsPending t kind i) → t.machines ≡ s.machines → t.images ≡ s.images → WhatFits s i m w → WhatFits t i m w
 what_on s t i m (PlainWhat.User code channel body links) up waits pending machines images h =
     (users_on s.processes t.processes up m.to h.0, Each-on (LinkFits s.processes) (LinkFits t.processes) (link_on s.processes t.processes up) links h.1)
 what_on s t i m (PlainWhat.Read base len) up waits pending machines images h = (up m.to (base + len) h.0, waits h.1)
@@ -61,15 +74,17 @@ what_on s t i m (PlainWhat.Create image links) up waits pending machines images 
       ap (λ is. nat_lt image (length is)) images ∙ numbered,
       sender,
       request,
-      pending refl is,
+      pending PendingKind.Create refl is,
       Each-on (LinkFits s.processes) (LinkFits t.processes) (link_on s.processes t.processes up) links fits,
     )
 what_on s t i m (PlainWhat.Created child) up waits pending machines images h =
-    let (to, answer, is, made) = h in (to, answer, pending refl is, up child 0 made)
+    let (to, answer, is, made) = h in (to, answer, pending PendingKind.Create refl is, up child 0 made)
 what_on s t i m PlainWhat.NoRoom up waits pending machines images h =
-    let (to, answer, is) = h in (to, answer, pending refl is)
-what_on s t i m (PlainWhat.Move machine) up waits pending machines images h = absurd h
-what_on s t i m (PlainWhat.Moved outcome) up waits pending machines images h = absurd h
+    let (to, answer, is) = h in (to, answer, pending PendingKind.Create refl is)
+what_on s t i m (PlainWhat.Move machine) up waits pending machines images h =
+    let (made, within, sender, request, is) = h in (up m.to 0 made, ap (nat_lt machine) machines ∙ within, sender, request, pending PendingKind.Move refl is)
+what_on s t i m (PlainWhat.Moved outcome) up waits pending machines images h =
+    let (to, answer, is) = h in (to, answer, pending PendingKind.Move refl is)
 what_on s t i m _ up waits pending machines images h = up m.to 0 h
 
 -- a kernel that goes on from another, with no new message
@@ -78,11 +93,13 @@ pub record Carries (s t : OneKernel) : Type 0 where
   pub alive : (p : Pid) (x : PlainProcess) → t.processes p ≡ Some (Alive x) → ProcessFits s.processes x
   pub bag : (i : MsgId) (m : PlainMessage) → t.bag i ≡ Some m → s.bag i ≡ Some m
   pub waits : (i : MsgId) (m : PlainMessage) → t.bag i ≡ Some m → awaits (s.processes i.from) i.n m.what ≡ true → awaits (t.processes i.from) i.n m.what ≡ true
-  pub pending : (i : MsgId) (m : PlainMessage) → t.bag i ≡ Some m → of_child m.what ≡ true → IsPending s i → IsPending t i
+  pub pending : (i : MsgId) (m : PlainMessage) → t.bag i ≡ Some m → (kind : PendingKind) → of_child m.what ≡ true → IsPending s kind i → IsPending t kind i
   pub machines : t.machines ≡ s.machines
   pub images : t.images ≡ s.images
   pub names : Each (λ (k : NamedLink). LinkFits s.processes k.link) t.switchboard.names
-  pub answers : Each (λ (r : Pending). LinkFits s.processes r.answer) t.manager.pending
+  pub answers : Each (PendingFits s.processes) t.manager.pending
+  pub notes : (p : Pid) (n : Note) → t.notes p ≡ Some n → s.notes p ≡ Some n
+  pub noted : (p : Pid) (n : Note) → t.notes p ≡ Some n → IsPending s PendingKind.Move n.id → IsPending t PendingKind.Move n.id
   pub children : Each (λ (p : Pid). has_bytes 0 (s.processes p) ≡ true) t.manager.children
 
 pub carries : (s t : OneKernel) → Carries s t → KernelFits s → KernelFits t
@@ -90,7 +107,8 @@ carries s t c h = record {
   processes = λ p x is. process_on s.processes t.processes c.rises x (c.alive p x is);
   messages = λ i m is. what_on s t i m m.what c.rises (c.waits i m is) (c.pending i m is) c.machines c.images (h.messages i m (c.bag i m is));
   names = Each-on (λ (k : NamedLink). LinkFits s.processes k.link) (λ (k : NamedLink). LinkFits t.processes k.link) (λ k. link_on s.processes t.processes c.rises k.link) t.switchboard.names c.names;
-  answers = Each-on (λ (r : Pending). LinkFits s.processes r.answer) (λ (r : Pending). LinkFits t.processes r.answer) (λ r. link_on s.processes t.processes c.rises r.answer) t.manager.pending c.answers;
+  answers = Each-on (PendingFits s.processes) (PendingFits t.processes) (pending_fits s.processes t.processes c.rises) t.manager.pending c.answers;
+  notes = λ p n is. let f = h.notes p n (c.notes p n is) in record { asker = f.asker; unanswered = f.unanswered; pending = c.noted p n is f.pending };
   children = Each-on (λ (p : Pid). has_bytes 0 (s.processes p) ≡ true) (λ (p : Pid). has_bytes 0 (t.processes p) ≡ true) (λ p. c.rises p 0) t.manager.children c.children;
 }
 
@@ -101,11 +119,13 @@ out_fits s id h = carries s (without_message s id) (record {
   alive = h.processes;
   bag = λ i m is. stayed s id i m is;
   waits = λ i m is e. e;
-  pending = λ i m is c e. record { from = e.from; pending = e.pending };
+  pending = λ i m is kind c. pending_on s (without_message s id) kind i refl;
   machines = refl;
   images = refl;
   names = h.names;
   answers = h.answers;
+  notes = λ p n is. is;
+  noted = λ p n is. pending_on s (without_message s id) PendingKind.Move n.id refl;
   children = h.children;
 }) h
 
@@ -113,12 +133,13 @@ out_fits s id h = carries s (without_message s id) (record {
 pub put_fits : (s : OneKernel) (m : PlainMessage) → WhatFits s m.id m m.what → KernelFits s → KernelFits (with_sent s (Some m))
 put_fits s m fits h = record {
   processes = h.processes;
-  messages = λ i x is. what_on s (with_sent s (Some m)) i x x.what (λ p n e. e) (λ e. e) (λ c e. record { from = e.from; pending = e.pending }) refl refl (elim (came s m x i is) [
+  messages = λ i x is. what_on s (with_sent s (Some m)) i x x.what (λ p n e. e) (λ e. e) (λ kind c. pending_on s (with_sent s (Some m)) kind i refl) refl refl (elim (came s m x i is) [
     | inl new ↦ subst (λ (v : PlainMessage). WhatFits s i v v.what) new.0 (subst (λ (j : MsgId). WhatFits s j m m.what) new.1 fits)
     | inr old ↦ h.messages i x old
   ]);
   names = h.names;
   answers = h.answers;
+  notes = λ p n is. note_on s (with_sent s (Some m)) n refl (h.notes p n is);
   children = h.children;
 }
 
@@ -150,11 +171,13 @@ set_fits s p life b h = carries s (with_process s p life) (record {
   ];
   bag = λ i m is. is;
   waits = λ i m is e. set_if (λ (o : Option Life). awaits o i.n m.what ≡ true) s p i.from life (b.waits i m is) e;
-  pending = λ i m is c e. record { from = e.from; pending = e.pending };
+  pending = λ i m is kind c. pending_on s (with_process s p life) kind i refl;
   machines = refl;
   images = refl;
   names = h.names;
   answers = h.answers;
+  notes = λ q n is. is;
+  noted = λ q n is. pending_on s (with_process s p life) PendingKind.Move n.id refl;
   children = h.children;
 }) h
 

@@ -1,12 +1,13 @@
 -- What kernels do with messages keeps that all fits.
 use Rattle.dm_rulelaws.proofs.Names.{◌≡◌, ℕ, ◌+◌, ◌-◌, ◌≤◌, ◌==◌, ◌&&◌, Bool, true, false, List, length, take, drop, refl, ap, ◌∙◌, sym, subst, nat_le, arith, if◌then◌else◌, Option, None, Some, nat_tests, length-take, length-drop, Pid}
 use Rattle.dm_rulelaws.proofs.Names.{MsgId, id_eq, id_of, Label, Reply, PlainMessage, PlainWhat, Direction, Why, bind, PlainProcess, PlainStatus, Moving, Life, Alive, Ended, OneKernel, with_process, with_sent, answer_id, answer_to}
-use Rattle.dm_rulelaws.proofs.Names.{without_message, is_of_memory, is_dropped, is_piece, pending_of, id_eq-same, One, stayed, out_at, Sound, bind-is, when-is, alive-is, Each, Lives, has_bytes, SlotFits, move_fits, ProcessFits, piece_fits}
-use Rattle.dm_rulelaws.proofs.Names.{status_awaits, awaits, WhatFits, KernelFits}
+use Rattle.dm_rulelaws.proofs.Names.{without_message, is_of_memory, is_dropped, is_piece, pending_of, id_eq-same, One, stayed, out_at, Sound, bind-is, when-is, at_hand-is, Each, Lives, has_bytes, SlotFits, move_fits, ProcessFits}
+use Rattle.dm_rulelaws.proofs.Names.{piece_fits, status_awaits, awaits, WhatFits, KernelFits, inl, inr, cases_Bool, pid_eq, IsPending, Note, NoteFits, Outcome, PendingKind, ends_move-is, note-is, with_note, without_note}
+use Rattle.dm_rulelaws.proofs.Fits.Creates.{pending_at}
 use Rattle.dm_onekernel.specs.Pieces as pieces
 use Rattle.dm_onekernel.specs.Service as service
 use Rattle.dm_onekernel.specs.Step as kernel
-use Rattle.dm_rulelaws.proofs.Fits.Rises.{both, two, move_on, Becomes, set_if, set_fits, set_at, set_rises, out_fits, put_fits, end_fits}
+use Rattle.dm_rulelaws.proofs.Fits.Rises.{both, two, move_on, what_on, carries, pending_on, note_on, Becomes, set_if, set_fits, set_at, set_rises, out_fits, put_fits, end_fits}
 use Rattle.dm_rulelaws.proofs.Fits.Calls.{SentFits, requests_fit}
 use Rattle.dm_rulelaws.proofs.Fits.Receives.{GoesOn, written_longer}
 use Rattle.dm_rulelaws.proofs.Fits.Steps.{becomes, sent_fits}
@@ -266,9 +267,9 @@ serves_row r e s t id m x _ w f there is e_ h fits = cc
 
 pub served_step : (r e : MsgId → ℕ) (s t : OneKernel) (id : MsgId) → kernel.step s (Label.Served id) ≡ Some t → Sound r e s → KernelFits s → KernelFits t
 served_step r e s t id is h fits =
-    let (m, there, rest) = bind-is (s.bag id) (λ (v : PlainMessage). bind (kernel.alive (s.processes v.to)) (λ (p : PlainProcess). service.serves s id v p v.what)) t is in
-    let (x, alive, last) = bind-is (kernel.alive (s.processes m.to)) (λ (p : PlainProcess). service.serves s id m p m.what) t rest in
-    serves_row r e s t id m x m.what refl (fits.messages id m there) there (alive-is (s.processes m.to) x alive) last h fits
+    let (m, there, rest) = bind-is (s.bag id) (λ (v : PlainMessage). bind (kernel.at_hand s v.to) (λ (p : PlainProcess). service.serves s id v p v.what)) t is in
+    let (x, hand, last) = bind-is (kernel.at_hand s m.to) (λ (p : PlainProcess). service.serves s id m p m.what) t rest in
+    serves_row r e s t id m x m.what refl (fits.messages id m there) there (at_hand-is s m.to x hand).1 last h fits
 
 -- the ended
 drops_row : (s t : OneKernel) (id : MsgId) (m : PlainMessage) (y : Why) → kernel.drops s id m y ≡ Some t → KernelFits s → KernelFits t
@@ -280,16 +281,95 @@ dropped_step s t id is fits =
     let (y, ended, last) = bind-is (kernel.why_ended (s.processes m.to)) (kernel.drops s id m) t rest in
     drops_row s t id m y last fits
 
-gone_fits : (r e : MsgId → ℕ) (s : OneKernel) (id : MsgId) (m : PlainMessage) (w : PlainWhat) → m.what ≡ w → is_of_memory w ≡ true → WhatFits s id m w → s.bag id ≡ Some m → Sound r e s → WhatFits (without_message s id) (answer_id m.id) (answer_to m PlainWhat.Gone) PlainWhat.Gone
-gone_fits r e s id m (PlainWhat.Read base len) is memory f there h =
-    answered_fits (without_message s id) id m (PlainWhat.Read base len) PlainWhat.Gone (h.entered.named id m there) (h.movers.senders id m there (ap is_of_memory is)) (read_gone base len) f.1
-gone_fits r e s id m (PlainWhat.Write base bytes) is memory f there h =
-    answered_fits (without_message s id) id m (PlainWhat.Write base bytes) PlainWhat.Gone (h.entered.named id m there) (h.movers.senders id m there (ap is_of_memory is)) (write_gone base bytes) f.1
-gone_fits r e s id m _ is memory f there h = cc
+gone_fits : (r e : MsgId → ℕ) (s : OneKernel) (id : MsgId) (m : PlainMessage) (v w : PlainWhat) → m.what ≡ v → service.gone_what v ≡ Some w → WhatFits s id m v → s.bag id ≡ Some m → Sound r e s → WhatFits (without_message s id) (answer_id m.id) (answer_to m w) w
+gone_fits r e s id m (PlainWhat.Read base len) w is answer f there h =
+    let k : PlainWhat.Gone ≡ w = cc in
+    subst (λ (x : PlainWhat). WhatFits (without_message s id) (answer_id m.id) (answer_to m x) x) k
+    (answered_fits (without_message s id) id m (PlainWhat.Read base len) PlainWhat.Gone (h.entered.named id m there) (h.movers.senders id m there (ap is_of_memory is)) (read_gone base len) f.1)
+gone_fits r e s id m (PlainWhat.Write base bytes) w is answer f there h =
+    let k : PlainWhat.Gone ≡ w = cc in
+    subst (λ (x : PlainWhat). WhatFits (without_message s id) (answer_id m.id) (answer_to m x) x) k
+    (answered_fits (without_message s id) id m (PlainWhat.Write base bytes) PlainWhat.Gone (h.entered.named id m there) (h.movers.senders id m there (ap is_of_memory is)) (write_gone base bytes) f.1)
+gone_fits r e s id m (PlainWhat.Move machine) w is answer f there h =
+    let (made, within, sender, request, pending) = f in
+    let k : PlainWhat.Moved Outcome.Ended ≡ w = cc in
+    subst (λ (x : PlainWhat). WhatFits (without_message s id) (answer_id m.id) (answer_to m x) x) k
+    (sender, refl, pending_at s (without_message s id) PendingKind.Move id m (h.entered.named id m there) refl pending)
+gone_fits r e s id m _ w is answer f there h = cc
 
 pub gone_step : (r e : MsgId → ℕ) (s t : OneKernel) (id : MsgId) → kernel.step s (Label.Gone id) ≡ Some t → Sound r e s → KernelFits s → KernelFits t
 gone_step r e s t id is h fits =
     let (m, there, rest) = bind-is (s.bag id) (λ (v : PlainMessage). bind (kernel.why_ended (s.processes v.to)) (kernel.says_gone s id v)) t is in
     let (y, ended, last) = bind-is (kernel.why_ended (s.processes m.to)) (kernel.says_gone s id m) t rest in
-    let k = when-is (is_of_memory m.what) (with_sent (without_message s id) (Some (answer_to m PlainWhat.Gone))) t last in
-    subst KernelFits k.1 (put_fits (without_message s id) (answer_to m PlainWhat.Gone) (gone_fits r e s id m m.what refl k.0 (fits.messages id m there) there h) (out_fits s id fits))
+    let (w, answer, end) = bind-is (service.gone_what m.what) (λ (v : PlainWhat). Some (with_sent (without_message s id) (Some (answer_to m v)))) t last in
+    let k : with_sent (without_message s id) (Some (answer_to m w)) ≡ t = cc in
+    subst KernelFits k (put_fits (without_message s id) (answer_to m w) (gone_fits r e s id m m.what w refl answer (fits.messages id m there) there h) (out_fits s id fits))
+
+-- a process begins to follow a request to move
+noted_fits : (s : OneKernel) (p : Pid) (n : Note) → NoteFits s n → KernelFits s → KernelFits (with_note s p n)
+noted_fits s p n new h =
+    let t = with_note s p n in
+    record {
+      processes = h.processes;
+      messages = λ i m is. what_on s t i m m.what (λ q k e. e) (λ e. e) (λ kind c. pending_on s t kind i refl) refl refl (h.messages i m is);
+      names = h.names;
+      answers = h.answers;
+      notes = λ q k is. elim (cases_Bool (pid_eq p q)) [
+        | inl same ↦
+            let f : Some n ≡ Some k = sym (ap (λ (c : Bool). if c then Some n else s.notes q) same) ∙ is in
+            let g : n ≡ k = cc in
+            subst (NoteFits t) g (note_on s t n refl new)
+        | inr apart ↦ note_on s t k refl (h.notes q k (sym (ap (λ (c : Bool). if c then Some n else s.notes q) apart) ∙ is))
+      ];
+      children = h.children;
+    }
+
+follows_row : (r e : MsgId → ℕ) (s t : OneKernel) (id : MsgId) (m : PlainMessage) (w : PlainWhat) → WhatFits s id m w → service.follows s id m w ≡ Some t → KernelFits s → KernelFits t
+follows_row r e s t id m (PlainWhat.Move machine) f is fits =
+    let (made, within, sender, request, pending) = f in
+    let u = without_message s id in
+    let n : Note = record { id = id; asker = m.sender } in
+    let k : with_note u m.to n ≡ t = cc in
+    subst KernelFits k (noted_fits u m.to n (record { asker = sender; unanswered = request; pending = pending_on s u PendingKind.Move id refl pending }) (out_fits s id fits))
+follows_row r e s t id m _ f is fits = cc
+
+pub asked_step : (r e : MsgId → ℕ) (s t : OneKernel) (id : MsgId) → kernel.step s (Label.Asked id) ≡ Some t → KernelFits s → KernelFits t
+asked_step r e s t id is fits =
+    let (m, there, rest) = bind-is (s.bag id) (λ (v : PlainMessage). bind (kernel.at_hand s v.to) (λ p. service.follows s id v v.what)) t is in
+    let (x, hand, last) = bind-is (kernel.at_hand s m.to) (λ p. service.follows s id m m.what) t rest in
+    follows_row r e s t id m m.what (fits.messages id m there) last fits
+
+-- the request that it followed is answered
+unnoted_fits : (s : OneKernel) (p : Pid) (id : MsgId) → KernelFits s → KernelFits (without_note s p id)
+unnoted_fits s p id h =
+    let t = without_note s p id in
+    carries s t (record {
+      rises = λ q n e. e;
+      alive = h.processes;
+      bag = λ i m is. is;
+      waits = λ i m is e. e;
+      pending = λ i m is kind c. pending_on s t kind i refl;
+      machines = refl;
+      images = refl;
+      names = h.names;
+      answers = h.answers;
+      notes = λ q n is. unnoted q n (pid_eq p q) is;
+      noted = λ q n is. pending_on s t PendingKind.Move n.id refl;
+      children = h.children;
+    }) h
+  where
+    unnoted : (q : Pid) (n : Note) (c : Bool) → (if c then None else s.notes q) ≡ Some n → s.notes q ≡ Some n
+    unnoted q n true e = cc
+    unnoted q n false e = e
+
+pub answered_step : (r e : MsgId → ℕ) (s t : OneKernel) (id : MsgId) (o : Outcome) → kernel.step s (Label.Answered id o) ≡ Some t → Sound r e s → KernelFits s → KernelFits t
+answered_step r e s t id o is h fits =
+    let (p, noted, rest) = bind-is (s.noted id) (λ v. bind (s.notes v) (λ n. service.ends_move s id v n o)) t is in
+    let (n, notes, last) = bind-is (s.notes p) (λ v. service.ends_move s id p v o) t rest in
+    let f = fits.notes p n notes in
+    let u = without_note s p id in
+    let a : PlainMessage = record { id = answer_id id; to = n.asker; sender = p; what = PlainWhat.Moved o } in
+    let name : n.id ≡ id = note-is e s id p n noted notes h.notes in
+    let pending : IsPending s PendingKind.Move id = subst (IsPending s PendingKind.Move) name f.pending in
+    let k = pending_on s u PendingKind.Move id refl pending in
+    subst KernelFits (ends_move-is s t id p n o last) (put_fits u a (f.asker, refl, record { from = k.from; pending = k.pending }) (unnoted_fits s p id fits))

@@ -7,26 +7,29 @@ use Rattle.dm_rulelaws.proofs.Names.{gives_no_right, LinkFits, ProcessFits, Kern
 use Rattle.dm_onekernel.specs.Step as kernel
 use Rattle.dm_rulelaws.proofs.Fits.Rises.{both, Each-on}
 use Rattle.dm_rulelaws.proofs.Fits.Creates.{begun_fits, created_step, no_space_step}
-use Rattle.dm_rulelaws.proofs.Fits.Serves.{served_step, dropped_step, gone_step}
+use Rattle.dm_rulelaws.proofs.Fits.Serves.{served_step, dropped_step, gone_step, asked_step, answered_step}
+use Rattle.dm_rulelaws.proofs.Fits.Constants.{InOrder}
 use Rattle.dm_rulelaws.proofs.Fits.Servers.{took_step}
 use Rattle.dm_rulelaws.proofs.Fits.Steps.{ran_fits, call_step, send_step, wait_step, out_step, end_step, receive_step, refuse_step}
 
 -- each step keeps that all fits
-pub fits_step : (r e : MsgId → ℕ) (s t : OneKernel) (l : Label) → kernel.step s l ≡ Some t → Sound r e s → KernelFits s → KernelFits t
-fits_step r e s t (Label.Ran p k) is h fits = ran_fits s t p k is fits
-fits_step r e s t (Label.Call p n c) is h fits = call_step s t p n c is fits
-fits_step r e s t (Label.Send p id) is h fits = send_step s t p id is fits
-fits_step r e s t (Label.Wait p) is h fits = wait_step s t p is fits
-fits_step r e s t (Label.Out p w) is h fits = out_step s t p w is fits
-fits_step r e s t (Label.End p y) is h fits = end_step s t p y is fits
-fits_step r e s t (Label.Receive p id) is h fits = receive_step s t p id is fits
-fits_step r e s t (Label.Refuse p id c) is h fits = refuse_step s t p id c is fits
-fits_step r e s t (Label.Dropped id) is h fits = dropped_step s t id is fits
-fits_step r e s t (Label.Served id) is h fits = served_step r e s t id is h fits
-fits_step r e s t (Label.Gone id) is h fits = gone_step r e s t id is h fits
-fits_step r e s t (Label.Took id) is h fits = took_step r e s t id is h fits
-fits_step r e s t (Label.Created id child) is h fits = created_step r e s t id child is h fits
-fits_step r e s t (Label.NoSpace id a b) is h fits = no_space_step r e s t id a b is h fits
+pub fits_step : (r e : MsgId → ℕ) (s t : OneKernel) (l : Label) → kernel.step s l ≡ Some t → Sound r e s → InOrder s.manager → KernelFits s → KernelFits t
+fits_step r e s t (Label.Ran p k) is h order fits = ran_fits s t p k is fits
+fits_step r e s t (Label.Call p n c) is h order fits = call_step s t p n c is fits
+fits_step r e s t (Label.Send p id) is h order fits = send_step s t p id is fits
+fits_step r e s t (Label.Wait p) is h order fits = wait_step s t p is fits
+fits_step r e s t (Label.Out p w) is h order fits = out_step s t p w is fits
+fits_step r e s t (Label.End p y) is h order fits = end_step s t p y is fits
+fits_step r e s t (Label.Receive p id) is h order fits = receive_step s t p id is fits
+fits_step r e s t (Label.Refuse p id c) is h order fits = refuse_step s t p id c is fits
+fits_step r e s t (Label.Dropped id) is h order fits = dropped_step s t id is fits
+fits_step r e s t (Label.Served id) is h order fits = served_step r e s t id is h fits
+fits_step r e s t (Label.Asked id) is h order fits = asked_step r e s t id is fits
+fits_step r e s t (Label.Answered id o) is h order fits = answered_step r e s t id o is h fits
+fits_step r e s t (Label.Gone id) is h order fits = gone_step r e s t id is h fits
+fits_step r e s t (Label.Took id) is h order fits = took_step r e s t id is h order fits
+fits_step r e s t (Label.Created id child) is h order fits = created_step r e s t id child is h fits
+fits_step r e s t (Label.NoSpace id a b) is h order fits = no_space_step r e s t id a b is h fits
 
 -- an image's process has the bytes of its blocks
 memory_long : (i : BootImage) → 256 * i.blocks ≤ length (memory_of i)
@@ -167,5 +170,6 @@ start_fits b valid =
       messages = λ i m e. absurd (let f : None ≡ Some m = e in cc);
       names = tt;
       answers = tt;
+      notes = λ p n e. absurd (let f : None ≡ Some n = e in cc);
       children = map_each (λ (p : Pid). has_bytes 0 (life_at b b.processes p) ≡ true) (λ (p : BootProcess). p.pid) b.processes (children_made b b.processes is);
     }

@@ -1,8 +1,8 @@
 -- No label gives another address to a message that was told of.
 use Rattle.dm_rulelaws.proofs.Names.{◌≤◌, arith, nat_lt, ◌≡◌, ℕ, Bool, true, false, List, [], ◌∷◌, ◌++◌, length, refl, ap, ◌∙◌, sym, subst, if◌then◌else◌, Option, None, Some, Pid, pid_eq, PlainLink, MsgId, id_eq, id_of, PlainMessage}
 use Rattle.dm_rulelaws.proofs.Names.{PlainWhat, Label, switchboard, manager, bind, PlainProcess, OneKernel, answer_id, id_eq-is, bind-is, View, Addresses, Gets, gives, landing_gets, serves_what, board_finds, board_keeps, board_gets}
-use Rattle.dm_rulelaws.proofs.Names.{manager_gets, not_true, nat_tests, unentered, Sound, id_in, landed_id, served_id, board_id, manager_id, took_id, bag_sends, bag_served, bag_gone, bag_no_space, bag_created, bag_took, spares}
-use Rattle.dm_rulelaws.proofs.Names.{spares_both, two_more, made_spares, sends_spares, receives_spares, creates_what_spares, finds_spares, keeps_spares, manager_takes_spares}
+use Rattle.dm_rulelaws.proofs.Names.{manager_gets, not_true, nat_tests, unentered, Sound, id_in, landed_id, served_id, board_id, manager_id, took_id, bag_sends, bag_served, bag_gone, bag_no_space, bag_created, bag_took, spares, spares_both}
+use Rattle.dm_rulelaws.proofs.Names.{two_more, made_spares, sends_spares, receives_spares, creates_what_spares, finds_spares, keeps_spares, manager_takes_spares}
 use Rattle.dm_onekernel.specs.Pieces as pieces
 use Rattle.dm_onekernel.specs.Switchboard as board
 use Rattle.dm_onekernel.specs.Manager as manage
