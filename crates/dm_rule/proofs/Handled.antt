@@ -1,7 +1,8 @@
 -- What a turn says keeps that each message stands once.
 use Rattle.dm_rule.proofs.Names.{◌≡◌, ℕ, ◌+◌, ◌≤◌, ◌==◌, Bool, true, false, List, [], ◌∷◌, refl, ap, ◌∙◌, sym, subst, arith, length, if◌then◌else◌, slice_get, Option, None, Some, Pid, pid_eq, MsgId, Label, PlainMessage, PlainWhat, bind}
 use Rattle.dm_rule.proofs.Names.{OneKernel, Line, at_record, without_id, View, view_after, handled, receiver_of, Point, label_of, kernel_after, moved, Part, Says, Routes, Spelled, spelled, Spot, Queue, times, ids_at, id_eq-same, bind-is}
-use Rattle.dm_rule.proofs.Names.{Boot, BootImage, Why, first_number, switchboard, manager, PlainProcess, PlainStatus, Ready, Waiting, Moving, answer_id, pid_of, forwards_on, says, drop_parts, plain_kind, instruction, NothingElse, Outcome, Target, answers_move, asked_to_move, leaves_for, machine_in}
+use Rattle.dm_rule.proofs.Names.{Boot, BootImage, Why, first_number, switchboard, manager, PlainProcess, PlainStatus, Ready, Waiting, Moving, answer_id, pid_of, forwards_on, says, drop_parts, plain_kind, instruction, NothingElse, Outcome}
+use Rattle.dm_rule.proofs.Names.{Target, answers_move, asked_to_move, leaves_for, machine_in, machine_of}
 use Rattle.dm_onekernel.specs.Step as kernel
 use Rattle.dm_rule.specs.View as view
 use Rattle.dm_rule.proofs.Lines.{Stands-queued, Stands-dequeued, without_counts}
@@ -12,7 +13,6 @@ use Rattle.dm_onekernel.specs.Pieces as pieces
 use Rattle.dm_onekernel.specs.Receiving as receiving
 use Rattle.dm_onekernel.specs.Switchboard as board
 use Rattle.dm_onekernel.specs.Manager as manage
-use Rattle.dm_rule.specs.Point.{machine_of}
 use Rattle.dm_rule.specs.Rule as rule
 use Rattle.dm_rule.proofs.Bags.{served_id, landed_id, board_id, manager_id, took_id, id_in, bag_ran, bag_call, bag_sends, bag_wait, bag_out, bag_end, bag_receive, bag_refuse, bag_dropped, bag_served, bag_gone, bag_asked, bag_took, bag_created, bag_no_space}
 use Rattle.dm_rule.proofs.States.{State, says_next, said, State-at, by_label, by_line, PairsFit}

@@ -6,7 +6,7 @@ use Rattle.dm_line.specs.declared.line.Line.TheVariants as line
 use Rattle.dm_line.specs.declared.line.Load.TheVariants as load
 use Rattle.dm_shape.specs.declared.shape.Shape.TheVariants as shape
 use Rattle.dm_shape.proofs.Listed.{has_row, listed}
-use Rattle.dm_shape.proofs.WordsFit.{machine_fits, number_fits, packet_fits, process_fits, message_fits, small_fits, short_fits, reply_fits, why_fits, kind_fits, stage_fits, six_fits, data_fits, ack_fits}
+use Rattle.dm_shape.proofs.WordsFit.{machine_fits, number_fits, packet_fits, process_fits, message_fits, small_fits, short_fits, reply_fits, why_fits, outcome_fits, kind_fits, stage_fits, six_fits, data_fits, ack_fits}
 
 pub line_has_row : (l : Line) → LineFits l → has_row (line_words l) ≡ true
 line_has_row (line.Head (step.Turn m)) h = listed (λ x. is_row (row_of x) (line_words (line.Head (step.Turn m)))) shape.Turn (rw (machine_fits m h) refl)
@@ -28,6 +28,8 @@ line_has_row (line.Label (label.Gone i)) h = listed (λ x. is_row (row_of x) (li
 line_has_row (line.Label (label.Took i)) h = listed (λ x. is_row (row_of x) (line_words (line.Label (label.Took i)))) shape.Took (rw (message_fits i h) refl)
 line_has_row (line.Label (label.Created i p)) h = listed (λ x. is_row (row_of x) (line_words (line.Label (label.Created i p)))) shape.Created (rw (message_fits i h.0, process_fits p h.1) refl)
 line_has_row (line.Label (label.NoSpace i s b)) h = listed (λ x. is_row (row_of x) (line_words (line.Label (label.NoSpace i s b)))) shape.NoSpace (rw (message_fits i h.0, small_fits s h.1, short_fits b h.2) refl)
+line_has_row (line.Label (label.Asked i)) h = listed (λ x. is_row (row_of x) (line_words (line.Label (label.Asked i)))) shape.Asked (rw (message_fits i h) refl)
+line_has_row (line.Label (label.Answered i o)) h = listed (λ x. is_row (row_of x) (line_words (line.Label (label.Answered i o)))) shape.Answered (rw (message_fits i h, outcome_fits o) refl)
 line_has_row (line.Put a b i k q) h = listed (λ x. is_row (row_of x) (line_words (line.Put a b i k q))) shape.Put (rw (machine_fits a h.0, machine_fits b h.1, message_fits i h.2, kind_fits k, process_fits q h.3) refl)
 line_has_row (line.Packet a b k (load.Data n)) h = listed (λ x. is_row (row_of x) (line_words (line.Packet a b k (load.Data n)))) shape.Packet (rw (machine_fits a h.0, machine_fits b h.1, packet_fits k h.2, data_fits, number_fits n h.3) refl)
 line_has_row (line.Packet a b k (load.Ack n)) h = listed (λ x. is_row (row_of x) (line_words (line.Packet a b k (load.Ack n)))) shape.Packet (rw (machine_fits a h.0, machine_fits b h.1, packet_fits k h.2, ack_fits, number_fits n h.3) refl)

@@ -106,6 +106,14 @@ line_26 : has_shape (codes "registers 0.3 0 1 2 3 4 5 6 7 8 9 10 11 12 13 14 15 
 unfolding has_shape is_of_shape is_of pieces read_number read_pid read_id
 line_26 = refl
 
+line_27 : has_shape (codes "asked 0.3#0") ≡ true
+unfolding has_shape is_of_shape is_of pieces read_number read_pid read_id
+line_27 = refl
+
+line_28 : has_shape (codes "answered 0.2#7 4294967295") ≡ true
+unfolding has_shape is_of_shape is_of pieces read_number read_pid read_id
+line_28 = refl
+
 other_1 : has_shape (codes "") ≡ false
 unfolding has_shape is_of_shape is_of pieces read_number read_pid read_id
 other_1 = refl
@@ -154,7 +162,7 @@ other_12 : has_shape (codes "spin 1") ≡ false
 unfolding has_shape is_of_shape is_of pieces read_number read_pid read_id
 other_12 = refl
 
-other_13 : has_shape (codes "asked 0.3#0") ≡ false
+other_13 : has_shape (codes "asked 0.3") ≡ false
 unfolding has_shape is_of_shape is_of pieces read_number read_pid read_id
 other_13 = refl
 
@@ -265,6 +273,10 @@ other_39 = refl
 other_40 : has_shape (codes "Turn 0") ≡ false
 unfolding has_shape is_of_shape is_of pieces read_number read_pid read_id
 other_40 = refl
+
+other_41 : has_shape (codes "answered 0.2#7") ≡ false
+unfolding has_shape is_of_shape is_of pieces read_number read_pid read_id
+other_41 = refl
 
 head_1 : head_step (codes "turn 3") ≡ Some (step.Turn 3)
 unfolding head_step pieces read_number read_pid

@@ -4,7 +4,7 @@ use Rattle.dm_onekernel.specs.declared.label.Label.TheVariants as label
 use Rattle.dm_schedule.specs.declared.Step.TheVariants as step
 use Rattle.dm_line.specs.declared.line.Line.TheVariants as line
 use Rattle.dm_text.proofs.Pieces.{AreWords}
-use Rattle.dm_text.proofs.WordsBack.{read_u8_back, read_u16_back, read_u32_back, read_u64_back, word_pid, read_pid_back, word_id, read_id_back, word_reply, read_reply_back, word_why, read_why_back}
+use Rattle.dm_text.proofs.WordsBack.{read_u8_back, read_u16_back, read_u32_back, read_u64_back, word_pid, read_pid_back, word_id, read_id_back, word_reply, read_reply_back, word_why, read_why_back, word_outcome, read_outcome_back}
 use Rattle.dm_text.proofs.Fields.{word_u8, word_u16, word_u32, word_u64}
 
 pub head_words_are : (x : Step) → StepFits x → AreWords (head_words x)
@@ -34,6 +34,8 @@ label_words_are (label.Gone i) h = (refl, (word_id i h, tt))
 label_words_are (label.Took i) h = (refl, (word_id i h, tt))
 label_words_are (label.Created i p) h = (refl, (word_id i h.0, (word_pid 32 p (omega arith) h.1, tt)))
 label_words_are (label.NoSpace i s b) h = (refl, (word_id i h.0, (word_u8 s h.1, (word_u16 b h.2, tt))))
+label_words_are (label.Asked i) h = (refl, (word_id i h, tt))
+label_words_are (label.Answered i o) h = (refl, (word_id i h, (word_outcome o, tt)))
 
 pub label_back : (x : Label) → LabelFits x → line_of_words (label_words x) ≡ Some (line.Label x)
 label_back (label.Ran p k) h = rw (read_pid_back p h.0, read_u32_back k h.1) refl
@@ -50,3 +52,5 @@ label_back (label.Gone i) h = rw (read_id_back i h) refl
 label_back (label.Took i) h = rw (read_id_back i h) refl
 label_back (label.Created i p) h = rw (read_id_back i h.0, read_pid_back p h.1) refl
 label_back (label.NoSpace i s b) h = rw (read_id_back i h.0, read_u8_back s h.1, read_u16_back b h.2) refl
+label_back (label.Asked i) h = rw (read_id_back i h) refl
+label_back (label.Answered i o) h = rw (read_id_back i h, read_outcome_back o) refl

@@ -1,5 +1,5 @@
 -- What the proofs of this crate name of what lies below it.
-pub use Rattle.std.proofs.Common.{nat_le, ◌||◌}
+pub use Rattle.std.proofs.Common.{nat_le, vec_capacity, vec_len, ◌||◌}
 pub use Rattle.std.proofs.Math.Bool.{and-false}
 pub use Rattle.std.proofs.lemmas.Bool.{eq-eqb, le-ltb, lt-ltb, ltb-true, ne_eqb}
 pub use Rattle.std.proofs.lemmas.Fmt.{decimal_by_steps_wide, decimal_digit, decimal_step}
@@ -18,7 +18,9 @@ pub use Rattle.dm_processor.proofs.Names.{Bool, List, None, Some, [], ap, arith,
 pub use Rattle.dm_processor.proofs.Names.{◌^◌, ◌∙◌, ◌∷◌, ◌≡◌, ◌≤◌}
 pub use Rattle.dm_message.specs.Ids.{id_of}
 pub use Rattle.dm_message.specs.Kinds.{word_of}
+pub use Rattle.dm_message.specs.Outcomes.{code_of_outcome}
 pub use Rattle.dm_message.specs.declared.MsgId.{MsgId}
+pub use Rattle.dm_message.specs.declared.Outcome.{Outcome}
 pub use Rattle.dm_message.specs.declared.kind.MessageKind.{MessageKind}
 pub use Rattle.dm_linktable.proofs.Names.{Link, Pid, map, ◌&&◌, ◌==◌}
 pub use Rattle.dm_schedule.proofs.Names.{append-nil, append_assoc, codes, if◌then◌else◌, nat_lt}
@@ -38,10 +40,10 @@ unfoldable pub use Rattle.dm_text.specs.EndsOf.{read_direction, read_go, read_he
 pub use Rattle.dm_text.specs.Fits.{EndFits, IdFits, IsByte, IsWord, LabelFits, LineFits, LinkFits, PidFits, StepFits}
 unfoldable pub use Rattle.dm_text.specs.GroupsOf.{read_stage}
 pub use Rattle.dm_text.specs.Labels.{head_words, label_words}
-pub use Rattle.dm_text.specs.LinesOf.{Trace, at_end, end_of_words, ends_from, led_or_ended, line_of_words, lines_from, lines_in, trace_from, trace_in}
+pub use Rattle.dm_text.specs.LinesOf.{Trace, at_end, end_of_words, ends_from, line_of_words, lines_from, lines_in, trace_from, trace_in}
 unfoldable pub use Rattle.dm_text.specs.LinesOf.{end_of, line_of, lines_of, trace_of}
-pub use Rattle.dm_text.specs.Reading.{is_padded, message_named, message_numbered, number_after, read_u32, reply_with, why_with}
-unfoldable pub use Rattle.dm_text.specs.Reading.{pieces, read_id, read_kind, read_number, read_pid, read_reply, read_why}
+pub use Rattle.dm_text.specs.Reading.{is_padded, message_named, message_numbered, number_after, outcome_with, read_u32, reply_with, why_with}
+unfoldable pub use Rattle.dm_text.specs.Reading.{pieces, read_id, read_kind, read_number, read_outcome, read_pid, read_reply, read_why}
 pub use Rattle.dm_text.specs.Rows.{all_read}
 pub use Rattle.dm_text.specs.Text.{end_text, line_words, spaced, spelled_line, stage_word, text}
 unfoldable pub use Rattle.dm_text.specs.Text.{text_of_ends, text_of_lines}

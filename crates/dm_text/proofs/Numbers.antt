@@ -1,6 +1,6 @@
 -- Numbers in decimal, read back.
-use Rattle.dm_text.proofs.Names.{◌≡◌, ℕ, zero, suc, ◌+◌, ◌-◌, ◌*◌, ◌/◌, ◌%◌, ◌^◌, ◌<◌, ◌≤◌, ◌==◌, nat_lt, nat_le, Bool, true, false, ◌&&◌, ◌||◌, if◌then◌else◌, List, [], ◌∷◌, ◌++◌, length, get_or, refl, ap, sym, ◌∙◌, append_assoc, arith, Some, None}
-use Rattle.dm_text.proofs.Names.{length-append, decimal_digit, decimal_step, Option, decimal, and-false, nat_tests, ne_eqb, lt-ltb, le-ltb, decimal_by_steps_wide, get_or_append_left, number_after, read_number, is_padded}
+use Rattle.dm_text.proofs.Names.{◌≡◌, ℕ, zero, suc, ◌+◌, ◌-◌, ◌*◌, ◌/◌, ◌%◌, ◌^◌, ◌<◌, ◌≤◌, ◌==◌, nat_lt, nat_le, Bool, true, false, ◌&&◌, ◌||◌, if◌then◌else◌, List, [], ◌∷◌, ◌++◌, length, get_or, refl, ap, sym, ◌∙◌, append_assoc, arith}
+use Rattle.dm_text.proofs.Names.{Some, None, length-append, decimal_digit, decimal_step, Option, decimal, and-false, nat_tests, ne_eqb, lt-ltb, le-ltb, decimal_by_steps_wide, get_or_append_left, number_after, read_number, is_padded}
 use Rattle.dm_text.proofs.Pieces.{above, above-append}
 
 -- what a digit adds

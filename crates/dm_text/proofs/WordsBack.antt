@@ -1,6 +1,7 @@
 -- Names, kinds and codes, read back from their words.
-use Rattle.dm_text.proofs.Names.{◌≡◌, ℕ, ◌^◌, ◌<◌, ◌≤◌, Bool, true, false, [], ◌∷◌, ◌++◌, refl, ◌∙◌, append_assoc, arith, Some, decimal, append-nil, Pid, MsgId, MessageKind, word_of, reply_code, why_code, Why, pid_word, id_word, mark}
-use Rattle.dm_text.proofs.Names.{pieces, read_number, read_pid, read_id, read_kind, read_reply, read_why, reply_with, why_with, message_numbered, message_named, PidFits, IdFits}
+use Rattle.dm_text.proofs.Names.{◌≡◌, ℕ, ◌^◌, ◌<◌, ◌≤◌, Bool, true, false, [], ◌∷◌, ◌++◌, refl, ◌∙◌, append_assoc, arith, Some, decimal, append-nil, Pid, MsgId, MessageKind, word_of, Outcome, code_of_outcome, reply_code, why_code, Why}
+use Rattle.dm_text.proofs.Names.{pid_word, id_word, mark, pieces, read_number, read_pid, read_id, read_kind, read_reply, read_why, read_outcome, reply_with, why_with, outcome_with, message_numbered, message_named, PidFits, IdFits}
+use Rattle.dm_message.specs.declared.Outcome.TheVariants as ends
 use Rattle.dm_message.specs.declared.kind.MessageKind.TheVariants as kind
 use Rattle.dm_processor.specs.declared.registers.Fault.TheVariants as fault
 use Rattle.dm_onekernel.specs.declared.label.Reply.{Reply}
@@ -196,3 +197,20 @@ read_why_back y = rw (read_u8_back (why_code y) (why_small y)) (why_back y)
 
 pub word_why : (y : Why) → above 32 (decimal (why_code y)) ≡ true
 word_why y = word_decimal 32 (why_code y) (omega arith) (below_u8 (why_code y) (why_small y))
+
+pub outcome_small : (o : Outcome) → code_of_outcome o < 2 ^ 8
+outcome_small ends.Done = omega arith
+outcome_small ends.Stayed = omega arith
+outcome_small ends.Ended = omega arith
+
+outcome_back : (o : Outcome) → outcome_with (Some (code_of_outcome o)) ≡ Some o
+outcome_back ends.Done = refl
+outcome_back ends.Stayed = refl
+outcome_back ends.Ended = refl
+
+pub read_outcome_back : (o : Outcome) → read_outcome (decimal (code_of_outcome o)) ≡ Some o
+unfolding read_outcome
+read_outcome_back o = rw (read_u8_back (code_of_outcome o) (outcome_small o)) (outcome_back o)
+
+pub word_outcome : (o : Outcome) → above 32 (decimal (code_of_outcome o)) ≡ true
+word_outcome o = word_decimal 32 (code_of_outcome o) (omega arith) (below_u8 (code_of_outcome o) (outcome_small o))

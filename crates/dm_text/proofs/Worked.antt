@@ -1,6 +1,7 @@
 -- Worked lines, and texts that spell no lines.
-use Rattle.dm_text.proofs.Names.{◌≡◌, [], ◌∷◌, refl, Some, None, true, false, codes, digits, pid_of, id_of, IntoArea, text, end_text, text_of_lines, pieces, read_number, line_of, end_of, lines_of, trace_of}
+use Rattle.dm_text.proofs.Names.{◌≡◌, [], ◌∷◌, refl, Some, None, true, false, codes, digits, pid_of, id_of, IntoArea, text, end_text, text_of_lines, pieces, read_number, read_pid, read_id, read_outcome, line_of, end_of, lines_of, trace_of}
 use Rattle.dm_link.specs.declared.Kind.TheVariants as link
+use Rattle.dm_message.specs.declared.Outcome.TheVariants as ends
 use Rattle.dm_message.specs.declared.kind.MessageKind.TheVariants as kind
 use Rattle.dm_onekernel.specs.declared.label.Label.TheVariants as label
 use Rattle.dm_onekernel.specs.declared.label.Reply.TheVariants as reply
@@ -22,6 +23,14 @@ routed = refl
 refused : text (line.Label (label.Refuse (pid_of 3 3) (id_of (pid_of 0 2) 2) reply.TooLong)) ≡ codes "refuse 3.3 0.2#2 6\n"
 unfolding digits
 refused = refl
+
+asked : text (line.Label (label.Asked (id_of (pid_of 0 2) 9))) ≡ codes "asked 0.2#9\n"
+unfolding digits
+asked = refl
+
+answered : text (line.Label (label.Answered (id_of (pid_of 0 2) 9) ends.Ended)) ≡ codes "answered 0.2#9 3\n"
+unfolding digits
+answered = refl
 
 sent_on : text (line.SentOn (pid_of 0 3) 10) ≡ codes "step 6 0.3 10\n"
 unfolding digits
@@ -75,6 +84,15 @@ two_spaces = refl
 no_machine : line_of (codes "turn 256") ≡ None
 unfolding line_of pieces read_number
 no_machine = refl
+
+stayed : line_of (codes "answered 0.2#9 1") ≡ Some (line.Label (label.Answered (id_of (pid_of 0 2) 9) ends.Stayed))
+unfolding line_of pieces read_number read_pid read_id read_outcome
+stayed = refl
+
+-- 2 is what the manager answers to a bad request, and no end of a move
+no_outcome : line_of (codes "answered 0.2#9 2") ≡ None
+unfolding line_of pieces read_number read_pid read_id read_outcome
+no_outcome = refl
 
 another_word : line_of (codes "toll 7") ≡ None
 unfolding line_of pieces read_number

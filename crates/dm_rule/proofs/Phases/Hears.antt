@@ -2,8 +2,7 @@
 use Rattle.dm_rule.proofs.Names.{◌≡◌, ℕ, ◌==◌, Bool, true, false, List, [], ◌∷◌, ◌++◌, refl, ap, ◌∙◌, sym, subst, length, arith, ◌/◌, if◌then◌else◌, Option, None, Some, false≢true, nat_tests, Pid, pid_eq, MsgId, MessageKind, Line, Stage}
 use Rattle.dm_rule.proofs.Names.{Boot, switchboard, manager, PlainProcess, View, Told, About, Of, Known, Unknown, Here, Forward, Ended, is_kernels, target_of, Addresses, Sender, is_told_back, Point, Part, Says, Owns, Spelled, spelled}
 use Rattle.dm_rule.proofs.Names.{to_kernel, forwards_on, moves_to, accepts, takes_chunk, takes_block, gives_piece, kernel_told, chunks_of, pieces_of, updates, here_told, ended_told, process_told, server_told, fits, free_room, kernel_hears}
-use Rattle.dm_rule.proofs.Names.{hears, is_between, bind-is}
-use Rattle.dm_rule.proofs.Names.{Label, Note, NothingElse, Outcome, bind, kernel_after, label_of, leaves_for, moved, tells_asker}
+use Rattle.dm_rule.proofs.Names.{hears, is_between, bind-is, Label, Note, NothingElse, Outcome, bind, kernel_after, label_of, leaves_for, moved, tells_asker}
 use Rattle.dm_onekernel.specs.Step as kernel
 use Rattle.dm_rule.proofs.Hushed.{is_put}
 use Rattle.dm_rule.proofs.States.{State, State-at}

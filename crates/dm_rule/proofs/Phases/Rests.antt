@@ -2,9 +2,7 @@
 use Rattle.dm_rule.proofs.Names.{◌≡◌, ◌⊎◌, ℕ, zero, suc, ◌+◌, ◌≤◌, ◌==◌, ◌&&◌, Bool, true, false, not, List, [], ◌∷◌, ◌++◌, refl, ap, ◌∙◌, sym, subst, inl, inr, arith, if◌then◌else◌, Option, None, Some, cases_Bool, false≢true, nat_tests}
 use Rattle.dm_rule.proofs.Names.{Pid, pid_eq, MsgId, MessageKind, Stage, id_eq, Line, at_machine, at_record, View, Told, Of, Known, Unknown, Here, Frozen, Incoming, Forward, view_after, handled_first, released, is_kernels, target_of}
 use Rattle.dm_rule.proofs.Names.{front_told, Point, label_of, moved, Says, Spelled, spelled, to_kernel, Spot, Queue, Held, Inbox, Untaken, times, ids_at, standing, is_between, is_restart, is_early, kind_comes, is_away, is_here, is_over}
-use Rattle.dm_rule.proofs.Names.{Phase, Nowhere, Rests, Over, Moves, knows, token_in, receiver_in, id_eq-is, pid_eq-is, pid_eq-same}
-use Rattle.dm_rule.proofs.Names.{NothingElse, Target, frozen_for, leaves_for}
-use Rattle.dm_rule.specs.Phases.{kind_leaves}
+use Rattle.dm_rule.proofs.Names.{Phase, Nowhere, Rests, Over, Moves, knows, token_in, receiver_in, id_eq-is, pid_eq-is, pid_eq-same, NothingElse, Target, frozen_for, leaves_for, kind_leaves}
 use Rattle.dm_rule.proofs.Standing.{times-append}
 use Rattle.dm_rule.proofs.Lines.{Bag, hidden, Stands, Stands-stays, Stands-handled, parts, eq_is}
 use Rattle.dm_rule.proofs.Letters.{letters}

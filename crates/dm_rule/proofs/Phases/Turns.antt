@@ -1,8 +1,7 @@
 -- A turn that handles a message of the bag, or serves a process: each process stays in a phase.
 use Rattle.dm_rule.proofs.Names.{◌≡◌, ℕ, ◌+◌, Bool, true, false, List, [], ◌∷◌, refl, ap, ◌∙◌, subst, if◌then◌else◌, Option, None, Some, Pid, pid_of, MsgId, MessageKind, Label, plain_kind, PlainMessage, Boot, Why, first_number, bind}
-use Rattle.dm_rule.proofs.Names.{OneKernel, answer_id, Line, View, Told, Unknown, Here, view_after, Point, label_of, kernel_after, moved, Part, Says, Routes, Spelled, spelled, forwards_on}
-use Rattle.dm_rule.proofs.Names.{◌==◌, NothingElse, Outcome, PlainWhat, answers_move, leaves_for, machine_in, seen}
-use Rattle.dm_rule.specs.Point.{machine_of}
+use Rattle.dm_rule.proofs.Names.{OneKernel, answer_id, Line, View, Told, Unknown, Here, view_after, Point, label_of, kernel_after, moved, Part, Says, Routes, Spelled, spelled, forwards_on, ◌==◌, NothingElse, Outcome, PlainWhat}
+use Rattle.dm_rule.proofs.Names.{answers_move, leaves_for, machine_in, seen, machine_of}
 use Rattle.dm_rule.specs.Rule as rule
 use Rattle.dm_rule.proofs.Hushed.{is_put}
 use Rattle.dm_rule.proofs.Pairs.Lines.{touches, pair_same}
