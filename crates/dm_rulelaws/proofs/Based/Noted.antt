@@ -250,9 +250,11 @@ answered_away pt t id r p noted is h =
     let (q, found, rest) = bind-is (s.noted id) (λ v. bind (s.notes v) (λ n. service.ends_move s id v n r)) t is in
     let (n, there, last) = bind-is (s.notes q) (λ v. service.ends_move s id q v r) t rest in
     let same : q ≡ p = (let f : Some q ≡ Some p = sym found ∙ noted in cc) in
-    record { away = λ k z mine apart m. (let e : (without_note s q id).notes k ≡ Some z = ap (λ (u : OneKernel). u.notes k) (ends_move-is s t id q n r last) ∙ mine in
-        let off = left_off s q k z (pid_eq q k) refl e in
-        h.away k z off.0 (ap (λ (x : Pid). pid_eq x k) (sym same) ∙ off.1) m) }
+    record {
+      away = λ k z mine apart m. (let e : (without_note s q id).notes k ≡ Some z = ap (λ (u : OneKernel). u.notes k) (ends_move-is s t id q n r last) ∙ mine in
+          let off = left_off s q k z (pid_eq q k) refl e in
+          h.away k z off.0 (ap (λ (x : Pid). pid_eq x k) (sym same) ∙ off.1) m);
+    }
   where
     left_off : (s : OneKernel) (q k : Pid) (z : Note) (c : Bool) → pid_eq q k ≡ c → (if c then None else s.notes k) ≡ Some z → (s.notes k ≡ Some z) × (pid_eq q k ≡ false)
     left_off s q k z true e f = cc
@@ -362,14 +364,17 @@ routes_calm (Some m) = (tt, tt)
 
 round_calm : (b : Boot) (o : Point) (m : ℕ) (q : Option Pid) (ps : List Part) → rule.goes_round b o m q ≡ Some ps → AllCalm ps
 round_calm b o m q ps = by_round AllCalm b o m q ps (tt, tt) (λ p x is alive. record {
-  runs = λ k rest stops. (tt, stops AllCalm (record {
-    over = tt;
-    replies = λ n r. (tt, tt);
-    sends = λ id. (tt, (tt, tt));
-    waits = (tt, tt);
-    outputs = λ word. (tt, tt);
-    ends = λ y. (tt, drops_calm (o.view.queue m p));
-  }));
+  runs = λ k rest stops. (
+    tt,
+    stops AllCalm (record {
+      over = tt;
+      replies = λ n r. (tt, tt);
+      sends = λ id. (tt, (tt, tt));
+      waits = (tt, tt);
+      outputs = λ word. (tt, tt);
+      ends = λ y. (tt, drops_calm (o.view.queue m p));
+    }),
+  );
   takes = λ mask id first. (tt, tt);
   refuses = λ id r. (tt, tt);
 })
