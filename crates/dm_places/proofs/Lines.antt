@@ -2,6 +2,7 @@
 use Rattle.dm_places.proofs.Names.{◌≡◌, ℕ, List, refl, ap, ◌∙◌, sym, subst, Option, None, Some, Pid, MsgId, plain_kind, Stage, PlainMessage, MessageKind, Label, OneKernel, Step, Line, About, View, Told, after_head, after_label, handled}
 use Rattle.dm_places.proofs.Names.{view_after, Addresses, Gets, first_gives, given, own_gives, Point, Placed, Mirrors, KeepsPlaces, LinesKeep, own_none, first_none}
 use Rattle.dm_rule.specs.View as view
+use Rattle.dm_places.proofs.Names.{seen}
 
 -- another view, in which as many moves are counted
 pub mirrors_view : (s : OneKernel) (v w : View) (a : Addresses) (l : Placed) → w.moves ≡ v.moves → Mirrors s v a l → Mirrors s w a l
@@ -15,6 +16,7 @@ mirrors_view s v w a l e h =
         name = g.name;
         child = g.child;
         answer = g.answer;
+        asker = g.asker;
       };
     }
 
@@ -66,8 +68,8 @@ moves_proto v (Some t) = moves_follow v t.about t.kind
 
 -- a line that is no step leads to the point with its view, and the same addresses
 says : (pt pt' : Point) (l : Placed) (x : Line) → (view_after pt.view x).moves ≡ pt.view.moves → Mirrors pt.kernel pt.view pt.addresses l
-    → record { kernel = pt.kernel; view = view_after pt.view x; addresses = pt.addresses } ≡ pt' → Mirrors pt'.kernel pt'.view pt'.addresses l
-says pt pt' l x e h f = subst (λ (q : Point). Mirrors q.kernel q.view q.addresses l) f (mirrors_view pt.kernel pt.view (view_after pt.view x) pt.addresses l e h)
+    → record { kernel = pt.kernel; view = seen pt.kernel pt.view x; addresses = pt.addresses } ≡ pt' → Mirrors pt'.kernel pt'.view pt'.addresses l
+says pt pt' l x e h f = subst (λ (q : Point). Mirrors q.kernel q.view q.addresses l) f (mirrors_view pt.kernel pt.view (seen pt.kernel pt.view x) pt.addresses l e h)
 
 -- a message that was put before, and one of the kernel's, get no addresses when they are put
 pub told_keeps : (pt : Point) (from to : ℕ) (id : MsgId) (k : MessageKind) (q : Pid) (t : Told) → pt.view.told id ≡ Some t → KeepsPlaces pt (Line.Put from to id k q)

@@ -76,5 +76,6 @@ start_mirrors b = record {
     name = λ n k e. absurd (let f : None ≡ Some k = e in cc);
     child = λ n c e. child_kept b.processes n c e;
     answer = λ n r e. absurd (let f : None ≡ Some r = e in cc);
+    asker = λ p k e. absurd (let f : None ≡ Some k = e in cc);
   };
 }
