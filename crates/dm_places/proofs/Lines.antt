@@ -66,6 +66,10 @@ moves_proto : (v : View) (o : Option Told) → (view.after_proto v o).moves ≡ 
 moves_proto v None = refl
 moves_proto v (Some t) = moves_follow v t.about t.kind
 
+moves_sets : (v : View) (p : Pid) (a : About) → (view.sets_off v p a).moves ≡ v.moves
+moves_sets v p (view.Target m) = refl
+moves_sets v p _ = refl
+
 -- a line that is no step leads to the point with its view, and the same addresses
 says : (pt pt' : Point) (l : Placed) (x : Line) → (view_after pt.view x).moves ≡ pt.view.moves → Mirrors pt.kernel pt.view pt.addresses l
     → record { kernel = pt.kernel; view = seen pt.kernel pt.view x; addresses = pt.addresses } ≡ pt' → Mirrors pt'.kernel pt'.view pt'.addresses l
@@ -92,7 +96,7 @@ lines_keep pt pt' l (Line.Queued id) keeps h e = says pt pt' l (Line.Queued id) 
 lines_keep pt pt' l (Line.Held id) keeps h e = says pt pt' l (Line.Held id) (moves_held (handled pt.view id) id (view.receiver_of (pt.view.told id))) h (cc)
 lines_keep pt pt' l (Line.Forwarded id m) keeps h e = absurd keeps
 lines_keep pt pt' l (Line.Updated id n) keeps h e = absurd keeps
-lines_keep pt pt' l (Line.Migration Stage.Frozen p) keeps h e = says pt pt' l (Line.Migration Stage.Frozen p) refl h (cc)
+lines_keep pt pt' l (Line.Migration Stage.Frozen p) keeps h e = says pt pt' l (Line.Migration Stage.Frozen p) (moves_sets pt.view p pt.view.topic) h (cc)
 lines_keep pt pt' l (Line.Migration Stage.Asked p) keeps h e = says pt pt' l (Line.Migration Stage.Asked p) refl h (cc)
 lines_keep pt pt' l (Line.Migration Stage.Accepted p) keeps h e = says pt pt' l (Line.Migration Stage.Accepted p) refl h (cc)
 lines_keep pt pt' l (Line.Migration Stage.StateTaken p) keeps h e = says pt pt' l (Line.Migration Stage.StateTaken p) refl h (cc)

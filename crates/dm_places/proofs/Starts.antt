@@ -69,6 +69,8 @@ start_mirrors b = record {
     manager = ap (λ (cs : List Pid). record { children = cs; pending = []; sent = 0 }) (children_plainly b.processes);
     machines = refl;
     images = refl;
+    notes = λ p. refl;
+    noted = λ i. refl;
   };
   places = record {
     process = λ q x e. started_kept b b.processes q x refl e;

@@ -47,7 +47,8 @@ easy_label : (s : OneKernel) (v : View) (l : Label) → EasyLabel l → SoundAt 
 easy_label s v (Label.Took id) e h = absurd e
 easy_label s v (Label.Created id child) e h = absurd e
 easy_label s v (Label.Asked id) e h = e
-easy_label s v (Label.Answered id o) e h = λ p n noted notes. note-is h.e s id p n noted notes h.sound.notes
+easy_label s v (Label.Answered id o) e h = λ p n noted notes.
+    (let (x, alive) = h.sound.notes.lives p n notes in (x, note-is h.e s id p n noted notes h.sound.notes, ap kernel.alive alive))
 easy_label s v _ e h = tt
 
 abbrev pub EasyLine : Line → Type 0

@@ -1,6 +1,6 @@
 -- Messages without links that come in another's place, with places: answers, and what kernels say of ended processes and of
 -- want of room.
-use Rattle.dm_places.proofs.Names.{◌≡◌, ℕ, List, [], Bool, refl, ap, ◌∙◌, sym, subst, if◌then◌else◌, slice_get, Option, None, Some, Link, Place, place_of, MsgId, Message, What, Label, PlainMessage, PlainWhat, plain_message, plain_what, arith, nat_tests}
+use Rattle.dm_places.proofs.Names.{◌≡◌, ℕ, List, [], ◌∷◌, Bool, refl, ap, ◌∙◌, sym, subst, if◌then◌else◌, slice_get, Option, None, Some, Link, Place, place_of, MsgId, Message, What, Label, PlainMessage, PlainWhat, plain_message, plain_what, arith, nat_tests}
 use Rattle.dm_places.proofs.Names.{with_what, bind, OneKernel, answer_id, answer_to, answer, gone_answer, id_eq-same, bind-is, when-is, View, Addresses, answer_gets, given, gives, Receiver, Sender, unmoved, two, two_process, two_servers}
 use Rattle.dm_places.proofs.Names.{two_off, Placed, Mirrors, MirrorsMessage, enclosed, with_sent, without_message}
 use Rattle.dm_onekernel.specs.Kernel as kernels
@@ -10,7 +10,7 @@ use Rattle.dm_places.proofs.Keeps.{alive_of, kernel_sent, noted_mirrors, of_map,
 use Rattle.dm_places.proofs.Labels.Calls.{stands_here}
 use Rattle.dm_places.proofs.Whats.{move_what, read_what, write_what}
 use Rattle.dm_places.proofs.Labels.Acts.{Follows, mirrors_as}
-use Rattle.dm_places.proofs.Names.{Asker, AskedBy, Gets, MirrorsKernel, Note, Outcome, Pid, PlainProcess, Process, acting_place, asker_of, gets, id_of, manager, moved_answer, pid_eq-same, plain_note, plain_process, request_of, with_note, without_note}
+use Rattle.dm_places.proofs.Names.{Asker, AskedBy, Gets, MirrorsKernel, Note, Outcome, Pid, PlainProcess, Process, acting_place, asker_of, gets, id_of, manager, moved_answer, pid_eq-same, plain_note, request_of, with_note, without_note}
 use Rattle.dm_laws.proofs.Servers.{ends_move-is}
 use Rattle.dm_datamove.specs.Serving as serving
 use Rattle.dm_rule.specs.Given as giving
@@ -132,17 +132,14 @@ asked_follows s t v a l id is needs h =
 noted_of : (s : OneKernel) (l : Placed) (p : Pid) (n : Note) → MirrorsKernel s l → s.notes p ≡ Some n → (k : Asker) × (l.notes p ≡ Some k) × (plain_note k ≡ n)
 noted_of s l p n h e = of_map plain_note (l.notes p) n (sym e ∙ sym (h.notes p))
 
-alive_noted : (s : OneKernel) (l : Placed) (p : Pid) (x : PlainProcess) → MirrorsKernel s l → s.processes p ≡ Some (kernels.Alive x) → (y : Process) × (l.processes p ≡ Some y) × (plain_process y ≡ x)
-alive_noted s l p x h e = alive_of s l p x h (ap kernel.alive e)
-
-pub answered_follows : (s t : OneKernel) (v : View) (a : Addresses) (l : Placed) (id : MsgId) (o : Outcome) → kernel.step s (Label.Answered id o) ≡ Some t → ((p : Pid) (n : Note) → s.noted id ≡ Some p → s.notes p ≡ Some n → (n.id ≡ id) × ((x : PlainProcess) × (s.processes p ≡ Some (kernels.Alive x)))) → Mirrors s v a l
+pub answered_follows : (s t : OneKernel) (v : View) (a : Addresses) (l : Placed) (id : MsgId) (o : Outcome) → kernel.step s (Label.Answered id o) ≡ Some t → ((p : Pid) (n : Note) → s.noted id ≡ Some p → s.notes p ≡ Some n → (x : PlainProcess) × (n.id ≡ id) × (kernel.alive (s.processes p) ≡ Some x)) → Mirrors s v a l
     → Follows t v (given a (gives s v a (Label.Answered id o))) (bind (l.noted id) (λ (p : Pid). placed.ends_move v.acting l id p o))
 answered_follows s t v a l id o is needs h =
     let (p, noted, rest) = bind-is (s.noted id) (λ (q : Pid). bind (s.notes q) (λ (n : Note). service.ends_move s id q n o)) t is in
     let (n, notes, last) = bind-is (s.notes p) (λ (m : Note). service.ends_move s id p m o) t rest in
-    let (name, x, alive) = needs p n noted notes in
+    let (x, name, alive) = needs p n noted notes in
     let (k, waits, is_note) = noted_of s l p n h.plain notes in
-    let (y, stands, is_process) = alive_noted s l p x h.plain alive in
+    let (y, stands, is_process) = alive_of s l p x h.plain alive in
     let m = moved_answer v.acting y o k in
     let to : k.addr.pid ≡ n.asker = ap (λ (w : Note). w.asker) is_note in
     let asked : request_of k ≡ id = ap (λ (w : Note). w.id) is_note ∙ name in
