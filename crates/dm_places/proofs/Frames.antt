@@ -161,12 +161,14 @@ takes_if here l m id n true c e =
     let (t, is, last) = bind-is (board.takes here l.board n.what) (λ (t : board.Taken). Some (board_took (without_message l id) t)) m e in
     let f : board_took (without_message l id) t ≡ m = cc in
     subst (Serves l id) f
-    (record { processes = kept_processes (record (without_message l id) { board = t.board }) t.took.answer; sent = t.took.answer; bag = with_board (without_message l id) t.board t.took.answer; notes = kept_notes (record (without_message l id) { board = t.board }) t.took.answer; noted = kept_noted (record (without_message l id) { board = t.board }) t.took.answer })
+    (let u = record (without_message l id) { board = t.board } in
+    record { processes = kept_processes u t.took.answer; sent = t.took.answer; bag = with_board (without_message l id) t.board t.took.answer; notes = kept_notes u t.took.answer; noted = kept_noted u t.took.answer })
 takes_if here l m id n false true e =
     let (t, is, last) = bind-is (manage.takes here l.manager n.id.n n.what) (λ (t : manage.Taken). Some (manager_took (without_message l id) t)) m e in
     let f : manager_took (without_message l id) t ≡ m = cc in
     subst (Serves l id) f
-    (record { processes = kept_processes (record (without_message l id) { manager = t.manager }) t.message; sent = t.message; bag = with_manager (without_message l id) t.manager t.message; notes = kept_notes (record (without_message l id) { manager = t.manager }) t.message; noted = kept_noted (record (without_message l id) { manager = t.manager }) t.message })
+    (let u = record (without_message l id) { manager = t.manager } in
+    record { processes = kept_processes u t.message; sent = t.message; bag = with_manager (without_message l id) t.manager t.message; notes = kept_notes u t.message; noted = kept_noted u t.message })
 takes_if here l m id n false false e = cc
 
 took_leaves : (here : ℕ) (l m : Placed) (id : MsgId) → bind (l.bag id) (takes here (without_message l id)) ≡ Some m → Changes l (Label.Took id) m

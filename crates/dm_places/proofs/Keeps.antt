@@ -175,7 +175,8 @@ pub ends_mirrors : (s : OneKernel) (v : View) (a : Addresses) (l : Placed) (p : 
 ends_mirrors s v a l p y h = record { plain = kernel_process s l p (one.Ended y) None refl h.plain; places = places_ends v a l p h.places }
 
 -- somebody waits to hear how a process's move ends, or nobody does any more
-pub noted_mirrors : (s : OneKernel) (v : View) (a b : Addresses) (l : Placed) (p : Pid) (k : Asker) → ((q : Pid) → SameProcess a b q) → ((i : MsgId) → SameMessage a b i) → ((n : ℕ) → b (Child n) ≡ a (Child n)) → ((n : ℕ) → b (Name n) ≡ a (Name n)) → ((n : ℕ) → b (Answer n) ≡ a (Answer n))
+pub noted_mirrors : (s : OneKernel) (v : View) (a b : Addresses) (l : Placed) (p : Pid) (k : Asker) → ((q : Pid) → SameProcess a b q) → ((i : MsgId) → SameMessage a b i) → ((n : ℕ) → b (Child n) ≡ a (Child n))
+    → ((n : ℕ) → b (Name n) ≡ a (Name n)) → ((n : ℕ) → b (Answer n) ≡ a (Answer n))
     → ((q : Pid) → pid_eq p q ≡ false → b (AskedBy q) ≡ a (AskedBy q)) → b (AskedBy p) ≡ place_of k.addr → Mirrors s v a l → Mirrors (one.with_note s p (plain_note k)) v b (with_note l p (request_of k) k)
 noted_mirrors s v a b l p k processes messages child name answer off on h =
     let g = h.places in

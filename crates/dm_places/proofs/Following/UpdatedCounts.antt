@@ -101,7 +101,8 @@ own_number (p ∷ ps) from to (suc j) y order there =
     let apart : (p.n == y.n) ≡ false = grind (arith, nat_tests) in
     (ap (λ (b : Bool). if b then Some p else pending_request y.n ps) apart ∙ found, omega (arith, least, above))
 
-answer_behind : (s : OneKernel) (a : Addresses) (r : Pid) (moves n : ℕ) (o : Option Link) → leads_to s (Answer n) ≡ link_target (option_map plain_link o) → AnswerNames o (a (Answer n)) → addresses.is_behind s a manager r moves (Answer n) ≡ answer_is_behind r moves o
+answer_behind : (s : OneKernel) (a : Addresses) (r : Pid) (moves n : ℕ) (o : Option Link) → leads_to s (Answer n) ≡ link_target (option_map plain_link o) → AnswerNames o (a (Answer n))
+    → addresses.is_behind s a manager r moves (Answer n) ≡ answer_is_behind r moves o
 answer_behind s a r moves n None leads h = ap (λ (w : Option Pid). is_pid r w && nat_lt (a (Answer n)).moves moves) leads
 answer_behind s a r moves n (Some w) leads h = behind_led s a manager r moves (Answer n) w.addr refl leads h
 

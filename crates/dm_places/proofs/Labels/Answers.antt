@@ -1,6 +1,7 @@
 -- Messages without links that come in another's place, with places: answers, and what kernels say of ended processes and of
 -- want of room.
-use Rattle.dm_places.proofs.Names.{◌≡◌, ℕ, List, [], ◌∷◌, Bool, refl, ap, ◌∙◌, sym, subst, if◌then◌else◌, slice_get, Option, None, Some, Link, Place, place_of, MsgId, Message, What, Label, PlainMessage, PlainWhat, plain_message, plain_what, arith, nat_tests}
+use Rattle.dm_places.proofs.Names.{◌≡◌, ℕ, List, [], ◌∷◌, Bool, refl, ap, ◌∙◌, sym, subst, if◌then◌else◌, slice_get, Option, None, Some, Link, Place, place_of, MsgId, Message, What, Label, PlainMessage, PlainWhat, plain_message, plain_what}
+use Rattle.dm_places.proofs.Names.{arith, nat_tests}
 use Rattle.dm_places.proofs.Names.{with_what, bind, OneKernel, answer_id, answer_to, answer, gone_answer, id_eq-same, bind-is, when-is, View, Addresses, answer_gets, given, gives, Receiver, Sender, unmoved, two, two_process, two_servers}
 use Rattle.dm_places.proofs.Names.{two_off, Placed, Mirrors, MirrorsMessage, enclosed, with_sent, without_message}
 use Rattle.dm_onekernel.specs.Kernel as kernels
@@ -98,7 +99,8 @@ no_space_follows s t v a l id f b is h =
     )
 
 -- asked
-asked_row : (s t : OneKernel) (v : View) (a : Addresses) (l : Placed) (id : MsgId) (m : Message) (k : PlainMessage) (u : PlainWhat) → service.follows s id k u ≡ Some t → id ≡ id_of manager id.n → MirrorsMessage a id m → plain_message m ≡ Some k → Mirrors s v a l
+asked_row : (s t : OneKernel) (v : View) (a : Addresses) (l : Placed) (id : MsgId) (m : Message) (k : PlainMessage) (u : PlainWhat) → service.follows s id k u ≡ Some t → id ≡ id_of manager id.n → MirrorsMessage a id m
+    → plain_message m ≡ Some k → Mirrors s v a l
     → Mirrors t v (given a (gets (AskedBy k.to) (a (Sender id)) ∷ [])) (with_note (without_message l id) m.to.pid id (asker_of m))
 asked_row s t v a l id m k (PlainWhat.Move machine) is needs hm says h =
     let g = parts m k says in
@@ -132,7 +134,8 @@ asked_follows s t v a l id is needs h =
 noted_of : (s : OneKernel) (l : Placed) (p : Pid) (n : Note) → MirrorsKernel s l → s.notes p ≡ Some n → (k : Asker) × (l.notes p ≡ Some k) × (plain_note k ≡ n)
 noted_of s l p n h e = of_map plain_note (l.notes p) n (sym e ∙ sym (h.notes p))
 
-pub answered_follows : (s t : OneKernel) (v : View) (a : Addresses) (l : Placed) (id : MsgId) (o : Outcome) → kernel.step s (Label.Answered id o) ≡ Some t → ((p : Pid) (n : Note) → s.noted id ≡ Some p → s.notes p ≡ Some n → (x : PlainProcess) × (n.id ≡ id) × (kernel.alive (s.processes p) ≡ Some x)) → Mirrors s v a l
+pub answered_follows : (s t : OneKernel) (v : View) (a : Addresses) (l : Placed) (id : MsgId) (o : Outcome) → kernel.step s (Label.Answered id o) ≡ Some t
+    → ((p : Pid) (n : Note) → s.noted id ≡ Some p → s.notes p ≡ Some n → (x : PlainProcess) × (n.id ≡ id) × (kernel.alive (s.processes p) ≡ Some x)) → Mirrors s v a l
     → Follows t v (given a (gives s v a (Label.Answered id o))) (bind (l.noted id) (λ (p : Pid). placed.ends_move v.acting l id p o))
 answered_follows s t v a l id o is needs h =
     let (p, noted, rest) = bind-is (s.noted id) (λ (q : Pid). bind (s.notes q) (λ (n : Note). service.ends_move s id q n o)) t is in

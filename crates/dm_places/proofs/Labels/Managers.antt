@@ -58,7 +58,8 @@ first_plainly [] = refl
 first_plainly (w ∷ ws) = refl
 
 -- the links that are kept, once one more request is pending
-asked_names : (a c : Addresses) (g : Managing) (z : Pending) (pl : Place) → ((j : ℕ) → c (Answer j) ≡ a (Answer j)) → z.n ≡ g.sent → AnswerNames z.answer pl → InOrder g → ((j : ℕ) (y : Pending) → pending_request j g.pending ≡ Some y → AnswerNames y.answer (a (Answer j)))
+asked_names : (a c : Addresses) (g : Managing) (z : Pending) (pl : Place) → ((j : ℕ) → c (Answer j) ≡ a (Answer j)) → z.n ≡ g.sent → AnswerNames z.answer pl → InOrder g
+    → ((j : ℕ) (y : Pending) → pending_request j g.pending ≡ Some y → AnswerNames y.answer (a (Answer j)))
     → (j : ℕ) (x : Pending) → pending_request j (g.pending ++ z ∷ []) ≡ Some x → AnswerNames x.answer (if z.n == j then pl else c (Answer j))
 asked_names a c g z pl same count new order h j x e =
     elim (pending_last g.pending j z x (λ y f. let i = (numbered_below g.pending 0 g.sent j y order f).1 in let k : (z.n == j) ≡ false = grind (arith, nat_tests) in k) e) [
@@ -133,7 +134,8 @@ requests_mirrors s v a l id mid code (b ∷ c ∷ d ∷ e ∷ []) links en order
 requests_mirrors s v a l id mid code _ links en order h = bad_mirrors s v a l id mid code links en h
 
 -- a message to a child
-tells_mirrors : (s : OneKernel) (v : View) (a : Addresses) (l : Placed) (id : MsgId) (code : ℕ) (child : Addr) (w : What) (u : PlainWhat) → plain_message (message_to v.acting l.manager.sent child w) ≡ Some (record { id = id_of manager l.manager.sent; to = child.pid; sender = manager; what = u })
+tells_mirrors : (s : OneKernel) (v : View) (a : Addresses) (l : Placed) (id : MsgId) (code : ℕ) (child : Addr) (w : What) (u : PlainWhat)
+    → plain_message (message_to v.acting l.manager.sent child w) ≡ Some (record { id = id_of manager l.manager.sent; to = child.pid; sender = manager; what = u })
     → enclosed w ≡ [] → a (Child code) ≡ place_of child → Mirrors s v a l
     → Mirrors (service.manager_took s id (one.tells (plain_manager l.manager) child.pid u)) v (given a (two (id_of manager l.manager.sent) (a (Child code)) (unmoved v.acting))) (manager_took (without_message l id) (take.sends l.manager (message_to v.acting l.manager.sent child w)))
 tells_mirrors s v a l id code child w u says none to h =
@@ -198,7 +200,8 @@ moves_mirrors s v a l id mid code child machine links to en order h =
       };
     }
 
-controls_mirrors : (s : OneKernel) (v : View) (a : Addresses) (l : Placed) (id mid : MsgId) (code : ℕ) (o : Option Addr) (body : List ℕ) (links : List Link) → child_address l.manager.children code ≡ o → LinksKept a mid links → InOrder l.manager → Mirrors s v a l
+controls_mirrors : (s : OneKernel) (v : View) (a : Addresses) (l : Placed) (id mid : MsgId) (code : ℕ) (o : Option Addr) (body : List ℕ) (links : List Link) → child_address l.manager.children code ≡ o → LinksKept a mid links
+    → InOrder l.manager → Mirrors s v a l
     → TookAt s v a l id mid code (one.controls (plain_manager l.manager) l.manager.machines (option_map plain_child o) body (map plain_link links)) (take.controls v.acting l.manager o body links)
 controls_mirrors s v a l id mid code (Some child) (op ∷ []) links is en order h = control_by s v a l id mid code child (op == 2) (op == 3) (op == 4) links (h.places.child code child is) en h
 controls_mirrors s v a l id mid code (Some child) (op ∷ machine ∷ []) links is en order h =

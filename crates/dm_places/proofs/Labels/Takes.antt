@@ -31,9 +31,11 @@ one_link place w at zero u e = let f : w ≡ u = cc in (refl, at ∙ ap (λ (z :
 one_link place w at (suc k) u e = absurd (let f : None ≡ Some u = e in cc)
 
 -- the manager goes on as g, and answers over the link of a request: c is a with what a new child gives
-answers_mirrors : (s : OneKernel) (v : View) (a c : Addresses) (l : Placed) (id : MsgId) (n : ℕ) (r : Pending) (g : Managing) (k : Manager) (byte : ℕ) (ws : List Link) (over : Option Link) → r.answer ≡ over → pending_request n l.manager.pending ≡ Some r → InOrder l.manager → Mirrors s v a l
+answers_mirrors : (s : OneKernel) (v : View) (a c : Addresses) (l : Placed) (id : MsgId) (n : ℕ) (r : Pending) (g : Managing) (k : Manager) (byte : ℕ) (ws : List Link) (over : Option Link) → r.answer ≡ over
+    → pending_request n l.manager.pending ≡ Some r → InOrder l.manager → Mirrors s v a l
     → ((j : ℕ) (w : Link) → slice_get ws j ≡ Some w → (j ≡ 0) × (unmoved v.acting ≡ place_of w.addr)) → plain_manager g ≡ k → g.pending ≡ take.without_pending n l.manager.pending → g.machines ≡ l.manager.machines → g.images ≡ l.manager.images
-    → ((q : Pid) → SameProcess a c q) → ((i : MsgId) → SameMessage a c i) → ((j : ℕ) → c (Name j) ≡ a (Name j)) → ((j : ℕ) → c (Answer j) ≡ a (Answer j)) → ((q : Pid) → c (AskedBy q) ≡ a (AskedBy q)) → ((j : ℕ) (w : Addr) → child_address g.children j ≡ Some w → c (Child j) ≡ place_of w)
+    → ((q : Pid) → SameProcess a c q) → ((i : MsgId) → SameMessage a c i) → ((j : ℕ) → c (Name j) ≡ a (Name j)) → ((j : ℕ) → c (Answer j) ≡ a (Answer j)) → ((q : Pid) → c (AskedBy q) ≡ a (AskedBy q))
+    → ((j : ℕ) (w : Addr) → child_address g.children j ≡ Some w → c (Child j) ≡ place_of w)
     → Mirrors (service.manager_took s id (one.answers_over k (option_map plain_link over) byte (map plain_link ws))) v
     (given c (manager_answers v a n (one.answers_over k (option_map plain_link over) byte (map plain_link ws)).message))
     (manager_took (without_message l id) (take.answers_over v.acting g over byte ws))
@@ -140,9 +142,11 @@ created_by s v a l id n child (Some r) k is e order h =
     let t = take.answers_over v.acting g r.answer 0 (w ∷ []) in
     let u = answers_mirrors s v a c l id n r g after 0 (w ∷ []) r.answer refl is order h (one_link (unmoved v.acting) w refl) plain_is refl refl refl
     (λ q. record { slot = λ i. refl; owner = refl }) (λ i. record { receiver = refl; sender = refl; enclosed = λ i. refl }) (λ i. refl) (λ i. refl) (λ q. refl) children in
-    let link_is : one.answers_over after (option_map plain_link r.answer) 0 (one.control_link (length cs + 1) ∷ []) ≡ k = ap (λ (z : ℕ). one.answers_over after (option_map plain_link r.answer) 0 (one.control_link (z + 1) ∷ [])) count ∙ f in
+    let told = λ (z : ℕ). one.answers_over after (option_map plain_link r.answer) 0 (one.control_link (z + 1) ∷ []) in
+    let on = manager_took (without_message l id) t in
     search
-    (subst (λ (z : one.ManagerTook). Mirrors (service.manager_took s id z) v (given a (gets (Child j) pl ∷ manager_answers v a n z.message)) (manager_took (without_message l id) t)) link_is (child_first (service.manager_took s id (one.answers_over after (option_map plain_link r.answer) 0 (one.control_link (length cs + 1) ∷ []))) v a (manager_took (without_message l id) t) j pl n (one.answers_over after (option_map plain_link r.answer) 0 (one.control_link (length cs + 1) ∷ [])).message u))
+    (subst (λ (z : one.ManagerTook). Mirrors (service.manager_took s id z) v (given a (gets (Child j) pl ∷ manager_answers v a n z.message)) on) (ap told count ∙ f)
+    (child_first (service.manager_took s id (told (length cs))) v a on j pl n (told (length cs)).message u))
 
 -- a request has ended otherwise
 ended_by : (s : OneKernel) (v : View) (a : Addresses) (l : Placed) (id : MsgId) (n byte : ℕ) (r : Pending) (k : one.ManagerTook) → pending_request n l.manager.pending ≡ Some r
