@@ -1,8 +1,8 @@
 -- The count of an address that a process or a server has doesn't fall until a step gives it a new one.
-use Rattle.dm_movelaws.proofs.Names.{◌≡◌, ℕ, ◌<◌, ◌≤◌, ◌&&◌, ◌||◌, Bool, true, false, List, [], ◌∷◌, ◌++◌, refl, ap, ◌∙◌, sym, subst, nat_lt, arith, if◌then◌else◌, false≢true, nat_tests, Option, None, Some, Pid, Place, MsgId, MessageKind}
-use Rattle.dm_movelaws.proofs.Names.{OneKernel, bind-is, Line, Addresses, Holder, Receiver, Sender, Enclosed, Gets, gets, holder_eq, unmoved, given, gives, belongs_to, leads_to, is_pid, is_behind, told_back_gets, is_told_back, forwards}
-use Rattle.dm_movelaws.proofs.Names.{all_follow, child_number, place_of_child, own_gives, first_gives, place_told, updated, updated_to, addresses_after, Point, label_of, kernel_after, moved, after_line, after, View, Told, About, is_owned}
-use Rattle.dm_movelaws.proofs.Names.{gives_to, is_filled, in_next, refilled, CountsStay, CountsKept, Updated, Sort, sort_of, own_given}
+use Rattle.dm_movelaws.proofs.Names.{AskedBy, ◌≡◌, ℕ, ◌<◌, ◌≤◌, ◌&&◌, ◌||◌, Bool, true, false, List, [], ◌∷◌, ◌++◌, refl, ap, ◌∙◌, sym, subst, nat_lt, arith, if◌then◌else◌, false≢true, nat_tests, Option, None, Some, Pid, Place, MsgId}
+use Rattle.dm_movelaws.proofs.Names.{MessageKind, OneKernel, bind-is, Line, Addresses, Holder, Receiver, Sender, Enclosed, Gets, gets, holder_eq, unmoved, given, gives, belongs_to, leads_to, is_pid, is_behind, told_back_gets, is_told_back}
+use Rattle.dm_movelaws.proofs.Names.{forwards, all_follow, child_number, place_of_child, own_gives, first_gives, place_told, updated, updated_to, addresses_after, Point, label_of, kernel_after, moved, after_line, after, View, Told, About}
+use Rattle.dm_movelaws.proofs.Names.{is_owned, gives_to, is_filled, in_next, refilled, CountsStay, CountsKept, Updated, Sort, sort_of, own_given}
 use Rattle.dm_rule.specs.View as view
 use Rattle.dm_movelaws.proofs.After.{group_after}
 use Rattle.dm_movelaws.proofs.Updates.Always.{updates_always}
@@ -125,6 +125,7 @@ counts_stay b (d ∷ ds) pt end h mine (w, fit, is, unfilled, more) =
 owned_by : (q : Pid) (h : Holder) → belongs_to q h ≡ true → is_owned h ≡ true
 owned_by q (Receiver j) e = e
 owned_by q (Sender j) e = e
+owned_by q (AskedBy p) e = e
 owned_by q (Enclosed j k) e = e
 owned_by q _ e = refl
 

@@ -2,7 +2,8 @@
 use Rattle.dm_movelaws.proofs.Names.{◌≡◌, ◌≢◌, ℕ, ◌+◌, ◌<◌, ◌≤◌, ◌==◌, ◌||◌, Bool, true, false, is_some, List, [], ◌∷◌, drop, refl, ap, ◌∙◌, sym, subst, inl, inr, nat_lt, nat_le, arith, if◌then◌else◌, drop-length, drop-nil, cases_Bool}
 use Rattle.dm_movelaws.proofs.Names.{false≢true, nat_tests, Option, None, Some, Pid, pid_eq, MsgId, MessageKind, PlainMessage, Boot, manager, Alive, PlainProcess, id_eq-same, not_server, Receiver, to_of, Phase, Nowhere, Rests, Over, Moves}
 use Rattle.dm_movelaws.proofs.Names.{is_unknown, is_here, is_over, is_away, is_due, IsToken, IsIn, Point, IsQuiet, Spot, Queue, Held, Inbox, Untaken, times, untaken, standing, View, Known, Unknown, Here, Frozen, Incoming, Ended, is_kernels}
-use Rattle.dm_movelaws.proofs.Names.{stands_right, kernels_fresh, phases_always, AtRestAlways, IsAt, IsWaiting, is_moving, is_server, has_no_queue, has_nothing_held, agrees, Run, run_always, told_of, eq_self, own_by, user_kind, machine_of}
+use Rattle.dm_movelaws.proofs.Names.{stands_right, kernels_fresh, phases_always, AtRestAlways, IsAt, IsWaiting, is_moving, is_server, has_no_queue, has_nothing_held, agrees, Run, run_always, told_of, eq_self, own_by, user_kind}
+use Rattle.dm_rulelaws.proofs.Names.{machine_of}
 use Rattle.dm_rule.specs.Phases as phases
 use Rattle.dm_movelaws.proofs.At.RestPairs.{Routed, routed_always}
 use Rattle.dm_movelaws.proofs.At.RestQueues.{Dropped, dropped_always}

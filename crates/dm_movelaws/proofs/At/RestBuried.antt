@@ -1,5 +1,5 @@
 -- Where a process has ended nothing comes to its queue: each group keeps it.
-use Rattle.dm_movelaws.proofs.Names.{◌≡◌, ℕ, ◌+◌, ◌==◌, Bool, true, false, List, [], ◌∷◌, ◌++◌, refl, ap, ◌∙◌, sym, subst, inl, inr, if◌then◌else◌, cases_Bool, false≢true, Option, None, Some, Pid, MsgId, Boot, Label, Line, Stage}
+use Rattle.dm_movelaws.proofs.Names.{aim, sets, ◌≡◌, ℕ, ◌+◌, ◌==◌, Bool, true, false, List, [], ◌∷◌, ◌++◌, refl, ap, ◌∙◌, sym, subst, inl, inr, if◌then◌else◌, cases_Bool, false≢true, Option, None, Some, Pid, MsgId, Boot, Label, Line, Stage}
 use Rattle.dm_movelaws.proofs.Names.{PlainProcess, Life, Alive, OneKernel, Step, LifeGrows, after_step, Spelled, is_away, Point, kernel_after, label_of, group_of, at_record, without_id, without_front, View, Told, Known, Unknown, Here}
 use Rattle.dm_movelaws.proofs.Names.{Frozen, Incoming, Ended, handled, receiver_of, served_told, view_after, target_of, front_told, front_of, gone_to, Phased, Sane, is_server, KnownStands, agrees, group_keeps, Loud, keeps_by, set_all}
 use Rattle.dm_movelaws.proofs.Names.{killed_or}
@@ -113,7 +113,8 @@ loud before = record {
   queued = λ pt id need sane h. queued before pt.kernel pt.view id (pt.view.told id) (λ t e. (need t e).here) h;
   held = λ pt id need sane h. held before pt.kernel pt.view id (pt.view.told id) h;
   frozen = λ pt p lives here h.
-      learns before pt.kernel pt.kernel pt.view (view.after_stage pt.view p Stage.Frozen) p (Frozen (target_of (front_told pt.view (pt.view.inbox pt.view.acting)))) (same pt.kernel) refl refl (λ e. absurd (not_ended before pt.kernel pt.view p Here h here here_off e)) h;
+      let set = sets pt.view p pt.view.topic in
+      learns before pt.kernel pt.kernel pt.view (view.after_stage pt.view p Stage.Frozen) p (Frozen (aim pt.view pt.view.topic)) (same pt.kernel) set.known set.queue (λ e. absurd (not_ended before pt.kernel pt.view p Here h here here_off e)) h;
   accepted = λ pt p lives away h.
       learns before pt.kernel pt.kernel pt.view (view.after_stage pt.view p Stage.Accepted) p (Incoming (front_of (pt.view.inbox pt.view.acting))) (same pt.kernel) refl refl
       (λ e. absurd (false≢true (sym (ap is_away (h.known pt.view.acting p e)) ∙ away))) h;

@@ -1,7 +1,7 @@
 -- A process ends only where a group says so.
-use Rattle.dm_movelaws.proofs.Names.{◌≡◌, ℕ, ◌+◌, ◌==◌, Bool, true, false, not, filter, List, [], ◌∷◌, length, refl, ap, ◌∙◌, sym, subst, if◌then◌else◌, false≢true, Option, None, Some, Pid, MsgId, MessageKind, Load, plain_kind, Label}
-use Rattle.dm_movelaws.proofs.Names.{bind-is, Step, Line, Stage, Receiver, migrates, Part, Says, Routes, Again, Owns, Transmits, Spelled, lines_of, puts, goes_out, packet_line, spelled, Point, after_line, after, at_record, View, Told}
-use Rattle.dm_movelaws.proofs.Names.{About, NothingElse, Known, Here, Frozen, Incoming, Ended, view_after, handled, receiver_of, IsNetLine, IsNet, line_view, set_all, by_migrates, by_parts}
+use Rattle.dm_movelaws.proofs.Names.{aim, sets, seen, ◌≡◌, ℕ, ◌+◌, ◌==◌, Bool, true, false, not, filter, List, [], ◌∷◌, length, refl, ap, ◌∙◌, sym, subst, if◌then◌else◌, false≢true, Option, None, Some, Pid, MsgId, MessageKind, Load}
+use Rattle.dm_movelaws.proofs.Names.{plain_kind, Label, bind-is, Step, Line, Stage, Receiver, migrates, Part, Says, Routes, Again, Owns, Transmits, Spelled, lines_of, puts, goes_out, packet_line, spelled, Point, after_line, after}
+use Rattle.dm_movelaws.proofs.Names.{at_record, View, Told, About, NothingElse, Known, Here, Frozen, Incoming, Ended, view_after, handled, receiver_of, IsNetLine, IsNet, line_view, set_all, by_migrates, by_parts}
 use Rattle.dm_rule.specs.View as view
 use Rattle.dm_movelaws.proofs.At.RestBuried.{Knows}
 use Rattle.dm_movelaws.proofs.At.RestEnds.{is_ending, PartStays, AllStay}
@@ -71,8 +71,8 @@ incoming_not T from e = cc
 
 stage_only : (before : Knows) (v : View) (p : Pid) (s : Stage) → Only before v → Only before (view.after_stage v p s)
 stage_only before v p Stage.Frozen h =
-    let to = view.target_of (view.front_told v (v.inbox v.acting)) in
-    only_set before v (view.after_stage v p Stage.Frozen) p (Frozen to) refl (frozen_not (v.known v.acting p ≡ Ended) to) h
+    let to = aim v v.topic in
+    only_set before v (view.after_stage v p Stage.Frozen) p (Frozen to) (sets v p v.topic).known (frozen_not (v.known v.acting p ≡ Ended) to) h
 stage_only before v p Stage.Asked h = h
 stage_only before v p Stage.Accepted h =
     let from = view.front_of (v.inbox v.acting) in
@@ -105,7 +105,7 @@ line_only before v Line.Nothing e h = h
 line_only before v any_ e h = only_as before v (view_after v any_) refl h
 
 -- parts that end nothing
-one_view : (pt next : Point) (l : Line) → after pt (l ∷ []) ≡ Some next → next.view ≡ view_after pt.view l
+one_view : (pt next : Point) (l : Line) → after pt (l ∷ []) ≡ Some next → next.view ≡ seen pt.kernel pt.view l
 one_view pt next l e =
     let (mid, first, rest) = bind-is (after_line pt l) (λ q. after q []) next e in
     let f : mid ≡ next = cc in
@@ -129,7 +129,7 @@ puts_only before pt next b i k q ls h is leads =
 part_only : (before : Knows) (pt next : Point) (p : Part) (ls : List Line) → PartStays p → lines_of pt p ≡ Some ls → after pt ls ≡ Some next → Only before pt.view → Only before next.view
 part_only before pt next (Says l) ls stays is leads h =
     let f : l ∷ [] ≡ ls = cc in
-    subst (Only before) (sym (one_view pt next l (ap (after pt) f ∙ leads))) (line_only before pt.view l stays h)
+    subst (Only before) (sym (one_view pt next l (ap (after pt) f ∙ leads))) (only_as before (view_after pt.view l) (seen pt.kernel pt.view l) refl (line_only before pt.view l stays h))
 part_only before pt next (Routes i) ls stays is leads h =
     let (m, there, last) = bind-is (pt.kernel.bag i) (λ m. Some (puts pt.view (pt.addresses (Receiver i)).at i (plain_kind m.what) m.to)) ls is in
     puts_only before pt next (pt.addresses (Receiver i)).at i (plain_kind m.what) m.to ls h last leads

@@ -1,9 +1,9 @@
 -- No message goes from a machine that there isn't.
-use Rattle.dm_movelaws.proofs.Names.{◌≡◌, ℕ, ◌+◌, ◌<◌, ◌≤◌, ◌==◌, ◌&&◌, Bool, true, false, not, filter, List, [], ◌∷◌, ◌++◌, length, refl, ap, ◌∙◌, sym, subst, arith, ⊤, if◌then◌else◌, slice_get, false≢true, nat_tests, Some, Pid, MsgId}
-use Rattle.dm_movelaws.proofs.Names.{MessageKind, plain_kind, Boot, IsValid, bind-is, Step, Line, Load, Stage, Receiver, IsStep, Leads, migrates, Part, Says, Routes, Again, Owns, Transmits, Spelled, lines_of, puts, goes_out, packet_line}
-use Rattle.dm_movelaws.proofs.Names.{spelled, Point, first_point, moved, after_line, after, group_of, at_pair, View, Pair, NothingElse, view_after, after_head, after_put, with_pair, handled, receiver_of, IsNetLine, IsNet, group_is}
-use Rattle.dm_movelaws.proofs.Names.{arrives_net, resends_net, acting_label, AllFit, touches, pair_same, taken_pair, line_view, migrates_fit, turns_fit, constant_group, acting_taken, proto_acting, queued_acting, held_acting}
-use Rattle.dm_movelaws.proofs.Names.{forwarded_acting, by_parts}
+use Rattle.dm_movelaws.proofs.Names.{sets, seen, topic_by, label_of, ◌≡◌, ℕ, ◌+◌, ◌<◌, ◌≤◌, ◌==◌, ◌&&◌, Bool, true, false, not, filter, List, [], ◌∷◌, ◌++◌, length, refl, ap, ◌∙◌, sym, subst, arith, ⊤, if◌then◌else◌, slice_get, false≢true}
+use Rattle.dm_movelaws.proofs.Names.{nat_tests, Some, Pid, MsgId, MessageKind, plain_kind, Boot, IsValid, bind-is, Step, Line, Load, Stage, Receiver, IsStep, Leads, migrates, Part, Says, Routes, Again, Owns, Transmits, Spelled, lines_of}
+use Rattle.dm_movelaws.proofs.Names.{puts, goes_out, packet_line, spelled, Point, first_point, moved, after_line, after, group_of, at_pair, View, Pair, NothingElse, view_after, after_head, after_put, with_pair, handled, receiver_of}
+use Rattle.dm_movelaws.proofs.Names.{IsNetLine, IsNet, group_is, arrives_net, resends_net, acting_label, AllFit, touches, pair_same, taken_pair, line_view, migrates_fit, turns_fit, constant_group, acting_taken, proto_acting, queued_acting}
+use Rattle.dm_movelaws.proofs.Names.{held_acting, forwarded_acting, by_parts}
 use Rattle.dm_rule.specs.Rule as rule
 use Rattle.dm_rule.specs.View as view
 
@@ -49,7 +49,7 @@ is_calm (Line.Put a b id k q) = false
 is_calm l = true
 
 stage_acting : (v : View) (p : Pid) (s : Stage) → (view.after_stage v p s).acting ≡ v.acting
-stage_acting v p Stage.Frozen = refl
+stage_acting v p Stage.Frozen = (sets v p v.topic).acting
 stage_acting v p _ = refl
 
 calm_line : (n : ℕ) (v : View) (l : Line) → is_calm l ≡ true → Routed n v → Routed n (view_after v l)
@@ -124,7 +124,10 @@ outcome_calm b pt (Step.Deliver a c k) ps is =
 outcome_calm b pt (Step.Migrate p m) ps is = let f : migrates pt p ≡ ps = cc in subst AllCalm f (fit_calm pt.view.pair (migrates pt p) (migrates_fit pt.view.pair pt p))
 
 -- each part keeps it
-one_view : (pt next : Point) (l : Line) → after pt (l ∷ []) ≡ Some next → next.view ≡ view_after pt.view l
+about_routed : (n : ℕ) (w : View) (a : view.About) → Routed n w → Routed n (view.about w a)
+about_routed n w a h = record { acting = h.acting; none = h.none }
+
+one_view : (pt next : Point) (l : Line) → after pt (l ∷ []) ≡ Some next → next.view ≡ seen pt.kernel pt.view l
 one_view pt next l e =
     let (mid, first, rest) = bind-is (after_line pt l) (λ q. after q []) next e in
     let f : mid ≡ next = cc in
@@ -148,7 +151,7 @@ puts_routed n pt next b i k q ls h is leads =
 part_routed : (n : ℕ) (pt next : Point) (p : Part) (ls : List Line) → PartCalm p → lines_of pt p ≡ Some ls → after pt ls ≡ Some next → Routed n pt.view → Routed n next.view
 part_routed n pt next (Says l) ls calm is leads h =
     let f : l ∷ [] ≡ ls = cc in
-    subst (Routed n) (sym (one_view pt next l (ap (after pt) f ∙ leads))) (calm_line n pt.view l calm h)
+    subst (Routed n) (sym (one_view pt next l (ap (after pt) f ∙ leads))) (about_routed n (view_after pt.view l) (topic_by pt.kernel (view_after pt.view l).topic (label_of l)) (calm_line n pt.view l calm h))
 part_routed n pt next (Routes i) ls calm is leads h =
     let (m, there, last) = bind-is (pt.kernel.bag i) (λ m. Some (puts pt.view (pt.addresses (Receiver i)).at i (plain_kind m.what) m.to)) ls is in
     puts_routed n pt next (pt.addresses (Receiver i)).at i (plain_kind m.what) m.to ls h last leads

@@ -81,14 +81,16 @@ round_form b o m ps e = Nothing (loose_round (λ xs. forwards_of xs ≡ []) quie
 
 handles_form : (b : Boot) (o : Point) (m : ℕ) (id : MsgId) (is : List MsgId) (msg : PlainMessage) (ps : List Part) → o.view.inbox m ≡ id ∷ is → o.kernel.bag id ≡ Some msg → rule.handles b o m id msg ≡ Some ps → Form o (Step.Turn m) ps
 handles_form b o m id is msg ps box there = loose_handles (Form o (Step.Turn m)) (λ xs. forwards_of xs ≡ []) quiet_loose (λ xs. Nothing) b o m id msg ps (λ here. Nothing refl) (Nothing refl)
-    (λ to moves at_. Plain (record { machine = m; acts = refl; id = id; rest = is; box = box; message = msg; there = there; to = to; moves = moves; known = at_.known; are = refl }))
+    (λ to here what apart. Nothing refl) (λ to moves at_. Plain (record { machine = m; acts = refl; id = id; rest = is; box = box; message = msg; there = there; to = to; moves = moves; known = at_.known; are = refl }))
 
 hears_form : (b : Boot) (o : Point) (m : ℕ) (id : MsgId) (ps : List Part) → o.kernel.bag id ≡ None → rule.hears b o m id (o.view.told id) ≡ Some ps → Form o (Step.Turn m) ps
 hears_form b o m id ps none = by_hears (Form o (Step.Turn m)) b o m id (o.view.told id) ps (λ t told. record {
   told = λ p x about alive. record {
     accepted = λ ask. Nothing refl;
     lacks = λ slots blocks. Nothing refl;
-    stays = λ kind. Nothing refl;
+    stays = λ kind free. Nothing refl;
+    stays_asked = λ kind n noted. Nothing refl;
+    restarted_asked = λ kind n noted. Nothing refl;
     state = Nothing refl;
     next_chunk = Nothing refl;
     last_chunk = Nothing refl;
@@ -96,7 +98,7 @@ hears_form b o m id ps none = by_hears (Form o (Step.Turn m)) b o m id (o.view.t
     next_block = Nothing refl;
     last_block = Nothing refl;
     left = λ ids to leaves. Nothing (sends_none to ids (Says (Line.Migration Stage.Left p) ∷ to_kernel MessageKind.Restart id.from.home ∷ []));
-    restarted = λ kind. Nothing refl;
+    restarted = λ kind free. Nothing refl;
   };
   updated = λ kind. Nothing refl;
   updated_none = λ kind at_. Nothing refl;

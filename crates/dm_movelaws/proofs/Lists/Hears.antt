@@ -7,7 +7,7 @@ ok_line ok (Line.Queued i) h = absurd h
 ok_line ok _ h = tt
 
 ok_kept : (ok : MsgId → Type 0) → Kept (AllOk ok)
-ok_kept ok = record { none = tt; says = λ l ps h k. (ok_line ok l h, k); again = λ i to ps k. (tt, k); owns = λ k q to ps h. (tt, h) }
+ok_kept ok = record { none = tt; says = λ l ps h k. (ok_line ok l h, k); again = λ i to ps k. (tt, k); owns = λ k q to ps h. (tt, h); answers = λ i r. (tt, (tt, tt)) }
 
 pub forwards_ok : (ok : MsgId → Type 0) (a : Addresses) (id : MsgId) (k : MessageKind) (sender : Pid) (to : ℕ) → AllOk ok (forwards_on a id k sender to)
 forwards_ok ok a id k sender to = kept_forward (AllOk ok) (ok_kept ok) a id k sender to

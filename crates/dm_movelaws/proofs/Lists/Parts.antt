@@ -1,6 +1,6 @@
 -- No message is queued for a server: each line keeps it, where what it queues is for a process.
-use Rattle.dm_movelaws.proofs.Names.{◌≡◌, ℕ, ◌+◌, ◌==◌, Bool, true, false, not, filter, List, [], ◌∷◌, ◌++◌, length, refl, ap, ◌∙◌, sym, subst, ⊤, if◌then◌else◌, false≢true, Option, None, Some, Pid, MsgId, MessageKind, plain_kind, Label}
-use Rattle.dm_movelaws.proofs.Names.{bind-is, Step, Line, Load, Stage, Receiver, Part, Says, Routes, Again, Owns, Transmits, Spelled, lines_of, puts, goes_out, packet_line, spelled, Point, after_line, after, at_record, without_id}
+use Rattle.dm_movelaws.proofs.Names.{sets, ◌≡◌, ℕ, ◌+◌, ◌==◌, Bool, true, false, not, filter, List, [], ◌∷◌, ◌++◌, length, refl, ap, ◌∙◌, sym, subst, ⊤, if◌then◌else◌, false≢true, Option, None, Some, Pid, MsgId, MessageKind, plain_kind}
+use Rattle.dm_movelaws.proofs.Names.{Label, bind-is, Step, Line, Load, Stage, Receiver, Part, Says, Routes, Again, Owns, Transmits, Spelled, lines_of, puts, goes_out, packet_line, spelled, Point, after_line, after, at_record, without_id}
 use Rattle.dm_movelaws.proofs.Names.{without_front, View, Told, About, NothingElse, view_after, handled, receiver_of, IsNetLine, IsNet, is_put, hushed, line_view, is_server, set_all, killed_or, told_kept, by_parts}
 use Rattle.dm_rule.specs.View as view
 
@@ -87,7 +87,7 @@ head_queue v (Step.Turn m) = refl
 head_queue v _ = refl
 
 stage_queue : (v : View) (p : Pid) (s : Stage) → (view.after_stage v p s).queue ≡ v.queue
-stage_queue v p Stage.Frozen = refl
+stage_queue v p Stage.Frozen = (sets v p v.topic).queue
 stage_queue v p _ = refl
 
 served_queue : (v : View) (o : Option Told) → (view.served_told v o).queue ≡ v.queue
@@ -116,6 +116,7 @@ label_queues before v (Label.Call p n c) h = h
 label_queues before v (Label.Send p id) h = h
 label_queues before v (Label.Wait p) h = h
 label_queues before v (Label.Out p w) h = h
+label_queues before v (Label.Answered id o) h = h
 label_queues before v any_ h = same_queues before v (view_after v (Line.Label any_)) refl refl h
 
 quiet_queues : (before v : View) (l : Line) → is_put l ≡ false → (view_after v l).queue ≡ v.queue → NoQueues before v → NoQueues before (view_after v l)

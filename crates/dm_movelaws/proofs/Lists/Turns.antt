@@ -11,5 +11,5 @@ round_ok ok b pt m o ps e = loose_round (AllOk ok) (ok_loose ok) b pt m o ps (tt
 
 pub handles_ok : (ok : MsgId → Type 0) (b : Boot) (pt : Point) (m : ℕ) (id : MsgId) (msg : PlainMessage) (ps : List Part) → (is_server msg.to ≡ false → ok id) → handles b pt m id msg ≡ Some ps → AllOk ok ps
 handles_ok ok b pt m id msg ps need e =
-    loose_handles (AllOk ok) (AllOk ok) (ok_loose ok) (λ qs h. h) b pt m id msg ps (λ here. (need here.process, tt)) (tt, tt)
+    loose_handles (AllOk ok) (AllOk ok) (ok_loose ok) (λ qs h. h) b pt m id msg ps (λ here. (need here.process, tt)) (tt, tt) (λ to here what apart. (tt, (tt, (tt, (tt, tt)))))
     (λ to moves at_. forwards_ok ok pt.addresses id (plain_kind msg.what) msg.sender to) e

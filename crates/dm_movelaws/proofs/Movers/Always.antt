@@ -1,8 +1,8 @@
 -- Wherever the rule leads, each living process that moves data has the message that its status says.
-use Rattle.dm_movelaws.proofs.Names.{◌≡◌, ℕ, ◌+◌, ◌==◌, true, false, List, [], ◌∷◌, length, refl, ap, ◌∙◌, sym, subst, inl, inr, arith, Option, None, Some, nat_tests, Pid, MsgId, id_of, plain_kind, PlainMessage, PlainWhat, Direction, Boot}
-use Rattle.dm_movelaws.proofs.Names.{Label, PlainProcess, PlainStatus, Moving, Life, Alive, OneKernel, piece_of, answer_id, is_of_memory, replay, Step, Leads, Point, first_point, labels, entry, reception, in_bag, is_piece, pending_of, One}
-use Rattle.dm_movelaws.proofs.Names.{after_step, Sound, bind-is, piece_fits, status_awaits, awaits, WhatFits, KernelFits, based_start, based_group, based_always, both, fits_step, group_replay, Based, asks_piece, answers_piece, AsksFor}
-use Rattle.dm_movelaws.proofs.Names.{AnswersFor, HasEnded, HasPiece, MoversHavePieces}
+use Rattle.dm_movelaws.proofs.Names.{InOrder, step_constant, ◌≡◌, ℕ, ◌+◌, ◌==◌, true, false, List, [], ◌∷◌, length, refl, ap, ◌∙◌, sym, subst, inl, inr, arith, Option, None, Some, nat_tests, Pid, MsgId, id_of, plain_kind, PlainMessage}
+use Rattle.dm_movelaws.proofs.Names.{PlainWhat, Direction, Boot, Label, PlainProcess, PlainStatus, Moving, Life, Alive, OneKernel, piece_of, answer_id, is_of_memory, replay, Step, Leads, Point, first_point, labels, entry, reception, in_bag}
+use Rattle.dm_movelaws.proofs.Names.{is_piece, pending_of, One, after_step, Sound, bind-is, piece_fits, status_awaits, awaits, WhatFits, KernelFits, based_start, based_group, based_always, both, fits_step, group_replay, Based, asks_piece}
+use Rattle.dm_movelaws.proofs.Names.{answers_piece, AsksFor, AnswersFor, HasEnded, HasPiece, MoversHavePieces}
 use Rattle.dm_onekernel.specs.Step as kernel
 use Rattle.dm_movelaws.specs.Movers.{Moves}
 use Rattle.dm_movelaws.proofs.Movers.Says.{other_end, Begins, StatusSays, Says, AllSay}
@@ -10,19 +10,19 @@ use Rattle.dm_movelaws.proofs.Movers.Gone.{GoneEnded, step_gone}
 use Rattle.dm_movelaws.proofs.Movers.Rows.{memory_end, step_says}
 
 -- a run
-replay_says : (ls : List Label) (r e : MsgId → ℕ) (s t : OneKernel) → replay s ls ≡ Some t → KernelFits s → Sound r e s → AllSay s × GoneEnded s → AllSay t × GoneEnded t
-replay_says [] r e s t is fits sound h = let f : s ≡ t = cc in subst (λ (x : OneKernel). AllSay x × GoneEnded x) f h
-replay_says (l ∷ ls) r e s t is fits sound h =
+replay_says : (ls : List Label) (r e : MsgId → ℕ) (s t : OneKernel) → replay s ls ≡ Some t → KernelFits s → InOrder s.manager → Sound r e s → AllSay s × GoneEnded s → AllSay t × GoneEnded t
+replay_says [] r e s t is fits order sound h = let f : s ≡ t = cc in subst (λ (x : OneKernel). AllSay x × GoneEnded x) f h
+replay_says (l ∷ ls) r e s t is fits order sound h =
     let (u, first, rest) = bind-is (kernel.step s l) (λ (x : OneKernel). replay x ls) t is in
-    let next = fits_step r e s u l first sound fits in
+    let next = fits_step r e s u l first sound order fits in
     let after = after_step r e s u l first sound in
-    replay_says ls (λ i. r i + reception i l) (λ i. e i + entry i s u) u t rest next after.sound (step_says r e s u l first sound next h.0, step_gone s u l first after.grown h.1)
+    replay_says ls (λ i. r i + reception i l) (λ i. e i + entry i s u) u t rest next ((step_constant s u l first).pending order) after.sound (step_says r e s u l first sound next h.0, step_gone s u l first after.grown h.1)
 
 says_on : (b : Boot) (es : List Step) (pt end : Point) → Leads b pt es end → Based b pt → AllSay pt.kernel × GoneEnded pt.kernel → AllSay end.kernel × GoneEnded end.kernel
 says_on b [] pt end leads based h = subst (λ (x : Point). AllSay x.kernel × GoneEnded x.kernel) leads h
 says_on b (d ∷ es) pt end (w, fit, is, rest) based h =
     let sane = based.phased.sane in
-    says_on b es w.point end rest (based_group b pt d w fit is based) (replay_says (labels w.lines) sane.r sane.e pt.kernel w.point.kernel (group_replay b pt d w is) based.fits sane.sound h)
+    says_on b es w.point end rest (based_group b pt d w fit is based) (replay_says (labels w.lines) sane.r sane.e pt.kernel w.point.kernel (group_replay b pt d w is) based.fits based.pending sane.sound h)
 
 -- one of the two
 pair_one : (a b : Option PlainMessage) → One a b → in_bag a + in_bag b ≡ 1

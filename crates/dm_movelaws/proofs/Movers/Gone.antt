@@ -1,6 +1,6 @@
 -- Whoever says that a piece's owner has ended is an owner that has.
-use Rattle.dm_movelaws.proofs.Names.{◌≡◌, ◌⊎◌, true, false, length, take, drop, ap, ◌∙◌, sym, subst, inl, inr, Option, None, Some, Pid, MsgId, PlainMessage, PlainWhat, switchboard, manager, Label, Why, Life, OneKernel, with_sent, answer_to}
-use Rattle.dm_movelaws.proofs.Names.{without_message, is_piece, Grown, LifeGrows, stayed, came, ServerSends, board_takes_lem, manager_takes_lem, lands-is, HasEnded, by_step}
+use Rattle.dm_movelaws.proofs.Names.{answer_id, without_note, ◌≡◌, ◌⊎◌, true, false, length, take, drop, ap, ◌∙◌, sym, subst, inl, inr, Option, None, Some, Pid, MsgId, PlainMessage, PlainWhat, switchboard, manager, Label, Why, Life}
+use Rattle.dm_movelaws.proofs.Names.{OneKernel, with_sent, answer_to, without_message, is_piece, Grown, LifeGrows, stayed, came, ServerSends, board_takes_lem, manager_takes_lem, lands-is, HasEnded, by_step}
 use Rattle.dm_onekernel.specs.Kernel.{Ended}
 use Rattle.dm_onekernel.specs.Pieces as pieces
 use Rattle.dm_onekernel.specs.Service as service
@@ -40,7 +40,9 @@ step_came s t l = by_step (Came s) s t l (record {
   receives = λ p id y is w c i z there. inl (stayed s id i z there);
   refuses = λ p id c d y is w e i z there. inl there;
   dropped = λ id m y is w e i z there. inl (stayed s id i z there);
-  gone = λ id m y is w e. put_came s (without_message s id) (answer_to m PlainWhat.Gone) (stayed s id) (λ g. (y, w.ended));
+  gone = λ id m y is w v e. put_came s (without_message s id) (answer_to m v) (stayed s id) (λ g. (y, w.ended));
+  asked = λ id m x machine is w e i z there. inl (stayed s id i z there);
+  answered = λ id o p n is f. put_came s (without_note s p id) (record { id = answer_id id; to = n.asker; sender = p; what = PlainWhat.Moved o }) (λ i x there. there) (λ g. cc);
   stops = λ id m x b is w e i z there. inl (stayed s id i z there);
   kills = λ id m x is w e i z there. inl (stayed s id i z there);
   reads = λ id m x base len is w e. put_came s (service.changed s id m x) (answer_to m (PlainWhat.Block (take len (drop base x.memory)))) (stayed s id) (λ g. cc);

@@ -1,8 +1,8 @@
 -- Each step keeps what the messages of data moves say.
-use Rattle.dm_movelaws.proofs.Names.{◌≡◌, ◌⊎◌, ℕ, ◌+◌, ◌-◌, ◌==◌, ◌&&◌, Bool, true, false, length, take, drop, refl, ap, ◌∙◌, sym, subst, inl, inr, nat_le, ⊤, if◌then◌else◌, Option, None, Some, Pid, PlainLink, first_empty, link_at, MsgId}
-use Rattle.dm_movelaws.proofs.Names.{PlainMessage, PlainWhat, direction_numbered, Direction, Row, instruction, switchboard, manager, Label, Reply, Why, reg, PlainProcess, PlainStatus, Waiting, Moving, Alive, OneKernel, with_process}
-use Rattle.dm_movelaws.proofs.Names.{with_sent, Called, Sends, Waits, CallNumber, Make, Copy, Drop, Send, Receive, Move, call_number, answer_to, first_failed, without_message, is_of_memory, pending_of, ServerSends, board_takes_lem}
-use Rattle.dm_movelaws.proofs.Names.{manager_takes_lem, lands-is, Sound, bind-is, KernelFits, by_step, Lives}
+use Rattle.dm_movelaws.proofs.Names.{answer_id, Outcome, without_note, ◌≡◌, ◌⊎◌, ℕ, ◌+◌, ◌-◌, ◌==◌, ◌&&◌, Bool, true, false, length, take, drop, refl, ap, ◌∙◌, sym, subst, inl, inr, nat_le, ⊤, if◌then◌else◌, Option, None, Some, Pid}
+use Rattle.dm_movelaws.proofs.Names.{PlainLink, first_empty, link_at, MsgId, PlainMessage, PlainWhat, direction_numbered, Direction, Row, instruction, switchboard, manager, Label, Reply, Why, reg, PlainProcess, PlainStatus, Waiting, Moving}
+use Rattle.dm_movelaws.proofs.Names.{Alive, OneKernel, with_process, with_sent, Called, Sends, Waits, CallNumber, Make, Copy, Drop, Send, Receive, Move, call_number, answer_to, first_failed, without_message, is_of_memory, pending_of}
+use Rattle.dm_movelaws.proofs.Names.{ServerSends, board_takes_lem, manager_takes_lem, lands-is, Sound, bind-is, KernelFits, by_step, Lives}
 use Rattle.dm_onekernel.specs.Calls as calls
 use Rattle.dm_onekernel.specs.Pieces as pieces
 use Rattle.dm_onekernel.specs.Service as service
@@ -123,6 +123,19 @@ memory_end m (PlainWhat.Read base len) e = refl
 memory_end m (PlainWhat.Write base bytes) e = refl
 memory_end m w e = cc
 
+-- the answer of a receiver that has ended
+gone_says : (s : OneKernel) (id : MsgId) (m : PlainMessage) (v : PlainWhat) → m.id ≡ id → s.bag id ≡ Some m → (w : PlainWhat) → m.what ≡ w → service.gone_what w ≡ Some v → AllSay s → AllSay (with_sent (without_message s id) (Some (answer_to m v)))
+gone_says s id m v name there (PlainWhat.Read base len) is e h =
+    let f : PlainWhat.Gone ≡ v = cc in
+    subst (λ (x : PlainWhat). AllSay (with_sent (without_message s id) (Some (answer_to m x)))) f (answer_says (without_message s id) id m PlainWhat.Gone name (h id m m.to there (memory_end m m.what (ap is_of_memory is))) refl (λ a b. tt) (out_says s id h))
+gone_says s id m v name there (PlainWhat.Write base bytes) is e h =
+    let f : PlainWhat.Gone ≡ v = cc in
+    subst (λ (x : PlainWhat). AllSay (with_sent (without_message s id) (Some (answer_to m x)))) f (answer_says (without_message s id) id m PlainWhat.Gone name (h id m m.to there (memory_end m m.what (ap is_of_memory is))) refl (λ a b. tt) (out_says s id h))
+gone_says s id m v name there (PlainWhat.Move machine) is e h =
+    let f : PlainWhat.Moved Outcome.Ended ≡ v = cc in
+    subst (λ (x : PlainWhat). AllSay (with_sent (without_message s id) (Some (answer_to m x)))) f (other_says (without_message s id) (answer_to m (PlainWhat.Moved Outcome.Ended)) refl (out_says s id h))
+gone_says s id m v name there _ is e h = cc
+
 -- what a server sends
 server_says : (u : OneKernel) (p : Pid) (o : Option PlainMessage) (n after : ℕ) → ServerSends p n o after → AllSay u → AllSay (with_sent u o)
 server_says u p None n after sends h = h
@@ -156,7 +169,9 @@ step_says r e s t l is_ sound =
       receives = λ p id y is w c fits h. still_says (without_message s id) p y w.is.1 (out_says s id h);
       refuses = λ p id c d y is w f fits h. still_says s p y w.is.1 h;
       dropped = λ id m y is w f fits h. out_says s id h;
-      gone = λ id m y is w f fits h. answer_says (without_message s id) id m PlainWhat.Gone (sound.entered.named id m w.there) (h id m m.to w.there (memory_end m m.what f)) refl (λ a b. tt) (out_says s id h);
+      gone = λ id m y is w v f fits h. gone_says s id m v (sound.entered.named id m w.there) w.there m.what refl f h;
+      asked = λ id m x machine is w f fits h. out_says s id h;
+      answered = λ id o p n is f fits h. other_says (without_note s p id) (record { id = answer_id id; to = n.asker; sender = p; what = PlainWhat.Moved o }) refl h;
       stops = λ id m x b is w f fits h. same_says (without_message s id) m.to x (record x { stopped = b }) w.alive refl (out_says s id h);
       kills = λ id m x is w f fits h. ended_says (without_message s id) m.to Why.Killed (out_says s id h);
       reads = λ id m x base len is w f fits h. answered id m x x (PlainWhat.Block (take len (drop base x.memory))) w refl (ap (other_end m) f) refl (λ a b. tt) h;

@@ -1,8 +1,8 @@
 -- Wherever the rule leads, each pending request of the manager's has one message under its number.
-use Rattle.dm_movelaws.proofs.Names.{◌≡◌, ◌⊎◌, ℕ, ◌+◌, ◌*◌, ◌<◌, ◌≤◌, ◌==◌, ◌&&◌, Bool, true, false, List, [], ◌∷◌, ◌++◌, length, is_some, refl, ap, ◌∙◌, sym, subst, inl, inr, arith, if◌then◌else◌, nat_lt, Option, None, Some, cases_Bool}
-use Rattle.dm_movelaws.proofs.Names.{false≢true, nat_tests, Pid, pid_eq, PlainLink, MsgId, MessageKind, id_of, bool_eq, plain_kind, PlainMessage, PlainWhat, switchboard, manager, Boot, Label, Manager, Pending, OneKernel, with_sent}
-use Rattle.dm_movelaws.proofs.Names.{without_message, replay, entry, reception, in_bag, after_step, ServerSends, board_takes_lem, manager_takes_lem, Sound, bind-is, Step, ascends, Leads, Point, first_point, labels, View, still_pending}
-use Rattle.dm_movelaws.proofs.Names.{IsPending, WhatFits, KernelFits, based_start, based_group, based_always, fits_step, group_replay, Based, makes, is_pending, HasOne, IsOfPending, PendingHasOne}
+use Rattle.dm_movelaws.proofs.Names.{requests, ◌≡◌, ◌⊎◌, ℕ, ◌+◌, ◌*◌, ◌<◌, ◌≤◌, ◌==◌, ◌&&◌, Bool, true, false, List, [], ◌∷◌, ◌++◌, length, is_some, refl, ap, ◌∙◌, sym, subst, inl, inr, arith, if◌then◌else◌, nat_lt, Option, None, Some}
+use Rattle.dm_movelaws.proofs.Names.{cases_Bool, false≢true, nat_tests, Pid, pid_eq, PlainLink, MsgId, MessageKind, id_of, bool_eq, plain_kind, PlainMessage, PlainWhat, switchboard, manager, Boot, Label, Manager, Pending, OneKernel}
+use Rattle.dm_movelaws.proofs.Names.{with_sent, without_message, replay, entry, reception, in_bag, after_step, ServerSends, board_takes_lem, manager_takes_lem, Sound, bind-is, Step, ascends, Leads, Point, first_point, labels, View}
+use Rattle.dm_movelaws.proofs.Names.{still_pending, IsPending, WhatFits, KernelFits, based_start, based_group, based_always, fits_step, group_replay, Based, is_pending, HasOne, IsOfPending, PendingHasOne}
 use Rattle.dm_onekernel.specs.Manager as manage
 use Rattle.dm_onekernel.specs.Service as service
 use Rattle.dm_onekernel.specs.Step as kernel

@@ -65,6 +65,7 @@ said_marked s v p k (Label.Gone id) = λ m there one. absurd (omega (arith, one)
 said_marked s v p k (Label.Took id) = λ m there. sym (ap home_in there)
 said_marked s v p k (Label.Created id child) = λ m there. sym (ap home_in there)
 said_marked s v p k (Label.NoSpace id f b) = λ m there. sym (ap home_in there)
+said_marked s v p k (Label.Answered id o) = λ q noted one. absurd (omega (arith, one))
 said_marked s v p k _ = tt
 
 marked_home : (s t : OneKernel) (v : View) (l : Label) (p : Pid) (k : ℕ) → kernel.step s l ≡ Some t → Named s → ascends 0 s.manager.pending s.manager.sent ≡ true → AtHome (Was s p k) t (given (marked p k) (gives s (still_view s v l) (marked p k) l))

@@ -1,7 +1,9 @@
 -- Each group leaves an update that is under way standing somewhere, or says that it was handled, and nothing else.
-use Rattle.dm_movelaws.proofs.Names.{◌≡◌, ◌⊎◌, ℕ, ◌≤◌, Bool, true, false, List, [], ◌∷◌, ◌==◌, ◌&&◌, length, refl, ap, ◌∙◌, sym, subst, inl, inr, Option, None, Some, cases_Bool, false≢true, Pid, Place, MsgId, MessageKind, id_eq, plain_kind}
-use Rattle.dm_movelaws.proofs.Names.{PlainMessage, PlainWhat, Boot, id_eq-is, Step, Line, View, Pair, marked, Told, is_kernels, after_head, Point, Part, Says, Transmits, Spelled, packet_line, spelled, standing, migrates, group_of, letters}
-use Rattle.dm_movelaws.proofs.Names.{not_kernels, eq_is, not_true, parts, IsNet, fits, under_way, kernels_by, Phased, set_is, set_other, PairsFit, Sane, begun, begun_sane, said_by, update_of, by_migrates, by_outcome, group_is}
+use Rattle.dm_movelaws.proofs.Names.{topic_by, label_of, view_after, ◌≡◌, ◌⊎◌, ℕ, ◌≤◌, Bool, true, false, List, [], ◌∷◌, ◌==◌, ◌&&◌, length, refl, ap, ◌∙◌, sym, subst, inl, inr, Option, None, Some, cases_Bool, false≢true, Pid, Place, MsgId}
+use Rattle.dm_movelaws.proofs.Names.{MessageKind, id_eq, plain_kind, PlainMessage, PlainWhat, Boot, id_eq-is, Step, Line, View, Pair, marked, Told, is_kernels, after_head, Point, Part, Says, Transmits, Spelled, packet_line, spelled}
+use Rattle.dm_movelaws.proofs.Names.{standing, migrates, group_of, letters, not_kernels, eq_is, not_true, parts, IsNet, fits, under_way, kernels_by, Phased, set_is, set_other, PairsFit, Sane, begun, begun_sane, said_by, update_of}
+use Rattle.dm_movelaws.proofs.Names.{by_migrates, by_outcome, group_is}
+use Rattle.dm_movelaws.proofs.Promise.Spots.{about_stands}
 use Rattle.dm_rule.specs.Rule as rule
 use Rattle.dm_movelaws.proofs.Promise.Kept.{told_stays}
 use Rattle.dm_movelaws.proofs.Promise.Spots.{Stands}
@@ -42,7 +44,7 @@ net_goes [] j pt w net h is = let f : record { lines = []; point = pt } ≡ w = 
 net_goes (Says l ∷ ps) j pt w net h is =
     let n = next_of pt (Says l) ps w is in
     let k = said_by pt n.next l n.steps in
-    subst (λ (x : Point). Stands x.view j) n.point (net_goes ps j n.next n.rest net.1 (subst (λ (x : Point). Stands x.view j) k.is (net_stands pt.view l j net.0 h)) n.more)
+    subst (λ (x : Point). Stands x.view j) n.point (net_goes ps j n.next n.rest net.1 (subst (λ (x : Point). Stands x.view j) k.is (about_stands (view_after pt.view l) (topic_by pt.kernel (view_after pt.view l).topic (label_of l)) j (net_stands pt.view l j net.0 h))) n.more)
 net_goes (Transmits a b l ∷ ps) j pt w net h is =
     let n = next_of pt (Transmits a b l) ps w is in
     let k = said_by pt n.next (packet_line pt.view a b l) (record { lines = n.steps.lines; are = n.steps.are; leads = n.steps.leads }) in
@@ -58,7 +60,7 @@ outcome_goes b o d ps j p q place h = by_outcome (λ e. Goes j (begun o e)) b o 
   round = λ m xs box e. round_goes j (update_of p q place) (begun o (Step.Turn m)) b o m (rule.first_runnable o.kernel (o.view.queue m) (o.view.ring m)) xs (h (Step.Turn m)) e;
   handles = λ m i is msg xs box there e.
       (let w = h (Step.Turn m) in
-      handles_goes j (update_of p q place) (begun o (Step.Turn m)) b o m i msg xs w (bag_apart (begun o (Step.Turn m)) i j msg w.base.sane there w.base.own) e);
+      handles_goes j (update_of p q place) (begun o (Step.Turn m)) b o m i msg xs w there (bag_apart (begun o (Step.Turn m)) i j msg w.base.sane there w.base.own) e);
   hears = λ m i is xs box none e. turned_by b o m j p q place i is xs (id_eq i j) refl box (h (Step.Turn m)) e;
   ticks = λ m xs net w is. inl (net_goes xs j (begun o (Step.Tick m)) w net (h (Step.Tick m)).stands is);
   delivers = λ a c k xs net w is. inl (net_goes xs j (begun o (Step.Deliver a c k)) w net (h (Step.Deliver a c k)).stands is);

@@ -1,5 +1,5 @@
 -- A walk over the parts of a turn that leaves a kernel's own message standing somewhere.
-use Rattle.dm_movelaws.proofs.Names.{◌≡◌, ◌⊎◌, ℕ, ◌≤◌, ◌==◌, ◌&&◌, Bool, true, false, List, [], ◌∷◌, ◌++◌, length, refl, ap, ◌∙◌, sym, subst, inl, inr, arith, ⊤, if◌then◌else◌, Option, None, Some, cases_Bool, false≢true, Pid, MsgId}
+use Rattle.dm_movelaws.proofs.Names.{seen, ◌≡◌, ◌⊎◌, ℕ, ◌≤◌, ◌==◌, ◌&&◌, Bool, true, false, List, [], ◌∷◌, ◌++◌, length, refl, ap, ◌∙◌, sym, subst, inl, inr, arith, ⊤, if◌then◌else◌, Option, None, Some, cases_Bool, false≢true, Pid, MsgId}
 use Rattle.dm_movelaws.proofs.Names.{MessageKind, plain_kind, id_eq, bind, id_eq-is, id_eq-same, bind-is, Line, Stage, Load, View, Told, is_kernels, own_id, view_after, Receiver, Point, label_of, kernel_after, after, moved, Part, Says}
 use Rattle.dm_movelaws.proofs.Names.{Routes, Again, Owns, Transmits, Spelled, lines_of, puts, goes_out, packet_line, behind, spelled, times, sends_on, is_put, not_true, parts, one_of, touches, pair_same, fits_as, PairsFit, fits_put}
 use Rattle.dm_movelaws.proofs.Names.{fits_packet, Sane, Sayable, part_sane, Steps, said_by}
@@ -91,7 +91,7 @@ puts_fit pt next b i k q ls h is leads = puts_keep (λ x. PairsFit x.view) (λ x
 says_fit : (pt next : Point) (l : Line) → touches l ≡ false → PairsFit pt.view → Steps pt (Says l) next → PairsFit next.view
 says_fit pt next l quiet h s =
     let k = said_by pt next l s in
-    subst (λ (x : Point). PairsFit x.view) k.is (fits_as pt.view (view_after pt.view l) (pair_same pt.view l quiet) h)
+    subst (λ (x : Point). PairsFit x.view) k.is (fits_as pt.view (seen pt.kernel pt.view l) (pair_same pt.view l quiet) h)
 
 sent_fit : (pt next : Point) (a b : ℕ) (l : Load) → PairsFit pt.view → Steps pt (Transmits a b l) next → PairsFit next.view
 sent_fit pt next a b l h s =

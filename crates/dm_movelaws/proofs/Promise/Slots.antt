@@ -1,15 +1,15 @@
 -- Which holders a label gives an address to doesn't rest on the addresses that there are.
+use Rattle.dm_rule.specs.Given as request
 use Rattle.dm_movelaws.proofs.Names.{◌≡◌, ℕ, ◌+◌, Bool, true, false, List, [], ◌∷◌, ◌++◌, length, map, refl, ap, ◌∙◌, sym, ◌||◌, if◌then◌else◌, Option, None, Some, Pid, Place, pid_eq, PlainLink, first_empty, MsgId, id_of, PlainMessage}
 use Rattle.dm_movelaws.proofs.Names.{PlainWhat, Label, Reply, switchboard, PlainProcess, reg, NamedLink, OneKernel, answer_id, View, Addresses, Holder, Slot, Receiver, Sender, Enclosed, Child, Answer, Gets, gives, holder_eq, acting_place}
 use Rattle.dm_movelaws.proofs.Names.{encloses, enclosed_from, sends_what, fills_by, call_gets, receives_links, receives_what, slot_after, serves_what, child_links, creates_what, board_finds, board_keeps, manager_tells, manager_sends}
-use Rattle.dm_movelaws.proofs.Names.{manager_answers, gives_to}
+use Rattle.dm_movelaws.proofs.Names.{manager_answers, gives_to, landing_gets, board_gets, manager_gets}
 use Rattle.dm_onekernel.specs.Calls as calls
 use Rattle.dm_onekernel.specs.Pieces as pieces
 use Rattle.dm_onekernel.specs.Switchboard as board
 use Rattle.dm_onekernel.specs.Manager as manage
 use Rattle.dm_onekernel.specs.Step as kernel
 use Rattle.dm_rule.specs.Addresses as addresses
-use Rattle.dm_rule.specs.Addresses.{landing_gets, board_gets, manager_gets}
 
 abbrev pub holders : List Gets → List Holder
 holders [] = []
@@ -163,6 +163,15 @@ takes_same s v w a b id (Some m) =
     let k = manage.manager_takes s.manager s.machines (length s.images) m m.what in
     either_same (pid_eq m.to switchboard) (board_gets s v a id m.what) (board_gets s w b id m.what) (manager_gets s v a m m.what k) (manager_gets s w b m m.what k) (board_takes_same s v w a b id m.what) (manager_takes_same s v w a b m m.what k)
 
+-- requests to move
+follows_same : (a b : Addresses) (id : MsgId) (o : Option PlainMessage) → holders (request.follows a id o) ≡ holders (request.follows b id o)
+follows_same a b id None = refl
+follows_same a b id (Some m) = refl
+
+ends_same : (v w : View) (a b : Addresses) (id : MsgId) (o : Option Pid) → holders (request.ends_move v a id o) ≡ holders (request.ends_move w b id o)
+ends_same v w a b id None = refl
+ends_same v w a b id (Some p) = refl
+
 -- a row a label
 pub gives_same : (s : OneKernel) (v w : View) (a b : Addresses) (l : Label) → holders (gives s v a l) ≡ holders (gives s w b l)
 gives_same s v w a b (Label.Call p n c) = made_same v w a b p n c (kernel.running s p)
@@ -171,4 +180,6 @@ gives_same s v w a b (Label.Receive p id) = receives_same a b p id (kernel.alive
 gives_same s v w a b (Label.Served id) = serves_same s v w a b id (s.bag id)
 gives_same s v w a b (Label.Took id) = takes_same s v w a b id (s.bag id)
 gives_same s v w a b (Label.Created id child) = creates_same v w a b id child (s.bag id)
+gives_same s v w a b (Label.Asked id) = follows_same a b id (s.bag id)
+gives_same s v w a b (Label.Answered id o) = ends_same v w a b id (s.noted id)
 gives_same s v w a b _ = refl

@@ -1,7 +1,8 @@
 -- A message that stands somewhere is left standing by each line that is no label, unless it is the one that the line takes.
-use Rattle.dm_movelaws.proofs.Names.{◌≡◌, ℕ, ◌+◌, ◌≤◌, ◌==◌, ◌&&◌, false, List, [], ◌∷◌, ◌++◌, refl, ap, ◌∙◌, sym, subst, inl, inr, arith, ⊤, cases_Bool, Pid, pid_eq, MsgId, id_eq, Label, pid_eq-is, Line, Stage, View, view_after, handled}
-use Rattle.dm_movelaws.proofs.Names.{handled_first, released, receiver_of, Spot, Queue, Held, Inbox, Untaken, times, ids_at, standing, at_machine_at, at_machine_off, at_record_off, eq_is, parts, times-append, first_off, home_again}
-use Rattle.dm_movelaws.proofs.Names.{home_off, proto_off, frozen_off, accepted_off, state_off, memory_off, lacks_off, left_off, restarted_off, handled_spots, queued_spots, held_spots, forwarded_spots}
+use Rattle.dm_movelaws.proofs.Names.{About, Target, aim, about_off, ◌≡◌, ℕ, ◌+◌, ◌≤◌, ◌==◌, ◌&&◌, false, List, [], ◌∷◌, ◌++◌, refl, ap, ◌∙◌, sym, subst, inl, inr, arith, ⊤, cases_Bool, Pid, pid_eq, MsgId, id_eq, Label, pid_eq-is, Line}
+use Rattle.dm_movelaws.proofs.Names.{Stage, View, view_after, handled, handled_first, released, receiver_of, Spot, Queue, Held, Inbox, Untaken, times, ids_at, standing, at_machine_at, at_machine_off, at_record_off, eq_is, parts}
+use Rattle.dm_movelaws.proofs.Names.{times-append, first_off, home_again, home_off, proto_off, accepted_off, state_off, memory_off, lacks_off, left_off, restarted_off, handled_spots, queued_spots, held_spots, forwarded_spots}
+use Rattle.dm_rule.specs.View as view
 
 pub record Stands (v : View) (j : MsgId) : Type 0 where
   pub spot : Spot
@@ -26,6 +27,27 @@ first_stands v j f h = stands_as v (handled_first v) j (λ z. ap (times j) (firs
 handled_stands : (v : View) (i j : MsgId) → id_eq i j ≡ false → Stands v j → Stands (handled v i) j
 handled_stands v i j e h = stands_as v (handled v i) j (λ z. handled_spots v i j e z) h
 
+-- behind the line that a process is asked to move, what it takes is taken already
+abbrev pub Fronts : View → MsgId → About → Type 0
+Fronts v j (Target m) = ⊤
+Fronts v j a = Front v j
+
+pub fronts : (v : View) (j : MsgId) (a : About) → Front v j → Fronts v j a
+fronts v j (Target m) f = tt
+fronts v j _ f = f
+
+for_off : (v : View) (p : Pid) (to : ℕ) (z : Spot) → ids_at (view.frozen_for v p to) z ≡ ids_at v z
+for_off v p to (Queue m q) = refl
+for_off v p to _ = refl
+
+sets_stands : (v : View) (j : MsgId) (p : Pid) (a : About) → Fronts v j a → Stands v j → Stands (view.sets_off v p a) j
+sets_stands v j p (Target m) f h = stands_off v (view.sets_off v p (Target m)) j (λ z. for_off v p m z) h
+sets_stands v j p a f h = stands_off (handled_first v) (view.sets_off v p a) j (λ z. for_off (handled_first v) p (aim v a) z) (first_stands v j f h)
+
+-- the topic is no place
+pub about_stands : (v : View) (a : About) (j : MsgId) → Stands v j → Stands (view.about v a) j
+about_stands v a j h = stands_off v (view.about v a) j (λ z. about_off v a z) h
+
 -- what a line takes, where it takes something, is another message
 abbrev pub Spares : MsgId → View → Line → Type 0
 Spares j v (Line.Migration Stage.Asked p) = ⊤
@@ -37,7 +59,7 @@ Spares j v (Line.Updated i n) = id_eq i j ≡ false
 Spares j v (Line.Here i) = id_eq i j ≡ false
 Spares j v (Line.NoMove i) = id_eq i j ≡ false
 Spares j v (Line.Proto i) = id_eq i j ≡ false
-Spares j v (Line.Migration Stage.Frozen p) = Front v j
+Spares j v (Line.Migration Stage.Frozen p) = Fronts v j v.topic
 Spares j v (Line.Migration Stage.Accepted p) = Front v j
 Spares j v (Line.Migration Stage.StateTaken p) = Front v j
 Spares j v (Line.Migration Stage.MemoryTaken p) = Front v j
@@ -114,7 +136,7 @@ line_stands v j (Line.Updated i n) e step_ h = handled_stands v i j e h
 line_stands v j (Line.Here i) e step_ h = handled_stands v i j e h
 line_stands v j (Line.NoMove i) e step_ h = handled_stands v i j e h
 line_stands v j (Line.Proto i) e step_ h = stands_off (handled v i) (view_after v (Line.Proto i)) j (λ z. proto_off (handled v i) (v.told i) z) (handled_stands v i j e h)
-line_stands v j (Line.Migration Stage.Frozen p) e step_ h = stands_off (handled_first v) (view_after v (Line.Migration Stage.Frozen p)) j (λ z. frozen_off v p z) (first_stands v j e h)
+line_stands v j (Line.Migration Stage.Frozen p) e step_ h = sets_stands v j p v.topic e h
 line_stands v j (Line.Migration Stage.Accepted p) e step_ h = stands_off (handled_first v) (view_after v (Line.Migration Stage.Accepted p)) j (λ z. accepted_off v p z) (first_stands v j e h)
 line_stands v j (Line.Migration Stage.StateTaken p) e step_ h = stands_off (handled_first v) (view_after v (Line.Migration Stage.StateTaken p)) j (λ z. state_off v p z) (first_stands v j e h)
 line_stands v j (Line.Migration Stage.MemoryTaken p) e step_ h = stands_off (handled_first v) (view_after v (Line.Migration Stage.MemoryTaken p)) j (λ z. memory_off v p z) (first_stands v j e h)

@@ -31,6 +31,7 @@ label_spots pt t (Label.Gone id) j h is own z = handled_spots pt.view id j (bag_
 label_spots pt t (Label.Took id) j h is own z = handled_spots pt.view id j (bag_apart pt t (Label.Took id) id j h is refl own) z
 label_spots pt t (Label.Created id p) j h is own z = ap (times j) (created_off pt.view id p z) ∙ handled_spots pt.view id j (bag_apart pt t (Label.Created id p) id j h is refl own) z
 label_spots pt t (Label.NoSpace id a b) j h is own z = handled_spots pt.view id j (bag_apart pt t (Label.NoSpace id a b) id j h is refl own) z
+label_spots pt t (Label.Asked id) j h is own z = handled_spots pt.view id j (bag_apart pt t (Label.Asked id) id j h is refl own) z
 label_spots pt t _ j h is own z = refl
 
 pub label_stands : (pt : Point) (t : OneKernel) (l : Label) (j : MsgId) → Sane pt → kernel.step pt.kernel l ≡ Some t → is_kernels j ≡ true → Stands pt.view j → Stands (view_after pt.view (Line.Label l)) j

@@ -1,9 +1,9 @@
 -- A turn that handles a kernel's own message leaves another standing; an update that it handles goes on, or that is said alone.
-use Rattle.dm_movelaws.proofs.Names.{◌≡◌, ◌⊎◌, ℕ, ◌≤◌, ◌==◌, Bool, true, false, List, [], ◌∷◌, ◌++◌, length, refl, ap, ◌∙◌, sym, subst, inl, inr, if◌then◌else◌, Option, None, Some, Pid, Place, pid_eq, MsgId, MessageKind, Stage, id_eq, Boot}
-use Rattle.dm_movelaws.proofs.Names.{switchboard, manager, Line, Told, Known, Unknown, Here, Forward, Ended, Point, Part, Says, Again, Spelled, spelled, times, to_kernel, sends_on, process_told, server_told, both_lists, said_by, update_of}
-use Rattle.dm_movelaws.proofs.Names.{last_point, by_hears, behind_count, place_told}
+use Rattle.dm_movelaws.proofs.Names.{answers_move, Outcome, ◌≡◌, ◌⊎◌, ℕ, ◌≤◌, ◌==◌, Bool, true, false, List, [], ◌∷◌, ◌++◌, length, refl, ap, ◌∙◌, sym, subst, inl, inr, if◌then◌else◌, Option, None, Some, Pid, Place, pid_eq, MsgId}
+use Rattle.dm_movelaws.proofs.Names.{MessageKind, Stage, id_eq, Boot, switchboard, manager, Line, Told, Known, Unknown, Here, Forward, Ended, Point, Part, Says, Again, Spelled, spelled, times, to_kernel, sends_on, process_told, server_told}
+use Rattle.dm_movelaws.proofs.Names.{both_lists, said_by, update_of, last_point, by_hears, behind_count, place_told}
 use Rattle.dm_rule.specs.Rule as rule
-use Rattle.dm_movelaws.proofs.Promise.Spots.{Stands, Front, Spares}
+use Rattle.dm_movelaws.proofs.Promise.Spots.{Stands, Front, Spares, fronts}
 use Rattle.dm_movelaws.proofs.Promise.Stands.{sent_stands, held_this}
 use Rattle.dm_movelaws.proofs.Promise.Parts.{Goes, GoesOf, base_says, again_this, next_of, loose_stands, sends_stand}
 use Rattle.dm_movelaws.proofs.Promise.Rows.{Waits, first_row, forwards_goes}
@@ -35,7 +35,9 @@ hears_goes j t pt b o m i q ps are h k =
       told = λ p x is_about alive. record {
         accepted = λ ask. first_row j t pt (Says (Line.Migration Stage.Accepted p)) (to_kernel MessageKind.PullState home ∷ []) h k.front refl;
         lacks = λ slots blocks. first_row j t pt (Says (Line.Lacks p slots blocks)) (to_kernel MessageKind.Refuse home ∷ []) h k.front refl;
-        stays = λ kind. about (Line.Stays p) k.front;
+        stays = λ kind free. about (Line.Stays p) k.front;
+        stays_asked = λ kind n noted. first_row j t pt (Says (Line.Stays p)) (answers_move n.id Outcome.Stayed) h k.front refl;
+        restarted_asked = λ kind n noted. first_row j t pt (Says (Line.Migration Stage.Restarted p)) (answers_move n.id Outcome.Done) h k.front refl;
         state = proto MessageKind.State;
         next_chunk = proto MessageKind.PullState;
         last_chunk = first_row j t pt (Says (Line.Migration Stage.StateTaken p)) (to_kernel MessageKind.PullBlock home ∷ []) h k.front refl;
@@ -43,7 +45,7 @@ hears_goes j t pt b o m i q ps are h k =
         next_block = proto MessageKind.PullBlock;
         last_block = first_row j t pt (Says (Line.Migration Stage.MemoryTaken p)) (to_kernel MessageKind.AllTaken home ∷ []) h k.front refl;
         left = λ ids to leaves. sent_goes j t pt i p ids to (are p ∙ sym leaves.lists) h k;
-        restarted = λ kind. about (Line.Migration Stage.Restarted p) k.front;
+        restarted = λ kind free. about (Line.Migration Stage.Restarted p) k.front;
       };
       updated = λ kind. about (Line.Updated i (behind_count o.kernel o.addresses u.receiver (place_told u.about))) k.apart;
       updated_none = λ kind at_. about (Line.Updated i 0) k.apart;
@@ -52,7 +54,7 @@ hears_goes j t pt b o m i q ps are h k =
       coming = λ from at_. about (Line.Held i) k.apart;
       forwarded = λ to moves at_. forwards_goes j t pt o.addresses i u.kind manager to h k.apart;
       stays_here = λ at_. about (Line.Here i) k.apart;
-      frozen = λ to at_. first_row j t pt (Says (Line.Migration Stage.Frozen u.receiver)) (Says (Line.Migration Stage.Asked u.receiver) ∷ to_kernel MessageKind.Ask to ∷ []) h k.front refl;
+      frozen = λ to at_. first_row j t pt (Says (Line.Migration Stage.Frozen u.receiver)) (Says (Line.Migration Stage.Asked u.receiver) ∷ to_kernel MessageKind.Ask to ∷ []) h (fronts pt.view j pt.view.topic k.front) refl;
     })
 
 -- the update itself

@@ -1,9 +1,9 @@
 -- Each line keeps that whoever is told of is somebody.
-use Rattle.dm_movelaws.proofs.Names.{◌≡◌, ◌⊎◌, ℕ, ◌<◌, true, false, List, is_some, refl, ap, ◌∙◌, sym, subst, inl, inr, arith, Option, None, Some, cases_Bool, false≢true, nat_tests, Pid, MsgId, MessageKind, id_eq, plain_kind, Stage}
-use Rattle.dm_movelaws.proofs.Names.{PlainMessage, PlainWhat, Label, Life, OneKernel, id_eq-is, LifeGrows, after_step, Sound, bind-is, Line, Receiver, Part, Says, Routes, Again, Owns, Transmits, Spelled, lines_of, puts, packet_line}
-use Rattle.dm_movelaws.proofs.Names.{spelled, Point, label_of, kernel_after, moved, after, View, Told, About, Of, Known, Forward, view_after, after_put, handled, receiver_of, own_id, is_kernels, is_put, not_kernels, grown_none, put_at}
-use Rattle.dm_movelaws.proofs.Names.{PacketsKeep, put_told_off, Sane, AllSayable, part_sane, label_topic, Within, HeadIn, line_within, has_bytes, is_server, awaits, WhatFits, KernelFits, step_constant, said_by, fits_step, IsReal, Kernel}
-use Rattle.dm_movelaws.proofs.Names.{Server, Made, IsAboutReal, or_cases, queued_topic, held_topic, taken_topic, told_kept, by_parts}
+use Rattle.dm_movelaws.proofs.Names.{topic_by, machine_in, machine_of, sets, InOrder, ◌≡◌, ◌⊎◌, ℕ, ◌<◌, true, false, List, is_some, refl, ap, ◌∙◌, sym, subst, inl, inr, arith, Option, None, Some, cases_Bool, false≢true, nat_tests, Pid}
+use Rattle.dm_movelaws.proofs.Names.{MsgId, MessageKind, id_eq, plain_kind, Stage, PlainMessage, PlainWhat, Label, Life, OneKernel, id_eq-is, LifeGrows, after_step, Sound, bind-is, Line, Receiver, Part, Says, Routes, Again, Owns, Transmits}
+use Rattle.dm_movelaws.proofs.Names.{Spelled, lines_of, puts, packet_line, spelled, Point, label_of, kernel_after, moved, after, View, Told, About, Of, Known, Forward, view_after, after_put, handled, receiver_of, own_id, is_kernels, is_put}
+use Rattle.dm_movelaws.proofs.Names.{not_kernels, grown_none, put_at, PacketsKeep, put_told_off, Sane, AllSayable, part_sane, label_topic, Within, HeadIn, line_within, has_bytes, is_server, awaits, WhatFits, KernelFits, step_constant}
+use Rattle.dm_movelaws.proofs.Names.{said_by, fits_step, IsReal, Kernel, Server, Made, IsAboutReal, or_cases, queued_topic, held_topic, taken_topic, told_kept, by_parts}
 use Rattle.dm_rule.specs.View as view
 use Rattle.dm_movelaws.proofs.Ends.Sends.{puts_lead}
 use Rattle.dm_movelaws.proofs.Ends.Smooth.{told_by}
@@ -34,10 +34,10 @@ made_by : (a b : Option Life) → LifeGrows a b → is_some a ≡ true → is_so
 made_by a (Some l) g e = refl
 made_by a None g e = absurd (false≢true (sym (ap is_some (grown_none a None g refl)) ∙ e))
 
-step_rises : (r e : MsgId → ℕ) (s t : OneKernel) (o : Option Label) → kernel_after s o ≡ Some t → Sound r e s → KernelFits s → Rises s t × KernelFits t
-step_rises r e s t None is h fits = let f : s ≡ t = cc in subst (λ (u : OneKernel). Rises s u × KernelFits u) f (rises_same s, fits)
-step_rises r e s t (Some l) is h fits =
-    (record { machines = (step_constant s t l is).machines; made = λ q some. made_by (s.processes q) (t.processes q) ((after_step r e s t l is h).grown.lives q) some }, fits_step r e s t l is h fits)
+step_rises : (r e : MsgId → ℕ) (s t : OneKernel) (o : Option Label) → kernel_after s o ≡ Some t → Sound r e s → InOrder s.manager → KernelFits s → Rises s t × InOrder t.manager × KernelFits t
+step_rises r e s t None is h order fits = let f : s ≡ t = cc in subst (λ (u : OneKernel). Rises s u × InOrder u.manager × KernelFits u) f (rises_same s, order, fits)
+step_rises r e s t (Some l) is h order fits =
+    (record { machines = (step_constant s t l is).machines; made = λ q some. made_by (s.processes q) (t.processes q) ((after_step r e s t l is h).grown.lives q) some }, (step_constant s t l is).pending order, fits_step r e s t l is h order fits)
 
 has_made : (s : OneKernel) (q : Pid) (n : ℕ) (l : Option Life) → s.processes q ≡ l → has_bytes n l ≡ true → IsReal s q
 has_made s q n (Some l) is e = Made (ap is_some is)
@@ -60,14 +60,15 @@ receiver_real s i m PlainWhat.Gone e = subst (IsReal s) (sym e.0) (waits_made s 
 receiver_real s i m (PlainWhat.Create image links) e = let num = e.0 in let home = e.1 in Kernel num (grind (arith, nat_tests))
 receiver_real s i m (PlainWhat.Created child) e = subst (IsReal s) (sym e.0) (Server refl)
 receiver_real s i m PlainWhat.NoRoom e = subst (IsReal s) (sym e.0) (Server refl)
-receiver_real s i m (PlainWhat.Move machine) e = absurd e
-receiver_real s i m (PlainWhat.Moved outcome) e = absurd e
+receiver_real s i m (PlainWhat.Move machine) e = has_made s m.to 0 (s.processes m.to) refl e.0
+receiver_real s i m (PlainWhat.Moved outcome) e = subst (IsReal s) (sym e.0) (Server refl)
 receiver_real s i m _ e = has_made s m.to 0 (s.processes m.to) refl e
 
 -- what stands between the lines of a group that begins at o
 pub record Reals (o pt : Point) : Type 0 where
   pub within : Within pt.kernel.machines pt.view
   pub fits : KernelFits pt.kernel
+  pub order : InOrder pt.kernel.manager
   pub rises : Rises o.kernel pt.kernel
   pub kept : (i : MsgId) (t : Told) → o.view.told i ≡ Some t → pt.view.told i ≡ Some t
   pub own : (i : MsgId) (t : Told) → pt.view.told i ≡ Some t → is_kernels i ≡ true → i.from.home < pt.kernel.machines
@@ -96,7 +97,7 @@ told_at o pt i None t is some h e = absurd (false≢true some)
 told_at o pt i (Some u) t is some h e = let f : Some u ≡ Some t = sym (h.kept i u is) ∙ e in is ∙ f
 
 line_topic : (o pt : Point) (l : Line) → Receivers o → LineReal o l → Reals o pt → IsAboutReal pt.kernel (view_after pt.view l).topic
-line_topic o pt (Line.Migration Stage.Frozen p) known need h = real_rises o.kernel pt.kernel p h.rises need
+line_topic o pt (Line.Migration Stage.Frozen p) known need h = subst (IsAboutReal pt.kernel) (sym (sets pt.view p pt.view.topic).topic) (real_rises o.kernel pt.kernel p h.rises need)
 line_topic o pt (Line.Migration Stage.Accepted p) known need h = real_rises o.kernel pt.kernel p h.rises need
 line_topic o pt (Line.Migration Stage.StateTaken p) known need h = real_rises o.kernel pt.kernel p h.rises need
 line_topic o pt (Line.Migration Stage.MemoryTaken p) known need h = real_rises o.kernel pt.kernel p h.rises need
@@ -114,6 +115,20 @@ line_topic o pt (Line.Head d) known need h = absurd need
 line_topic o pt (Line.Put a b i k q) known need h = absurd need
 line_topic o pt _ known need h = h.topic
 
+-- where a process is asked to move, the group is about a machine
+machine_real : (s : OneKernel) (w : PlainWhat) → IsAboutReal s (machine_of w)
+machine_real s (PlainWhat.Move machine) = tt
+machine_real s _ = tt
+
+asked_real : (s : OneKernel) (o : Option PlainMessage) → IsAboutReal s (machine_in o)
+asked_real s None = tt
+asked_real s (Some m) = machine_real s m.what
+
+topic_real : (s : OneKernel) (a : About) (o : Option Label) → IsAboutReal s a → IsAboutReal s (topic_by s a o)
+topic_real s a None h = h
+topic_real s a (Some (Label.Asked i)) h = asked_real s (s.bag i)
+topic_real s a (Some _) h = h
+
 no_put : (o : Point) (l : Line) → LineReal o l → is_put l ≡ false
 no_put o (Line.Put a b i k q) h = absurd h
 no_put o l h = refl
@@ -127,16 +142,18 @@ line_reals o pt t l known need is sane h =
     let s = pt.kernel in
     let w = view_after pt.view l in
     let same : (i : MsgId) → w.told i ≡ pt.view.told i = told_by pt.view l (no_put o l need) in
-    let (rises, fits) = step_rises sane.r sane.e s t (label_of l) is sane.sound h.fits in
+    let (rises, order, fits) = step_rises sane.r sane.e s t (label_of l) is sane.sound h.order h.fits in
+    let within = line_within s.machines pt.view l (no_head o s.machines l need) h.within in
     record {
-      within = subst (λ (k : ℕ). Within k w) (sym rises.machines) (line_within s.machines pt.view l (no_head o s.machines l need) h.within);
+      within = subst (λ (k : ℕ). Within k (moved pt l t).view) (sym rises.machines) (record { known = within.known; acting = within.acting });
       fits = fits;
+      order = order;
       rises = rises_on o.kernel s t h.rises rises;
       kept = λ i u e. same i ∙ h.kept i u e;
       own = λ i u e mine. subst (λ (k : ℕ). i.from.home < k) (sym rises.machines) (h.own i u (sym (same i) ∙ e) mine);
       receiver = λ i u e other. real_rises s t u.receiver rises (h.receiver i u (sym (same i) ∙ e) other);
       about = λ i u e. about_rises s t u.about rises (h.about i u (sym (same i) ∙ e));
-      topic = about_rises s t w.topic rises (line_topic o pt l known need h);
+      topic = about_rises s t (moved pt l t).view.topic rises (topic_real s w.topic (label_of l) (line_topic o pt l known need h));
     }
 
 -- a put
@@ -170,6 +187,7 @@ put_reals o pt b i k q new h =
     record {
       within = line_within s.machines v (Line.Put v.acting b i k q) tt h.within;
       fits = h.fits;
+      order = h.order;
       rises = h.rises;
       kept = λ j t e. told_kept v v.acting b i k q j t (h.kept j t e);
       own = λ j t e mine. elim (put_or v v.acting b i k q j t e) [
@@ -191,6 +209,7 @@ packet_reals : (o : Point) → PacketsKeep (Reals o)
 packet_reals o pt a b k l h = record {
   within = line_within pt.kernel.machines pt.view (Line.Packet a b k l) tt h.within;
   fits = h.fits;
+      order = h.order;
   rises = h.rises;
   kept = h.kept;
   own = h.own;

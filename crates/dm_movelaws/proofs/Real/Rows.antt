@@ -1,9 +1,10 @@
 -- The processes that the parts of a group are about are somebody's.
-use Rattle.dm_movelaws.proofs.Names.{◌≡◌, ℕ, true, false, List, [], ◌∷◌, ◌++◌, is_some, refl, ap, ◌∙◌, sym, subst, ⊤, Option, None, Some, false≢true, Pid, pid_eq, MsgId, MessageKind, Stage, Boot, manager, pid_eq-same, alive-is, Step, Line}
-use Rattle.dm_movelaws.proofs.Names.{to_kernel, sends_on, migrates, Part, Says, Routes, Again, Owns, Transmits, Point, Told, Here, IsNetLine, IsNet, IsReal, Made, by_migrates, by_net, by_outcome, by_forwards, by_hears}
+use Rattle.dm_movelaws.proofs.Names.{Loose, loose_handles, PlainMessage, plain_kind, ◌≡◌, ℕ, true, false, List, [], ◌∷◌, ◌++◌, is_some, refl, ap, ◌∙◌, sym, subst, ⊤, Option, None, Some, false≢true, Pid, pid_eq, MsgId, MessageKind, Stage}
+use Rattle.dm_movelaws.proofs.Names.{Boot, manager, pid_eq-same, alive-is, Step, Line, to_kernel, sends_on, migrates, Part, Says, Routes, Again, Owns, Transmits, Point, Told, Here, IsNetLine, IsNet, IsReal, Made, by_migrates, by_net}
+use Rattle.dm_movelaws.proofs.Names.{by_outcome, by_forwards, by_hears}
 use Rattle.dm_rule.specs.Rule as rule
 use Rattle.dm_movelaws.proofs.Stages.Lines.{MildLine, AllMild}
-use Rattle.dm_movelaws.proofs.Stages.Turns.{round_mild, handles_mild}
+use Rattle.dm_movelaws.proofs.Stages.Turns.{round_mild}
 
 -- a row a line, seen from where its group begins
 abbrev pub LineReal : Point → Line → Type 0
@@ -82,7 +83,9 @@ hears_real b o m i q ps told here = by_hears (AllReal o) b o m i q ps (λ t is. 
       record {
         accepted = λ ask. (h, (tt, tt));
         lacks = λ slots blocks. (h, (tt, tt));
-        stays = λ kind. (tt, tt);
+        stays = λ kind free. (tt, tt);
+        stays_asked = λ kind n noted. (tt, (tt, (tt, tt)));
+        restarted_asked = λ kind n noted. (h, (tt, (tt, tt)));
         state = (tt, (tt, tt));
         next_chunk = (tt, (tt, tt));
         last_chunk = (h, (tt, tt));
@@ -90,7 +93,7 @@ hears_real b o m i q ps told here = by_hears (AllReal o) b o m i q ps (λ t is. 
         next_block = (tt, (tt, tt));
         last_block = (h, (tt, tt));
         left = λ ids to leaves. (h, sends_real o to ids (Says (Line.Migration Stage.Left p) ∷ to_kernel MessageKind.Restart i.from.home ∷ []) (h, (tt, tt)));
-        restarted = λ kind. (h, tt);
+        restarted = λ kind free. (h, tt);
       }
       );
   updated = λ kind. (tt, tt);
@@ -102,6 +105,15 @@ hears_real b o m i q ps told here = by_hears (AllReal o) b o m i q ps (λ t is. 
   stays_here = λ at_. (tt, tt);
   frozen = λ to at_. (let h = here m t.receiver at_.known in (h, (h, (tt, tt))));
 })
+
+-- what a turn says of a message of the bag
+real_loose : (o : Point) → Loose (AllReal o)
+real_loose o = record { none = tt; label = λ l ps h. (tt, h); routes = λ i ps h. (tt, h) }
+
+handles_real : (b : Boot) (o : Point) (m : ℕ) (i : MsgId) (msg : PlainMessage) (ps : List Part) → FrontTold o (Some i) → HereReal o → rule.handles b o m i msg ≡ Some ps → AllReal o ps
+handles_real b o m i msg ps told here e =
+    loose_handles (AllReal o) (AllReal o) (real_loose o) (λ qs h. h) b o m i msg ps (λ at_. (tt, tt)) (tt, tt) (λ to at_ what apart. (let h = here m msg.to at_.known in (tt, (h, (h, (tt, tt))))))
+    (λ to moves at_. by_forwards (AllReal o) o.addresses i (plain_kind msg.what) msg.sender to (told i refl, (tt, tt)) (told i refl, (tt, (tt, tt)))) e
 
 -- what stands in an inbox was told of
 abbrev pub InboxTold : Point → Type 0
@@ -117,7 +129,7 @@ migrates_real o q = by_migrates (AllReal o) o q (tt, tt) (tt, tt) (λ n off is. 
 pub outcome_real : (b : Boot) (o : Point) (d : Step) (ps : List Part) → InboxTold o → HereReal o → rule.outcome b o d ≡ Some ps → AllReal o ps
 outcome_real b o d ps told here = by_outcome (λ x. AllReal o) b o d ps (record {
   round = λ m xs box e. mild_real o None xs (λ i k. cc) (λ p. round_mild p None b o m (rule.first_runnable o.kernel (o.view.queue m) (o.view.ring m)) xs e);
-  handles = λ m i is msg xs box there e. mild_real o (Some i) xs (front_is o m i is told box) (λ p. handles_mild p b o m i msg xs e);
+  handles = λ m i is msg xs box there e. handles_real b o m i msg xs (front_is o m i is told box) here e;
   hears = λ m i is xs box none e. hears_real b o m i (o.view.told i) xs (front_is o m i is told box) here e;
   ticks = λ m. net_real o;
   delivers = λ a c k. net_real o;

@@ -1,9 +1,9 @@
 -- Wherever the rule leads, each message that its sender counts was put.
-use Rattle.dm_movelaws.proofs.Names.{◌≡◌, ◌⊎◌, ℕ, Bool, true, false, is_some, List, [], ◌∷◌, refl, ap, ◌∙◌, sym, subst, inl, inr, arith, if◌then◌else◌, Option, None, Some, cases_Bool, false≢true, Pid, MsgId, MessageKind, id_eq, plain_kind}
-use Rattle.dm_movelaws.proofs.Names.{PlainMessage, Boot, Label, OneKernel, id_eq-is, Sound, bind-is, Step, Line, Receiver, Part, Says, Routes, Again, Owns, Transmits, Spelled, puts, packet_line, spelled, Point, label_of, kernel_after}
-use Rattle.dm_movelaws.proofs.Names.{moved, group_of, Inbox, Queue, StandsRight, standing, View, Told, view_after, own_id, BagStep, out_of, bag_sends, bag_ran, bag_call, bag_wait, bag_out, bag_end, bag_refuse, bag_receive, bag_dropped}
-use Rattle.dm_movelaws.proofs.Names.{bag_gone, bag_no_space, bag_created, bag_served, bag_took, group_is, stands_right, is_put, hushed, hidden, put_told_off, Sane, AllSayable, part_sane, outcome_sayable, Rides, Steps, said_by, again_rides}
-use Rattle.dm_movelaws.proofs.Names.{begun, begun_sane, Run, by_parts}
+use Rattle.dm_movelaws.proofs.Names.{bag_asked, bag_answered, answer_id, ◌≡◌, ◌⊎◌, ℕ, Bool, true, false, is_some, List, [], ◌∷◌, refl, ap, ◌∙◌, sym, subst, inl, inr, arith, if◌then◌else◌, Option, None, Some, cases_Bool, false≢true, Pid}
+use Rattle.dm_movelaws.proofs.Names.{MsgId, MessageKind, id_eq, plain_kind, PlainMessage, Boot, Label, OneKernel, id_eq-is, Sound, bind-is, Step, Line, Receiver, Part, Says, Routes, Again, Owns, Transmits, Spelled, puts, packet_line}
+use Rattle.dm_movelaws.proofs.Names.{spelled, Point, label_of, kernel_after, moved, group_of, Inbox, Queue, StandsRight, standing, View, Told, view_after, own_id, BagStep, out_of, bag_sends, bag_ran, bag_call, bag_wait, bag_out, bag_end}
+use Rattle.dm_movelaws.proofs.Names.{bag_refuse, bag_receive, bag_dropped, bag_gone, bag_no_space, bag_created, bag_served, bag_took, group_is, stands_right, is_put, hushed, hidden, put_told_off, Sane, AllSayable, part_sane}
+use Rattle.dm_movelaws.proofs.Names.{outcome_sayable, Rides, Steps, said_by, again_rides, begun, begun_sane, Run, by_parts}
 use Rattle.dm_onekernel.specs.Step as kernel
 use Rattle.dm_rule.specs.View as view
 use Rattle.dm_movelaws.proofs.Ends.Sends.{puts_lead}
@@ -55,6 +55,8 @@ stays_or_goes r e s t (Label.Gone id) i is h there = stays_by e s t (Some id) _ 
 stays_or_goes r e s t (Label.Took id) i is h there = stays_by e s t (Some id) _ i (bag_took r e s t id is h).is there
 stays_or_goes r e s t (Label.Created id p) i is h there = stays_by e s t (Some id) _ i (bag_created r e s t id p is h) there
 stays_or_goes r e s t (Label.NoSpace id a b) i is h there = stays_by e s t (Some id) _ i (bag_no_space r e s t id a b is h) there
+stays_or_goes r e s t (Label.Asked id) i is h there = stays_by e s t (Some id) None i (bag_asked e s t id is) there
+stays_or_goes r e s t (Label.Answered id o) i is h there = stays_by e s t None (Some (answer_id id)) i (bag_answered r e s t id o is h) there
 
 -- a line that is no put
 same_told : (v : View) (l : Line) (i : MsgId) → is_put l ≡ false → IsTold v i → IsTold (view_after v l) i

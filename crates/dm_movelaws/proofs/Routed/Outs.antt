@@ -66,6 +66,8 @@ handles_outs P b o m id msg ps h q = by_handles (AllOuts P) b o m id msg ps (rec
   served = λ here mild. (just P id h, tt);
   answers = λ here mild i. (just P id h, (tt, tt));
   kills = λ here kills. (just P id h, drops_outs P (o.view.queue m msg.to) (q msg.to));
+  moved = λ here what. (just P id h, (nothing P, (tt, tt)));
+  sets_off = λ to here what apart. (just P id h, (tt, (tt, (tt, tt))));
   gone = λ ended. (just P id h, (tt, tt));
   dropped = λ ended. (just P id h, tt);
   leaving = λ to at_. (tt, tt);
@@ -79,7 +81,7 @@ outs_line P (Line.Label l) h = absurd h
 outs_line P _ h = tt
 
 hears_outs : (P : MsgId → Type 0) (b : Boot) (o : Point) (m : ℕ) (id : MsgId) (q : Option Told) (ps : List Part) → rule.hears b o m id q ≡ Some ps → AllOuts P ps
-hears_outs P b o m id q ps = hears_kept (AllOuts P) (record { none = tt; says = λ l ps h k. (outs_line P l h, k); again = λ i to ps k. (tt, k); owns = λ k q to ps h. (tt, h) }) b o m id q ps
+hears_outs P b o m id q ps = hears_kept (AllOuts P) (record { none = tt; says = λ l ps h k. (outs_line P l h, k); again = λ i to ps k. (tt, k); owns = λ k q to ps h. (tt, h); answers = λ i r. (nothing P, (tt, tt)) }) b o m id q ps
 
 -- deliveries, repeats and requests to move have none
 net_line : (P : MsgId → Type 0) (l : Line) → IsNetLine l → LineOuts P l

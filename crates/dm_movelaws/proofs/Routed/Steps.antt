@@ -1,7 +1,7 @@
 -- A step of the kernel without machines counts no message as sent that it doesn't put into the bag.
-use Rattle.dm_movelaws.proofs.Names.{◌≡◌, ◌⊎◌, ℕ, ◌+◌, Bool, true, false, is_some, nat_lt, length, refl, ap, ◌∙◌, sym, inl, inr, arith, if◌then◌else◌, take, drop, Option, None, Some, cases_Bool, false≢true, nat_tests, Pid, pid_eq, MsgId}
-use Rattle.dm_movelaws.proofs.Names.{id_eq, id_of, PlainMessage, PlainWhat, Label, Why, switchboard, manager, PlainProcess, Life, Alive, OneKernel, with_process, with_sent, answer_to, without_message, pid_eq-is, id_eq-same, Sent, sent_at}
-use Rattle.dm_movelaws.proofs.Names.{ServerSends, board_takes_lem, manager_takes_lem, lands-is, Sent-from, name_is, by_step}
+use Rattle.dm_movelaws.proofs.Names.{with_note, ◌≡◌, ◌⊎◌, ℕ, ◌+◌, Bool, true, false, is_some, nat_lt, length, refl, ap, ◌∙◌, sym, inl, inr, arith, if◌then◌else◌, take, drop, Option, None, Some, cases_Bool, false≢true, nat_tests, Pid}
+use Rattle.dm_movelaws.proofs.Names.{pid_eq, MsgId, id_eq, id_of, PlainMessage, PlainWhat, Label, Why, switchboard, manager, PlainProcess, Life, Alive, OneKernel, with_process, with_sent, answer_to, without_message, pid_eq-is, id_eq-same}
+use Rattle.dm_movelaws.proofs.Names.{Sent, sent_at, ServerSends, board_takes_lem, manager_takes_lem, lands-is, Sent-from, name_is, by_step}
 use Rattle.dm_onekernel.specs.Kernel.{Ended}
 use Rattle.dm_onekernel.specs.Kernel as kernels
 use Rattle.dm_onekernel.specs.Pieces as pieces
@@ -158,7 +158,9 @@ step_counts s t l = by_step (CountsSo s) s t l (record {
   receives = λ p id y is w c. (let v = step.goes_on (without_message s id) p y in counts_quiet s v (set_quiet s v p w.x (Alive y) w.alive (alive_fewer w.x y w.is.0) refl refl refl));
   refuses = λ p id c d y is w e. goes_counts s p w.x y w.alive w.is.0;
   dropped = λ id m y is w e. answers_counts s id None;
-  gone = λ id m y is w e. answers_counts s id (Some (answer_to m PlainWhat.Gone));
+  gone = λ id m y is w v e. answers_counts s id (Some (answer_to m v));
+  asked = λ id m x machine is w e. (let u = with_note (without_message s id) m.to (record { id = id; asker = m.sender }) in counts_quiet s u (quiet_same s u refl refl refl));
+  answered = λ id o p n is f. counts_quiet s (service.move_ended s id p n o) (quiet_same s (service.move_ended s id p n o) refl refl refl);
   stops = λ id m x b is w e. (let y = record x { stopped = b } in changed_counts s (service.changed s id m y) id m x y w.alive refl refl refl refl);
   kills = λ id m x is w e.
       (let v = with_process (without_message s id) m.to (Ended Why.Killed) in

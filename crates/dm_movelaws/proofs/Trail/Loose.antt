@@ -1,5 +1,5 @@
 -- Lines, puts and packets that fit the trails anywhere, and leave each process where it is.
-use Rattle.dm_movelaws.proofs.Names.{◌≡◌, ℕ, ◌+◌, ◌==◌, not, Bool, true, false, List, [], ◌∷◌, filter, length, refl, ap, ◌∙◌, sym, subst, if◌then◌else◌, Option, None, Some, Pid, pid_of, MsgId, MessageKind, Stage, plain_kind, Label}
+use Rattle.dm_movelaws.proofs.Names.{seen, ◌≡◌, ℕ, ◌+◌, ◌==◌, not, Bool, true, false, List, [], ◌∷◌, filter, length, refl, ap, ◌∙◌, sym, subst, if◌then◌else◌, Option, None, Some, Pid, pid_of, MsgId, MessageKind, Stage, plain_kind, Label}
 use Rattle.dm_movelaws.proofs.Names.{OneKernel, entry, reception, id_eq-same, after_step, bind-is, Line, Load, View, Told, About, NothingElse, own_id, view_after, handled, after_proto, follows_up, asks_on, taken_id, receiver_of, Receiver}
 use Rattle.dm_movelaws.proofs.Names.{Gets, given, unmoved, goes_between, own_gives, Point, moved, after, Part, Says, Routes, Owns, Transmits, puts, goes_out, packet_line, to_kernel, Trails, IsOn, trails_after, IsNet, IsNetLine, SaidOn}
 use Rattle.dm_movelaws.proofs.Names.{not_kernels, queued_known, held_known, dropped_known, proto_known, Sane, Outside, Treads, LineFits, LabelFits, KnownFits, PutFits, Rides, Steps, said_by, own_outside, own_fresh, queued_moves, held_moves}
@@ -90,7 +90,7 @@ to_restart m = (between_loose MessageKind.Restart m (λ pt. refl) (λ e. cc), tt
 pub line_loose : (l : Line) → ((pt : Point) (t : Trails) → Sane pt → Treads pt t → LineFits pt t l) → ((v : View) (t : Trails) → Places v t → Places (view_after v l) (trails_after v t l)) → Loose (Says l)
 line_loose l fits leaves = record {
   fits = fits;
-  leaves = λ pt next t s h. (let k = said_by pt next l s in subst (λ (q : Point). Places q.view (trails_after pt.view t l)) k.is (leaves pt.view t h));
+  leaves = λ pt next t s h. (let k = said_by pt next l s in subst (λ (q : Point). Places q.view (trails_after pt.view t l)) k.is (places_same (view_after pt.view l) (seen pt.kernel pt.view l) (trails_after pt.view t l) (λ m q. refl) (λ q. refl) (leaves pt.view t h)));
 }
 
 asks_moves : (v : View) (a : About) → (asks_on v a).moves ≡ v.moves
@@ -183,7 +183,7 @@ label_fits pt t l sane said known = record { named = λ i m there. sane.sound.en
 
 -- a label and then parts that fit anywhere
 pub label_walks : (pt : Point) (t : Trails) (l : Label) (ps : List Part) → (Treads pt t → SaidOn (IsOn t) pt.kernel pt.view pt.addresses l × KnownFits pt t l × Places (view_after pt.view (Line.Label l)) t) → AllLoose ps → Walks pt t (rule.says l ∷ ps)
-label_walks pt t l ps need loose = first_walks (Line.Label l) ps pt t (λ sane on. let k = need on in (label_fits pt t l sane k.0 k.1, λ next s. subst (λ (q : Point). Places q.view t) s.is k.2)) loose
+label_walks pt t l ps need loose = first_walks (Line.Label l) ps pt t (λ sane on. let k = need on in (label_fits pt t l sane k.0 k.1, λ next s. subst (λ (q : Point). Places q.view t) s.is (places_same (view_after pt.view (Line.Label l)) (seen pt.kernel pt.view (Line.Label l)) t (λ m q. refl) (λ q. refl) k.2))) loose
 
 pub dropped_loose : (i : MsgId) → Loose (rule.says (Label.Dropped i))
 dropped_loose i =

@@ -1,9 +1,9 @@
 -- Whom a place is named for is a kernel, a server or a process that was made.
-use Rattle.dm_movelaws.proofs.Names.{◌≡◌, ℕ, ◌+◌, ◌==◌, ◌&&◌, ◌||◌, Bool, true, false, not, filter, is_some, List, [], ◌∷◌, refl, ap, ◌∙◌, sym, subst, inl, inr, cases_Bool, false≢true, if◌then◌else◌, Option, None, Some, Pid, Place, MsgId}
-use Rattle.dm_movelaws.proofs.Names.{MessageKind, id_eq, Boot, Label, IsValid, Life, OneKernel, Step, after_step, Line, Stage, Leads, Spelled, Point, first_point, label_of, kernel_after, group_of, at_record, View, Told, About, NothingElse}
-use Rattle.dm_movelaws.proofs.Names.{Target, Of, Known, Unknown, Here, Frozen, Incoming, Forward, Ended, view_after, handled, receiver_of, first_told, target_of, front_told, front_of, gone_to, served_told, forward_about, hushed, grown_none}
-use Rattle.dm_movelaws.proofs.Names.{Phased, queued_known, held_known, dropped_known, starts, start_known, Sane, label_topic, is_server, is_fixed, KnownStands, agrees, group_keeps, Loud, keeps_by, set_all, killed_or, named_real, Both}
-use Rattle.dm_movelaws.proofs.Names.{both_start, both_group, run_start, run_group, is_made, IsNamed, ByHolder, ByOwn, ByRequest, ByUpdate, ByForward, queued_topic, held_topic, taken_topic, or_first}
+use Rattle.dm_movelaws.proofs.Names.{sets, ◌≡◌, ℕ, ◌+◌, ◌==◌, ◌&&◌, ◌||◌, Bool, true, false, not, filter, is_some, List, [], ◌∷◌, refl, ap, ◌∙◌, sym, subst, inl, inr, cases_Bool, false≢true, if◌then◌else◌, Option, None, Some, Pid, Place}
+use Rattle.dm_movelaws.proofs.Names.{MsgId, MessageKind, id_eq, Boot, Label, IsValid, Life, OneKernel, Step, after_step, Line, Stage, Leads, Spelled, Point, first_point, label_of, kernel_after, group_of, at_record, View, Told, About}
+use Rattle.dm_movelaws.proofs.Names.{NothingElse, Target, Of, Known, Unknown, Here, Frozen, Incoming, Forward, Ended, view_after, handled, receiver_of, first_told, target_of, front_told, front_of, gone_to, served_told, forward_about}
+use Rattle.dm_movelaws.proofs.Names.{hushed, grown_none, Phased, queued_known, held_known, dropped_known, starts, start_known, Sane, label_topic, is_server, is_fixed, KnownStands, agrees, group_keeps, Loud, keeps_by, set_all, killed_or}
+use Rattle.dm_movelaws.proofs.Names.{named_real, Both, both_start, both_group, run_start, run_group, is_made, IsNamed, ByHolder, ByOwn, ByRequest, ByUpdate, ByForward, queued_topic, held_topic, taken_topic, or_first}
 use Rattle.dm_onekernel.specs.Step as kernel
 use Rattle.dm_rule.specs.View as view
 use Rattle.dm_rulelaws.proofs.Found.Core.{IsReal}
@@ -73,6 +73,7 @@ head_made s v _ p m c e = no_place (WasMade s p) NothingElse p m c refl e
 stage_made : (s : OneKernel) (v : View) (q : Pid) (k : Stage) (p : Pid) (m c : ℕ) → Passing s v → (view.after_stage v q k).topic ≡ view.Place p m c → WasMade s p
 stage_made s v q Stage.Asked p m c h e = h.topic p m c e
 stage_made s v q Stage.Restarted p m c h e = h.topic p m c e
+stage_made s v q Stage.Frozen p m c h e = no_of (WasMade s p) q p m c (sym (sets v q v.topic).topic ∙ e)
 stage_made s v q _ p m c h e = no_of (WasMade s p) q p m c e
 
 line_made : (s : OneKernel) (v : View) (l : Line) → Passing s v → (p : Pid) (m c : ℕ) → (view_after v l).topic ≡ view.Place p m c → WasMade s p

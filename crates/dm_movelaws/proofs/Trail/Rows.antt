@@ -1,13 +1,12 @@
 -- What each row of a turn says fits the trails: processes that run, and messages of the bag.
-use Rattle.dm_movelaws.proofs.Names.{◌≡◌, ℕ, ◌+◌, Bool, true, false, List, [], ◌∷◌, refl, ap, ◌∙◌, sym, subst, arith, ◌||◌, if◌then◌else◌, slice_get, Option, None, Some, Pid, pid_of, MsgId, MessageKind, Label, Line, plain_kind}
-use Rattle.dm_movelaws.proofs.Names.{PlainMessage, Boot, Why, first_number, View, Told, Unknown, Here, Forward, Ended, handled, kills, served_told, view_after, Receiver, Point, moved, Part, Says, Routes, Nowhere, forwards_on, Trails, Trail}
-use Rattle.dm_movelaws.proofs.Names.{ReceivedAt, ended_on, is_fixed, Unborn, said_by, Stops, by_round, by_handles}
+use Rattle.dm_movelaws.proofs.Names.{Stage, to_kernel, Frozen, answers_move, leaves_for, Outcome, aim, sets, asked_noted, ◌≡◌, ℕ, ◌+◌, Bool, true, false, List, [], ◌∷◌, refl, ap, ◌∙◌, sym, subst, arith, ◌||◌, if◌then◌else◌, slice_get}
+use Rattle.dm_movelaws.proofs.Names.{Option, None, Some, Pid, pid_of, MsgId, MessageKind, Label, Line, plain_kind, PlainMessage, Boot, Why, first_number, View, Told, Unknown, Here, Forward, Ended, handled, kills, served_told, view_after}
+use Rattle.dm_movelaws.proofs.Names.{Receiver, Point, moved, Part, Says, Routes, Nowhere, forwards_on, Trails, Trail, ReceivedAt, ended_on, is_fixed, Unborn, said_by, Stops, by_round, by_handles, StoodOnTrail}
 use Rattle.dm_onekernel.specs.Pieces as pieces
 use Rattle.dm_rule.specs.Rule as rule
-use Rattle.dm_rule.specs.Trails.{StoodOnTrail}
 use Rattle.dm_movelaws.proofs.Trail.Placed.{is_held, Placed, Places, Learnt, placed_held, places_set, places_held}
-use Rattle.dm_movelaws.proofs.Trail.Walks.{Walks, AllLoose, loose_walks}
-use Rattle.dm_movelaws.proofs.Trail.Loose.{places_same, label_fits, label_walks, routes_loose, idle_loose, queued_loose, held_loose, dropped_loose, drops_loose}
+use Rattle.dm_movelaws.proofs.Trail.Walks.{Walks, AllLoose, loose_walks, first_walks}
+use Rattle.dm_movelaws.proofs.Trail.Loose.{to_ask, asked_loose, places_same, label_fits, label_walks, routes_loose, idle_loose, queued_loose, held_loose, dropped_loose, drops_loose}
 
 -- a process that runs
 end_walks : (pt : Point) (t : Trails) (p : Pid) (queue : List MsgId) (y : Why) → pt.view.known pt.view.acting p ≡ Here → Places pt.view t → Walks pt t (rule.says (Label.End p y) ∷ rule.drop_parts queue)
@@ -120,6 +119,36 @@ pub or_first : (a b : Bool) → a ≡ true → (a || b) ≡ true
 or_first true b e = refl
 or_first false b e = cc
 
+-- the end of a move is answered, where the process is
+pub answers_walks : (pt : Point) (t : Trails) (i : MsgId) (r : Outcome) → ((p : Pid) → pt.kernel.noted i ≡ Some p → pt.view.known pt.view.acting p ≡ Here) → Places pt.view t → Walks pt t (answers_move i r)
+answers_walks pt t i r here h =
+    label_walks pt t (Label.Answered i r) (Routes (pieces.answer_id i) ∷ []) (λ on. (
+      (λ p noted. at_end pt t p (here p noted) h),
+      tt,
+      places_same pt.view (view_after pt.view (Line.Label (Label.Answered i r))) t (λ m q. refl) (λ q. refl) h,
+    )) (routes_loose (pieces.answer_id i), tt)
+
+-- a process sets off
+pub freezes_walks : (pt : Point) (t : Trails) (p : Pid) (to : ℕ) → pt.view.known pt.view.acting p ≡ Here → Places pt.view t → Walks pt t (leaves_for p to)
+freezes_walks pt t p to here h =
+    let v = pt.view in
+    let set = sets v p v.topic in
+    first_walks (Line.Migration Stage.Frozen p) (Says (Line.Migration Stage.Asked p) ∷ to_kernel MessageKind.Ask to ∷ []) pt t
+    (λ sane on. (here, λ next s. subst (λ (z : Point). Places z.view t) s.is (places_held v (view_after v (Line.Migration Stage.Frozen p)) t p (Frozen (aim v v.topic)) set.known set.moves refl (ap is_held here) h))) (asked_loose p, to_ask to)
+
+-- a process is asked to move
+asks_walks : (pt : Point) (t : Trails) (id : MsgId) (k : PlainMessage) (ps : List Part) → Front pt t id k → pt.view.known pt.view.acting k.to ≡ Here
+    → ((q : Point) → ((p : Pid) → q.kernel.noted id ≡ Some p → q.view.known q.view.acting p ≡ Here) → q.view.known q.view.acting k.to ≡ Here → Places q.view t → Walks q t ps) → Walks pt t (rule.says (Label.Asked id) ∷ ps)
+asks_walks pt t id k ps f here rest = λ sane on. (
+  label_fits pt t (Label.Asked id) sane tt tt,
+  (λ next s.
+      let l = Line.Label (Label.Asked id) in
+      let g = said_by pt next l s in
+      let mid = moved pt l g.kernel in
+      subst (λ (z : Point). Walks z t ps) g.is (rest mid (λ p noted. (let e : k.to ≡ p = (let f_ : Some k.to ≡ Some p = sym (asked_noted pt.kernel g.kernel id k g.step f.there) ∙ noted in cc) in subst (λ (x : Pid). pt.view.known pt.view.acting x ≡ Here) e here)) here
+      (places_same pt.view mid.view t (λ m q. refl) (λ q. refl) f.places))),
+)
+
 pub handles_walks : (pt : Point) (b : Boot) (o : Point) (t : Trails) (m : ℕ) (id : MsgId) (k : PlainMessage) (ps : List Part) → Front pt t id k → Unborn pt.view (pid_of m (first_number + o.kernel.made m)) → pt.view.known pt.view.acting k.to ≡ o.view.known m k.to
     → ((to c : ℕ) → o.view.known m k.to ≡ Forward to c → Walks pt t (forwards_on o.addresses id (plain_kind k.what) k.sender to)) → rule.handles b o m id k ≡ Some ps → Walks pt t ps
 handles_walks pt b o t m id k ps f born known forwards = by_handles (Walks pt t) b o m id k ps (record {
@@ -130,6 +159,8 @@ handles_walks pt b o t m id k ps f born known forwards = by_handles (Walks pt t)
   served = λ to mild. served_walks pt t id k [] f (known ∙ to.known) tt;
   answers = λ to mild i. served_walks pt t id k (Routes i ∷ []) f (known ∙ to.known) (routes_loose i, tt);
   kills = λ to kills. served_walks pt t id k (rule.drop_parts (o.view.queue m k.to)) f (known ∙ to.known) (drops_loose (o.view.queue m k.to));
+  moved = λ to what. asks_walks pt t id k (answers_move id Outcome.Done) f (known ∙ to.known) (λ q noted here h. answers_walks q t id Outcome.Done noted h);
+  sets_off = λ x to what apart. asks_walks pt t id k (leaves_for k.to x) f (known ∙ to.known) (λ q noted here h. freezes_walks q t k.to x here h);
   gone = λ to. gone_walks pt t id k f;
   dropped = λ to. drop_walks pt t id f.places;
   leaving = λ n to. loose_walks (Says (Line.Held id) ∷ []) pt t (held_loose id, tt) f.places;

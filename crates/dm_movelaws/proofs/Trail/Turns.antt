@@ -64,7 +64,7 @@ own_walks b o t m i is ps start h at front there e =
     let (u, told) = told_there (o.view.told i) stands.1 in
     let own : is_kernels i ≡ true = front_kernels pt i is start.state front there in
     let placed : Places pt.view t = places_same o.view pt.view t (λ n q. refl) (λ q. refl) at in
-    hears_walks pt b o t m i u ps (λ p. refl) refl (λ p about between. heard o m i is u p start h front told about between)
+    hears_walks pt b o t m i u ps (λ p. refl) (λ p n e. e) refl (λ p about between. heard o m i is u p start h front told about between)
     (λ to c e. forwards_walks pt t i u manager to c told e placed (λ yes_ on. on.own.sender i u own told (moves_back u.kind (h.real i u told own).1 yes_))) placed (ap (rule.hears b o m i) (sym told) ∙ e)
 
 -- a directive to move a process

@@ -30,7 +30,9 @@ hears_shape b o m id is q ps told box none = by_hears (Shape o) b o m id q ps (�
       told = λ p x about alive. record {
         accepted = λ ask. Quiet (refl, (tt, tt));
         lacks = λ slots blocks. Quiet (refl, (tt, tt));
-        stays = λ kind. Quiet (refl, tt);
+        stays = λ kind free. Quiet (refl, tt);
+        stays_asked = λ kind n noted. Quiet (refl, (refl, (tt, tt)));
+        restarted_asked = λ kind n noted. Quiet (refl, (refl, (tt, tt)));
         state = Quiet (refl, (tt, tt));
         next_chunk = Quiet (refl, (tt, tt));
         last_chunk = Quiet (refl, (tt, tt));
@@ -38,7 +40,7 @@ hears_shape b o m id is q ps told box none = by_hears (Shape o) b o m id q ps (�
         next_block = Quiet (refl, (tt, tt));
         last_block = Quiet (refl, (tt, tt));
         left = λ ids to frozen. Quiet (refl, sends_quiet to ids (Says (Line.Migration Stage.Left p) ∷ migrating.to_kernel MessageKind.Restart id.from.home ∷ []) (refl, (tt, tt)));
-        restarted = λ kind. Quiet (refl, tt);
+        restarted = λ kind free. Quiet (refl, tt);
       };
       updated = λ kind. updates_shape o m id t f kind;
       updated_none = λ kind at_. Updates m id 0 refl (record { told = t; is = f.is; update = kind; counts = inr (refl, at_.server, at_.known); rest = f.rest; box = f.box; none = f.none });
