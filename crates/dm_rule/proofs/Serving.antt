@@ -227,7 +227,8 @@ loose_round L c b o m q ps idle = by_round L b o m q ps idle (λ p x is alive. r
 
 -- a message of the bag, where only these rows say more
 pub loose_handles : (P L : List Part → Type 0) → Loose L → ((ps : List Part) → L ps → P ps) → (b : Boot) (o : Point) (m : ℕ) (id : MsgId) (msg : PlainMessage) (ps : List Part) → (To o m msg Here → P (Says (Line.Queued id) ∷ [])) → P (Says (Line.Held id) ∷ [])
-    → ((to : ℕ) → To o m msg Here → msg.what ≡ PlainWhat.Move to → (m == to) ≡ false → P (says (Label.Asked id) ∷ leaves_for msg.to to)) → ((to moves : ℕ) → To o m msg (Forward to moves) → P (forwards_on o.addresses id (plain_kind msg.what) msg.sender to)) → rule.handles b o m id msg ≡ Some ps → P ps
+    → ((to : ℕ) → To o m msg Here → msg.what ≡ PlainWhat.Move to → (m == to) ≡ false → P (says (Label.Asked id) ∷ leaves_for msg.to to))
+    → ((to moves : ℕ) → To o m msg (Forward to moves) → P (forwards_on o.addresses id (plain_kind msg.what) msg.sender to)) → rule.handles b o m id msg ≡ Some ps → P ps
 loose_handles P L c up b o m id msg ps queued held leaves forwarded =
     let one : (l : Label) → P (says l ∷ []) = λ l. up (says l ∷ []) (c.label l [] c.none) in
     let routed : (l : Label) (i : MsgId) → P (says l ∷ Routes i ∷ []) = λ l i. up (says l ∷ Routes i ∷ []) (c.label l (Routes i ∷ []) (c.routes i [] c.none)) in

@@ -318,7 +318,8 @@ created_home P s t v a id child is named at h =
     subst (λ (gs : List Gets). AtHome P t (given a gs)) (ap (addresses.creation_gets v a id child) (sym there)) (creates_row P s t v a id m child m.what refl rest there named at h)
 
 -- a process is asked to move: it knows who sent the request
-asked_row : (P : Pid → Place → Type 0) (s t : OneKernel) (a : Addresses) (id : MsgId) (m : PlainMessage) (w : PlainWhat) → service.follows s id m w ≡ Some t → s.bag id ≡ Some m → AtHome P s a → AtHome P t (given a (gets (AskedBy m.to) (a (Sender id)) ∷ []))
+asked_row : (P : Pid → Place → Type 0) (s t : OneKernel) (a : Addresses) (id : MsgId) (m : PlainMessage) (w : PlainWhat) → service.follows s id m w ≡ Some t → s.bag id ≡ Some m → AtHome P s a
+    → AtHome P t (given a (gets (AskedBy m.to) (a (Sender id)) ∷ []))
 asked_row P s t a id m (PlainWhat.Move machine) is there h =
     let u = at_home_out P s a id h in
     let n : Note = record { id = id; asker = m.sender } in
