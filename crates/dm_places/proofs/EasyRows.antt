@@ -10,6 +10,7 @@ use Rattle.dm_rule.specs.View.{Ended}
 use Rattle.dm_rule.specs.Migrating as migrating
 use Rattle.dm_rule.specs.Rule as rule
 use Rattle.dm_places.proofs.Any.AnyPart.{EasyLine, EasyParts}
+use Rattle.dm_places.proofs.Names.{id_of, Outcome}
 
 -- parts that need nothing beside
 abbrev pub Easy : Option (List Part) → Type 0
@@ -78,17 +79,23 @@ lands_easy id None = tt
 lands_easy id (Some (pieces.Next request x)) = (tt, (tt, tt))
 lands_easy id (Some (pieces.Done reply x)) = (tt, tt)
 
-here_easy : (pt : Point) (m : ℕ) (id : MsgId) (k : PlainMessage) (x : PlainProcess) (w : PlainWhat) → Easy (rule.here_handles pt m id k x w)
-here_easy pt m id k x (PlainWhat.User code channel body links) = (tt, tt)
-here_easy pt m id k x PlainWhat.Stop = (tt, tt)
-here_easy pt m id k x PlainWhat.Resume = (tt, tt)
-here_easy pt m id k x PlainWhat.Kill = (tt, drops_easy (pt.view.queue m k.to))
-here_easy pt m id k x (PlainWhat.Read base len) = (tt, (tt, tt))
-here_easy pt m id k x (PlainWhat.Write base bytes) = (tt, (tt, tt))
-here_easy pt m id k x (PlainWhat.Block bytes) = lands_easy id (pieces.lands k.to x k x.status)
-here_easy pt m id k x PlainWhat.Written = lands_easy id (pieces.lands k.to x k x.status)
-here_easy pt m id k x PlainWhat.Gone = lands_easy id (pieces.lands k.to x k x.status)
-here_easy pt m id k x _ = tt
+-- a request to move is the manager's
+abbrev pub AsksEasily : MsgId → PlainWhat → Type 0
+AsksEasily id w = (machine : ℕ) → w ≡ PlainWhat.Move machine → id ≡ id_of manager id.n
+
+here_easy : (pt : Point) (m : ℕ) (id : MsgId) (k : PlainMessage) (x : PlainProcess) (w : PlainWhat) → AsksEasily id w → Easy (rule.here_handles pt m id k x w)
+here_easy pt m id k x (PlainWhat.User code channel body links) asks = (tt, tt)
+here_easy pt m id k x PlainWhat.Stop asks = (tt, tt)
+here_easy pt m id k x PlainWhat.Resume asks = (tt, tt)
+here_easy pt m id k x PlainWhat.Kill asks = (tt, drops_easy (pt.view.queue m k.to))
+here_easy pt m id k x (PlainWhat.Read base len) asks = (tt, (tt, tt))
+here_easy pt m id k x (PlainWhat.Write base bytes) asks = (tt, (tt, tt))
+here_easy pt m id k x (PlainWhat.Block bytes) asks = lands_easy id (pieces.lands k.to x k x.status)
+here_easy pt m id k x PlainWhat.Written asks = lands_easy id (pieces.lands k.to x k x.status)
+here_easy pt m id k x PlainWhat.Gone asks = lands_easy id (pieces.lands k.to x k x.status)
+here_easy pt m id k x (PlainWhat.Move machine) asks =
+    (asks machine refl, if_parts (m == machine) (migrating.answers_move id Outcome.Done) (migrating.leaves_for k.to machine) (tt, (tt, tt)) (tt, (tt, (tt, tt))))
+here_easy pt m id k x _ asks = tt
 
 ended_easy : (id : MsgId) (w : PlainWhat) → Easy (rule.ended_handles id w)
 ended_easy id (PlainWhat.Read base len) = (tt, (tt, tt))
@@ -96,23 +103,23 @@ ended_easy id (PlainWhat.Write base bytes) = (tt, (tt, tt))
 ended_easy id (PlainWhat.Create image links) = tt
 ended_easy id (PlainWhat.Created child) = tt
 ended_easy id PlainWhat.NoRoom = tt
-ended_easy id (PlainWhat.Move machine) = tt
+ended_easy id (PlainWhat.Move machine) = (tt, (tt, tt))
 ended_easy id (PlainWhat.Moved outcome) = tt
 ended_easy id _ = (tt, tt)
 
-alive_handles : (pt : Point) (m : ℕ) (id : MsgId) (k : PlainMessage) (o : Option PlainProcess) → Easy (bind o (λ (x : PlainProcess). rule.here_handles pt m id k x k.what))
-alive_handles pt m id k None = tt
-alive_handles pt m id k (Some x) = here_easy pt m id k x k.what
+alive_handles : (pt : Point) (m : ℕ) (id : MsgId) (k : PlainMessage) (o : Option PlainProcess) → AsksEasily id k.what → Easy (bind o (λ (x : PlainProcess). rule.here_handles pt m id k x k.what))
+alive_handles pt m id k None asks = tt
+alive_handles pt m id k (Some x) asks = here_easy pt m id k x k.what asks
 
 forwards_easy : (a : Addresses) (id : MsgId) (k : MessageKind) (sender : Pid) (to : ℕ) → EasyParts (migrating.forwards_on a id k sender to)
 forwards_easy a id k sender to = (tt, (tt, if_parts (is_told_back k) _ [] (tt, tt) tt))
 
-pub process_easy : (pt : Point) (m : ℕ) (id : MsgId) (k : PlainMessage) (w : Known) → Easy (rule.process_handles pt m id k w)
-process_easy pt m id k Unknown = tt
-process_easy pt m id k Here = alive_handles pt m id k (kernel.alive (pt.kernel.processes k.to))
-process_easy pt m id k (Forward at moves) = forwards_easy pt.addresses id (plain_kind k.what) k.sender at
-process_easy pt m id k Ended = ended_easy id k.what
-process_easy pt m id k _ = (tt, tt)
+pub process_easy : (pt : Point) (m : ℕ) (id : MsgId) (k : PlainMessage) (w : Known) → AsksEasily id k.what → Easy (rule.process_handles pt m id k w)
+process_easy pt m id k Unknown asks = tt
+process_easy pt m id k Here asks = alive_handles pt m id k (kernel.alive (pt.kernel.processes k.to)) asks
+process_easy pt m id k (Forward at moves) asks = forwards_easy pt.addresses id (plain_kind k.what) k.sender at
+process_easy pt m id k Ended asks = ended_easy id k.what
+process_easy pt m id k _ asks = (tt, tt)
 
 -- a kernel's own message
 told_easy : (l : Line) → IsHeardLine l → EasyLine l
@@ -126,7 +133,7 @@ easy_of (Some ps) h = h ps refl
 
 pub hears_easy : (b : Boot) (pt : Point) (m : ℕ) (id : MsgId) (o : Option Told) → Easy (rule.hears b pt m id o)
 hears_easy b pt m id o =
-    easy_of (rule.hears b pt m id o) (λ ps. hears_kept EasyParts (record { none = tt; says = λ l ps h k. (told_easy l h, k); again = λ i to ps k. (tt, k); owns = λ k q to ps h. (tt, h) }) b pt m id o ps)
+    easy_of (rule.hears b pt m id o) (λ ps. hears_kept EasyParts (record { none = tt; says = λ l ps h k. (told_easy l h, k); again = λ i to ps k. (tt, k); owns = λ k q to ps h. (tt, h); answers = λ i r. (tt, (tt, tt)) }) b pt m id o ps)
 
 -- the other directives
 repeats_easy : (a b : ℕ) (ns : List ℕ) → EasyParts (rule.repeats a b ns)

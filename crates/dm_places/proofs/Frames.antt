@@ -6,6 +6,7 @@ use Rattle.dm_places.proofs.Names.{Changes, StepsChangeLittle, changed, is_named
 use Rattle.dm_switchboard.specs.Taking as board
 use Rattle.dm_procman.specs.Taking as manage
 use Rattle.dm_places.specs.PlacedStep.{answers}
+use Rattle.dm_places.proofs.Names.{Asker, asker_of, ends_move, moved_answer, with_note, without_note}
 
 -- a process set, and a message sent or none
 kept_process : (l : Placed) (p : Pid) (x : Option Process) (o : Option Message) (q : Pid) → pid_eq p q ≡ false → (with_sent (with_process l p x) o).processes q ≡ l.processes q
@@ -15,6 +16,14 @@ kept_process l p x (Some m) q e = ap (λ (c : Bool). if c then x else l.processe
 kept_bag : (l : Placed) (p : Pid) (x : Option Process) (o : Option Message) (i : MsgId) → (with_sent (with_process l p x) o).bag i ≡ (with_sent l o).bag i
 kept_bag l p x None i = refl
 kept_bag l p x (Some m) i = refl
+
+kept_notes : (l : Placed) (o : Option Message) (q : Pid) → (with_sent l o).notes q ≡ l.notes q
+kept_notes l None q = refl
+kept_notes l (Some m) q = refl
+
+kept_noted : (l : Placed) (o : Option Message) (i : MsgId) → (with_sent l o).noted i ≡ l.noted i
+kept_noted l None i = refl
+kept_noted l (Some m) i = refl
 
 kept_board : (l : Placed) (o : Option Message) → (with_sent l o).board ≡ l.board
 kept_board l None = refl
@@ -35,9 +44,19 @@ record Leaves (l : Placed) (p : Option Pid) (id : Option MsgId) (m : Placed) : T
   bag : (i : MsgId) → m.bag i ≡ (with_sent (taken_out l id) sent).bag i
   board : m.board ≡ l.board
   manager : m.manager ≡ l.manager
+  notes : (q : Pid) → m.notes q ≡ l.notes q
+  noted : (i : MsgId) → m.noted i ≡ l.noted i
 
 sets : (l : Placed) (p : Pid) (x : Option Process) (o : Option Message) → Leaves l (Some p) None (with_sent (with_process l p x) o)
-sets l p x o = record { processes = kept_process l p x o; sent = o; bag = kept_bag l p x o; board = kept_board (with_process l p x) o; manager = kept_manager (with_process l p x) o }
+sets l p x o = record {
+  processes = kept_process l p x o;
+  sent = o;
+  bag = kept_bag l p x o;
+  board = kept_board (with_process l p x) o;
+  manager = kept_manager (with_process l p x) o;
+  notes = kept_notes (with_process l p x) o;
+  noted = kept_noted (with_process l p x) o;
+}
 
 sets_and_takes : (l : Placed) (id : MsgId) (p : Pid) (x : Option Process) (o : Option Message) → Leaves l (Some p) (Some id) (with_sent (with_process (without_message l id) p x) o)
 sets_and_takes l id p x o = record {
@@ -46,6 +65,8 @@ sets_and_takes l id p x o = record {
   bag = kept_bag (without_message l id) p x o;
   board = kept_board (with_process (without_message l id) p x) o;
   manager = kept_manager (with_process (without_message l id) p x) o;
+  notes = kept_notes (with_process (without_message l id) p x) o;
+  noted = kept_noted (with_process (without_message l id) p x) o;
 }
 
 only_takes : (l : Placed) (id : MsgId) (o : Option Message) → Leaves l None (Some id) (with_sent (without_message l id) o)
@@ -55,10 +76,12 @@ only_takes l id o = record {
   bag = λ i. refl;
   board = kept_board (without_message l id) o;
   manager = kept_manager (without_message l id) o;
+  notes = kept_notes (without_message l id) o;
+  noted = kept_noted (without_message l id) o;
 }
 
 leaves : (l : Placed) (e : Label) (m : Placed) → Leaves l (changed l e) (taken e) m → Changes l e m
-leaves l e m h = record { processes = h.processes; sent = h.sent; bag = h.bag; board = λ k. h.board; manager = λ k. h.manager }
+leaves l e m h = record { processes = h.processes; sent = h.sent; bag = h.bag; board = λ k. h.board; manager = λ k. h.manager; notes = λ k. h.notes; noted = λ k. h.noted }
 
 ran_leaves : (l m : Placed) (p : Pid) (k : ℕ) → ran l p k ≡ Some m → Leaves l (Some p) None m
 ran_leaves l m p k e =
@@ -120,6 +143,8 @@ record Serves (l : Placed) (id : MsgId) (m : Placed) : Type 0 where
   processes : (q : Pid) → m.processes q ≡ l.processes q
   sent : Option Message
   bag : (i : MsgId) → m.bag i ≡ (with_sent (without_message l id) sent).bag i
+  notes : (q : Pid) → m.notes q ≡ l.notes q
+  noted : (i : MsgId) → m.noted i ≡ l.noted i
 
 with_board : (l : Placed) (b : _) (o : Option Message) (i : MsgId) → (with_sent (record l { board = b }) o).bag i ≡ (with_sent l o).bag i
 with_board l b None i = refl
@@ -129,26 +154,28 @@ with_manager : (l : Placed) (g : _) (o : Option Message) (i : MsgId) → (with_s
 with_manager l g None i = refl
 with_manager l g (Some m) i = refl
 
-takes_if : (l m : Placed) (id : MsgId) (n : Message) (b c : Bool)
-    → (if b then bind (board.takes l.board n.what) (λ (t : board.Taken). Some (board_took (without_message l id) t)) else if c then bind (manage.takes l.manager n.id.n n.what) (λ (t : manage.Taken). Some (manager_took (without_message l id) t)) else None) ≡ Some m
+takes_if : (here : ℕ) (l m : Placed) (id : MsgId) (n : Message) (b c : Bool)
+    → (if b then bind (board.takes here l.board n.what) (λ (t : board.Taken). Some (board_took (without_message l id) t)) else if c then bind (manage.takes here l.manager n.id.n n.what) (λ (t : manage.Taken). Some (manager_took (without_message l id) t)) else None) ≡ Some m
     → Serves l id m
-takes_if l m id n true c e =
-    let (t, is, last) = bind-is (board.takes l.board n.what) (λ (t : board.Taken). Some (board_took (without_message l id) t)) m e in
+takes_if here l m id n true c e =
+    let (t, is, last) = bind-is (board.takes here l.board n.what) (λ (t : board.Taken). Some (board_took (without_message l id) t)) m e in
     let f : board_took (without_message l id) t ≡ m = cc in
     subst (Serves l id) f
-    (record { processes = kept_processes (record (without_message l id) { board = t.board }) t.took.answer; sent = t.took.answer; bag = with_board (without_message l id) t.board t.took.answer })
-takes_if l m id n false true e =
-    let (t, is, last) = bind-is (manage.takes l.manager n.id.n n.what) (λ (t : manage.Taken). Some (manager_took (without_message l id) t)) m e in
+    (let u = record (without_message l id) { board = t.board } in
+    record { processes = kept_processes u t.took.answer; sent = t.took.answer; bag = with_board (without_message l id) t.board t.took.answer; notes = kept_notes u t.took.answer; noted = kept_noted u t.took.answer })
+takes_if here l m id n false true e =
+    let (t, is, last) = bind-is (manage.takes here l.manager n.id.n n.what) (λ (t : manage.Taken). Some (manager_took (without_message l id) t)) m e in
     let f : manager_took (without_message l id) t ≡ m = cc in
     subst (Serves l id) f
-    (record { processes = kept_processes (record (without_message l id) { manager = t.manager }) t.message; sent = t.message; bag = with_manager (without_message l id) t.manager t.message })
-takes_if l m id n false false e = cc
+    (let u = record (without_message l id) { manager = t.manager } in
+    record { processes = kept_processes u t.message; sent = t.message; bag = with_manager (without_message l id) t.manager t.message; notes = kept_notes u t.message; noted = kept_noted u t.message })
+takes_if here l m id n false false e = cc
 
-took_leaves : (l m : Placed) (id : MsgId) → bind (l.bag id) (takes (without_message l id)) ≡ Some m → Changes l (Label.Took id) m
-took_leaves l m id e =
-    let (n, found, rest) = bind-is (l.bag id) (takes (without_message l id)) m e in
-    let h = takes_if l m id n (pid_eq n.to.pid switchboard) (pid_eq n.to.pid manager) rest in
-    record { processes = λ q k. h.processes q; sent = h.sent; bag = h.bag; board = λ k. absurd (false≢true (sym k)); manager = λ k. absurd (false≢true (sym k)) }
+took_leaves : (here : ℕ) (l m : Placed) (id : MsgId) → bind (l.bag id) (takes here (without_message l id)) ≡ Some m → Changes l (Label.Took id) m
+took_leaves here l m id e =
+    let (n, found, rest) = bind-is (l.bag id) (takes here (without_message l id)) m e in
+    let h = takes_if here l m id n (pid_eq n.to.pid switchboard) (pid_eq n.to.pid manager) rest in
+    record { processes = λ q k. h.processes q; sent = h.sent; bag = h.bag; board = λ k. absurd (false≢true (sym k)); manager = λ k. absurd (false≢true (sym k)); notes = λ k. h.notes; noted = λ k. h.noted }
 
 pub steps_change_little : StepsChangeLittle
 steps_change_little here f images l m (Label.Ran p k) e = leaves l (Label.Ran p k) m (ran_leaves l m p k e)
@@ -174,7 +201,7 @@ steps_change_little here f images l m (Label.Gone id) e =
     let (n, found, last) = bind-is (l.bag id) (λ (n : Message). Some (with_sent (without_message l id) (Some (gone_answer here n)))) m e in
     let g : with_sent (without_message l id) (Some (gone_answer here n)) ≡ m = cc in
     leaves l (Label.Gone id) m (subst (Leaves l None (Some id)) g (only_takes l id (Some (gone_answer here n))))
-steps_change_little here f images l m (Label.Took id) e = took_leaves l m id e
+steps_change_little here f images l m (Label.Took id) e = took_leaves here l m id e
 steps_change_little here f images l m (Label.Created id child) e =
     let (n, found, last) = bind-is (l.bag id) (λ (n : Message). creates here f images (without_message l id) n child n.what) m e in
     leaves l (Label.Created id child) m (creates_leaves here f images l m id n child n.what last)
@@ -182,3 +209,16 @@ steps_change_little here f images l m (Label.NoSpace id slots blocks) e =
     let (n, found, last) = bind-is (l.bag id) (λ (n : Message). Some (with_sent (without_message l id) (Some (answer here 0 n What.NoRoom)))) m e in
     let g : with_sent (without_message l id) (Some (answer here 0 n What.NoRoom)) ≡ m = cc in
     leaves l (Label.NoSpace id slots blocks) m (subst (Leaves l None (Some id)) g (only_takes l id (Some (answer here 0 n What.NoRoom))))
+steps_change_little here f images l m (Label.Asked id) e =
+    let (n, found, last) = bind-is (l.bag id) (λ (n : Message). Some (with_note (without_message l id) n.to.pid id (asker_of n))) m e in
+    let u = with_note (without_message l id) n.to.pid id (asker_of n) in
+    let g : u ≡ m = cc in
+    subst (Changes l (Label.Asked id)) g (record { processes = λ q k. refl; sent = None; bag = λ i. refl; board = λ k. refl; manager = λ k. refl; notes = λ k. absurd (false≢true (sym k)); noted = λ k. absurd (false≢true (sym k)) })
+steps_change_little here f images l m (Label.Answered id o) e =
+    let (p, found, rest) = bind-is (l.noted id) (λ (q : Pid). ends_move here l id q o) m e in
+    let (k, waits, more) = bind-is (l.notes p) (λ (w : Asker). bind (l.processes p) (λ (x : Process). Some (with_sent (without_note l p id) (Some (moved_answer here x o w))))) m rest in
+    let (x, stands, last) = bind-is (l.processes p) (λ (y : Process). Some (with_sent (without_note l p id) (Some (moved_answer here y o k)))) m more in
+    let a = moved_answer here x o k in
+    let g : with_sent (without_note l p id) (Some a) ≡ m = cc in
+    subst (Changes l (Label.Answered id o)) g
+    (record { processes = λ q k. refl; sent = Some a; bag = λ i. refl; board = λ k. refl; manager = λ k. refl; notes = λ k. absurd (false≢true (sym k)); noted = λ k. absurd (false≢true (sym k)) })

@@ -5,6 +5,7 @@ use Rattle.dm_places.proofs.Names.{MirrorsMessage, MirrorsPlaces, MirrorsProcess
 use Rattle.dm_onekernel.specs.Kernel as one
 use Rattle.dm_onekernel.specs.Service as service
 use Rattle.dm_onekernel.specs.Step as kernel
+use Rattle.dm_places.proofs.Names.{ℕ, Link, Place, place_of, Asker, Note, Child, Name, Answer, AskedBy, AnswerNames, plain_note, with_note, without_note, request_of}
 
 -- what there is with places where there is something without
 pub of_map : {A B : Type 0} (f : A → B) (o : Option A) (x : B) → Some x ≡ option_map f o → (y : A) × (o ≡ Some y) × (f y ≡ x)
@@ -48,6 +49,8 @@ pub kernel_process : (s : OneKernel) (l : Placed) (p : Pid) (life : Life) (y : O
 kernel_process s l p life y e h = record {
   processes = λ q. both_if kernel.alive (option_map plain_process) (pid_eq p q) (Some life) (s.processes q) y (l.processes q) e (h.processes q);
   bag = h.bag;
+  notes = h.notes;
+  noted = h.noted;
   board = h.board;
   manager = h.manager;
   machines = h.machines;
@@ -58,6 +61,8 @@ pub kernel_message : (s : OneKernel) (l : Placed) (i : MsgId) (k : Option PlainM
 kernel_message s l i k m e h = record {
   processes = h.processes;
   bag = λ j. both_if (λ (o : Option Message). bind o plain_message) (λ (o : Option PlainMessage). o) (id_eq i j) m (l.bag j) k (s.bag j) e (h.bag j);
+  notes = h.notes;
+  noted = h.noted;
   board = h.board;
   manager = h.manager;
   machines = h.machines;
@@ -78,6 +83,9 @@ process_same v a b p x w h = record { pid = h.pid; moves = h.moves; slots = λ k
 pub message_same : (a b : Addresses) (i : MsgId) (m : Message) → SameMessage a b i → MirrorsMessage a i m → MirrorsMessage b i m
 message_same a b i m w h = record { id = h.id; receiver = w.receiver ∙ h.receiver; sender = w.sender ∙ h.sender; enclosed = λ k l e. w.enclosed k ∙ h.enclosed k l e }
 
+pub answer_as : (o : Option Link) {x y : Place} → x ≡ y → AnswerNames o y → AnswerNames o x
+answer_as o {x} {y} e h = subst (AnswerNames o) (sym e) h
+
 pub stays_process : (a : Addresses) (q : Pid) → SameProcess a a q
 stays_process a q = record { slot = λ k. refl; owner = refl }
 
@@ -85,7 +93,7 @@ pub stays_message : (a : Addresses) (i : MsgId) → SameMessage a a i
 stays_message a i = record { receiver = refl; sender = refl; enclosed = λ k. refl }
 
 pub stays_servers : (a : Addresses) → SameServers a a
-stays_servers a = record { child = λ n. refl; name = λ n. refl; answer = λ n. refl }
+stays_servers a = record { child = λ n. refl; name = λ n. refl; answer = λ n. refl; asked = λ q. refl }
 
 -- processes once one was set
 set_places : (v : View) (a b : Addresses) (l : Placed) (p : Pid) (y : Option Process) → ((q : Pid) (x : Process) → l.processes q ≡ Some x → MirrorsProcess v a q x) → ((q : Pid) → pid_eq p q ≡ false → SameProcess a b q)
@@ -115,7 +123,8 @@ places_process v a b l p y h off on messages servers = record {
   message = λ i m e. message_same a b i m (messages i) (h.message i m e);
   name = λ n k e. servers.name n ∙ h.name n k e;
   child = λ n c e. servers.child n ∙ h.child n c e;
-  answer = λ n r e. servers.answer n ∙ h.answer n r e;
+  answer = λ n r e. answer_as r.answer (servers.answer n) (h.answer n r e);
+  asker = λ p k e. servers.asked p ∙ h.asker p k e;
 }
 
 pub places_sent : (v : View) (a b : Addresses) (l : Placed) (m : Message) → MirrorsPlaces v a l → ((q : Pid) → SameProcess a b q) → ((i : MsgId) → id_eq m.id i ≡ false → SameMessage a b i) → MirrorsMessage b m.id m → SameServers a b
@@ -125,7 +134,8 @@ places_sent v a b l m h processes off on servers = record {
   message = came_places a b l m h.message off on;
   name = λ n k e. servers.name n ∙ h.name n k e;
   child = λ n c e. servers.child n ∙ h.child n c e;
-  answer = λ n r e. servers.answer n ∙ h.answer n r e;
+  answer = λ n r e. answer_as r.answer (servers.answer n) (h.answer n r e);
+  asker = λ p k e. servers.asked p ∙ h.asker p k e;
 }
 
 -- a process's and a message's
@@ -136,7 +146,8 @@ places_sends v a b l p y m h off on messages sent servers = record {
   message = came_places a b l m h.message messages sent;
   name = λ n k e. servers.name n ∙ h.name n k e;
   child = λ n c e. servers.child n ∙ h.child n c e;
-  answer = λ n r e. servers.answer n ∙ h.answer n r e;
+  answer = λ n r e. answer_as r.answer (servers.answer n) (h.answer n r e);
+  asker = λ p k e. servers.asked p ∙ h.asker p k e;
 }
 
 stood : (l : Placed) (id i : MsgId) (m : Message) (b : Bool) → (if b then None else l.bag i) ≡ Some m → l.bag i ≡ Some m
@@ -162,6 +173,62 @@ goes_mirrors s v a l p x h k = record { plain = kernel_process s l p (one.Alive 
 
 pub ends_mirrors : (s : OneKernel) (v : View) (a : Addresses) (l : Placed) (p : Pid) (y : _) → Mirrors s v a l → Mirrors (one.with_process s p (one.Ended y)) v a (with_process l p None)
 ends_mirrors s v a l p y h = record { plain = kernel_process s l p (one.Ended y) None refl h.plain; places = places_ends v a l p h.places }
+
+-- somebody waits to hear how a process's move ends, or nobody does any more
+pub noted_mirrors : (s : OneKernel) (v : View) (a b : Addresses) (l : Placed) (p : Pid) (k : Asker) → ((q : Pid) → SameProcess a b q) → ((i : MsgId) → SameMessage a b i) → ((n : ℕ) → b (Child n) ≡ a (Child n))
+    → ((n : ℕ) → b (Name n) ≡ a (Name n)) → ((n : ℕ) → b (Answer n) ≡ a (Answer n))
+    → ((q : Pid) → pid_eq p q ≡ false → b (AskedBy q) ≡ a (AskedBy q)) → b (AskedBy p) ≡ place_of k.addr → Mirrors s v a l → Mirrors (one.with_note s p (plain_note k)) v b (with_note l p (request_of k) k)
+noted_mirrors s v a b l p k processes messages child name answer off on h =
+    let g = h.places in
+    record {
+      plain = record {
+        processes = h.plain.processes;
+        bag = h.plain.bag;
+        notes = λ q. both_if (option_map plain_note) (λ (o : Option Note). o) (pid_eq p q) (Some k) (l.notes q) (Some (plain_note k)) (s.notes q) refl (h.plain.notes q);
+        noted = λ i. ap (λ (o : Option Pid). if id_eq (request_of k) i then Some p else o) (h.plain.noted i);
+        board = h.plain.board;
+        manager = h.plain.manager;
+        machines = h.plain.machines;
+        images = h.plain.images;
+      };
+      places = record {
+        process = λ q x e. process_same v a b q x (processes q) (g.process q x e);
+        message = λ i m e. message_same a b i m (messages i) (g.message i m e);
+        name = λ n w e. name n ∙ g.name n w e;
+        child = λ n c e. child n ∙ g.child n c e;
+        answer = λ n r e. answer_as r.answer (answer n) (g.answer n r e);
+        asker = λ q o e. elim (cases_Bool (pid_eq p q)) [
+          | inl same ↦
+              let f : Some k ≡ Some o = sym (ap (λ (c : Bool). if c then Some k else l.notes q) same) ∙ e in
+              let is : k ≡ o = cc in
+              ap (λ (r : Pid). b (AskedBy r)) (sym (pid_eq-is p q same)) ∙ on ∙ ap (λ (w : Asker). place_of w.addr) is
+          | inr apart ↦ off q apart ∙ g.asker q o (sym (ap (λ (c : Bool). if c then Some k else l.notes q) apart) ∙ e)
+        ];
+      };
+    }
+
+still_noted : (l : Placed) (p q : Pid) (id : MsgId) (k : Asker) → (without_note l p id).notes q ≡ Some k → l.notes q ≡ Some k
+still_noted l p q id k e = elim (cases_Bool (pid_eq p q)) [
+  | inl same ↦ absurd (let f : None ≡ Some k = sym (ap (λ (c : Bool). if c then None else l.notes q) same) ∙ e in cc)
+  | inr apart ↦ sym (ap (λ (c : Bool). if c then None else l.notes q) apart) ∙ e
+]
+
+pub unnoted_mirrors : (s : OneKernel) (v : View) (a : Addresses) (l : Placed) (p : Pid) (id : MsgId) → Mirrors s v a l → Mirrors (one.without_note s p id) v a (without_note l p id)
+unnoted_mirrors s v a l p id h =
+    let g = h.places in
+    record {
+      plain = record {
+        processes = h.plain.processes;
+        bag = h.plain.bag;
+        notes = λ q. both_if (option_map plain_note) (λ (o : Option Note). o) (pid_eq p q) None (l.notes q) None (s.notes q) refl (h.plain.notes q);
+        noted = λ i. ap (λ (o : Option Pid). if id_eq id i then None else o) (h.plain.noted i);
+        board = h.plain.board;
+        manager = h.plain.manager;
+        machines = h.plain.machines;
+        images = h.plain.images;
+      };
+      places = record { process = g.process; message = g.message; name = g.name; child = g.child; answer = g.answer; asker = λ q k e. g.asker q k (still_noted l p q id k e) };
+    }
 
 pub out_mirrors : (s : OneKernel) (v : View) (a : Addresses) (l : Placed) (i : MsgId) → Mirrors s v a l → Mirrors (service.without_message s i) v a (without_message l i)
 out_mirrors s v a l i h = record { plain = kernel_out s l i h.plain; places = places_out v a l i h.places }

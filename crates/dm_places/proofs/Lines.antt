@@ -2,6 +2,7 @@
 use Rattle.dm_places.proofs.Names.{◌≡◌, ℕ, List, refl, ap, ◌∙◌, sym, subst, Option, None, Some, Pid, MsgId, plain_kind, Stage, PlainMessage, MessageKind, Label, OneKernel, Step, Line, About, View, Told, after_head, after_label, handled}
 use Rattle.dm_places.proofs.Names.{view_after, Addresses, Gets, first_gives, given, own_gives, Point, Placed, Mirrors, KeepsPlaces, LinesKeep, own_none, first_none}
 use Rattle.dm_rule.specs.View as view
+use Rattle.dm_places.proofs.Names.{seen}
 
 -- another view, in which as many moves are counted
 pub mirrors_view : (s : OneKernel) (v w : View) (a : Addresses) (l : Placed) → w.moves ≡ v.moves → Mirrors s v a l → Mirrors s w a l
@@ -15,6 +16,7 @@ mirrors_view s v w a l e h =
         name = g.name;
         child = g.child;
         answer = g.answer;
+        asker = g.asker;
       };
     }
 
@@ -64,10 +66,14 @@ moves_proto : (v : View) (o : Option Told) → (view.after_proto v o).moves ≡ 
 moves_proto v None = refl
 moves_proto v (Some t) = moves_follow v t.about t.kind
 
+moves_sets : (v : View) (p : Pid) (a : About) → (view.sets_off v p a).moves ≡ v.moves
+moves_sets v p (view.Target m) = refl
+moves_sets v p _ = refl
+
 -- a line that is no step leads to the point with its view, and the same addresses
 says : (pt pt' : Point) (l : Placed) (x : Line) → (view_after pt.view x).moves ≡ pt.view.moves → Mirrors pt.kernel pt.view pt.addresses l
-    → record { kernel = pt.kernel; view = view_after pt.view x; addresses = pt.addresses } ≡ pt' → Mirrors pt'.kernel pt'.view pt'.addresses l
-says pt pt' l x e h f = subst (λ (q : Point). Mirrors q.kernel q.view q.addresses l) f (mirrors_view pt.kernel pt.view (view_after pt.view x) pt.addresses l e h)
+    → record { kernel = pt.kernel; view = seen pt.kernel pt.view x; addresses = pt.addresses } ≡ pt' → Mirrors pt'.kernel pt'.view pt'.addresses l
+says pt pt' l x e h f = subst (λ (q : Point). Mirrors q.kernel q.view q.addresses l) f (mirrors_view pt.kernel pt.view (seen pt.kernel pt.view x) pt.addresses l e h)
 
 -- a message that was put before, and one of the kernel's, get no addresses when they are put
 pub told_keeps : (pt : Point) (from to : ℕ) (id : MsgId) (k : MessageKind) (q : Pid) (t : Told) → pt.view.told id ≡ Some t → KeepsPlaces pt (Line.Put from to id k q)
@@ -90,7 +96,7 @@ lines_keep pt pt' l (Line.Queued id) keeps h e = says pt pt' l (Line.Queued id) 
 lines_keep pt pt' l (Line.Held id) keeps h e = says pt pt' l (Line.Held id) (moves_held (handled pt.view id) id (view.receiver_of (pt.view.told id))) h (cc)
 lines_keep pt pt' l (Line.Forwarded id m) keeps h e = absurd keeps
 lines_keep pt pt' l (Line.Updated id n) keeps h e = absurd keeps
-lines_keep pt pt' l (Line.Migration Stage.Frozen p) keeps h e = says pt pt' l (Line.Migration Stage.Frozen p) refl h (cc)
+lines_keep pt pt' l (Line.Migration Stage.Frozen p) keeps h e = says pt pt' l (Line.Migration Stage.Frozen p) (moves_sets pt.view p pt.view.topic) h (cc)
 lines_keep pt pt' l (Line.Migration Stage.Asked p) keeps h e = says pt pt' l (Line.Migration Stage.Asked p) refl h (cc)
 lines_keep pt pt' l (Line.Migration Stage.Accepted p) keeps h e = says pt pt' l (Line.Migration Stage.Accepted p) refl h (cc)
 lines_keep pt pt' l (Line.Migration Stage.StateTaken p) keeps h e = says pt pt' l (Line.Migration Stage.StateTaken p) refl h (cc)

@@ -18,10 +18,9 @@ pub use Rattle.dm_onekernel.specs.Switchboard.{goes_over}
 pub use Rattle.dm_onekernel.specs.declared.boot.Format.{Format}
 pub use Rattle.dm_switchboard.proofs.Imports.{ArrayVec, Asked, Named, bytes_eq, is_general, is_name, is_some, named_is_behind, plain_board, plain_link, plain_named, retargeted_named, switchboard}
 pub use Rattle.dm_switchboard.proofs.Plain.{plain_answer, plain_asked, plain_asks, plain_reply}
-pub use Rattle.dm_procman.proofs.Names.{Boot, BootProcess, IsValid, Managing, MsgId, PlainLink, Taken, answer_over, at_home, child_address, child_at_home, child_named, control_link, kernel, manager, message_to, pending_is_behind}
+pub use Rattle.dm_procman.proofs.Names.{Boot, BootProcess, IsValid, Managing, MsgId, PlainLink, Taken, answer_over, at_home, child_address, child_at_home, child_named, control_link, manager, message_to, pending_is_behind}
 pub use Rattle.dm_procman.proofs.Names.{pending_request, plain_child, plain_manager, plain_pending, retargeted_manager, retargeted_pending, slice_get-map, without_pending, ◌||◌}
 pub use Rattle.dm_procman.proofs.Plain.{plain_bear, plain_numbered, plain_pending_numbered, plain_push, plain_without}
-pub use Rattle.dm_procman.specs.Making.{address}
 pub use Rattle.dm_procman.specs.declared.pending.Pending.{Pending}
 pub use Rattle.dm_laws.proofs.Equal.{pid_eq-swap}
 pub use Rattle.dm_laws.proofs.Names.{Alive, BootImage, CallNumber, Copy, Drop, Ended, Label, Life, Make, Manager, Move, Moving, OneKernel, PlainMessage, PlainProcess, PlainStatus, Ready, Receive, Reply, Send, Switchboard, Waiting, Why}
@@ -69,3 +68,10 @@ pub use Rattle.dm_places.specs.Placed.{Mirrors, MirrorsKernel, MirrorsMessage, M
 pub use Rattle.dm_places.specs.PlacedStart.{placed_start, started, started_at}
 pub use Rattle.dm_places.specs.PlacedStep.{Acted, acted, acts, after_call, after_done, after_landing, board_took, completed, creates, if_ready, lands, machine_of, manager_took, placed_step, ran, running, serves, takes, with_acted}
 pub use Rattle.dm_places.specs.PlacedStep.{with_child, with_machine, with_message, with_process, with_sent, without_message}
+pub use Rattle.dm_message.specs.declared.Asker.{Asker}
+pub use Rattle.dm_migrate.specs.Asking.{asker_of, moved_answer, request_of}
+pub use Rattle.dm_onekernel.specs.Kernel.{Note}
+pub use Rattle.dm_rule.specs.Addresses.{AskedBy}
+pub use Rattle.dm_rule.specs.Point.{seen}
+pub use Rattle.dm_places.specs.Placed.{AnswerNames, plain_note}
+pub use Rattle.dm_places.specs.PlacedStep.{ends_move, with_note, without_note}

@@ -1,6 +1,6 @@
 -- A message that a machine's kernel sends itself, where it is put for the first time.
 use Rattle.dm_places.proofs.Names.{◌≡◌, ℕ, zero, suc, ◌+◌, Bool, false, List, [], ◌∷◌, map, refl, ap, ◌∙◌, sym, subst, ◌⊎◌, inl, inr, arith, if◌then◌else◌, cond, slice_get, Option, None, Some, cases_Bool, Pid, Addr, Link, Place, pid_eq, nat_tests}
-use Rattle.dm_places.proofs.Names.{pid_of, place_of, MsgId, Message, What, Line, MessageKind, id_eq, id_of, plain_message, address, plain_child, child_named, manager, Manager, OneKernel, pid_eq-swap, at_machine, Told, View, is_own, own_id}
+use Rattle.dm_places.proofs.Names.{pid_of, place_of, MsgId, Message, What, Line, MessageKind, id_eq, id_of, plain_message, plain_child, child_named, manager, Manager, OneKernel, pid_eq-swap, at_machine, Told, View, is_own, own_id}
 use Rattle.dm_places.proofs.Names.{view_after, Addresses, Child, Gets, Receiver, Sender, child_from, child_number, first_gives, given, own_gives, place_of_child, unmoved, Point, moved, SameMessage, SameProcess, SameServers, two, two_off}
 use Rattle.dm_places.proofs.Names.{two_process, two_servers, Placed, Mirrors, MirrorsMessage, enclosed, MirrorsPoint, with_message, KeepsPlaces, Sort, sort_of, own_given}
 use Rattle.dm_places.proofs.Keeps.{stays_message, stays_process, stays_servers}
@@ -120,12 +120,6 @@ child_none (d ∷ ds) k p e = elim (cases_Bool (pid_eq d.pid p)) [
 -- where there is no such child there is none without places
 pub no_child : (s : OneKernel) (v : View) (a : Addresses) (l : Placed) (p : Pid) → Mirrors s v a l → child_named p l.manager.children ≡ None → child_number s p ≡ None
 no_child s v a l p h e = children_are s v a l p h ∙ child_none l.manager.children 1 p e
-
--- the manager tells its child to move
-record Tells (cs : List Addr) (p : Pid) (machine : ℕ) (id : MsgId) (y : Message) : Type 0 where
-  child : Addr
-  named : child_named p cs ≡ Some child
-  is : y ≡ record { id = id; to = child; sender = address; what = What.Migrate machine }
 
 -- a put that gives nothing leaves the addresses, and one of a message that goes on leaves the name of the kernel's next
 pub put_addresses : (pt : Point) (from to : ℕ) (id : MsgId) (k : MessageKind) (q : Pid) → KeepsPlaces pt (Line.Put from to id k q) → (moved pt (Line.Put from to id k q) pt.kernel).addresses ≡ pt.addresses

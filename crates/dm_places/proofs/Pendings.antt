@@ -1,28 +1,26 @@
 -- The manager's requests with places: their numbers ascend, so that each has its own.
 use Rattle.dm_places.proofs.Names.{◌≡◌, ℕ, zero, suc, ◌+◌, ◌==◌, Bool, true, false, List, [], ◌∷◌, ◌++◌, length, ap, ◌∙◌, sym, ◌⊎◌, inl, inr, arith, if◌then◌else◌, map, option_map, nat_le, nat_lt, None, Some, cases_Bool, nat_tests}
-use Rattle.dm_places.proofs.Names.{length-map, Pid, Addr, Link, place_of, Pending, at_home, plain_child, plain_pending, child_address, pending_request, without_pending, plain_pending_numbered, Addresses, gets, given, Child, unmoved}
+use Rattle.dm_places.proofs.Names.{length-map, Pid, Addr, place_of, Pending, at_home, plain_child, plain_pending, child_address, pending_request, without_pending, plain_pending_numbered, Addresses, gets, given, Child, unmoved}
 use Rattle.dm_places.proofs.Names.{ascends, and-both, get_last, numbered_from}
 
 pub numbered_below : (ps : List Pending) (from to n : ℕ) (r : Pending) → ascends from (map plain_pending ps) to ≡ true → pending_request n ps ≡ Some r → (nat_le from n ≡ true) × (nat_lt n to ≡ true)
 numbered_below ps from to n r e f = numbered_from (map plain_pending ps) from to n (plain_pending r) e (plain_pending_numbered n ps ∙ ap (option_map plain_pending) f)
 
-pub pending_last : (ps : List Pending) (to n : ℕ) (l : Link) (r : Pending) → ((q : Pending) → pending_request n ps ≡ Some q → (to == n) ≡ false) → pending_request n (ps ++ record { n = to; answer = l } ∷ []) ≡ Some r
-    → (((to == n) ≡ true) × (l ≡ r.answer)) ⊎ (((to == n) ≡ false) × (pending_request n ps ≡ Some r))
-pending_last [] to n l r h e = grind (arith, nat_tests)
-pending_last (p ∷ ps) to n l r h e =
-    let z : Pending = record { n = to; answer = l } in
-    elim (cases_Bool (p.n == n)) [
-      | inl same ↦
-          let one : pending_request n (p ∷ ps) ≡ Some p = ap (λ (b : Bool). if b then Some p else pending_request n ps) same in
-          let f : Some p ≡ Some r = sym (ap (λ (b : Bool). if b then Some p else pending_request n (ps ++ z ∷ [])) same) ∙ e in
-          inr (h p one, one ∙ f)
-      | inr apart ↦
-          let off : pending_request n (p ∷ ps) ≡ pending_request n ps = ap (λ (b : Bool). if b then Some p else pending_request n ps) apart in
-          elim (pending_last ps to n l r (λ q f. h q (off ∙ f)) (sym (ap (λ (b : Bool). if b then Some p else pending_request n (ps ++ z ∷ [])) apart) ∙ e)) [
-            | inl g ↦ inl g
-            | inr g ↦ inr (g.0, off ∙ g.1)
-          ]
-    ]
+pub pending_last : (ps : List Pending) (n : ℕ) (z r : Pending) → ((q : Pending) → pending_request n ps ≡ Some q → (z.n == n) ≡ false) → pending_request n (ps ++ z ∷ []) ≡ Some r
+    → (((z.n == n) ≡ true) × (z ≡ r)) ⊎ (((z.n == n) ≡ false) × (pending_request n ps ≡ Some r))
+pending_last [] n z r h e = grind (arith, nat_tests)
+pending_last (p ∷ ps) n z r h e = elim (cases_Bool (p.n == n)) [
+  | inl same ↦
+      let one : pending_request n (p ∷ ps) ≡ Some p = ap (λ (b : Bool). if b then Some p else pending_request n ps) same in
+      let f : Some p ≡ Some r = sym (ap (λ (b : Bool). if b then Some p else pending_request n (ps ++ z ∷ [])) same) ∙ e in
+      inr (h p one, one ∙ f)
+  | inr apart ↦
+      let off : pending_request n (p ∷ ps) ≡ pending_request n ps = ap (λ (b : Bool). if b then Some p else pending_request n ps) apart in
+      elim (pending_last ps n z r (λ q f. h q (off ∙ f)) (sym (ap (λ (b : Bool). if b then Some p else pending_request n (ps ++ z ∷ [])) apart) ∙ e)) [
+        | inl g ↦ inl g
+        | inr g ↦ inr (g.0, off ∙ g.1)
+      ]
+]
 
 pub still_pending : (ps : List Pending) (from to n k : ℕ) (r : Pending) → ascends from (map plain_pending ps) to ≡ true → pending_request k (without_pending n ps) ≡ Some r → pending_request k ps ≡ Some r
 still_pending [] from to n k r e f = f

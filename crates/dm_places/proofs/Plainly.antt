@@ -41,8 +41,8 @@ without_own_mirrors s v a l h =
     let k = h.plain in
     let g = h.places in
     record {
-      plain = record { processes = k.processes; bag = λ i. means_same (l.bag i) ∙ k.bag i; board = k.board; manager = k.manager; machines = k.machines; images = k.images };
-      places = record { process = g.process; message = λ i m e. g.message i m (is_there (l.bag i) m e); name = g.name; child = g.child; answer = g.answer };
+      plain = record { processes = k.processes; bag = λ i. means_same (l.bag i) ∙ k.bag i; notes = k.notes; noted = k.noted; board = k.board; manager = k.manager; machines = k.machines; images = k.images };
+      places = record { process = g.process; message = λ i m e. g.message i m (is_there (l.bag i) m e); name = g.name; child = g.child; answer = g.answer; asker = g.asker };
     }
 
 -- none is left that isn't the kernel's

@@ -69,6 +69,8 @@ start_mirrors b = record {
     manager = ap (λ (cs : List Pid). record { children = cs; pending = []; sent = 0 }) (children_plainly b.processes);
     machines = refl;
     images = refl;
+    notes = λ p. refl;
+    noted = λ i. refl;
   };
   places = record {
     process = λ q x e. started_kept b b.processes q x refl e;
@@ -76,5 +78,6 @@ start_mirrors b = record {
     name = λ n k e. absurd (let f : None ≡ Some k = e in cc);
     child = λ n c e. child_kept b.processes n c e;
     answer = λ n r e. absurd (let f : None ≡ Some r = e in cc);
+    asker = λ p k e. absurd (let f : None ≡ Some k = e in cc);
   };
 }

@@ -5,7 +5,7 @@ use Rattle.dm_onekernel.specs.Step as kernel
 use Rattle.dm_places.proofs.Lines.{mirrors_view, moves_label}
 use Rattle.dm_places.proofs.Labels.Acts.{ran_follows, call_follows, send_follows, wait_follows, out_follows, end_follows}
 use Rattle.dm_places.proofs.Labels.Receives.{receive_follows, refuse_follows}
-use Rattle.dm_places.proofs.Labels.Answers.{dropped_follows, gone_follows, no_space_follows}
+use Rattle.dm_places.proofs.Labels.Answers.{answered_follows, asked_follows, dropped_follows, gone_follows, no_space_follows}
 use Rattle.dm_places.proofs.Labels.Serves.{served_follows}
 use Rattle.dm_places.proofs.Labels.Creates.{created_follows}
 use Rattle.dm_places.proofs.Labels.Managers.{InOrder}
@@ -26,9 +26,11 @@ steps_follow s t v a l (Label.Refuse p id c) h needs is = refuse_follows s t v a
 steps_follow s t v a l (Label.Dropped id) h needs is = dropped_follows s t v a l id is h
 steps_follow s t v a l (Label.Served id) h needs is = served_follows s t v a l id is h
 steps_follow s t v a l (Label.Gone id) h needs is = gone_follows s t v a l id is h
-steps_follow s t v a l (Label.Took id) h needs is = took_follows s t v a l id is needs.0 (in_order s v a l h needs.1) h
+steps_follow s t v a l (Label.Took id) h needs is = took_follows s t v a l id is (in_order s v a l h needs.1) h
 steps_follow s t v a l (Label.Created id child) h needs is = created_follows s t v a l id child is needs h
 steps_follow s t v a l (Label.NoSpace id f b) h needs is = no_space_follows s t v a l id f b is h
+steps_follow s t v a l (Label.Asked id) h needs is = asked_follows s t v a l id is needs h
+steps_follow s t v a l (Label.Answered id o) h needs is = answered_follows s t v a l id o is needs h
 
 -- the same for a machine that is the one that acts
 pub placed_follows : (s t : OneKernel) (v : View) (a : Addresses) (l : Placed) (here : ℕ) (e : Label) → Mirrors s v a l → v.acting ≡ here → StepNeeds s v e → kernel.step s e ≡ Some t

@@ -1,6 +1,7 @@
 -- The steps with places, computed on worked cases.
 use Rattle.dm_places.proofs.Names.{◌≡◌, ℕ, List, [], ◌∷◌, refl, take, drop, option_map, Option, None, Some, Addr, Link, pid_of, link_at, Message, What, Reply, id_of, Process, begun_process, instruction, One, Label, bind, hi, Placed}
 use Rattle.dm_places.proofs.Names.{placed_start, placed_step}
+use Rattle.dm_places.proofs.Names.{MsgId, Outcome, answer_id, id_eq, if◌then◌else◌}
 
 -- labels in order, each on its machine
 abbrev steps : Placed → List (ℕ × Label) → Option Placed
@@ -53,3 +54,29 @@ address_in o = option_map (λ w. w.addr) o
 pub made_link_leads_here : bind (placed_step 2 One [] alone (Label.Call (pid_of 0 3) 3 Reply.Done)) (λ l. bind (l.processes (pid_of 0 3)) (λ x. address_in (link_at x.table 0))) ≡ Some (record { pid = pid_of 0 3; at = 2; moves = 5 })
 unfolding instruction
 made_link_leads_here = refl
+
+-- a request of the manager's that a process move is in the bag
+abbrev request : MsgId
+request = id_of (pid_of 0 2) 4
+
+abbrev manager_there : Addr
+manager_there = record { pid = pid_of 0 2; at = 0; moves = 0 }
+
+abbrev with_request : Placed
+with_request =
+    record (placed_start hi) {
+      bag = λ i. if id_eq request i then Some (record { id = request; to = record { pid = pid_of 0 3; at = 0; moves = 0 }; sender = manager_there; what = What.Move 1 }) else None;
+    }
+
+pub asker_is_kept : bind (placed_step 0 One hi.images with_request (Label.Asked request)) (λ l. l.notes (pid_of 0 3)) ≡ Some (record { n = 4; addr = manager_there })
+asker_is_kept = refl
+
+-- its answer comes from where the process is then, and nobody waits for it any more
+abbrev answered : Option Placed
+answered = steps with_request ((0, Label.Asked request) ∷ (1, Label.Answered request Outcome.Stayed) ∷ [])
+
+pub answer_has_places : bind answered (λ l. l.bag (answer_id request)) ≡ Some (record { id = answer_id request; to = manager_there; sender = record { pid = pid_of 0 3; at = 1; moves = 0 }; what = What.Moved Outcome.Stayed })
+answer_has_places = refl
+
+pub nobody_waits : bind answered (λ l. l.notes (pid_of 0 3)) ≡ None
+nobody_waits = refl

@@ -4,7 +4,8 @@ use Rattle.std.specs.declared.option.Option.TheVariants.{None, Some}
 use Rattle.dm_link.specs.declared.Pid.{Pid}
 use Rattle.dm_link.specs.Names.{pid_eq}
 use Rattle.dm_message.specs.declared.MsgId.{MsgId}
-use Rattle.dm_message.specs.Ids.{id_eq}
+use Rattle.dm_message.specs.Ids.{id_eq, id_of}
+use Rattle.dm_message.specs.Plain as what
 use Rattle.dm_message.specs.Plain.{PlainMessage}
 use Rattle.dm_migrate.specs.Departure.{sent_on}
 use Rattle.dm_onekernel.specs.Boot.{manager, switchboard}
@@ -67,8 +68,9 @@ LinesNeed pt [] = ⊤
 LinesNeed pt (x ∷ xs) = LineNeeds pt x × ((next : Point) → after_line pt x ≡ Some next → LinesNeed next xs)
 
 -- where a group begins: the manager's requests stand in the order in which it sent them, what was never made has never moved, and
--- what comes for a server comes to machine 0
+-- what comes for a server comes to machine 0; a request to move is one of the manager's messages
 pub record GroupNeeds (pt : Point) : Type 0 where
   pub pending : ascends 0 pt.kernel.manager.pending pt.kernel.manager.sent ≡ true
   pub unmoved : (p : Pid) → pt.kernel.processes p ≡ None → pt.view.moves p ≡ 0
   pub server : (m : ℕ) (i : MsgId) (is : List MsgId) (x : PlainMessage) → pt.view.inbox m ≡ i ∷ is → pt.kernel.bag i ≡ Some x → (pid_eq x.to switchboard || pid_eq x.to manager) ≡ true → m ≡ 0
+  pub asks : (i : MsgId) (x : PlainMessage) (machine : ℕ) → pt.kernel.bag i ≡ Some x → x.what ≡ what.Move machine → i ≡ id_of manager i.n

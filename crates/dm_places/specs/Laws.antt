@@ -12,6 +12,7 @@ use Rattle.dm_onekernel.specs.declared.boot.Boot.{Boot}
 use Rattle.dm_onekernel.specs.declared.label.Label.{Label}
 use Rattle.dm_onekernel.specs.declared.label.Label.TheVariants as label
 use Rattle.dm_onekernel.specs.Kernel.{Note, OneKernel}
+use Rattle.dm_onekernel.specs.PlainProcess.{PlainProcess}
 use Rattle.dm_onekernel.specs.Step as kernel
 use Rattle.dm_line.specs.declared.line.Line.{Line}
 use Rattle.dm_line.specs.declared.line.Line.TheVariants as line
@@ -25,8 +26,8 @@ use Rattle.dm_places.specs.PlacedStart.{placed_start}
 use Rattle.dm_places.specs.PlacedStep.{placed_step}
 
 -- what a label needs beside a mirror: the servers act on machine 0, and the manager's requests have ascending numbers; a
--- process that is made now hasn't moved yet; a request to move has the name of one of the manager's messages, and is
--- the one that its process follows
+-- process that is made now hasn't moved yet; a request to move has the name of one of the manager's messages, and
+-- one that is answered is the one that its process follows, which lives
 abbrev pub StepNeeds : OneKernel → View → Label → Type 0
 StepNeeds s v (label.Ran p k) = ⊤
 StepNeeds s v (label.Call p n c) = ⊤
@@ -43,7 +44,8 @@ StepNeeds s v (label.Took id) = (v.acting ≡ 0) × (ascends 0 s.manager.pending
 StepNeeds s v (label.Created id child) = v.moves child ≡ 0
 StepNeeds s v (label.NoSpace id slots blocks) = ⊤
 StepNeeds s v (label.Asked id) = id ≡ id_of manager id.n
-StepNeeds s v (label.Answered id o) = (p : Pid) (n : Note) → s.noted id ≡ Some p → s.notes p ≡ Some n → n.id ≡ id
+StepNeeds s v (label.Answered id o) =
+    (p : Pid) (n : Note) → s.noted id ≡ Some p → s.notes p ≡ Some n → (x : PlainProcess) × (n.id ≡ id) × (kernel.alive (s.processes p) ≡ Some x)
 
 -- a step of the kernel without machines is one with places, on the machine that acts, and its places are the addresses after it
 abbrev pub StepsFollow : Type 0

@@ -40,7 +40,9 @@ module _ (here : ℕ) (machine : here < 16) where
   sends_lawful g m l k = (record { children = l.children; pending = l.pending; machines = l.machines }, k)
 
   answers_lawful : (g : Managing) (l : Link) (code : ℕ) (ls : List Link) → IsLawfulManager g → IsLawfulEnclosed l → length ls ≤ 4 → All IsLawfulEnclosed ls → IsLawfulTaken (answers here g l code ls)
-  answers_lawful g l code ls h e few all = sends_lawful g (answer_over here g.sent l code ls) h (message_lawful g.sent l.addr (what.User l.code l.channel (record { items = code ∷ [] }) (record { items = ls })) e.link.addr refl (e.link.channel, omega arith, few, all))
+  answers_lawful g l code ls h e few all =
+      sends_lawful g (answer_over here g.sent l code ls) h
+      (message_lawful g.sent l.addr (what.User l.code l.channel (record { items = code ∷ [] }) (record { items = ls })) e.link.addr refl (e.link.channel, omega arith, few, all))
 
   answers_over_lawful : (g : Managing) (o : Option Link) (code : ℕ) (ls : List Link) → IsLawfulManager g → IfSome o IsLawfulEnclosed → length ls ≤ 4 → All IsLawfulEnclosed ls → IsLawfulTaken (answers_over here g o code ls)
   answers_over_lawful g None code ls h e few all = (h, tt {0})

@@ -17,7 +17,7 @@ pub use Rattle.std.specs.declared.result.Result.TheVariants.{Err, Ok}
 pub use Rattle.dm_memory.specs.declared.NoMemory.{NoMemory}
 pub use Rattle.dm_link.specs.Lawful.{IsLawfulAddr, IsLawfulEnclosed, IsMachine}
 pub use Rattle.dm_link.specs.Names.{pid_eq}
-pub use Rattle.dm_link.specs.Places.{is_behind, kernel_at as kernel, kernel_at, relocated, retargeted, retargeted_link}
+pub use Rattle.dm_link.specs.Places.{is_behind, kernel_at, relocated, retargeted, retargeted_link}
 pub use Rattle.dm_link.specs.Plain.{PlainLink, plain_link}
 pub use Rattle.dm_link.specs.declared.Addr.{Addr}
 pub use Rattle.dm_link.specs.declared.Link.{Link}

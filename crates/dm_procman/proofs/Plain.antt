@@ -33,6 +33,19 @@ pub plain_bear : (cs : List Addr) (a : Addr) → map plain_child (cs ++ a ∷ []
 plain_bear [] a = refl
 plain_bear (x ∷ cs) a = ap (λ xs. x.pid ∷ xs) (plain_bear cs a)
 
+-- children and requests by number
+pub plain_numbered : (cs : List Addr) (n : ℕ) → one.child_numbered (map plain_child cs) n ≡ option_map plain_child (child_address cs n)
+plain_numbered cs zero = refl
+plain_numbered cs (suc n) = slice_get-map plain_child cs n
+
+pub plain_pending_numbered : (n : ℕ) (rs : List Pending) → one.pending_numbered n (map plain_pending rs) ≡ option_map plain_pending (pending_request n rs)
+plain_pending_numbered n [] = refl
+plain_pending_numbered n (r ∷ rs) = sym (both (option_map plain_pending) (r.n == n) (Some r) (pending_request n rs) _ _ refl (sym (plain_pending_numbered n rs)))
+
+pub plain_without : (n : ℕ) (rs : List Pending) → map plain_pending (without_pending n rs) ≡ one.without_pending n (map plain_pending rs)
+plain_without n [] = refl
+plain_without n (r ∷ rs) = both (map plain_pending) (r.n == n) rs (r ∷ without_pending n rs) _ _ refl (ap (λ xs. plain_pending r ∷ xs) (plain_without n rs))
+
 module _ (here : ℕ) where
   plain_bad : (g : Managing) (ls : List Link) → plainly (bad_request here g ls) ≡ Some (one.bad_request (plain_manager g) (map plain_link ls))
   plain_bad g [] = refl
@@ -98,23 +111,11 @@ module _ (here : ℕ) where
       ∙ some_both (a == 5) _ _
   plain_controls g (Some c) (a ∷ b ∷ x ∷ xs) ls = plain_bad g ls
 
-  pub plain_numbered : (cs : List Addr) (n : ℕ) → one.child_numbered (map plain_child cs) n ≡ option_map plain_child (child_address cs n)
-  plain_numbered cs zero = refl
-  plain_numbered cs (suc n) = slice_get-map plain_child cs n
-
   pub plain_user : (g : Managing) (code : ℕ) (body : List ℕ) (ls : List Link) → plainly (takes_user here g code body ls) ≡ Some (one.takes_user (plain_manager g) g.machines g.images code body (map plain_link ls))
   plain_user g code body ls =
       both plainly (code == 0) (requests here g body ls) (controls here g (child_address g.children code) body ls) _ _ (plain_requests g body ls)
       (plain_controls g (child_address g.children code) body ls ∙ ap (λ o. Some (one.controls (plain_manager g) g.machines o body (map plain_link ls))) (sym (plain_numbered g.children code)))
       ∙ some_both (code == 0) _ _
-
-  pub plain_pending_numbered : (n : ℕ) (rs : List Pending) → one.pending_numbered n (map plain_pending rs) ≡ option_map plain_pending (pending_request n rs)
-  plain_pending_numbered n [] = refl
-  plain_pending_numbered n (r ∷ rs) = sym (both (option_map plain_pending) (r.n == n) (Some r) (pending_request n rs) _ _ refl (sym (plain_pending_numbered n rs)))
-
-  pub plain_without : (n : ℕ) (rs : List Pending) → map plain_pending (without_pending n rs) ≡ one.without_pending n (map plain_pending rs)
-  plain_without n [] = refl
-  plain_without n (r ∷ rs) = both (map plain_pending) (r.n == n) rs (r ∷ without_pending n rs) _ _ refl (ap (λ xs. plain_pending r ∷ xs) (plain_without n rs))
 
   plain_over : (g : Managing) (o : Option Link) (code : ℕ) (ls : List Link) → plainly (answers_over here g o code ls) ≡ Some (one.answers_over (plain_manager g) (option_map plain_link o) code (map plain_link ls))
   plain_over g None code ls = refl

@@ -1,7 +1,8 @@
 -- What a turn says keeps that each message stands once.
 use Rattle.dm_rule.proofs.Names.{◌≡◌, ℕ, ◌+◌, ◌≤◌, ◌==◌, Bool, true, false, List, [], ◌∷◌, refl, ap, ◌∙◌, sym, subst, arith, length, if◌then◌else◌, slice_get, Option, None, Some, Pid, pid_eq, MsgId, Label, PlainMessage, PlainWhat, bind}
 use Rattle.dm_rule.proofs.Names.{OneKernel, Line, at_record, without_id, View, view_after, handled, receiver_of, Point, label_of, kernel_after, moved, Part, Says, Routes, Spelled, spelled, Spot, Queue, times, ids_at, id_eq-same, bind-is}
-use Rattle.dm_rule.proofs.Names.{Boot, BootImage, Why, first_number, switchboard, manager, PlainProcess, PlainStatus, Ready, Waiting, Moving, answer_id, pid_of, forwards_on, says, drop_parts, plain_kind, instruction, NothingElse, Outcome, Target, answers_move, asked_to_move, leaves_for, machine_in}
+use Rattle.dm_rule.proofs.Names.{Boot, BootImage, Why, first_number, switchboard, manager, PlainProcess, PlainStatus, Ready, Waiting, Moving, answer_id, pid_of, forwards_on, says, drop_parts, plain_kind, instruction, NothingElse, Outcome}
+use Rattle.dm_rule.proofs.Names.{Target, answers_move, asked_to_move, leaves_for, machine_in, machine_of}
 use Rattle.dm_onekernel.specs.Step as kernel
 use Rattle.dm_rule.specs.View as view
 use Rattle.dm_rule.proofs.Lines.{Stands-queued, Stands-dequeued, without_counts}
@@ -12,9 +13,9 @@ use Rattle.dm_onekernel.specs.Pieces as pieces
 use Rattle.dm_onekernel.specs.Receiving as receiving
 use Rattle.dm_onekernel.specs.Switchboard as board
 use Rattle.dm_onekernel.specs.Manager as manage
-use Rattle.dm_rule.specs.Point.{machine_of}
 use Rattle.dm_rule.specs.Rule as rule
-use Rattle.dm_rule.proofs.Bags.{served_id, landed_id, board_id, manager_id, took_id, id_in, bag_ran, bag_call, bag_sends, bag_wait, bag_out, bag_end, bag_receive, bag_refuse, bag_dropped, bag_served, bag_gone, bag_asked, bag_took, bag_created, bag_no_space}
+use Rattle.dm_rule.proofs.Bags.{served_id, landed_id, board_id, manager_id, took_id, id_in, bag_ran, bag_call, bag_sends, bag_wait, bag_out, bag_end, bag_receive, bag_refuse, bag_dropped, bag_served, bag_gone, bag_asked, bag_took}
+use Rattle.dm_rule.proofs.Bags.{bag_created, bag_no_space}
 use Rattle.dm_rule.proofs.States.{State, says_next, said, State-at, by_label, by_line, PairsFit}
 use Rattle.dm_rule.proofs.Bags.{BagStep}
 use Rattle.dm_rule.proofs.Turns.{served_keeps, serving_off, created_off, quiet_label, front_label, dropped_off, dropped_told, front_unqueued, all_dropped, ended_off, gone_out}
@@ -116,7 +117,8 @@ gone_row pt i is w h fits front e =
     (λ s k. front_label pt (Label.Gone i) s i is (Some (answer_id i)) h front k refl (bag_gone h.r h.e pt.kernel s i k h.sound) (λ z. refl) (λ j. refl))
 
 -- a process is asked to move: where it is already, that is answered at once, else it leaves
-asked_by : (pt : Point) (i : MsgId) (p : Pid) (to : ℕ) (same : Bool) (w : Spelled) → State None pt → PairsFit pt.view → pt.view.topic ≡ Target to → spelled pt (if same then answers_move i Outcome.Done else leaves_for p to) ≡ Some w → State None w.point
+asked_by : (pt : Point) (i : MsgId) (p : Pid) (to : ℕ) (same : Bool) (w : Spelled) → State None pt → PairsFit pt.view → pt.view.topic ≡ Target to → spelled pt (if same then answers_move i Outcome.Done else leaves_for p to) ≡ Some w
+    → State None w.point
 asked_by pt i p to true w h fits topic e = answers_row pt i Outcome.Done w h fits e
 asked_by pt i p to false w h fits topic e = asked_row pt p to w h fits topic e
 
@@ -314,7 +316,8 @@ goes_round_row b o pt m (Some p) parts w h fits same queue e n =
     ap (λ s. rule.serves_status b.quantum s p (pt.view.queue pt.view.acting p) x x.status) (sym same) ∙ ap (λ q. rule.serves_status b.quantum o.kernel p q x x.status) (sym (queue p)) ∙ rest in
     serves_row pt b.quantum p x x.status parts w h fits here n
 
-comes_row : (b : Boot) (o pt : Point) (m : ℕ) (i : MsgId) (is : List MsgId) (t : Option PlainMessage) (parts : List Part) (w : Spelled) (h : State None pt) → PairsFit pt.view → pt.view.topic ≡ NothingElse → pt.view.inbox pt.view.acting ≡ i ∷ is → SeesSame o pt m → o.kernel.bag i ≡ t
+comes_row : (b : Boot) (o pt : Point) (m : ℕ) (i : MsgId) (is : List MsgId) (t : Option PlainMessage) (parts : List Part) (w : Spelled) (h : State None pt) → PairsFit pt.view → pt.view.topic ≡ NothingElse
+    → pt.view.inbox pt.view.acting ≡ i ∷ is → SeesSame o pt m → o.kernel.bag i ≡ t
     → rule.comes_to b o m i t ≡ Some parts → spelled pt parts ≡ Some w → State None w.point
 comes_row b o pt m i is None parts w h fits topic front sees there e n =
     hears_row b o pt m i is (o.view.told i) parts w h fits topic front (ap (λ (s : OneKernel). s.bag i) (sym sees.kernel) ∙ there) sees e n

@@ -2,8 +2,7 @@
 use Rattle.dm_rule.proofs.Names.{◌≡◌, ℕ, ◌==◌, ◌||◌, Bool, true, false, List, [], ◌∷◌, ◌++◌, refl, ap, ◌∙◌, subst, length, ◌/◌, ⊤, if◌then◌else◌, Option, None, Some, Pid, pid_of, pid_eq, MsgId, MessageKind, Line, Stage, Boot, switchboard}
 use Rattle.dm_rule.proofs.Names.{manager, PlainProcess, Told, About, Of, Known, Unknown, Here, Frozen, Incoming, Forward, Ended, target_of, Point, Part, Says, Again, Owns, Addresses, Sender, is_told_back, place_told, to_kernel, forwards_on}
 use Rattle.dm_rule.proofs.Names.{moves_to, accepts, takes_chunk, takes_block, gives_piece, sends_on, leaves, kernel_told, chunks_of, pieces_of, updates, here_told, ended_told, process_told, server_told, fits, free_room, kernel_hears, hears}
-use Rattle.dm_rule.proofs.Names.{bind-is, behind_count}
-use Rattle.dm_rule.proofs.Names.{Label, Note, Outcome, Routes, answer_id, answers_move, tells_asker, leaves_for}
+use Rattle.dm_rule.proofs.Names.{bind-is, behind_count, Label, Note, Outcome, Routes, answer_id, answers_move, tells_asker, leaves_for}
 use Rattle.dm_onekernel.specs.Step as kernel
 
 -- a process's messages go on, and it has left

@@ -15,7 +15,6 @@ pub use Rattle.dm_processor.specs.declared.registers.Fault.{Fault}
 pub use Rattle.dm_processor.specs.declared.registers.Regs.{Regs}
 pub use Rattle.dm_message.specs.Kinds.{plain_kind}
 pub use Rattle.dm_message.specs.Sorts.{Sort, sort_of}
-pub use Rattle.dm_message.specs.declared.Outcome.{Outcome}
 pub use Rattle.dm_message.specs.declared.kind.MessageKind.{MessageKind}
 pub use Rattle.dm_linktable.proofs.Names.{Link, Pid, first_empty, is_none, link_at, map, pid_eq, subst, ◌&&◌, ◌==◌, ◌≢◌}
 pub use Rattle.dm_schedule.proofs.Names.{append-nil, drop-length, if◌then◌else◌, nat_lt, not, position_or_len}
@@ -25,23 +24,23 @@ pub use Rattle.dm_process.proofs.Names.{slice_get}
 pub use Rattle.dm_process.specs.Mail.{on_mask}
 pub use Rattle.dm_onekernel.specs.Boot.{is_general, slots_of}
 pub use Rattle.dm_onekernel.specs.Codes.{reply_code, reply_eq, why_eq}
-pub use Rattle.dm_onekernel.specs.Kernel.{NamedLink, Note, with_note, without_note}
+pub use Rattle.dm_onekernel.specs.Kernel.{NamedLink}
 pub use Rattle.dm_onekernel.specs.PlainProcess.{setting}
 pub use Rattle.dm_onekernel.specs.Service.{is_dropped}
 pub use Rattle.dm_onekernel.specs.Start.{slots_with}
-pub use Rattle.dm_onekernel.specs.Step.{machine_of, with_machine}
+pub use Rattle.dm_onekernel.specs.Step.{with_machine}
 pub use Rattle.dm_onekernel.specs.declared.boot.Format.TheVariants.{One}
-pub use Rattle.dm_laws.proofs.Counted.{is_of_memory, pending_of}
+pub use Rattle.dm_laws.proofs.Counted.{pending_of}
 pub use Rattle.dm_laws.proofs.Entered.{Entered, Made, asks, counts, is_counted, request_id, unentered}
 pub use Rattle.dm_laws.proofs.Equal.{id_eq-is, id_eq-same, id_eq-swap, pid_eq-is, pid_eq-same}
 pub use Rattle.dm_laws.proofs.Grown.{LifeGrows}
 pub use Rattle.dm_laws.proofs.Movers.{sent_at, sent_off, stayed}
-pub use Rattle.dm_laws.proofs.Names.{Alive, Boot, BootImage, BootProcess, CallNumber, Called, Direction, Ends, IsValid, Label, Life, Manager, Moving, MsgId, None, OneKernel, Option, Outputs, Pending, PlainLink, PlainMessage, PlainProcess}
-pub use Rattle.dm_laws.proofs.Names.{PlainStatus, PlainWhat, Ready, Replies, Reply, Sends, Some, Waiting, Waits, Why, answer_id, answer_to, begun, bind, cases_Bool, direction_numbered, entry, false≢true, first_failed, first_life}
-pub use Rattle.dm_laws.proofs.Names.{first_number, id_eq, id_of, in_bag, inl, inr, is_some, life_at, manager, nat_le, option_map, pid_of, plain_link, processes_are_valid, reception, reg, start, starting_at, switchboard, when}
-pub use Rattle.dm_laws.proofs.Names.{with_process, with_sent, without_message, ⊤, ◌⊎◌}
+pub use Rattle.dm_laws.proofs.Names.{Alive, Boot, BootImage, BootProcess, CallNumber, Called, Direction, Ends, IsValid, Label, Life, Manager, Moving, MsgId, None, Note, OneKernel, Option, Outcome, Outputs, Pending, PendingKind, PlainLink}
+pub use Rattle.dm_laws.proofs.Names.{PlainMessage, PlainProcess, PlainStatus, PlainWhat, Ready, Replies, Reply, Sends, Some, Waiting, Waits, Why, answer_id, answer_to, begun, bind, cases_Bool, code_of_outcome, direction_numbered, entry}
+pub use Rattle.dm_laws.proofs.Names.{false≢true, first_failed, first_life, first_number, id_eq, id_of, in_bag, inl, inr, is_some, life_at, manager, nat_le, option_map, pid_of, plain_link, processes_are_valid, reception, reg, start}
+pub use Rattle.dm_laws.proofs.Names.{starting_at, switchboard, when, with_note, with_process, with_sent, without_message, without_note, ⊤, ◌⊎◌}
 pub use Rattle.dm_laws.proofs.Runs.{after_step, start-sound}
-pub use Rattle.dm_laws.proofs.Servers.{ServerSends, why_ended-is}
+pub use Rattle.dm_laws.proofs.Servers.{ServerSends, board_takes_lem, ends_move-is, manager_takes_lem, why_ended-is}
 pub use Rattle.dm_laws.proofs.Services.{LandsSo, lands-is}
 pub use Rattle.dm_laws.proofs.Sound.{Sound, counts_process, not_server}
 pub use Rattle.dm_laws.proofs.Steps.{Completing, Nexts, Runs, alive-is, at_hand-is, bind-is, completing, nexts, when-is}
@@ -52,28 +51,29 @@ pub use Rattle.dm_line.specs.Todo.{Next, Todo, all_of}
 pub use Rattle.dm_line.specs.declared.line.Line.{Line}
 pub use Rattle.dm_line.specs.declared.line.Load.{Load}
 pub use Rattle.dm_line.specs.declared.line.Stage.{Stage}
-pub use Rattle.dm_rule.specs.Addresses.{Addresses, Answer, AskedBy, Child, Enclosed, Gets, Holder, Name, Owner, Receiver, Sender, Slot, acting_place, addresses_after, all_follow, answer_gets, answer_link, belongs_to, board_finds, board_gets}
-pub use Rattle.dm_rule.specs.Addresses.{board_keeps, boot_home, call_gets, child_from, child_links, child_number, enclosed_from, encloses, fills, fills_by, first_addresses, first_gives, forwards, gets, given, gives, holder_eq, is_behind}
-pub use Rattle.dm_rule.specs.Addresses.{is_pid, is_told_back, landing_gets, leads_to, link_target, links_at, manager_answers, manager_gets, manager_sends, manager_tells, name_link, nth_child, own_given, own_gives, owner_in, owner_of}
-pub use Rattle.dm_rule.specs.Addresses.{place_in, place_known, place_named, place_of_child, place_told, receives_links, receives_what, sends_what, serves_what, slot_after, slot_of, told_back_gets, unmoved, updated, updated_to}
+pub use Rattle.dm_rule.specs.Addresses.{Addresses, Answer, AskedBy, Child, Enclosed, Gets, Holder, Name, Owner, Receiver, Sender, Slot, acting_place, addresses_after, all_follow, answer_gets, answer_link, belongs_to, board_finds}
+pub use Rattle.dm_rule.specs.Addresses.{board_gets, board_keeps, boot_home, call_gets, child_from, child_links, child_number, enclosed_from, encloses, fills, fills_by, first_addresses, first_gives, forwards, gets, given, gives, holder_eq}
+pub use Rattle.dm_rule.specs.Addresses.{is_behind, is_pid, is_told_back, landing_gets, leads_to, link_target, links_at, manager_answers, manager_gets, manager_sends, manager_tells, name_link, nth_child, own_given, own_gives, owner_in}
+pub use Rattle.dm_rule.specs.Addresses.{owner_of, place_in, place_known, place_named, place_of_child, place_told, receives_links, receives_what, sends_what, serves_what, slot_after, slot_of, told_back_gets, unmoved, updated, updated_to}
 pub use Rattle.dm_rule.specs.Apart.{AllSpare, IsOthers, Spares}
 pub use Rattle.dm_rule.specs.Good.{next_step}
-pub use Rattle.dm_rule.specs.Homes.{Homes, are_for_home, are_home, ascends, enclosed_of, is_for_home, links_in, names, sender_of, to_of}
-pub use Rattle.dm_rule.specs.Laws.{AreStill, IsStep, IsStill, LeadHomeAlways, Leads, MovingStaysAlways, PairsStandAlways, PhasesAlways, QuietIsTested, StandsOnceAlways, TellsRightAlways}
-pub use Rattle.dm_rule.specs.Migrating.{accepts, behind_count, chunks_of, ended_told, forwards_on, gives_piece, here_told, kernel_told, leaves, migrates, migrates_child, moves_to, pieces_of, process_told, sends_on, server_told, takes_block}
-pub use Rattle.dm_rule.specs.Migrating.{answers_move, asked_to_move, leaves_for, takes_chunk, tells_asker, to_kernel, updates}
+pub use Rattle.dm_rule.specs.Homes.{Homes, are_for_home, are_home, ascends, asker_in, enclosed_of, is_for_home, links_in, names, sender_of, to_of}
+pub use Rattle.dm_rule.specs.Laws.{AreStill, AskNone, IsStep, IsStill, IsUnasked, LeadHomeAlways, Leads, LeadsStill, MovingStaysAlways, PairsStandAlways, PhasesAlways, QuietIsTested, StandsOnceAlways, TellsRightAlways}
+pub use Rattle.dm_rule.specs.Migrating.{accepts, answers_move, asked_to_move, behind_count, chunks_of, ended_told, forwards_on, gives_piece, here_told, kernel_told, leaves, leaves_for, migrates, migrates_child, moves_to, pieces_of}
+pub use Rattle.dm_rule.specs.Migrating.{process_told, sends_on, server_told, takes_block, takes_chunk, tells_asker, to_kernel, updates}
 pub use Rattle.dm_rule.specs.Pairs.{HomeStands, PairStands}
 pub use Rattle.dm_rule.specs.Parts.{Again, Owns, Part, Routes, Says, Spelled, Transmits, behind, goes_out, lines_of, packet_line, pair_window, puts, spelled}
-pub use Rattle.dm_rule.specs.Phases.{Alone, HasToken, IsIn, IsToken, Moves, Nowhere, Over, Phase, Rests, is_apart, is_away, is_between, is_due, is_early, is_here, is_over, is_restart, kind_comes, knows, receiver_in, sender_in, token_in}
-pub use Rattle.dm_rule.specs.Phases.{told_between}
-pub use Rattle.dm_rule.specs.Point.{Point, after, after_line, first_point, kernel_after, label_of, machine_in, moved, seen, topic_by}
+pub use Rattle.dm_rule.specs.Phases.{Alone, HasToken, IsIn, IsToken, Moves, Nowhere, Over, Phase, Rests, is_apart, is_away, is_between, is_due, is_early, is_here, is_over, is_restart, kind_comes, kind_leaves, knows, receiver_in, sender_in}
+pub use Rattle.dm_rule.specs.Phases.{token_in, told_between}
+pub use Rattle.dm_rule.specs.Point.{Point, after, after_line, first_point, kernel_after, label_of, machine_in, machine_of, moved, seen, topic_by}
 pub use Rattle.dm_rule.specs.Quiet.{IsQuiet, has_mail, is_quiet, pair_is_quiet}
-pub use Rattle.dm_rule.specs.Rule.{Room, arrives, board_took, called, comes_to, completion_parts, creation_parts, drop_parts, ended_handles, executes, first_awaited, first_runnable, fits, free_room, goes_round, group_of, has, has_room}
-pub use Rattle.dm_rule.specs.Rule.{headed, hears, here_handles, kept_from, kernel_handles, kernel_hears, less, let_go, manager_parts, more, numbers_from, outcome, outstanding_count, process_handles, ran, reception_parts, repeats, resends}
-pub use Rattle.dm_rule.specs.Rule.{routes, says, serves_status, stops, takes_on, taking_parts, turns}
+pub use Rattle.dm_rule.specs.Rule.{Room, arrives, board_took, called, comes, comes_to, completion_parts, creation_parts, drop_parts, ended_handles, executes, first_awaited, first_runnable, fits, free_room, goes_round, group_of, has}
+pub use Rattle.dm_rule.specs.Rule.{has_room, headed, hears, here_handles, kept_from, kernel_handles, kernel_hears, less, let_go, manager_parts, more, numbers_from, outcome, outstanding_count, process_handles, ran, reception_parts, repeats}
+pub use Rattle.dm_rule.specs.Rule.{resends, routes, says, serves_status, stops, takes_on, taking_parts, turns}
 pub use Rattle.dm_rule.specs.Spots.{Held, Inbox, Queue, Spot, StandsAsBag, StandsNowhere, StandsOnce, StandsOutside, StandsRight, Untaken, ids_at, standing, times, untaken}
 pub use Rattle.dm_rule.specs.Tells.{TellsRight}
 pub use Rattle.dm_rule.specs.Trails.{AddressesOn, IsOn, LeadsAlong, OwnOn, StoodOnTrail, Trail, Trailed, Trails, TrailsAlways, Trodden, along, destination, first_trails, first_trodden, leads, leads_on, trails_after}
-pub use Rattle.dm_rule.specs.View.{About, Ended, Forward, Frozen, Here, Incoming, Known, NothingElse, Of, Pair, SentLoad, Target, Told, Unknown, View, actor, after_head, after_label, after_packet, after_proto, after_put, after_stage, after_taken}
-pub use Rattle.dm_rule.specs.View.{asks_on, at_least, begins, dropped_for, ended, first_view, follows_up, forward_about, forwarded_for, front_of, front_told, frozen_for, gone_after, gone_to, handled, handled_first, held_for, is_kernels, kills, knowing}
-pub use Rattle.dm_rule.specs.View.{known_at, marked, marked_at, oldest, own_id, queued_for, receiver_of, released, ring_at, routed_on, served_told, sets_off, taken_id, target_of, view_after, with_pair, with_ring, without_first}
+pub use Rattle.dm_rule.specs.View.{About, Ended, Forward, Frozen, Here, Incoming, Known, NothingElse, Of, Pair, SentLoad, Target, Told, Unknown, View, actor, after_head, after_label, after_packet, after_proto, after_put, after_stage}
+pub use Rattle.dm_rule.specs.View.{after_taken, asks_on, at_least, begins, dropped_for, ended, first_view, follows_up, forward_about, forwarded_for, front_of, front_told, frozen_for, gone_after, gone_to, handled, handled_first, held_for}
+pub use Rattle.dm_rule.specs.View.{is_kernels, kills, knowing, known_at, marked, marked_at, oldest, own_id, queued_for, receiver_of, released, ring_at, routed_on, served_told, sets_off, taken_id, target_of, view_after, with_pair, with_ring}
+pub use Rattle.dm_rule.specs.View.{without_first}

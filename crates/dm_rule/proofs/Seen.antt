@@ -1,7 +1,6 @@
 -- The view behind a line is what the line changes; only where a process is asked to move the topic is another.
-use Rattle.dm_rule.proofs.Names.{◌≡◌, Bool, refl, ap, subst, Option, None, Some, Pid, Label, OneKernel, Line, View, About, NothingElse, Target, view_after, label_of, seen, topic_by, after_stage, frozen_for, handled_first, target_of, front_told, sets_off}
-use Rattle.dm_rule.proofs.Names.{Stage, ℕ, Spot, Queue, ids_at, Of, Frozen, at_machine, at_record, without}
-use Rattle.dm_rule.specs.Laws.{IsUnasked}
+use Rattle.dm_rule.proofs.Names.{◌≡◌, Bool, refl, ap, subst, Option, None, Some, Pid, Label, OneKernel, Line, View, About, NothingElse, Target, view_after, label_of, seen, topic_by, after_stage, frozen_for, handled_first, target_of}
+use Rattle.dm_rule.proofs.Names.{front_told, sets_off, Stage, ℕ, Spot, Queue, ids_at, Of, Frozen, at_machine, at_record, without, IsUnasked}
 use Rattle.dm_rule.specs.View as view
 use Rattle.dm_rule.proofs.Lines.{Bag, Stands, Stands-stays}
 

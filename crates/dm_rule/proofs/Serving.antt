@@ -1,9 +1,10 @@
 -- A turn that serves a process, or handles a message of the bag: what comes of it, row by row. Whatever holds of the parts of each row holds of what comes of the turn.
 use Rattle.dm_rule.proofs.Names.{◌≡◌, ℕ, ◌+◌, ◌==◌, ◌||◌, Bool, true, false, List, [], ◌∷◌, refl, ap, ◌∙◌, subst, length, if◌then◌else◌, slice_get, Option, None, Some, Pid, pid_of, pid_eq, MsgId, MessageKind, Label, Reply, Why, plain_kind}
-use Rattle.dm_rule.proofs.Names.{PlainMessage, PlainWhat, instruction, BootImage, Boot, first_number, switchboard, manager, bind, PlainProcess, PlainStatus, Ready, Waiting, Moving, answer_id, machine_of, with_machine, Line, Known, Unknown}
-use Rattle.dm_rule.proofs.Names.{Here, Frozen, Incoming, Forward, Ended, Addresses, Sender, is_told_back, Point, Part, Says, Routes, Again, Owns, forwards_on, Room, says, drop_parts, called, stops, executes, ran, completion_parts}
+use Rattle.dm_rule.proofs.Names.{PlainMessage, PlainWhat, instruction, BootImage, Boot, first_number, switchboard, manager, bind, PlainProcess, PlainStatus, Ready, Waiting, Moving, answer_id, with_machine, Line, Known, Unknown, Here}
+use Rattle.dm_rule.proofs.Names.{Frozen, Incoming, Forward, Ended, Addresses, Sender, is_told_back, Point, Part, Says, Routes, Again, Owns, forwards_on, Room, says, drop_parts, called, stops, executes, ran, completion_parts}
 use Rattle.dm_rule.proofs.Names.{reception_parts, first_awaited, serves_status, goes_round, has_room, free_room, creation_parts, kernel_handles, routes, board_took, manager_parts, here_handles, ended_handles, process_handles, bind-is}
 use Rattle.dm_rule.proofs.Names.{Outcome, answers_move, asked_to_move, leaves_for, arith, nat_tests, sym}
+use Rattle.dm_onekernel.specs.Step.{machine_of}
 use Rattle.dm_onekernel.specs.Calls as calls
 use Rattle.dm_onekernel.specs.Pieces as pieces
 use Rattle.dm_onekernel.specs.Receiving as receiving
@@ -226,7 +227,8 @@ loose_round L c b o m q ps idle = by_round L b o m q ps idle (λ p x is alive. r
 
 -- a message of the bag, where only these rows say more
 pub loose_handles : (P L : List Part → Type 0) → Loose L → ((ps : List Part) → L ps → P ps) → (b : Boot) (o : Point) (m : ℕ) (id : MsgId) (msg : PlainMessage) (ps : List Part) → (To o m msg Here → P (Says (Line.Queued id) ∷ [])) → P (Says (Line.Held id) ∷ [])
-    → ((to : ℕ) → To o m msg Here → msg.what ≡ PlainWhat.Move to → (m == to) ≡ false → P (says (Label.Asked id) ∷ leaves_for msg.to to)) → ((to moves : ℕ) → To o m msg (Forward to moves) → P (forwards_on o.addresses id (plain_kind msg.what) msg.sender to)) → rule.handles b o m id msg ≡ Some ps → P ps
+    → ((to : ℕ) → To o m msg Here → msg.what ≡ PlainWhat.Move to → (m == to) ≡ false → P (says (Label.Asked id) ∷ leaves_for msg.to to))
+    → ((to moves : ℕ) → To o m msg (Forward to moves) → P (forwards_on o.addresses id (plain_kind msg.what) msg.sender to)) → rule.handles b o m id msg ≡ Some ps → P ps
 loose_handles P L c up b o m id msg ps queued held leaves forwarded =
     let one : (l : Label) → P (says l ∷ []) = λ l. up (says l ∷ []) (c.label l [] c.none) in
     let routed : (l : Label) (i : MsgId) → P (says l ∷ Routes i ∷ []) = λ l i. up (says l ∷ Routes i ∷ []) (c.label l (Routes i ∷ []) (c.routes i [] c.none)) in

@@ -11,5 +11,6 @@ pub mod Queues
 pub mod Unmoved
 pub mod Rings
 pub mod Known
+pub mod Noted
 pub mod Start
 pub mod Always

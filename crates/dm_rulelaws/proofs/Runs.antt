@@ -1,4 +1,5 @@
 -- All that holds wherever the rule leads, migrations included.
+use Rattle.dm_rulelaws.proofs.Based.Noted.{Away}
 use Rattle.dm_rulelaws.proofs.Names.{◌≡◌, ℕ, ◌≤◌, true, length, None, Some, Pid, MsgId, Boot, ascends, Point, times, Told, Phased, KernelFits, Found, ListsStand, KnownStands}
 use Rattle.dm_rulelaws.proofs.Queued.{IsQueued}
 use Rattle.dm_rulelaws.proofs.Found.Always.{FoundBy}
@@ -16,6 +17,8 @@ pub record Based (b : Boot) (pt : Point) : Type 0 where
   pub held : (n : ℕ) (p : Pid) (i : MsgId) → 1 ≤ times i (pt.view.held n p) → (t : Told) × (pt.view.told i ≡ Some t) × (t.receiver ≡ p)
   pub lists : ListsStand pt.view
   pub known : KnownStands pt.kernel pt.view
+  -- what follows a request to move is here on no machine
+  pub noted : Away None pt.kernel pt.view
   -- the manager's pending requests stand in the order in which it sent them
   pub pending : ascends 0 pt.kernel.manager.pending pt.kernel.manager.sent ≡ true
   -- what was never made has never moved

@@ -101,14 +101,16 @@ pub board_after : (here : ℕ) (r : Result Took NoMemory) (old new : Board) (m :
     → IfOk r (λ t. takes_request here old bs ls ≡ record { board = new; took = t }) → OnErr r (new ≡ old)
     → IsLawfulBoard old → IsLawfulMessage m → IsLawfulBoard new
 board_after here (Err e) old new m code channel body links bs ls machine is el h same l k = subst IsLawfulBoard (sym same) l
-board_after here (Ok t) old new m code channel body links bs ls machine is el h same l k = (request_lawful here old bs ls (record { board = new; took = t }) machine h l (subst (All IsLawfulEnclosed) (sym el) (links_lawful m code channel body links is k))).0
+board_after here (Ok t) old new m code channel body links bs ls machine is el h same l k =
+    (request_lawful here old bs ls (record { board = new; took = t }) machine h l (subst (All IsLawfulEnclosed) (sym el) (links_lawful m code channel body links is k))).0
 
 pub answer_after : (here : ℕ) (r : Result Took NoMemory) (old new : Board) (m : Message) (code channel : ℕ) (body : ArrayVec ℕ) (links : ArrayVec Link) (bs : List ℕ) (ls : List Link)
     → here < 16 → m.what ≡ what.User code channel body links → ls ≡ links.items
     → IfOk r (λ t. takes_request here old bs ls ≡ record { board = new; took = t })
     → IsLawfulBoard old → IsLawfulMessage m → IfOk r (λ t. IfSome t.answer IsLawfulMessage)
 answer_after here (Err e) old new m code channel body links bs ls machine is el h l k = h
-answer_after here (Ok t) old new m code channel body links bs ls machine is el h l k = (request_lawful here old bs ls (record { board = new; took = t }) machine h l (subst (All IsLawfulEnclosed) (sym el) (links_lawful m code channel body links is k))).1
+answer_after here (Ok t) old new m code channel body links bs ls machine is el h l k =
+    (request_lawful here old bs ls (record { board = new; took = t }) machine h l (subst (All IsLawfulEnclosed) (sym el) (links_lawful m code channel body links is k))).1
 
 addr_either : (behind : Bool) (at moves : ℕ) (a : Addr) → IsMachine at → IsLawfulAddr a → IsLawfulAddr (if behind then relocated at moves a else a)
 addr_either true at moves a m l = record { home = l.home; at = m }

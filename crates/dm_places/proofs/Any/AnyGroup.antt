@@ -6,7 +6,7 @@ use Rattle.dm_onekernel.specs.Manager as manage
 use Rattle.dm_onekernel.specs.Pieces as pieces
 use Rattle.dm_onekernel.specs.Switchboard as board
 use Rattle.dm_rule.specs.Rule as rule
-use Rattle.dm_places.proofs.EasyRows.{Easy, arrives_easy, hears_easy, migrates_easy, process_easy, resends_easy, round_easy, routes_easy}
+use Rattle.dm_places.proofs.EasyRows.{AsksEasily, Easy, arrives_easy, hears_easy, migrates_easy, process_easy, resends_easy, round_easy, routes_easy}
 use Rattle.dm_places.proofs.Any.AnyPart.{Behind, EasyParts, PartsNeed, SoundAt, parts_follow}
 use Rattle.dm_places.proofs.Lines.{lines_keep}
 
@@ -63,9 +63,9 @@ or_first true c e = refl
 or_first false c e = cc
 
 comes_fit : (b : Boot) (pt : Point) (v : View) (m : ℕ) (id : MsgId) (o : Option PlainMessage) → v.acting ≡ m → v.moves ≡ pt.view.moves → SoundAt pt.kernel → GroupNeeds pt
-    → ((x : PlainMessage) → o ≡ Some x → (pid_eq x.to switchboard || pid_eq x.to manager) ≡ true → m ≡ 0) → Fits pt.kernel v (rule.comes_to b pt m id o)
-comes_fit b pt v m id None acting counts h needs server = easy_fits pt.kernel v (rule.hears b pt m id (pt.view.told id)) (hears_easy b pt m id (pt.view.told id))
-comes_fit b pt v m id (Some k) acting counts h needs server =
+    → ((x : PlainMessage) → o ≡ Some x → (pid_eq x.to switchboard || pid_eq x.to manager) ≡ true → m ≡ 0) → ((x : PlainMessage) → o ≡ Some x → AsksEasily id x.what) → Fits pt.kernel v (rule.comes_to b pt m id o)
+comes_fit b pt v m id None acting counts h needs server asks = easy_fits pt.kernel v (rule.hears b pt m id (pt.view.told id)) (hears_easy b pt m id (pt.view.told id))
+comes_fit b pt v m id (Some k) acting counts h needs server asks =
     let s = pt.kernel in
     let one = rule.kernel_handles b pt m id k.what in
     let two = rule.board_took id (board.board_takes s.switchboard k k.what) in
@@ -77,13 +77,13 @@ comes_fit b pt v m id (Some k) acting counts h needs server =
     (λ e. board_fits pt v id (board.board_takes s.switchboard k k.what) (acting ∙ server k refl (or_first (pid_eq k.to switchboard) (pid_eq k.to manager) e)) needs)
     (if_fits s v (pid_eq k.to manager) three four
     (λ e. manager_fits pt v id (manage.manager_takes s.manager s.machines (length s.images) k k.what) (acting ∙ server k refl (or_second (pid_eq k.to switchboard) (pid_eq k.to manager) e)) needs)
-    (easy_fits s v four (process_easy pt m id k (pt.view.known m k.to)))))
+    (easy_fits s v four (process_easy pt m id k (pt.view.known m k.to) (asks k refl)))))
 
 turns_fit : (b : Boot) (pt : Point) (v : View) (m : ℕ) (is : List MsgId) → pt.view.inbox m ≡ is → v.acting ≡ m → v.moves ≡ pt.view.moves → SoundAt pt.kernel → GroupNeeds pt → Fits pt.kernel v (rule.turns b pt m is)
 turns_fit b pt v m [] inbox acting counts h needs =
     let o = rule.first_runnable pt.kernel (pt.view.queue m) (pt.view.ring m) in
     easy_fits pt.kernel v (rule.goes_round b pt m o) (round_easy b pt m o)
-turns_fit b pt v m (i ∷ is) inbox acting counts h needs = comes_fit b pt v m i (pt.kernel.bag i) acting counts h needs (λ x there to. needs.server m i is x inbox there to)
+turns_fit b pt v m (i ∷ is) inbox acting counts h needs = comes_fit b pt v m i (pt.kernel.bag i) acting counts h needs (λ x there to. needs.server m i is x inbox there to) (λ x there machine what. needs.asks i x machine there what)
 
 outcome_fits : (b : Boot) (pt : Point) (d : Step) → SoundAt pt.kernel → GroupNeeds pt → Fits pt.kernel (after_head pt.view d) (outcome b pt d)
 outcome_fits b pt (Step.Turn m) h needs = turns_fit b pt (after_head pt.view (Step.Turn m)) m (pt.view.inbox m) refl refl refl h needs

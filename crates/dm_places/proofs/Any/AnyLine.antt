@@ -92,6 +92,7 @@ comes pt l p None none h =
           name = g.name;
           child = g.child;
           answer = g.answer;
+          asker = g.asker;
         };
       };
     }

@@ -5,6 +5,8 @@ use Rattle.dm_places.proofs.Names.{label_of, moved, not_kernels, Placed, LineNee
 use Rattle.dm_onekernel.specs.Step as kernel
 use Rattle.dm_places.proofs.Any.AnyLine.{line_follows}
 use Rattle.dm_places.proofs.Putting.{SamePoint, again_same, puts_same, routes_kernel, routes_mirrors}
+use Rattle.dm_places.proofs.Names.{id_of}
+use Rattle.dm_laws.proofs.Servers.{note-is}
 
 -- what the kernel without machines keeps
 pub record SoundAt (s : OneKernel) : Type 0 where
@@ -34,16 +36,20 @@ own_apart_of s i (Some x) is mine h = absurd (let f : is_kernels i ≡ false = n
 own_apart : (s : OneKernel) (v : View) → SoundAt s → s.bag (own_id v) ≡ None
 own_apart s v h = own_apart_of s (own_id v) (s.bag (own_id v)) refl refl h
 
--- what needs nothing beside: all labels but those of a server and of a new process
+-- what needs little beside: all labels but those of a server and of a new process; a request to move is the manager's
 abbrev pub EasyLabel : Label → Type 0
 EasyLabel (Label.Took id) = ⊥
 EasyLabel (Label.Created id child) = ⊥
+EasyLabel (Label.Asked id) = id ≡ id_of manager id.n
 EasyLabel _ = ⊤
 
-easy_label : (s : OneKernel) (v : View) (l : Label) → EasyLabel l → StepNeeds s v l
-easy_label s v (Label.Took id) e = absurd e
-easy_label s v (Label.Created id child) e = absurd e
-easy_label s v _ e = tt
+easy_label : (s : OneKernel) (v : View) (l : Label) → EasyLabel l → SoundAt s → StepNeeds s v l
+easy_label s v (Label.Took id) e h = absurd e
+easy_label s v (Label.Created id child) e h = absurd e
+easy_label s v (Label.Asked id) e h = e
+easy_label s v (Label.Answered id o) e h = λ p n noted notes.
+    (let (x, alive) = h.sound.notes.lives p n notes in (x, note-is h.e s id p n noted notes h.sound.notes, ap kernel.alive alive))
+easy_label s v _ e h = tt
 
 abbrev pub EasyLine : Line → Type 0
 EasyLine (Line.Label e) = EasyLabel e
@@ -51,7 +57,7 @@ EasyLine (Line.Put from to id k q) = ⊥
 EasyLine _ = ⊤
 
 easy_line : (pt : Point) (x : Line) → EasyLine x → SoundAt pt.kernel → LineNeeds pt x
-easy_line pt (Line.Label e) easy h = easy_label pt.kernel pt.view e easy
+easy_line pt (Line.Label e) easy h = easy_label pt.kernel pt.view e easy h
 easy_line pt (Line.Put from to id k q) easy h = absurd easy
 easy_line pt (Line.Forwarded id m) easy h = own_apart pt.kernel pt.view h
 easy_line pt (Line.Updated id n) easy h = servers_apart pt.kernel h

@@ -5,6 +5,7 @@ use Rattle.dm_places.proofs.Any.AnyGroup.{group_follows}
 use Rattle.dm_places.proofs.Any.AnyPart.{SoundAt}
 use Rattle.dm_places.proofs.Starts.{start_mirrors}
 use Rattle.dm_rule.proofs.Phases.Leaves.{first_of}
+use Rattle.dm_places.proofs.Names.{PlainWhat, id_of}
 
 -- from a point on, and from the start
 pub run_follows : (b : Boot) (Holds : Point → Type 0) → ((p : Point) → Holds p → GroupNeeds p) → ((p : Point) (d : Step) (w : Spelled) → IsStep p.kernel.machines d → group_of b p d ≡ Some w → Holds p → Holds w.point)
@@ -32,8 +33,10 @@ server_by pt m i x (Some t) is some there tells stands home to =
 
 pub group_needs : (pt : Point) → ascends 0 pt.kernel.manager.pending pt.kernel.manager.sent ≡ true → ((p : Pid) → pt.kernel.processes p ≡ None → pt.view.moves p ≡ 0) → TellsRight pt
     → ((i : MsgId) (z : Spot) → 1 ≤ standing pt.view i z → is_some (pt.view.told i) ≡ true)
-    → ((i : MsgId) (m : ℕ) (t : Told) → 1 ≤ standing pt.view i (Inbox m) → pt.view.told i ≡ Some t → (pid_eq t.receiver switchboard || pid_eq t.receiver manager) ≡ true → m ≡ t.receiver.home) → GroupNeeds pt
-group_needs pt pending unmoved tells told fixed = record {
+    → ((i : MsgId) (m : ℕ) (t : Told) → 1 ≤ standing pt.view i (Inbox m) → pt.view.told i ≡ Some t → (pid_eq t.receiver switchboard || pid_eq t.receiver manager) ≡ true → m ≡ t.receiver.home)
+    → ((i : MsgId) (x : PlainMessage) (machine : ℕ) → pt.kernel.bag i ≡ Some x → x.what ≡ PlainWhat.Move machine → i ≡ id_of manager i.n) → GroupNeeds pt
+group_needs pt pending unmoved tells told fixed asks = record {
+  asks = asks;
   pending = pending;
   unmoved = unmoved;
   server = λ m i is x inbox there to.

@@ -3,6 +3,7 @@ use Rattle.dm_places.proofs.Names.{◌≡◌, ℕ, Bool, false, [], ◌∷◌, r
 use Rattle.dm_places.proofs.Names.{with_what, sent_on, OneKernel, bind, id_eq-is, id_eq-same, View, Addresses, Receiver, gets, given, SameMessage, SameProcess, SameServers, two, two_off, two_process, Placed, Mirrors, MirrorsKernel}
 use Rattle.dm_places.proofs.Names.{MirrorsMessage, MirrorsPlaces, with_message}
 use Rattle.dm_places.proofs.Keeps.{message_same, process_same}
+use Rattle.dm_places.proofs.Keeps.{answer_as}
 
 -- a message that means the same
 bag_again : (s : OneKernel) (l : Placed) (id : MsgId) (m : Option Message) (i : MsgId) → bind m plain_message ≡ s.bag id → MirrorsKernel s l → bind ((with_message l id m).bag i) plain_message ≡ s.bag i
@@ -28,7 +29,8 @@ places_message v a b l id m h processes off on servers = record {
   message = again_places a b l id m h.message off on;
   name = λ n k e. servers.name n ∙ h.name n k e;
   child = λ n c e. servers.child n ∙ h.child n c e;
-  answer = λ n r e. servers.answer n ∙ h.answer n r e;
+  answer = λ n r e. answer_as r.answer (servers.answer n) (h.answer n r e);
+  asker = λ p k e. servers.asked p ∙ h.asker p k e;
 }
 
 pub this_message : (a : Addresses) (i : MsgId) (m : Message) → MirrorsMessage a i m → (x : Message) → Some m ≡ Some x → MirrorsMessage a i x
@@ -54,7 +56,7 @@ sent_on_one s v a l id x at moves there h =
       plain = kernel_again s l id (Some (sent_on at moves x)) (plain_sent_on at moves x ∙ sym (ap (λ (o : Option Message). bind o plain_message) there) ∙ h.plain.bag id) h.plain;
       places = places_message v a b l id (Some (sent_on at moves x)) h.places (λ q. record { slot = λ k. refl; owner = refl })
           (λ i y f apart. record { receiver = ap (λ (c : Bool). if c then place else a (Receiver i)) apart; sender = refl; enclosed = λ k. refl })
-          (this_message b id (sent_on at moves x) on) (record { child = λ n. refl; name = λ n. refl; answer = λ n. refl });
+          (this_message b id (sent_on at moves x) on) (record { child = λ n. refl; name = λ n. refl; answer = λ n. refl; asked = λ q. refl });
     }
 
 -- the same where there may be no message
@@ -67,7 +69,7 @@ sent_on_any s v a l id None place none h =
       plain = kernel_again s l id None (sym (ap (λ (o : Option Message). bind o plain_message) none) ∙ h.plain.bag id) h.plain;
       places = places_message v a b l id None h.places (λ q. record { slot = λ k. refl; owner = refl })
           (λ i y f apart. record { receiver = ap (λ (c : Bool). if c then place else a (Receiver i)) apart; sender = refl; enclosed = λ k. refl })
-          (λ y e. absurd (let f : None ≡ Some y = e in cc)) (record { child = λ n. refl; name = λ n. refl; answer = λ n. refl });
+          (λ y e. absurd (let f : None ≡ Some y = e in cc)) (record { child = λ n. refl; name = λ n. refl; answer = λ n. refl; asked = λ q. refl });
     }
 
 -- the addresses of a message that isn't there
@@ -85,5 +87,6 @@ free_mirrors s v a l i to from none h =
         name = g.name;
         child = g.child;
         answer = g.answer;
+        asker = g.asker;
       };
     }

@@ -132,5 +132,6 @@ restarted_mirrors pt l p x h there =
         name = g.name;
         child = g.child;
         answer = g.answer;
+        asker = g.asker;
       };
     }

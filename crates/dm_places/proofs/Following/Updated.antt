@@ -11,7 +11,8 @@ use Rattle.dm_onekernel.specs.Step as kernel
 use Rattle.dm_switchboard.proofs.Plain as board
 use Rattle.dm_procman.proofs.Plain as managing
 use Rattle.dm_rule.specs.Addresses as addresses
-use Rattle.dm_places.proofs.Keeps.{message_same, of_map, process_same}
+use Rattle.dm_places.proofs.Names.{AnswerNames}
+use Rattle.dm_places.proofs.Keeps.{answer_as, message_same, of_map, process_same}
 use Rattle.dm_places.proofs.Following.Followed.{kernel_process_again}
 use Rattle.dm_places.proofs.Lines.{mirrors_view}
 
@@ -108,7 +109,8 @@ process_told s v a l q r at moves x no_board no_manager there h =
         message = λ i m e. message_same a (told_of s a q r at moves) i m (messages_keep s a q r at moves i) (g.message i m e);
         name = λ n k e. unled s a q r at moves (Name n) no_board ∙ g.name n k e;
         child = λ n c e. unled s a q r at moves (Child n) no_manager ∙ g.child n c e;
-        answer = λ n y e. unled s a q r at moves (Answer n) no_manager ∙ g.answer n y e;
+        answer = λ n y e. answer_as y.answer (unled s a q r at moves (Answer n) no_manager) (g.answer n y e);
+        asker = g.asker;
       };
     }
 
@@ -126,7 +128,8 @@ ended_told s v a l q r at moves no_board no_manager none h =
         message = λ i m e. message_same a (told_of s a q r at moves) i m (messages_keep s a q r at moves i) (g.message i m e);
         name = λ n k e. unled s a q r at moves (Name n) no_board ∙ g.name n k e;
         child = λ n c e. unled s a q r at moves (Child n) no_manager ∙ g.child n c e;
-        answer = λ n y e. unled s a q r at moves (Answer n) no_manager ∙ g.answer n y e;
+        answer = λ n y e. answer_as y.answer (unled s a q r at moves (Answer n) no_manager) (g.answer n y e);
+        asker = g.asker;
       };
     }
 
@@ -152,6 +155,7 @@ switchboard_told s v a l r at moves none h =
             led s a q r at moves (Name n) u.link.addr refl (name_leads s v a l n u h there) (g.name n u there) ∙ ap (λ (z : Named). place_of z.link.addr) is;
         child = g.child;
         answer = g.answer;
+        asker = g.asker;
       };
     }
 
@@ -161,7 +165,7 @@ child_leads s v a l zero c h there = cc
 child_leads s v a l (suc n) c h there =
     ap (λ (g : Manager). manage.child_numbered g.children (suc n)) (sym h.plain.manager) ∙ slice_get-map plain_child l.manager.children n ∙ ap (option_map plain_child) there
 
-pub answer_leads : (s : OneKernel) (v : View) (a : Addresses) (l : Placed) (n : ℕ) (y : Pending) → Mirrors s v a l → pending_request n l.manager.pending ≡ Some y → leads_to s (Answer n) ≡ Some y.answer.addr.pid
+pub answer_leads : (s : OneKernel) (v : View) (a : Addresses) (l : Placed) (n : ℕ) (y : Pending) → Mirrors s v a l → pending_request n l.manager.pending ≡ Some y → leads_to s (Answer n) ≡ link_target (option_map plain_link y.answer)
 answer_leads s v a l n y h there =
     ap (λ (g : Manager). link_target (answer_link (manage.pending_numbered n g.pending))) (sym h.plain.manager)
     ∙ ap (λ (o : Option one.Pending). link_target (answer_link o)) (managing.plain_pending_numbered n l.manager.pending ∙ ap (option_map plain_pending) there)
@@ -181,9 +185,16 @@ child_follows s v a l r at moves (suc n) c h e =
     let (u, there, is) = of_map (retargeted r at moves) (slice_get l.manager.children n) c (sym e ∙ slice_get-map (retargeted r at moves) l.manager.children n) in
     led s a manager r at moves (Child (suc n)) u refl (child_leads s v a l (suc n) u h there) (h.places.child (suc n) u there) ∙ ap place_of is
 
+retargeted_names : (s : OneKernel) (a : Addresses) (r : Pid) (at moves n : ℕ) (o : Option Link) → leads_to s (Answer n) ≡ link_target (option_map plain_link o) → AnswerNames o (a (Answer n))
+    → AnswerNames (option_map (retargeted_link r at moves) o) (told_of s a manager r at moves (Answer n))
+retargeted_names s a r at moves n None leads h = tt
+retargeted_names s a r at moves n (Some w) leads h = led s a manager r at moves (Answer n) w.addr refl leads h
+
 answer_follows : (s : OneKernel) (v : View) (a : Addresses) (l : Placed) (r : Pid) (at moves n : ℕ) (y : Pending) → Mirrors s v a l → pending_request n (map (retargeted_pending r at moves) l.manager.pending) ≡ Some y
-    → told_of s a manager r at moves (Answer n) ≡ place_of y.answer.addr
-answer_follows s v a l r at moves n y h e = grind (arith, nat_tests, of_map, pending_map, led, answer_leads)
+    → AnswerNames y.answer (told_of s a manager r at moves (Answer n))
+answer_follows s v a l r at moves n y h e =
+    let (u, there, is) = of_map (retargeted_pending r at moves) (pending_request n l.manager.pending) y (sym e ∙ pending_map r at moves n l.manager.pending) in
+    subst (λ (x : Pending). AnswerNames x.answer (told_of s a manager r at moves (Answer n))) is (retargeted_names s a r at moves n u.answer (answer_leads s v a l n u h there) (h.places.answer n u there))
 
 abbrev pub manager_told : Placed → Pid → ℕ → ℕ → Placed
 manager_told l r at moves = record l { manager = retargeted_manager r at moves l.manager }
@@ -200,6 +211,7 @@ children_told s v a l r at moves none h =
         name = g.name;
         child = λ n c e. child_follows s v a l r at moves n c h e;
         answer = λ n y e. answer_follows s v a l r at moves n y h e;
+        asker = g.asker;
       };
     }
 

@@ -8,6 +8,8 @@ use Rattle.dm_onekernel.specs.Kernel as one
 use Rattle.dm_onekernel.specs.Step as kernel
 use Rattle.dm_rule.specs.Addresses as addresses
 use Rattle.dm_places.proofs.Following.Updated.{alive_is, answer_leads, behind_led, child_leads, name_leads, slot_leads}
+use Rattle.dm_places.proofs.Names.{AnswerNames, leads_to, link_target, option_map, plain_link}
+use Rattle.dm_procman.specs.Managing.{answer_is_behind}
 
 count_cons : {X : Type 0} (p : X → Bool) (x : X) (xs : List X) → count_by p (x ∷ xs) ≡ cond (p x) 1 0 + count_by p xs
 count_cons p x xs = sum_by-cons (λ y. cond (p y) 1 0) x xs
@@ -99,6 +101,11 @@ own_number (p ∷ ps) from to (suc j) y order there =
     let apart : (p.n == y.n) ≡ false = grind (arith, nat_tests) in
     (ap (λ (b : Bool). if b then Some p else pending_request y.n ps) apart ∙ found, omega (arith, least, above))
 
+answer_behind : (s : OneKernel) (a : Addresses) (r : Pid) (moves n : ℕ) (o : Option Link) → leads_to s (Answer n) ≡ link_target (option_map plain_link o) → AnswerNames o (a (Answer n))
+    → addresses.is_behind s a manager r moves (Answer n) ≡ answer_is_behind r moves o
+answer_behind s a r moves n None leads h = ap (λ (w : Option Pid). is_pid r w && nat_lt (a (Answer n)).moves moves) leads
+answer_behind s a r moves n (Some w) leads h = behind_led s a manager r moves (Answer n) w.addr refl leads h
+
 pub updated_manager_count : (s : OneKernel) (v : View) (a : Addresses) (l : Placed) (q r : Pid) (at moves : ℕ) (about : About) → Mirrors s v a l → about ≡ About.Place r at moves → q ≡ manager → ascends 0 s.manager.pending s.manager.sent ≡ true
     → behind_count s a q (place_told about) ≡ count_by (places.is_behind r moves) l.manager.children + count_by (pending_is_behind r moves) l.manager.pending
 updated_manager_count s v a l q r at moves about h is to order =
@@ -111,7 +118,7 @@ updated_manager_count s v a l q r at moves about h is to order =
     in
     let answers = among_named f (λ (y : one.Pending). Answer y.n) plain_pending (pending_is_behind r moves) g.pending
     (λ j y there. let own = (own_number g.pending 0 g.sent j y ordered there).0 in
-    behind_led s a manager r moves (Answer y.n) y.answer.addr refl (answer_leads s v a l y.n y h own) (h.places.answer y.n y own))
+    answer_behind s a r moves y.n y.answer (answer_leads s v a l y.n y h own) (h.places.answer y.n y own))
     in
     (λ i. behind_count s a (to i) (place_told (is i)))
     ∙ ap (λ (m : Manager). behind_among f (holders_numbered Child 1 m.children ++ answers_in m.pending)) (sym h.plain.manager)

@@ -9,6 +9,7 @@ use Rattle.dm_onekernel.specs.Step as kernel
 use Rattle.dm_rule.specs.Addresses as addresses
 use Rattle.dm_places.proofs.Keeps.{alive_of, goes_mirrors, ends_mirrors, kernel_process, kernel_sent, places_process, places_sends, this_process}
 use Rattle.dm_places.proofs.Labels.Calls.{MirrorsCalled, MirrorsSent, behind, does_call_kept}
+use Rattle.dm_laws.proofs.Steps.{at_hand-is}
 
 -- a step with places that leads to what mirrors a kernel
 abbrev pub Follows : OneKernel → View → Addresses → Option Placed → Type 0
@@ -34,8 +35,8 @@ record Runs (l : Placed) (p : Pid) (x : PlainProcess) : Type 0 where
 
 runs_of : (s : OneKernel) (l : Placed) (p : Pid) (x : PlainProcess) → MirrorsKernel s l → kernel.running s p ≡ Some x → Runs l p x
 runs_of s l p x h e =
-    let (w, alive, ready) = bind-is (kernel.alive (s.processes p)) (λ (z : PlainProcess). kernel.if_ready z z.status) x e in
-    let (y, there, is) = alive_of s l p w h alive in
+    let (w, hand, ready) = bind-is (kernel.at_hand s p) (λ (z : PlainProcess). kernel.if_ready z z.status) x e in
+    let (y, there, is) = alive_of s l p w h (ap kernel.alive (at_hand-is s p w hand).1) in
     let k = ready_of y y.status x (ap (λ (z : PlainProcess). kernel.if_ready z z.status) is ∙ ready) in
     record { y = y; there = there; is = k.1; runs = ap (λ (o : Option Process). bind o (λ (z : Process). if_ready z z.status)) there ∙ k.0 }
 

@@ -7,9 +7,10 @@ use Rattle.dm_onekernel.specs.Service as service
 use Rattle.dm_onekernel.specs.Switchboard as one
 use Rattle.dm_switchboard.specs.declared.reply.Reply.{Reply}
 use Rattle.dm_switchboard.specs.Taking as board
-use Rattle.dm_places.proofs.Keeps.{came_places, kernel_out, kernel_sent, out_mirrors, places_out, process_same}
+use Rattle.dm_places.proofs.Keeps.{answer_as, came_places, kernel_out, kernel_sent, out_mirrors, places_out, process_same}
 use Rattle.dm_places.proofs.Labels.Acts.{Follows}
 use Rattle.dm_places.proofs.Whats.{user_what}
+use Rattle.dm_places.proofs.Names.{AskedBy}
 
 -- the names and the answer after a request, where b is a with what the request gives
 record AskedKept (a b : Addresses) (sent : MsgId) (k : Asked) : Type 0 where
@@ -19,6 +20,7 @@ record AskedKept (a b : Addresses) (sent : MsgId) (k : Asked) : Type 0 where
   message : (i : MsgId) → id_eq sent i ≡ false → SameMessage a b i
   child : (n : ℕ) → b (Child n) ≡ a (Child n)
   answer : (n : ℕ) → b (Answer n) ≡ a (Answer n)
+  asked : (q : Pid) → b (AskedBy q) ≡ a (AskedBy q)
 
 abbrev NamesKept : Addresses → List Named → Type 0
 NamesKept a names = (n : ℕ) (w : Named) → slice_get names n ≡ Some w → a (Name n) ≡ place_of w.link.addr
@@ -35,6 +37,7 @@ nothing_given a sent names r none h = record {
   message = λ i e. record { receiver = refl; sender = refl; enclosed = λ n. refl };
   child = λ n. refl;
   answer = λ n. refl;
+  asked = λ q. refl;
 }
 
 asks_if : (a : Addresses) (id sent : MsgId) (names : List Named) (body : List ℕ) (b : Bool) (k l : Asked) → AsksKept a id sent names body k → AsksKept a id sent names body l → AsksKept a id sent names body (if b then k else l)
@@ -80,6 +83,7 @@ looks_up_kept a id sent names op name (Some l) is h =
       message = λ i e. record { receiver = refl; sender = refl; enclosed = λ n. ap (λ (c : Bool). if c && (0 == n) then pl else a (Enclosed i n)) e };
       child = λ n. refl;
       answer = λ n. refl;
+      asked = λ q. refl;
     }
 
 registers_kept : (a : Addresses) (id sent : MsgId) (names : List Named) (op : ℕ) (name : List ℕ) (l : Link) (o : Option Link) → a (Enclosed id 1) ≡ place_of l.addr → NamesKept a names
@@ -95,6 +99,7 @@ registers_kept a id sent names op name l None at h = record {
   message = λ i e. record { receiver = refl; sender = refl; enclosed = λ n. refl };
   child = λ n. refl;
   answer = λ n. refl;
+  asked = λ q. refl;
 }
 
 to_register : (a : Addresses) (id sent : MsgId) (names : List Named) (op : ℕ) (name : List ℕ) (ls : List Link) → ((n : ℕ) (w : Link) → slice_get ls n ≡ Some w → a (Enclosed id (suc n)) ≡ place_of w.addr) → NamesKept a names
@@ -123,11 +128,11 @@ asks_kept a id sent names (op ∷ name) ls en h =
 abbrev BoardAt : OneKernel → View → Addresses → Placed → MsgId → List ℕ → Link → List Link → Switchboard → one.Asked → Type 0
 BoardAt s v a l id body w ws b k =
     Mirrors (service.switchboard_took s id (one.board_answers b (plain_link w) k)) v (given a (board_asks v a id (id_of switchboard b.sent) b.names body k))
-    (board_took (without_message l id) (board.answers l.board.sent w (board.asks l.board.names body ws)))
+    (board_took (without_message l id) (board.answers v.acting l.board.sent w (board.asks l.board.names body ws)))
 
-request_mirrors : (s : OneKernel) (v : View) (a : Addresses) (l : Placed) (id : MsgId) (body : List ℕ) (w : Link) (ws : List Link) → ((n : ℕ) (u : Link) → slice_get (w ∷ ws) n ≡ Some u → a (Enclosed id n) ≡ place_of u.addr) → v.acting ≡ 0 → Mirrors s v a l
+request_mirrors : (s : OneKernel) (v : View) (a : Addresses) (l : Placed) (id : MsgId) (body : List ℕ) (w : Link) (ws : List Link) → ((n : ℕ) (u : Link) → slice_get (w ∷ ws) n ≡ Some u → a (Enclosed id n) ≡ place_of u.addr) → Mirrors s v a l
     → BoardAt s v a l id body w ws (plain_board l.board) (plain_asked (board.asks l.board.names body ws))
-request_mirrors s v a l id body w ws en at h =
+request_mirrors s v a l id body w ws en h =
     let names = l.board.names in
     let n = l.board.sent in
     let sent = id_of switchboard n in
@@ -136,55 +141,56 @@ request_mirrors s v a l id body w ws en at h =
     let b = given a (board_finds a sent (map plain_named names) body (plain_reply asked.reply) ++ board_keeps a id (map plain_named names) (plain_reply asked.reply)) in
     let to = a (Enclosed id 0) in
     let from = unmoved v.acting in
-    let m = board.answer_over n w asked.reply in
+    let m = board.answer_over v.acting n w asked.reply in
     let q = one.goes_over switchboard n (plain_link w) (one.code_of_answer (plain_reply asked.reply) ∷ []) (one.links_of_answer (plain_reply asked.reply)) in
     let u = kernel_out s l id h.plain in
     let g = places_out v a l id h.places in
     let s' = record (service.without_message s id) { switchboard = record { names = map plain_named asked.names; sent = n + 1 } } in
     let l' = record (without_message l id) { board = record { names = asked.names; sent = n + 1 } } in
-    let plain : MirrorsKernel s' l' = record { processes = u.processes; bag = u.bag; board = refl; manager = u.manager; machines = u.machines; images = u.images } in
+    let plain : MirrorsKernel s' l' = record { processes = u.processes; bag = u.bag; notes = u.notes; noted = u.noted; board = refl; manager = u.manager; machines = u.machines; images = u.images } in
     record {
-      plain = kernel_sent s' l' q m (plain_answer n w asked.reply) plain;
+      plain = kernel_sent s' l' q m (plain_answer v.acting n w asked.reply) plain;
       places = record {
         process = λ p x e. process_same v a (given b (two sent to from)) p x (let z = k.process p in record { slot = z.slot; owner = z.owner }) (h.places.process p x e);
         message = came_places a (given b (two sent to from)) l' m g.message
             (λ i e. let z = k.message i e in let y = two_off b sent to from i e in record { receiver = y.receiver ∙ z.receiver; sender = y.sender ∙ z.sender; enclosed = z.enclosed })
             (search (
               ap (λ (c : Bool). if c then to else b (Receiver sent)) (id_eq-same sent) ∙ en 0 w refl,
-              ap (λ (c : Bool). if c then from else b (Sender sent)) (id_eq-same sent) ∙ ap unmoved at,
+              ap (λ (c : Bool). if c then from else b (Sender sent)) (id_eq-same sent),
             ));
         name = k.name;
         child = λ j c e. k.child j ∙ h.places.child j c e;
-        answer = λ j r e. k.answer j ∙ h.places.answer j r e;
+        answer = λ j r e. answer_as r.answer (k.answer j) (h.places.answer j r e);
+        asker = λ q w e. k.asked q ∙ h.places.asker q w e;
       };
     }
 
-board_request : (s : OneKernel) (v : View) (a : Addresses) (l : Placed) (id : MsgId) (code channel : ℕ) (body : List ℕ) (links : List Link) → ((n : ℕ) (u : Link) → slice_get links n ≡ Some u → a (Enclosed id n) ≡ place_of u.addr) → v.acting ≡ 0 → Mirrors s v a l
-    → Mirrors (service.switchboard_took s id (one.takes_request s.switchboard body (map plain_link links))) v (given a (board_gets s v a id (PlainWhat.User code channel body (map plain_link links)))) (board_took (without_message l id) (board.takes_request l.board body links))
-board_request s v a l id code channel body [] en at h =
+board_request : (s : OneKernel) (v : View) (a : Addresses) (l : Placed) (id : MsgId) (code channel : ℕ) (body : List ℕ) (links : List Link) → ((n : ℕ) (u : Link) → slice_get links n ≡ Some u → a (Enclosed id n) ≡ place_of u.addr) → Mirrors s v a l
+    → Mirrors (service.switchboard_took s id (one.takes_request s.switchboard body (map plain_link links))) v (given a (board_gets s v a id (PlainWhat.User code channel body (map plain_link links)))) (board_took (without_message l id) (board.takes_request v.acting l.board body links))
+board_request s v a l id code channel body [] en h =
     let u = out_mirrors s v a l id h in
     let p = u.plain in
     let g = u.places in
     search
-board_request s v a l id code channel body (w ∷ ws) en at h =
+board_request s v a l id code channel body (w ∷ ws) en h =
     let asked = board.asks l.board.names body ws in
     subst (λ (b : Switchboard). BoardAt s v a l id body w ws b (one.asks b.names body (map plain_link ws))) h.plain.board
-    (subst (BoardAt s v a l id body w ws (plain_board l.board)) (sym (plain_asks l.board.names body ws)) (request_mirrors s v a l id body w ws en at h))
+    (subst (BoardAt s v a l id body w ws (plain_board l.board)) (sym (plain_asks l.board.names body ws)) (request_mirrors s v a l id body w ws en h))
 
-pub board_row : (s t : OneKernel) (v : View) (a : Addresses) (l : Placed) (id : MsgId) (m : Message) (k : PlainMessage) (u : PlainWhat) → plain_what m.what ≡ Some u → MirrorsMessage a id m → v.acting ≡ 0 → Mirrors s v a l
+pub board_row : (s t : OneKernel) (v : View) (a : Addresses) (l : Placed) (id : MsgId) (m : Message) (k : PlainMessage) (u : PlainWhat) → plain_what m.what ≡ Some u → MirrorsMessage a id m → Mirrors s v a l
     → bind (one.board_takes s.switchboard k u) (λ (z : one.BoardTook). Some (service.switchboard_took s id z)) ≡ Some t
-    → Follows t v (given a (board_gets s v a id u)) (bind (board.takes l.board m.what) (λ (z : board.Taken). Some (board_took (without_message l id) z)))
-board_row s t v a l id m k (PlainWhat.User code channel bytes ls) says hm at h e =
+    → Follows t v (given a (board_gets s v a id u)) (bind (board.takes v.acting l.board m.what) (λ (z : board.Taken). Some (board_took (without_message l id) z)))
+board_row s t v a l id m k (PlainWhat.User code channel bytes ls) says hm h e =
     let w = user_what m.what code channel bytes ls says in
     let f : service.switchboard_took s id (one.takes_request s.switchboard bytes ls) ≡ t = cc in
     let body = w.body.items in
     let links = w.links.items in
-    let on = board_took (without_message l id) (board.takes_request l.board body links) in (
+    let on = board_took (without_message l id) (board.takes_request v.acting l.board body links) in (
       on,
-      ap (λ (x : What). bind (board.takes l.board x) (λ (z : board.Taken). Some (board_took (without_message l id) z))) w.is,
+      ap (λ (x : What). bind (board.takes v.acting l.board x) (λ (z : board.Taken). Some (board_took (without_message l id) z))) w.is,
       subst (λ (q : OneKernel). Mirrors q v (given a (board_gets s v a id (PlainWhat.User code channel bytes ls))) on) f
           (subst (λ (bs : List ℕ). Mirrors (service.switchboard_took s id (one.takes_request s.switchboard bs ls)) v (given a (board_gets s v a id (PlainWhat.User code channel bs ls))) on) w.bytes_are
           (subst (λ (ks : List PlainLink). Mirrors (service.switchboard_took s id (one.takes_request s.switchboard body ks)) v (given a (board_gets s v a id (PlainWhat.User code channel body ks))) on) w.links_are
-          (board_request s v a l id code channel body links (λ n x g. hm.enclosed n x (ap (λ (y : What). slice_get (enclosed y) n) w.is ∙ g)) at h))),
+          (board_request s v a l id code channel body links (λ n x g. hm.enclosed n x (ap (λ (y : What). slice_get (enclosed y) n) w.is ∙ g)) h))),
     )
-board_row s t v a l id m k u says hm at h e = cc
+board_row s t v a l id m k u says hm h e = cc

@@ -163,7 +163,7 @@ user_sent v a p x w over some h k e =
         sender = ap (λ (c : Bool). if c then acting_place v p else given a (encloses id 0 ps) (Sender i)) g ∙ s.sender;
         enclosed = s.enclosed;
       };
-      servers = let s = encloses_servers a id 0 ps in record { child = s.child; name = s.name; answer = s.answer };
+      servers = let s = encloses_servers a id 0 ps in record { child = s.child; name = s.name; answer = s.answer; asked = s.asked };
     })
 
 sends_by : (v : View) (a : Addresses) (p : Pid) (x : Process) (w : Link) (b c d e : Bool) → d ≡ one.any_empty (map plain_slot x.table) (calls.listed x) → link_at x.table (reg x.regs 1) ≡ Some w → MirrorsProcess v a p x
@@ -208,7 +208,7 @@ move_sent v a p m x y to there from none pid moves table owner h = record {
     sender = ap (λ (c : Bool). if c then acting_place v p else a (Sender i)) e;
     enclosed = λ k. refl;
   };
-  servers = record { child = λ n. refl; name = λ n. refl; answer = λ n. refl };
+  servers = record { child = λ n. refl; name = λ n. refl; answer = λ n. refl; asked = λ q. refl };
 }
 
 begins_kept : (v : View) (a : Addresses) (p : Pid) (x : Process) (w : Link) (dir : Direction) → link_at x.table (reg x.regs 1) ≡ Some w → MirrorsProcess v a p x

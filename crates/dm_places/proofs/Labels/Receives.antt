@@ -13,6 +13,7 @@ use Rattle.dm_places.specs.PlacedStep as placed
 use Rattle.dm_places.proofs.Keeps.{alive_of, there_of, parts, goes_mirrors, kernel_out, kernel_process, places_out, places_process, this_process}
 use Rattle.dm_places.proofs.Labels.Acts.{Follows, mirrors_as}
 use Rattle.dm_places.proofs.Whats.{user_what}
+use Rattle.dm_laws.proofs.Steps.{at_hand-is}
 
 -- the slots that links go into, and what they get
 abbrev table_after : List (Option Link) → Link → Option ℕ → List (Option Link)
@@ -180,7 +181,8 @@ record CompletingOf (s : OneKernel) (v : View) (a : Addresses) (l : Placed) (p :
 
 completing_of : (s : OneKernel) (v : View) (a : Addresses) (l : Placed) (p : Pid) (id : MsgId) (d : one.Completed) → Mirrors s v a l → kernel.completing s p id ≡ Some d → CompletingOf s v a l p id d
 completing_of s v a l p id d h is =
-    let (w, alive, rest) = bind-is (kernel.alive (s.processes p)) (λ (y : PlainProcess). bind (s.bag id) (one.completes_with p y)) d is in
+    let (w, hand, rest) = bind-is (kernel.at_hand s p) (λ (y : PlainProcess). bind (s.bag id) (one.completes_with p y)) d is in
+    let alive : kernel.alive (s.processes p) ≡ Some w = ap kernel.alive (at_hand-is s p w hand).1 in
     let (k, there, last) = bind-is (s.bag id) (one.completes_with p w) d rest in
     let (x, stands, x_is) = alive_of s l p w h.plain alive in
     let (m, found, says) = there_of s l id k h.plain there in

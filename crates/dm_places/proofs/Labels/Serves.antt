@@ -17,6 +17,7 @@ use Rattle.dm_places.proofs.Labels.Calls.{stands_here}
 use Rattle.dm_places.proofs.Labels.Acts.{Follows}
 use Rattle.dm_places.proofs.Labels.Answers.{answer_mirrors, two_sends}
 use Rattle.dm_places.proofs.Whats.{read_what, write_what, block_what, stop_what, resume_what, kill_what, written_what, gone_what}
+use Rattle.dm_laws.proofs.Steps.{at_hand-is}
 
 -- a message without places that says this
 abbrev pub plainly : Message → PlainWhat → PlainMessage
@@ -227,12 +228,13 @@ serve_row s t v a l id m x u says is hm hx h = cc
 pub served_follows : (s t : OneKernel) (v : View) (a : Addresses) (l : Placed) (id : MsgId) → kernel.step s (Label.Served id) ≡ Some t → Mirrors s v a l
     → Follows t v (given a (gives s v a (Label.Served id))) (bind (l.bag id) (λ (m : Message). bind (l.processes m.to.pid) (λ (x : Process). placed.serves v.acting (without_message l id) m x m.what)))
 served_follows s t v a l id is h =
-    let (k, there, rest) = bind-is (s.bag id) (λ (w : PlainMessage). bind (kernel.alive (s.processes w.to)) (λ (p : PlainProcess). service.serves s id w p w.what)) t is in
+    let (k, there, rest) = bind-is (s.bag id) (λ (w : PlainMessage). bind (kernel.at_hand s w.to) (λ (p : PlainProcess). service.serves s id w p w.what)) t is in
     let (m, found, says) = there_of s l id k h.plain there in
     let u = k.what in
     let km = plainly_is m k says in
-    let (z, alive, last) = bind-is (kernel.alive (s.processes m.to.pid)) (λ (p : PlainProcess). service.serves s id (plainly m u) p u) t
-    (ap (λ (w : PlainMessage). bind (kernel.alive (s.processes w.to)) (λ (p : PlainProcess). service.serves s id w p w.what)) (sym km) ∙ rest) in
+    let (z, hand, last) = bind-is (kernel.at_hand s m.to.pid) (λ (p : PlainProcess). service.serves s id (plainly m u) p u) t
+    (ap (λ (w : PlainMessage). bind (kernel.at_hand s w.to) (λ (p : PlainProcess). service.serves s id w p w.what)) (sym km) ∙ rest) in
+    let alive : kernel.alive (s.processes m.to.pid) ≡ Some z = ap kernel.alive (at_hand-is s m.to.pid z hand).1 in
     let (x, stands, x_is) = alive_of s l m.to.pid z h.plain alive in
     let gs_is : serves_what v a id (plainly m u) (plain_process x) u ≡ gives s v a (Label.Served id) =
     ap (λ (p : PlainProcess). serves_what v a id (plainly m u) p u) x_is ∙ ap (addresses.serves_alive v a id (plainly m u)) (sym alive) ∙ ap (λ (w : PlainMessage). addresses.service_gets s v a id (Some w)) (sym km) ∙ ap (addresses.service_gets s v a id) (sym there) in

@@ -15,7 +15,13 @@ apart_line y _ h z = tt
 
 hears_apart : (z : OneKernel) (y : Pid) (b : Boot) (o : Point) (m : ℕ) (id : MsgId) (q : Option Told) → ApartOf z y (rule.hears b o m id q)
 hears_apart z y b o m id q =
-    apart_of z y (rule.hears b o m id q) (λ ps e. apart_first z y ps (hears_kept (AllApart y) (record { none = tt; says = λ l ps h k. (apart_line y l h, k); again = λ i to ps k. (λ s. tt, k); owns = λ k q to ps h. (λ s. tt, h); answers = λ i r. (λ s. tt, (λ s. tt, tt)) }) b o m id q ps e))
+    apart_of z y (rule.hears b o m id q) (λ ps e. apart_first z y ps (hears_kept (AllApart y) (record {
+      none = tt;
+      says = λ l ps h k. (apart_line y l h, k);
+      again = λ i to ps k. (λ s. tt, k);
+      owns = λ k q to ps h. (λ s. tt, h);
+      answers = λ i r. (λ s. tt, (λ s. tt, tt));
+    }) b o m id q ps e))
 
 -- a turn
 other_is : (z : OneKernel) (y : Pid) (id : MsgId) (msg : PlainMessage) → z.bag id ≡ Some msg → msg.to ≢ y → ForOther z y id

@@ -2,11 +2,8 @@
 use Rattle.dm_rule.proofs.Names.{◌≡◌, ℕ, ◌+◌, ◌≤◌, ◌==◌, ◌&&◌, Bool, true, false, List, [], ◌∷◌, ◌++◌, length, drop, refl, ap, ◌∙◌, sym, subst, is_some, arith, nat_le, if◌then◌else◌, Option, None, Some, nat_tests, Pid, Place, MsgId}
 use Rattle.dm_rule.proofs.Names.{MessageKind, plain_kind, PlainMessage, Boot, Label, IsValid, OneKernel, entry, in_bag, reception, Sound, bind-is, after_step, start-sound, Line, Load, untaken, View, Pair, Told, after_label, after_put}
 use Rattle.dm_rule.proofs.Names.{handled, ◌||◌, pid_eq, PlainWhat, BootProcess, switchboard, manager, Known, Unknown, Here, known_at, Addresses, Receiver, Gets, given, own_gives, first_gives, addresses_after, Point, first_point, after}
-use Rattle.dm_rule.proofs.Names.{after_line, moved, Routes, lines_of, puts, packet_line, goes_out, Homes, is_for_home}
+use Rattle.dm_rule.proofs.Names.{after_line, moved, Routes, lines_of, puts, packet_line, goes_out, Homes, is_for_home, gives, topic_by, About}
 use Rattle.std.proofs.Common.{is_none}
-use Rattle.dm_rule.proofs.Names.{gives}
-use Rattle.dm_rule.specs.Point.{topic_by}
-use Rattle.dm_rule.specs.View.{About}
 use Rattle.dm_onekernel.specs.Step as kernel
 use Rattle.dm_rule.specs.View as view
 use Rattle.dm_rule.proofs.Homes.{IsHome, AtHome, homes_are}

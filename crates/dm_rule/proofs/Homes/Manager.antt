@@ -1,10 +1,8 @@
 -- What the process manager does keeps addresses where they may be.
 use Rattle.dm_rule.proofs.Names.{◌≡◌, ℕ, zero, suc, ◌+◌, ◌==◌, ◌&&◌, Bool, true, false, List, [], ◌∷◌, ◌++◌, refl, ap, ◌∙◌, sym, subst, inl, inr, arith, nat_lt, length, if◌then◌else◌, slice_get, Option, None, Some, nat_tests, Pid, Place}
 use Rattle.dm_rule.proofs.Names.{pid_eq, PlainLink, MsgId, id_eq, id_of, Label, PlainMessage, PlainWhat, bind, OneKernel, without_message, id_eq-same, bind-is, View, Addresses, Gets, gets, given, gives, Receiver, Sender, Enclosed, unmoved}
-use Rattle.dm_rule.proofs.Names.{pid_of, ◌*◌, Pending, Manager, switchboard, manager, Child, Name, Answer, encloses, enclosed_from, board_gets, manager_sends, manager_answers, manager_gets, links_in, ascends}
-use Rattle.dm_rule.proofs.Names.{AskedBy, Outcome}
-use Rattle.dm_message.specs.Outcomes.{code_of_outcome}
-use Rattle.dm_onekernel.specs.declared.request.PendingKind.{PendingKind}
+use Rattle.dm_rule.proofs.Names.{pid_of, ◌*◌, Pending, Manager, switchboard, manager, Child, Name, Answer, encloses, enclosed_from, board_gets, manager_sends, manager_answers, manager_gets, links_in, ascends, AskedBy, Outcome}
+use Rattle.dm_rule.proofs.Names.{code_of_outcome, PendingKind}
 use Rattle.dm_onekernel.specs.Step as kernel
 use Rattle.dm_rule.specs.Addresses as addresses
 use Rattle.dm_onekernel.specs.Service as service
@@ -185,9 +183,11 @@ enclosed_one P a sent pl ls h k w e =
     place_as P (ap (λ (c : Bool). if c then pl else a (Enclosed sent k)) same) f.1
 
 -- the manager goes on as g, and answers over the link of a request
-answers_home : (P : Pid → Place → Type 0) (s : OneKernel) (v : View) (a c : Addresses) (id : MsgId) (n : ℕ) (r : Pending) (g : Manager) (byte : ℕ) (ls : List PlainLink) (o : Option PlainLink) → r.answer ≡ o → manage.pending_numbered n s.manager.pending ≡ Some r → v.acting ≡ 0 → AtHome P s a
+answers_home : (P : Pid → Place → Type 0) (s : OneKernel) (v : View) (a c : Addresses) (id : MsgId) (n : ℕ) (r : Pending) (g : Manager) (byte : ℕ) (ls : List PlainLink) (o : Option PlainLink) → r.answer ≡ o
+    → manage.pending_numbered n s.manager.pending ≡ Some r → v.acting ≡ 0 → AtHome P s a
     → ((k : ℕ) (w : PlainLink) → slice_get ls k ≡ Some w → (k ≡ 0) × (P w.to (unmoved v.acting))) → g.sent ≡ s.manager.sent → g.pending ≡ manage.without_pending n s.manager.pending
-    → ((q : Pid) → SameProcess a c q) → ((i : MsgId) → SameMessage a c i) → ((k : ℕ) → c (Name k) ≡ a (Name k)) → ((k : ℕ) → c (Answer k) ≡ a (Answer k)) → ((q : Pid) → c (AskedBy q) ≡ a (AskedBy q)) → ((k : ℕ) (q : Pid) → manage.child_numbered g.children k ≡ Some q → P q (c (Child k)))
+    → ((q : Pid) → SameProcess a c q) → ((i : MsgId) → SameMessage a c i) → ((k : ℕ) → c (Name k) ≡ a (Name k)) → ((k : ℕ) → c (Answer k) ≡ a (Answer k)) → ((q : Pid) → c (AskedBy q) ≡ a (AskedBy q))
+    → ((k : ℕ) (q : Pid) → manage.child_numbered g.children k ≡ Some q → P q (c (Child k)))
     → AtHome P (service.manager_took s id (manage.answers_over g o byte ls)) (given c (manager_answers v a n (manage.answers_over g o byte ls).message))
 answers_home P s v a c id n r g byte ls None is there at h one count pending process message name answer asked child =
     let u = at_home_out P s a id h in
@@ -273,7 +273,8 @@ created_by P s v a id m child (Some r) k is e at h =
     let t = manage.answers_over g r.answer 0 (l ∷ []) in
     let f : t ≡ k = cc in
     let c = given a (gets (Child (length s.manager.children + 1)) (unmoved child.home) ∷ []) in
-    let w = answers_home P s v a c id m.id.n r g 0 (l ∷ []) r.answer refl is at h (one_link P (unmoved v.acting) l (acts_at P l.to v.acting (h.rooted l.to) at)) refl refl (λ q. record { slot = λ i. refl; owner = refl }) (λ i. record { receiver = refl; sender = refl; enclosed = λ j. refl }) (λ i. refl) (λ i. refl) (λ q. refl)
+    let w = answers_home P s v a c id m.id.n r g 0 (l ∷ []) r.answer refl is at h (one_link P (unmoved v.acting) l (acts_at P l.to v.acting (h.rooted l.to) at)) refl refl
+    (λ q. record { slot = λ i. refl; owner = refl }) (λ i. record { receiver = refl; sender = refl; enclosed = λ j. refl }) (λ i. refl) (λ i. refl) (λ q. refl)
     (λ n q there. child_last P s.manager.children child n q a (h.rooted child) h.children there) in
     subst (λ (t : manage.ManagerTook). AtHome P (service.manager_took s id t) (given a (gets (Child (length s.manager.children + 1)) (unmoved child.home) ∷ manager_answers v a m.id.n t.message))) f
     (over_child P (service.manager_took s id t) a v m.id.n (length s.manager.children + 1) (unmoved child.home) g 0 (l ∷ []) r.answer w)
@@ -283,7 +284,8 @@ ended_by : (P : Pid → Place → Type 0) (s : OneKernel) (v : View) (a : Addres
     → manage.answers_over (record s.manager { pending = manage.without_pending n s.manager.pending }) r.answer byte [] ≡ k → v.acting ≡ 0 → AtHome P s a → AtHome P (service.manager_took s id k) (given a (manager_answers v a n k.message))
 ended_by P s v a id n byte r k is f at h =
     let g = record s.manager { pending = manage.without_pending n s.manager.pending } in
-    let w = answers_home P s v a a id n r g byte [] r.answer refl is at h (λ i x there. absurd (let z : None ≡ Some x = there in cc)) refl refl (λ q. record { slot = λ i. refl; owner = refl }) (λ i. record { receiver = refl; sender = refl; enclosed = λ j. refl }) (λ i. refl) (λ i. refl) (λ q. refl) h.children in
+    let w = answers_home P s v a a id n r g byte [] r.answer refl is at h (λ i x there. absurd (let z : None ≡ Some x = there in cc)) refl refl
+    (λ q. record { slot = λ i. refl; owner = refl }) (λ i. record { receiver = refl; sender = refl; enclosed = λ j. refl }) (λ i. refl) (λ i. refl) (λ q. refl) h.children in
     subst (λ (t : manage.ManagerTook). AtHome P (service.manager_took s id t) (given a (manager_answers v a n t.message))) f w
 
 no_room_by : (P : Pid → Place → Type 0) (s : OneKernel) (v : View) (a : Addresses) (id : MsgId) (n : ℕ) (o : Option Pending) (k : manage.ManagerTook) → manage.pending_numbered n s.manager.pending ≡ o → manage.takes_no_room s.manager n o ≡ Some k
@@ -293,8 +295,8 @@ no_room_by P s v a id n (Some r) k is e at h =
     let g = record s.manager { pending = manage.without_pending n s.manager.pending } in
     ended_by P s v a id n 1 r k is (let f : manage.answers_over g r.answer 1 [] ≡ k = cc in f) at h
 
-moved_by : (P : Pid → Place → Type 0) (s : OneKernel) (v : View) (a : Addresses) (id : MsgId) (n : ℕ) (outcome : Outcome) (o : Option Pending) (k : manage.ManagerTook) → manage.pending_numbered n s.manager.pending ≡ o → manage.takes_moved s.manager n outcome o ≡ Some k
-    → v.acting ≡ 0 → AtHome P s a → AtHome P (service.manager_took s id k) (given a (manager_answers v a n k.message))
+moved_by : (P : Pid → Place → Type 0) (s : OneKernel) (v : View) (a : Addresses) (id : MsgId) (n : ℕ) (outcome : Outcome) (o : Option Pending) (k : manage.ManagerTook) → manage.pending_numbered n s.manager.pending ≡ o
+    → manage.takes_moved s.manager n outcome o ≡ Some k → v.acting ≡ 0 → AtHome P s a → AtHome P (service.manager_took s id k) (given a (manager_answers v a n k.message))
 moved_by P s v a id n outcome None k is e at h = cc
 moved_by P s v a id n outcome (Some r) k is e at h =
     let g = record s.manager { pending = manage.without_pending n s.manager.pending } in
@@ -326,7 +328,8 @@ manager_row P s t v a id m (PlainWhat.Moved outcome) is name there at h e =
     let (k, took, last) = bind-is o (λ (x : manage.ManagerTook). Some (service.manager_took s id x)) t e in
     let f : service.manager_took s id k ≡ t = cc in
     subst (λ (u : OneKernel). AtHome P u (given a (manager_gets s v a m (PlainWhat.Moved outcome) o))) f
-    (subst (λ (p : Option manage.ManagerTook). AtHome P (service.manager_took s id k) (given a (manager_gets s v a m (PlainWhat.Moved outcome) p))) (sym took) (moved_by P s v a id m.id.n outcome (manage.pending_numbered m.id.n s.manager.pending) k refl took at h))
+    (subst (λ (p : Option manage.ManagerTook). AtHome P (service.manager_took s id k) (given a (manager_gets s v a m (PlainWhat.Moved outcome) p))) (sym took)
+    (moved_by P s v a id m.id.n outcome (manage.pending_numbered m.id.n s.manager.pending) k refl took at h))
 manager_row P s t v a id m _ is name there at h e = cc
 
 takes_by : (P : Pid → Place → Type 0) (s t : OneKernel) (v : View) (a : Addresses) (id : MsgId) (m : PlainMessage) (b c : Bool) → pid_eq m.to switchboard ≡ b → pid_eq m.to manager ≡ c → m.id ≡ id → s.bag id ≡ Some m → m.to.home ≡ v.acting → AtHome P s a

@@ -2,11 +2,10 @@
 use Rattle.dm_rule.proofs.Names.{◌≡◌, ℕ, zero, suc, ◌+◌, ◌==◌, ◌&&◌, Bool, true, false, List, [], ◌∷◌, ◌++◌, refl, ap, ◌∙◌, sym, subst, arith, nat_le, length, ⊤, if◌then◌else◌, map, slice_get, Option, None, Some, nat_tests, Pid, Place}
 use Rattle.dm_rule.proofs.Names.{pid_eq, PlainLink, link_at, MsgId, id_eq, Label, Why, PlainMessage, PlainWhat, Reply, bind, PlainProcess, PlainStatus, Moving, Alive, OneKernel, with_process, with_sent, without_message, pid_eq-same}
 use Rattle.dm_rule.proofs.Names.{id_eq-same, bind-is, when-is, View, Addresses, Gets, gets, given, gives, Slot, Owner, Receiver, Sender, Enclosed, unmoved, acting_place, owner_in, replicate, ◌-◌, take, drop, Direction, BootImage, slots_of}
-use Rattle.dm_rule.proofs.Names.{first_number, answer_id, answer_to, begun, pid_of, answer_gets, serves_what, landing_gets, child_links, links_in}
+use Rattle.dm_rule.proofs.Names.{first_number, answer_id, answer_to, begun, pid_of, answer_gets, serves_what, landing_gets, child_links, links_in, at_hand-is, AskedBy, Note, Outcome, with_note, without_note, cases_Bool, inl, inr}
+use Rattle.dm_rule.proofs.Names.{ends_move-is}
 use Rattle.dm_onekernel.specs.Kernel.{Ended}
 use Rattle.dm_onekernel.specs.Step as kernel
-use Rattle.dm_rule.proofs.Names.{at_hand-is, AskedBy, Note, Outcome, with_note, without_note, cases_Bool, inl, inr}
-use Rattle.dm_laws.proofs.Servers.{ends_move-is}
 use Rattle.dm_rule.specs.Given as giving
 use Rattle.dm_rule.specs.Addresses as addresses
 use Rattle.dm_onekernel.specs.Pieces as pieces
@@ -319,7 +318,8 @@ created_home P s t v a id child is named at h =
     subst (λ (gs : List Gets). AtHome P t (given a gs)) (ap (addresses.creation_gets v a id child) (sym there)) (creates_row P s t v a id m child m.what refl rest there named at h)
 
 -- a process is asked to move: it knows who sent the request
-asked_row : (P : Pid → Place → Type 0) (s t : OneKernel) (a : Addresses) (id : MsgId) (m : PlainMessage) (w : PlainWhat) → service.follows s id m w ≡ Some t → s.bag id ≡ Some m → AtHome P s a → AtHome P t (given a (gets (AskedBy m.to) (a (Sender id)) ∷ []))
+asked_row : (P : Pid → Place → Type 0) (s t : OneKernel) (a : Addresses) (id : MsgId) (m : PlainMessage) (w : PlainWhat) → service.follows s id m w ≡ Some t → s.bag id ≡ Some m → AtHome P s a
+    → AtHome P t (given a (gets (AskedBy m.to) (a (Sender id)) ∷ []))
 asked_row P s t a id m (PlainWhat.Move machine) is there h =
     let u = at_home_out P s a id h in
     let n : Note = record { id = id; asker = m.sender } in
@@ -361,7 +361,8 @@ still_noted s p q id n e = elim (cases_Bool (pid_eq p q)) [
   | inr apart ↦ sym (ap (λ (c : Bool). if c then None else s.notes q) apart) ∙ e
 ]
 
-pub answered_home : (P : Pid → Place → Type 0) (s t : OneKernel) (v : View) (a : Addresses) (id : MsgId) (o : Outcome) → kernel.step s (Label.Answered id o) ≡ Some t → AnsweredAt P s v id → AtHome P s a → AtHome P t (given a (gives s v a (Label.Answered id o)))
+pub answered_home : (P : Pid → Place → Type 0) (s t : OneKernel) (v : View) (a : Addresses) (id : MsgId) (o : Outcome) → kernel.step s (Label.Answered id o) ≡ Some t → AnsweredAt P s v id
+    → AtHome P s a → AtHome P t (given a (gives s v a (Label.Answered id o)))
 answered_home P s t v a id o is at h =
     let (p, noted, rest) = bind-is (s.noted id) (λ (q : Pid). bind (s.notes q) (λ (n : Note). service.ends_move s id q n o)) t is in
     let (n, notes, last) = bind-is (s.notes p) (λ (k : Note). service.ends_move s id p k o) t rest in

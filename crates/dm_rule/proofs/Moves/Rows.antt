@@ -3,8 +3,7 @@ use Rattle.dm_rule.proofs.Names.{◌≡◌, ℕ, ◌==◌, Bool, true, false, Li
 use Rattle.dm_rule.proofs.Names.{PlainProcess, Line, View, Told, About, NothingElse, Of, Known, Unknown, Here, Frozen, Forward, Ended, view_after, handled, handled_first, receiver_of, is_kernels, target_of, with_ring, knowing, released}
 use Rattle.dm_rule.proofs.Names.{after_proto, follows_up, asks_on, held_for, Addresses, Sender, Child, is_told_back, Point, moved, seen, Part, Says, Again, Owns, Spelled, spelled, to_kernel, forwards_on, moves_to, accepts, takes_chunk}
 use Rattle.dm_rule.proofs.Names.{takes_block, gives_piece, sends_on, leaves, kernel_told, chunks_of, pieces_of, here_told, ended_told, process_told, server_told, migrates, fits, free_room, kernel_hears, hears, Spot, Queue, Held, Inbox}
-use Rattle.dm_rule.proofs.Names.{Untaken, ids_at, bind-is, label_of}
-use Rattle.dm_rule.proofs.Names.{Label, Note, Outcome, Target, Routes, answer_id, answers_move, frozen_for, front_told, leaves_for, tells_asker}
+use Rattle.dm_rule.proofs.Names.{Untaken, ids_at, bind-is, label_of, Label, Note, Outcome, Target, Routes, answer_id, answers_move, frozen_for, front_told, leaves_for, tells_asker}
 use Rattle.dm_onekernel.specs.Step as kernel
 use Rattle.dm_rule.specs.View as view
 use Rattle.dm_rule.proofs.Lines.{hidden, Stands-stays}
@@ -231,7 +230,8 @@ told_row o pt m i is p room x _ parts w h fit front mine sees e n = cc
 updated_row : (o pt : Point) (i : MsgId) (is : List MsgId) (n : ℕ) (parts : List Part) (w : Spelled) → State None pt → pt.view.inbox pt.view.acting ≡ i ∷ is → is_kernels i ≡ true → Some (Says (Line.Updated i n) ∷ []) ≡ Some parts → spelled pt parts ≡ Some w → State None w.point
 updated_row o pt i is n parts w h front mine e k = line_ends pt (Line.Updated i n) w refl (goes_front pt (Line.Updated i n) i is refl h front mine (λ z. refl)) (given pt (Says (Line.Updated i n) ∷ []) parts w e k)
 
-here_row : (o pt : Point) (m : ℕ) (i : MsgId) (is : List MsgId) (t : Told) (k : MessageKind) (parts : List Part) (w : Spelled) → State None pt → PairsFit pt.view → pt.view.topic ≡ NothingElse → pt.view.inbox pt.view.acting ≡ i ∷ is → is_kernels i ≡ true
+here_row : (o pt : Point) (m : ℕ) (i : MsgId) (is : List MsgId) (t : Told) (k : MessageKind) (parts : List Part) (w : Spelled) → State None pt → PairsFit pt.view → pt.view.topic ≡ NothingElse → pt.view.inbox pt.view.acting ≡ i ∷ is
+    → is_kernels i ≡ true
     → here_told o m i t k ≡ Some parts → spelled pt parts ≡ Some w → State None w.point
 here_row o pt m i is t MessageKind.Migrate parts w h fit topic front mine e n = moves_row pt i is t.receiver (target_of (Some t)) (m == target_of (Some t)) w h fit topic front mine (given pt (moves_to m i t.receiver (target_of (Some t))) parts w e n)
 here_row o pt m i is t MessageKind.Update parts w h fit topic front mine e n = updated_row o pt i is _ parts w h front mine e n
@@ -262,14 +262,16 @@ kernel_row b o pt m i is k (Of p) parts w h fit front mine sees e n =
     told_row o pt m i is p (fits (free_room b o m) (length x.memory / 256)) x k parts w h fit front mine sees last n
 kernel_row b o pt m i is k _ parts w h fit front mine sees e n = cc
 
-hears_by : (b : Boot) (o pt : Point) (m : ℕ) (i : MsgId) (is : List MsgId) (t : Told) (c d g : Bool) (parts : List Part) (w : Spelled) → State None pt → PairsFit pt.view → pt.view.topic ≡ NothingElse → pt.view.inbox pt.view.acting ≡ i ∷ is → is_kernels i ≡ true → SeesSame o pt m
+hears_by : (b : Boot) (o pt : Point) (m : ℕ) (i : MsgId) (is : List MsgId) (t : Told) (c d g : Bool) (parts : List Part) (w : Spelled) → State None pt → PairsFit pt.view → pt.view.topic ≡ NothingElse → pt.view.inbox pt.view.acting ≡ i ∷ is
+    → is_kernels i ≡ true → SeesSame o pt m
     → (if c then kernel_hears b o m i t.kind t.about else if d then server_told o i t t.kind else if g then server_told o i t t.kind else process_told o m i t (o.view.known m t.receiver)) ≡ Some parts → spelled pt parts ≡ Some w → State None w.point
 hears_by b o pt m i is t true d g parts w h fit topic front mine sees e n = kernel_row b o pt m i is t.kind t.about parts w h fit front mine sees e n
 hears_by b o pt m i is t false true g parts w h fit topic front mine sees e n = server_row o pt i is t t.kind parts w h front mine e n
 hears_by b o pt m i is t false false true parts w h fit topic front mine sees e n = server_row o pt i is t t.kind parts w h front mine e n
 hears_by b o pt m i is t false false false parts w h fit topic front mine sees e n = process_row o pt m i is t (o.view.known m t.receiver) parts w h fit topic front mine e n
 
-pub hears_row : (b : Boot) (o pt : Point) (m : ℕ) (i : MsgId) (is : List MsgId) (t : Option Told) (parts : List Part) (w : Spelled) → State None pt → PairsFit pt.view → pt.view.topic ≡ NothingElse → pt.view.inbox pt.view.acting ≡ i ∷ is → pt.kernel.bag i ≡ None → SeesSame o pt m
+pub hears_row : (b : Boot) (o pt : Point) (m : ℕ) (i : MsgId) (is : List MsgId) (t : Option Told) (parts : List Part) (w : Spelled) → State None pt → PairsFit pt.view → pt.view.topic ≡ NothingElse → pt.view.inbox pt.view.acting ≡ i ∷ is
+    → pt.kernel.bag i ≡ None → SeesSame o pt m
     → hears b o m i t ≡ Some parts → spelled pt parts ≡ Some w → State None w.point
 hears_row b o pt m i is None parts w h fit topic front none sees e n = cc
 hears_row b o pt m i is (Some t) parts w h fit topic front none sees e n =

@@ -1,7 +1,7 @@
 -- What migration says keeps that each message stands once: the kernels' own messages come and go, and messages go on.
 use Rattle.dm_rule.proofs.Names.{◌≡◌, ℕ, suc, ◌+◌, ◌≤◌, ◌==◌, Bool, true, false, List, [], ◌∷◌, refl, ap, ◌∙◌, sym, subst, arith, inl, inr, if◌then◌else◌, Option, None, Some, cases_Bool, false≢true, nat_tests, Pid, pid_of, MsgId}
-use Rattle.dm_rule.proofs.Names.{MessageKind, id_eq, id_of, PlainMessage, Line, Load, at_machine, View, Told, view_after, handled_first, receiver_of, is_kernels, own_id, to_of, Point, moved, seen, Spot, Inbox, Untaken, times, ids_at, standing}
-use Rattle.dm_rule.proofs.Names.{id_eq-is, id_eq-same, Sound}
+use Rattle.dm_rule.proofs.Names.{MessageKind, id_eq, id_of, PlainMessage, Line, Load, at_machine, View, Told, view_after, handled_first, receiver_of, is_kernels, own_id, to_of, Point, moved, seen, Spot, Inbox, Untaken, times, ids_at}
+use Rattle.dm_rule.proofs.Names.{standing, id_eq-is, id_eq-same, Sound}
 use Rattle.dm_rule.specs.View as view
 use Rattle.dm_rule.proofs.Once.{one_of}
 use Rattle.dm_rule.proofs.Lines.{Bag, hidden, having, Stands, Stands-same, Stands-stays, Stands-handled, untold_tells, having_off, pair_keeps, not_true}

@@ -1,8 +1,7 @@
 -- A delivery keeps the pairs of machines.
 use Rattle.dm_rule.proofs.Names.{◌≡◌, ℕ, zero, suc, ◌+◌, ◌-◌, ◌<◌, ◌≤◌, ◌==◌, ◌&&◌, Bool, true, false, List, [], ◌∷◌, ◌++◌, refl, ap, ◌∙◌, sym, subst, nat_lt, inl, inr, arith, length, ◌≢◌, if◌then◌else◌, slice_get, Option, None, Some}
 use Rattle.dm_rule.proofs.Names.{cases_Bool, false≢true, nat_tests, Line, Load, at_pair, View, Pair, SentLoad, with_pair, oldest, at_least, marked, Point, Part, Says, Transmits, Spelled, spelled, pair_window, has, kept_from, taking_parts}
-use Rattle.dm_rule.proofs.Names.{takes_on, less, more, let_go, arrives, numbers_from, repeats}
-use Rattle.dm_rule.specs.Rule.{comes}
+use Rattle.dm_rule.proofs.Names.{takes_on, less, more, let_go, arrives, numbers_from, repeats, comes}
 use Rattle.dm_rule.proofs.Pairs.Stand.{LoadStands, Apart, KeptStands, Stand, WireStands-at, set_same, set_other, two_of, Stand-set}
 use Rattle.dm_rule.proofs.Pairs.Moves.{Paired, Goes, changed, packed, next_goes, acked_goes, off, off_has, or_cases}
 use Rattle.dm_rule.proofs.Pairs.Lines.{Onward, onward, says_view, transmits_view, taken_pair, keeps}

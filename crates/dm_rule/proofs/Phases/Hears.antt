@@ -2,8 +2,7 @@
 use Rattle.dm_rule.proofs.Names.{◌≡◌, ℕ, ◌==◌, Bool, true, false, List, [], ◌∷◌, ◌++◌, refl, ap, ◌∙◌, sym, subst, length, arith, ◌/◌, if◌then◌else◌, Option, None, Some, false≢true, nat_tests, Pid, pid_eq, MsgId, MessageKind, Line, Stage}
 use Rattle.dm_rule.proofs.Names.{Boot, switchboard, manager, PlainProcess, View, Told, About, Of, Known, Unknown, Here, Forward, Ended, is_kernels, target_of, Addresses, Sender, is_told_back, Point, Part, Says, Owns, Spelled, spelled}
 use Rattle.dm_rule.proofs.Names.{to_kernel, forwards_on, moves_to, accepts, takes_chunk, takes_block, gives_piece, kernel_told, chunks_of, pieces_of, updates, here_told, ended_told, process_told, server_told, fits, free_room, kernel_hears}
-use Rattle.dm_rule.proofs.Names.{hears, is_between, bind-is}
-use Rattle.dm_rule.proofs.Names.{Label, Note, NothingElse, Outcome, bind, kernel_after, label_of, leaves_for, moved, tells_asker}
+use Rattle.dm_rule.proofs.Names.{hears, is_between, bind-is, Label, Note, NothingElse, Outcome, bind, kernel_after, label_of, leaves_for, moved, tells_asker}
 use Rattle.dm_onekernel.specs.Step as kernel
 use Rattle.dm_rule.proofs.Hushed.{is_put}
 use Rattle.dm_rule.proofs.States.{State, State-at}
@@ -55,7 +54,8 @@ about_same : (p q : Pid) → Of p ≡ Of q → p ≡ q
 about_same p q e = cc
 
 -- a message of the protocol, by its kind
-told_row : (o pt : Point) (m : ℕ) (i : MsgId) (is : List MsgId) (t : Told) (p : Pid) (room : Bool × ℕ × ℕ) (x : PlainProcess) (k : MessageKind) (parts : List Part) (w : Spelled) (h : Whole pt) → Sane pt → State None w.point → pt.view.inbox pt.view.acting ≡ i ∷ is → pt.view.told i ≡ Some t → is_kernels i ≡ true → SeesAll o pt m
+told_row : (o pt : Point) (m : ℕ) (i : MsgId) (is : List MsgId) (t : Told) (p : Pid) (room : Bool × ℕ × ℕ) (x : PlainProcess) (k : MessageKind) (parts : List Part) (w : Spelled) (h : Whole pt) → Sane pt → State None w.point
+    → pt.view.inbox pt.view.acting ≡ i ∷ is → pt.view.told i ≡ Some t → is_kernels i ≡ true → SeesAll o pt m
     → t.kind ≡ k → t.about ≡ Of p → kernel_told o m i p room x k ≡ Some parts → spelled pt parts ≡ Some w → Whole w.point
 told_row o pt m i is t p room x MessageKind.Ask parts w h sane state front told mine sees e about g n =
     let u = due pt i is t h.phases front told (ap is_between e) in
@@ -148,7 +148,8 @@ process_row o pt m i is t (Forward at moves) parts w h sane state plain front to
 process_row o pt m i is t Ended parts w h sane state plain front told mine sees here g n = ended_row pt i t t.kind parts w h sane state (tame_of pt.view i t told plain) g n
 process_row o pt m i is t _ parts w h sane state plain front told mine sees here g n = one_quiet pt (Says (Line.Held i) ∷ []) parts w h sane state (tame_of pt.view i t told plain, tt) g n
 
-kernel_row : (b : Boot) (o pt : Point) (m : ℕ) (i : MsgId) (is : List MsgId) (t : Told) (a : About) (parts : List Part) (w : Spelled) (h : Whole pt) → Sane pt → State None w.point → pt.view.inbox pt.view.acting ≡ i ∷ is → pt.view.told i ≡ Some t → is_kernels i ≡ true → SeesAll o pt m
+kernel_row : (b : Boot) (o pt : Point) (m : ℕ) (i : MsgId) (is : List MsgId) (t : Told) (a : About) (parts : List Part) (w : Spelled) (h : Whole pt) → Sane pt → State None w.point → pt.view.inbox pt.view.acting ≡ i ∷ is
+    → pt.view.told i ≡ Some t → is_kernels i ≡ true → SeesAll o pt m
     → t.about ≡ a → kernel_hears b o m i t.kind a ≡ Some parts → spelled pt parts ≡ Some w → Whole w.point
 kernel_row b o pt m i is t (Of p) parts w h sane state front told mine sees about g n =
     let (x, there, last) = bind-is (kernel.alive (o.kernel.processes p)) (λ x. kernel_told o m i p (fits (free_room b o m) (length x.memory / 256)) x t.kind) parts g in

@@ -1,9 +1,8 @@
 -- A process ends, and one is made.
 use Rattle.dm_rule.proofs.Names.{◌≡◌, ℕ, ◌≤◌, ◌==◌, ◌&&◌, Bool, true, false, refl, ap, ◌∙◌, sym, subst, inl, arith, if◌then◌else◌, Option, None, Some, false≢true, nat_tests, Pid, MsgId, MessageKind, Label, Line, id_eq, Why, at_record, View}
 use Rattle.dm_rule.proofs.Names.{Told, Known, Unknown, Here, Ended, view_after, handled, served_told, kills, Spot, times, standing, is_between, is_away, is_here, is_over, kind_comes, Phase, Nowhere, Rests, Over, Moves, knows, token_in}
-use Rattle.dm_rule.proofs.Names.{pid_eq-same, id_eq-is}
+use Rattle.dm_rule.proofs.Names.{pid_eq-same, id_eq-is, kind_leaves}
 use Rattle.dm_rule.specs.View as view
-use Rattle.dm_rule.specs.Phases.{kind_leaves}
 use Rattle.dm_rule.proofs.Lines.{not_true}
 use Rattle.dm_rule.proofs.Turns.{ended_off, created_off}
 use Rattle.dm_rule.proofs.Phases.Calm.{Plain}

@@ -1,7 +1,7 @@
 -- Parts that leave the migrations of all processes as they are.
 use Rattle.dm_rule.proofs.Names.{◌≡◌, ℕ, ◌==◌, Bool, true, false, List, [], ◌∷◌, length, refl, ap, ◌∙◌, sym, subst, arith, ⊤, if◌then◌else◌, Option, None, Some, false≢true, Pid, MsgId, MessageKind, Load, Stage, id_eq, plain_kind}
-use Rattle.dm_rule.proofs.Names.{PlainMessage, Label, OneKernel, bind, Line, at_record, without_id, View, Told, own_id, view_after, handled, receiver_of, kills, served_told, Receiver, Point, label_of, kernel_after, moved, seen, after_line, after}
-use Rattle.dm_rule.proofs.Names.{Part, Says, Routes, Again, Owns, Transmits, Spelled, lines_of, puts, goes_out, packet_line, behind, spelled, Spot, Queue, times, ids_at, standing, is_between, bind-is}
+use Rattle.dm_rule.proofs.Names.{PlainMessage, Label, OneKernel, bind, Line, at_record, without_id, View, Told, own_id, view_after, handled, receiver_of, kills, served_told, Receiver, Point, label_of, kernel_after, moved, seen, after_line}
+use Rattle.dm_rule.proofs.Names.{after, Part, Says, Routes, Again, Owns, Transmits, Spelled, lines_of, puts, goes_out, packet_line, behind, spelled, Spot, Queue, times, ids_at, standing, is_between, bind-is}
 use Rattle.dm_onekernel.specs.Step as kernel
 use Rattle.dm_rule.specs.View as view
 use Rattle.dm_rule.proofs.Bags.{out_of}

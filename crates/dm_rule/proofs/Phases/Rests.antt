@@ -2,9 +2,7 @@
 use Rattle.dm_rule.proofs.Names.{◌≡◌, ◌⊎◌, ℕ, zero, suc, ◌+◌, ◌≤◌, ◌==◌, ◌&&◌, Bool, true, false, not, List, [], ◌∷◌, ◌++◌, refl, ap, ◌∙◌, sym, subst, inl, inr, arith, if◌then◌else◌, Option, None, Some, cases_Bool, false≢true, nat_tests}
 use Rattle.dm_rule.proofs.Names.{Pid, pid_eq, MsgId, MessageKind, Stage, id_eq, Line, at_machine, at_record, View, Told, Of, Known, Unknown, Here, Frozen, Incoming, Forward, view_after, handled_first, released, is_kernels, target_of}
 use Rattle.dm_rule.proofs.Names.{front_told, Point, label_of, moved, Says, Spelled, spelled, to_kernel, Spot, Queue, Held, Inbox, Untaken, times, ids_at, standing, is_between, is_restart, is_early, kind_comes, is_away, is_here, is_over}
-use Rattle.dm_rule.proofs.Names.{Phase, Nowhere, Rests, Over, Moves, knows, token_in, receiver_in, id_eq-is, pid_eq-is, pid_eq-same}
-use Rattle.dm_rule.proofs.Names.{NothingElse, Target, frozen_for, leaves_for}
-use Rattle.dm_rule.specs.Phases.{kind_leaves}
+use Rattle.dm_rule.proofs.Names.{Phase, Nowhere, Rests, Over, Moves, knows, token_in, receiver_in, id_eq-is, pid_eq-is, pid_eq-same, NothingElse, Target, frozen_for, leaves_for, kind_leaves}
 use Rattle.dm_rule.proofs.Standing.{times-append}
 use Rattle.dm_rule.proofs.Lines.{Bag, hidden, Stands, Stands-stays, Stands-handled, parts, eq_is}
 use Rattle.dm_rule.proofs.Letters.{letters}
@@ -169,7 +167,8 @@ at_acting : (v : View) (a m : ℕ) (p : Pid) (x : Known) → v.acting ≡ a → 
 at_acting v a m p x e = ap (λ (n : ℕ). at_record v.known n p x m p) e ∙ ap (λ (c : Bool). if (a == m) && c then x else v.known m p) (pid_eq-same p) ∙ and_true (a == m) x (v.known m p)
 
 -- a line brings it home
-home_whole : (pt : Point) (l : Line) (i : MsgId) (is : List MsgId) (t : Told) (at : ℕ) (h : Whole pt) (u : Due pt i t h.phases) → label_of l ≡ None → is_put l ≡ false → touches l ≡ false → pt.view.inbox pt.view.acting ≡ i ∷ is → pt.view.told i ≡ Some t → is_kernels i ≡ true
+home_whole : (pt : Point) (l : Line) (i : MsgId) (is : List MsgId) (t : Told) (at : ℕ) (h : Whole pt) (u : Due pt i t h.phases) → label_of l ≡ None → is_put l ≡ false → touches l ≡ false → pt.view.inbox pt.view.acting ≡ i ∷ is
+    → pt.view.told i ≡ Some t → is_kernels i ≡ true
     → ((z : Spot) → ids_at (view_after pt.view l) z ≡ ids_at (released (before_home pt.view u.p) u.p) z) → (view_after pt.view l).known ≡ at_record pt.view.known pt.view.acting u.p Here → ((m : ℕ) → knows (Rests at) m (at_record pt.view.known pt.view.acting u.p Here m u.p) ≡ true)
     → Whole (moved pt l pt.kernel)
 home_whole pt l i is t at h u none quiet calm front told mine off learned known =
@@ -182,13 +181,15 @@ home_whole pt l i is t at h u none quiet calm front told mine off learned known 
     (λ j x z. ap (λ (y : View). standing y j z) same ∙ subst (λ (y : MsgId). standing (view_after v l) y z ≡ 0) (token_one (h.phases.of u.p) u.k u.s u.d i j u.phase x) (back_gone pt l i is u.p h.state quiet front off z)) in
     record { state = comes_back pt l i is u.p quiet h.state front mine off; fits = fits_as v next.view (pair_same v l calm) h.fits; phases = turned.phases }
 
-pub stays_whole : (pt : Point) (i : MsgId) (is : List MsgId) (t : Told) (h : Whole pt) (u : Due pt i t h.phases) → u.k ≡ MessageKind.Refuse → pt.view.inbox pt.view.acting ≡ i ∷ is → pt.view.told i ≡ Some t → is_kernels i ≡ true → Whole (moved pt (Line.Stays u.p) pt.kernel)
+pub stays_whole : (pt : Point) (i : MsgId) (is : List MsgId) (t : Told) (h : Whole pt) (u : Due pt i t h.phases) → u.k ≡ MessageKind.Refuse → pt.view.inbox pt.view.acting ≡ i ∷ is → pt.view.told i ≡ Some t → is_kernels i ≡ true
+    → Whole (moved pt (Line.Stays u.p) pt.kernel)
 stays_whole pt i is t h u e front told mine =
     let at : pt.view.acting ≡ u.s = u.acting ∙ ap (λ (k : MessageKind). receiver_in k u.s u.d) e in
     home_whole pt (Line.Stays u.p) i is t u.s h u refl refl refl front told mine (λ z. refl) refl
     (λ m. ap (knows (Rests u.s) m) (at_acting pt.view u.s m u.p Here at) ∙ refused_if u.k u.s u.d m (Some i) (u.s == m) (pt.view.known m u.p) (ap is_early e) refl (due_known pt i t h.phases u m))
 
-pub restart_whole : (pt : Point) (i : MsgId) (is : List MsgId) (t : Told) (h : Whole pt) (u : Due pt i t h.phases) → u.k ≡ MessageKind.Restart → pt.view.inbox pt.view.acting ≡ i ∷ is → pt.view.told i ≡ Some t → is_kernels i ≡ true → Whole (moved pt (Line.Migration Stage.Restarted u.p) pt.kernel)
+pub restart_whole : (pt : Point) (i : MsgId) (is : List MsgId) (t : Told) (h : Whole pt) (u : Due pt i t h.phases) → u.k ≡ MessageKind.Restart → pt.view.inbox pt.view.acting ≡ i ∷ is → pt.view.told i ≡ Some t → is_kernels i ≡ true
+    → Whole (moved pt (Line.Migration Stage.Restarted u.p) pt.kernel)
 restart_whole pt i is t h u e front told mine =
     let at : pt.view.acting ≡ u.d = u.acting ∙ ap (λ (k : MessageKind). receiver_in k u.s u.d) e in
     home_whole pt (Line.Migration Stage.Restarted u.p) i is t u.d h u refl refl refl front told mine (λ z. restarted_off pt.view u.p z) refl
@@ -228,7 +229,8 @@ frozen_if a to m false y e f h =
     ∙ away_comes a y (to == m) (sym (ap (λ (c : Bool). if c then is_here y else is_away y) e) ∙ h)
 
 -- the view behind step 1 is that of a process frozen, seen from a view that knows and does the same
-frozen_ends : (pt : Point) (p : Pid) (to : ℕ) (w : Spelled) (h : Whole pt) → State None (moved pt (Line.Migration Stage.Frozen p) pt.kernel) → Learns pt.view (view_after pt.view (Line.Migration Stage.Frozen p)) p → pt.view.known pt.view.acting p ≡ Here → (pt.view.acting == to) ≡ false
+frozen_ends : (pt : Point) (p : Pid) (to : ℕ) (w : Spelled) (h : Whole pt) → State None (moved pt (Line.Migration Stage.Frozen p) pt.kernel) → Learns pt.view (view_after pt.view (Line.Migration Stage.Frozen p)) p
+    → pt.view.known pt.view.acting p ≡ Here → (pt.view.acting == to) ≡ false
     → (u : View) → view_after pt.view (Line.Migration Stage.Frozen p) ≡ frozen_for u p to → u.known ≡ pt.view.known → u.acting ≡ pt.view.acting → spelled pt (leaves_for p to) ≡ Some w → Whole w.point
 frozen_ends pt p to w h there learns here apart u at known acting e =
     let v = pt.view in
@@ -250,7 +252,8 @@ frozen_ends pt p to w h there learns here apart u at known acting e =
     subst Whole n.point (subst Whole k.point (owns_whole (moved next asked next.kernel) p MessageKind.Ask a to to k.rest then_ turned.now (ap (λ (x : View). x.topic) at) (ap (λ (x : View). x.acting) at ∙ acting) refl k.more))
 
 -- a directive has it move
-pub frozen_row : (pt : Point) (i : MsgId) (is : List MsgId) (t : Told) (p : Pid) (to : ℕ) (w : Spelled) (h : Whole pt) → pt.view.topic ≡ NothingElse → is_between t.kind ≡ false → pt.view.inbox pt.view.acting ≡ i ∷ is → pt.view.told i ≡ Some t → is_kernels i ≡ true → pt.view.known pt.view.acting p ≡ Here → target_of (Some t) ≡ to → (pt.view.acting == to) ≡ false
+pub frozen_row : (pt : Point) (i : MsgId) (is : List MsgId) (t : Told) (p : Pid) (to : ℕ) (w : Spelled) (h : Whole pt) → pt.view.topic ≡ NothingElse → is_between t.kind ≡ false → pt.view.inbox pt.view.acting ≡ i ∷ is
+    → pt.view.told i ≡ Some t → is_kernels i ≡ true → pt.view.known pt.view.acting p ≡ Here → target_of (Some t) ≡ to → (pt.view.acting == to) ≡ false
     → spelled pt (leaves_for p to) ≡ Some w → Whole w.point
 frozen_row pt i is t p to w h topic plain front told mine here target apart e =
     let v = pt.view in

@@ -1,8 +1,7 @@
 -- A turn that handles a message of the bag, or serves a process: each process stays in a phase.
 use Rattle.dm_rule.proofs.Names.{◌≡◌, ℕ, ◌+◌, Bool, true, false, List, [], ◌∷◌, refl, ap, ◌∙◌, subst, if◌then◌else◌, Option, None, Some, Pid, pid_of, MsgId, MessageKind, Label, plain_kind, PlainMessage, Boot, Why, first_number, bind}
-use Rattle.dm_rule.proofs.Names.{OneKernel, answer_id, Line, View, Told, Unknown, Here, view_after, Point, label_of, kernel_after, moved, Part, Says, Routes, Spelled, spelled, forwards_on}
-use Rattle.dm_rule.proofs.Names.{◌==◌, NothingElse, Outcome, PlainWhat, answers_move, leaves_for, machine_in, seen}
-use Rattle.dm_rule.specs.Point.{machine_of}
+use Rattle.dm_rule.proofs.Names.{OneKernel, answer_id, Line, View, Told, Unknown, Here, view_after, Point, label_of, kernel_after, moved, Part, Says, Routes, Spelled, spelled, forwards_on, ◌==◌, NothingElse, Outcome, PlainWhat}
+use Rattle.dm_rule.proofs.Names.{answers_move, leaves_for, machine_in, seen, machine_of}
 use Rattle.dm_rule.specs.Rule as rule
 use Rattle.dm_rule.proofs.Hushed.{is_put}
 use Rattle.dm_rule.proofs.Pairs.Lines.{touches, pair_same}
@@ -117,7 +116,8 @@ kill_is MessageKind.Kill e = refl
 kill_is _ e = cc
 
 -- a message of the bag is handled, where nothing is known of the process that would be made next
-pub phases_handles : (b : Boot) (o pt : Point) (m : ℕ) (i : MsgId) (msg : PlainMessage) (parts : List Part) (w : Spelled) (h : Fit pt) → Front pt i msg → ((n : ℕ) → pt.view.known n (pid_of m (first_number + o.kernel.made m)) ≡ Unknown) → pt.view.known pt.view.acting msg.to ≡ o.view.known m msg.to → pt.view.acting ≡ m
+pub phases_handles : (b : Boot) (o pt : Point) (m : ℕ) (i : MsgId) (msg : PlainMessage) (parts : List Part) (w : Spelled) (h : Fit pt) → Front pt i msg → ((n : ℕ) → pt.view.known n (pid_of m (first_number + o.kernel.made m)) ≡ Unknown)
+    → pt.view.known pt.view.acting msg.to ≡ o.view.known m msg.to → pt.view.acting ≡ m
     → rule.handles b o m i msg ≡ Some parts → spelled pt parts ≡ Some w → InPhases w.point.view
 phases_handles b o pt m i msg parts w h f unknown known acting is = by_handles (Into pt) b o m i msg parts (record {
   created = λ fixed w. creates_row pt i msg (pid_of m (first_number + o.kernel.made m)) true 0 0 w h f unknown;

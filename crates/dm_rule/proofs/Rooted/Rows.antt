@@ -1,7 +1,6 @@
 -- What the first line of a group needs, and that the others need nothing.
-use Rattle.dm_rule.proofs.Names.{◌≡◌, ℕ, List, [], ◌∷◌, refl, ⊤, Option, None, Some, Pid, MsgId, MessageKind, plain_kind, PlainMessage, Boot, Here, Addresses, Point, Part, Says, forwards_on}
+use Rattle.dm_rule.proofs.Names.{◌≡◌, ℕ, List, [], ◌∷◌, refl, ⊤, Option, None, Some, Pid, MsgId, MessageKind, plain_kind, PlainMessage, Boot, Here, Addresses, Point, Part, Says, forwards_on, OneKernel, ◌∙◌}
 use Rattle.dm_rule.specs.Rule as rule
-use Rattle.dm_rule.proofs.Names.{OneKernel, ◌∙◌}
 use Rattle.dm_rule.proofs.Lives.{Kept, Lives, lived_here}
 use Rattle.dm_rule.proofs.Rooted.Lines.{Needs}
 use Rattle.dm_rule.proofs.Serving.{by_round, by_handles, by_forwards}

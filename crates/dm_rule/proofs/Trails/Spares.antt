@@ -2,7 +2,7 @@
 use Rattle.dm_rule.proofs.Names.{◌≡◌, ℕ, ◌+◌, ◌==◌, ◌&&◌, Bool, true, false, not, List, [], ◌∷◌, ◌++◌, length, map, refl, ap, ◌∙◌, sym, subst, if◌then◌else◌, Option, None, Some, false≢true, Pid, Place, pid_eq, PlainLink, first_empty, MsgId}
 use Rattle.dm_rule.proofs.Names.{id_eq, id_of, PlainMessage, PlainWhat, Label, Reply, switchboard, manager, bind, PlainProcess, reg, NamedLink, OneKernel, with_sent, answer_id, id_eq-is, id_eq-same, sent_at, bind-is, when-is, View}
 use Rattle.dm_rule.proofs.Names.{is_kernels, Addresses, Holder, Slot, Owner, Receiver, Sender, Enclosed, Answer, Gets, gets, given, gives, holder_eq, unmoved, encloses, enclosed_from, sends_what, fills, fills_by, call_gets, receives_links}
-use Rattle.dm_rule.proofs.Names.{receives_what, slot_after, landing_gets, serves_what, child_links, board_finds, board_keeps, board_gets, manager_tells, manager_sends, manager_answers, manager_gets, both_true}
+use Rattle.dm_rule.proofs.Names.{receives_what, slot_after, landing_gets, serves_what, child_links, board_finds, board_keeps, board_gets, manager_tells, manager_sends, manager_answers, manager_gets, both_true, at_hand-is}
 use Rattle.dm_onekernel.specs.Calls as calls
 use Rattle.dm_onekernel.specs.Pieces as pieces
 use Rattle.dm_onekernel.specs.Switchboard as board
@@ -11,7 +11,6 @@ use Rattle.dm_onekernel.specs.Service as service
 use Rattle.dm_onekernel.specs.Step as kernel
 use Rattle.dm_rule.specs.Addresses as addresses
 use Rattle.dm_rule.specs.Given as request
-use Rattle.dm_rule.proofs.Names.{at_hand-is}
 use Rattle.dm_rule.proofs.Lines.{not_true}
 
 -- these are none of a message's receiver and sender

@@ -1,5 +1,6 @@
 -- All that the kernel without machines and the lines say of processes and of what waits for them holds wherever the rule leads.
-use Rattle.dm_rulelaws.proofs.Names.{◌≡◌, List, [], ◌∷◌, refl, ◌∙◌, subst, Some, Boot, IsValid, Step, IsStep, Leads, Spelled, Point, first_point, labels, group_of, phased_start, phased_group}
+use Rattle.dm_rulelaws.proofs.Names.{None, ◌≡◌, List, [], ◌∷◌, refl, ◌∙◌, subst, Some, Boot, IsValid, Step, IsStep, Leads, Spelled, Point, first_point, labels, group_of, phased_start, phased_group}
+use Rattle.dm_rulelaws.proofs.Based.Noted.{noted_start, noted_group}
 use Rattle.dm_rulelaws.proofs.Fits.Start.{start_fits}
 use Rattle.dm_rulelaws.proofs.RunLabels.{group_replay, replay_fits}
 use Rattle.dm_rulelaws.proofs.Runs.{Based}
@@ -24,6 +25,7 @@ based_start b valid =
       held = held_of (first_point b) waits;
       lists = lists_start b;
       known = known_start b valid;
+      noted = noted_start (first_point b).kernel (first_point b).view (λ p n e. let f : None ≡ Some n = e in cc);
       pending = refl;
       unmoved = (unmoved_start b).none;
     }
@@ -44,6 +46,7 @@ based_group b pt d w fit is h =
       held = held_of w.point waits;
       lists = lists_group b pt d w is h.phased h.known h.lists;
       known = known_group b pt d w is h.phased h.known;
+      noted = noted_group b pt d w is h.phased h.known h.noted;
       pending = same.pending h.pending;
       unmoved = (unmoved_group b pt d w is h.phased h.known (record { none = h.unmoved })).none;
     }

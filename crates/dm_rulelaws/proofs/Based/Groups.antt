@@ -2,12 +2,12 @@
 use Rattle.dm_rulelaws.proofs.Names.{◌≡◌, ℕ, ◌==◌, Bool, true, false, not, List, [], ◌∷◌, ◌++◌, length, refl, ap, ◌∙◌, sym, subst, if◌then◌else◌, Option, None, Some, arith, false≢true, nat_tests, Pid, MsgId, MessageKind, Stage, Boot}
 use Rattle.dm_rulelaws.proofs.Names.{manager, Life, Alive, OneKernel, Step, Line, View, Told, Of, Known, Unknown, Here, Frozen, Incoming, Forward, after_head, Point, moved, Part, Says, Spelled, is_between, is_apart, is_away, is_here}
 use Rattle.dm_rulelaws.proofs.Names.{kind_comes, Phase, Moves, knows, receiver_in, to_kernel, sends_on, updates, migrates, group_of, at_record_at, IsNetLine, IsNet, front_way, Sane, InPhases, calm_phases, due, head_calm, told_some, Rooted}
-use Rattle.dm_rulelaws.proofs.Names.{Phased, rooted, moves_away, State, is_server, has_nothing_held, agrees, KnownStands, right_true, by_migrates, by_hears, left_parts, by_net, by_outcome}
+use Rattle.dm_rulelaws.proofs.Names.{Phased, rooted, moves_away, State, is_server, has_nothing_held, agrees, KnownStands, right_true, by_migrates, by_hears, left_parts, by_net, by_outcome, answers_move, Outcome}
 use Rattle.dm_rule.specs.Phases as phases
 use Rattle.dm_rule.specs.Rule as rule
 use Rattle.dm_rule.proofs.Groups as groups
 use Rattle.dm_rulelaws.proofs.Based.Needs.{Living, Leaving, Needs, Rides, Keeps, Walks, WalksOf, AllLoose, loose_walks, first_walks, said_by, again_rides, begun, begun_sane, outcome_keeps}
-use Rattle.dm_rulelaws.proofs.Based.Rows.{turned, resting, living, round_walks, handles_walks, forwards_walks}
+use Rattle.dm_rulelaws.proofs.Based.Rows.{known_living, turned, resting, living, round_walks, handles_walks, forwards_walks}
 
 -- what leaves
 leaving_rides : (p : Pid) → Rides (λ q. Leaving q.view p)
@@ -51,13 +51,6 @@ held_own pt id t told held u is =
     let f : Some t ≡ Some u = sym told ∙ is in
     let g : t ≡ u = cc in
     subst (λ (x : Told). has_nothing_held (pt.view.known pt.view.acting x.receiver) ≡ false) g held
-
-here_living : (s : OneKernel) (p : Pid) (o : Option Life) → s.processes p ≡ o → is_server p ≡ false → agrees Here o ≡ true → Living s p
-here_living s p (Some (Alive x)) is server e = record { process = x; alive = is; server = server }
-here_living s p _ is server e = absurd (false≢true e)
-
-pub known_living : (s : OneKernel) (v : View) (m : ℕ) (p : Pid) → KnownStands s v → is_server p ≡ false → v.known m p ≡ Here → Living s p
-known_living s v m p h server here = here_living s p (s.processes p) refl server (sym (ap (λ (k : Known). agrees k (s.processes p)) here) ∙ h.agree m p server)
 
 -- what the phases say
 not_here : (k : MessageKind) (s d m : ℕ) (o : Option MsgId) (x : Known) → knows (Moves k s d o) m x ≡ true → is_here x ≡ false
@@ -121,7 +114,9 @@ hears_walks b o m i is q h front told = walks_of (turned o m) (rule.hears b o m 
           record {
             accepted = λ ask. first_walks (Says (Line.Migration Stage.Accepted p)) (to_kernel MessageKind.PullState i.from.home ∷ []) pt (lived, e.asked ask) (λ q. tt, tt);
             lacks = λ slots blocks. loose_walks (Says (Line.Lacks p slots blocks) ∷ to_kernel MessageKind.Refuse i.from.home ∷ []) pt (λ q. tt, (λ q. tt, tt));
-            stays = λ kind. first_walks (Says (Line.Stays p)) [] pt (lived, e.off (ap is_between kind)) tt;
+            stays = λ kind free. first_walks (Says (Line.Stays p)) [] pt (lived, e.off (ap is_between kind)) tt;
+            stays_asked = λ kind n noted. first_walks (Says (Line.Stays p)) (answers_move n.id Outcome.Stayed) pt (lived, e.off (ap is_between kind)) (λ q. tt, (λ q. tt, tt));
+            restarted_asked = λ kind n noted. first_walks (Says (Line.Migration Stage.Restarted p)) (answers_move n.id Outcome.Done) pt (lived, e.off (ap is_between kind)) (λ q. tt, (λ q. tt, tt));
             state = piece_walks pt i MessageKind.State;
             next_chunk = piece_walks pt i MessageKind.PullState;
             last_chunk = loose_walks (Says (Line.Migration Stage.StateTaken p) ∷ to_kernel MessageKind.PullBlock i.from.home ∷ []) pt (λ q. tt, (λ q. tt, tt));
@@ -129,7 +124,7 @@ hears_walks b o m i is q h front told = walks_of (turned o m) (rule.hears b o m 
             next_block = piece_walks pt i MessageKind.PullBlock;
             last_block = loose_walks (Says (Line.Migration Stage.MemoryTaken p) ∷ to_kernel MessageKind.AllTaken i.from.home ∷ []) pt (λ q. tt, (λ q. tt, tt));
             left = λ ids to leaves. leaves_walks pt i p ids to leaves.known lived.server;
-            restarted = λ kind. first_walks (Says (Line.Migration Stage.Restarted p)) [] pt (lived, e.off (ap is_between kind)) tt;
+            restarted = λ kind free. first_walks (Says (Line.Migration Stage.Restarted p)) [] pt (lived, e.off (ap is_between kind)) tt;
           }
           );
       updated = λ kind. loose_walks (updates o i t) pt (λ q. tt, tt);
@@ -179,7 +174,7 @@ outcome_walks b pt d h known = walks_of (begun pt d) (rule.outcome b pt d) (λ p
       let s = begins pt m h known in
       let (q, way) = front_way (turned pt m) i is s.state box in
       let (t, told) = told_some (pt.view.told i) q (s.state.stands.told i q way) in
-      subst (WalksOf (turned pt m)) e (handles_walks b pt m i msg s.sane s.phases s.rooted (record { there = there; told = t; is = told }))
+      subst (WalksOf (turned pt m)) e (handles_walks b pt m i msg s.sane s.phases s.rooted s.known (record { there = there; told = t; is = told }))
       );
   hears = λ m i is xs box none e. subst (WalksOf (turned pt m)) e (hears_walks b pt m i is (pt.view.told i) (begins pt m h known) box refl);
   ticks = λ m xs net. loose_walks xs (begun pt (Step.Tick m)) (net_loose xs net);

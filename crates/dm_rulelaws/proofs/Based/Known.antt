@@ -1,8 +1,8 @@
 -- What machines know of processes agrees with the kernel without machines: each group keeps it.
-use Rattle.dm_rulelaws.proofs.Names.{◌≡◌, ◌≢◌, ℕ, ◌+◌, ◌==◌, ◌&&◌, Bool, true, false, List, [], ◌∷◌, ◌++◌, is_some, refl, ap, ◌∙◌, sym, subst, inl, inr, arith, if◌then◌else◌, cases_Bool, false≢true, nat_tests, Option, None, Some, Pid}
-use Rattle.dm_rulelaws.proofs.Names.{pid_eq, MsgId, Boot, Label, Line, Stage, bind, PlainProcess, Life, Alive, OneKernel, Step, pid_eq-is, bind-is, completing, Spelled, Point, group_of, at_machine, at_record, without, moved_back, View}
-use Rattle.dm_rulelaws.proofs.Names.{Told, Known, Unknown, Here, Frozen, Incoming, Forward, handled, handled_first, receiver_of, target_of, front_told, front_of, gone_to, served_told, rejoins, view_after, is_away, is_here, at_machine_at}
-use Rattle.dm_rulelaws.proofs.Names.{Phased, is_kill, Sane, is_server, KnownStands, agrees, server_at, rings, turns_here}
+use Rattle.dm_rulelaws.proofs.Names.{aim, sets, at_hand-is, ◌≡◌, ◌≢◌, ℕ, ◌+◌, ◌==◌, ◌&&◌, Bool, true, false, List, [], ◌∷◌, ◌++◌, is_some, refl, ap, ◌∙◌, sym, subst, inl, inr, arith, if◌then◌else◌, cases_Bool, false≢true, nat_tests, Option}
+use Rattle.dm_rulelaws.proofs.Names.{None, Some, Pid, pid_eq, MsgId, Boot, Label, Line, Stage, bind, PlainProcess, Life, Alive, OneKernel, Step, pid_eq-is, bind-is, completing, Spelled, Point, group_of, at_machine, at_record, without}
+use Rattle.dm_rulelaws.proofs.Names.{moved_back, View, Told, Known, Unknown, Here, Frozen, Incoming, Forward, handled, handled_first, receiver_of, target_of, front_told, front_of, gone_to, served_told, rejoins, view_after, is_away, is_here}
+use Rattle.dm_rulelaws.proofs.Names.{at_machine_at, Phased, is_kill, Sane, is_server, KnownStands, agrees, server_at, rings, turns_here}
 use Rattle.dm_onekernel.specs.Step as kernel
 use Rattle.dm_rule.specs.View.{Ended}
 use Rattle.dm_rule.specs.View as view
@@ -202,8 +202,8 @@ alive_set s p x e = record { at_ = ap life_sort e; off = λ q apart. refl }
 ran_living : (s t : OneKernel) (p : Pid) (k : ℕ) → kernel.step s (Label.Ran p k) ≡ Some t → (x : PlainProcess) × (kernel.alive (s.processes p) ≡ Some x)
 ran_living s t p k is =
     let (x, runs, rest) = bind-is (kernel.running s p) (λ (w : PlainProcess). bind (kernel.plain_steps k (kernel.machine_of w)) (λ (m : kernel.Machine). Some (kernel.goes_on s p (kernel.with_machine w m)))) t is in
-    let (y, alive, ready) = bind-is (kernel.alive (s.processes p)) (λ v. kernel.if_ready v v.status) x runs in
-    (y, alive)
+    let (y, hand, ready) = bind-is (kernel.at_hand s p) (λ v. kernel.if_ready v v.status) x runs in
+    (y, ap kernel.alive (at_hand-is s p y hand).1)
 
 served_known : (s t : OneKernel) (v : View) (told : Told) → is_server told.receiver ≡ false → is_some (s.processes told.receiver) ≡ true → (is_kill told.kind ≡ true → SetLife s t told.receiver (Some false)) → (is_kill told.kind ≡ false → Alike s t)
     → (is_kill told.kind ≡ true → Resting v told.receiver) → KnownStands s v → KnownStands t (served_told v (Some told))
@@ -274,16 +274,18 @@ known_loud = record {
   held = λ pt id need sane h. held_known pt.kernel (handled pt.view id) id (receiver_of (pt.view.told id)) (handled_known pt.kernel pt.view id h);
   frozen = λ pt p lives here h.
       let v = pt.view in
-      known_learns pt.kernel pt.kernel v (view_after v (Line.Migration Stage.Frozen p)) p (Frozen (target_of (front_told v (v.inbox v.acting)))) (record {
+      let to = aim v v.topic in
+      let set = sets v p v.topic in
+      known_learns pt.kernel pt.kernel v (view_after v (Line.Migration Stage.Frozen p)) p (Frozen to) (record {
         server = lives.server;
-        known = refl;
+        known = set.known;
         others = λ q apart. refl;
-        mine = ap (agrees (Frozen (target_of (front_told v (v.inbox v.acting))))) lives.alive;
+        mine = ap (agrees (Frozen to)) lives.alive;
         away = λ n off. h.agree n p lives.server;
         some = λ e. cc;
         far = λ e. ap is_some lives.alive;
-        ring = ring_there v.ring v.acting p (without p (v.ring v.acting)) ∙ rings_without p (v.ring v.acting);
-        rings_ = ring_off v.ring v.acting p (without p (v.ring v.acting)) (λ q apart. rings_others p q (v.ring v.acting) apart);
+        ring = ap (λ (f : ℕ → List Pid). rings p (f v.acting)) set.ring ∙ ring_there v.ring v.acting p (without p (v.ring v.acting)) ∙ rings_without p (v.ring v.acting);
+        rings_ = λ m q off. ap (λ (f : ℕ → List Pid). rings q (f m)) set.ring ∙ ring_off v.ring v.acting p (without p (v.ring v.acting)) (λ r apart. rings_others p r (v.ring v.acting) apart) m q off;
       }) h;
   accepted = λ pt p lives away h.
       let v = pt.view in

@@ -1,7 +1,7 @@
 -- A queue only where a process is or leaves, and held messages only where it leaves or comes: each group keeps it.
-use Rattle.dm_rulelaws.proofs.Names.{◌≡◌, ℕ, ◌+◌, Bool, true, false, List, [], ◌∷◌, ◌++◌, refl, ap, ◌∙◌, sym, subst, if◌then◌else◌, false≢true, Option, None, Some, Pid, MsgId, Boot, Step, Label, Line, Stage, Spelled, Point, first_point}
-use Rattle.dm_rulelaws.proofs.Names.{group_of, at_record, without_id, without_front, View, Told, Known, Here, Frozen, Incoming, handled, handled_first, receiver_of, target_of, front_told, front_of, gone_to, served_told, rejoins, is_away}
-use Rattle.dm_rulelaws.proofs.Names.{Phased, ListsStand, has_no_queue, has_nothing_held, KnownStands, is_kill}
+use Rattle.dm_rulelaws.proofs.Names.{aim, sets, ◌≡◌, ℕ, ◌+◌, Bool, true, false, List, [], ◌∷◌, ◌++◌, refl, ap, ◌∙◌, sym, subst, if◌then◌else◌, false≢true, Option, None, Some, Pid, MsgId, Boot, Step, Label, Line, Stage, Spelled, Point}
+use Rattle.dm_rulelaws.proofs.Names.{first_point, group_of, at_record, without_id, without_front, View, Told, Known, Here, Frozen, Incoming, handled, handled_first, receiver_of, target_of, front_told, front_of, gone_to, served_told}
+use Rattle.dm_rulelaws.proofs.Names.{rejoins, is_away, Phased, ListsStand, has_no_queue, has_nothing_held, KnownStands, is_kill}
 use Rattle.dm_rule.specs.View.{Ended}
 use Rattle.dm_rule.specs.View as view
 use Rattle.dm_rulelaws.proofs.Based.Groups.{group_keeps}
@@ -108,7 +108,8 @@ lists_loud = record {
   queued = λ pt id need sane h. lists_queued (handled pt.view id) id (pt.view.told id) (λ t e. ap has_no_queue (need t e).here) (lists_handled pt.view id h);
   held = λ pt id need sane h. lists_held_for (handled pt.view id) id (pt.view.told id) need (lists_handled pt.view id h);
   frozen = λ pt p lives here h.
-      lists_learn pt.view (view.after_stage pt.view p Stage.Frozen) p (Frozen (target_of (front_told pt.view (pt.view.inbox pt.view.acting)))) refl refl refl (λ e. absurd (false≢true e)) (λ e. absurd (false≢true e)) h;
+      let set = sets pt.view p pt.view.topic in
+      lists_learn pt.view (view.after_stage pt.view p Stage.Frozen) p (Frozen (aim pt.view pt.view.topic)) set.known set.queue set.held (λ e. absurd (false≢true e)) (λ e. absurd (false≢true e)) h;
   accepted = λ pt p lives away h.
       lists_learn pt.view (view.after_stage pt.view p Stage.Accepted) p (Incoming (front_of (pt.view.inbox pt.view.acting))) refl refl refl (λ e. h.queue pt.view.acting p (away_queue (pt.view.known pt.view.acting p) away)) (λ e. absurd (false≢true e)) h;
   left = λ pt p leaves h. lists_learn pt.view (view.after_stage pt.view p Stage.Left) p (gone_to (pt.view.known pt.view.acting p) (pt.view.moves p + 1)) refl refl refl (λ e. leaves.queue) (λ e. leaves.held) h;

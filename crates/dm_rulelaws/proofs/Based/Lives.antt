@@ -93,7 +93,9 @@ step_lives s t l =
       receives = λ p id y is w c. by (kernel.goes_on (without_message s id) p y) (Label.Receive p id) is (alike_goes s (without_message s id) p w.x y w.alive refl);
       refuses = λ p id c d y is w e. by (kernel.goes_on s p y) (Label.Refuse p id c) is (goes_life s p w.x y w.alive);
       dropped = λ id m y is w e. by (without_message s id) (Label.Dropped id) is (λ q. refl);
-      gone = λ id m y is w e. by (kernels.with_sent (without_message s id) (Some (answer_to m PlainWhat.Gone))) (Label.Gone id) is (λ q. refl);
+      gone = λ id m y is w v e. by (kernels.with_sent (without_message s id) (Some (answer_to m v))) (Label.Gone id) is (λ q. refl);
+      asked = λ id m x machine is w e. by (kernels.with_note (without_message s id) m.to (record { id = id; asker = m.sender })) (Label.Asked id) is (λ q. refl);
+      answered = λ id o p n is f. by (service.move_ended s id p n o) (Label.Answered id o) is (λ q. refl);
       stops = λ id m x b is w mild. (let y = record x { stopped = b } in served (service.changed s id m y) id m x is w mild.mild (alike_goes s (without_message s id) m.to x y w.alive refl));
       kills = λ id m x is w kill. by (kernels.with_process (without_message s id) m.to (Ended Why.Killed)) (Label.Served id) is (record {
         message = m;
@@ -116,6 +118,12 @@ step_lives s t l =
           by (kernels.with_sent (service.with_created (without_message s id) child i links) (Some (answer_to m (PlainWhat.Created child)))) (Label.Created id child) is (record { at_ = h.at_; off = h.off }));
       no_room = λ id a b m image links is w. by (kernels.with_sent (without_message s id) (Some (answer_to m PlainWhat.NoRoom))) (Label.NoSpace id a b) is (λ q. refl);
     })
+
+-- who lives goes on living
+pub life_of : (o : Option Life) → life_sort o ≡ Some true → (x : PlainProcess) × (o ≡ Some (Alive x))
+life_of None e = absurd (let f : None ≡ Some true = e in cc)
+life_of (Some (Alive x)) e = (x, refl)
+life_of (Some (Ended y)) e = absurd (false≢true (let f : false ≡ true = cc in f))
 
 pub step_alike : (s t : OneKernel) (e : Label) → is_steady e ≡ true → kernel.step s e ≡ Some t → Alike s t
 step_alike s t (Label.End p y) steady is = absurd (false≢true steady)

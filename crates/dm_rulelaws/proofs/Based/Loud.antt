@@ -1,6 +1,6 @@
 -- Most lines change nothing of what machines know, of rings, queues and held lists: what must be shown of the others.
-use Rattle.dm_rulelaws.proofs.Names.{◌≡◌, ℕ, ◌+◌, ◌==◌, true, false, not, filter, refl, subst, Option, None, Some, Pid, MsgId, MessageKind, Step, Stage, Label, Reply, Why, OneKernel, Line, View, Told, About, Of, Here, view_after, handled}
-use Rattle.dm_rulelaws.proofs.Names.{receiver_of, is_away, is_here, Point, label_of, kernel_after, moved, hushed, Sane, has_nothing_held}
+use Rattle.dm_rulelaws.proofs.Names.{seen, ◌≡◌, ℕ, ◌+◌, ◌==◌, true, false, not, filter, refl, subst, Option, None, Some, Pid, MsgId, MessageKind, Step, Stage, Label, Reply, Why, OneKernel, Line, View, Told, About, Of, Here, view_after}
+use Rattle.dm_rulelaws.proofs.Names.{handled, receiver_of, is_away, is_here, Point, label_of, kernel_after, moved, hushed, Sane, has_nothing_held}
 use Rattle.dm_onekernel.specs.Step as kernel
 use Rattle.dm_rule.specs.View as view
 use Rattle.dm_rulelaws.proofs.Based.Lives.{Alike, step_alike}
@@ -41,7 +41,7 @@ proto_stays v (Some t) = let h = follows_stays v t.about t.kind in record { know
 -- what must be shown: of lines that change nothing of this, and of each of the others
 pub record Loud (P : Point → Type 0) : Type 0 where
   pub rides : Rides P
-  pub quiet : (pt : Point) (w : View) (t : OneKernel) (l : Line) → view_after pt.view l ≡ w → Stays pt.view w → w.told ≡ pt.view.told → Alike pt.kernel t → Sane pt → kernel_after pt.kernel (label_of l) ≡ Some t → P pt → P (moved pt l t)
+  pub quiet : (pt : Point) (w : View) (t : OneKernel) (l : Line) → seen pt.kernel pt.view l ≡ w → Stays pt.view w → w.told ≡ pt.view.told → Alike pt.kernel t → Sane pt → kernel_after pt.kernel (label_of l) ≡ Some t → P pt → P (moved pt l t)
   pub ran : (pt : Point) (t : OneKernel) (p : Pid) (k : ℕ) → pt.view.known pt.view.acting p ≡ Here → Alike pt.kernel t → Sane pt → kernel.step pt.kernel (Label.Ran p k) ≡ Some t → P pt → P (moved pt (Line.Label (Label.Ran p k)) t)
   pub receive : (pt : Point) (t : OneKernel) (p : Pid) (id : MsgId) → pt.view.known pt.view.acting p ≡ Here → Alike pt.kernel t → Sane pt → kernel.step pt.kernel (Label.Receive p id) ≡ Some t → P pt → P (moved pt (Line.Label (Label.Receive p id)) t)
   pub refuse : (pt : Point) (t : OneKernel) (p : Pid) (id : MsgId) (c : Reply) → pt.view.known pt.view.acting p ≡ Here → Alike pt.kernel t → Sane pt → kernel.step pt.kernel (Label.Refuse p id c) ≡ Some t → P pt → P (moved pt (Line.Label (Label.Refuse p id c)) t)
@@ -63,10 +63,10 @@ unmoved_kernel : (P : Point → Type 0) (pt : Point) (t : OneKernel) (l : Line) 
 unmoved_kernel P pt t l e h = let f : pt.kernel ≡ t = cc in subst (λ (s : OneKernel). P (moved pt l s)) f h
 
 quiet_line : (P : Point → Type 0) (loud : Loud P) (pt : Point) (l : Line) → kernel_after pt.kernel (label_of l) ≡ Some pt.kernel → Stays pt.view (view_after pt.view l) → (view_after pt.view l).told ≡ pt.view.told → Sane pt → P pt → P (moved pt l pt.kernel)
-quiet_line P loud pt l is same told sane h = loud.quiet pt (view_after pt.view l) pt.kernel l refl same told (λ q. refl) sane is h
+quiet_line P loud pt l is same told sane h = loud.quiet pt (seen pt.kernel pt.view l) pt.kernel l refl (record { known = same.known; ring = same.ring; queue = same.queue; held = same.held; moves = same.moves }) told (λ q. refl) sane is h
 
 quiet_label : (P : Point → Type 0) (loud : Loud P) (pt : Point) (t : OneKernel) (l : Label) → Alike pt.kernel t → Stays pt.view (view_after pt.view (Line.Label l)) → (view_after pt.view (Line.Label l)).told ≡ pt.view.told → Sane pt → kernel.step pt.kernel l ≡ Some t → P pt → P (moved pt (Line.Label l) t)
-quiet_label P loud pt t l alike same told sane is h = loud.quiet pt (view_after pt.view (Line.Label l)) t (Line.Label l) refl same told alike sane is h
+quiet_label P loud pt t l alike same told sane is h = loud.quiet pt (seen pt.kernel pt.view (Line.Label l)) t (Line.Label l) refl (record { known = same.known; ring = same.ring; queue = same.queue; held = same.held; moves = same.moves }) told alike sane is h
 
 label_keeps : (P : Point → Type 0) (loud : Loud P) (pt : Point) (t : OneKernel) (l : Label) → Needs pt (Line.Label l) → Sane pt → kernel.step pt.kernel l ≡ Some t → P pt → P (moved pt (Line.Label l) t)
 label_keeps P loud pt t (Label.Ran p k) need sane is h = loud.ran pt t p k need (step_alike pt.kernel t (Label.Ran p k) refl is) sane is h

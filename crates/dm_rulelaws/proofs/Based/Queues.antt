@@ -1,7 +1,7 @@
 -- What is queued for a process is a user message for it, and what is held for it is for it: each group keeps it.
-use Rattle.dm_rulelaws.proofs.Names.{◌≡◌, ℕ, ◌≤◌, Bool, true, false, List, [], ◌∷◌, ◌++◌, refl, ap, ◌∙◌, sym, subst, inl, inr, arith, if◌then◌else◌, cases_Bool, false≢true, Option, None, Some, Pid, MsgId, MessageKind, id_eq, plain_kind}
-use Rattle.dm_rulelaws.proofs.Names.{PlainMessage, PlainWhat, Boot, Step, id_eq-is, Spelled, Point, first_point, group_of, at_record, without_id, without_front, to_of, Spot, Queue, times, standing, StandsAsBag, View, Told, handled}
-use Rattle.dm_rulelaws.proofs.Names.{receiver_of, served_told, first_told, is_kernels, letters, letters_bag, kernels_fresh, Phased, told_some, KnownStands, zero_cases}
+use Rattle.dm_rulelaws.proofs.Names.{Stage, aim, sets, ◌≡◌, ℕ, ◌≤◌, Bool, true, false, List, [], ◌∷◌, ◌++◌, refl, ap, ◌∙◌, sym, subst, inl, inr, arith, if◌then◌else◌, cases_Bool, false≢true, Option, None, Some, Pid, MsgId, MessageKind}
+use Rattle.dm_rulelaws.proofs.Names.{id_eq, plain_kind, PlainMessage, PlainWhat, Boot, Step, id_eq-is, Spelled, Point, first_point, group_of, at_record, without_id, without_front, to_of, Spot, Queue, times, standing, StandsAsBag, View}
+use Rattle.dm_rulelaws.proofs.Names.{Told, handled, receiver_of, served_told, first_told, is_kernels, letters, letters_bag, kernels_fresh, Phased, told_some, KnownStands, zero_cases}
 use Rattle.dm_message.specs.Plain as what
 use Rattle.dm_rule.specs.View as view
 use Rattle.dm_rulelaws.proofs.Queued.{IsQueued, is_user}
@@ -118,7 +118,7 @@ waits_loud = record {
   created = λ pt t id p unborn sane is h. record { queue = h.queue; held = h.held };
   queued = λ pt id need sane h. waits_queued (handled pt.view id) id (pt.view.told id) refl (λ t e. let n = need t e in (n.kind, n.other)) (waits_handled pt.view id h);
   held = λ pt id need sane h. waits_held_for (handled pt.view id) id (pt.view.told id) refl (waits_handled pt.view id h);
-  frozen = λ pt p lives here h. record { queue = h.queue; held = h.held };
+  frozen = λ pt p lives here h. let set = sets pt.view p pt.view.topic in waits_as pt.view (view.after_stage pt.view p Stage.Frozen) set.queue set.held set.told h;
   accepted = λ pt p lives away h. record { queue = h.queue; held = h.held };
   left = λ pt p leaves h. record { queue = h.queue; held = h.held };
   restarted = λ pt p lives off h. record { queue = h.queue; held = λ n q i least. emptied pt.view p n q i h least };

@@ -1,11 +1,13 @@
 -- What a turn says of a message of the bag, and of a process that is served, has what its lines need.
 use Rattle.dm_rulelaws.proofs.Names.{◌≡◌, ℕ, ◌+◌, ◌==◌, ◌||◌, Bool, true, false, List, [], ◌∷◌, refl, ap, ◌∙◌, sym, subst, if◌then◌else◌, Option, None, Some, arith, nat_tests, Pid, pid_of, pid_eq, MsgId, MessageKind, Label, Step, Line}
 use Rattle.dm_rulelaws.proofs.Names.{plain_kind, PlainMessage, Boot, first_number, switchboard, manager, PlainProcess, Alive, not_server, alive-is, View, Told, Known, Here, Addresses, Point, moved, Part, Says, Routes, is_away, is_here}
-use Rattle.dm_rulelaws.proofs.Names.{Phase, Rests, knows, forwards_on, not_kernels, Sane, InPhases, rests_here, Rooted, has_nothing_held, Stops, by_round, by_handles, by_forwards}
+use Rattle.dm_rulelaws.proofs.Names.{Phase, Rests, knows, forwards_on, not_kernels, Sane, InPhases, rests_here, Rooted, has_nothing_held, Stops, by_round, by_handles, by_forwards, answers_move, leaves_for, Outcome, false≢true, Life}
+use Rattle.dm_rulelaws.proofs.Names.{OneKernel, Stage, to_kernel, agrees, KnownStands, is_server}
 use Rattle.dm_onekernel.specs.Pieces as pieces
 use Rattle.dm_onekernel.specs.Step as kernel
 use Rattle.dm_onekernel.specs.Step.{machine_of}
 use Rattle.dm_rule.specs.Rule as rule
+use Rattle.dm_rulelaws.proofs.Based.Lives.{Alike, life_sort, life_of, step_alike}
 use Rattle.dm_rulelaws.proofs.Based.Needs.{Resting, Serves, Unborn, Living, Queues, Walks, WalksOf, AllLoose, loose_walks, first_walks, said_by, begun}
 
 -- the point behind the head of a turn
@@ -102,8 +104,32 @@ unborn o m h =
     let c : pid_eq p manager ≡ false = grind (arith, nat_tests) in
     record { home = refl; unknown = λ n. h.unborn m n; server = ap (λ (x : Bool). x || pid_eq p manager) a ∙ c }
 
-pub handles_walks : (b : Boot) (o : Point) (m : ℕ) (id : MsgId) (msg : PlainMessage) → Sane (turned o m) → InPhases (turned o m).view → Rooted o → Front (turned o m) id msg → WalksOf (turned o m) (rule.handles b o m id msg)
-handles_walks b o m id msg sane phases rooted f =
+-- a process is asked to move, and sets off
+living_on : (s t : OneKernel) (p : Pid) → Alike s t → Living s p → Living t p
+living_on s t p alike h =
+    let (x, is) = life_of (t.processes p) (alike p ∙ ap life_sort h.alive) in
+    record { process = x; alive = is; server = h.server }
+
+asks_walks : (pt : Point) (p : Pid) (id : MsgId) (to : ℕ) → Living pt.kernel p → pt.view.known pt.view.acting p ≡ Here → Walks pt (rule.says (Label.Asked id) ∷ leaves_for p to)
+asks_walks pt p id to lives here = (
+  tt,
+  λ next s.
+      let g = said_by pt next (Line.Label (Label.Asked id)) s in
+      let mid = moved pt (Line.Label (Label.Asked id)) g.kernel in
+      subst (λ (z : Point). Walks z (leaves_for p to)) g.is
+      (first_walks (Says (Line.Migration Stage.Frozen p)) (Says (Line.Migration Stage.Asked p) ∷ to_kernel MessageKind.Ask to ∷ []) mid (living_on pt.kernel g.kernel p (step_alike pt.kernel g.kernel (Label.Asked id) refl g.step) lives, here) (λ q. tt, (λ q. tt, tt))),
+)
+
+-- what is known to be here lives
+here_living : (s : OneKernel) (p : Pid) (o : Option Life) → s.processes p ≡ o → is_server p ≡ false → agrees Here o ≡ true → Living s p
+here_living s p (Some (Alive x)) is server e = record { process = x; alive = is; server = server }
+here_living s p _ is server e = absurd (false≢true e)
+
+pub known_living : (s : OneKernel) (v : View) (m : ℕ) (p : Pid) → KnownStands s v → is_server p ≡ false → v.known m p ≡ Here → Living s p
+known_living s v m p h server here = here_living s p (s.processes p) refl server (sym (ap (λ (k : Known). agrees k (s.processes p)) here) ∙ h.agree m p server)
+
+pub handles_walks : (b : Boot) (o : Point) (m : ℕ) (id : MsgId) (msg : PlainMessage) → Sane (turned o m) → InPhases (turned o m).view → Rooted o → KnownStands o.kernel o.view → Front (turned o m) id msg → WalksOf (turned o m) (rule.handles b o m id msg)
+handles_walks b o m id msg sane phases rooted known f =
     let pt = turned o m in
     let child = pid_of m (first_number + o.kernel.made m) in
     walks_of pt (rule.handles b o m id msg) (λ ps. by_handles (Walks pt) b o m id msg ps (record {
@@ -114,6 +140,8 @@ handles_walks b o m id msg sane phases rooted f =
       served = λ to mild. first_walks (rule.says (Label.Served id)) [] pt (front_serves pt id msg sane phases f to.known) tt;
       answers = λ to mild i. first_walks (rule.says (Label.Served id)) (Routes i ∷ []) pt (front_serves pt id msg sane phases f to.known) (λ q. tt, tt);
       kills = λ to kills. first_walks (rule.says (Label.Served id)) (rule.drop_parts (o.view.queue m msg.to)) pt (front_serves pt id msg sane phases f to.known) (drops_loose (o.view.queue m msg.to));
+      moved = λ to what. loose_walks (rule.says (Label.Asked id) ∷ answers_move id Outcome.Done) pt (λ q. tt, (λ q. tt, (λ q. tt, tt)));
+      sets_off = λ n to what apart. asks_walks pt msg.to id n (known_living o.kernel o.view m msg.to known to.process to.known) to.known;
       gone = λ to. loose_walks (rule.says (Label.Gone id) ∷ Routes (pieces.answer_id id) ∷ []) pt (λ q. tt, (λ q. tt, tt));
       dropped = λ to. loose_walks (rule.says (Label.Dropped id) ∷ []) pt (λ q. tt, tt);
       leaving = λ n to. first_walks (Says (Line.Held id)) [] pt (front_held pt id msg sane f (ap has_nothing_held to.known)) tt;

@@ -1,6 +1,6 @@
 -- What was never made has never moved: each group keeps it.
-use Rattle.dm_rulelaws.proofs.Names.{◌≡◌, ℕ, ◌+◌, Bool, refl, ap, ◌∙◌, sym, subst, inl, inr, if◌then◌else◌, cases_Bool, Option, None, Some, Pid, pid_eq, MsgId, Boot, Label, Line, Stage, PlainProcess, Alive, OneKernel, Step, pid_eq-is}
-use Rattle.dm_rulelaws.proofs.Names.{after_step, Spelled, Point, first_point, kernel_after, label_of, group_of, View, Told, handled, receiver_of, served_told, view_after, Kept, grown_none, Phased, Sane, KnownStands}
+use Rattle.dm_rulelaws.proofs.Names.{aim, sets, ◌≡◌, ℕ, ◌+◌, Bool, refl, ap, ◌∙◌, sym, subst, inl, inr, if◌then◌else◌, cases_Bool, Option, None, Some, Pid, pid_eq, MsgId, Boot, Label, Line, Stage, PlainProcess, Alive, OneKernel, Step}
+use Rattle.dm_rulelaws.proofs.Names.{pid_eq-is, after_step, Spelled, Point, first_point, kernel_after, label_of, group_of, View, Told, handled, receiver_of, served_told, view_after, Kept, grown_none, Phased, Sane, KnownStands}
 use Rattle.dm_onekernel.specs.Step as kernel
 use Rattle.dm_rule.specs.View as view
 use Rattle.dm_rulelaws.proofs.Based.Groups.{group_keeps}
@@ -67,7 +67,7 @@ unmoved_loud = record {
   created = λ pt t id p unborn sane is h. by_label pt t (Label.Created id p) sane is refl h;
   queued = λ pt id need sane h. unmoved_as pt.kernel pt.kernel pt.view (view_after pt.view (Line.Queued id)) (λ p e. e) (queued_moves (handled pt.view id) id (receiver_of (pt.view.told id))) h;
   held = λ pt id need sane h. unmoved_as pt.kernel pt.kernel pt.view (view_after pt.view (Line.Held id)) (λ p e. e) (held_moves (handled pt.view id) id (receiver_of (pt.view.told id))) h;
-  frozen = λ pt p lives here h. record { none = h.none };
+  frozen = λ pt p lives here h. unmoved_as pt.kernel pt.kernel pt.view (view_after pt.view (Line.Migration Stage.Frozen p)) (λ q e. e) (sets pt.view p pt.view.topic).moves h;
   accepted = λ pt p lives away h. record { none = h.none };
   left = λ pt p leaves h. record { none = h.none };
   restarted = λ pt p lives off h. restarted_moves pt.kernel pt.view (view_after pt.view (Line.Migration Stage.Restarted p)) p lives.process lives.alive refl h;

@@ -339,6 +339,21 @@ asked_step r e s t id is fits =
     let (x, hand, last) = bind-is (kernel.at_hand s m.to) (λ p. service.follows s id m m.what) t rest in
     follows_row r e s t id m m.what (fits.messages id m there) last fits
 
+-- behind it the process follows the request
+follows_noted : (s t : OneKernel) (id : MsgId) (m : PlainMessage) (w : PlainWhat) → service.follows s id m w ≡ Some t → t.noted id ≡ Some m.to
+follows_noted s t id m (PlainWhat.Move machine) is =
+    let n : Note = record { id = id; asker = m.sender } in
+    let k : with_note (without_message s id) m.to n ≡ t = cc in
+    ap (λ (u : OneKernel). u.noted id) (sym k) ∙ ap (λ (c : Bool). if c then Some m.to else s.noted id) (id_eq-same id)
+follows_noted s t id m _ is = cc
+
+pub asked_noted : (s t : OneKernel) (id : MsgId) (m : PlainMessage) → kernel.step s (Label.Asked id) ≡ Some t → s.bag id ≡ Some m → t.noted id ≡ Some m.to
+asked_noted s t id m is there =
+    let (k, found, rest) = bind-is (s.bag id) (λ (v : PlainMessage). bind (kernel.at_hand s v.to) (λ p. service.follows s id v v.what)) t is in
+    let (x, hand, last) = bind-is (kernel.at_hand s k.to) (λ p. service.follows s id k k.what) t rest in
+    let same : k ≡ m = (let f : Some k ≡ Some m = sym found ∙ there in cc) in
+    follows_noted s t id k k.what last ∙ ap (λ (v : PlainMessage). Some v.to) same
+
 -- the request that it followed is answered
 unnoted_fits : (s : OneKernel) (p : Pid) (id : MsgId) → KernelFits s → KernelFits (without_note s p id)
 unnoted_fits s p id h =

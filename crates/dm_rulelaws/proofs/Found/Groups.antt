@@ -1,10 +1,11 @@
 -- Each group keeps where addresses lead, what machines know, and where messages stand.
-use Rattle.dm_rulelaws.proofs.Names.{◌≡◌, ℕ, ◌<◌, ◌≤◌, ◌==◌, not, Bool, true, false, is_some, List, [], ◌∷◌, refl, ap, ◌∙◌, sym, subst, inl, inr, arith, if◌then◌else◌, Option, None, Some, false≢true, Pid, Place, MsgId, plain_kind}
-use Rattle.dm_rulelaws.proofs.Names.{PlainMessage, MessageKind, Boot, manager, Step, id_eq-same, alive-is, Line, View, Told, About, Target, Of, Known, Unknown, Here, Frozen, Incoming, Forward, is_kernels, own_id, receiver_of, target_in}
-use Rattle.dm_rulelaws.proofs.Names.{target_of, front_told, front_of, Child, Receiver, Sender, given, child_number, place_of_child, unmoved, own_gives, names, sender_of, IsStep, forwards_on, migrates, Part, Says, Owns, Spelled, Moves}
-use Rattle.dm_rulelaws.proofs.Names.{is_between, is_restart, is_early, knows, receiver_in, is_of_source, Point, moved, group_of, Inbox, Queue, Held, times, standing, IsNet, IsNetLine, group_is, turn_off, letters, eq_is, parts, both_lists}
-use Rattle.dm_rulelaws.proofs.Names.{both_times, under_way, front_kernels, Phased, due, head_calm, InPhases, calm_phases, rooted, State, Sane, sane_line, outcome_sayable, Comes, Named, Links, child_is, source_holds, destination_expects}
-use Rattle.dm_rulelaws.proofs.Names.{is_fixed, eq_self, about_same, front_one, least_of, by_migrates, by_net, by_outcome}
+use Rattle.dm_rulelaws.proofs.Names.{PlainWhat, WhatFits, nat_tests, ◌≡◌, ℕ, ◌<◌, ◌≤◌, ◌==◌, not, Bool, true, false, is_some, List, [], ◌∷◌, refl, ap, ◌∙◌, sym, subst, inl, inr, arith, if◌then◌else◌, Option, None, Some, false≢true, Pid}
+use Rattle.dm_rulelaws.proofs.Names.{Place, MsgId, plain_kind, PlainMessage, MessageKind, Boot, manager, Step, id_eq-same, alive-is, Line, View, Told, About, Target, Of, Known, Unknown, Here, Frozen, Incoming, Forward, is_kernels, own_id}
+use Rattle.dm_rulelaws.proofs.Names.{receiver_of, target_in, target_of, front_told, front_of, Child, Receiver, Sender, given, child_number, place_of_child, unmoved, own_gives, names, sender_of, IsStep, forwards_on, migrates, Part, Says}
+use Rattle.dm_rulelaws.proofs.Names.{Owns, Spelled, Moves, is_between, is_restart, is_early, knows, receiver_in, is_of_source, Point, moved, group_of, Inbox, Queue, Held, times, standing, IsNet, IsNetLine, group_is, turn_off, letters}
+use Rattle.dm_rulelaws.proofs.Names.{eq_is, parts, both_lists, both_times, under_way, front_kernels, Phased, due, head_calm, InPhases, calm_phases, rooted, State, Sane, sane_line, outcome_sayable, Comes, Named, Links, child_is}
+use Rattle.dm_rulelaws.proofs.Names.{source_holds, destination_expects, is_fixed, eq_self, about_same, front_one, least_of, by_migrates, by_net, by_outcome}
+use Rattle.dm_rulelaws.proofs.Found.Labels.{there_known}
 use Rattle.dm_rule.specs.Phases as phases
 use Rattle.dm_rule.specs.Rule as rule
 use Rattle.dm_rule.proofs.Groups.{begun}
@@ -14,8 +15,8 @@ use Rattle.dm_rulelaws.proofs.Found.Forward.{forwards_need, moves_back, leaves_n
 use Rattle.dm_rulelaws.proofs.Found.Hears.{Heard, told_by_need}
 use Rattle.dm_rulelaws.proofs.Found.Lines.{NeedsLine, NeedsHead, line_core}
 use Rattle.dm_rulelaws.proofs.Found.Parts.{AllNeed, NeedOf, AllLoose, NeedsOwn, loose_need, first_need, parts_core}
-use Rattle.dm_rulelaws.proofs.Found.Real.{made_free, child_real, sends_real}
-use Rattle.dm_rulelaws.proofs.Found.Rows.{round_need, handles_need}
+use Rattle.dm_rulelaws.proofs.Found.Real.{has_some, made_free, child_real, sends_real}
+use Rattle.dm_rulelaws.proofs.Found.Rows.{round_need, handles_need, Moves as MovesTo}
 
 -- behind the head of a group
 abbrev headed : Point → Step → Point
@@ -140,6 +141,7 @@ heard n pt m i is t p h sane state in_ front told own about between =
     let from : i.from.home < n = subst (λ (x : ℕ). x < n) (sym (ap (λ (x : Pid). x.home) u.from)) (sender_within n u.s u.d (is_of_source u.k) within.0 within.1) in (
       from,
       (subst (λ (x : ℕ). x < n) (sym (ap front_of front)) from, free),
+      (λ z e. sane.sound.notes.noted p z e),
       (λ all.
           let kind_ : u.k ≡ MessageKind.AllTaken = sym (ap (λ (x : Told). x.kind) u.told) ∙ all in
           let late : is_restart u.k ≡ false = ap is_restart kind_ in
@@ -157,6 +159,17 @@ heard n pt m i is t p h sane state in_ front told own about between =
 forward_free : (n : ℕ) (v : View) (m : ℕ) (p : Pid) (to c : ℕ) → v.known m p ≡ Forward to c → AllKnown n v → is_fixed p ≡ false
 forward_free n v m p to c e h = (subst (KnownIs n v m p) e (h m p)).2
 
+asked_by : (n : ℕ) (pt : Point) (i : MsgId) (k : PlainMessage) (x : PlainWhat) (to : ℕ) → WhatFits pt.kernel i k x → x ≡ PlainWhat.Move to → Sane pt → Core n pt → (to < n) × (is_fixed k.to ≡ false)
+asked_by n pt i k (PlainWhat.Move m) to f e sane h =
+    let same : m ≡ to = cc in
+    let (made, within, sender, request, pending) = f in
+    let le : m < pt.kernel.machines = grind (arith, nat_tests) in
+    (subst (λ (j : ℕ). j < n) same (subst (λ (j : ℕ). m < j) h.machines le), made_free pt k.to sane.sound.made (has_some 0 (pt.kernel.processes k.to) made))
+asked_by n pt i k _ to f e sane h = cc
+
+asked_to : (n : ℕ) (pt : Point) (i : MsgId) (k : PlainMessage) → pt.kernel.bag i ≡ Some k → Sane pt → Core n pt → MovesTo n k
+asked_to n pt i k there sane h to e = asked_by n pt i k k.what to (h.fits.messages i k there) e sane h
+
 front_need : (n : ℕ) (b : Boot) (pt : Point) (m : ℕ) (i : MsgId) (is : List MsgId) (k : PlainMessage) (ps : List Part) → Core n (headed pt (Step.Turn m)) → Sane (headed pt (Step.Turn m)) → State None (headed pt (Step.Turn m)) → pt.view.inbox m ≡ i ∷ is → pt.kernel.bag i ≡ Some k
     → rule.handles b pt m i k ≡ Some ps → AllNeed n (headed pt (Step.Turn m)) ps
 front_need n b pt m i is k ps h sane state front there =
@@ -165,7 +178,9 @@ front_need n b pt m i is k ps h sane state front there =
     let (t, told) = told_there (start.view.told i) at.1 in
     let to_same : t.receiver ≡ k.to = sane.tells.receiver i k t there told in
     let kind_same : t.kind ≡ plain_kind k.what = sane.tells.kind i k t there told in
-    handles_need n start b pt m i k ps at
+    let knows = there_known n start i k there at.0 h in
+    let moves = asked_to n start i k there sane h in
+    handles_need n start b pt m i k ps at there knows moves
     (λ to c e. subst (λ (x : MessageKind). AllNeed n start (forwards_on pt.addresses i x k.sender to)) kind_same
     (forwards_need n start i is t k.sender to c front state sane h told (ap (pt.view.known m) to_same ∙ e) (subst (λ (x : Pid). is_fixed x ≡ false) (sym to_same) (forward_free n start.view m k.to to c e h.known))
     (λ back. (h.all (Sender i) k.sender (Links (ap sender_of there)), sends_real start n k.sender h (h.senders i k there)))))

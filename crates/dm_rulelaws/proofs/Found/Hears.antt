@@ -1,19 +1,19 @@
 -- What a turn needs where the message at the front is a kernel's own.
-use Rattle.dm_rulelaws.proofs.Names.{◌≡◌, ℕ, ◌/◌, ◌<◌, ◌==◌, Bool, true, false, List, [], ◌∷◌, ◌++◌, length, refl, ap, ◌∙◌, ◌||◌, if◌then◌else◌, Option, None, Some, Pid, pid_of, pid_eq, MsgId, MessageKind, Line, Stage, Boot, switchboard}
-use Rattle.dm_rulelaws.proofs.Names.{manager, bind, PlainProcess, Told, About, Of, Known, Unknown, Here, Forward, target_of, front_told, front_of, Point, Part, Says, to_kernel, forwards_on, accepts, takes_chunk, takes_block, leaves}
-use Rattle.dm_rulelaws.proofs.Names.{chunks_of, pieces_of, kernel_told, here_told, ended_told, process_told, server_told, is_between, is_fixed}
+use Rattle.dm_rulelaws.proofs.Names.{sym, subst, inr, ◌≢◌, Outcome, Note, OneKernel, View, label_of, kernel_after, moved, at_record, at_record_at, tells_asker, aim, ◌≡◌, ℕ, ◌/◌, ◌<◌, ◌==◌, Bool, true, false, List, [], ◌∷◌, ◌++◌, length}
+use Rattle.dm_rulelaws.proofs.Names.{refl, ap, ◌∙◌, ◌||◌, if◌then◌else◌, Option, None, Some, Pid, pid_of, pid_eq, MsgId, MessageKind, Line, Stage, Boot, switchboard, manager, bind, PlainProcess, Told, About, Of, Known, Unknown, Here}
+use Rattle.dm_rulelaws.proofs.Names.{Forward, target_of, front_told, front_of, Point, Part, Says, to_kernel, forwards_on, accepts, takes_chunk, takes_block, leaves, chunks_of, pieces_of, kernel_told, here_told, ended_told, process_told}
+use Rattle.dm_rulelaws.proofs.Names.{server_told, is_between, is_fixed}
+use Rattle.dm_rulelaws.proofs.Found.Core.{KnowsAt}
+use Rattle.dm_rulelaws.proofs.Found.Lines.{NeedsLine}
 use Rattle.dm_onekernel.specs.Step as kernel
 use Rattle.dm_rule.specs.View.{Ended}
 use Rattle.dm_rule.specs.Rule as rule
 use Rattle.dm_rulelaws.proofs.Found.Parts.{AllNeed, NeedOf, AllLoose, NeedsOwn, between_own, first_need}
-use Rattle.dm_rulelaws.proofs.Found.Rows.{Front}
+use Rattle.dm_rulelaws.proofs.Found.Rows.{Front, to_ask, answers_need}
 
 -- a message to a kernel of a machine that there is
 owns_between : (n : ℕ) (k : MessageKind) (m : ℕ) → ((pt : Point) → NeedsOwn n pt k (pid_of m 0) m) → AllLoose n (to_kernel k m ∷ [])
 owns_between n k m h = (h, tt)
-
-pub to_ask : (n m : ℕ) → m < n → AllLoose n (to_kernel MessageKind.Ask m ∷ [])
-to_ask n m le = owns_between n MessageKind.Ask m (λ pt. between_own n pt MessageKind.Ask m refl (λ e. cc) refl le)
 
 pub to_refuse : (n m : ℕ) → m < n → AllLoose n (to_kernel MessageKind.Refuse m ∷ [])
 to_refuse n m le = owns_between n MessageKind.Refuse m (λ pt. between_own n pt MessageKind.Refuse m refl (λ e. cc) refl le)
@@ -50,17 +50,38 @@ block_need n pt id p false le = first_need n pt (Says (Line.Proto id)) (to_kerne
 
 -- where one between kernels is heard
 abbrev pub Heard : ℕ → Point → Point → ℕ → MsgId → Pid → MessageKind → Type 0
-Heard n pt o m id p k = (id.from.home < n) × ((front_of (pt.view.inbox pt.view.acting) < n) × (is_fixed p ≡ false)) × (k ≡ MessageKind.AllTaken → NeedOf n pt (leaves id p (o.view.queue m p ++ o.view.held m p) (o.view.known m p)))
+Heard n pt o m id p k =
+    (id.from.home < n) × ((front_of (pt.view.inbox pt.view.acting) < n) × (is_fixed p ≡ false)) × ((z : Note) → o.kernel.notes p ≡ Some z → pt.kernel.noted z.id ≡ Some p) × (k ≡ MessageKind.AllTaken → NeedOf n pt (leaves id p (o.view.queue m p ++ o.view.held m p) (o.view.known m p)))
+
+-- and told to who asked for it
+asker_need : (n : ℕ) (pt : Point) (l : Line) (o : Option Note) (r : Outcome) → NeedsLine n pt l
+    → ((z : Note) → o ≡ Some z → (s : OneKernel) → kernel_after pt.kernel (label_of l) ≡ Some s → (q : Pid) → s.noted z.id ≡ Some q → KnowsAt (moved pt l s).view q (moved pt l s).view.acting) → AllNeed n pt (Says l ∷ tells_asker o r)
+asker_need n pt l None r need knows = first_need n pt (Says l) [] need tt
+asker_need n pt l (Some z) r need knows = answers_need n pt l z.id r need (knows z refl)
+
+-- a process that follows a request stays here
+comes_here : (v w : View) (p q : Pid) → w.known ≡ at_record v.known v.acting p Here → w.acting ≡ v.acting → is_fixed p ≡ false → p ≡ q → KnowsAt w q w.acting
+comes_here v w p q known acting free same =
+    let here : w.known w.acting p ≡ Here = ap (λ (m : ℕ). w.known m p) acting ∙ ap (λ (f : ℕ → Pid → Known). f v.acting p) known ∙ at_record_at v.known v.acting p Here in
+    subst (λ (x : Pid). KnowsAt w x w.acting) same (inr (free, λ e. (let f : Here ≡ Unknown = sym here ∙ e in cc)))
+
+noted_same : (s t : OneKernel) (z : Note) (p q : Pid) → Some s ≡ Some t → s.noted z.id ≡ Some p → t.noted z.id ≡ Some q → p ≡ q
+noted_same s t z p q e f g =
+    let same : s ≡ t = cc in
+    let k : Some p ≡ Some q = sym f ∙ ap (λ (u : OneKernel). u.noted z.id) same ∙ g in
+    cc
 
 told_need : (n : ℕ) (pt o : Point) (m : ℕ) (id : MsgId) (p : Pid) (room : Bool × ℕ × ℕ) (x : PlainProcess) (k : MessageKind) → (is_between k ≡ true → Heard n pt o m id p k) → NeedOf n pt (kernel_told o m id p room x k)
 told_need n pt o m id p room x MessageKind.Ask h = accepts_need n pt id.from.home p room.0 room.1 room.2 (h refl).0 (h refl).1
-told_need n pt o m id p room x MessageKind.Refuse h = first_need n pt (Says (Line.Stays p)) [] tt tt
+told_need n pt o m id p room x MessageKind.Refuse h =
+    asker_need n pt (Line.Stays p) (o.kernel.notes p) Outcome.Stayed tt (λ z e s step q noted. comes_here pt.view (moved pt (Line.Stays p) s).view p q refl refl (h refl).1.1 (noted_same pt.kernel s z p q step ((h refl).2 z e) noted))
 told_need n pt o m id p room x MessageKind.PullState h = first_need n pt (Says (Line.Proto id)) (to_kernel MessageKind.State id.from.home ∷ []) tt (to_state n id.from.home (h refl).0)
 told_need n pt o m id p room x MessageKind.State h = chunk_need n pt id p (o.view.asked p == chunks_of x) (h refl).0
 told_need n pt o m id p room x MessageKind.PullBlock h = first_need n pt (Says (Line.Proto id)) (to_kernel MessageKind.Memory id.from.home ∷ []) tt (to_memory n id.from.home (h refl).0)
 told_need n pt o m id p room x MessageKind.Memory h = block_need n pt id p (o.view.asked p == pieces_of x) (h refl).0
-told_need n pt o m id p room x MessageKind.AllTaken h = (h refl).2 refl
-told_need n pt o m id p room x MessageKind.Restart h = first_need n pt (Says (Line.Migration Stage.Restarted p)) [] tt tt
+told_need n pt o m id p room x MessageKind.AllTaken h = (h refl).3 refl
+told_need n pt o m id p room x MessageKind.Restart h =
+    asker_need n pt (Line.Migration Stage.Restarted p) (o.kernel.notes p) Outcome.Done tt (λ z e s step q noted. comes_here pt.view (moved pt (Line.Migration Stage.Restarted p) s).view p q refl refl (h refl).1.1 (noted_same pt.kernel s z p q step ((h refl).2 z e) noted))
 told_need n pt o m id p room x _ h = tt
 
 bind_need : {X : Type 0} (n : ℕ) (pt : Point) (o : Option X) (f : X → Option (List Part)) → ((x : X) → o ≡ Some x → NeedOf n pt (f x)) → NeedOf n pt (bind o f)
@@ -74,12 +95,12 @@ kernel_hears_need n pt b o m id k (Of p) h =
     (λ x alive. told_need n pt o m id p (rule.fits (rule.free_room b o m) (length x.memory / 256)) x k (h p refl))
 kernel_hears_need n pt b o m id k _ h = tt
 
-moves_need : (n : ℕ) (pt : Point) (id : MsgId) (p : Pid) (to : ℕ) (c : Bool) → to < n → (target_of (front_told pt.view (pt.view.inbox pt.view.acting)) < n) × (is_fixed p ≡ false)
+moves_need : (n : ℕ) (pt : Point) (id : MsgId) (p : Pid) (to : ℕ) (c : Bool) → to < n → (aim pt.view pt.view.topic < n) × (is_fixed p ≡ false)
     → AllNeed n pt (if c then Says (Line.Here id) ∷ [] else Says (Line.Migration Stage.Frozen p) ∷ Says (Line.Migration Stage.Asked p) ∷ to_kernel MessageKind.Ask to ∷ [])
 moves_need n pt id p to true le front = first_need n pt (Says (Line.Here id)) [] tt tt
 moves_need n pt id p to false le front = first_need n pt (Says (Line.Migration Stage.Frozen p)) (Says (Line.Migration Stage.Asked p) ∷ to_kernel MessageKind.Ask to ∷ []) front (λ q. tt, to_ask n to le)
 
-here_told_need : (n : ℕ) (pt o : Point) (m : ℕ) (id : MsgId) (t : Told) (k : MessageKind) → target_of (Some t) < n → (target_of (front_told pt.view (pt.view.inbox pt.view.acting)) < n) × (is_fixed t.receiver ≡ false) → NeedOf n pt (here_told o m id t k)
+here_told_need : (n : ℕ) (pt o : Point) (m : ℕ) (id : MsgId) (t : Told) (k : MessageKind) → target_of (Some t) < n → (aim pt.view pt.view.topic < n) × (is_fixed t.receiver ≡ false) → NeedOf n pt (here_told o m id t k)
 here_told_need n pt o m id t MessageKind.Migrate le front = moves_need n pt id t.receiver (target_of (Some t)) (m == target_of (Some t)) le front
 here_told_need n pt o m id t MessageKind.Update le front = (tt, λ ls next is leads. tt)
 here_told_need n pt o m id t _ le front = tt
@@ -93,7 +114,7 @@ server_told_need : (n : ℕ) (pt o : Point) (id : MsgId) (t : Told) (k : Message
 server_told_need n pt o id t MessageKind.Update = (tt, λ ls next is leads. tt)
 server_told_need n pt o id t _ = tt
 
-process_told_need : (n : ℕ) (pt o : Point) (m : ℕ) (id : MsgId) (t : Told) (k : Known) → Front pt id → target_of (Some t) < n → (target_of (front_told pt.view (pt.view.inbox pt.view.acting)) < n) × (is_fixed t.receiver ≡ false)
+process_told_need : (n : ℕ) (pt o : Point) (m : ℕ) (id : MsgId) (t : Told) (k : Known) → Front pt id → target_of (Some t) < n → (aim pt.view pt.view.topic < n) × (is_fixed t.receiver ≡ false)
     → ((to c : ℕ) → k ≡ Forward to c → AllNeed n pt (forwards_on o.addresses id t.kind manager to)) → NeedOf n pt (process_told o m id t k)
 process_told_need n pt o m id t Unknown at le front forwards = tt
 process_told_need n pt o m id t Here at le front forwards = here_told_need n pt o m id t t.kind le front
@@ -109,7 +130,7 @@ by_receiver n pt q false true e x y z w is_c is_d is_e h j k l = j
 by_receiver n pt q false false true x y z w is_c is_d is_e h j k l = k
 by_receiver n pt q false false false x y z w is_c is_d is_e h j k l = l (ap (λ (b : Bool). b || (pid_eq q switchboard || pid_eq q manager)) is_c ∙ ap (λ (b : Bool). b || pid_eq q manager) is_d ∙ is_e)
 
-pub told_by_need : (n : ℕ) (pt : Point) (b : Boot) (o : Point) (m : ℕ) (id : MsgId) (t : Told) → Front pt id → target_of (Some t) < n → target_of (front_told pt.view (pt.view.inbox pt.view.acting)) < n
+pub told_by_need : (n : ℕ) (pt : Point) (b : Boot) (o : Point) (m : ℕ) (id : MsgId) (t : Told) → Front pt id → target_of (Some t) < n → aim pt.view pt.view.topic < n
     → ((p : Pid) → t.about ≡ Of p → is_between t.kind ≡ true → Heard n pt o m id p t.kind)
     → ((to c : ℕ) → o.view.known m t.receiver ≡ Forward to c → AllNeed n pt (forwards_on o.addresses id t.kind manager to)) → NeedOf n pt (rule.hears b o m id (Some t))
 told_by_need n pt b o m id t at le front kernels forwards =

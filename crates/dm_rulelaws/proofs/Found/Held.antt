@@ -1,7 +1,7 @@
 -- What is held for a process is for it.
-use Rattle.dm_rulelaws.proofs.Names.{◌≡◌, ℕ, ◌+◌, ◌≤◌, ◌==◌, ◌&&◌, Bool, true, false, not, filter, List, [], ◌∷◌, ◌++◌, refl, ap, ◌∙◌, sym, subst, inl, inr, arith, if◌then◌else◌, Option, None, Some, cases_Bool, Pid, pid_eq, MsgId, id_eq}
-use Rattle.dm_rulelaws.proofs.Names.{MessageKind, Label, Step, pid_eq-is, id_eq-is, Line, Stage, at_record, View, Told, About, NothingElse, view_after, after_head, after_label, after_put, after_stage, after_proto, follows_up, asks_on}
-use Rattle.dm_rulelaws.proofs.Names.{handled, queued_for, held_for, dropped_for, forwarded_for, served_told, kills, receiver_of, taken_id, oldest, times, is_put, hushed, parts, one_of, times-append, put_told_off, put_at}
+use Rattle.dm_rulelaws.proofs.Names.{sets, ◌≡◌, ℕ, ◌+◌, ◌≤◌, ◌==◌, ◌&&◌, Bool, true, false, not, filter, List, [], ◌∷◌, ◌++◌, refl, ap, ◌∙◌, sym, subst, inl, inr, arith, if◌then◌else◌, Option, None, Some, cases_Bool, Pid, pid_eq, MsgId}
+use Rattle.dm_rulelaws.proofs.Names.{id_eq, MessageKind, Label, Step, pid_eq-is, id_eq-is, Line, Stage, at_record, View, Told, About, NothingElse, view_after, after_head, after_label, after_put, after_stage, after_proto, follows_up}
+use Rattle.dm_rulelaws.proofs.Names.{asks_on, handled, queued_for, held_for, dropped_for, forwarded_for, served_told, kills, receiver_of, taken_id, oldest, times, is_put, hushed, parts, one_of, times-append, put_told_off, put_at}
 use Rattle.dm_rule.specs.View as view
 
 abbrev pub HeldFor : View → Type 0
@@ -86,6 +86,7 @@ label_held v _ = refl
 
 stage_held : (v : View) (p : Pid) (s : Stage) → HeldFor v → HeldFor (after_stage v p s)
 stage_held v p Stage.Asked h = h
+stage_held v p Stage.Frozen h = let set = sets v p v.topic in held_as v (after_stage v p Stage.Frozen) set.held set.told h
 stage_held v p Stage.Restarted h = held_cleared v (after_stage v p Stage.Restarted) p refl refl h
 stage_held v p any_ h = held_as v (after_stage v p any_) refl refl h
 

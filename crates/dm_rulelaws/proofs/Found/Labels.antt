@@ -1,8 +1,9 @@
 -- Each label keeps where addresses lead, what machines know, and where messages stand.
-use Rattle.dm_rulelaws.proofs.Names.{◌≡◌, ◌≢◌, ℕ, ◌+◌, ◌<◌, ◌≤◌, true, false, is_some, refl, ap, ◌∙◌, sym, subst, inl, inr, arith, ⊤, Option, None, Some, cases_Bool, false≢true, Pid, Place, MsgId, PlainMessage, MessageKind, Line, Label}
-use Rattle.dm_rulelaws.proofs.Names.{Life, OneKernel, entry, reception, Grown, after_step, View, Told, Unknown, Here, is_kernels, after_label, handled, kills, served_told, receiver_of, Holder, Receiver, Sender, given, gives, to_of, Point}
-use Rattle.dm_rulelaws.proofs.Names.{moved, at_record_at, grown_none, not_kernels, AtHome, homes_are, at_home, SaidOn, label_on, ReceivedAt, dropped_known, Sane, Goes, Comes, Links, Outside, gives_spares, spared_receiver, spared_sender}
-use Rattle.dm_rulelaws.proofs.Names.{label_told, label_topic, is_fixed, zero_cases, acting_dropped}
+use Rattle.dm_rulelaws.proofs.Names.{PlainWhat, nat_lt, nat_tests, WhatFits, KernelFits, topic_by, machine_in, ◌≡◌, ◌≢◌, ℕ, ◌+◌, ◌<◌, ◌≤◌, true, false, is_some, refl, ap, ◌∙◌, sym, subst, inl, inr, arith, ⊤, Option, None, Some, cases_Bool}
+use Rattle.dm_rulelaws.proofs.Names.{false≢true, Pid, Place, MsgId, PlainMessage, MessageKind, Line, Label, Life, OneKernel, entry, reception, Grown, after_step, View, Told, Unknown, Here, is_kernels, after_label, handled, kills}
+use Rattle.dm_rulelaws.proofs.Names.{served_told, receiver_of, Holder, Receiver, Sender, given, gives, to_of, Point, moved, at_record_at, grown_none, not_kernels, AtHome, homes_are, at_home, SaidOn, label_on, ReceivedAt, dropped_known}
+use Rattle.dm_rulelaws.proofs.Names.{Sane, Goes, Comes, Links, Outside, gives_spares, spared_receiver, spared_sender, label_told, label_topic, is_fixed, zero_cases, acting_dropped}
+use Rattle.dm_rule.specs.Point.{machine_of}
 use Rattle.dm_onekernel.specs.Step as kernel
 use Rattle.dm_rule.specs.View as view
 use Rattle.dm_rule.specs.View.{Ended}
@@ -11,10 +12,10 @@ use Rattle.dm_rulelaws.proofs.Found.Steps.{Sends, step_leaves, took_for, created
 use Rattle.dm_rulelaws.proofs.Fits.Start.{fits_step}
 use Rattle.dm_rulelaws.proofs.Found.Made.{MadeBefore, created_made, step_made}
 use Rattle.dm_rulelaws.proofs.Found.Spares.{told_spares}
-use Rattle.dm_rulelaws.proofs.Found.Lists.{places_label}
-use Rattle.dm_rulelaws.proofs.Found.Held.{held_line}
+use Rattle.dm_rulelaws.proofs.Found.Lists.{places_label, places_about}
+use Rattle.dm_rulelaws.proofs.Found.Held.{held_line, held_as}
 use Rattle.dm_rulelaws.proofs.Found.Places.{AllAre, all_as}
-use Rattle.dm_rulelaws.proofs.Found.Core.{AboutIs, KnowsAt, Knows, IsAt, KnownIs, Core, Grows, Learns, learns_nothing, learns, knows_grow, own_grows, about_grows}
+use Rattle.dm_rulelaws.proofs.Found.Core.{AboutIs, KnowsAt, Knows, IsAt, KnownIs, Core, Grows, Learns, learns_nothing, learns, knows_grow, own_grows, about_grows, known_grows, core_view}
 
 -- what the acting machine knows behind a label
 kills_learn : (n : ℕ) (v : View) (k : MessageKind) (p : Pid) → v.acting < n → ((m : ℕ) (q : Pid) → KnownIs n v m q (v.known m q)) → Learns n v (kills k v (Some p))
@@ -51,10 +52,11 @@ NeedsLabel pt (Label.Gone id) = IsAt pt.addresses pt.view id pt.view.acting
 NeedsLabel pt (Label.Took id) = IsAt pt.addresses pt.view id pt.view.acting
 NeedsLabel pt (Label.Created id child) = IsAt pt.addresses pt.view id pt.view.acting
 NeedsLabel pt (Label.NoSpace id a b) = IsAt pt.addresses pt.view id pt.view.acting
+NeedsLabel pt (Label.Answered id o) = (p : Pid) → pt.kernel.noted id ≡ Some p → KnowsAt pt.view p pt.view.acting
 NeedsLabel pt _ = ⊤
 
 -- a message's receiver is known where it stands, or at home
-there_known : (n : ℕ) (pt : Point) (id : MsgId) (m : PlainMessage) → pt.kernel.bag id ≡ Some m → (pt.addresses (Receiver id)).at ≡ pt.view.acting → Core n pt → KnowsAt pt.view m.to pt.view.acting
+pub there_known : (n : ℕ) (pt : Point) (id : MsgId) (m : PlainMessage) → pt.kernel.bag id ≡ Some m → (pt.addresses (Receiver id)).at ≡ pt.view.acting → Core n pt → KnowsAt pt.view m.to pt.view.acting
 there_known n pt id m there at h = subst (KnowsAt pt.view m.to) at (h.all (Receiver id) m.to (Links (ap to_of there)))
 
 pub fixed_home : (v : View) (q : Pid) (m : ℕ) → is_fixed q ≡ true → KnowsAt v q m → q.home ≡ m
@@ -76,6 +78,7 @@ said_on n pt s (Label.Gone id) is need h = λ m there. there_known n pt id m the
 said_on n pt s (Label.Took id) is need h = received_at n pt id (took_for pt.kernel s id is) need.0 h
 said_on n pt s (Label.Created id child) is need h = received_at n pt id (created_for pt.kernel s id child is) need.0 h
 said_on n pt s (Label.NoSpace id a b) is need h = received_at n pt id (no_space_for pt.kernel s id a b is) need.0 h
+said_on n pt s (Label.Answered id o) is need h = need
 said_on n pt s _ is need h = tt
 
 told_some : (o : Option Told) → is_some o ≡ true → o ≡ None → ⊥
@@ -138,6 +141,22 @@ label_home n pt s (Label.Created id child) need is grows h q some = elim (create
 ]
 label_home n pt s any_ need is grows h q some = other_home n pt s (after_label pt.view any_) grows (step_made pt.kernel s any_ refl is) h q some
 
+-- where a process goes that is asked to move
+moves_within : (n : ℕ) (s : OneKernel) (v : View) (i : MsgId) (m : PlainMessage) (x : PlainWhat) → s.machines ≡ n → WhatFits s i m x → AboutIs n v (machine_of x)
+moves_within n s v i m (PlainWhat.Move to) same e =
+    let k : nat_lt to s.machines ≡ true = e.1 in
+    let f : to < s.machines = grind (arith, nat_tests) in
+    subst (λ (j : ℕ). to < j) same f
+moves_within n s v i m _ same e = tt
+
+asked_within : (n : ℕ) (s : OneKernel) (v : View) (i : MsgId) (o : Option PlainMessage) → s.bag i ≡ o → s.machines ≡ n → KernelFits s → AboutIs n v (machine_in o)
+asked_within n s v i None there same h = tt
+asked_within n s v i (Some m) there same h = moves_within n s v i m m.what same (h.messages i m there)
+
+topic_within : (n : ℕ) (s : OneKernel) (v : View) (l : Label) → s.machines ≡ n → KernelFits s → AboutIs n v v.topic → AboutIs n v (topic_by s v.topic (Some l))
+topic_within n s v (Label.Asked i) same h old = asked_within n s v i (s.bag i) refl same h
+topic_within n s v _ same h old = old
+
 pub label_core : (n : ℕ) (pt : Point) (s : OneKernel) (l : Label) → Sane pt → NeedsLabel pt l → kernel.step pt.kernel l ≡ Some s → Core n pt → Core n (moved pt (Line.Label l) s)
 label_core n pt s l sane need is h =
     let v = pt.view in
@@ -148,9 +167,10 @@ label_core n pt s l sane need is h =
     let told : w.told ≡ v.told = label_told v l in
     let home = label_on (Knows v) pt.kernel s v a l is sane.sound.entered.named (said_on n pt s l is need h) (at_home (Knows v) pt.kernel a (λ q. inl refl) (λ g q e. h.all g q (Links e)) h.pending) in
     let some : 0 < n = let le = h.acting in omega (arith, le) in
-    let left = step_leaves n pt.kernel s l h.machines some is in
+    let left = step_leaves n pt.kernel s l h.machines some (λ p k e. let (x, alive) = sane.sound.notes.lives p k e in ap is_some alive) is in
     let all = label_all n pt s l sane is home h in
-    record {
+    let behind : Point = record { kernel = s; view = w; addresses = b } in
+    let core : Core n behind = record {
       acting = subst (λ (k : ℕ). k < n) (sym learnt.acting) h.acting;
       machines = left.machines ∙ h.machines;
       all = λ g q e. knows_grow v w q (b g).at learnt.grows (all_as (Knows v) s v w b told all g q e);
@@ -164,7 +184,11 @@ label_core n pt s l sane need is h =
         | inl old ↦ sends_grow n pt.kernel s m.sender (after_step sane.r sane.e pt.kernel s l is sane.sound).grown (h.senders i m old)
         | inr new ↦ sends_grow n pt.kernel s m.sender (after_step sane.r sane.e pt.kernel s l is sane.sound).grown new
       ];
-      fits = fits_step sane.r sane.e pt.kernel s l is sane.sound h.fits;
+      fits = fits_step sane.r sane.e pt.kernel s l is sane.sound h.pending h.fits;
       home = label_home n pt s l need is learnt.grows h;
       pending = home.pending;
-    }
+    } in
+    let a_ = topic_by pt.kernel w.topic (Some l) in
+    let u = view.about w a_ in
+    core_view n behind u core.acting (λ m q e. e) (λ m q. known_grows n w u m q (w.known m q) (λ x y e. e) (core.known m q)) refl (about_grows n w u a_ (λ m q e. e) (topic_within n pt.kernel w l h.machines h.fits core.topic)) (places_about (IsAt b w) w a_ core.places)
+    (held_as w u refl refl core.held) core

@@ -1,7 +1,7 @@
 -- Each line keeps where addresses lead, what machines know, and where messages stand, if it has what it needs.
-use Rattle.dm_rulelaws.proofs.Names.{◌≡◌, ◌≢◌, ℕ, ◌+◌, ◌<◌, not, filter, ◌==◌, refl, ap, ◌∙◌, sym, subst, false, ⊤, Option, None, Some, Pid, MsgId, OneKernel, Step, Line, Load, Stage, View, Told, About, Known, Unknown, Here, Frozen}
-use Rattle.dm_rulelaws.proofs.Names.{Incoming, view_after, after_head, after_stage, after_proto, handled, queued_for, held_for, taken_id, oldest, receiver_of, gone_to, target_of, front_told, front_of, Point, label_of, kernel_after, moved}
-use Rattle.dm_rulelaws.proofs.Names.{is_put, hushed, queued_known, held_known, proto_known, Sane, is_fixed, proto_acting}
+use Rattle.dm_rulelaws.proofs.Names.{aim, sets, ◌≡◌, ◌≢◌, ℕ, ◌+◌, ◌<◌, not, filter, ◌==◌, refl, ap, ◌∙◌, sym, subst, false, ⊤, Option, None, Some, Pid, MsgId, OneKernel, Step, Line, Load, Stage, View, Told, About, Known, Unknown, Here}
+use Rattle.dm_rulelaws.proofs.Names.{Frozen, Incoming, view_after, after_head, after_stage, after_proto, handled, queued_for, held_for, taken_id, oldest, receiver_of, gone_to, target_of, front_told, front_of, Point, label_of, kernel_after}
+use Rattle.dm_rulelaws.proofs.Names.{moved, is_put, hushed, queued_known, held_known, proto_known, Sane, is_fixed, proto_acting}
 use Rattle.dm_rule.specs.View as view
 use Rattle.dm_rulelaws.proofs.Found.Held.{HeldFor, held_line}
 use Rattle.dm_rulelaws.proofs.Found.Lists.{Places, Brings, places_line}
@@ -54,14 +54,15 @@ gone_unknown Unknown moves e = refl
 gone_unknown _ moves e = e
 
 abbrev pub NeedsStage : ℕ → Point → Pid → Stage → Type 0
-NeedsStage n pt p Stage.Frozen = (target_of (front_told pt.view (pt.view.inbox pt.view.acting)) < n) × (is_fixed p ≡ false)
+NeedsStage n pt p Stage.Frozen = (aim pt.view pt.view.topic < n) × (is_fixed p ≡ false)
 NeedsStage n pt p Stage.Accepted = (front_of (pt.view.inbox pt.view.acting) < n) × (is_fixed p ≡ false)
 NeedsStage n pt p Stage.Left = (to : ℕ) → pt.view.known pt.view.acting p ≡ Frozen to → pt.view.known to p ≢ Unknown
 NeedsStage n pt p _ = ⊤
 
 stage_learns : (n : ℕ) (pt : Point) (p : Pid) (s : Stage) → NeedsStage n pt p s → Core n pt → Learns n pt.view (after_stage pt.view p s)
 stage_learns n pt p Stage.Frozen need h =
-    learns n pt.view (after_stage pt.view p Stage.Frozen) p (Frozen (target_of (front_told pt.view (pt.view.inbox pt.view.acting)))) refl refl (λ e. cc) (h.acting, need.0, need.1) h.known
+    let set = sets pt.view p pt.view.topic in
+    learns n pt.view (after_stage pt.view p Stage.Frozen) p (Frozen (aim pt.view pt.view.topic)) set.acting set.known (λ e. cc) (h.acting, need.0, need.1) h.known
 stage_learns n pt p Stage.Accepted need h = learns n pt.view (after_stage pt.view p Stage.Accepted) p (Incoming (front_of (pt.view.inbox pt.view.acting))) refl refl (λ e. cc) (h.acting, need.0, need.1) h.known
 stage_learns n pt p Stage.Left need h =
     let v = pt.view in
@@ -73,6 +74,7 @@ stage_learns n pt p any_ need h = learns_nothing n pt.view (after_stage pt.view 
 stage_topic : (n : ℕ) (pt : Point) (p : Pid) (s : Stage) → Core n pt → AboutIs n pt.view (after_stage pt.view p s).topic
 stage_topic n pt p Stage.Asked h = h.topic
 stage_topic n pt p Stage.Restarted h = h.topic
+stage_topic n pt p Stage.Frozen h = subst (AboutIs n pt.view) (sym (sets pt.view p pt.view.topic).topic) tt
 stage_topic n pt p _ h = tt
 
 stage_core : (n : ℕ) (pt : Point) (p : Pid) (s : Stage) → NeedsStage n pt p s → Core n pt → Core n (at_view pt (after_stage pt.view p s))

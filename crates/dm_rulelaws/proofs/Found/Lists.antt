@@ -1,6 +1,6 @@
 -- Each line leaves messages where they stood, moves them within a machine, or brings one.
-use Rattle.dm_rulelaws.proofs.Names.{◌≡◌, ◌⊎◌, ℕ, zero, suc, ◌+◌, ◌≤◌, ◌==◌, ◌&&◌, Bool, true, false, not, filter, List, [], ◌∷◌, ◌++◌, refl, ap, sym, subst, inl, inr, arith, ⊤, if◌then◌else◌, drop, Option, None, Some, cases_Bool, Pid}
-use Rattle.dm_rulelaws.proofs.Names.{pid_eq, MsgId, id_eq, MessageKind, Label, Step, id_eq-is, id_eq-same, Line, Stage, at_machine, at_pair, at_record, without_id, without_front, View, Pair, Told, About, Of, view_after, after_head}
+use Rattle.dm_rulelaws.proofs.Names.{Target, ◌≡◌, ◌⊎◌, ℕ, zero, suc, ◌+◌, ◌≤◌, ◌==◌, ◌&&◌, Bool, true, false, not, filter, List, [], ◌∷◌, ◌++◌, refl, ap, sym, subst, inl, inr, arith, ⊤, if◌then◌else◌, drop, Option, None, Some, cases_Bool}
+use Rattle.dm_rulelaws.proofs.Names.{Pid, pid_eq, MsgId, id_eq, MessageKind, Label, Step, id_eq-is, id_eq-same, Line, Stage, at_machine, at_pair, at_record, without_id, without_front, View, Pair, Told, About, Of, view_after, after_head}
 use Rattle.dm_rulelaws.proofs.Names.{after_label, after_put, after_taken, after_stage, after_proto, follows_up, asks_on, handled, handled_first, queued_for, held_for, dropped_for, forwarded_for, rejoins, served_told, kills, receiver_of}
 use Rattle.dm_rulelaws.proofs.Names.{taken_id, oldest, routed_on, Spot, Queue, Held, Inbox, Untaken, times, untaken, standing, eq_is, parts, at_place, pair_keeps, one_of, times-append, machine_of}
 use Rattle.dm_rule.specs.View as view
@@ -225,11 +225,21 @@ places_label G v (Label.Gone id) h = places_handled G v id h
 places_label G v (Label.Took id) h = places_handled G v id h
 places_label G v (Label.Created id p) h = places_as G (handled v id) (after_label v (Label.Created id p)) refl refl refl (λ a b. refl) (places_handled G v id h)
 places_label G v (Label.NoSpace id f b) h = places_handled G v id h
+places_label G v (Label.Asked id) h = places_handled G v id h
 places_label G v _ h = h
 
+-- the topic is no place
+pub places_about : (G : MsgId → ℕ → Type 0) (v : View) (a : About) → Places G v → Places G (view.about v a)
+places_about G v a h = places_as G v (view.about v a) refl refl refl (λ b c. refl) h
+
 -- steps of migrations
+places_sets : (G : MsgId → ℕ → Type 0) (v : View) (p : Pid) (a : About) → Places G v → Places G (view.sets_off v p a)
+places_sets G v p (Target m) h = places_as G v (view.sets_off v p (Target m)) refl refl refl (λ b c. refl) h
+places_sets G v p a h = places_as G (handled_first v) (view.sets_off v p a) refl refl refl (λ b c. refl) (places_first G v h)
+
 pub places_stage : (G : MsgId → ℕ → Type 0) (v : View) (p : Pid) (s : Stage) → Places G v → Places G (after_stage v p s)
 places_stage G v p Stage.Asked h = h
+places_stage G v p Stage.Frozen h = places_sets G v p v.topic h
 places_stage G v p Stage.Left h = places_as G v (after_stage v p Stage.Left) refl refl refl (λ a b. refl) h
 places_stage G v p Stage.Restarted h = places_as G (rejoins (handled_first v) p) (after_stage v p Stage.Restarted) refl refl refl (λ a b. refl) (places_rejoins G (handled_first v) p (places_first G v h))
 places_stage G v p any_ h = places_as G (handled_first v) (after_stage v p any_) refl refl refl (λ a b. refl) (places_first G v h)

@@ -1,6 +1,6 @@
 -- Which processes a step of the kernel without machines makes.
-use Rattle.dm_rulelaws.proofs.Names.{◌≡◌, ◌⊎◌, Bool, true, false, refl, ap, ◌∙◌, sym, inl, inr, is_some, if◌then◌else◌, ◌+◌, Option, None, Some, cases_Bool, false≢true, Pid, pid_of, pid_eq, MsgId, PlainMessage, PlainWhat, Label, Why, begun}
-use Rattle.dm_rulelaws.proofs.Names.{Life, Alive, Ended, OneKernel, with_process, with_sent, answer_to, without_message, pid_eq-is, subst, take, drop, first_number, BootImage, by_step}
+use Rattle.dm_rulelaws.proofs.Names.{with_note, ◌≡◌, ◌⊎◌, Bool, true, false, refl, ap, ◌∙◌, sym, inl, inr, is_some, if◌then◌else◌, ◌+◌, Option, None, Some, cases_Bool, false≢true, Pid, pid_of, pid_eq, MsgId, PlainMessage, PlainWhat, Label}
+use Rattle.dm_rulelaws.proofs.Names.{Why, begun, Life, Alive, Ended, OneKernel, with_process, with_sent, answer_to, without_message, pid_eq-is, subst, take, drop, first_number, BootImage, by_step}
 use Rattle.dm_onekernel.specs.Pieces as pieces
 use Rattle.dm_onekernel.specs.Service as service
 use Rattle.dm_onekernel.specs.Step as kernel
@@ -63,7 +63,9 @@ step_by s t l =
       receives = λ p id y is w c. set (kernel.goes_on (without_message s id) p y) p (Alive w.x) (Alive y) w.alive refl;
       refuses = λ p id c d y is w e. set (kernel.goes_on s p y) p (Alive w.x) (Alive y) w.alive refl;
       dropped = λ id m y is w e. stay (without_message s id) refl;
-      gone = λ id m y is w e. stay (with_sent (without_message s id) (Some (answer_to m PlainWhat.Gone))) refl;
+      gone = λ id m y is w v e. stay (with_sent (without_message s id) (Some (answer_to m v))) refl;
+      asked = λ id m x machine is w e. stay (with_note (without_message s id) m.to (record { id = id; asker = m.sender })) refl;
+      answered = λ id o p n is f. stay (service.move_ended s id p n o) refl;
       stops = λ id m x b is w e. set (service.changed s id m (record x { stopped = b })) m.to (Alive x) (Alive (record x { stopped = b })) w.alive refl;
       kills = λ id m x is w e. set (with_process (without_message s id) m.to (Ended Why.Killed)) m.to (Alive x) (Ended Why.Killed) w.alive refl;
       reads = λ id m x base len is w e. set (with_sent (service.changed s id m x) (Some (answer_to m (PlainWhat.Block (take len (drop base x.memory)))))) m.to (Alive x) (Alive x) w.alive refl;

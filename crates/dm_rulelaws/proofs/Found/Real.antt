@@ -1,8 +1,8 @@
 -- Whom addresses are of is a kernel or a server of a machine that there is, or a process that its home knows.
-use Rattle.dm_rulelaws.proofs.Names.{◌≡◌, ◌⊎◌, ℕ, zero, suc, ◌+◌, ◌<◌, ◌≤◌, ◌==◌, ◌&&◌, ◌||◌, Bool, true, false, is_some, nat_le, nat_lt, List, [], ◌∷◌, refl, ap, ◌∙◌, sym, subst, inl, inr, arith, if◌then◌else◌, slice_get, Option, None}
-use Rattle.dm_rulelaws.proofs.Names.{Some, nat_tests, Pid, pid_eq, PlainLink, link_at, MsgId, PlainMessage, PlainWhat, switchboard, manager, PlainProcess, PlainStatus, Moving, Life, NamedLink, Pending, OneKernel, Made, alive-is, View}
-use Rattle.dm_rulelaws.proofs.Names.{Holder, Slot, Owner, Receiver, Sender, Enclosed, Child, Name, Answer, link_target, slot_of, owner_in, owner_of, name_link, answer_link, links_in, to_of, sender_of, enclosed_of, names, Point, Each}
-use Rattle.dm_rulelaws.proofs.Names.{has_bytes, is_server, gives_no_right, LinkFits, move_fits, WhatFits, awaits, is_fixed, or_first}
+use Rattle.dm_rulelaws.proofs.Names.{SlotFits, PendingFits, Note, AskedBy, asker_in, ◌≡◌, ◌⊎◌, ℕ, zero, suc, ◌+◌, ◌<◌, ◌≤◌, ◌==◌, ◌&&◌, ◌||◌, Bool, true, false, is_some, nat_le, nat_lt, List, [], ◌∷◌, refl, ap, ◌∙◌, sym, subst, inl, inr}
+use Rattle.dm_rulelaws.proofs.Names.{arith, if◌then◌else◌, slice_get, Option, None, Some, nat_tests, Pid, pid_eq, PlainLink, link_at, MsgId, PlainMessage, PlainWhat, switchboard, manager, PlainProcess, PlainStatus, Moving, Life, NamedLink}
+use Rattle.dm_rulelaws.proofs.Names.{Pending, OneKernel, Made, alive-is, View, Holder, Slot, Owner, Receiver, Sender, Enclosed, Child, Name, Answer, link_target, slot_of, owner_in, owner_of, name_link, answer_link, links_in, to_of}
+use Rattle.dm_rulelaws.proofs.Names.{sender_of, enclosed_of, names, Point, Each, has_bytes, is_server, gives_no_right, LinkFits, move_fits, WhatFits, awaits, is_fixed, or_first}
 use Rattle.dm_onekernel.specs.Manager as manage
 use Rattle.dm_onekernel.specs.Step as kernel
 use Rattle.dm_rulelaws.proofs.Fits.Rises.{both}
@@ -28,7 +28,7 @@ server_real : (n : ℕ) (v : View) (q : Pid) → 0 < n → is_server q ≡ true 
 server_real n v q some e = let f = server_fixed q e in inl (f.0, subst (λ (k : ℕ). k < n) (sym f.1) some)
 
 -- what fits
-has_some : (n : ℕ) (o : Option Life) → has_bytes n o ≡ true → is_some o ≡ true
+pub has_some : (n : ℕ) (o : Option Life) → has_bytes n o ≡ true → is_some o ≡ true
 has_some n (Some l) e = refl
 has_some n None e = cc
 
@@ -65,8 +65,8 @@ what_real pt n i m PlainWhat.Gone h some e = subst (IsReal n pt.view) (sym e.0) 
 what_real pt n i m (PlainWhat.Create z1 z2) h some e = kernel_real n pt.kernel.machines pt.view m.to h.machines e.0 e.1
 what_real pt n i m (PlainWhat.Created z1) h some e = subst (IsReal n pt.view) (sym e.0) (server_real n pt.view manager some refl)
 what_real pt n i m PlainWhat.NoRoom h some e = subst (IsReal n pt.view) (sym e.0) (server_real n pt.view manager some refl)
-what_real pt n i m (PlainWhat.Move z1) h some e = absurd e
-what_real pt n i m (PlainWhat.Moved z1) h some e = absurd e
+what_real pt n i m (PlainWhat.Move z1) h some e = has_real pt n 0 m.to h e.0
+what_real pt n i m (PlainWhat.Moved z1) h some e = subst (IsReal n pt.view) (sym e.0) (server_real n pt.view manager some refl)
 what_real pt n i m _ h some e = has_real pt n 0 m.to h e
 
 -- one of a list
@@ -141,8 +141,15 @@ name_real pt n k q (Some x) h some is e =
 answer_real : (pt : Point) (n k : ℕ) (q : Pid) (o : Option Pending) → Core n pt → 0 < n → manage.pending_numbered k pt.kernel.manager.pending ≡ o → link_target (answer_link o) ≡ Some q → IsReal n pt.view q
 answer_real pt n k q None h some is e = cc
 answer_real pt n k q (Some r) h some is e =
-    let f : r.answer.to ≡ q = cc in
-    subst (IsReal n pt.view) f (link_real pt n r.answer h some (each_pending (λ (y : Pending). LinkFits pt.kernel.processes y.answer) pt.kernel.manager.pending k r h.fits.answers is))
+    let (l, at, to) = link_there r.answer q e in
+    let fits : SlotFits pt.kernel.processes (Some l) = subst (SlotFits pt.kernel.processes) at (each_pending (PendingFits pt.kernel.processes) pt.kernel.manager.pending k r h.fits.answers is).answer in
+    subst (IsReal n pt.view) to (link_real pt n l h some fits)
+
+asker_real : (pt : Point) (n : ℕ) (p q : Pid) (o : Option Note) → Core n pt → 0 < n → pt.kernel.notes p ≡ o → asker_in o ≡ Some q → IsReal n pt.view q
+asker_real pt n p q None h some is e = cc
+asker_real pt n p q (Some z) h some is e =
+    let f : z.asker ≡ q = cc in
+    subst (IsReal n pt.view) (sym (h.fits.notes p z is).asker ∙ f) (server_real n pt.view manager some refl)
 
 pub child_real : (pt : Point) (n k : ℕ) (q : Pid) → Core n pt → names pt.kernel (Child k) ≡ Some q → IsReal n pt.view q
 child_real pt n k q h e = has_real pt n 0 q h (each_child (λ (p : Pid). has_bytes 0 (pt.kernel.processes p) ≡ true) pt.kernel.manager.children k q h.fits.children e)
@@ -161,4 +168,5 @@ named_real pt n g q h e = by g e
     by (Enclosed i k) f = enclosed_real pt n i k q (pt.kernel.bag i) h some refl f
     by (Child k) f = child_real pt n k q h f
     by (Name k) f = name_real pt n k q (slice_get pt.kernel.switchboard.names k) h some refl f
+    by (AskedBy p) f = asker_real pt n p q (pt.kernel.notes p) h some refl f
     by (Answer k) f = answer_real pt n k q (manage.pending_numbered k pt.kernel.manager.pending) h some refl f

@@ -1,6 +1,12 @@
 -- What each row of a turn needs: processes that run, and messages of the bag.
-use Rattle.dm_rulelaws.proofs.Names.{◌≡◌, ℕ, ◌+◌, List, [], ◌∷◌, ap, ◌∙◌, subst, Option, None, Some, Pid, pid_of, MsgId, plain_kind, Label, PlainMessage, Boot, first_number, PlainProcess, OneKernel, bind-is, Line, Forward, Point, label_of}
-use Rattle.dm_rulelaws.proofs.Names.{kernel_after, moved, after_line, after, Part, Says, Routes, lines_of, forwards_on, Stops, by_round, by_handles}
+use Rattle.dm_rulelaws.proofs.Names.{refl, ◌<◌, false, ◌≡◌, sym, Stage, MessageKind, PlainWhat, Outcome, About, is_fixed, to_kernel, machine_in, Target, answers_move, leaves_for, aim, ℕ, ◌+◌, List, [], ◌∷◌, ap, ◌∙◌, subst, Option, None}
+use Rattle.dm_rulelaws.proofs.Names.{Some, Pid, pid_of, MsgId, plain_kind, Label, PlainMessage, Boot, first_number, PlainProcess, OneKernel, bind-is, Line, Forward, Point, label_of, kernel_after, moved, after_line, after, Part, Says}
+use Rattle.dm_rulelaws.proofs.Names.{Routes, lines_of, forwards_on, Stops, by_round, by_handles}
+use Rattle.dm_rule.specs.Point.{machine_of}
+use Rattle.dm_rulelaws.proofs.Based.Needs.{said_by}
+use Rattle.dm_rulelaws.proofs.Fits.Serves.{asked_noted}
+use Rattle.dm_rulelaws.proofs.Found.Lines.{NeedsLine}
+use Rattle.dm_rulelaws.proofs.Found.Parts.{between_own}
 use Rattle.dm_onekernel.specs.Pieces as pieces
 use Rattle.dm_onekernel.specs.Step as kernel
 use Rattle.dm_rule.specs.Rule as rule
@@ -53,9 +59,42 @@ routes_loose : (n : ℕ) (o : Option PlainMessage) → AllLoose n (rule.routes o
 routes_loose n None = tt
 routes_loose n (Some k) = (λ q. tt, tt)
 
-pub handles_need : (n : ℕ) (pt : Point) (b : Boot) (o : Point) (m : ℕ) (id : MsgId) (k : PlainMessage) (ps : List Part) → Front pt id → ((to c : ℕ) → o.view.known m k.to ≡ Forward to c → AllNeed n pt (forwards_on o.addresses id (plain_kind k.what) k.sender to))
+-- a message to a kernel of a machine that there is
+pub to_ask : (n m : ℕ) → m < n → AllLoose n (to_kernel MessageKind.Ask m ∷ [])
+to_ask n m le = ((λ pt. between_own n pt MessageKind.Ask m refl (λ e. cc) refl le), tt)
+
+-- the answer to a request to move goes
+pub answers_need : (n : ℕ) (pt : Point) (l : Line) (i : MsgId) (r : Outcome) → NeedsLine n pt l
+    → ((s : OneKernel) → kernel_after pt.kernel (label_of l) ≡ Some s → (q : Pid) → s.noted i ≡ Some q → KnowsAt (moved pt l s).view q (moved pt l s).view.acting) → AllNeed n pt (Says l ∷ answers_move i r)
+answers_need n pt l i r need knows = (
+  need,
+  λ ls next lines leads.
+      let g = said_by pt next l (record { lines = ls; are = lines; leads = leads }) in
+      let mid = moved pt l g.kernel in
+      subst (λ (z : Point). AllNeed n z (answers_move i r)) g.is (first_need n mid (rule.says (Label.Answered i r)) (Routes (pieces.answer_id i) ∷ []) (knows g.kernel g.step) (λ q. tt, tt)),
+)
+
+-- a process is asked to move, and sets off
+asks_need : (n : ℕ) (pt : Point) (id : MsgId) (k : PlainMessage) (to : ℕ) → pt.kernel.bag id ≡ Some k → k.what ≡ PlainWhat.Move to → to < n → is_fixed k.to ≡ false → AllNeed n pt (rule.says (Label.Asked id) ∷ leaves_for k.to to)
+asks_need n pt id k to there what le free = (
+  tt,
+  λ ls next lines leads.
+      let l = Line.Label (Label.Asked id) in
+      let g = said_by pt next l (record { lines = ls; are = lines; leads = leads }) in
+      let mid = moved pt l g.kernel in
+      let topic : machine_in (pt.kernel.bag id) ≡ Target to = ap machine_in there ∙ ap machine_of what in
+      let aims : aim mid.view (machine_in (pt.kernel.bag id)) < n = subst (λ (a : About). aim mid.view a < n) (sym topic) le in
+      subst (λ (z : Point). AllNeed n z (leaves_for k.to to)) g.is
+      (first_need n mid (Says (Line.Migration Stage.Frozen k.to)) (Says (Line.Migration Stage.Asked k.to) ∷ to_kernel MessageKind.Ask to ∷ []) (aims, free) (λ q. tt, to_ask n to le)),
+)
+
+-- where a message goes that asks its receiver to move
+abbrev pub Moves : ℕ → PlainMessage → Type 0
+Moves n k = (to : ℕ) → k.what ≡ PlainWhat.Move to → (to < n) × (is_fixed k.to ≡ false)
+
+pub handles_need : (n : ℕ) (pt : Point) (b : Boot) (o : Point) (m : ℕ) (id : MsgId) (k : PlainMessage) (ps : List Part) → Front pt id → pt.kernel.bag id ≡ Some k → KnowsAt pt.view k.to pt.view.acting → Moves n k → ((to c : ℕ) → o.view.known m k.to ≡ Forward to c → AllNeed n pt (forwards_on o.addresses id (plain_kind k.what) k.sender to))
     → rule.handles b o m id k ≡ Some ps → AllNeed n pt ps
-handles_need n pt b o m id k ps at forwards = by_handles (AllNeed n pt) b o m id k ps (record {
+handles_need n pt b o m id k ps at there knows moves forwards = by_handles (AllNeed n pt) b o m id k ps (record {
   created = λ fixed. first_need n pt (rule.says (Label.Created id (pid_of m (first_number + o.kernel.made m)))) (Routes (pieces.answer_id id) ∷ []) at (λ q. tt, tt);
   no_space = λ fixed slots blocks. first_need n pt (rule.says (Label.NoSpace id slots blocks)) (Routes (pieces.answer_id id) ∷ []) at (λ q. tt, tt);
   took = λ fixed sent. first_need n pt (rule.says (Label.Took id)) (rule.routes sent) at (routes_loose n sent);
@@ -63,6 +102,10 @@ handles_need n pt b o m id k ps at forwards = by_handles (AllNeed n pt) b o m id
   served = λ to mild. first_need n pt (rule.says (Label.Served id)) [] at tt;
   answers = λ to mild i. first_need n pt (rule.says (Label.Served id)) (Routes i ∷ []) at (λ q. tt, tt);
   kills = λ to kills. first_need n pt (rule.says (Label.Served id)) (rule.drop_parts (o.view.queue m k.to)) at (drops_loose n (o.view.queue m k.to));
+  moved = λ to what. answers_need n pt (Line.Label (Label.Asked id)) id Outcome.Done tt (λ s step q noted.
+      let f : k.to ≡ q = (let g : Some k.to ≡ Some q = sym (asked_noted pt.kernel s id k step there) ∙ noted in cc) in
+      subst (λ (x : Pid). KnowsAt pt.view x pt.view.acting) f knows);
+  sets_off = λ x to what apart. (let f = moves x what in asks_need n pt id k x there what f.0 f.1);
   gone = λ to. first_need n pt (rule.says (Label.Gone id)) (Routes (pieces.answer_id id) ∷ []) at (λ q. tt, tt);
   dropped = λ to. first_need n pt (rule.says (Label.Dropped id)) [] tt tt;
   leaving = λ x to. first_need n pt (Says (Line.Held id)) [] at tt;

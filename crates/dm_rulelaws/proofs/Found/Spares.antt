@@ -1,8 +1,9 @@
 -- No label gives another address to a message that was told of.
-use Rattle.dm_rulelaws.proofs.Names.{◌≤◌, arith, nat_lt, ◌≡◌, ℕ, Bool, true, false, List, [], ◌∷◌, ◌++◌, length, refl, ap, ◌∙◌, sym, subst, if◌then◌else◌, Option, None, Some, Pid, pid_eq, PlainLink, MsgId, id_eq, id_of, PlainMessage}
-use Rattle.dm_rulelaws.proofs.Names.{PlainWhat, Label, switchboard, manager, bind, PlainProcess, OneKernel, answer_id, id_eq-is, bind-is, View, Addresses, Gets, gives, landing_gets, serves_what, board_finds, board_keeps, board_gets}
-use Rattle.dm_rulelaws.proofs.Names.{manager_gets, not_true, nat_tests, unentered, Sound, id_in, landed_id, served_id, board_id, manager_id, took_id, bag_sends, bag_served, bag_gone, bag_no_space, bag_created, bag_took, spares, spares_both}
-use Rattle.dm_rulelaws.proofs.Names.{two_more, made_spares, sends_spares, receives_spares, creates_what_spares, finds_spares, keeps_spares, manager_takes_spares}
+use Rattle.dm_rule.specs.Given as request
+use Rattle.dm_rulelaws.proofs.Names.{bag_answered, ◌≤◌, arith, nat_lt, ◌≡◌, ℕ, Bool, true, false, List, [], ◌∷◌, ◌++◌, length, refl, ap, ◌∙◌, sym, subst, if◌then◌else◌, Option, None, Some, Pid, pid_eq, PlainLink, MsgId, id_eq, id_of}
+use Rattle.dm_rulelaws.proofs.Names.{PlainMessage, PlainWhat, Label, switchboard, manager, bind, PlainProcess, OneKernel, answer_id, id_eq-is, bind-is, View, Addresses, Gets, gives, landing_gets, serves_what, board_finds, board_keeps}
+use Rattle.dm_rulelaws.proofs.Names.{board_gets, manager_gets, not_true, nat_tests, unentered, Sound, id_in, landed_id, served_id, board_id, manager_id, took_id, bag_sends, bag_served, bag_gone, bag_no_space, bag_created, bag_took, spares}
+use Rattle.dm_rulelaws.proofs.Names.{spares_both, two_more, made_spares, sends_spares, receives_spares, creates_what_spares, finds_spares, keeps_spares, manager_takes_spares}
 use Rattle.dm_onekernel.specs.Pieces as pieces
 use Rattle.dm_onekernel.specs.Switchboard as board
 use Rattle.dm_onekernel.specs.Manager as manage
@@ -66,6 +67,15 @@ took_spares r e s t v a id m i there is fresh h least =
     (apart_from e i (id_of switchboard s.switchboard.sent) least (unentered r e s (id_of switchboard s.switchboard.sent) h.entered (let z : nat_lt s.switchboard.sent s.switchboard.sent ≡ false = grind (arith, nat_tests) in z)))
     (λ j f. apart_from e i j least (fresh j f)) is
 
+-- requests to move
+follows_spares : (a : Addresses) (id : MsgId) (o : Option PlainMessage) (i : MsgId) → spares i (request.follows a id o) ≡ true
+follows_spares a id None i = refl
+follows_spares a id (Some m) i = refl
+
+ended_spares : (v : View) (a : Addresses) (id : MsgId) (o : Option Pid) (i : MsgId) → id_eq (answer_id id) i ≡ false → spares i (request.ends_move v a id o) ≡ true
+ended_spares v a id None i e = refl
+ended_spares v a id (Some p) i e = two_more i (answer_id id) [] e refl
+
 -- a row a label
 pub told_spares : (r e : MsgId → ℕ) (s t : OneKernel) (v : View) (a : Addresses) (l : Label) (i : MsgId) → kernel.step s l ≡ Some t → Sound r e s → 1 ≤ e i → spares i (gives s v a l) ≡ true
 told_spares r e s t v a (Label.Call p n c) i is h least = made_spares v a p n c (kernel.running s p) i
@@ -84,4 +94,6 @@ told_spares r e s t v a (Label.Took id) i is h least =
     (took_spares r e s t v a id m i there rest (λ j f. q.is.fresh j (ap (took_id s) same ∙ f)) h least)
 told_spares r e s t v a (Label.Created id child) i is h least = creates_spares v a id child (s.bag id) i (apart_from e i (answer_id id) least ((bag_created r e s t id child is h).fresh (answer_id id) refl))
 told_spares r e s t v a (Label.NoSpace id f b) i is h least = two_more i (answer_id id) [] (apart_from e i (answer_id id) least ((bag_no_space r e s t id f b is h).fresh (answer_id id) refl)) refl
+told_spares r e s t v a (Label.Asked id) i is h least = follows_spares a id (s.bag id) i
+told_spares r e s t v a (Label.Answered id o) i is h least = ended_spares v a id (s.noted id) i (apart_from e i (answer_id id) least ((bag_answered r e s t id o is h).fresh (answer_id id) refl))
 told_spares r e s t v a _ i is h least = refl

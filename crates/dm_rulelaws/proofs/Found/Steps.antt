@@ -1,6 +1,6 @@
 -- What a step of the kernel without machines leaves: how many machines there are, and who sends.
-use Rattle.dm_rulelaws.proofs.Names.{◌≡◌, ◌⊎◌, ℕ, ◌<◌, true, length, refl, ap, ◌∙◌, sym, subst, inl, inr, arith, is_some, ⊤, take, drop, Option, None, Some, nat_tests, Pid, MsgId, PlainMessage, PlainWhat, Label, Why, switchboard, manager}
-use Rattle.dm_rulelaws.proofs.Names.{Life, Alive, Ended, Switchboard, Manager, OneKernel, with_process, with_sent, answer_to, without_message, came, stayed, lands-is, is_fixed, by_step}
+use Rattle.dm_rulelaws.proofs.Names.{Note, with_note, without_note, answer_id, ◌≡◌, ◌⊎◌, ℕ, ◌<◌, true, length, refl, ap, ◌∙◌, sym, subst, inl, inr, arith, is_some, ⊤, take, drop, Option, None, Some, nat_tests, Pid, MsgId, PlainMessage}
+use Rattle.dm_rulelaws.proofs.Names.{PlainWhat, Label, Why, switchboard, manager, Life, Alive, Ended, Switchboard, Manager, OneKernel, with_process, with_sent, answer_to, without_message, came, stayed, lands-is, is_fixed, by_step}
 use Rattle.dm_onekernel.specs.Pieces as pieces
 use Rattle.dm_onekernel.specs.Service as service
 use Rattle.dm_onekernel.specs.Step as kernel
@@ -74,7 +74,9 @@ step_for s t l = by_step (λ u. ForThem s l) s t l (record {
   receives = λ p id y is w c. subst (ForThem s) (sym is) tt;
   refuses = λ p id c d y is w e. subst (ForThem s) (sym is) tt;
   dropped = λ id m y is w e. subst (ForThem s) (sym is) tt;
-  gone = λ id m y is w e. subst (ForThem s) (sym is) tt;
+  gone = λ id m y is w v e. subst (ForThem s) (sym is) tt;
+  asked = λ id m x machine is w e. subst (ForThem s) (sym is) tt;
+  answered = λ id o p n is f. subst (ForThem s) (sym is) tt;
   stops = λ id m x b is w e. subst (ForThem s) (sym is) tt;
   kills = λ id m x is w e. subst (ForThem s) (sym is) tt;
   reads = λ id m x base len is w e. subst (ForThem s) (sym is) tt;
@@ -96,8 +98,8 @@ created_for s t id child = step_for s t (Label.Created id child)
 pub no_space_for : (s t : OneKernel) (id : MsgId) (a b : ℕ) → kernel.step s (Label.NoSpace id a b) ≡ Some t → IsFor s id
 no_space_for s t id a b = step_for s t (Label.NoSpace id a b)
 
-pub step_leaves : (n : ℕ) (s t : OneKernel) (l : Label) → s.machines ≡ n → 0 < n → kernel.step s l ≡ Some t → Leaves n s t
-step_leaves n s t l same some =
+pub step_leaves : (n : ℕ) (s t : OneKernel) (l : Label) → s.machines ≡ n → 0 < n → ((p : Pid) (k : Note) → s.notes p ≡ Some k → is_some (s.processes p) ≡ true) → kernel.step s l ≡ Some t → Leaves n s t
+step_leaves n s t l same some lives =
     let quiet : (u : OneKernel) → u.machines ≡ s.machines → Sub u s → Leaves n s u = λ u same sub. leaves_quiet n s u u refl same sub in
     let sent : (u : OneKernel) (m : PlainMessage) → u.machines ≡ s.machines → Sub u s → Sends n s m.sender → Leaves n s (with_sent u (Some m)) = λ u m same sub sends. leaves_sent n s (with_sent u (Some m)) u m refl same sub sends in
     by_step (Leaves n s) s t l (record {
@@ -112,7 +114,9 @@ step_leaves n s t l same some =
       receives = λ p id y is w c. quiet (kernel.goes_on (without_message s id) p y) refl (λ j z f. stayed s id j z f);
       refuses = λ p id c d y is w e. quiet (kernel.goes_on s p y) refl (λ j z f. f);
       dropped = λ id m y is w e. quiet (without_message s id) refl (λ j z f. stayed s id j z f);
-      gone = λ id m y is w e. sent (without_message s id) (answer_to m PlainWhat.Gone) refl (λ j z f. stayed s id j z f) (alive_sends n s m.to (Ended y) w.ended);
+      asked = λ id m x machine is w e. quiet (with_note (without_message s id) m.to (record { id = id; asker = m.sender })) refl (λ j z f. stayed s id j z f);
+      answered = λ id o p n is f. sent (without_note s p id) (record { id = answer_id id; to = n.asker; sender = p; what = PlainWhat.Moved o }) refl (λ j z g. g) (inr (lives p n f.notes));
+      gone = λ id m y is w v e. sent (without_message s id) (answer_to m v) refl (λ j z f. stayed s id j z f) (alive_sends n s m.to (Ended y) w.ended);
       stops = λ id m x b is w e. quiet (service.changed s id m (record x { stopped = b })) refl (λ j z f. stayed s id j z f);
       kills = λ id m x is w e. quiet (with_process (without_message s id) m.to (Ended Why.Killed)) refl (λ j z f. stayed s id j z f);
       reads = λ id m x base len is w e. sent (service.changed s id m x) (answer_to m (PlainWhat.Block (take len (drop base x.memory)))) refl (λ j z f. stayed s id j z f) (alive_sends n s m.to (Alive x) w.alive);

@@ -1,7 +1,7 @@
 -- Wherever all of it holds, each directive has its group.
-use Rattle.dm_rulelaws.proofs.Names.{◌≡◌, ◌≢◌, ℕ, ◌+◌, ◌≤◌, ◌==◌, ◌&&◌, ◌||◌, Bool, true, false, not, List, [], ◌∷◌, refl, ap, ◌∙◌, sym, is_some, inl, inr, arith, ⊤, if◌then◌else◌, slice_get, Option, None, Some, false≢true, Pid, pid_eq}
-use Rattle.dm_rulelaws.proofs.Names.{MsgId, PlainMessage, Boot, IsValid, Step, Line, MessageKind, child_from, child_number, migrates, Point, moved, Says, Spelled, group_of, Spot, Queue, Inbox, standing, StandsOutside, View, Told, Target}
-use Rattle.dm_rulelaws.proofs.Names.{is_kernels, IsStep, arrives_net, resends_net, stands_right, StandsAsBag-elsewhere, Each, has_bytes, is_server, is_fixed, Life, OneKernel, pid_eq-is, cases_Bool, nat_tests, by_migrates}
+use Rattle.dm_rulelaws.proofs.Names.{rooted, ◌≡◌, ◌≢◌, ℕ, ◌+◌, ◌≤◌, ◌==◌, ◌&&◌, ◌||◌, Bool, true, false, not, List, [], ◌∷◌, refl, ap, ◌∙◌, sym, is_some, inl, inr, arith, ⊤, if◌then◌else◌, slice_get, Option, None, Some, false≢true, Pid}
+use Rattle.dm_rulelaws.proofs.Names.{pid_eq, MsgId, PlainMessage, Boot, IsValid, Step, Line, MessageKind, child_from, child_number, migrates, Point, moved, Says, Spelled, group_of, Spot, Queue, Inbox, standing, StandsOutside, View, Told}
+use Rattle.dm_rulelaws.proofs.Names.{Target, is_kernels, IsStep, arrives_net, resends_net, stands_right, StandsAsBag-elsewhere, Each, has_bytes, is_server, is_fixed, Life, OneKernel, pid_eq-is, cases_Bool, nat_tests, by_migrates}
 use Rattle.dm_rule.specs.Rule as rule
 use Rattle.dm_rule.specs.View as view
 use Rattle.dm_rulelaws.proofs.Runs.{Run}
@@ -10,7 +10,7 @@ use Rattle.dm_rulelaws.proofs.Own.Fits.{OwnsFit, NoOwns, FirstOwns}
 use Rattle.dm_rulelaws.proofs.Goes.Parts.{ArePlain, Can, Shape, Goes, goes, can_plain, can_net}
 use Rattle.dm_rulelaws.proofs.Goes.Serves.{can_turn}
 use Rattle.dm_rulelaws.proofs.Goes.Turns.{queue_drops}
-use Rattle.dm_rulelaws.proofs.Goes.Front.{begun, begun_sane, Calm, CanTurn, Front}
+use Rattle.dm_rulelaws.proofs.Goes.Front.{here_free, begun, begun_sane, Calm, CanTurn, Front}
 use Rattle.dm_rulelaws.proofs.Goes.Servers.{can_handle}
 use Rattle.dm_rulelaws.proofs.Goes.Own.{FrontOwn, can_hear}
 pub use Rattle.dm_rule.proofs.Moves.States.{front_one as stands_first}
@@ -61,7 +61,7 @@ can_front b m o i is (Some x) there box h own = can_handle b m o i x (front b m 
 can_front b m o i is None none box h own = can_hear b m o i is box (front_own b m o i is box none h own) none
 
 can_turn_by : (b : Boot) (m : ℕ) (o : Point) (box : List MsgId) → o.view.inbox m ≡ box → Run b o → OwnTold o → CanTurn m o (rule.turns b o m box)
-can_turn_by b m o [] is h own = can_turn (Calm m o) b m o (begun o m) refl (λ q. refl) (λ q. queue_drops b m o q h.based) (λ c. c.ring) refl (begun_sane o m h.based.phased.sane)
+can_turn_by b m o [] is h own = can_turn (Calm m o) b m o (begun o m) refl (λ q. refl) (λ q e. here_free o.kernel o.view m q h.based.noted ((rooted o h.based.phased.sane h.based.phased.ground).served m q e)) (λ q. queue_drops b m o q h.based) (λ c. c.ring) refl (begun_sane o m h.based.phased.sane)
 can_turn_by b m o (i ∷ is) box h own = can_front b m o i is (o.kernel.bag i) refl box h own
 
 -- a process is to move

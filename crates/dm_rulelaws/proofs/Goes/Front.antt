@@ -1,7 +1,11 @@
 -- The message at the front of the inbox: what it is for whom.
-use Rattle.dm_rulelaws.proofs.Names.{◌≡◌, ℕ, ◌+◌, ◌≤◌, ◌==◌, ◌||◌, Bool, true, false, List, ◌∷◌, length, refl, ap, ◌∙◌, sym, subst, is_some, arith, Option, None, Some, nat_tests, Pid, pid_eq, MsgId, id_eq, plain_kind, Step, Line}
-use Rattle.dm_rulelaws.proofs.Names.{PlainMessage, PlainWhat, Boot, switchboard, manager, Life, OneKernel, with_sent, answer_id, answer_to, Made, id_eq-same, pid_eq-same, sent_at, Point, moved, Inbox, times, standing, View, Told, Sane}
-use Rattle.dm_rulelaws.proofs.Names.{has_bytes, is_server, awaits, WhatFits, is_fixed, are_home, Part, is_still}
+use Rattle.dm_rulelaws.proofs.Names.{is_here, [], bind, Label, Note, Outcome, without_note, false≢true, Routes, answers_move, ◌≡◌, ℕ, ◌+◌, ◌≤◌, ◌==◌, ◌||◌, Bool, true, false, List, ◌∷◌, length, refl, ap, ◌∙◌, sym, subst, is_some, arith}
+use Rattle.dm_rulelaws.proofs.Names.{Option, None, Some, nat_tests, Pid, pid_eq, MsgId, id_eq, plain_kind, Step, Line, PlainMessage, PlainWhat, Boot, switchboard, manager, Life, OneKernel, with_sent, answer_id, answer_to, Made, id_eq-same}
+use Rattle.dm_rulelaws.proofs.Names.{pid_eq-same, sent_at, Point, moved, Inbox, times, standing, View, Told, Sane, has_bytes, is_server, awaits, WhatFits, is_fixed, are_home, Part, is_still}
+use Rattle.dm_onekernel.specs.Service as service
+use Rattle.dm_onekernel.specs.Step as kernel
+use Rattle.dm_rulelaws.proofs.Goes.Parts.{does_label}
+use Rattle.dm_rulelaws.proofs.Based.Noted.{Away}
 use Rattle.dm_rule.specs.Rule as rule
 use Rattle.dm_rule.specs.View as view
 use Rattle.dm_rulelaws.proofs.Runs.{Run}
@@ -90,6 +94,7 @@ ForOthers x (PlainWhat.User code channel body links) = is_server x.to ≡ true
 ForOthers x (PlainWhat.Create image links) = x.to.num ≡ 0
 ForOthers x (PlainWhat.Created child) = x.to ≡ manager
 ForOthers x PlainWhat.NoRoom = x.to ≡ manager
+ForOthers x (PlainWhat.Moved outcome) = x.to ≡ manager
 ForOthers x w = ⊥
 
 pub data ForWhom (s : OneKernel) (x : PlainMessage) (w : PlainWhat) : Type 0 where
@@ -110,8 +115,8 @@ for_whom s i x PlainWhat.Gone h = ForProcess (ap (λ p. is_some (s.processes p))
 for_whom s i x (PlainWhat.Create image links) h = let (num, rest, numbered, sender, request, is, fits) = h in ForOther num
 for_whom s i x (PlainWhat.Created child) h = let (to, answer, is, made) = h in ForOther to
 for_whom s i x PlainWhat.NoRoom h = let (to, answer, is) = h in ForOther to
-for_whom s i x (PlainWhat.Move a) h = absurd h
-for_whom s i x (PlainWhat.Moved a) h = absurd h
+for_whom s i x (PlainWhat.Move a) h = ForProcess (some_of 0 (s.processes x.to) h.0)
+for_whom s i x (PlainWhat.Moved a) h = let (to, answer, is) = h in ForOther to
 for_whom s i x _ h = ForProcess (some_of 0 (s.processes x.to) h)
 
 -- a message for a kernel, for the switchboard, for the manager
@@ -139,3 +144,22 @@ does_routes C pt (Some x) there last = does_route C pt x.id x (there x refl) (λ
 pub sent_there : (u : OneKernel) (k : Option PlainMessage) (x : PlainMessage) → k ≡ Some x → (with_sent u k).bag x.id ≡ Some x
 sent_there u None x e = cc
 sent_there u (Some y) x e = let f : y ≡ x = cc in subst (λ (z : PlainMessage). (with_sent u (Some y)).bag z.id ≡ Some z) f (sent_at u y y.id (id_eq-same y.id))
+
+-- the end of a move is answered
+pub does_answers : (C : Type 0) (pt : Point) (i : MsgId) (p : Pid) (n : Note) (r : Outcome) → pt.kernel.noted i ≡ Some p → pt.kernel.notes p ≡ Some n → service.ends_move pt.kernel i p n r ≡ Some (service.move_ended pt.kernel i p n r) → Does C pt (answers_move i r)
+does_answers C pt i p n r noted notes ends =
+    let s = pt.kernel in
+    let k : PlainMessage = record { id = answer_id i; to = n.asker; sender = p; what = PlainWhat.Moved r } in
+    let t = service.move_ended s i p n r in
+    let step : kernel.step s (Label.Answered i r) ≡ Some t =
+    ap (λ (o : Option Pid). bind o (λ (q : Pid). bind (s.notes q) (λ (z : Note). service.ends_move s i q z r))) noted ∙ ap (λ (o : Option Note). bind o (λ (z : Note). service.ends_move s i p z r)) notes ∙ ends in
+    does_label C pt (Label.Answered i r) t (Routes (answer_id i) ∷ []) step
+    (does_route C (moved pt (Line.Label (Label.Answered i r)) t) (answer_id i) k (sent_at (without_note s p i) k (answer_id i) (id_eq-same (answer_id i))) (λ c sane user. absurd (false≢true user)))
+
+-- what is here follows no request to move
+pub here_free : (s : OneKernel) (v : View) (m : ℕ) (p : Pid) → Away None s v → v.known m p ≡ view.Here → s.notes p ≡ None
+here_free s v m p h here = free (s.notes p) refl
+  where
+    free : (o : Option Note) → s.notes p ≡ o → o ≡ None
+    free None e = refl
+    free (Some n) e = absurd (false≢true (sym (h.away p n e tt m) ∙ ap is_here here))

@@ -1,17 +1,18 @@
 -- A kernel's own message at the front of the inbox can be handled.
-use Rattle.dm_rulelaws.proofs.Names.{◌≡◌, ◌≢◌, ℕ, ◌/◌, ◌≤◌, ◌==◌, ◌&&◌, ◌||◌, Bool, true, false, not, List, [], ◌∷◌, ◌++◌, length, refl, ap, ◌∙◌, sym, subst, is_some, arith, if◌then◌else◌, Option, None, Some, false≢true, nat_tests, Pid}
-use Rattle.dm_rulelaws.proofs.Names.{pid_eq, MsgId, MessageKind, Line, Stage, Boot, switchboard, manager, bind, PlainProcess, Life, Alive, Ended, View, Told, Of, Known, Unknown, Here, Frozen, Incoming, Forward, is_kernels, target_of}
-use Rattle.dm_rulelaws.proofs.Names.{to_kernel, forwards_on, moves_to, accepts, takes_chunk, takes_block, gives_piece, kernel_told, chunks_of, pieces_of, updates, here_told, ended_told, process_told, server_told, sends_on, fits, free_room}
-use Rattle.dm_rulelaws.proofs.Names.{kernel_hears, hears, is_between, is_restart, kind_comes, knows, is_away, Moves, sender_in, receiver_in, told_between, IsIn, Point, Part, Says, Spot, Queue, Held, Inbox, times, standing, token_is}
-use Rattle.dm_rulelaws.proofs.Names.{token_at, is_server, is_fixed, agrees, first_of, eq_self, inbox_is, about_same, kind_leaves}
+use Rattle.dm_rulelaws.proofs.Names.{Label, Note, Outcome, label_of, with_label, is_put, moved, answers_move, tells_asker, ◌≡◌, ◌≢◌, ℕ, ◌/◌, ◌≤◌, ◌==◌, ◌&&◌, ◌||◌, Bool, true, false, not, List, [], ◌∷◌, ◌++◌, length, refl, ap, ◌∙◌, sym}
+use Rattle.dm_rulelaws.proofs.Names.{subst, is_some, arith, if◌then◌else◌, Option, None, Some, false≢true, nat_tests, Pid, pid_eq, MsgId, MessageKind, Line, Stage, Boot, switchboard, manager, bind, PlainProcess, Life, Alive, Ended, View}
+use Rattle.dm_rulelaws.proofs.Names.{Told, Of, Known, Unknown, Here, Frozen, Incoming, Forward, is_kernels, target_of, to_kernel, forwards_on, moves_to, accepts, takes_chunk, takes_block, gives_piece, kernel_told, chunks_of, pieces_of}
+use Rattle.dm_rulelaws.proofs.Names.{updates, here_told, ended_told, process_told, server_told, sends_on, fits, free_room, kernel_hears, hears, is_between, is_restart, kind_comes, knows, is_away, Moves, sender_in, receiver_in, told_between}
+use Rattle.dm_rulelaws.proofs.Names.{IsIn, Point, Part, Says, Spot, Queue, Held, Inbox, times, standing, token_is, token_at, is_server, is_fixed, agrees, first_of, eq_self, inbox_is, about_same, kind_leaves}
+use Rattle.dm_onekernel.specs.Service as service
 use Rattle.dm_onekernel.specs.Step as kernel
 use Rattle.dm_rule.specs.Migrating as migrating
 use Rattle.dm_rule.specs.Rule as rule
 use Rattle.dm_rulelaws.proofs.Runs.{Run}
 use Rattle.dm_rulelaws.proofs.Own.Told.{OwnTold, own_sort, own_between, own_server, is_process}
 use Rattle.dm_rulelaws.proofs.Own.Fits.{NoOwns, ThenOwns, forwarded_place, forwards_own, accepts_own, piece_own, chunk_own, block_own, moves_own, sends_own}
-use Rattle.dm_rulelaws.proofs.Goes.Parts.{ArePlain, Can, can_as, can_plain}
-use Rattle.dm_rulelaws.proofs.Goes.Front.{begun, Calm, CanTurn}
+use Rattle.dm_rulelaws.proofs.Goes.Parts.{ArePlain, Can, can_as, can_plain, does_line, Quiet, no_receive}
+use Rattle.dm_rulelaws.proofs.Goes.Front.{begun, Calm, CanTurn, does_answers}
 use Rattle.dm_rulelaws.proofs.Goes.Process.{forwards_plain}
 
 -- it was told of
@@ -134,9 +135,23 @@ can_leave C never m o i p (Frozen to) d e told =
     (ThenOwns (Line.SentOn p (length (o.view.queue m p ++ o.view.held m p))) _ refl refl (sends_own (Of p) to (o.view.queue m p ++ o.view.held m p) (Says (Line.Migration Stage.Left p) ∷ to_kernel MessageKind.Restart i.from.home ∷ []) (refl, tt)))
 can_leave C never m o i p _ d e told = absurd (false≢true e)
 
+-- whoever asked for the move is told
+can_asker : (C : Type 0) (never : C → ⊥) (b : Boot) (m : ℕ) (o : Point) (l : Line) (p : Pid) (q : Option Note) (r : Outcome) → o.kernel.notes p ≡ q → label_of l ≡ None → is_put l ≡ false
+    → ((n : Note) → service.ends_move o.kernel n.id p n r ≡ Some (service.move_ended o.kernel n.id p n r)) → Run b o → Can C m (begun o m) (Some (Says l ∷ tells_asker q r))
+can_asker C never b m o l p None r notes none quiet ends run = can_plain C m (begun o m) (Says l ∷ []) never (none, tt) (NoOwns (tt, tt))
+can_asker C never b m o l p (Some n) r notes none quiet ends run =
+    let pt = begun o m in
+    record {
+      ps = Says l ∷ answers_move n.id r;
+      is = refl;
+      does = does_line C pt l (answers_move n.id r) none quiet (λ c. absurd (never c)) (does_answers C (moved pt l pt.kernel) n.id p n r (run.based.phased.sane.sound.notes.noted p n notes) notes (ends n));
+      shape = Quiet (ap (λ (k : Option Label). no_receive (with_label k (Label.Answered n.id r ∷ []))) none);
+      owns = NoOwns (tt, (tt, (tt, tt)));
+    }
+
 can_told : (C : Type 0) (never : C → ⊥) (b : Boot) (m : ℕ) (o : Point) (i : MsgId) (p : Pid) (room : Bool × ℕ × ℕ) (x : PlainProcess) (k : MessageKind) (t : Told) → o.view.told i ≡ Some t → t.about ≡ Of p → is_between k ≡ true → Coming b m o p k → Run b o → Can C m (begun o m) (kernel_told o m i p room x k)
 can_told C never b m o i p room x MessageKind.Ask t told about e c run = can_plain C m (begun o m) (accepts i.from.home p room.0 room.1 room.2) never (accepts_plain (begun o m).view i.from.home p room.0 room.1 room.2) (accepts_own (begun o m).view i.from.home p room.0 room.1 room.2)
-can_told C never b m o i p room x MessageKind.Refuse t told about e c run = can_plain C m (begun o m) (Says (Line.Stays p) ∷ []) never (refl, tt) (NoOwns (tt, tt))
+can_told C never b m o i p room x MessageKind.Refuse t told about e c run = can_asker C never b m o (Line.Stays p) p (o.kernel.notes p) Outcome.Stayed refl refl refl (λ n. refl) run
 can_told C never b m o i p room x MessageKind.PullState t told about e c run = can_plain C m (begun o m) (gives_piece i MessageKind.State) never (refl, (tt, tt)) (piece_own (begun o m).view i MessageKind.State t p told about (λ a e. e))
 can_told C never b m o i p room x MessageKind.State t told about e c run = can_plain C m (begun o m) (takes_chunk i p (o.view.asked p == chunks_of x)) never (chunk_plain (begun o m).view i p (o.view.asked p == chunks_of x)) (chunk_own (begun o m).view i p (o.view.asked p == chunks_of x) t p told about)
 can_told C never b m o i p room x MessageKind.PullBlock t told about e c run = can_plain C m (begun o m) (gives_piece i MessageKind.Memory) never (refl, (tt, tt)) (piece_own (begun o m).view i MessageKind.Memory t p told about (λ a e. e))
@@ -144,7 +159,7 @@ can_told C never b m o i p room x MessageKind.Memory t told about e c run = can_
 can_told C never b m o i p room x MessageKind.AllTaken t told about e c run =
     can_leave C never m o i p (o.view.known m p) c.d
     (subst (λ (n : ℕ). kind_leaves MessageKind.AllTaken c.d (o.view.known n p) ≡ true) (sym c.here) (source_knows MessageKind.AllTaken c.s c.d c.id (o.view.known c.s p) (c.phase.known c.s))) run.found.told
-can_told C never b m o i p room x MessageKind.Restart t told about e c run = can_plain C m (begun o m) (Says (Line.Migration Stage.Restarted p) ∷ []) never (refl, tt) (NoOwns (tt, tt))
+can_told C never b m o i p room x MessageKind.Restart t told about e c run = can_asker C never b m o (Line.Migration Stage.Restarted p) p (o.kernel.notes p) Outcome.Done refl refl refl (λ n. refl) run
 can_told C never b m o i p room x _ t told about e c run = absurd (false≢true e)
 
 can_hear_of : (C : Type 0) (never : C → ⊥) (b : Boot) (m : ℕ) (o : Point) (i : MsgId) (t : Told) (p : Pid) → o.view.told i ≡ Some t → t.about ≡ Of p → is_between t.kind ≡ true → Coming b m o p t.kind → Run b o → Can C m (begun o m) (kernel_hears b o m i t.kind t.about)

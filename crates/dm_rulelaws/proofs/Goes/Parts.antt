@@ -1,7 +1,9 @@
 -- Parts that can be said: labels are steps of the kernel, and other lines change nothing of it.
-use Rattle.dm_rulelaws.proofs.Names.{after_line, headed, ◌≡◌, ℕ, ◌==◌, not, filter, arith, Bool, true, false, List, [], ◌∷◌, ◌++◌, length, refl, ap, ◌∙◌, sym, subst, is_some, ⊤, if◌then◌else◌, Option, None, Some, Pid, MsgId, MessageKind}
-use Rattle.dm_rulelaws.proofs.Names.{id_eq, plain_kind, PlainMessage, Boot, Label, OneKernel, bind, Step, Line, Load, View, Told, view_after, own_id, Receiver, Point, labels, with_label, label_of, kernel_after, after, moved, Part, Says}
-use Rattle.dm_rulelaws.proofs.Names.{Routes, Again, Owns, Transmits, Spelled, lines_of, puts, goes_out, packet_line, behind, spelled, group_of, outcome, Pair, in_bag, counts, IsNetLine, IsNet, is_put, hushed, Sane, sane_line, part_sane}
+use Rattle.dm_rulelaws.proofs.Names.{IsUnasked, AskNone, seen, topic_by, seen_none, after_line, headed, ◌≡◌, ℕ, ◌==◌, not, filter, arith, Bool, true, false, List, [], ◌∷◌, ◌++◌, length, refl, ap, ◌∙◌, sym, subst, is_some, ⊤, if◌then◌else◌}
+use Rattle.dm_rulelaws.proofs.Names.{Option, None, Some, Pid, MsgId, MessageKind, id_eq, plain_kind, PlainMessage, Boot, Label, OneKernel, bind, Step, Line, Load, View, Told, view_after, own_id, Receiver, Point, labels, with_label}
+use Rattle.dm_rulelaws.proofs.Names.{label_of, kernel_after, after, moved, Part, Says, Routes, Again, Owns, Transmits, Spelled, lines_of, puts, goes_out, packet_line, behind, spelled, group_of, outcome, Pair, in_bag, counts, IsNetLine}
+use Rattle.dm_rulelaws.proofs.Names.{IsNet, is_put, hushed, Sane, sane_line, part_sane}
+use Rattle.dm_rulelaws.proofs.Order.Lines.{thin_same, box_same}
 use Rattle.dm_onekernel.specs.Step as kernel
 use Rattle.dm_rule.specs.View as view
 use Rattle.dm_rule.specs.Rule as rule
@@ -21,6 +23,24 @@ abbrev pub said : List Part → List Label
 said [] = []
 said (p ∷ ps) = part_says p (said ps)
 
+-- no process is asked to move
+abbrev pub NoAsk : Label → Type 0
+NoAsk (Label.Asked i) = ⊥
+NoAsk l = ⊤
+
+abbrev pub AsksNone : List Label → Type 0
+AsksNone [] = ⊤
+AsksNone (l ∷ ls) = NoAsk l × AsksNone ls
+
+unasked_with : (o : Option Label) (ls : List Label) → IsUnasked o → AsksNone ls → AsksNone (with_label o ls)
+unasked_with None ls h k = k
+unasked_with (Some (Label.Asked i)) ls h k = absurd h
+unasked_with (Some _) ls h k = (tt, k)
+
+pub unasked : (ls : List Line) → AskNone ls → AsksNone (labels ls)
+unasked [] h = tt
+unasked (l ∷ ls) h = unasked_with (label_of l) (labels ls) h.0 (unasked ls h.1)
+
 -- the parts can be said, and under some condition they keep the order in which messages were sent
 abbrev pub KeepsOrder : Point → Point → Type 0
 KeepsOrder pt q = (k : Which) → Ord k pt.kernel pt.view → Ord k q.kernel q.view
@@ -29,10 +49,19 @@ pub record Does (C : Type 0) (pt : Point) (ps : List Part) : Type 0 where
   pub w : Spelled
   pub is : spelled pt ps ≡ Some w
   pub says : labels w.lines ≡ said ps
-  pub order : C → Sane pt → KeepsOrder pt w.point
+  pub order : C → AsksNone (said ps) → Sane pt → KeepsOrder pt w.point
+
+-- labels behind a part
+with_tail : (o : Option Label) (ls : List Label) → AsksNone (with_label o ls) → AsksNone ls
+with_tail None ls h = h
+with_tail (Some l) ls h = h.1
+
+part_tail : (p : Part) (ls : List Label) → AsksNone (part_says p ls) → AsksNone ls
+part_tail (Says l) ls h = with_tail (label_of l) ls h
+part_tail _ ls h = h
 
 pub does_nothing : (C : Type 0) (pt : Point) → Does C pt []
-does_nothing C pt = record { w = record { lines = []; point = pt }; is = refl; says = refl; order = λ c s k o. o }
+does_nothing C pt = record { w = record { lines = []; point = pt }; is = refl; says = refl; order = λ c a s k o. o }
 
 -- lines, and then parts
 pub does_lines : (C : Type 0) (pt q : Point) (p : Part) (ls : List Line) (ps : List Part) → lines_of pt p ≡ Some ls → after pt ls ≡ Some q → ((zs : List Line) → labels (ls ++ zs) ≡ part_says p (labels zs)) → (C → Sane pt → Sane q × KeepsOrder pt q) → Does C q ps → Does C pt (p ∷ ps)
@@ -42,7 +71,7 @@ does_lines C pt q p ls ps lines comes tells keeps d = record {
       ∙ ap (λ (o : Option Point). bind o (λ (n : Point). bind (spelled n ps) (λ (z : Spelled). Some (behind ls z)))) comes
       ∙ ap (λ (o : Option Spelled). bind o (λ (z : Spelled). Some (behind ls z))) d.is;
   says = tells d.w.lines ∙ ap (part_says p) d.says;
-  order = λ c s. (let n = keeps c s in λ k o. d.order c n.0 k (n.1 k o));
+  order = λ c a s. (let n = keeps c s in λ k o. d.order c (part_tail p (said ps) a) n.0 k (n.1 k o));
 }
 
 after_one : (pt : Point) (l : Line) (s : OneKernel) → kernel_after pt.kernel (label_of l) ≡ Some s → after pt (l ∷ []) ≡ Some (moved pt l s)
@@ -51,14 +80,25 @@ after_one pt l s e = ap (λ (o : Option OneKernel). bind (bind o (λ (s : OneKer
 pub sane_by : (pt : Point) (l : Line) (t : OneKernel) → is_put l ≡ false → kernel_after pt.kernel (label_of l) ≡ Some t → Sane pt → Sane (moved pt l t)
 sane_by pt l t quiet is s = sane_line pt (moved pt l t) l quiet (ap (λ (o : Option OneKernel). bind o (λ (u : OneKernel). Some (moved pt l u))) is) s
 
+-- the topic is no place
+ord_seen : (q : Which) (t : OneKernel) (w : View) (a : view.About) → Ord q t w → Ord q t (view.about w a)
+ord_seen q t w a o = ord_view q t w (view.about w a) (thin_same q w (view.about w a) refl (box_same w q.to.home) (λ m. refl) (λ j. refl)) o
+
+ord_none : (q : Which) (s : OneKernel) (v : View) (l : Line) → label_of l ≡ None → Ord q s (view_after v l) → Ord q s (seen s v l)
+ord_none q s v l none o = subst (Ord q s) (sym (seen_none s v l none)) o
+
 pub does_label : (C : Type 0) (pt : Point) (l : Label) (t : OneKernel) (ps : List Part) → kernel.step pt.kernel l ≡ Some t → Does C (moved pt (Line.Label l) t) ps → Does C pt (rule.says l ∷ ps)
 does_label C pt l t ps is d =
-    does_lines C pt (moved pt (Line.Label l) t) (rule.says l) (Line.Label l ∷ []) ps refl (after_one pt (Line.Label l) t is) (λ zs. refl) (λ c s. (sane_by pt (Line.Label l) t refl is s, λ k o. ord_label k pt l t s is o)) d
+    does_lines C pt (moved pt (Line.Label l) t) (rule.says l) (Line.Label l ∷ []) ps refl (after_one pt (Line.Label l) t is) (λ zs. refl) (λ c s. (sane_by pt (Line.Label l) t refl is s, λ k o. ord_seen k t (view.after_label pt.view l) (topic_by pt.kernel (view.after_label pt.view l).topic (Some l)) (ord_label k pt l t s is o))) d
 
 pub does_line : (C : Type 0) (pt : Point) (l : Line) (ps : List Part) → label_of l ≡ None → is_put l ≡ false → (C → (k : Which) → Ord k pt.kernel pt.view → Ord k pt.kernel (view_after pt.view l)) → Does C (moved pt l pt.kernel) ps → Does C pt (Says l ∷ ps)
 does_line C pt l ps none quiet keeps d =
     let is : kernel_after pt.kernel (label_of l) ≡ Some pt.kernel = ap (kernel_after pt.kernel) none in
-    does_lines C pt (moved pt l pt.kernel) (Says l) (l ∷ []) ps refl (after_one pt l pt.kernel is) (λ zs. refl) (λ c s. (sane_by pt l pt.kernel quiet is s, λ k o. keeps c k o)) d
+    does_lines C pt (moved pt l pt.kernel) (Says l) (l ∷ []) ps refl (after_one pt l pt.kernel is) (λ zs. refl) (λ c s. (sane_by pt l pt.kernel quiet is s, λ k o. ord_none k pt.kernel pt.view l none (keeps c k o))) d
+
+-- a process is asked to move: so no order is asked for
+pub does_asks : (C : Type 0) (pt : Point) (i : MsgId) (t : OneKernel) (ps : List Part) → kernel.step pt.kernel (Label.Asked i) ≡ Some t → Does ⊥ (moved pt (Line.Label (Label.Asked i)) t) ps → Does C pt (rule.says (Label.Asked i) ∷ ps)
+does_asks C pt i t ps is d = let e = does_label ⊥ pt (Label.Asked i) t ps is d in record { w = e.w; is = e.is; says = e.says; order = λ c a s. absurd a.0 }
 
 -- a packet
 ord_packet : (q : Which) (s : OneKernel) (v : View) (a c k : ℕ) (l : Load) → Ord q s v → Ord q s (view.after_packet v a c l)
@@ -94,18 +134,21 @@ told_on v any_ i h = ap (λ (f : MsgId → Option Told). is_some (f i)) (hushed 
 first_line : (l m : Line) (ls ms : List Line) → (l ∷ ls) ≡ (m ∷ ms) → l ≡ m
 first_line l m ls ms e = cc
 
+seen_topic : (pt : Point) (l : Line) → label_of l ≡ None → (moved pt l pt.kernel).view.topic ≡ (view_after pt.view l).topic
+seen_topic pt l none = ap (λ (v : View). v.topic) (seen_none pt.kernel pt.view l none)
+
 puts_if : (pt : Point) (l : Line) (c d : Bool) (a b k : ℕ) (x : Load) → label_of l ≡ None → (view_after pt.view l).topic ≡ pt.view.topic → Puts pt (l ∷ (if c then [] else if d then Line.Packet a b k x ∷ [] else []))
-puts_if pt l true d a b k x none topic = record { q = moved pt l pt.kernel; is = after_one pt l pt.kernel (ap (kernel_after pt.kernel) none); topic = topic; told = told_on pt.view l; says = λ zs. ap (λ (o : Option Label). with_label o (labels zs)) none; keeps = λ m ms e q o. (let f = first_line l m [] ms e in subst (λ (n : Line). Ord q pt.kernel (view_after pt.view n)) (sym f) o) }
-puts_if pt l false false a b k x none topic = record { q = moved pt l pt.kernel; is = after_one pt l pt.kernel (ap (kernel_after pt.kernel) none); topic = topic; told = told_on pt.view l; says = λ zs. ap (λ (o : Option Label). with_label o (labels zs)) none; keeps = λ m ms e q o. (let f = first_line l m [] ms e in subst (λ (n : Line). Ord q pt.kernel (view_after pt.view n)) (sym f) o) }
+puts_if pt l true d a b k x none topic = record { q = moved pt l pt.kernel; is = after_one pt l pt.kernel (ap (kernel_after pt.kernel) none); topic = seen_topic pt l none ∙ topic; told = told_on pt.view l; says = λ zs. ap (λ (o : Option Label). with_label o (labels zs)) none; keeps = λ m ms e q o. (let f = first_line l m [] ms e in ord_none q pt.kernel pt.view l none (subst (λ (n : Line). Ord q pt.kernel (view_after pt.view n)) (sym f) o)) }
+puts_if pt l false false a b k x none topic = record { q = moved pt l pt.kernel; is = after_one pt l pt.kernel (ap (kernel_after pt.kernel) none); topic = seen_topic pt l none ∙ topic; told = told_on pt.view l; says = λ zs. ap (λ (o : Option Label). with_label o (labels zs)) none; keeps = λ m ms e q o. (let f = first_line l m [] ms e in ord_none q pt.kernel pt.view l none (subst (λ (n : Line). Ord q pt.kernel (view_after pt.view n)) (sym f) o)) }
 puts_if pt l false true a b k x none topic =
     let mid = moved pt l pt.kernel in
     record {
       q = moved mid (Line.Packet a b k x) mid.kernel;
       is = ap (λ (o : Option OneKernel). bind (bind o (λ (s : OneKernel). Some (moved pt l s))) (λ (n : Point). after n (Line.Packet a b k x ∷ []))) (ap (kernel_after pt.kernel) none);
-      topic = topic;
+      topic = seen_topic pt l none ∙ topic;
       told = λ i h. told_on mid.view (Line.Packet a b k x) i (told_on pt.view l i h);
       says = λ zs. ap (λ (o : Option Label). with_label o (labels zs)) none;
-      keeps = λ m ms e q o. (let f = first_line l m (Line.Packet a b k x ∷ []) ms e in ord_packet q pt.kernel mid.view a b k x (subst (λ (n : Line). Ord q pt.kernel (view_after pt.view n)) (sym f) o));
+      keeps = λ m ms e q o. (let f = first_line l m (Line.Packet a b k x ∷ []) ms e in ord_packet q pt.kernel mid.view a b k x (ord_none q pt.kernel pt.view l none (subst (λ (n : Line). Ord q pt.kernel (view_after pt.view n)) (sym f) o)));
     }
 
 pub put_lines : (pt : Point) (b : ℕ) (i : MsgId) (k : MessageKind) (q : Pid) → Puts pt (puts pt.view b i k q)
@@ -282,7 +325,7 @@ pub record Goes (C : Type 0) (b : Boot) (pt : Point) (d : Step) : Type 0 where
   pub spells : spelled (moved pt (Line.Head d) pt.kernel) parts ≡ Some behind_head
   pub point : w.point ≡ behind_head.point
   pub says : labels w.lines ≡ said parts
-  pub order : C → Sane pt → KeepsOrder (moved pt (Line.Head d) pt.kernel) w.point
+  pub order : C → AsksNone (labels w.lines) → Sane pt → KeepsOrder (moved pt (Line.Head d) pt.kernel) w.point
 
 abbrev pub goes : (C : Type 0) (b : Boot) (pt : Point) (d : Step) (ps : List Part) → outcome b pt d ≡ Some ps → Does C (moved pt (Line.Head d) pt.kernel) ps → Goes C b pt d
 goes C b pt d ps is does = record {
@@ -295,5 +338,5 @@ goes C b pt d ps is does = record {
   spells = does.is;
   point = refl;
   says = does.says;
-  order = λ c s. does.order c (sane_by pt (Line.Head d) pt.kernel refl refl s);
+  order = λ c a s. does.order c (subst AsksNone does.says a) (sane_by pt (Line.Head d) pt.kernel refl refl s);
 }

@@ -1,8 +1,9 @@
 -- A message for a process at the front of the inbox can be handled.
-use Rattle.dm_rulelaws.proofs.Names.{◌≡◌, ◌≢◌, ℕ, ◌+◌, ◌≤◌, ◌==◌, ◌&&◌, ◌||◌, Bool, true, false, [], ◌∷◌, length, refl, ap, ◌∙◌, sym, subst, is_some, nat_le, arith, if◌then◌else◌, take, drop, Option, None, Some, false≢true, nat_tests, Pid}
-use Rattle.dm_rulelaws.proofs.Names.{pid_eq, MsgId, MessageKind, Label, Reply, Line, id_eq, plain_kind, PlainMessage, PlainWhat, Direction, Boot, Why, switchboard, manager, bind, when, PlainProcess, PlainStatus, Moving, Life, Alive, Ended}
-use Rattle.dm_rulelaws.proofs.Names.{OneKernel, with_process, with_sent, answer_id, answer_to, without_message, is_dropped, is_of_memory, id_eq-is, out_off, LandsSo, lands-is, Addresses, Sender, is_told_back, forwards_on, Point, moved}
-use Rattle.dm_rulelaws.proofs.Names.{Says, Routes, Owns, Inbox, times, View, Known, has_bytes, is_server, awaits, status_awaits, move_fits, piece_fits, WhatFits, is_fixed, agrees, is_still, handled}
+use Rattle.dm_rulelaws.proofs.Names.{Note, Outcome, with_note, id_eq-same, pid_eq-same, answers_move, leaves_for, ◌≡◌, ◌≢◌, ℕ, ◌+◌, ◌≤◌, ◌==◌, ◌&&◌, ◌||◌, Bool, true, false, [], ◌∷◌, length, refl, ap, ◌∙◌, sym, subst, is_some, nat_le}
+use Rattle.dm_rulelaws.proofs.Names.{arith, if◌then◌else◌, take, drop, Option, None, Some, false≢true, nat_tests, Pid, pid_eq, MsgId, MessageKind, Label, Reply, Line, id_eq, plain_kind, PlainMessage, PlainWhat, Direction, Boot, Why}
+use Rattle.dm_rulelaws.proofs.Names.{switchboard, manager, bind, when, PlainProcess, PlainStatus, Moving, Life, Alive, Ended, OneKernel, with_process, with_sent, answer_id, answer_to, without_message, is_dropped, is_of_memory, id_eq-is}
+use Rattle.dm_rulelaws.proofs.Names.{out_off, LandsSo, lands-is, Addresses, Sender, is_told_back, forwards_on, Point, moved, Says, Routes, Owns, Inbox, times, View, Known, has_bytes, is_server, awaits, status_awaits, move_fits, piece_fits}
+use Rattle.dm_rulelaws.proofs.Names.{WhatFits, is_fixed, agrees, is_still, handled}
 use Rattle.dm_onekernel.specs.Pieces as pieces
 use Rattle.dm_onekernel.specs.Service as service
 use Rattle.dm_onekernel.specs.Step as kernel
@@ -10,43 +11,43 @@ use Rattle.dm_rule.specs.Rule as rule
 use Rattle.dm_rule.specs.View as view
 use Rattle.dm_rulelaws.proofs.Fits.Rises.{both, set_at}
 use Rattle.dm_rulelaws.proofs.Own.Told.{OwnTold}
-use Rattle.dm_rulelaws.proofs.Own.Fits.{NoOwns, forwarded_place, forwards_own}
-use Rattle.dm_rulelaws.proofs.Goes.Parts.{does_nothing, does_route, can_as, can_say, can_line, can_plain, ArePlain}
+use Rattle.dm_rulelaws.proofs.Own.Fits.{sets_own, NoOwns, forwarded_place, forwards_own}
+use Rattle.dm_rulelaws.proofs.Goes.Parts.{does_nothing, does_asks, does_plain, Quiet, does_route, can_as, can_say, can_line, can_plain, ArePlain}
 use Rattle.dm_rulelaws.proofs.Queued.{is_user}
 use Rattle.dm_rulelaws.proofs.Order.Lines.{Which, Ord}
 use Rattle.dm_rulelaws.proofs.Order.Takes.{ord_queued}
-use Rattle.dm_rulelaws.proofs.Goes.Turns.{drops_quiet, drops_own, droppable_on, does_drops, dropped_is}
-use Rattle.dm_rulelaws.proofs.Goes.Front.{begun, Calm, CanTurn, Front, name_of, told_receiver, is_manager, answer_there, sent_there}
+use Rattle.dm_rulelaws.proofs.Goes.Turns.{at_hand_of, drops_quiet, drops_own, droppable_on, does_drops, dropped_is}
+use Rattle.dm_rulelaws.proofs.Goes.Front.{does_answers, here_free, begun, Calm, CanTurn, Front, name_of, told_receiver, is_manager, answer_there, sent_there}
 
 -- a served message's step
-served_step_is : (s : OneKernel) (i : MsgId) (x : PlainMessage) (y : PlainProcess) (w : PlainWhat) (t : OneKernel) → s.bag i ≡ Some x → s.processes x.to ≡ Some (Alive y) → x.what ≡ w → service.serves s i x y w ≡ Some t → kernel.step s (Label.Served i) ≡ Some t
-served_step_is s i x y w t there alive is e =
-    ap (λ (o : Option PlainMessage). bind o (λ (v : PlainMessage). bind (kernel.alive (s.processes v.to)) (λ (p : PlainProcess). service.serves s i v p v.what))) there
-    ∙ ap (λ (o : Option Life). bind (kernel.alive o) (λ (p : PlainProcess). service.serves s i x p x.what)) alive ∙ ap (service.serves s i x y) is ∙ e
+served_step_is : (s : OneKernel) (i : MsgId) (x : PlainMessage) (y : PlainProcess) (w : PlainWhat) (t : OneKernel) → s.bag i ≡ Some x → s.processes x.to ≡ Some (Alive y) → s.notes x.to ≡ None → x.what ≡ w → service.serves s i x y w ≡ Some t → kernel.step s (Label.Served i) ≡ Some t
+served_step_is s i x y w t there alive free is e =
+    ap (λ (o : Option PlainMessage). bind o (λ (v : PlainMessage). bind (kernel.at_hand s v.to) (λ (p : PlainProcess). service.serves s i v p v.what))) there
+    ∙ ap (λ (o : Option PlainProcess). bind o (λ (p : PlainProcess). service.serves s i x p x.what)) (at_hand_of s x.to y free alive) ∙ ap (service.serves s i x y) is ∙ e
 
 -- stop, resume
-can_set : (b : Boot) (m : ℕ) (o : Point) (i : MsgId) (x : PlainMessage) (y z : PlainProcess) (w : PlainWhat) → x.what ≡ w → o.kernel.processes x.to ≡ Some (Alive y) → Front b m o i x → service.serves o.kernel i x y w ≡ Some (service.changed o.kernel i x z)
+can_set : (b : Boot) (m : ℕ) (o : Point) (i : MsgId) (x : PlainMessage) (y z : PlainProcess) (w : PlainWhat) → x.what ≡ w → o.kernel.processes x.to ≡ Some (Alive y) → o.kernel.notes x.to ≡ None → Front b m o i x → service.serves o.kernel i x y w ≡ Some (service.changed o.kernel i x z)
     → CanTurn m o (Some (rule.says (Label.Served i) ∷ []))
-can_set b m o i x y z w is alive f serves =
+can_set b m o i x y z w is alive free f serves =
     let t = service.changed o.kernel i x z in
-    let step = served_step_is o.kernel i x y w t f.there alive is serves in
+    let step = served_step_is o.kernel i x y w t f.there alive free is serves in
     can_say (Calm m o) m (begun o m) (Label.Served i) t [] step refl tt (does_nothing (Calm m o) (moved (begun o m) (Line.Label (Label.Served i)) t))
 
 -- a message is served, and another one goes
-can_answer : (b : Boot) (m : ℕ) (o : Point) (i : MsgId) (x : PlainMessage) (y z : PlainProcess) (w : PlainWhat) (k : PlainMessage) (j : MsgId) → x.what ≡ w → o.kernel.processes x.to ≡ Some (Alive y) → Front b m o i x
+can_answer : (b : Boot) (m : ℕ) (o : Point) (i : MsgId) (x : PlainMessage) (y z : PlainProcess) (w : PlainWhat) (k : PlainMessage) (j : MsgId) → x.what ≡ w → o.kernel.processes x.to ≡ Some (Alive y) → o.kernel.notes x.to ≡ None → Front b m o i x
     → service.serves o.kernel i x y w ≡ Some (with_sent (service.changed o.kernel i x z) (Some k)) → (with_sent (service.changed o.kernel i x z) (Some k)).bag j ≡ Some k → is_user k.what ≡ false
     → CanTurn m o (Some (rule.says (Label.Served i) ∷ Routes j ∷ []))
-can_answer b m o i x y z w k j is alive f serves there other =
+can_answer b m o i x y z w k j is alive free f serves there other =
     let t = with_sent (service.changed o.kernel i x z) (Some k) in
-    let step = served_step_is o.kernel i x y w t f.there alive is serves in
+    let step = served_step_is o.kernel i x y w t f.there alive free is serves in
     can_say (Calm m o) m (begun o m) (Label.Served i) t (Routes j ∷ []) step refl (tt, tt) (does_route (Calm m o) (moved (begun o m) (Line.Label (Label.Served i)) t) j k there (λ c s user. absurd (false≢true (sym other ∙ user))))
 
 -- a kill takes the queue with it
-can_kill : (b : Boot) (m : ℕ) (o : Point) (i : MsgId) (x : PlainMessage) (y : PlainProcess) → x.what ≡ PlainWhat.Kill → o.kernel.processes x.to ≡ Some (Alive y) → Front b m o i x → CanTurn m o (Some (rule.says (Label.Served i) ∷ rule.drop_parts (o.view.queue m x.to)))
-can_kill b m o i x y is alive f =
+can_kill : (b : Boot) (m : ℕ) (o : Point) (i : MsgId) (x : PlainMessage) (y : PlainProcess) → x.what ≡ PlainWhat.Kill → o.kernel.processes x.to ≡ Some (Alive y) → o.kernel.notes x.to ≡ None → Front b m o i x → CanTurn m o (Some (rule.says (Label.Served i) ∷ rule.drop_parts (o.view.queue m x.to)))
+can_kill b m o i x y is alive free f =
     let s = o.kernel in
     let t = with_process (without_message s i) x.to (Ended Why.Killed) in
-    let step = served_step_is s i x y PlainWhat.Kill t f.there alive is refl in
+    let step = served_step_is s i x y PlainWhat.Kill t f.there alive free is refl in
     can_say (Calm m o) m (begun o m) (Label.Served i) t (rule.drop_parts (o.view.queue m x.to)) step (drops_quiet (o.view.queue m x.to)) (drops_own (o.view.queue m x.to))
     (does_drops (Calm m o) x.to Why.Killed (o.view.queue m x.to) (moved (begun o m) (Line.Label (Label.Served i)) t) (set_at (without_message s i) x.to (Ended Why.Killed))
     (droppable_on s t x.to (o.view.queue m x.to) (λ j least. out_off s i j (apart j least (id_eq i j) refl)) (f.drops x.to)))
@@ -89,19 +90,19 @@ memory_no_user (PlainWhat.Read base len) e = refl
 memory_no_user (PlainWhat.Write base bytes) e = refl
 memory_no_user _ e = cc
 
-can_land_at : (b : Boot) (m : ℕ) (o : Point) (i : MsgId) (x : PlainMessage) (y : PlainProcess) (w : PlainWhat) (c : pieces.Landed) → x.what ≡ w → o.kernel.processes x.to ≡ Some (Alive y) → Front b m o i x → service.serves o.kernel i x y w ≡ Some (service.landed o.kernel i x c)
+can_land_at : (b : Boot) (m : ℕ) (o : Point) (i : MsgId) (x : PlainMessage) (y : PlainProcess) (w : PlainWhat) (c : pieces.Landed) → x.what ≡ w → o.kernel.processes x.to ≡ Some (Alive y) → o.kernel.notes x.to ≡ None → Front b m o i x → service.serves o.kernel i x y w ≡ Some (service.landed o.kernel i x c)
     → LandsSo x.to y c → CanTurn m o (rule.landing_parts i (Some c))
-can_land_at b m o i x y w (pieces.Next request z) is alive f serves so =
-    can_answer b m o i x y z w request request.id is alive f serves (sent_there (service.changed o.kernel i x z) (Some request) request refl) (memory_no_user request.what so.1)
-can_land_at b m o i x y w (pieces.Done reply z) is alive f serves so = can_set b m o i x y z w is alive f serves
+can_land_at b m o i x y w (pieces.Next request z) is alive free f serves so =
+    can_answer b m o i x y z w request request.id is alive free f serves (sent_there (service.changed o.kernel i x z) (Some request) request refl) (memory_no_user request.what so.1)
+can_land_at b m o i x y w (pieces.Done reply z) is alive free f serves so = can_set b m o i x y z w is alive free f serves
 
-can_land : (b : Boot) (m : ℕ) (o : Point) (i : MsgId) (x : PlainMessage) (y : PlainProcess) (w : PlainWhat) → x.what ≡ w → o.kernel.processes x.to ≡ Some (Alive y) → Front b m o i x
+can_land : (b : Boot) (m : ℕ) (o : Point) (i : MsgId) (x : PlainMessage) (y : PlainProcess) (w : PlainWhat) → x.what ≡ w → o.kernel.processes x.to ≡ Some (Alive y) → o.kernel.notes x.to ≡ None → Front b m o i x
     → ((c : pieces.Landed) → pieces.lands x.to y x y.status ≡ Some c → service.serves o.kernel i x y w ≡ Some (service.landed o.kernel i x c)) → is_of_memory w ≡ false → awaits (o.kernel.processes x.to) i.n w ≡ true
     → CanTurn m o (rule.landing_parts i (pieces.lands x.to y x y.status))
-can_land b m o i x y w is alive f serves off waits =
+can_land b m o i x y w is alive free f serves off waits =
     let status : status_awaits y.status i.n w ≡ true = sym (ap (λ (l : Option Life). awaits l i.n w) alive) ∙ waits in
     let k = lands_to b x.to y x o.kernel.processes i.n w y.status is (ap (λ (j : MsgId). j.n) (name_of b m o i x f)) status (f.run.based.fits.processes x.to y alive).move off in
-    can_as (Calm m o) m (begun o m) (rule.landing_parts i (pieces.lands x.to y x y.status)) (rule.landing_parts i (Some k.c)) (ap (rule.landing_parts i) k.is) (can_land_at b m o i x y w k.c is alive f (serves k.c k.is) (lands-is x.to y x y.status k.c k.is))
+    can_as (Calm m o) m (begun o m) (rule.landing_parts i (pieces.lands x.to y x y.status)) (rule.landing_parts i (Some k.c)) (ap (rule.landing_parts i) k.is) (can_land_at b m o i x y w k.c is alive free f (serves k.c k.is) (lands-is x.to y x y.status k.c k.is))
 
 -- a queued message keeps its place
 queued_order : (b : Boot) (m : ℕ) (o : Point) (i : MsgId) (x : PlainMessage) → Front b m o i x → x.to.home ≡ m → (k : Which) → Ord k o.kernel (begun o m).view → Ord k o.kernel (view.view_after (begun o m).view (Line.Queued i))
@@ -110,54 +111,90 @@ queued_order b m o i x f home k q =
     let receiver : view.receiver_of (o.view.told i) ≡ Some x.to = ap view.receiver_of f.told_is ∙ ap Some (told_receiver b m o i x f) in
     subst (λ (r : Option Pid). Ord k o.kernel (view.queued_for (handled v i) i r)) (sym receiver) (ord_queued k o.kernel v i f.rest x.to f.box home (ap is_some f.told_is) q)
 
+-- a process is asked to move: it is there already, or sets off
+asked_is : (s : OneKernel) (i : MsgId) (x : PlainMessage) (y : PlainProcess) (to : ℕ) → s.bag i ≡ Some x → s.processes x.to ≡ Some (Alive y) → s.notes x.to ≡ None → x.what ≡ PlainWhat.Move to
+    → kernel.step s (Label.Asked i) ≡ Some (with_note (without_message s i) x.to (record { id = i; asker = x.sender }))
+asked_is s i x y to there alive free is =
+    ap (λ (o : Option PlainMessage). bind o (λ (v : PlainMessage). bind (kernel.at_hand s v.to) (λ p. service.follows s i v v.what))) there
+    ∙ ap (λ (o : Option PlainProcess). bind o (λ p. service.follows s i x x.what)) (at_hand_of s x.to y free alive) ∙ ap (service.follows s i x) is
+
+can_move : (b : Boot) (m : ℕ) (o : Point) (i : MsgId) (x : PlainMessage) (y : PlainProcess) (to : ℕ) (c : Bool) → x.what ≡ PlainWhat.Move to → o.kernel.processes x.to ≡ Some (Alive y) → o.kernel.notes x.to ≡ None → Front b m o i x
+    → CanTurn m o (Some (rule.says (Label.Asked i) ∷ (if c then answers_move i Outcome.Done else leaves_for x.to to)))
+can_move b m o i x y to true is alive free f =
+    let s = o.kernel in
+    let n : Note = record { id = i; asker = x.sender } in
+    let t = with_note (without_message s i) x.to n in
+    let mid = moved (begun o m) (Line.Label (Label.Asked i)) t in
+    record {
+      ps = rule.says (Label.Asked i) ∷ answers_move i Outcome.Done;
+      is = refl;
+      does = does_asks (Calm m o) (begun o m) i t (answers_move i Outcome.Done) (asked_is s i x y to f.there alive free is)
+          (does_answers ⊥ mid i x.to n Outcome.Done (ap (λ (c : Bool). if c then Some x.to else s.noted i) (id_eq-same i)) (ap (λ (c : Bool). if c then Some n else s.notes x.to) (pid_eq-same x.to)) refl);
+      shape = Quiet refl;
+      owns = NoOwns (tt, (tt, (tt, tt)));
+    }
+can_move b m o i x y to false is alive free f =
+    let s = o.kernel in
+    let t = with_note (without_message s i) x.to (record { id = i; asker = x.sender }) in
+    let mid = moved (begun o m) (Line.Label (Label.Asked i)) t in
+    record {
+      ps = rule.says (Label.Asked i) ∷ leaves_for x.to to;
+      is = refl;
+      does = does_asks (Calm m o) (begun o m) i t (leaves_for x.to to) (asked_is s i x y to f.there alive free is) (does_plain ⊥ (leaves_for x.to to) mid (λ z. z) (refl, (refl, (tt, tt))));
+      shape = Quiet refl;
+      owns = sets_own (begun o m).view i x.to to;
+    }
+
 -- a row a kind
-pub can_here : (b : Boot) (m : ℕ) (o : Point) (i : MsgId) (x : PlainMessage) (y : PlainProcess) (w : PlainWhat) → x.what ≡ w → (x.to.num == 0) ≡ false → pid_eq x.to manager ≡ false → o.kernel.processes x.to ≡ Some (Alive y) → Front b m o i x → WhatFits o.kernel i x w
+pub can_here : (b : Boot) (m : ℕ) (o : Point) (i : MsgId) (x : PlainMessage) (y : PlainProcess) (w : PlainWhat) → x.what ≡ w → (x.to.num == 0) ≡ false → pid_eq x.to manager ≡ false → o.kernel.processes x.to ≡ Some (Alive y) → o.kernel.notes x.to ≡ None → Front b m o i x → WhatFits o.kernel i x w
     → CanTurn m o (rule.here_handles o m i x y w)
-can_here b m o i x y (PlainWhat.User code channel body links) is num other alive f h = can_line (Calm m o) m (begun o m) (Line.Queued i) refl refl (λ c k q. queued_order b m o i x f (c.front i f.rest x f.box f.there) k q)
-can_here b m o i x y PlainWhat.Stop is num other alive f h = can_set b m o i x y (record y { stopped = true }) PlainWhat.Stop is alive f refl
-can_here b m o i x y PlainWhat.Resume is num other alive f h = can_set b m o i x y (record y { stopped = false }) PlainWhat.Resume is alive f refl
-can_here b m o i x y PlainWhat.Kill is num other alive f h = can_kill b m o i x y is alive f
-can_here b m o i x y (PlainWhat.Read base len) is num other alive f h =
+can_here b m o i x y (PlainWhat.User code channel body links) is num other alive free f h = can_line (Calm m o) m (begun o m) (Line.Queued i) refl refl (λ c k q. queued_order b m o i x f (c.front i f.rest x f.box f.there) k q)
+can_here b m o i x y PlainWhat.Stop is num other alive free f h = can_set b m o i x y (record y { stopped = true }) PlainWhat.Stop is alive free f refl
+can_here b m o i x y PlainWhat.Resume is num other alive free f h = can_set b m o i x y (record y { stopped = false }) PlainWhat.Resume is alive free f refl
+can_here b m o i x y PlainWhat.Kill is num other alive free f h = can_kill b m o i x y is alive free f
+can_here b m o i x y (PlainWhat.Read base len) is num other alive free f h =
     let s = o.kernel in
     let within : nat_le (base + len) (length y.memory) ≡ true = sym (ap (has_bytes (base + len)) alive) ∙ h.0 in
     let k = answer_to x (PlainWhat.Block (take len (drop base y.memory))) in
     let reads : pieces.reads y x base len ≡ Some (record { process = y; answer = k }) = ap (λ (c : Bool). if c then Some (record { process = y; answer = k }) else None) within in
-    can_answer b m o i x y y (PlainWhat.Read base len) k (answer_id i) is alive f (ap (λ (c : Option pieces.Served). bind c (λ (r : pieces.Served). Some (service.answered s i x r))) reads)
+    can_answer b m o i x y y (PlainWhat.Read base len) k (answer_id i) is alive free f (ap (λ (c : Option pieces.Served). bind c (λ (r : pieces.Served). Some (service.answered s i x r))) reads)
     (answer_there (service.changed s i x y) i x (PlainWhat.Block (take len (drop base y.memory))) (name_of b m o i x f)) refl
-can_here b m o i x y (PlainWhat.Write base bytes) is num other alive f h =
+can_here b m o i x y (PlainWhat.Write base bytes) is num other alive free f h =
     let s = o.kernel in
     let within : nat_le (base + length bytes) (length y.memory) ≡ true = sym (ap (has_bytes (base + length bytes)) alive) ∙ h.0 in
     let z = record y { memory = pieces.written_at y.memory base bytes } in
     let k = answer_to x PlainWhat.Written in
     let writes : pieces.writes y x base bytes ≡ Some (record { process = z; answer = k }) = ap (λ (c : Bool). if c then Some (record { process = z; answer = k }) else None) within in
-    can_answer b m o i x y z (PlainWhat.Write base bytes) k (answer_id i) is alive f (ap (λ (c : Option pieces.Served). bind c (λ (r : pieces.Served). Some (service.answered s i x r))) writes)
+    can_answer b m o i x y z (PlainWhat.Write base bytes) k (answer_id i) is alive free f (ap (λ (c : Option pieces.Served). bind c (λ (r : pieces.Served). Some (service.answered s i x r))) writes)
     (answer_there (service.changed s i x z) i x PlainWhat.Written (name_of b m o i x f)) refl
-can_here b m o i x y (PlainWhat.Create image links) is num other alive f h =
+can_here b m o i x y (PlainWhat.Create image links) is num other alive free f h =
     let (zero_, rest, numbered, sender, request, pending, fits) = h in
     absurd (false≢true (sym num ∙ (let k : (x.to.num == 0) ≡ true = grind (arith, nat_tests) in k)))
-can_here b m o i x y (PlainWhat.Created child) is num other alive f h =
+can_here b m o i x y (PlainWhat.Created child) is num other alive free f h =
     let (to, answer, pending, made) = h in
     absurd (false≢true (sym other ∙ is_manager x.to to))
-can_here b m o i x y PlainWhat.NoRoom is num other alive f h =
+can_here b m o i x y PlainWhat.NoRoom is num other alive free f h =
     let (to, answer, pending) = h in
     absurd (false≢true (sym other ∙ is_manager x.to to))
-can_here b m o i x y (PlainWhat.Move a) is num other alive f h = absurd h
-can_here b m o i x y (PlainWhat.Moved a) is num other alive f h = absurd h
-can_here b m o i x y any_ is num other alive f h =
-    can_land b m o i x y any_ is alive f (λ c e. ap (λ (o_ : Option pieces.Landed). bind o_ (λ (r : pieces.Landed). Some (service.landed o.kernel i x r))) e) refl (ap (λ p. awaits (o.kernel.processes p) i.n any_) h.0 ∙ h.1)
+can_here b m o i x y (PlainWhat.Move to) is num other alive free f h = can_move b m o i x y to (m == to) is alive free f
+can_here b m o i x y (PlainWhat.Moved a) is num other alive free f h =
+    let (to, answer, pending) = h in
+    absurd (false≢true (sym other ∙ is_manager x.to to))
+can_here b m o i x y any_ is num other alive free f h =
+    can_land b m o i x y any_ is alive free f (λ c e. ap (λ (o_ : Option pieces.Landed). bind o_ (λ (r : pieces.Landed). Some (service.landed o.kernel i x r))) e) refl (ap (λ p. awaits (o.kernel.processes p) i.n any_) h.0 ∙ h.1)
 
 -- a receiver that has ended
-pub gone_is : (s : OneKernel) (i : MsgId) (x : PlainMessage) (y : Why) → s.bag i ≡ Some x → s.processes x.to ≡ Some (Ended y) → is_of_memory x.what ≡ true → kernel.step s (Label.Gone i) ≡ Some (with_sent (without_message s i) (Some (answer_to x PlainWhat.Gone)))
-gone_is s i x y there ended memory =
-    ap (λ (o : Option PlainMessage). bind o (λ (v : PlainMessage). bind (kernel.why_ended (s.processes v.to)) (kernel.says_gone s i v))) there ∙ ap (λ (o : Option Life). bind (kernel.why_ended o) (kernel.says_gone s i x)) ended
-    ∙ ap (λ (c : Bool). when c (with_sent (without_message s i) (Some (answer_to x PlainWhat.Gone)))) memory
+pub gone_is : (s : OneKernel) (i : MsgId) (x : PlainMessage) (y : Why) (v : PlainWhat) → s.bag i ≡ Some x → s.processes x.to ≡ Some (Ended y) → service.gone_what x.what ≡ Some v → kernel.step s (Label.Gone i) ≡ Some (with_sent (without_message s i) (Some (answer_to x v)))
+gone_is s i x y v there ended answer =
+    ap (λ (o : Option PlainMessage). bind o (λ (k : PlainMessage). bind (kernel.why_ended (s.processes k.to)) (kernel.says_gone s i k))) there ∙ ap (λ (o : Option Life). bind (kernel.why_ended o) (kernel.says_gone s i x)) ended
+    ∙ ap (λ (o : Option PlainWhat). bind o (λ (w : PlainWhat). Some (with_sent (without_message s i) (Some (answer_to x w))))) answer
 
-can_gone : (b : Boot) (m : ℕ) (o : Point) (i : MsgId) (x : PlainMessage) (y : Why) → is_of_memory x.what ≡ true → o.kernel.processes x.to ≡ Some (Ended y) → Front b m o i x → CanTurn m o (Some (rule.says (Label.Gone i) ∷ Routes (answer_id i) ∷ []))
-can_gone b m o i x y memory ended f =
+can_gone : (b : Boot) (m : ℕ) (o : Point) (i : MsgId) (x : PlainMessage) (y : Why) (v : PlainWhat) → service.gone_what x.what ≡ Some v → is_user v ≡ false → o.kernel.processes x.to ≡ Some (Ended y) → Front b m o i x → CanTurn m o (Some (rule.says (Label.Gone i) ∷ Routes (answer_id i) ∷ []))
+can_gone b m o i x y v answer other ended f =
     let s = o.kernel in
-    let t = with_sent (without_message s i) (Some (answer_to x PlainWhat.Gone)) in
-    can_say (Calm m o) m (begun o m) (Label.Gone i) t (Routes (answer_id i) ∷ []) (gone_is s i x y f.there ended memory) refl (tt, tt)
-    (does_route (Calm m o) (moved (begun o m) (Line.Label (Label.Gone i)) t) (answer_id i) (answer_to x PlainWhat.Gone) (answer_there (without_message s i) i x PlainWhat.Gone (name_of b m o i x f)) (λ c s_ user. absurd (false≢true user)))
+    let t = with_sent (without_message s i) (Some (answer_to x v)) in
+    can_say (Calm m o) m (begun o m) (Label.Gone i) t (Routes (answer_id i) ∷ []) (gone_is s i x y v f.there ended answer) refl (tt, tt)
+    (does_route (Calm m o) (moved (begun o m) (Line.Label (Label.Gone i)) t) (answer_id i) (answer_to x v) (answer_there (without_message s i) i x v (name_of b m o i x f)) (λ c s_ user. absurd (false≢true (sym other ∙ user))))
 
 can_drop : (b : Boot) (m : ℕ) (o : Point) (i : MsgId) (x : PlainMessage) (y : Why) → is_dropped x.what ≡ true → o.kernel.processes x.to ≡ Some (Ended y) → Front b m o i x → CanTurn m o (Some (rule.says (Label.Dropped i) ∷ []))
 can_drop b m o i x y drops ended f =
@@ -166,8 +203,8 @@ can_drop b m o i x y drops ended f =
 
 pub can_ended : (b : Boot) (m : ℕ) (o : Point) (i : MsgId) (x : PlainMessage) (y : Why) (w : PlainWhat) → x.what ≡ w → (x.to.num == 0) ≡ false → pid_eq x.to manager ≡ false → o.kernel.processes x.to ≡ Some (Ended y) → Front b m o i x → WhatFits o.kernel i x w
     → CanTurn m o (rule.ended_handles i w)
-can_ended b m o i x y (PlainWhat.Read base len) is num other ended f h = can_gone b m o i x y (ap is_of_memory is) ended f
-can_ended b m o i x y (PlainWhat.Write base bytes) is num other ended f h = can_gone b m o i x y (ap is_of_memory is) ended f
+can_ended b m o i x y (PlainWhat.Read base len) is num other ended f h = can_gone b m o i x y PlainWhat.Gone (ap service.gone_what is) refl ended f
+can_ended b m o i x y (PlainWhat.Write base bytes) is num other ended f h = can_gone b m o i x y PlainWhat.Gone (ap service.gone_what is) refl ended f
 can_ended b m o i x y (PlainWhat.Create image links) is num other ended f h =
     let (zero_, rest, numbered, sender, request, pending, fits) = h in
     absurd (false≢true (sym num ∙ (let k : (x.to.num == 0) ≡ true = grind (arith, nat_tests) in k)))
@@ -177,8 +214,10 @@ can_ended b m o i x y (PlainWhat.Created child) is num other ended f h =
 can_ended b m o i x y PlainWhat.NoRoom is num other ended f h =
     let (to, answer, pending) = h in
     absurd (false≢true (sym other ∙ is_manager x.to to))
-can_ended b m o i x y (PlainWhat.Move a) is num other ended f h = absurd h
-can_ended b m o i x y (PlainWhat.Moved a) is num other ended f h = absurd h
+can_ended b m o i x y (PlainWhat.Move a) is num other ended f h = can_gone b m o i x y (PlainWhat.Moved Outcome.Ended) (ap service.gone_what is) refl ended f
+can_ended b m o i x y (PlainWhat.Moved a) is num other ended f h =
+    let (to, answer, pending) = h in
+    absurd (false≢true (sym other ∙ is_manager x.to to))
 can_ended b m o i x y _ is num other ended f h = can_drop b m o i x y (ap is_dropped is) ended f
 
 -- by what the machine knows of it
@@ -203,7 +242,7 @@ can_known b m o i x view.Unknown is there agree num other f own = absurd (there 
 can_known b m o i x view.Here is there agree num other f own =
     let (y, alive) = alive_of (o.kernel.processes x.to) agree in
     can_as (Calm m o) m (begun o m) (rule.process_handles o m i x view.Here) (rule.here_handles o m i x y x.what) (ap (λ (l : Option Life). bind (kernel.alive l) (λ (p : PlainProcess). rule.here_handles o m i x p x.what)) alive)
-    (can_here b m o i x y x.what refl num other alive f (f.run.based.fits.messages i x f.there))
+    (can_here b m o i x y x.what refl num other alive (here_free o.kernel o.view m x.to f.run.based.noted is) f (f.run.based.fits.messages i x f.there))
 can_known b m o i x (view.Frozen to) is there agree num other f own = can_plain (Calm m o) m (begun o m) (Says (Line.Held i) ∷ []) (λ c. false≢true (sym (ap is_still is) ∙ c.known x.to)) (refl, tt) (NoOwns (tt, tt))
 can_known b m o i x (view.Incoming from) is there agree num other f own = can_plain (Calm m o) m (begun o m) (Says (Line.Held i) ∷ []) (λ c. false≢true (sym (ap is_still is) ∙ c.known x.to)) (refl, tt) (NoOwns (tt, tt))
 can_known b m o i x (view.Forward at_ moves) is there agree num other f own =

@@ -1,6 +1,6 @@
 -- Laws of runs, from what holds at their start and is kept by each group.
-use Rattle.dm_rulelaws.proofs.Names.{◌≡◌, ℕ, ◌≤◌, true, List, [], ◌∷◌, ap, ◌∙◌, sym, subst, is_some, nat_le, arith, nat_tests, None, Some, MsgId, Boot, IsValid, Step, is_for_home, Spelled, Point, first_point, group_of, IsStep, IsStill}
-use Rattle.dm_rulelaws.proofs.Names.{Leads, Home, home_start, stands, all_stand, home_group, none_replaced, kernels_fresh, GoesOnAlways, KnownAlways, for_home}
+use Rattle.dm_rulelaws.proofs.Names.{AskNone, ◌≡◌, ℕ, ◌≤◌, true, List, [], ◌∷◌, ap, ◌∙◌, sym, subst, is_some, nat_le, arith, nat_tests, None, Some, MsgId, Boot, IsValid, Step, is_for_home, Spelled, Point, first_point, group_of, IsStep}
+use Rattle.dm_rulelaws.proofs.Names.{IsStill, Leads, Home, home_start, stands, all_stand, home_group, none_replaced, kernels_fresh, GoesOnAlways, KnownAlways, for_home}
 use Rattle.dm_rulelaws.proofs.Fits.Rises.{both}
 use Rattle.dm_rulelaws.proofs.Runs.{Run}
 use Rattle.dm_rulelaws.proofs.Own.Told.{OwnTold}
@@ -52,9 +52,9 @@ pub record Stays (b : Boot) (pt : Point) : Type 0 where
 pub stays_start : RunStarts → (b : Boot) → IsValid b → Stays b (first_point b)
 stays_start starts b valid = record { both = both_start starts b valid; r = λ i. 0; e = λ i. 0; home = home_start b valid }
 
-pub stays_group : RunGoes → (b : Boot) (pt : Point) (d : Step) (w : Spelled) → IsValid b → IsStill d → IsStep pt.kernel.machines d → group_of b pt d ≡ Some w → Stays b pt → Stays b w.point
-stays_group goes b pt d w valid still fit is h =
-    let k = home_group none_replaced b h.r h.e pt d w still is h.both.run.based.phased.state h.home in
+pub stays_group : RunGoes → (b : Boot) (pt : Point) (d : Step) (w : Spelled) → IsValid b → IsStill d → AskNone w.lines → IsStep pt.kernel.machines d → group_of b pt d ≡ Some w → Stays b pt → Stays b w.point
+stays_group goes b pt d w valid still asks fit is h =
+    let k = home_group none_replaced b h.r h.e pt d w still is asks h.both.run.based.phased.state h.home in
     record { both = both_group goes b pt d w valid fit is h.both; r = k.r; e = k.e; home = k.home }
 
 front_stands : (b : Boot) (pt : Point) (m : ℕ) (i : MsgId) (is : List MsgId) (h : Stays b pt) → pt.view.inbox m ≡ i ∷ is → stands pt.kernel h.e m i ≡ true

@@ -1,8 +1,8 @@
 -- A message for a kernel or a server at the front of the inbox can be handled.
-use Rattle.dm_rulelaws.proofs.Names.{◌≡◌, ℕ, zero, suc, ◌+◌, ◌==◌, ◌&&◌, ◌||◌, ◌++◌, Bool, true, false, List, [], ◌∷◌, length, refl, ap, ◌∙◌, sym, subst, is_some, nat_lt, arith, ⊤, if◌then◌else◌, slice_get, Option, None, Some, false≢true}
-use Rattle.dm_rulelaws.proofs.Names.{nat_tests, Pid, pid_of, pid_eq, PlainLink, MsgId, Label, Line, PlainMessage, PlainWhat, BootImage, Boot, first_number, switchboard, manager, bind, when, Pending, OneKernel, with_sent, answer_id}
-use Rattle.dm_rulelaws.proofs.Names.{answer_to, without_message, Made, pid_eq-same, Point, moved, Part, Routes, is_server, IsPending, WhatFits, is_fixed, counts, ServerSends, handled, is_kernels, not_kernels, or_first, board_takes_lem}
-use Rattle.dm_rulelaws.proofs.Names.{manager_takes_lem}
+use Rattle.dm_rulelaws.proofs.Names.{is_for, PendingKind, code_of_outcome, ◌≡◌, ℕ, zero, suc, ◌+◌, ◌==◌, ◌&&◌, ◌||◌, ◌++◌, Bool, true, false, List, [], ◌∷◌, length, refl, ap, ◌∙◌, sym, subst, is_some, nat_lt, arith, ⊤, if◌then◌else◌}
+use Rattle.dm_rulelaws.proofs.Names.{slice_get, Option, None, Some, false≢true, nat_tests, Pid, pid_of, pid_eq, PlainLink, MsgId, Label, Line, PlainMessage, PlainWhat, BootImage, Boot, first_number, switchboard, manager, bind, when}
+use Rattle.dm_rulelaws.proofs.Names.{Pending, OneKernel, with_sent, answer_id, answer_to, without_message, Made, pid_eq-same, Point, moved, Part, Routes, is_server, IsPending, WhatFits, is_fixed, counts, ServerSends, handled, is_kernels}
+use Rattle.dm_rulelaws.proofs.Names.{not_kernels, or_first, board_takes_lem, manager_takes_lem}
 use Rattle.dm_onekernel.specs.Switchboard as board
 use Rattle.dm_onekernel.specs.Manager as manage
 use Rattle.dm_onekernel.specs.Service as service
@@ -38,6 +38,7 @@ others_kernel : (x : PlainMessage) (w : PlainWhat) → IsCreate w → (x.to.num 
 others_kernel x (PlainWhat.User code channel body links) c num h = sym (server_number x.to h) ∙ num
 others_kernel x (PlainWhat.Created child) c num h = let e : x.to.num ≡ 2 = ap (λ (p : Pid). p.num) h in let f : (x.to.num == 0) ≡ false = grind (arith, nat_tests) in sym f ∙ num
 others_kernel x PlainWhat.NoRoom c num h = let e : x.to.num ≡ 2 = ap (λ (p : Pid). p.num) h in let f : (x.to.num == 0) ≡ false = grind (arith, nat_tests) in sym f ∙ num
+others_kernel x (PlainWhat.Moved outcome) c num h = let e : x.to.num ≡ 2 = ap (λ (p : Pid). p.num) h in let f : (x.to.num == 0) ≡ false = grind (arith, nat_tests) in sym f ∙ num
 others_kernel x (PlainWhat.Create image links) c num h = absurd c
 others_kernel x _ c num h = absurd h
 
@@ -151,6 +152,7 @@ others_board : (x : PlainMessage) (w : PlainWhat) → (is_user w ≡ false) → 
 others_board x (PlainWhat.User code channel body links) c num one h = cc
 others_board x (PlainWhat.Create image links) c num one h = sym num ∙ (let k : (x.to.num == 0) ≡ true = grind (arith, nat_tests) in k)
 others_board x (PlainWhat.Created child) c num one h = (let e : x.to.num ≡ 2 = ap (λ (p : Pid). p.num) h in let f : pid_eq x.to switchboard ≡ false = grind (arith, nat_tests) in sym f ∙ one)
+others_board x (PlainWhat.Moved outcome) c num one h = (let e : x.to.num ≡ 2 = ap (λ (p : Pid). p.num) h in let f : pid_eq x.to switchboard ≡ false = grind (arith, nat_tests) in sym f ∙ one)
 others_board x PlainWhat.NoRoom c num one h = (let e : x.to.num ≡ 2 = ap (λ (p : Pid). p.num) h in let f : pid_eq x.to switchboard ≡ false = grind (arith, nat_tests) in sym f ∙ one)
 others_board x _ c num one h = absurd h
 
@@ -176,12 +178,14 @@ abbrev for_manager : PlainWhat → Bool
 for_manager (PlainWhat.User code channel body links) = true
 for_manager (PlainWhat.Created child) = true
 for_manager PlainWhat.NoRoom = true
+for_manager (PlainWhat.Moved outcome) = true
 for_manager w = false
 
 others_manager : (x : PlainMessage) (w : PlainWhat) → for_manager w ≡ false → (x.to.num == 0) ≡ false → ForOthers x w → false ≡ true
 others_manager x (PlainWhat.User code channel body links) c num h = cc
 others_manager x (PlainWhat.Created child) c num h = cc
 others_manager x PlainWhat.NoRoom c num h = cc
+others_manager x (PlainWhat.Moved outcome) c num h = cc
 others_manager x (PlainWhat.Create image links) c num h = sym num ∙ (let k : (x.to.num == 0) ≡ true = grind (arith, nat_tests) in k)
 others_manager x _ c num h = absurd h
 
@@ -203,13 +207,13 @@ can_manage b m o i x w k is one two takes f =
     can_as (Calm m o) m (begun o m) (rule.manager_parts i (manage.manager_takes s.manager s.machines (length s.images) x w)) (rule.manager_parts i (Some k)) (ap (rule.manager_parts i) takes)
     (can_take b m o i x u k.message step (manager_sends m o i x k (manager_takes_lem s.manager s.machines (length s.images) x w k takes).2.sends (at_manager x m two (home_of b m o i x (server_fixed x.to (ap (λ (c : Bool). c || pid_eq x.to manager) one ∙ two)) f))) f)
 
-pub pending_is : (o : Option Pending) → is_some o ≡ true → (r : Pending) × (o ≡ Some r)
-pending_is None e = cc
-pending_is (Some r) e = (r, refl)
+pub pending_is : (kind : PendingKind) (o : Option Pending) → is_for kind o ≡ true → (r : Pending) × (o ≡ Some r)
+pending_is kind None e = cc
+pending_is kind (Some r) e = (r, refl)
 
 -- the request that an answer belongs to is pending
-asked : (b : Boot) (m : ℕ) (o : Point) (i : MsgId) (x : PlainMessage) → IsPending o.kernel i → Front b m o i x → (r : Pending) × (manage.pending_numbered x.id.n o.kernel.manager.pending ≡ Some r)
-asked b m o i x p f = pending_is (manage.pending_numbered x.id.n o.kernel.manager.pending) (ap (λ (j : MsgId). is_some (manage.pending_numbered j.n o.kernel.manager.pending)) (name_of b m o i x f) ∙ p.pending)
+asked : (b : Boot) (m : ℕ) (o : Point) (i : MsgId) (x : PlainMessage) (kind : PendingKind) → IsPending o.kernel kind i → Front b m o i x → (r : Pending) × (manage.pending_numbered x.id.n o.kernel.manager.pending ≡ Some r)
+asked b m o i x kind p f = pending_is kind (manage.pending_numbered x.id.n o.kernel.manager.pending) (ap (λ (j : MsgId). is_for kind (manage.pending_numbered j.n o.kernel.manager.pending)) (name_of b m o i x f) ∙ p.pending)
 
 can_manager : (b : Boot) (m : ℕ) (o : Point) (i : MsgId) (x : PlainMessage) (w : PlainWhat) → x.what ≡ w → (x.to.num == 0) ≡ false → pid_eq x.to switchboard ≡ false → pid_eq x.to manager ≡ true → Front b m o i x → WhatFits o.kernel i x w
     → CanTurn m o (rule.manager_parts i (manage.manager_takes o.kernel.manager o.kernel.machines (length o.kernel.images) x w))
@@ -218,14 +222,19 @@ can_manager b m o i x (PlainWhat.User code channel body links) is num one two f 
 can_manager b m o i x (PlainWhat.Created child) is num one two f h =
     let (to, answer, pending, made) = h in
     let g = o.kernel.manager in
-    let (r, found) = asked b m o i x pending f in
-    can_manage b m o i x (PlainWhat.Created child) (manage.answers_byte (record g { children = g.children ++ child ∷ []; pending = manage.without_pending x.id.n g.pending }) r.answer 0 (manage.control_link (length g.children + 1) ∷ [])) is one two
+    let (r, found) = asked b m o i x PendingKind.Create pending f in
+    can_manage b m o i x (PlainWhat.Created child) (manage.answers_over (record g { children = g.children ++ child ∷ []; pending = manage.without_pending x.id.n g.pending }) r.answer 0 (manage.control_link (length g.children + 1) ∷ [])) is one two
     (ap (manage.takes_created g x.id.n child) found) f
 can_manager b m o i x PlainWhat.NoRoom is num one two f h =
     let (to, answer, pending) = h in
     let g = o.kernel.manager in
-    let (r, found) = asked b m o i x pending f in
-    can_manage b m o i x PlainWhat.NoRoom (manage.answers_byte (record g { pending = manage.without_pending x.id.n g.pending }) r.answer 1 []) is one two (ap (manage.takes_no_room g x.id.n) found) f
+    let (r, found) = asked b m o i x PendingKind.Create pending f in
+    can_manage b m o i x PlainWhat.NoRoom (manage.answers_over (record g { pending = manage.without_pending x.id.n g.pending }) r.answer 1 []) is one two (ap (manage.takes_no_room g x.id.n) found) f
+can_manager b m o i x (PlainWhat.Moved outcome) is num one two f h =
+    let (to, answer, pending) = h in
+    let g = o.kernel.manager in
+    let (r, found) = asked b m o i x PendingKind.Move pending f in
+    can_manage b m o i x (PlainWhat.Moved outcome) (manage.answers_over (record g { pending = manage.without_pending x.id.n g.pending }) r.answer (code_of_outcome outcome) []) is one two (ap (manage.takes_moved g x.id.n outcome) found) f
 can_manager b m o i x any_ is num one two f h = absurd (never_manager o.kernel x any_ refl num two (made_of b m o i x f) (for_whom o.kernel i x any_ h))
 
 -- whoever the message is for

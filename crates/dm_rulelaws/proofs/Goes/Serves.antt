@@ -11,12 +11,12 @@ use Rattle.dm_rulelaws.proofs.Fits.Rises.{set_at, both}
 use Rattle.dm_rulelaws.proofs.Goes.Parts.{said, no_receive, Shape, Quiet, Takes, Does, does_nothing, does_label, does_route, sane_by, Can, can_line}
 use Rattle.dm_rulelaws.proofs.Order.Moves.{Last, next_id}
 use Rattle.dm_rulelaws.proofs.Own.Fits.{HaveNoOwn, NoOwns}
-use Rattle.dm_rulelaws.proofs.Goes.Turns.{times_self, times_more, Droppable, droppable_on, does_drops, drops_quiet, drops_own}
+use Rattle.dm_rulelaws.proofs.Goes.Turns.{at_hand_of, times_self, times_more, Droppable, droppable_on, does_drops, drops_quiet, drops_own}
 
 -- a process that executes
-pub running_of : (s : OneKernel) (p : Pid) (x : PlainProcess) → s.processes p ≡ Some (Alive x) → x.stopped ≡ false → x.status ≡ Ready → kernel.running s p ≡ Some x
-running_of s p x is going ready =
-    ap (λ (o : Option Life). bind (kernel.alive o) (λ (v : PlainProcess). kernel.if_ready v v.status)) is ∙ ap (kernel.if_ready x) ready ∙ ap (λ (c : Bool). if c then None else Some x) going
+pub running_of : (s : OneKernel) (p : Pid) (x : PlainProcess) → s.processes p ≡ Some (Alive x) → s.notes p ≡ None → x.stopped ≡ false → x.status ≡ Ready → kernel.running s p ≡ Some x
+running_of s p x is free going ready =
+    ap (λ (o : Option PlainProcess). bind o (λ (v : PlainProcess). kernel.if_ready v v.status)) (at_hand_of s p x free is) ∙ ap (kernel.if_ready x) ready ∙ ap (λ (c : Bool). if c then None else Some x) going
 
 pub steps_front : (c : ℕ) (m n z : kernel.Machine) → kernel.plain_step m ≡ Some n → kernel.plain_steps c n ≡ Some z → kernel.plain_steps (suc c) m ≡ Some z
 steps_front zero m n z e f = e ∙ f
@@ -108,18 +108,18 @@ does_rest : (C : Type 0) (pt : Point) (c : Bool) (ps : List Part) → Does C pt 
 does_rest C pt true ps d = does_nothing C pt
 does_rest C pt false ps d = d
 
-does_executes : (C : Type 0) (b : Boot) (pt : Point) (p : Pid) (queue : List MsgId) (x : PlainProcess) → pt.kernel.processes p ≡ Some (Alive x) → x.stopped ≡ false → x.status ≡ Ready → Droppable pt.kernel p queue → (C → p.home ≡ pt.view.acting) → Sane pt
+does_executes : (C : Type 0) (b : Boot) (pt : Point) (p : Pid) (queue : List MsgId) (x : PlainProcess) → pt.kernel.processes p ≡ Some (Alive x) → pt.kernel.notes p ≡ None → x.stopped ≡ false → x.status ≡ Ready → Droppable pt.kernel p queue → (C → p.home ≡ pt.view.acting) → Sane pt
     → Does C pt (rule.executes b.quantum p queue x (rule.ran b.quantum (kernel.machine_of x)))
-does_executes C b pt p queue x is going ready drops home h =
+does_executes C b pt p queue x is free going ready drops home h =
     let s = pt.kernel in
     let r = rule.ran b.quantum (kernel.machine_of x) in
     let y = kernel.with_machine x r.machine in
     let t = kernel.goes_on s p y in
     let step : kernel.step s (Label.Ran p r.count) ≡ Some t =
-    ap (λ (o : Option PlainProcess). bind o (λ (v : PlainProcess). bind (kernel.plain_steps r.count (kernel.machine_of v)) (λ (z : kernel.Machine). Some (kernel.goes_on s p (kernel.with_machine v z))))) (running_of s p x is going ready)
+    ap (λ (o : Option PlainProcess). bind o (λ (v : PlainProcess). bind (kernel.plain_steps r.count (kernel.machine_of v)) (λ (z : kernel.Machine). Some (kernel.goes_on s p (kernel.with_machine v z))))) (running_of s p x is free going ready)
     ∙ ap (λ (o : Option kernel.Machine). bind o (λ (z : kernel.Machine). Some (kernel.goes_on s p (kernel.with_machine x z)))) (ran_steps b.quantum (kernel.machine_of x)) in
     let o = kernel.next_row p y (instruction r.machine.regs r.machine.bytes) in
-    let next : kernel.next_trap t p ≡ o = ap (λ (v : Option PlainProcess). bind v (λ (z : PlainProcess). kernel.next_row p z (instruction z.regs z.memory))) (running_of t p y (set_at s p (Alive y)) going ready) in
+    let next : kernel.next_trap t p ≡ o = ap (λ (v : Option PlainProcess). bind v (λ (z : PlainProcess). kernel.next_row p z (instruction z.regs z.memory))) (running_of t p y (set_at s p (Alive y)) free going ready) in
     let q = moved pt (Line.Label (Label.Ran p r.count)) t in
     does_label C pt (Label.Ran p r.count) t (if r.count == b.quantum then [] else rule.stops p queue o) step
     (does_rest C q (r.count == b.quantum) (rule.stops p queue o) (does_stops C q p queue o next (droppable_on s t p queue (λ i least. refl) drops) home (sane_by pt (Line.Label (Label.Ran p r.count)) t refl step h)))
@@ -222,9 +222,9 @@ completes_shape m pt p i mask (receiving.Receives y) first e = Takes (record {
 completes_shape m pt p i mask (receiving.Refuses reply y) first e = Quiet refl
 
 can_receive : (C : Type 0) (m : ℕ) (pt : Point) (p : Pid) (queue : List MsgId) (x : PlainProcess) (mask base size : ℕ) (o : Option MsgId) → x.status ≡ Waiting mask base size → rule.first_awaited pt.kernel mask queue ≡ o → is_some o ≡ true → pt.kernel.processes p ≡ Some (Alive x)
-    → x.stopped ≡ false → queue ≡ pt.view.queue m p → Droppable pt.kernel p queue → Can C m pt (rule.reception_parts pt.kernel p x o)
-can_receive C m pt p queue x mask base size None status first some is going same drops = cc
-can_receive C m pt p queue x mask base size (Some i) status first some is going same drops =
+    → pt.kernel.notes p ≡ None → x.stopped ≡ false → queue ≡ pt.view.queue m p → Droppable pt.kernel p queue → Can C m pt (rule.reception_parts pt.kernel p x o)
+can_receive C m pt p queue x mask base size None status first some is free going same drops = cc
+can_receive C m pt p queue x mask base size (Some i) status first some is free going same drops =
     let s = pt.kernel in
     let a = first_is s mask queue i first in
     let k = a.x in
@@ -232,7 +232,7 @@ can_receive C m pt p queue x mask base size (Some i) status first some is going 
     let (c, done) = completes_what p x k mask base size k.what a.what to in
     let with_ : receiving.completes_with p x k ≡ Some c = ap (λ (d : Bool). if d then None else receiving.completes_status p x k x.status) going ∙ ap (receiving.completes_status p x k) status ∙ done in
     let completing : kernel.completing s p i ≡ Some c =
-    ap (λ (o : Option Life). bind (kernel.alive o) (λ (v : PlainProcess). bind (s.bag i) (receiving.completes_with p v))) is ∙ ap (λ (o : Option PlainMessage). bind o (receiving.completes_with p x)) a.there ∙ with_ in
+    ap (λ (o : Option PlainProcess). bind o (λ (v : PlainProcess). bind (s.bag i) (receiving.completes_with p v))) (at_hand_of s p x free is) ∙ ap (λ (o : Option PlainMessage). bind o (receiving.completes_with p x)) a.there ∙ with_ in
     record {
       ps = rule.completion_parts p i c;
       is = ap (λ (o : Option PlainMessage). bind o (λ (v : PlainMessage). bind (receiving.completes_with p x v) (λ (c : receiving.Completed). Some (rule.completion_parts p i c)))) a.there ∙ ap (λ (o : Option receiving.Completed). bind o (λ (c : receiving.Completed). Some (rule.completion_parts p i c))) with_;
@@ -241,14 +241,14 @@ can_receive C m pt p queue x mask base size (Some i) status first some is going 
       owns = NoOwns (completes_own p i c);
     }
 
-can_serve : (C : Type 0) (b : Boot) (m : ℕ) (pt : Point) (p : Pid) (queue : List MsgId) (x : PlainProcess) (st : PlainStatus) → x.status ≡ st → rule.status_can_go pt.kernel queue st ≡ true → pt.kernel.processes p ≡ Some (Alive x) → x.stopped ≡ false → queue ≡ pt.view.queue m p → Droppable pt.kernel p queue → (C → p.home ≡ pt.view.acting) → Sane pt
+can_serve : (C : Type 0) (b : Boot) (m : ℕ) (pt : Point) (p : Pid) (queue : List MsgId) (x : PlainProcess) (st : PlainStatus) → x.status ≡ st → rule.status_can_go pt.kernel queue st ≡ true → pt.kernel.processes p ≡ Some (Alive x) → pt.kernel.notes p ≡ None → x.stopped ≡ false → queue ≡ pt.view.queue m p → Droppable pt.kernel p queue → (C → p.home ≡ pt.view.acting) → Sane pt
     → Can C m pt (rule.serves_status b.quantum pt.kernel p queue x st)
-can_serve C b m pt p queue x Ready status go is going same drops home h =
+can_serve C b m pt p queue x Ready status go is free going same drops home h =
     let r = rule.ran b.quantum (kernel.machine_of x) in
     let o = kernel.next_row p (kernel.with_machine x r.machine) (instruction r.machine.regs r.machine.bytes) in
-    record { ps = rule.executes b.quantum p queue x r; is = refl; does = does_executes C b pt p queue x is going status drops home h; shape = Quiet (rest_quiet (r.count == b.quantum) (rule.stops p queue o) (stops_quiet p queue o)); owns = NoOwns (tt, rest_own (r.count == b.quantum) (rule.stops p queue o) (stops_own p queue o)) }
-can_serve C b m pt p queue x (Waiting mask base size) status go is going same drops home h = can_receive C m pt p queue x mask base size (rule.first_awaited pt.kernel mask queue) status refl go is going same drops
-can_serve C b m pt p queue x (Moving dir owner base own left pending) status go is going same drops home h = cc
+    record { ps = rule.executes b.quantum p queue x r; is = refl; does = does_executes C b pt p queue x is free going status drops home h; shape = Quiet (rest_quiet (r.count == b.quantum) (rule.stops p queue o) (stops_quiet p queue o)); owns = NoOwns (tt, rest_own (r.count == b.quantum) (rule.stops p queue o) (stops_own p queue o)) }
+can_serve C b m pt p queue x (Waiting mask base size) status go is free going same drops home h = can_receive C m pt p queue x mask base size (rule.first_awaited pt.kernel mask queue) status refl go is free going same drops
+can_serve C b m pt p queue x (Moving dir owner base own left pending) status go is free going same drops home h = cc
 
 -- the first of the ring that can be served
 pub record Runnable (s : OneKernel) (queue : Pid → List MsgId) (p : Pid) : Type 0 where
@@ -272,12 +272,12 @@ runnable_is : (s : OneKernel) (queue : Pid → List MsgId) (ps : List Pid) (q : 
 runnable_is s queue [] q e = cc
 runnable_is s queue (p ∷ ps) q e = runnable_if s queue p ps q (rule.can_go s (queue p) (kernel.alive (s.processes p))) refl e (runnable_is s queue ps q)
 
-can_go_round : (C : Type 0) (b : Boot) (m : ℕ) (o pt : Point) (p : Option Pid) → o.kernel ≡ pt.kernel → ((q : Pid) → o.view.queue m q ≡ pt.view.queue m q) → ((q : Pid) → p ≡ Some q → Runnable pt.kernel (o.view.queue m) q) → ((q : Pid) → Droppable pt.kernel q (o.view.queue m q))
+can_go_round : (C : Type 0) (b : Boot) (m : ℕ) (o pt : Point) (p : Option Pid) → o.kernel ≡ pt.kernel → ((q : Pid) → o.view.queue m q ≡ pt.view.queue m q) → ((q : Pid) → p ≡ Some q → Runnable pt.kernel (o.view.queue m) q) → ((q : Pid) → p ≡ Some q → pt.kernel.notes q ≡ None) → ((q : Pid) → Droppable pt.kernel q (o.view.queue m q))
     → (C → (q : Pid) → p ≡ Some q → q.home ≡ pt.view.acting) → Sane pt → Can C m pt (rule.goes_round b o m p)
-can_go_round C b m o pt None same boxes run drops home h = can_line C m pt (Line.Idle m) refl refl (λ c k o_. o_)
-can_go_round C b m o pt (Some p) same boxes run drops home h =
+can_go_round C b m o pt None same boxes run free drops home h = can_line C m pt (Line.Idle m) refl refl (λ c k o_. o_)
+can_go_round C b m o pt (Some p) same boxes run free drops home h =
     let r = run p refl in
-    let k = can_serve C b m pt p (o.view.queue m p) r.x r.x.status refl r.go r.is r.going (boxes p) (drops p) (λ c. home c p refl) h in
+    let k = can_serve C b m pt p (o.view.queue m p) r.x r.x.status refl r.go r.is (free p refl) r.going (boxes p) (drops p) (λ c. home c p refl) h in
     record {
       ps = k.ps;
       is = ap (λ (s : OneKernel). bind (kernel.alive (s.processes p)) (λ (x : PlainProcess). rule.serves_status b.quantum s p (o.view.queue m p) x x.status)) same
@@ -287,9 +287,9 @@ can_go_round C b m o pt (Some p) same boxes run drops home h =
       owns = k.owns;
     }
 
-pub can_turn : (C : Type 0) (b : Boot) (m : ℕ) (o pt : Point) → o.kernel ≡ pt.kernel → ((q : Pid) → o.view.queue m q ≡ pt.view.queue m q) → ((q : Pid) → Droppable pt.kernel q (o.view.queue m q)) → (C → are_home m (o.view.ring m) ≡ true) → pt.view.acting ≡ m → Sane pt
+pub can_turn : (C : Type 0) (b : Boot) (m : ℕ) (o pt : Point) → o.kernel ≡ pt.kernel → ((q : Pid) → o.view.queue m q ≡ pt.view.queue m q) → ((q : Pid) → rule.first_runnable o.kernel (o.view.queue m) (o.view.ring m) ≡ Some q → pt.kernel.notes q ≡ None) → ((q : Pid) → Droppable pt.kernel q (o.view.queue m q)) → (C → are_home m (o.view.ring m) ≡ true) → pt.view.acting ≡ m → Sane pt
     → Can C m pt (rule.goes_round b o m (rule.first_runnable o.kernel (o.view.queue m) (o.view.ring m)))
-can_turn C b m o pt same boxes drops home acting h =
+can_turn C b m o pt same boxes free drops home acting h =
     can_go_round C b m o pt (rule.first_runnable o.kernel (o.view.queue m) (o.view.ring m)) same boxes
-    (λ q e. runnable_is pt.kernel (o.view.queue m) (o.view.ring m) q (ap (λ (s : OneKernel). rule.first_runnable s (o.view.queue m) (o.view.ring m)) (sym same) ∙ e)) drops
+    (λ q e. runnable_is pt.kernel (o.view.queue m) (o.view.ring m) q (ap (λ (s : OneKernel). rule.first_runnable s (o.view.queue m) (o.view.ring m)) (sym same) ∙ e)) free drops
     (λ c q e. runnable_home o.kernel (o.view.queue m) m (o.view.ring m) q (home c) e ∙ sym acting) h

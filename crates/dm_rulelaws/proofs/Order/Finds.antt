@@ -1,8 +1,8 @@
 -- Receptions in a run, and what is behind them.
-use Rattle.dm_rulelaws.proofs.Names.{◌≡◌, ℕ, suc, ◌+◌, ◌≤◌, ◌==◌, ◌&&◌, Bool, true, false, List, [], ◌∷◌, ◌++◌, refl, ap, ◌∙◌, sym, subst, nat_lt, inl, inr, arith, if◌then◌else◌, Option, None, Some, cases_Bool, false≢true, nat_tests, Pid}
-use Rattle.dm_rulelaws.proofs.Names.{pid_eq, MsgId, id_eq, id_of, PlainMessage, PlainWhat, on_mask, Boot, Label, switchboard, manager, Life, Alive, Ended, OneKernel, bind, replay, in_bag, counts, is_counted, pid_eq-same, id_eq-is}
-use Rattle.dm_rulelaws.proofs.Names.{id_eq-same, after_step, Step, Line, Spelled, behind, spelled, Point, labels, after, moved, without_id, times, untaken, View, after_label, Each, LeadsBy, channel_in, is_for_home, are_for_home, AreStill}
-use Rattle.dm_rulelaws.proofs.Names.{About, NothingElse, begins, marked, homes_of, Sane}
+use Rattle.dm_rulelaws.proofs.Names.{AskNone, ◌≡◌, ℕ, suc, ◌+◌, ◌≤◌, ◌==◌, ◌&&◌, Bool, true, false, List, [], ◌∷◌, ◌++◌, refl, ap, ◌∙◌, sym, subst, nat_lt, inl, inr, arith, if◌then◌else◌, Option, None, Some, cases_Bool, false≢true}
+use Rattle.dm_rulelaws.proofs.Names.{nat_tests, Pid, pid_eq, MsgId, id_eq, id_of, PlainMessage, PlainWhat, on_mask, Boot, Label, switchboard, manager, Life, Alive, Ended, OneKernel, bind, replay, in_bag, counts, is_counted, pid_eq-same}
+use Rattle.dm_rulelaws.proofs.Names.{id_eq-is, id_eq-same, after_step, Step, Line, Spelled, behind, spelled, Point, labels, after, moved, without_id, times, untaken, View, after_label, Each, LeadsBy, channel_in, is_for_home, are_for_home}
+use Rattle.dm_rulelaws.proofs.Names.{AreStill, About, NothingElse, begins, marked, homes_of, Sane}
 use Rattle.dm_onekernel.specs.Step as kernel
 use Rattle.dm_rule.specs.Rule as rule
 use Rattle.dm_rule.specs.View as view
@@ -210,6 +210,7 @@ pub record Reaches (b : Boot) (end pt : Point) (before later : List Label) (p : 
   pub es : List Step
   pub still : AreStill es
   pub ls : List Line
+  pub asks : AskNone ls
   pub leads : LeadsBy b next es ls end
   pub rest : labels ls ≡ later
 
@@ -238,6 +239,7 @@ found_later b end pt mid ls before more later p i replays order is f = record {
   next = f.next;
   on = f.on;
   goes = f.goes;
+  asks = f.asks;
   takes = f.takes;
   es = f.es;
   still = f.still;

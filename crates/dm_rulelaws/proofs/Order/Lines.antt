@@ -199,6 +199,7 @@ thin_label q v (Label.Gone id) = thin_handled q v id
 thin_label q v (Label.Took id) = thin_handled q v id
 thin_label q v (Label.Created id p) = thin_same q v (after_label v (Label.Created id p)) refl (handled_thin v id q.to.home) (λ a. refl) (λ j. refl)
 thin_label q v (Label.NoSpace id f b) = thin_handled q v id
+thin_label q v (Label.Asked id) = thin_handled q v id
 thin_label q v _ = thin_same q v v refl (box_same v q.to.home) (λ a. refl) (λ j. refl)
 
 untold_not : (o : Option Told) → o ≡ None → is_some o ≡ true → false ≡ true

@@ -1,7 +1,7 @@
 -- Where the parts of a group have kernels' own messages, and what these are about.
-use Rattle.dm_rulelaws.proofs.Names.{◌≡◌, ℕ, ◌==◌, ◌&&◌, Bool, true, false, not, List, [], ◌∷◌, ◌++◌, refl, ap, ◌∙◌, ⊤, if◌then◌else◌, Option, None, Some, Pid, pid_of, MsgId, MessageKind, Line, Stage, Addresses, Sender, is_told_back}
-use Rattle.dm_rulelaws.proofs.Names.{to_kernel, forwards_on, accepts, takes_chunk, takes_block, gives_piece, sends_on, label_of, Part, Says, Routes, Again, Owns, Transmits, View, Told, About, Of, Known, Forward, view_after, handled}
-use Rattle.dm_rulelaws.proofs.Names.{receiver_of}
+use Rattle.dm_rulelaws.proofs.Names.{Label, leaves_for, ◌≡◌, ℕ, ◌==◌, ◌&&◌, Bool, true, false, not, List, [], ◌∷◌, ◌++◌, refl, ap, ◌∙◌, ⊤, if◌then◌else◌, Option, None, Some, Pid, pid_of, MsgId, MessageKind, Line, Stage, Addresses, Sender}
+use Rattle.dm_rulelaws.proofs.Names.{is_told_back, to_kernel, forwards_on, accepts, takes_chunk, takes_block, gives_piece, sends_on, label_of, Part, Says, Routes, Again, Owns, Transmits, View, Told, About, Of, Known, Forward, view_after}
+use Rattle.dm_rulelaws.proofs.Names.{handled, receiver_of}
 use Rattle.dm_rule.specs.View as view
 use Rattle.dm_rulelaws.proofs.Own.Told.{own_sort, is_process, is_place}
 
@@ -33,6 +33,7 @@ Later a (Transmits c d l ∷ ps) = ⊥
 pub data OwnsFit (v : View) (ps : List Part) : Type 0 where
   NoOwns : (none : HaveNoOwn ps) → OwnsFit v ps
   FirstOwns : (fit : Later v.topic ps) → OwnsFit v ps
+  AnyOwns : (l : Line) → (qs : List Part) → (is : ps ≡ Says l ∷ qs) → (fit : (a : About) → Later a qs) → OwnsFit v ps
   ThenOwns : (l : Line) → (qs : List Part) → (is : ps ≡ Says l ∷ qs) → (none : label_of l ≡ None) → (fit : Later (view_after v l).topic qs) → OwnsFit v ps
 
 -- a message goes on: the update is about the place of its receiver
@@ -74,9 +75,17 @@ pub block_own : (v : View) (i : MsgId) (q : Pid) (last : Bool) (t : Told) (p : P
 block_own v i q true t p told about = ThenOwns (Line.Migration Stage.MemoryTaken q) (to_kernel MessageKind.AllTaken i.from.home ∷ []) refl refl (refl, tt)
 block_own v i q false t p told about = piece_own v i MessageKind.PullBlock t p told about (λ a e. e)
 
+-- whatever was said before it
+leaves_own : (a : About) (p : Pid) (to : ℕ) → Later a (leaves_for p to)
+leaves_own a p to = (refl, tt)
+
 pub moves_own : (v : View) (i : MsgId) (p : Pid) (to : ℕ) (c : Bool) → OwnsFit v (if c then Says (Line.Here i) ∷ [] else Says (Line.Migration Stage.Frozen p) ∷ Says (Line.Migration Stage.Asked p) ∷ to_kernel MessageKind.Ask to ∷ [])
 moves_own v i p to true = NoOwns (tt, tt)
-moves_own v i p to false = ThenOwns (Line.Migration Stage.Frozen p) (Says (Line.Migration Stage.Asked p) ∷ to_kernel MessageKind.Ask to ∷ []) refl refl (refl, tt)
+moves_own v i p to false = FirstOwns (leaves_own v.topic p to)
+
+-- a process is asked to move, and sets off
+pub sets_own : (v : View) (id : MsgId) (p : Pid) (to : ℕ) → OwnsFit v (Says (Line.Label (Label.Asked id)) ∷ leaves_for p to)
+sets_own v id p to = AnyOwns (Line.Label (Label.Asked id)) (leaves_for p to) refl (λ a. leaves_own a p to)
 
 pub sends_own : (a : About) (to : ℕ) (ids : List MsgId) (ps : List Part) → Later a ps → Later a (sends_on to ids ++ ps)
 sends_own a to [] ps h = h

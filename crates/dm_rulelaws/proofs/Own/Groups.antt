@@ -1,12 +1,12 @@
 -- Each group keeps what was told of kernels' own messages.
-use Rattle.dm_rulelaws.proofs.Names.{◌≡◌, ℕ, ◌==◌, Bool, true, false, List, [], ◌∷◌, refl, ap, ◌∙◌, sym, subst, inl, inr, ⊤, if◌then◌else◌, length, Option, None, Some, cases_Bool, false≢true, Pid, MsgId, MessageKind, id_eq, plain_kind}
-use Rattle.dm_rulelaws.proofs.Names.{Boot, Label, OneKernel, bind, id_eq-is, bind-is, Step, Line, Load, Stage, Receiver, Point, label_of, kernel_after, after_line, after, moved, first_point, Part, Says, Routes, Again, Owns, Transmits}
-use Rattle.dm_rulelaws.proofs.Names.{Spelled, lines_of, puts, goes_out, packet_line, behind, spelled, group_of, View, About, Told, view_after, is_kernels, own_id, is_put, hushed, not_kernels, put_told_off, Sane, sane_line, part_sane}
-use Rattle.dm_rulelaws.proofs.Names.{Sayable, AllSayable, outcome_sayable}
+use Rattle.dm_rulelaws.proofs.Names.{seen_none, sets, ◌≡◌, ℕ, ◌==◌, Bool, true, false, List, [], ◌∷◌, refl, ap, ◌∙◌, sym, subst, inl, inr, ⊤, if◌then◌else◌, length, Option, None, Some, cases_Bool, false≢true, Pid, MsgId, MessageKind, id_eq}
+use Rattle.dm_rulelaws.proofs.Names.{plain_kind, Boot, Label, OneKernel, bind, id_eq-is, bind-is, Step, Line, Load, Stage, Receiver, Point, label_of, kernel_after, after_line, after, moved, first_point, Part, Says, Routes, Again, Owns}
+use Rattle.dm_rulelaws.proofs.Names.{Transmits, Spelled, lines_of, puts, goes_out, packet_line, behind, spelled, group_of, View, About, Told, view_after, is_kernels, own_id, is_put, hushed, not_kernels, put_told_off, Sane, sane_line}
+use Rattle.dm_rulelaws.proofs.Names.{part_sane, Sayable, AllSayable, outcome_sayable}
 use Rattle.dm_rule.specs.View as view
 use Rattle.dm_rulelaws.proofs.Runs.{Run}
 use Rattle.dm_rulelaws.proofs.Own.Told.{OwnTold, own_sort}
-use Rattle.dm_rulelaws.proofs.Own.Fits.{HasNoOwn, HaveNoOwn, topic_stage, Later, OwnsFit, NoOwns, FirstOwns, ThenOwns}
+use Rattle.dm_rulelaws.proofs.Own.Fits.{HasNoOwn, HaveNoOwn, topic_stage, Later, OwnsFit, NoOwns, FirstOwns, ThenOwns, AnyOwns}
 use Rattle.dm_rulelaws.proofs.Own.Senders.{senders_step}
 use Rattle.dm_rulelaws.proofs.Goes.Parts.{put_lines}
 use Rattle.dm_rulelaws.proofs.Goes.Always.{group_on}
@@ -120,7 +120,7 @@ line_topic pt next l ls none is leads =
     let f : l ∷ [] ≡ ls = cc in
     let e : Some (moved pt l pt.kernel) ≡ Some next = sym (ap (λ (o : Option Label). bind (bind (kernel_after pt.kernel o) (λ (s : OneKernel). Some (moved pt l s))) (λ (q : Point). after q [])) none) ∙ ap (after pt) f ∙ leads in
     let g : moved pt l pt.kernel ≡ next = cc in
-    ap (λ (q : Point). q.view) (sym g)
+    ap (λ (q : Point). q.view) (sym g) ∙ seen_none pt.kernel pt.view l none
 
 puts_topic : (pt next : Point) (b : ℕ) (i : MsgId) (k : MessageKind) (q : Pid) (ls : List Line) → Some (puts pt.view b i k q) ≡ Some ls → after pt ls ≡ Some next → next.view.topic ≡ pt.view.topic
 puts_topic pt next b i k q ls is leads =
@@ -131,7 +131,7 @@ puts_topic pt next b i k q ls is leads =
     ap (λ (q : Point). q.view.topic) (sym g) ∙ p.topic
 
 stage_topic : (v : View) (p : Pid) (s : Stage) → (view_after v (Line.Migration s p)).topic ≡ topic_stage v.topic p s
-stage_topic v p Stage.Frozen = refl
+stage_topic v p Stage.Frozen = (sets v p v.topic).topic
 stage_topic v p _ = refl
 
 later_own : (a : About) (ps : List Part) (pt : Point) (w : Spelled) → AllSayable ps → Later a ps → pt.view.topic ≡ a → spelled pt ps ≡ Some w → Sane pt → OwnTold pt → OwnTold w.point
@@ -158,9 +158,16 @@ then_own l qs pt w none ok fit is sane h =
     subst OwnTold n.point (later_own (view_after pt.view l).topic qs n.next n.rest ok.1 fit (ap (λ (v : View). v.topic) (line_topic pt n.next l n.ls none n.lines n.leads)) n.more
     (part_sane pt n.next (Says l) n.ls ok.0 n.lines n.leads sane) (own_part pt n.next (Says l) n.ls ok.0 tt n.lines n.leads sane h))
 
+-- behind a line of any kind
+any_own : (l : Line) (qs : List Part) (pt : Point) (w : Spelled) → AllSayable (Says l ∷ qs) → ((a : About) → Later a qs) → spelled pt (Says l ∷ qs) ≡ Some w → Sane pt → OwnTold pt → OwnTold w.point
+any_own l qs pt w ok fit is sane h =
+    let n = next_of pt (Says l) qs w is in
+    subst OwnTold n.point (later_own n.next.view.topic qs n.next n.rest ok.1 (fit n.next.view.topic) refl n.more (part_sane pt n.next (Says l) n.ls ok.0 n.lines n.leads sane) (own_part pt n.next (Says l) n.ls ok.0 tt n.lines n.leads sane h))
+
 fits_own : (ps : List Part) (pt : Point) (w : Spelled) → AllSayable ps → OwnsFit pt.view ps → spelled pt ps ≡ Some w → Sane pt → OwnTold pt → OwnTold w.point
 fits_own ps pt w ok (NoOwns none) is sane h = none_own ps pt w ok none is sane h
 fits_own ps pt w ok (FirstOwns fit) is sane h = later_own pt.view.topic ps pt w ok fit refl is sane h
+fits_own ps pt w ok (AnyOwns l qs same fit) is sane h = any_own l qs pt w (subst AllSayable same ok) fit (ap (spelled pt) (sym same) ∙ is) sane h
 fits_own ps pt w ok (ThenOwns l qs same none fit) is sane h = then_own l qs pt w none (subst AllSayable same ok) fit (ap (spelled pt) (sym same) ∙ is) sane h
 
 pub own_told_start : (b : Boot) → OwnTold (first_point b)

@@ -1,7 +1,7 @@
 -- No kernel sends what is told back when it is forwarded.
-use Rattle.dm_rulelaws.proofs.Names.{◌≡◌, ◌⊎◌, ℕ, ◌+◌, ◌*◌, ◌==◌, ◌&&◌, Bool, true, false, List, [], ◌∷◌, ◌++◌, refl, ap, ◌∙◌, sym, subst, nat_lt, is_some, arith, length, inl, inr, ⊤, if◌then◌else◌, take, drop, Option, None, Some}
-use Rattle.dm_rulelaws.proofs.Names.{false≢true, nat_tests, Pid, PlainLink, MsgId, plain_kind, PlainMessage, PlainWhat, Label, switchboard, manager, PlainProcess, Alive, Pending, Switchboard, Manager, OneKernel, with_sent, answer_to}
-use Rattle.dm_rulelaws.proofs.Names.{without_message, Made, came, stayed, lands-is, Sound, is_told_back, by_step}
+use Rattle.dm_rulelaws.proofs.Names.{PendingKind, Outcome, code_of_outcome, Life, Ended, answer_id, without_note, ◌≡◌, ◌⊎◌, ℕ, ◌+◌, ◌*◌, ◌==◌, ◌&&◌, Bool, true, false, List, [], ◌∷◌, ◌++◌, refl, ap, ◌∙◌, sym, subst, nat_lt, is_some, arith}
+use Rattle.dm_rulelaws.proofs.Names.{length, inl, inr, ⊤, if◌then◌else◌, take, drop, Option, None, Some, false≢true, nat_tests, Pid, PlainLink, MsgId, plain_kind, PlainMessage, PlainWhat, Label, switchboard, manager, PlainProcess, Alive}
+use Rattle.dm_rulelaws.proofs.Names.{Pending, Switchboard, Manager, OneKernel, with_sent, answer_to, without_message, Made, came, stayed, lands-is, Sound, is_told_back, by_step}
 use Rattle.dm_onekernel.specs.Pieces as pieces
 use Rattle.dm_onekernel.specs.Switchboard as board
 use Rattle.dm_onekernel.specs.Manager as manage
@@ -31,6 +31,9 @@ answer_brings : (s t u : OneKernel) (id : MsgId) (m : PlainMessage) (w : PlainWh
 answer_brings s t u id m w is same off = in_brings s t u (answer_to m w) is (λ i x there. stayed s id i x (sym (same i) ∙ there)) (λ e. absurd (false≢true (sym off ∙ e)))
 
 -- a process sends
+made_num : (s : OneKernel) (p : Pid) (l : Life) → s.processes p ≡ Some l → Made s → (p.num == 0) ≡ false
+made_num s p l is h = let k = h.least p (ap is_some is) in grind (arith, nat_tests)
+
 process_num : (s : OneKernel) (p : Pid) (x : PlainProcess) → s.processes p ≡ Some (Alive x) → Made s → (p.num == 0) ≡ false
 process_num s p x is h = let k = h.least p (ap is_some is) in grind (arith, nat_tests)
 
@@ -68,32 +71,44 @@ manager_controls_child : (g : Manager) (child : Pid) (o : Option PlainWhat) (lin
 manager_controls_child g child None links = manager_bad g links
 manager_controls_child g child (Some w) links = refl
 
-manager_controls : (g : Manager) (child : Option Pid) (body : List ℕ) (links : List PlainLink) → SentBy manager (manage.controls g child body links).message
-manager_controls g (Some child) (a ∷ []) links = manager_controls_child g child (manage.control_of a) links
-manager_controls g None (a ∷ []) links = manager_bad g links
-manager_controls g _ _ links = manager_bad g links
+manager_moves : (g : Manager) (machines : ℕ) (child : Pid) (machine : ℕ) (links : List PlainLink) → SentBy manager (manage.moves_child g machines child machine links).message
+manager_moves g machines child machine links =
+    manager_if (nat_lt machine machines) (manage.asks g PendingKind.Move child (PlainWhat.Move machine) (manage.first_link links)) (manage.bad_request g links) refl (manager_bad g links)
+
+manager_controls : (g : Manager) (machines : ℕ) (child : Option Pid) (body : List ℕ) (links : List PlainLink) → SentBy manager (manage.controls g machines child body links).message
+manager_controls g machines (Some child) (a ∷ []) links = manager_controls_child g child (manage.control_of a) links
+manager_controls g machines (Some child) (a ∷ b ∷ []) links = manager_if (a == 5) (manage.moves_child g machines child b links) (manage.bad_request g links) (manager_moves g machines child b links) (manager_bad g links)
+manager_controls g machines None (a ∷ []) links = manager_bad g links
+manager_controls g machines None (a ∷ b ∷ []) links = manager_bad g links
+manager_controls g machines _ _ links = manager_bad g links
+
+manager_over : (g : Manager) (o : Option PlainLink) (code : ℕ) (links : List PlainLink) → SentBy manager (manage.answers_over g o code links).message
+manager_over g None code links = tt
+manager_over g (Some l) code links = refl
+
+manager_replies : (g : Manager) (o : Option PlainLink) (code : ℕ) (links : List PlainLink) (k : manage.ManagerTook) → Some (manage.answers_over g o code links) ≡ Some k → SentBy manager k.message
+manager_replies g o code links k e = let f : manage.answers_over g o code links ≡ k = cc in subst (λ (v : manage.ManagerTook). SentBy manager v.message) f (manager_over g o code links)
 
 manager_created : (g : Manager) (n : ℕ) (child : Pid) (o : Option Pending) (k : manage.ManagerTook) → manage.takes_created g n child o ≡ Some k → SentBy manager k.message
 manager_created g n child None k e = cc
-manager_created g n child (Some r) k e =
-    let h = record g { children = g.children ++ child ∷ []; pending = manage.without_pending n g.pending } in
-    let f : manage.answers_byte h r.answer 0 (manage.control_link (length g.children + 1) ∷ []) ≡ k = cc in
-    subst (λ (v : manage.ManagerTook). SentBy manager v.message) f refl
+manager_created g n child (Some r) k e = manager_replies (record g { children = g.children ++ child ∷ []; pending = manage.without_pending n g.pending }) r.answer 0 (manage.control_link (length g.children + 1) ∷ []) k e
 
 manager_no_room : (g : Manager) (n : ℕ) (o : Option Pending) (k : manage.ManagerTook) → manage.takes_no_room g n o ≡ Some k → SentBy manager k.message
 manager_no_room g n None k e = cc
-manager_no_room g n (Some r) k e =
-    let h = record g { pending = manage.without_pending n g.pending } in
-    let f : manage.answers_byte h r.answer 1 [] ≡ k = cc in
-    subst (λ (v : manage.ManagerTook). SentBy manager v.message) f refl
+manager_no_room g n (Some r) k e = manager_replies (record g { pending = manage.without_pending n g.pending }) r.answer 1 [] k e
+
+manager_moved : (g : Manager) (n : ℕ) (outcome : Outcome) (o : Option Pending) (k : manage.ManagerTook) → manage.takes_moved g n outcome o ≡ Some k → SentBy manager k.message
+manager_moved g n outcome None k e = cc
+manager_moved g n outcome (Some r) k e = manager_replies (record g { pending = manage.without_pending n g.pending }) r.answer (code_of_outcome outcome) [] k e
 
 pub manager_sender : (g : Manager) (machines images : ℕ) (m : PlainMessage) (w : PlainWhat) (k : manage.ManagerTook) → manage.manager_takes g machines images m w ≡ Some k → SentBy manager k.message
 manager_sender g machines images m (PlainWhat.User code channel body links) k e =
     let f : manage.takes_user g machines images code body links ≡ k = cc in
     subst (λ (v : manage.ManagerTook). SentBy manager v.message) f
-    (manager_if (code == 0) (manage.requests_child g machines images body links) (manage.controls g (manage.child_numbered g.children code) body links) (manager_requests g machines images body links) (manager_controls g (manage.child_numbered g.children code) body links))
+    (manager_if (code == 0) (manage.requests_child g machines images body links) (manage.controls g machines (manage.child_numbered g.children code) body links) (manager_requests g machines images body links) (manager_controls g machines (manage.child_numbered g.children code) body links))
 manager_sender g machines images m (PlainWhat.Created child) k e = manager_created g m.id.n child (manage.pending_numbered m.id.n g.pending) k e
 manager_sender g machines images m PlainWhat.NoRoom k e = manager_no_room g m.id.n (manage.pending_numbered m.id.n g.pending) k e
+manager_sender g machines images m (PlainWhat.Moved outcome) k e = manager_moved g m.id.n outcome (manage.pending_numbered m.id.n g.pending) k e
 manager_sender g machines images m _ k e = cc
 
 server_brings : (s t u : OneKernel) (id : MsgId) (q : Pid) (o : Option PlainMessage) → SentBy q o → (q.num == 0) ≡ false → with_sent u o ≡ t → ((i : MsgId) → u.bag i ≡ (without_message s id).bag i) → Brings s t
@@ -117,7 +132,11 @@ brings r e s t l is_ h =
       receives = λ p id y is w c i z there. inl (stayed s id i z there);
       refuses = λ p id c d y is w f i z there. inl there;
       dropped = λ id m y is w f i z there. inl (stayed s id i z there);
-      gone = λ id m y is w f. answered (without_message s id) id m PlainWhat.Gone (λ i. refl) refl;
+      gone = λ id m y is w v f. in_brings s (with_sent (without_message s id) (Some (answer_to m v))) (without_message s id) (answer_to m v) refl (λ i z there. stayed s id i z there) (λ k. made_num s m.to (Ended y) w.ended h.made);
+      asked = λ id m x machine is w f i z there. inl (stayed s id i z there);
+      answered = λ id o p n is f.
+          (let (x, alive) = h.notes.lives p n f.notes in
+          in_brings s (service.move_ended s id p n o) (without_note s p id) (record { id = answer_id id; to = n.asker; sender = p; what = PlainWhat.Moved o }) refl (λ i z there. there) (λ k. process_num s p x alive h.made));
       stops = λ id m x b is w f i z there. inl (stayed s id i z there);
       kills = λ id m x is w f i z there. inl (stayed s id i z there);
       reads = λ id m x base len is w f. answered (service.changed s id m x) id m (PlainWhat.Block (take len (drop base x.memory))) (λ i. refl) refl;

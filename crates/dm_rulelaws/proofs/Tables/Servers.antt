@@ -1,6 +1,6 @@
 -- What the servers send encloses few links, and a process that is made has as many link slots as the format gives.
-use Rattle.dm_rulelaws.proofs.Names.{◌≡◌, ℕ, ◌+◌, ◌*◌, ◌-◌, ◌≤◌, ◌==◌, ◌&&◌, Bool, true, false, List, [], ◌∷◌, ◌++◌, length, map, replicate, subst, nat_lt, arith, ⊤, if◌then◌else◌, Option, None, Some, length-append, length-map}
-use Rattle.dm_rulelaws.proofs.Names.{length-replicate, Pid, PlainLink, PlainMessage, PlainWhat, BootImage, Format, slots_of, Pending, Manager, OneKernel, with_sent, begun, slots_with}
+use Rattle.dm_rulelaws.proofs.Names.{PendingKind, Outcome, code_of_outcome, ◌≡◌, ℕ, ◌+◌, ◌*◌, ◌-◌, ◌≤◌, ◌==◌, ◌&&◌, Bool, true, false, List, [], ◌∷◌, ◌++◌, length, map, replicate, subst, nat_lt, arith, ⊤, if◌then◌else◌, Option, None, Some}
+use Rattle.dm_rulelaws.proofs.Names.{length-append, length-map, length-replicate, Pid, PlainLink, PlainMessage, PlainWhat, BootImage, Format, slots_of, Pending, Manager, OneKernel, with_sent, begun, slots_with}
 use Rattle.dm_onekernel.specs.Switchboard as board
 use Rattle.dm_onekernel.specs.Manager as manage
 use Rattle.dm_rulelaws.proofs.Tables.{FewLinks, Tables, put_tables}
@@ -52,29 +52,41 @@ control_by g child false true d links = tt
 control_by g child false false true links = tt
 control_by g child false false false links = bad_few g links
 
-controls_few : (g : Manager) (o : Option Pid) (body : List ℕ) (links : List PlainLink) → SendsFew (manage.controls g o body links).message
-controls_few g (Some child) (a ∷ []) links = control_by g child (a == 2) (a == 3) (a == 4) links
-controls_few g None (a ∷ []) links = bad_few g links
-controls_few g _ _ links = bad_few g links
+moves_few : (g : Manager) (machines : ℕ) (child : Pid) (machine : ℕ) (links : List PlainLink) → SendsFew (manage.moves_child g machines child machine links).message
+moves_few g machines child machine links = few_if (nat_lt machine machines) (manage.asks g PendingKind.Move child (PlainWhat.Move machine) (manage.first_link links)) (manage.bad_request g links) tt (bad_few g links)
+
+controls_few : (g : Manager) (machines : ℕ) (o : Option Pid) (body : List ℕ) (links : List PlainLink) → SendsFew (manage.controls g machines o body links).message
+controls_few g machines (Some child) (a ∷ []) links = control_by g child (a == 2) (a == 3) (a == 4) links
+controls_few g machines (Some child) (a ∷ b ∷ []) links = few_if (a == 5) (manage.moves_child g machines child b links) (manage.bad_request g links) (moves_few g machines child b links) (bad_few g links)
+controls_few g machines None (a ∷ []) links = bad_few g links
+controls_few g machines None (a ∷ b ∷ []) links = bad_few g links
+controls_few g machines _ _ links = bad_few g links
+
+-- an answer goes on
+over_few : (g : Manager) (o : Option PlainLink) (code : ℕ) (links : List PlainLink) → length links ≤ 4 → SendsFew (manage.answers_over g o code links).message
+over_few g None code links few = tt
+over_few g (Some l) code links few = few
+
+replies_few : (g : Manager) (o : Option PlainLink) (code : ℕ) (links : List PlainLink) (k : manage.ManagerTook) → Some (manage.answers_over g o code links) ≡ Some k → length links ≤ 4 → SendsFew k.message
+replies_few g o code links k e few = let f : manage.answers_over g o code links ≡ k = cc in subst (λ (x : manage.ManagerTook). SendsFew x.message) f (over_few g o code links few)
 
 user_few : (g : Manager) (machines images code : ℕ) (body : List ℕ) (links : List PlainLink) → length links ≤ 4 → SendsFew (manage.takes_user g machines images code body links).message
 user_few g machines images code body links few =
-    few_if (code == 0) (manage.requests_child g machines images body links) (manage.controls g (manage.child_numbered g.children code) body links) (requests_few g machines images body links few)
-    (controls_few g (manage.child_numbered g.children code) body links)
+    few_if (code == 0) (manage.requests_child g machines images body links) (manage.controls g machines (manage.child_numbered g.children code) body links) (requests_few g machines images body links few)
+    (controls_few g machines (manage.child_numbered g.children code) body links)
 
 created_few : (g : Manager) (n : ℕ) (child : Pid) (o : Option Pending) (k : manage.ManagerTook) → manage.takes_created g n child o ≡ Some k → SendsFew k.message
 created_few g n child None k e = cc
 created_few g n child (Some r) k e =
-    let t = manage.answers_byte (record g { children = g.children ++ child ∷ []; pending = manage.without_pending n g.pending }) r.answer 0 (manage.control_link (length g.children + 1) ∷ []) in
-    let f : t ≡ k = cc in
-    subst (λ (x : manage.ManagerTook). SendsFew x.message) f (let one : 1 ≤ 4 = omega arith in one)
+    replies_few (record g { children = g.children ++ child ∷ []; pending = manage.without_pending n g.pending }) r.answer 0 (manage.control_link (length g.children + 1) ∷ []) k e (let one : 1 ≤ 4 = omega arith in one)
 
 no_room_few : (g : Manager) (n : ℕ) (o : Option Pending) (k : manage.ManagerTook) → manage.takes_no_room g n o ≡ Some k → SendsFew k.message
 no_room_few g n None k e = cc
-no_room_few g n (Some r) k e =
-    let t = manage.answers_byte (record g { pending = manage.without_pending n g.pending }) r.answer 1 [] in
-    let f : t ≡ k = cc in
-    subst (λ (x : manage.ManagerTook). SendsFew x.message) f (let none : 0 ≤ 4 = omega arith in none)
+no_room_few g n (Some r) k e = replies_few (record g { pending = manage.without_pending n g.pending }) r.answer 1 [] k e (let none : 0 ≤ 4 = omega arith in none)
+
+moved_few : (g : Manager) (n : ℕ) (outcome : Outcome) (o : Option Pending) (k : manage.ManagerTook) → manage.takes_moved g n outcome o ≡ Some k → SendsFew k.message
+moved_few g n outcome None k e = cc
+moved_few g n outcome (Some r) k e = replies_few (record g { pending = manage.without_pending n g.pending }) r.answer (code_of_outcome outcome) [] k e (let none : 0 ≤ 4 = omega arith in none)
 
 pub took_few : (g : Manager) (machines images : ℕ) (m : PlainMessage) (w : PlainWhat) (k : manage.ManagerTook) → manage.manager_takes g machines images m w ≡ Some k → FewLinks w → SendsFew k.message
 took_few g machines images m (PlainWhat.User code channel body links) k e few =
@@ -82,6 +94,7 @@ took_few g machines images m (PlainWhat.User code channel body links) k e few =
     subst (λ (x : manage.ManagerTook). SendsFew x.message) f (user_few g machines images code body links few)
 took_few g machines images m (PlainWhat.Created child) k e few = created_few g m.id.n child (manage.pending_numbered m.id.n g.pending) k e
 took_few g machines images m PlainWhat.NoRoom k e few = no_room_few g m.id.n (manage.pending_numbered m.id.n g.pending) k e
+took_few g machines images m (PlainWhat.Moved outcome) k e few = moved_few g m.id.n outcome (manage.pending_numbered m.id.n g.pending) k e
 took_few g machines images m _ k e few = cc
 
 -- a process that is made

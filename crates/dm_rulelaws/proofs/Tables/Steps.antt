@@ -1,6 +1,6 @@
 -- Each label of a process keeps the number of link slots, and so does what its kernel is asked.
-use Rattle.dm_rulelaws.proofs.Names.{◌≡◌, ℕ, ◌+◌, ◌-◌, ◌==◌, ◌&&◌, Bool, true, false, length, take, drop, refl, ap, ◌∙◌, subst, nat_le, ⊤, if◌then◌else◌, None, Some, Pid, MsgId, Label, PlainMessage, PlainWhat, Direction, Row, instruction}
-use Rattle.dm_rulelaws.proofs.Names.{Reply, Why, bind, PlainProcess, PlainStatus, Moving, Alive, OneKernel, answer_to, without_message, bind-is, alive-is, begun, by_step}
+use Rattle.dm_rulelaws.proofs.Names.{at_hand-is, without_note, answer_id, Outcome, ◌≡◌, ℕ, ◌+◌, ◌-◌, ◌==◌, ◌&&◌, Bool, true, false, length, take, drop, refl, ap, ◌∙◌, subst, nat_le, ⊤, if◌then◌else◌, None, Some, Pid, MsgId, Label}
+use Rattle.dm_rulelaws.proofs.Names.{PlainMessage, PlainWhat, Direction, Row, instruction, Reply, Why, bind, PlainProcess, PlainStatus, Moving, Alive, OneKernel, answer_to, without_message, bind-is, alive-is, begun, by_step}
 use Rattle.dm_onekernel.specs.Calls as calls
 use Rattle.dm_onekernel.specs.Pieces as pieces
 use Rattle.dm_onekernel.specs.Receiving as receiving
@@ -49,9 +49,9 @@ record Completing (s : OneKernel) (p : Pid) (d : receiving.Completed) : Type 0 w
 
 completing_is : (s : OneKernel) (p : Pid) (id : MsgId) (d : receiving.Completed) → kernel.completing s p id ≡ Some d → Completing s p d
 completing_is s p id d e =
-    let (x, is, rest) = bind-is (kernel.alive (s.processes p)) (λ (v : PlainProcess). bind (s.bag id) (receiving.completes_with p v)) d e in
+    let (x, hand, rest) = bind-is (kernel.at_hand s p) (λ (v : PlainProcess). bind (s.bag id) (receiving.completes_with p v)) d e in
     let (m, there, last) = bind-is (s.bag id) (receiving.completes_with p x) d rest in
-    record { x = x; alive = alive-is (s.processes p) x is; same = with_tables p x m x.stopped d last }
+    record { x = x; alive = (at_hand-is s p x hand).1; same = with_tables p x m x.stopped d last }
 
 -- landings
 abbrev LandTables : PlainProcess → pieces.Landed → Type 0
@@ -87,6 +87,12 @@ lands_by : (p : Pid) (x : PlainProcess) (m : PlainMessage) (st : PlainStatus) (c
 lands_by p x m (Moving dir owner base own left pending) c e = lands_if p x (m.id.n == pending) dir owner base own left m.what c e
 lands_by p x m _ c e = cc
 
+gone_few : (w v : PlainWhat) → service.gone_what w ≡ Some v → FewLinks v
+gone_few (PlainWhat.Read base len) v e = let f : PlainWhat.Gone ≡ v = cc in subst FewLinks f tt
+gone_few (PlainWhat.Write base bytes) v e = let f : PlainWhat.Gone ≡ v = cc in subst FewLinks f tt
+gone_few (PlainWhat.Move machine) v e = let f : PlainWhat.Moved Outcome.Ended ≡ v = cc in subst FewLinks f tt
+gone_few _ v e = cc
+
 -- each step
 pub tables_step : (s t : OneKernel) (e : Label) → kernel.step s e ≡ Some t → Tables s → Tables t
 tables_step s t e = by_step (λ u. Tables s → Tables u) s t e (record {
@@ -99,7 +105,9 @@ tables_step s t e = by_step (λ u. Tables s → Tables u) s t e (record {
   receives = λ p id y is w c h. (let v = completing_is s p id (receiving.Receives y) c in goes_tables (without_message s id) p v.x y v.alive v.same (out_tables s id h));
   refuses = λ p id c d y is w f h. (let v = completing_is s p id (receiving.Refuses d y) f in goes_tables s p v.x y v.alive v.same h);
   dropped = λ id m y is w f h. out_tables s id h;
-  gone = λ id m y is w f h. put_tables (without_message s id) (answer_to m PlainWhat.Gone) tt (out_tables s id h);
+  gone = λ id m y is w v f h. put_tables (without_message s id) (answer_to m v) (gone_few m.what v f) (out_tables s id h);
+  asked = λ id m x machine is w f h. (let out = out_tables s id h in record { slots = out.slots; messages = out.messages });
+  answered = λ id o p n is f h. put_tables (without_note s p id) (record { id = answer_id id; to = n.asker; sender = p; what = PlainWhat.Moved o }) tt (record { slots = h.slots; messages = h.messages });
   stops = λ id m x b is w f h. changed_tables s id m x (record x { stopped = b }) w.alive refl h;
   kills = λ id m x is w f h. end_tables (without_message s id) m.to Why.Killed (out_tables s id h);
   reads = λ id m x base len is w f h. put_tables (service.changed s id m x) (answer_to m (PlainWhat.Block (take len (drop base x.memory)))) tt (changed_tables s id m x x w.alive refl h);

@@ -9,8 +9,10 @@ returns-clause-plain c =
 
 pub returns-clause-lawful : goal.returns-clause-lawful
 returns-clause-lawful c l k =
-    manager_after c.args.here c.requires.here c.take_what.result c.args.self.now c.take_what.new.self c.args.message.now (heard c.args.self.now c.args.message.now.id.n c.args.message.now.what c.requires.row) c.take_what.ensures.exact c.take_what.ensures.err l k
+    manager_after c.args.here c.requires.here c.take_what.result c.args.self.now c.take_what.new.self c.args.message.now
+    (heard c.args.self.now c.args.message.now.id.n c.args.message.now.what c.requires.row) c.take_what.ensures.exact c.take_what.ensures.err l k
 
 pub returns-clause-lawful_message : goal.returns-clause-lawful_message
 returns-clause-lawful_message c l k =
-    message_after c.args.here c.requires.here c.take_what.result c.args.self.now c.take_what.new.self c.args.message.now (heard c.args.self.now c.args.message.now.id.n c.args.message.now.what c.requires.row) c.take_what.ensures.exact l k
+    message_after c.args.here c.requires.here c.take_what.result c.args.self.now c.take_what.new.self c.args.message.now
+    (heard c.args.self.now c.args.message.now.id.n c.args.message.now.what c.requires.row) c.take_what.ensures.exact l k
