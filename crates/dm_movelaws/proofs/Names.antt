@@ -33,7 +33,7 @@ pub use Rattle.dm_rule.proofs.Homes.Servers.{still_pending}
 pub use Rattle.dm_rule.proofs.Letters.{from_kernel, gone_in}
 pub use Rattle.dm_rule.proofs.Lines.{at_machine_off, at_record_off, past_place, without_counts}
 pub use Rattle.dm_rule.proofs.Moves.Lists.{emptied}
-pub use Rattle.dm_rule.proofs.Moves.Rows.{accepted_off, frozen_off, home_again, home_off, lacks_off, left_off, memory_off, proto_off, restarted_off, state_off}
+pub use Rattle.dm_rule.proofs.Moves.Rows.{accepted_off, asked_off, frozen_off, home_again, home_off, lacks_off, left_off, memory_off, proto_off, restarted_off, state_off}
 pub use Rattle.dm_rule.proofs.Moves.Sent.{least_of as either, fits_packet, fits_put, line_next}
 pub use Rattle.dm_rule.proofs.Moves.States.{kernels_by, packet_off}
 pub use Rattle.dm_rule.proofs.Names.{About, Addresses, AddressesOn, Again, Answer, AskedBy, Child, Enclosed, Ended, Forward, Frozen, Gets, Held, Here, Holder, Inbox, Incoming, IsIn, IsOn, IsOthers, IsQuiet, IsStep, IsToken, Known, Leads}
@@ -48,15 +48,15 @@ pub use Rattle.dm_rule.proofs.Names.{kind_comes, kind_leaves, knowing, known_at,
 pub use Rattle.dm_rule.proofs.Names.{manager_answers, manager_gets, manager_sends, manager_takes_lem, manager_tells, marked, migrates, moved, name_link, names, not_server, outcome, own_given, own_gives, own_id, packet_line, pending_of}
 pub use Rattle.dm_rule.proofs.Names.{pid_eq-is, pid_eq-same, pieces_of, place_of_child, place_told, plain_kind, process_told, puts, receiver_in, receiver_of, receives_links, receives_what, released, right_true, seen, sender_in, sender_of}
 pub use Rattle.dm_rule.proofs.Names.{sends_on, sends_what, sent_at, sent_off, served_told, server_told, serves_what, slice_get_cases, slice_get_within, slot_after, slot_of, sort_of, spelled, standing, stayed, taken_id, takes_block}
-pub use Rattle.dm_rule.proofs.Names.{takes_chunk, target_of, times, to_kernel, to_of, token_in, told_back_gets, told_between, topic_by, trails_after, unmoved, untaken, updated, updated_to, updates, view_after, why_ended-is, with_pair}
-pub use Rattle.dm_rule.proofs.Names.{with_ring, without_front, without_id, ◌||◌}
+pub use Rattle.dm_rule.proofs.Names.{takes_chunk, target_of, tells_asker, times, to_kernel, to_of, token_in, told_back_gets, told_between, topic_by, trails_after, unmoved, untaken, updated, updated_to, updates, view_after, why_ended-is}
+pub use Rattle.dm_rule.proofs.Names.{with_pair, with_ring, without_front, without_id, ◌||◌}
 pub use Rattle.dm_rule.proofs.Once.{one_of-same}
 pub use Rattle.dm_rule.proofs.Pairs.Lines.{AllFit, line_view, onward, pair_same, taken_pair, touches}
 pub use Rattle.dm_rule.proofs.Pairs.Migrating.{migrates_fit}
 pub use Rattle.dm_rule.proofs.Pairs.Stand.{set_is, set_other}
 pub use Rattle.dm_rule.proofs.Pairs.Turns.{turns_fit}
 pub use Rattle.dm_rule.proofs.Phases.Always.{phases_always}
-pub use Rattle.dm_rule.proofs.Phases.Calm.{Calm, Plain, between_of, calm_in, calm_same, other_than}
+pub use Rattle.dm_rule.proofs.Phases.Calm.{Calm, Plain, between_of, calm_about, calm_in, calm_same, other_than}
 pub use Rattle.dm_rule.proofs.Phases.Hears.{plain_by}
 pub use Rattle.dm_rule.proofs.Phases.Leaves.{fewer_record}
 pub use Rattle.dm_rule.proofs.Phases.Lines.{dropped_spots, first_kept, forwarded_spots, handled_spots, held_spots, off_zero, packet_calm, put_spots, queued_spots}
@@ -64,13 +64,13 @@ pub use Rattle.dm_rule.proofs.Phases.Lives.{nowhere_known}
 pub use Rattle.dm_rule.proofs.Phases.Net.{migrates_quiet, net_parts, taken_calm}
 pub use Rattle.dm_rule.proofs.Phases.Pieces.{and_false, record_off}
 pub use Rattle.dm_rule.proofs.Phases.Put.{first_none, last_there, put_spot, put_there}
-pub use Rattle.dm_rule.proofs.Phases.Quiet.{Tame, line_calm, parts_settle, plain_in_bag, received_spots}
+pub use Rattle.dm_rule.proofs.Phases.Quiet.{AllQuiet, Tame, line_calm, parts_settle, plain_in_bag, received_spots}
 pub use Rattle.dm_rule.proofs.Phases.Rests.{released_on}
 pub use Rattle.dm_rule.proofs.Phases.Stand.{held_plain, queued_plain}
 pub use Rattle.dm_rule.proofs.Phases.Start.{start_known, starts}
 pub use Rattle.dm_rule.proofs.Said.{fits_as}
 pub use Rattle.dm_rule.proofs.Seen.{about_off}
-pub use Rattle.dm_rule.proofs.Serving.{Loose, loose_handles, loose_round}
+pub use Rattle.dm_rule.proofs.Serving.{Loose, To, loose_handles, loose_round}
 pub use Rattle.dm_rule.proofs.States.{PacketsKeep, PairsFit, said as last_point, puts_next, said, says_next, transmits_next}
 pub use Rattle.dm_rule.proofs.Trails.Along.{Carries, along_treads, trails_always_by}
 pub use Rattle.dm_rule.proofs.Trails.Found.{treads_start}
@@ -124,7 +124,7 @@ pub use Rattle.dm_rulelaws.proofs.Names.{by_round, by_step, calm_phases, came, c
 pub use Rattle.dm_rulelaws.proofs.Names.{goes_between, group_is, grown_none, has_bytes, has_no_queue, has_nothing_held, head_calm, held_known, hidden, homes_are, hushed, is_fixed, is_kill, is_of_memory, is_piece, is_put, is_server}
 pub use Rattle.dm_rulelaws.proofs.Names.{kernels_fresh, label_on, label_topic, labels, left_parts, length-drop, length-take, letters, move_fits, moves_away, not_false, not_kernels, not_true, numbered_from, one_of, or_first, out_off}
 pub use Rattle.dm_rulelaws.proofs.Names.{outcome_sayable, pair_keeps, part_sane, parts, phased_group, phased_start, pid_eq-swap, piece_fits, proto_acting, proto_known, put_at, put_told_off, queued_known, rejoins, resends_net, rests_here}
-pub use Rattle.dm_rulelaws.proofs.Names.{rooted, sane_line, second, served_keeps, server_at, sets, source_holds, stands_right, status_awaits, times-append, token_is, told_some, turn_off, under_way, with_label}
+pub use Rattle.dm_rulelaws.proofs.Names.{rooted, sane_line, second, seen_none, served_keeps, server_at, sets, source_holds, stands_right, status_awaits, times-append, token_is, told_some, turn_off, under_way, with_label}
 pub use Rattle.dm_rulelaws.proofs.Own.Told.{is_place, own_sort}
 pub use Rattle.dm_rulelaws.proofs.Queued.{IsQueued}
 pub use Rattle.dm_rulelaws.proofs.RunLabels.{after_replay, group_replay, labels-append, replay-append}

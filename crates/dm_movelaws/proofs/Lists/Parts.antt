@@ -1,7 +1,7 @@
 -- No message is queued for a server: each line keeps it, where what it queues is for a process.
-use Rattle.dm_movelaws.proofs.Names.{sets, ◌≡◌, ℕ, ◌+◌, ◌==◌, Bool, true, false, not, filter, List, [], ◌∷◌, ◌++◌, length, refl, ap, ◌∙◌, sym, subst, ⊤, if◌then◌else◌, false≢true, Option, None, Some, Pid, MsgId, MessageKind, plain_kind}
-use Rattle.dm_movelaws.proofs.Names.{Label, bind-is, Step, Line, Load, Stage, Receiver, Part, Says, Routes, Again, Owns, Transmits, Spelled, lines_of, puts, goes_out, packet_line, spelled, Point, after_line, after, at_record, without_id}
-use Rattle.dm_movelaws.proofs.Names.{without_front, View, Told, About, NothingElse, view_after, handled, receiver_of, IsNetLine, IsNet, is_put, hushed, line_view, is_server, set_all, killed_or, told_kept, by_parts}
+use Rattle.dm_movelaws.proofs.Names.{seen, sets, ◌≡◌, ℕ, ◌+◌, ◌==◌, Bool, true, false, not, filter, List, [], ◌∷◌, ◌++◌, length, refl, ap, ◌∙◌, sym, subst, ⊤, if◌then◌else◌, false≢true, Option, None, Some, Pid, MsgId, MessageKind}
+use Rattle.dm_movelaws.proofs.Names.{plain_kind, Label, bind-is, Step, Line, Load, Stage, Receiver, Part, Says, Routes, Again, Owns, Transmits, Spelled, lines_of, puts, goes_out, packet_line, spelled, Point, after_line, after, at_record}
+use Rattle.dm_movelaws.proofs.Names.{without_id, without_front, View, Told, About, NothingElse, view_after, handled, receiver_of, IsNetLine, IsNet, is_put, hushed, line_view, is_server, set_all, killed_or, told_kept, by_parts}
 use Rattle.dm_rule.specs.View as view
 
 -- what is queued is so
@@ -152,7 +152,7 @@ lines_queues : (before : View) (ls : List Line) (pt next : Point) → LinesOk (F
 lines_queues before [] pt next ok e h = let f : pt ≡ next = cc in subst (λ (q : Point). NoQueues before q.view) f h
 lines_queues before (l ∷ ls) pt next ok e h =
     let (mid, first, rest) = bind-is (after_line pt l) (λ (q : Point). after q ls) next e in
-    lines_queues before ls mid next ok.1 rest (subst (NoQueues before) (sym (line_view pt mid l first)) (line_queues before pt.view l ok.0 h))
+    lines_queues before ls mid next ok.1 rest (subst (NoQueues before) (sym (line_view pt mid l first)) (same_queues before (view_after pt.view l) (seen pt.kernel pt.view l) refl refl (line_queues before pt.view l ok.0 h)))
 
 -- what a part says
 packet_ok : (ok : MsgId → Type 0) (c d : Bool) (v : View) (a b : ℕ) (l : Load) → LinesOk ok (if c then [] else if d then packet_line v a b l ∷ [] else [])

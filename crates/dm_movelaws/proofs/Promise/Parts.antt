@@ -1,8 +1,9 @@
 -- A walk over the parts of a turn that leaves a kernel's own message standing somewhere.
-use Rattle.dm_movelaws.proofs.Names.{seen, ◌≡◌, ◌⊎◌, ℕ, ◌≤◌, ◌==◌, ◌&&◌, Bool, true, false, List, [], ◌∷◌, ◌++◌, length, refl, ap, ◌∙◌, sym, subst, inl, inr, arith, ⊤, if◌then◌else◌, Option, None, Some, cases_Bool, false≢true, Pid, MsgId}
-use Rattle.dm_movelaws.proofs.Names.{MessageKind, plain_kind, id_eq, bind, id_eq-is, id_eq-same, bind-is, Line, Stage, Load, View, Told, is_kernels, own_id, view_after, Receiver, Point, label_of, kernel_after, after, moved, Part, Says}
-use Rattle.dm_movelaws.proofs.Names.{Routes, Again, Owns, Transmits, Spelled, lines_of, puts, goes_out, packet_line, behind, spelled, times, sends_on, is_put, not_true, parts, one_of, touches, pair_same, fits_as, PairsFit, fits_put}
-use Rattle.dm_movelaws.proofs.Names.{fits_packet, Sane, Sayable, part_sane, Steps, said_by}
+use Rattle.dm_movelaws.proofs.Names.{topic_by, seen, ◌≡◌, ◌⊎◌, ℕ, ◌≤◌, ◌==◌, ◌&&◌, Bool, true, false, List, [], ◌∷◌, ◌++◌, length, refl, ap, ◌∙◌, sym, subst, inl, inr, arith, ⊤, if◌then◌else◌, Option, None, Some, cases_Bool, false≢true}
+use Rattle.dm_movelaws.proofs.Names.{Pid, MsgId, MessageKind, plain_kind, id_eq, bind, id_eq-is, id_eq-same, bind-is, Line, Stage, Load, View, Told, is_kernels, own_id, view_after, Receiver, Point, label_of, kernel_after, after, moved}
+use Rattle.dm_movelaws.proofs.Names.{Part, Says, Routes, Again, Owns, Transmits, Spelled, lines_of, puts, goes_out, packet_line, behind, spelled, times, sends_on, is_put, not_true, parts, one_of, touches, pair_same, fits_as, PairsFit}
+use Rattle.dm_movelaws.proofs.Names.{fits_put, fits_packet, Sane, Sayable, part_sane, Steps, said_by}
+use Rattle.dm_movelaws.proofs.Promise.Spots.{about_stands}
 use Rattle.dm_movelaws.proofs.Promise.Kept.{lines_told}
 use Rattle.dm_movelaws.proofs.Promise.Spots.{Stands, Spares, line_stands}
 use Rattle.dm_movelaws.proofs.Promise.Stands.{label_stands, put_this, put_stands, packet_stands}
@@ -137,9 +138,9 @@ line_on : (j : MsgId) (pt next : Point) (l : Line) → Spares j pt.view l → Sa
 line_on j pt next l need sane own h s =
     let k = said_by pt next l s in
     subst (λ (x : Point). Stands x.view j) k.is
-    (line_stands pt.view j l need
+    (about_stands (view_after pt.view l) (topic_by pt.kernel (view_after pt.view l).topic (label_of l)) j (line_stands pt.view j l need
     (λ x is. subst (λ (y : Line). Stands (view_after pt.view y) j) (sym is)
-    (label_stands pt k.kernel x j sane (ap (λ (y : Line). kernel_after pt.kernel (label_of y)) (sym is) ∙ k.step) own h)) h)
+    (label_stands pt k.kernel x j sane (ap (λ (y : Line). kernel_after pt.kernel (label_of y)) (sym is) ∙ k.step) own h)) h))
 
 part_stands : (j : MsgId) (t : Told) (pt next : Point) (p : Part) → NeedsPart j pt p → Base j t pt → Stands pt.view j → Steps pt p next → Stands next.view j
 part_stands j t pt next (Says l) need base h s = line_on j pt next l need base.sane base.own h s
@@ -195,6 +196,11 @@ loose_stands (p ∷ ps) j t pt w e base h is =
     let n = next_of pt p ps w is in
     let need = part_loose j pt p both.0 in
     subst (λ (x : Point). Stands x.view j) n.point (loose_stands ps j t n.next n.rest both.1 (part_base j t pt n.next p need base n.steps) (part_stands j t pt n.next p need base h n.steps) n.more)
+
+pub first_stands : (j : MsgId) (t : Told) (pt : Point) (p : Part) (ps : List Part) (w : Spelled) → NeedsPart j pt p → all_loose ps ≡ true → Base j t pt → Stands pt.view j → spelled pt (p ∷ ps) ≡ Some w → Stands w.point.view j
+first_stands j t pt p ps w need e base h is =
+    let n = next_of pt p ps w is in
+    subst (λ (x : Point). Stands x.view j) n.point (loose_stands ps j t n.next n.rest e (part_base j t pt n.next p need base n.steps) (part_stands j t pt n.next p need base h n.steps) n.more)
 
 pub first_goes : (j : MsgId) (t : Told) (pt : Point) (p : Part) (ps : List Part) → NeedsPart j pt p → all_loose ps ≡ true → Base j t pt → Stands pt.view j → Goes j pt (p ∷ ps)
 first_goes j t pt p ps need e base h w is =

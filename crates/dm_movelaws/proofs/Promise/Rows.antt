@@ -4,7 +4,7 @@ use Rattle.dm_movelaws.proofs.Names.{MsgId, MessageKind, Line, id_eq, plain_kind
 use Rattle.dm_movelaws.proofs.Promise.Stands.{label_stands}
 use Rattle.dm_rule.specs.Rule as rule
 use Rattle.dm_movelaws.proofs.Promise.Spots.{Stands, Fronts, about_stands}
-use Rattle.dm_movelaws.proofs.Promise.Parts.{Base, NeedsPart, all_loose, Goes, first_goes, loose_goes, next_of, base_says}
+use Rattle.dm_movelaws.proofs.Promise.Parts.{Base, NeedsPart, all_loose, Goes, first_goes, loose_goes, next_of, base_says, first_stands}
 
 -- the message stands somewhere where a turn begins
 pub record Waits (j : MsgId) (t : Told) (pt : Point) : Type 0 where
@@ -40,13 +40,9 @@ asks_goes j t pt id msg to h there what w is =
     let was : Stands (moved pt l k.kernel).view j = about_stands (view_after pt.view l) (machine_in (pt.kernel.bag id)) j (label_stands pt k.kernel (Label.Asked id) j h.base.sane k.step h.base.own h.stands) in
     let stands : Stands n.next.view j = subst (λ (x : Point). Stands x.view j) k.is was in
     let topic : Target to ≡ n.next.view.topic = sym (ap machine_of what) ∙ sym (ap machine_in there) ∙ ap (λ (x : Point). x.view.topic) k.is in
-    elim (first_row j t n.next (Says (Line.Migration Stage.Frozen msg.to)) (Says (Line.Migration Stage.Asked msg.to) ∷ to_kernel MessageKind.Ask to ∷ []) (record { base = base; stands = stands }) (subst (Fronts n.next.view j) topic tt) refl n.rest n.more) [
-      | inl on ↦ inl (subst (λ (x : Point). Stands x.view j) n.point on)
-      | inr says ↦ inr (absurd (no_updated j says.0 n.rest.lines says.1))
-    ]
-  where
-    no_updated : (j : MsgId) (n : ℕ) (ls : List Line) → ls ≡ Line.Updated j n ∷ [] → ⊥
-    no_updated j n ls e = cc
+    let f = Says (Line.Migration Stage.Frozen msg.to) in
+    let ps = Says (Line.Migration Stage.Asked msg.to) ∷ to_kernel MessageKind.Ask to ∷ [] in
+    inl (subst (λ (x : Point). Stands x.view j) n.point (first_stands j t n.next f ps n.rest (subst (Fronts n.next.view j) topic tt) refl base stands n.more))
 
 pub handles_goes : (j : MsgId) (t : Told) (pt : Point) (b : Boot) (o : Point) (m : ℕ) (id : MsgId) (msg : PlainMessage) (ps : List Part) → Waits j t pt → pt.kernel.bag id ≡ Some msg → id_eq id j ≡ false → rule.handles b o m id msg ≡ Some ps → Goes j pt ps
 handles_goes j t pt b o m id msg ps h there off e =

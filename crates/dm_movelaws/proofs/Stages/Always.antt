@@ -1,8 +1,9 @@
 -- Each group keeps the marks of each process in order, and so they are wherever the rule leads.
-use Rattle.dm_movelaws.proofs.Names.{◌≡◌, ℕ, ◌==◌, Bool, true, false, List, [], ◌∷◌, refl, ap, ◌∙◌, sym, subst, length, ◌/◌, if◌then◌else◌, Option, None, Some, Pid, pid_eq, MsgId, PlainMessage, Boot, switchboard, manager, Step, Line, View}
-use Rattle.dm_movelaws.proofs.Names.{Told, About, Of, Known, first_view, target_of, is_between, Phase, Moves, is_due, IsIn, Point, first_point, Part, Spelled, spelled, kernel_told, server_told, process_told, migrates, group_of, bind-is}
-use Rattle.dm_movelaws.proofs.Names.{IsNet, not_true, front_way, Phased, phased_start, phased_group, due, Calm, calm_same, calm_in, told_some, head_calm, net_parts, migrates_quiet, Tame, plain_in_bag, parts_settle, InPhases, calm_phases}
-use Rattle.dm_movelaws.proofs.Names.{State, PairsFit, Sane, LeadsBy, begun, begun_sane, Mark, marks, in_order, StepsInOrder, plain_by, by_migrates, by_outcome}
+use Rattle.dm_movelaws.proofs.Names.{Here, Label, PlainWhat, NothingElse, OneKernel, bind, Says, moved, said_by, onward, sane_line, fits_as, line_calm, Target, machine_in, machine_of, leaves_for, calm_about, ◌≡◌, ℕ, ◌==◌, Bool, true, false}
+use Rattle.dm_movelaws.proofs.Names.{List, [], ◌∷◌, refl, ap, ◌∙◌, sym, subst, length, ◌/◌, if◌then◌else◌, Option, None, Some, Pid, pid_eq, MsgId, PlainMessage, Boot, switchboard, manager, Step, Line, View, Told, About, Of, Known}
+use Rattle.dm_movelaws.proofs.Names.{first_view, target_of, is_between, Phase, Moves, is_due, IsIn, Point, first_point, Part, Spelled, spelled, kernel_told, server_told, process_told, migrates, group_of, bind-is, IsNet, not_true, front_way}
+use Rattle.dm_movelaws.proofs.Names.{Phased, phased_start, phased_group, due, Calm, calm_same, calm_in, told_some, head_calm, net_parts, migrates_quiet, Tame, plain_in_bag, parts_settle, InPhases, calm_phases, State, PairsFit, Sane}
+use Rattle.dm_movelaws.proofs.Names.{LeadsBy, begun, begun_sane, Mark, marks, in_order, StepsInOrder, plain_by, by_migrates, by_outcome}
 use Rattle.dm_onekernel.specs.Step as kernel
 use Rattle.dm_rule.specs.View as view
 use Rattle.dm_rule.specs.Rule as rule
@@ -11,10 +12,10 @@ use Rattle.dm_movelaws.proofs.Stages.Marks.{order-append, marks-append, marks_of
 use Rattle.dm_movelaws.proofs.Stages.Spares.{mark_in, spares_same, spares_calm, Marked, none_marked}
 use Rattle.dm_movelaws.proofs.Stages.Lines.{AllMild, mild_marks, net_marks, TameAt}
 use Rattle.dm_movelaws.proofs.Stages.Parts.{parts_spare}
-use Rattle.dm_movelaws.proofs.Stages.Turns.{round_mild, handles_mild}
+use Rattle.dm_movelaws.proofs.Stages.Turns.{round_mild, handles_by}
 use Rattle.dm_movelaws.proofs.Stages.Hears.{Hears, Calms, Freezes, freezes, server_mild, process_hears}
 use Rattle.dm_movelaws.proofs.Stages.Rows.{about_others, plain_others, row_marked}
-use Rattle.dm_movelaws.proofs.Stages.Steps.{freezes_row}
+use Rattle.dm_movelaws.proofs.Stages.Steps.{freezes_row, asked_row}
 use Rattle.dm_movelaws.proofs.Stages.Told.{told_marked}
 
 -- where the parts of a turn begin
@@ -24,6 +25,7 @@ pub record Turning (o pt : Point) (m : ℕ) : Type 0 where
   pub state : State None pt
   pub phases : InPhases pt.view
   pub same : (q : Pid) → pt.view.known pt.view.acting q ≡ o.view.known m q
+  pub topic : pt.view.topic ≡ NothingElse
 
 abbrev MarkedBy : Point → Spelled → List Part → Type 0
 MarkedBy pt w ps = (p : Pid) → Marked pt.view w.point.view p (marks_of p ps)
@@ -52,7 +54,7 @@ process_marked o pt m i is t k ps w h front told plain known (Freezes here are) 
     let here_ = h.same q ∙ known ∙ here in
     subst (MarkedBy pt w) (sym are)
     (row_marked pt.view w.point.view q (λ p. marks_of p (freezes q to))
-    (freezes_row pt i is q to w (record { sane = h.sane; fits = h.fits; front = front; others = plain_others pt.view i t q told plain }) here_ (ap (spelled pt) (sym are) ∙ n)))
+    (freezes_row pt i is q to w (record { sane = h.sane; fits = h.fits; front = front; others = plain_others pt.view i t q told plain }) h.topic here_ (ap (spelled pt) (sym are) ∙ n)))
 
 hears_by : (b : Boot) (o pt : Point) (m : ℕ) (i : MsgId) (is : List MsgId) (t : Told) (c d g : Bool) (ps : List Part) (w : Spelled) → Turning o pt m → (t.receiver.num == 0) ≡ c → pt.view.inbox pt.view.acting ≡ i ∷ is → pt.view.told i ≡ Some t
     → (if c then rule.kernel_hears b o m i t.kind t.about else if d then server_told o i t t.kind else if g then server_told o i t t.kind else process_told o m i t (o.view.known m t.receiver)) ≡ Some ps → spelled pt ps ≡ Some w → MarkedBy pt w ps
@@ -70,6 +72,26 @@ hears_marked : (b : Boot) (o pt : Point) (m : ℕ) (i : MsgId) (is : List MsgId)
 hears_marked b o pt m i is None ps w h front told e n = cc
 hears_marked b o pt m i is (Some t) ps w h front told e n = hears_by b o pt m i is t (t.receiver.num == 0) (pid_eq t.receiver switchboard) (pid_eq t.receiver manager) ps w h refl front told e n
 
+-- behind lines that leave all migrations alone
+head_marked : (u v w : View) (p : Pid) (ms : List Mark) → Calm u v → Marked v w p ms → Marked u w p ms
+head_marked u v w p ms c m a b h k da db = m a b (calm_in u v p a c h) k da db
+
+-- a process is asked to move, and sets off
+asks_marked : (pt : Point) (i : MsgId) (msg : PlainMessage) (to : ℕ) (w : Spelled) → Sane pt → PairsFit pt.view → pt.kernel.bag i ≡ Some msg → msg.what ≡ PlainWhat.Move to → pt.view.known pt.view.acting msg.to ≡ Here → spelled pt (rule.says (Label.Asked i) ∷ leaves_for msg.to to) ≡ Some w
+    → MarkedBy pt w (rule.says (Label.Asked i) ∷ leaves_for msg.to to)
+asks_marked pt i msg to w sane fits there what here e p =
+    let l = Line.Label (Label.Asked i) in
+    let o = onward pt (Says l) (leaves_for msg.to to) w e in
+    let s = said_by pt o.next l (record { lines = o.lines; are = o.lines_are; leads = o.leads }) in
+    let mid = moved pt l s.kernel in
+    let topic : mid.view.topic ≡ Target to = ap machine_in there ∙ ap machine_of what in
+    let calm : Calm pt.view mid.view = calm_about pt.view (view.view_after pt.view l) (machine_in (pt.kernel.bag i)) (line_calm pt s.kernel l sane tt s.step) in
+    let fits_ : PairsFit mid.view = fits_as pt.view mid.view refl fits in
+    let on : spelled mid (leaves_for msg.to to) ≡ Some o.rest = ap (λ (x : Point). spelled x (leaves_for msg.to to)) s.is ∙ o.on in
+    let row = asked_row mid msg.to to o.rest (sane_line pt mid l refl (ap (λ (x : Option OneKernel). bind x (λ (u : OneKernel). Some (moved pt l u))) s.step) sane) fits_ topic here on in
+    subst (λ (x : Point). Marked pt.view x.view p (marks_of p (leaves_for msg.to to))) o.end
+    (head_marked pt.view mid.view o.rest.point.view p (marks_of p (leaves_for msg.to to)) calm (row_marked mid.view o.rest.point.view msg.to (λ r. marks_of r (leaves_for msg.to to)) row p))
+
 -- a turn
 front_tame : (pt : Point) (i : MsgId) (is : List MsgId) (msg : PlainMessage) → Sane pt → State None pt → pt.view.inbox pt.view.acting ≡ i ∷ is → pt.kernel.bag i ≡ Some msg → Tame pt.view i
 front_tame pt i is msg sane state front there =
@@ -86,6 +108,7 @@ turning o m h =
       state = groups.begun o (Step.Turn m) h.state (λ z. groups.turn_off o.view m z) (λ i. refl);
       phases = calm_phases o.view (view.after_head o.view (Step.Turn m)) (head_calm o.view (Step.Turn m)) h.phases;
       same = λ q. refl;
+      topic = refl;
     }
 
 -- the directive to migrate
@@ -105,7 +128,8 @@ outcome_marked b pt d ps w h is = by_outcome (λ x xs. (u : Spelled) → spelled
   handles = λ m i is msg xs box there e u. (
       let start = begun pt (Step.Turn m) in
       let t = turning pt m h in
-      mild_marked start (Some i) xs u t.sane t.fits (tame_front start.view i (front_tame start i is msg t.sane t.state box there)) (λ p. handles_mild p b pt m i msg xs e)
+      let tame = tame_front start.view i (front_tame start i is msg t.sane t.state box there) in
+      handles_by (λ (qs : List Part). spelled start qs ≡ Some u → MarkedBy start u qs) b pt m i msg xs (λ qs mild n. mild_marked start (Some i) qs u t.sane t.fits tame mild n) (λ to here what n. asks_marked start i msg to u t.sane t.fits there what (t.same msg.to ∙ here.known) n) e
       );
   hears = λ m i is xs box none e u. hears_marked b pt (begun pt (Step.Turn m)) m i is (pt.view.told i) xs u (turning pt m h) box refl e;
   ticks = λ m xs net u. net_marked (begun pt (Step.Tick m)) xs u net;
@@ -119,9 +143,6 @@ outcome_marked b pt d ps w h is = by_outcome (λ x xs. (u : Spelled) → spelled
 }) is w
 
 -- a group
-head_marked : (u v w : View) (p : Pid) (ms : List Mark) → Calm u v → Marked v w p ms → Marked u w p ms
-head_marked u v w p ms c m a b h k da db = m a b (calm_in u v p a c h) k da db
-
 pub group_marked : (b : Boot) (pt : Point) (d : Step) (w : Spelled) → group_of b pt d ≡ Some w → Phased pt → (p : Pid) → Marked pt.view w.point.view p (marks p w.lines)
 group_marked b pt d w e h p =
     let g = group_says b pt d w e in

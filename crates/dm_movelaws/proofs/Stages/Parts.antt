@@ -1,8 +1,8 @@
 -- Parts that leave the migration of a process as it is.
-use Rattle.dm_movelaws.proofs.Names.{◌≡◌, ℕ, ◌==◌, Bool, true, false, List, [], ◌∷◌, refl, ap, ◌∙◌, subst, length, if◌then◌else◌, Option, Some, Pid, MsgId, MessageKind, plain_kind, Line, Stage, Load, View, own_id, view_after, Receiver}
-use Rattle.dm_movelaws.proofs.Names.{Point, label_of, kernel_after, moved, after_line, after, Part, Says, Routes, Again, Owns, Transmits, Spelled, lines_of, puts, goes_out, packet_line, spelled, bind-is, is_put, fits_put, fits_packet}
-use Rattle.dm_movelaws.proofs.Names.{touches, pair_same, packet_calm, fits_as, PairsFit, Sane, Sayable, part_sane, by_parts}
-use Rattle.dm_movelaws.proofs.Stages.Spares.{Spares, spares_trans, spares_same, spares_calm, spares_put}
+use Rattle.dm_movelaws.proofs.Names.{seen, topic_by, ◌≡◌, ℕ, ◌==◌, Bool, true, false, List, [], ◌∷◌, refl, ap, ◌∙◌, subst, length, if◌then◌else◌, Option, Some, Pid, MsgId, MessageKind, plain_kind, Line, Stage, Load, View, own_id}
+use Rattle.dm_movelaws.proofs.Names.{view_after, Receiver, Point, label_of, kernel_after, moved, after_line, after, Part, Says, Routes, Again, Owns, Transmits, Spelled, lines_of, puts, goes_out, packet_line, spelled, bind-is, is_put}
+use Rattle.dm_movelaws.proofs.Names.{fits_put, fits_packet, touches, pair_same, packet_calm, fits_as, PairsFit, Sane, Sayable, part_sane, by_parts}
+use Rattle.dm_movelaws.proofs.Stages.Spares.{Spares, spares_trans, spares_same, spares_calm, spares_put, spares_about}
 use Rattle.dm_movelaws.proofs.Stages.Lines.{MildLine, Mild, AllMild, TameAt, line_spares}
 
 mild_put : (p : Pid) (o : Option MsgId) (l : Line) → MildLine p o l → is_put l ≡ false
@@ -65,7 +65,7 @@ says_spare p o pt next l ls h fits tame mild is leads =
     let (s, comes, then_) = bind-is (kernel_after pt.kernel (label_of l)) (λ s. Some (moved pt l s)) mid first in
     let g : moved pt l s ≡ mid = cc in
     let e : mid ≡ next = cc in
-    subst (λ (q : Point). (Spares pt.view q.view p) × (PairsFit q.view)) (g ∙ e) (line_spares pt s l p o h tame mild comes, fits_as pt.view (view_after pt.view l) (pair_same pt.view l (mild_touches p o l mild)) fits)
+    subst (λ (q : Point). (Spares pt.view q.view p) × (PairsFit q.view)) (g ∙ e) (spares_about pt.view (view_after pt.view l) (topic_by pt.kernel (view_after pt.view l).topic (label_of l)) p (line_spares pt s l p o h tame mild comes), fits_as pt.view (seen pt.kernel pt.view l) (pair_same pt.view l (mild_touches p o l mild)) fits)
 
 part_spares : (p : Pid) (o : Option MsgId) (pt next : Point) (q : Part) (ls : List Line) → Sane pt → PairsFit pt.view → TameAt pt.view o → Mild p o q → lines_of pt q ≡ Some ls → after pt ls ≡ Some next → (Spares pt.view next.view p) × (PairsFit next.view)
 part_spares p o pt next (Says l) ls h fits tame mild is leads = says_spare p o pt next l ls h fits tame mild is leads

@@ -1,8 +1,9 @@
 -- How far the marks of a process have come by its phase; and what leaves that as it is.
-use Rattle.dm_movelaws.proofs.Names.{◌≡◌, ℕ, ◌≤◌, ◌==◌, ◌&&◌, Bool, true, false, not, List, [], refl, ap, ◌∙◌, sym, subst, inl, inr, if◌then◌else◌, Option, None, Some, cases_Bool, false≢true, Pid, MsgId, MessageKind, id_eq, View, Told, Of}
-use Rattle.dm_movelaws.proofs.Names.{Known, Unknown, Here, Frozen, Incoming, Forward, after_put, Spot, standing, is_between, is_restart, is_early, is_away, is_here, is_over, kind_comes, knows, Phase, Nowhere, Rests, Over, Moves, is_due}
-use Rattle.dm_movelaws.proofs.Names.{token_in, told_between, IsIn, id_eq-is, PairsFit, put_told_off, Calm, between_of, put_spots, put_at, put_there, put_spot, rests_here, Mark, Reached, Lacking, in_order, eq_self, not_false, right_true}
-use Rattle.dm_movelaws.proofs.Names.{first_kept, kind_leaves}
+use Rattle.dm_movelaws.proofs.Names.{About, times, about_off, ◌≡◌, ℕ, ◌≤◌, ◌==◌, ◌&&◌, Bool, true, false, not, List, [], refl, ap, ◌∙◌, sym, subst, inl, inr, if◌then◌else◌, Option, None, Some, cases_Bool, false≢true, Pid, MsgId}
+use Rattle.dm_movelaws.proofs.Names.{MessageKind, id_eq, View, Told, Of, Known, Unknown, Here, Frozen, Incoming, Forward, after_put, Spot, standing, is_between, is_restart, is_early, is_away, is_here, is_over, kind_comes, knows, Phase}
+use Rattle.dm_movelaws.proofs.Names.{Nowhere, Rests, Over, Moves, is_due, token_in, told_between, IsIn, id_eq-is, PairsFit, put_told_off, Calm, between_of, put_spots, put_at, put_there, put_spot, rests_here, Mark, Reached, Lacking}
+use Rattle.dm_movelaws.proofs.Names.{in_order, eq_self, not_false, right_true, first_kept, kind_leaves}
+use Rattle.dm_rule.specs.View as view
 use Rattle.dm_movelaws.proofs.Stages.Marks.{open_after}
 
 -- the last mark, by the message that is under way
@@ -48,6 +49,14 @@ spares_calm v w p c = record {
   kept = c.kept;
   on = λ i t z e b a s. c.on i t e b z s;
   still = λ m e. ap is_settled (c.known m p) ∙ e;
+}
+
+-- the topic is nothing of it
+pub spares_about : (v w : View) (a : About) (p : Pid) → Spares v w p → Spares v (view.about w a) p
+spares_about v w a p h = record {
+  kept = h.kept;
+  on = λ i t z e b c s. (let (y, x) = h.on i t z e b c s in (y, subst (λ n. 1 ≤ n) (sym (ap (times i) (about_off w a y))) x));
+  still = h.still;
 }
 
 pub spares_put : (v : View) (b : ℕ) (i : MsgId) (k : MessageKind) (q p : Pid) → PairsFit v → Spares v (after_put v v.acting b i k q) p

@@ -1,8 +1,8 @@
 -- The rows of a migration that freeze a process, send on what waits for it, and bring it home.
-use Rattle.dm_movelaws.proofs.Names.{◌≡◌, ℕ, ◌≤◌, true, false, List, [], ◌∷◌, ◌++◌, length, refl, ap, ◌∙◌, sym, subst, Option, None, Some, false≢true, Pid, pid_of, pid_eq, MsgId, MessageKind, Stage, Line, at_record, Told, Of, Known, Here}
-use Rattle.dm_movelaws.proofs.Names.{Frozen, view_after, handled_first, released, target_of, front_told, to_kernel, sends_on, is_between, Point, label_of, moved, Part, Says, Spelled, spelled, Spot, Queue, Held, Inbox, Untaken, times}
-use Rattle.dm_movelaws.proofs.Names.{ids_at, standing, pid_eq-swap, is_put, at_record_at, first_off, home_again, home_off, frozen_off, line_next, touches, handled_spots, record_off, InPhases, queued_plain, held_plain, said, Mark, Reached}
-use Rattle.dm_movelaws.proofs.Names.{mark_for, with_mark, in_order, released_on}
+use Rattle.dm_movelaws.proofs.Names.{NothingElse, calm_same, parts_settle, Sane, PairsFit, Target, aim, sets, asked_off, AllQuiet, ◌≡◌, ℕ, ◌≤◌, true, false, List, [], ◌∷◌, ◌++◌, length, refl, ap, ◌∙◌, sym, subst, Option, None, Some}
+use Rattle.dm_movelaws.proofs.Names.{false≢true, Pid, pid_of, pid_eq, MsgId, MessageKind, Stage, Line, at_record, Told, Of, Known, Here, Frozen, view_after, handled_first, released, target_of, front_told, to_kernel, sends_on, is_between}
+use Rattle.dm_movelaws.proofs.Names.{Point, label_of, moved, Part, Says, Spelled, spelled, Spot, Queue, Held, Inbox, Untaken, times, ids_at, standing, pid_eq-swap, is_put, at_record_at, first_off, home_again, home_off, frozen_off}
+use Rattle.dm_movelaws.proofs.Names.{line_next, touches, handled_spots, record_off, InPhases, queued_plain, held_plain, said, Mark, Reached, mark_for, with_mark, in_order, released_on}
 use Rattle.dm_movelaws.proofs.Stages.Marks.{open_after, marks_of, mark_same, mark_other, marks_sent}
 use Rattle.dm_movelaws.proofs.Stages.Spares.{is_settled, Spares, spares_same, TokenOf, HasMark, token_mark, here_mark, some_marked}
 use Rattle.dm_movelaws.proofs.Stages.Lines.{AllMild, spares_line, same_spot}
@@ -23,18 +23,22 @@ home_spares pt i is q p l h apart quiet off known =
     (y, subst (λ n. 1 ≤ n) (sym (ap (times j) (off y))) s))
     (λ m e. ap is_settled (ap (λ (f : ℕ → Pid → Known). f m p) known ∙ record_off v.known v.acting q Here m p apart) ∙ e)
 
-home_known : (pt : Point) (l : Line) (w : Spelled) (q : Pid) → label_of l ≡ None → (view_after pt.view l).known ≡ at_record pt.view.known pt.view.acting q Here → spelled pt (Says l ∷ []) ≡ Some w → w.point.view.known pt.view.acting q ≡ Here
-home_known pt l w q none known e =
-    let n = line_next pt l [] w none e in
-    let last : moved pt l pt.kernel ≡ w.point = said (moved pt l pt.kernel) n.rest n.more ∙ n.point in
-    ap (λ (x : Point). x.view.known pt.view.acting q) (sym last) ∙ ap (λ (f : ℕ → Pid → Known). f pt.view.acting q) known ∙ at_record_at pt.view.known pt.view.acting q Here
+home_known : (pt : Point) (l : Line) (ps : List Part) (w : Spelled) (q : Pid) → label_of l ≡ None → is_put l ≡ false → touches l ≡ false → Sane pt → PairsFit pt.view → AllQuiet (moved pt l pt.kernel).view ps → (view_after pt.view l).known ≡ at_record pt.view.known pt.view.acting q Here → spelled pt (Says l ∷ ps) ≡ Some w
+    → w.point.view.known pt.view.acting q ≡ Here
+home_known pt l ps w q none quiet calm sane fits still known e =
+    let n = line_next pt l ps w none e in
+    let mid = moved pt l pt.kernel in
+    let settled = parts_settle ps mid.view mid n.rest still (record { calm = calm_same mid.view; sane = line_sane pt l none quiet sane; fits = line_fits pt l calm fits }) n.more in
+    ap (λ (x : Point). x.view.known pt.view.acting q) (sym n.point) ∙ settled.calm.known pt.view.acting q ∙ ap (λ (f : ℕ → Pid → Known). f pt.view.acting q) known ∙ at_record_at pt.view.known pt.view.acting q Here
 
-pub comes_home : (pt : Point) (i : MsgId) (is : List MsgId) (q : Pid) (l : Line) (ns : List Mark) (x : Option Mark) (w : Spelled) → Handling pt i is q → label_of l ≡ None → is_put l ≡ false → touches l ≡ false → ((z : Spot) → ids_at (view_after pt.view l) z ≡ ids_at (released (home_again (handled_first pt.view) q) q) z)
+-- and what follows leaves all migrations alone
+pub comes_home : (pt : Point) (i : MsgId) (is : List MsgId) (q : Pid) (l : Line) (ps : List Part) (ns : List Mark) (x : Option Mark) (w : Spelled) → Handling pt i is q → label_of l ≡ None → is_put l ≡ false → touches l ≡ false → ((p : Pid) → AllMild p None ps) → AllQuiet (moved pt l pt.kernel).view ps
+    → ((z : Spot) → ids_at (view_after pt.view l) z ≡ ids_at (released (home_again (handled_first pt.view) q) q) z)
     → (view_after pt.view l).known ≡ at_record pt.view.known pt.view.acting q Here → ((p : Pid) → pid_eq q p ≡ false → with_mark p l [] ≡ []) → with_mark q l [] ≡ ns → HasMark pt.view q x → in_order x ns ≡ true → open_after x ns ≡ None
-    → spelled pt (Says l ∷ []) ≡ Some w → Row pt.view w.point.view q (λ p. with_mark p l [])
-comes_home pt i is q l ns x w h none quiet calm off known unmarked marked before order ends e = record {
-  others = λ p apart. (unmarked p apart, line_and_parts pt p l [] w none quiet calm h.sane h.fits (home_spares pt i is q p l h apart quiet off known) tt e);
-  mine = some_marked pt.view w.point.view q (with_mark q l []) ns x None marked before (here_mark w.point.view q pt.view.acting (home_known pt l w q none known e)) order ends;
+    → spelled pt (Says l ∷ ps) ≡ Some w → Row pt.view w.point.view q (λ p. with_mark p l [])
+comes_home pt i is q l ps ns x w h none quiet calm mild still off known unmarked marked before order ends e = record {
+  others = λ p apart. (unmarked p apart, line_and_parts pt p l ps w none quiet calm h.sane h.fits (home_spares pt i is q p l h apart quiet off known) (mild p) e);
+  mine = some_marked pt.view w.point.view q (with_mark q l []) ns x None marked before (here_mark w.point.view q pt.view.acting (home_known pt l ps w q none quiet calm h.sane h.fits still known e)) order ends;
 }
 
 -- a process is frozen
@@ -46,9 +50,17 @@ frozen_unmarked p q to e =
 frozen_marked : (q : Pid) (to : ℕ) → marks_of q (freezes q to) ≡ Reached 1 ∷ Reached 2 ∷ []
 frozen_marked q to = mark_same q (Reached 1) (mark_for q q (Reached 2) []) ∙ ap (λ (ms : List Mark). Reached 1 ∷ ms) (mark_same q (Reached 2) [])
 
-pub freezes_row : (pt : Point) (i : MsgId) (is : List MsgId) (q : Pid) (to : ℕ) (w : Spelled) → Handling pt i is q → pt.view.known pt.view.acting q ≡ Here → spelled pt (freezes q to) ≡ Some w → Row pt.view w.point.view q (λ p. marks_of p (freezes q to))
-freezes_row pt i is q to w h here e =
+-- behind the head of a group, or behind the line that it is asked to move
+pub record Sets (pt : Point) (q : Pid) : Type 0 where
+  pub sane : Sane pt
+  pub fits : PairsFit pt.view
+  pub here : pt.view.known pt.view.acting q ≡ Here
+  pub others : (p : Pid) (j : MsgId) (t : Told) (z : Spot) → pid_eq q p ≡ false → pt.view.told j ≡ Some t → is_between t.kind ≡ true → t.about ≡ Of p → standing (view_after pt.view (Line.Migration Stage.Frozen q)) j z ≡ standing pt.view j z
+
+pub sets_row : (pt : Point) (q : Pid) (to : ℕ) (w : Spelled) → Sets pt q → spelled pt (freezes q to) ≡ Some w → Row pt.view w.point.view q (λ p. marks_of p (freezes q to))
+sets_row pt q to w h e =
     let v = pt.view in
+    let set = sets v q v.topic in
     let l = Line.Migration Stage.Frozen q in
     let k = Line.Migration Stage.Asked q in
     let ps = Says k ∷ to_kernel MessageKind.Ask to ∷ [] in
@@ -57,15 +69,29 @@ freezes_row pt i is q to w h here e =
     let last = moved next k next.kernel in
     let o = line_next next k (to_kernel MessageKind.Ask to ∷ []) n.rest refl n.more in
     let sane_ = line_sane next k refl refl (line_sane pt l refl refl h.sane) in
-    let token : TokenOf w.point.view q MessageKind.Ask = subst (λ (y : Point). TokenOf y.view q MessageKind.Ask) (o.point ∙ n.point) (owns_token last MessageKind.Ask q (pid_of to 0) to o.rest sane_ (line_fits pt l refl h.fits) refl refl o.more) in
+    let token : TokenOf w.point.view q MessageKind.Ask = subst (λ (y : Point). TokenOf y.view q MessageKind.Ask) (o.point ∙ n.point) (owns_token last MessageKind.Ask q (pid_of to 0) to o.rest sane_ (line_fits next k refl (line_fits pt l refl h.fits)) refl set.topic o.more) in
     record {
       others = λ p apart. (
         frozen_unmarked p q to apart,
         line_and_parts pt p l ps w refl refl refl h.sane h.fits
-            (first_spares pt i is q p l h apart refl (λ z. frozen_off v q z ∙ first_off v i is h.front z) (λ m. record_off v.known v.acting q (Frozen (target_of (front_told v (v.inbox v.acting)))) m p apart)) (apart, (tt, tt)) e,
+            (spares_line v l p refl (λ j t z told b a st. same_spot v (view_after v l) j z (h.others p j t z apart told b a) st)
+            (λ m s. ap is_settled (ap (λ (f : ℕ → Pid → Known). f m p) set.known ∙ record_off v.known v.acting q (Frozen (aim v v.topic)) m p apart) ∙ s)) (apart, (tt, tt)) e,
       );
-      mine = some_marked v w.point.view q (marks_of q (freezes q to)) (Reached 1 ∷ Reached 2 ∷ []) None (Some (Reached 2)) (frozen_marked q to) (here_mark v q v.acting here) (token_mark w.point.view q MessageKind.Ask token) refl refl;
+      mine = some_marked v w.point.view q (marks_of q (freezes q to)) (Reached 1 ∷ Reached 2 ∷ []) None (Some (Reached 2)) (frozen_marked q to) (here_mark v q v.acting h.here) (token_mark w.point.view q MessageKind.Ask token) refl refl;
     }
+
+pub freezes_row : (pt : Point) (i : MsgId) (is : List MsgId) (q : Pid) (to : ℕ) (w : Spelled) → Handling pt i is q → pt.view.topic ≡ NothingElse → pt.view.known pt.view.acting q ≡ Here → spelled pt (freezes q to) ≡ Some w → Row pt.view w.point.view q (λ p. marks_of p (freezes q to))
+freezes_row pt i is q to w h topic here e =
+    let v = pt.view in
+    sets_row pt q to w (record {
+      sane = h.sane;
+      fits = h.fits;
+      here = here;
+      others = λ p j t z apart told b a. ap (times j) (frozen_off v q topic z ∙ first_off v i is h.front z) ∙ handled_spots v i j (h.others p j t apart told b a) z;
+    }) e
+
+pub asked_row : (pt : Point) (q : Pid) (to : ℕ) (w : Spelled) → Sane pt → PairsFit pt.view → pt.view.topic ≡ Target to → pt.view.known pt.view.acting q ≡ Here → spelled pt (freezes q to) ≡ Some w → Row pt.view w.point.view q (λ p. marks_of p (freezes q to))
+asked_row pt q to w sane fits topic here e = sets_row pt q to w (record { sane = sane; fits = fits; here = here; others = λ p j t z apart told b a. ap (times j) (asked_off pt.view q to topic z) }) e
 
 -- its lists go on, and it leaves
 abbrev pub departs : Pid → ℕ → List MsgId → ℕ → List Part

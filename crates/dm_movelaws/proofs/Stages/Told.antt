@@ -1,7 +1,8 @@
 -- A kernel hears of a process from another kernel: what that says of the marks of each process.
-use Rattle.dm_movelaws.proofs.Names.{◌≡◌, ℕ, ◌==◌, Bool, true, false, List, [], ◌∷◌, ◌++◌, refl, ap, ◌∙◌, subst, Option, None, Some, Pid, pid_of, pid_eq, MsgId, MessageKind, Line, Stage, PlainProcess, View, Told, after_proto, Of, Known}
-use Rattle.dm_movelaws.proofs.Names.{Frozen, Incoming, handled, front_of, view_after, accepts, gives_piece, takes_chunk, takes_block, kernel_told, chunks_of, pieces_of, is_between, Point, Part, Says, Owns, Spelled, spelled, pid_eq-swap}
-use Rattle.dm_movelaws.proofs.Names.{first_off, accepted_off, state_off, memory_off, lacks_off, proto_off, restarted_off, record_off, proto_known, InPhases, Mark, Reached, Lacking, Staying, mark_for, leaves}
+use Rattle.dm_movelaws.proofs.Names.{Note, answers_move, tells_asker, Outcome, ◌≡◌, ℕ, ◌==◌, Bool, true, false, List, [], ◌∷◌, ◌++◌, refl, ap, ◌∙◌, subst, Option, None, Some, Pid, pid_of, pid_eq, MsgId, MessageKind, Line, Stage}
+use Rattle.dm_movelaws.proofs.Names.{PlainProcess, View, Told, after_proto, Of, Known, Frozen, Incoming, handled, front_of, view_after, accepts, gives_piece, takes_chunk, takes_block, kernel_told, chunks_of, pieces_of, is_between, Point}
+use Rattle.dm_movelaws.proofs.Names.{Part, Says, Owns, Spelled, spelled, pid_eq-swap, first_off, accepted_off, state_off, memory_off, lacks_off, proto_off, restarted_off, record_off, proto_known, InPhases, Mark, Reached, Lacking, Staying}
+use Rattle.dm_movelaws.proofs.Names.{mark_for, leaves}
 use Rattle.dm_movelaws.proofs.Stages.Marks.{mark_same, mark_other, marks_of}
 use Rattle.dm_movelaws.proofs.Stages.Spares.{mark_of, HasMark, token_mark, Marked}
 use Rattle.dm_movelaws.proofs.Stages.Rows.{Handling, front_token, row_marked, answer}
@@ -74,16 +75,24 @@ block_row pt i is t q true w h e n p =
     (λ m r apart. refl) refl refl (λ r apart. unmarked q (Reached 5) r apart) (mark_same q (Reached 5) []) (heard_mark pt i is t q MessageKind.Memory h e refl) refl refl n) p
 block_row pt i is t q false w h e n p = proto_row pt i is t q MessageKind.Memory MessageKind.PullBlock w h e refl refl refl n p
 
--- it stays, and it is restarted
-stays_row : (pt : Point) (i : MsgId) (is : List MsgId) (t : Told) (q : Pid) (w : Spelled) → Heard pt i is t q → t.kind ≡ MessageKind.Refuse → spelled pt (Says (Line.Stays q) ∷ []) ≡ Some w → MarkedBy pt w (Says (Line.Stays q) ∷ [])
-stays_row pt i is t q w h e n p =
+-- it stays, and it is restarted; whoever asked for the move is told
+stays_row : (pt : Point) (i : MsgId) (is : List MsgId) (t : Told) (q : Pid) (z : Option Note) (w : Spelled) → Heard pt i is t q → t.kind ≡ MessageKind.Refuse → spelled pt (Says (Line.Stays q) ∷ tells_asker z Outcome.Stayed) ≡ Some w → MarkedBy pt w (Says (Line.Stays q) ∷ tells_asker z Outcome.Stayed)
+stays_row pt i is t q None w h e n p =
     row_marked pt.view w.point.view q (λ r. mark_for r q Staying [])
-    (comes_home pt i is q (Line.Stays q) (Staying ∷ []) (Some Lacking) w h.at refl refl refl (λ z. refl) refl (λ r apart. unmarked q Staying r apart) (mark_same q Staying []) (heard_mark pt i is t q MessageKind.Refuse h e refl) refl refl n) p
+    (comes_home pt i is q (Line.Stays q) [] (Staying ∷ []) (Some Lacking) w h.at refl refl refl (λ r. tt) tt (λ s. refl) refl (λ r apart. unmarked q Staying r apart) (mark_same q Staying []) (heard_mark pt i is t q MessageKind.Refuse h e refl) refl refl n) p
+stays_row pt i is t q (Some z) w h e n p =
+    row_marked pt.view w.point.view q (λ r. mark_for r q Staying [])
+    (comes_home pt i is q (Line.Stays q) (answers_move z.id Outcome.Stayed) (Staying ∷ []) (Some Lacking) w h.at refl refl refl (λ r. (tt, (tt, tt))) (tt, (tt, tt)) (λ s. refl) refl (λ r apart. unmarked q Staying r apart) (mark_same q Staying []) (heard_mark pt i is t q MessageKind.Refuse h e refl) refl refl n) p
 
-restarted_row : (pt : Point) (i : MsgId) (is : List MsgId) (t : Told) (q : Pid) (w : Spelled) → Heard pt i is t q → t.kind ≡ MessageKind.Restart → spelled pt (Says (Line.Migration Stage.Restarted q) ∷ []) ≡ Some w → MarkedBy pt w (Says (Line.Migration Stage.Restarted q) ∷ [])
-restarted_row pt i is t q w h e n p =
+restarted_row : (pt : Point) (i : MsgId) (is : List MsgId) (t : Told) (q : Pid) (z : Option Note) (w : Spelled) → Heard pt i is t q → t.kind ≡ MessageKind.Restart → spelled pt (Says (Line.Migration Stage.Restarted q) ∷ tells_asker z Outcome.Done) ≡ Some w
+    → MarkedBy pt w (Says (Line.Migration Stage.Restarted q) ∷ tells_asker z Outcome.Done)
+restarted_row pt i is t q None w h e n p =
     row_marked pt.view w.point.view q (λ r. mark_for r q (Reached 8) [])
-    (comes_home pt i is q (Line.Migration Stage.Restarted q) (Reached 8 ∷ []) (Some (Reached 7)) w h.at refl refl refl (λ z. restarted_off pt.view q z) refl (λ r apart. unmarked q (Reached 8) r apart) (mark_same q (Reached 8) []) (heard_mark pt i is t q MessageKind.Restart h e refl) refl refl n) p
+    (comes_home pt i is q (Line.Migration Stage.Restarted q) [] (Reached 8 ∷ []) (Some (Reached 7)) w h.at refl refl refl (λ r. tt) tt (λ s. restarted_off pt.view q s) refl (λ r apart. unmarked q (Reached 8) r apart) (mark_same q (Reached 8) []) (heard_mark pt i is t q MessageKind.Restart h e refl) refl refl n) p
+restarted_row pt i is t q (Some z) w h e n p =
+    row_marked pt.view w.point.view q (λ r. mark_for r q (Reached 8) [])
+    (comes_home pt i is q (Line.Migration Stage.Restarted q) (answers_move z.id Outcome.Done) (Reached 8 ∷ []) (Some (Reached 7)) w h.at refl refl refl (λ r. (tt, (tt, tt))) (tt, (tt, tt)) (λ s. restarted_off pt.view q s) refl (λ r apart. unmarked q (Reached 8) r apart) (mark_same q (Reached 8) [])
+    (heard_mark pt i is t q MessageKind.Restart h e refl) refl refl n) p
 
 -- all is taken
 leaves_row : (pt : Point) (i : MsgId) (is : List MsgId) (t : Told) (q : Pid) (ids : List MsgId) (k : Known) (parts : List Part) (w : Spelled) → Heard pt i is t q → t.kind ≡ MessageKind.AllTaken → leaves i q ids k ≡ Some parts → spelled pt parts ≡ Some w → MarkedBy pt w parts
@@ -96,11 +105,11 @@ leaves_row pt i is t q ids _ parts w h e f n = cc
 pub told_marked : (o pt : Point) (m : ℕ) (i : MsgId) (is : List MsgId) (t : Told) (q : Pid) (room : Bool × ℕ × ℕ) (x : PlainProcess) (k : MessageKind) (parts : List Part) (w : Spelled) → Heard pt i is t q → t.kind ≡ k → kernel_told o m i q room x k ≡ Some parts → spelled pt parts ≡ Some w
     → (p : Pid) → Marked pt.view w.point.view p (marks_of p parts)
 told_marked o pt m i is t q room x MessageKind.Ask parts w h e g n = given pt w (accepts i.from.home q room.0 room.1 room.2) parts g (λ s. asked_row pt i is t q room.0 room.1 room.2 w h e s) n
-told_marked o pt m i is t q room x MessageKind.Refuse parts w h e g n = given pt w (Says (Line.Stays q) ∷ []) parts g (λ s. stays_row pt i is t q w h e s) n
+told_marked o pt m i is t q room x MessageKind.Refuse parts w h e g n = given pt w (Says (Line.Stays q) ∷ tells_asker (o.kernel.notes q) Outcome.Stayed) parts g (λ s. stays_row pt i is t q (o.kernel.notes q) w h e s) n
 told_marked o pt m i is t q room x MessageKind.PullState parts w h e g n = given pt w (gives_piece i MessageKind.State) parts g (λ s. proto_row pt i is t q MessageKind.PullState MessageKind.State w h e refl refl refl s) n
 told_marked o pt m i is t q room x MessageKind.State parts w h e g n = given pt w (takes_chunk i q (o.view.asked q == chunks_of x)) parts g (λ s. chunk_row pt i is t q (o.view.asked q == chunks_of x) w h e s) n
 told_marked o pt m i is t q room x MessageKind.PullBlock parts w h e g n = given pt w (gives_piece i MessageKind.Memory) parts g (λ s. proto_row pt i is t q MessageKind.PullBlock MessageKind.Memory w h e refl refl refl s) n
 told_marked o pt m i is t q room x MessageKind.Memory parts w h e g n = given pt w (takes_block i q (o.view.asked q == pieces_of x)) parts g (λ s. block_row pt i is t q (o.view.asked q == pieces_of x) w h e s) n
 told_marked o pt m i is t q room x MessageKind.AllTaken parts w h e g n = leaves_row pt i is t q (o.view.queue m q ++ o.view.held m q) (o.view.known m q) parts w h e g n
-told_marked o pt m i is t q room x MessageKind.Restart parts w h e g n = given pt w (Says (Line.Migration Stage.Restarted q) ∷ []) parts g (λ s. restarted_row pt i is t q w h e s) n
+told_marked o pt m i is t q room x MessageKind.Restart parts w h e g n = given pt w (Says (Line.Migration Stage.Restarted q) ∷ tells_asker (o.kernel.notes q) Outcome.Done) parts g (λ s. restarted_row pt i is t q (o.kernel.notes q) w h e s) n
 told_marked o pt m i is t q room x _ parts w h e g n = cc

@@ -1,9 +1,10 @@
 -- Whom a place is named for is a kernel, a server or a process that was made.
-use Rattle.dm_movelaws.proofs.Names.{sets, ◌≡◌, ℕ, ◌+◌, ◌==◌, ◌&&◌, ◌||◌, Bool, true, false, not, filter, is_some, List, [], ◌∷◌, refl, ap, ◌∙◌, sym, subst, inl, inr, cases_Bool, false≢true, if◌then◌else◌, Option, None, Some, Pid, Place}
-use Rattle.dm_movelaws.proofs.Names.{MsgId, MessageKind, id_eq, Boot, Label, IsValid, Life, OneKernel, Step, after_step, Line, Stage, Leads, Spelled, Point, first_point, label_of, kernel_after, group_of, at_record, View, Told, About}
-use Rattle.dm_movelaws.proofs.Names.{NothingElse, Target, Of, Known, Unknown, Here, Frozen, Incoming, Forward, Ended, view_after, handled, receiver_of, first_told, target_of, front_told, front_of, gone_to, served_told, forward_about}
-use Rattle.dm_movelaws.proofs.Names.{hushed, grown_none, Phased, queued_known, held_known, dropped_known, starts, start_known, Sane, label_topic, is_server, is_fixed, KnownStands, agrees, group_keeps, Loud, keeps_by, set_all, killed_or}
-use Rattle.dm_movelaws.proofs.Names.{named_real, Both, both_start, both_group, run_start, run_group, is_made, IsNamed, ByHolder, ByOwn, ByRequest, ByUpdate, ByForward, queued_topic, held_topic, taken_topic, or_first}
+use Rattle.dm_movelaws.proofs.Names.{About, PlainMessage, PlainWhat, moved, label_of, topic_by, machine_in, machine_of, aim, sets, ◌≡◌, ℕ, ◌+◌, ◌==◌, ◌&&◌, ◌||◌, Bool, true, false, not, filter, is_some, List, [], ◌∷◌, refl, ap, ◌∙◌, sym}
+use Rattle.dm_movelaws.proofs.Names.{subst, inl, inr, cases_Bool, false≢true, if◌then◌else◌, Option, None, Some, Pid, Place, MsgId, MessageKind, id_eq, Boot, Label, IsValid, Life, OneKernel, Step, after_step, Line, Stage, Leads, Spelled}
+use Rattle.dm_movelaws.proofs.Names.{Point, first_point, kernel_after, group_of, at_record, View, Told, NothingElse, Target, Of, Known, Unknown, Here, Frozen, Incoming, Forward, Ended, view_after, handled, receiver_of, first_told}
+use Rattle.dm_movelaws.proofs.Names.{target_of, front_told, front_of, gone_to, served_told, forward_about, hushed, grown_none, Phased, queued_known, held_known, dropped_known, starts, start_known, Sane, label_topic, is_server, is_fixed}
+use Rattle.dm_movelaws.proofs.Names.{KnownStands, agrees, group_keeps, Loud, keeps_by, set_all, killed_or, named_real, Both, both_start, both_group, run_start, run_group, is_made, IsNamed, ByHolder, ByOwn, ByRequest, ByUpdate, ByForward}
+use Rattle.dm_movelaws.proofs.Names.{queued_topic, held_topic, taken_topic, or_first}
 use Rattle.dm_onekernel.specs.Step as kernel
 use Rattle.dm_rule.specs.View as view
 use Rattle.dm_rulelaws.proofs.Found.Core.{IsReal}
@@ -93,13 +94,27 @@ line_made s v (Line.Taken a b n) h p m c e =
     h.topic p m c (sym (taken_topic w b (view.oldest x)) ∙ e)
 line_made s v _ h p m c e = h.topic p m c e
 
+-- where a process is asked to move, the group is about no place
+machine_made : (s : OneKernel) (w : PlainWhat) (p : Pid) (m c : ℕ) → machine_of w ≡ view.Place p m c → WasMade s p
+machine_made s (PlainWhat.Move n) p m c e = no_target (WasMade s p) p n m c e
+machine_made s _ p m c e = no_place (WasMade s p) NothingElse p m c refl e
+
+asked_made : (s : OneKernel) (o : Option PlainMessage) (p : Pid) (m c : ℕ) → machine_in o ≡ view.Place p m c → WasMade s p
+asked_made s None p m c e = no_place (WasMade s p) NothingElse p m c refl e
+asked_made s (Some x) p m c e = machine_made s x.what p m c e
+
+seen_made : (s : OneKernel) (a : About) (o : Option Label) (p : Pid) (m c : ℕ) → (a ≡ view.Place p m c → WasMade s p) → topic_by s a o ≡ view.Place p m c → WasMade s p
+seen_made s a None p m c h e = h e
+seen_made s a (Some (Label.Asked i)) p m c h e = asked_made s (s.bag i) p m c e
+seen_made s a (Some _) p m c h e = h e
+
 -- a line after which the same leave
 line_passing : (pt : Point) (t : OneKernel) (l : Line) → Goes pt.kernel t → ((m : ℕ) (p : Pid) → passes ((view_after pt.view l).known m p) ≡ true → WasMade pt.kernel p) → (view_after pt.view l).told ≡ pt.view.told → Passing pt.kernel pt.view
-    → Passing t (view_after pt.view l)
+    → Passing t (moved pt l t).view
 line_passing pt t l goes known told h = record {
   known = λ m p e. goes p (known m p e);
   told = λ i u p m c e f. goes p (h.told i u p m c (sym (ap (λ (g : MsgId → Option Told). g i) told) ∙ e) f);
-  topic = λ p m c e. goes p (line_made pt.kernel pt.view l h p m c e);
+  topic = λ p m c e. goes p (seen_made pt.kernel (view_after pt.view l).topic (label_of l) p m c (line_made pt.kernel pt.view l h p m c) e);
 }
 
 same_known : (s : OneKernel) (v w : View) → w.known ≡ v.known → Passing s v → (m : ℕ) (p : Pid) → passes (w.known m p) ≡ true → WasMade s p
@@ -162,7 +177,8 @@ passing_loud = record {
       line_passing pt pt.kernel l (λ p e. e) (point_known pt.kernel pt.view (view_after pt.view l) (λ m q. held_known (handled pt.view id) id (receiver_of (pt.view.told id)) m q) h) (hushed pt.view l refl).told h;
   frozen = λ pt p lives here h.
       let l = Line.Migration Stage.Frozen p in
-      line_passing pt pt.kernel l (λ q e. e) (set_known pt.kernel pt.view (view_after pt.view l) p (Frozen (target_of (front_told pt.view (pt.view.inbox pt.view.acting)))) refl (λ f. ap is_some lives.alive) h) refl h;
+      let set = sets pt.view p pt.view.topic in
+      line_passing pt pt.kernel l (λ q e. e) (set_known pt.kernel pt.view (view_after pt.view l) p (Frozen (aim pt.view pt.view.topic)) set.known (λ f. ap is_some lives.alive) h) set.told h;
   accepted = λ pt p lives away h.
       let l = Line.Migration Stage.Accepted p in
       line_passing pt pt.kernel l (λ q e. e) (set_known pt.kernel pt.view (view_after pt.view l) p (Incoming (front_of (pt.view.inbox pt.view.acting))) refl (λ f. absurd (false≢true f)) h) refl h;
