@@ -5,9 +5,9 @@ use Rattle.dm_kernel.proofs.Names.{Asker, Message, What, kind_of, IsLawfulMessag
 use Rattle.dm_kernel.proofs.Names.{Nothing, Arrival, expected, pull, with_block, with_chunk, with_held_too, with_piece, Departure, all_sent_on, ask_of, frozen, sent_on, with_held, HasChunk, chunk_bytes, chunk_of, lawful_all, Boot, manager}
 use Rattle.dm_kernel.proofs.Names.{slots_of, switchboard, MoveError, moves_child, moves_lawful, Servers, Part, Routes, asks_manager, asks_move, told_to_move, accepts, answers_ask, holds_arriving, restarts, restarts_as, takes_piece}
 use Rattle.dm_kernel.proofs.Names.{took_piece, freezes, gives_piece, holds_leaving, leaves, migrates, stays, board_follows, forwards, forwards_and, manager_follows, process_follows, AreLawful, IsLawfulArrival, IsLawfulDeparture}
-use Rattle.dm_kernel.proofs.Names.{IsLawfulPair, IsLawfulPart, IsLawfulState, MayRestart, KernelState, own, own_id}
+use Rattle.dm_kernel.proofs.Names.{IsLawfulPair, IsLawfulPart, IsLawfulState, MayRestart, KernelState, own, own_id, Outcome, asker_of, moved_answer, asked_to_move, freezing, tells_asker, with_frozen, IsLawfulAsker, with_sent, state_of}
 use Rattle.dm_message.specs.declared.What.TheVariants as what
-use Rattle.dm_migrate.specs.Pieces.{state_of}
+use Rattle.dm_message.specs.declared.Outcome.TheVariants as ends
 use Rattle.dm_procman.specs.declared.moving.MoveError.TheVariants as no
 use Rattle.dm_procman.proofs.Lawful as manage
 use Rattle.dm_switchboard.proofs.Lawful as board
@@ -88,38 +88,57 @@ not_server p one two (home, inr num) = grind (arith, nat_tests)
 blocks_are : (memory : List ℕ) (blocks : ℕ) → length memory ≡ 256 * blocks → length memory / 256 ≡ blocks
 blocks_are memory blocks h = omega arith
 
-ask_lawfully : (x : Process) → IsLawfulProcess x → ¬ IsServer x.pid → IsLawfulWhat (ask_of x None)
-ask_lawfully x h none =
+ask_lawfully : (x : Process) (asker : Option Asker) → IsLawfulProcess x → ¬ IsServer x.pid → IsLawfulAsker asker → IsLawfulWhat (ask_of x asker)
+ask_lawfully x asker h none lawful =
     let blocks : length x.memory / 256 ≡ h.size.0 = blocks_are x.memory h.size.0 h.size.1 in
     let least : 1 ≤ h.size.0 = h.size.2 in
     let most : h.size.0 ≤ 256 = h.size.3 in
-    (h.home, ((omega arith), ((λ (zero : length x.memory / 256 ≡ 0). absurd (omega arith)), (λ (server : IsServer x.pid). absurd (none server)))), tt)
+    (h.home, ((omega arith), ((λ (zero : length x.memory / 256 ≡ 0). absurd (omega arith)), (λ (server : IsServer x.pid). absurd (none server)))), lawful)
 
-freezes_lawfully : (s : KernelState) (p : Pid) (x : Process) (machine : ℕ) → s.here < 16 → IsLawfulState s → IsLawfulProcess x → ¬ IsServer x.pid → IsMachine machine
-    → Lawfully (freezes s p x machine)
-freezes_lawfully s p x machine here h lawful none to =
+frozen_lawfully : (s : KernelState) (p : Pid) (x : Process) (machine : ℕ) (asker : Option Asker) → IsLawfulState s → IsLawfulProcess x → IsMachine machine → IsLawfulAsker asker
+    → IsLawfulState (with_sent (with_frozen s p x machine asker))
+frozen_lawfully s p x machine asker h lawful to asks =
     record {
-      state =
-          record {
-            records = knows s p (Frozen (frozen x machine None)) h (record { process = lawful; to = to; held = All-nil IsLawfulMessage });
-            room = h.room;
-            inbox = h.inbox;
-            servers = h.servers;
-          };
-      parts = said (said (routed _ (own_lawfully s (kernel_at machine) (ask_of x None) here (kernel_address machine (omega arith)) refl (ask_lawfully x lawful none))));
+      records = knows s p (Frozen (frozen x machine asker)) h (record { process = lawful; to = to; asker = asks; held = All-nil IsLawfulMessage });
+      room = h.room;
+      inbox = h.inbox;
+      servers = h.servers;
     }
+
+freezing_lawfully : (s : KernelState) (p : Pid) (x : Process) (machine : ℕ) (asker : Option Asker) → s.here < 16 → IsLawfulProcess x → ¬ IsServer x.pid → IsMachine machine → IsLawfulAsker asker
+    → AreLawful (freezing s p x machine asker)
+freezing_lawfully s p x machine asker here lawful none to asks =
+    said (said (routed _ (own_lawfully s (kernel_at machine) (ask_of x asker) here (kernel_address machine (omega arith)) refl (ask_lawfully x asker lawful none asks))))
 
 pub migrates_lawfully : (s : KernelState) (m : Message) (x : Process) (machine : ℕ) → s.here < 16 → IsLawfulState s → IsLawfulProcess x → ¬ IsServer x.pid → IsMachine machine
     → Lawfully (migrates s m x machine)
 migrates_lawfully s m x machine here h lawful none to =
-    if_lawfully (machine == s.here) _ _ (λ same. record { state = h; parts = said none_said }) (λ other. freezes_lawfully s m.to.pid x machine here h lawful none to)
+    if_lawfully (machine == s.here) _ (freezes s m.to.pid x machine) (λ same. record { state = h; parts = said none_said })
+    (λ other. record { state = frozen_lawfully s m.to.pid x machine None h lawful to tt; parts = freezing_lawfully s m.to.pid x machine None here lawful none to tt })
+
+-- who asked for a move is told how it ended
+tells_lawfully : (here : ℕ) (x : Process) (outcome : Outcome) (asker : Option Asker) → here < 16 → IsLawfulProcess x → IsLawfulAsker asker → AreLawful (tells_asker here x outcome asker)
+tells_lawfully here x outcome None machine lawful asks = none_said
+tells_lawfully here x outcome (Some k) machine lawful asks =
+    said (routed (moved_answer here x outcome k) (record { from = omega arith; answer = refl; to = asks; sender = record { home = lawful.home; at = omega arith }; what = tt }))
+
+pub asked_lawfully : (s : KernelState) (m : Message) (x : Process) (machine : ℕ) → s.here < 16 → IsLawfulState s → IsLawfulMessage m → IsLawfulProcess x → ¬ IsServer x.pid → IsMachine machine
+    → Lawfully (asked_to_move s m x machine)
+asked_lawfully s m x machine here h message lawful none to =
+    if_lawfully (machine == s.here) _ _
+    (λ same. record { state = h; parts = said (tells_lawfully s.here x ends.Done (Some (asker_of m)) here lawful message.sender) })
+    (λ other.
+    record {
+      state = frozen_lawfully s m.to.pid x machine (Some (asker_of m)) h lawful to message.sender;
+      parts = said (freezing_lawfully s m.to.pid x machine (Some (asker_of m)) here lawful none to message.sender);
+    })
 
 pub holds_leaving_lawfully : (s : KernelState) (m : Message) (d : Departure) → IsLawfulState s → IsLawfulDeparture d → IsLawfulMessage m → Lawfully (holds_leaving s m d)
 holds_leaving_lawfully s m d h lawful message =
     record {
       state =
           record {
-            records = knows s m.to.pid (Frozen (with_held d m)) h (record { process = lawful.process; to = lawful.to; held = All-push IsLawfulMessage d.held m lawful.held message });
+            records = knows s m.to.pid (Frozen (with_held d m)) h (record { process = lawful.process; to = lawful.to; asker = lawful.asker; held = All-push IsLawfulMessage d.held m lawful.held message });
             room = h.room;
             inbox = h.inbox;
             servers = h.servers;
@@ -127,8 +146,8 @@ holds_leaving_lawfully s m d h lawful message =
       parts = said none_said;
     }
 
-pub stays_lawfully : (s : KernelState) (p : Pid) (d : Departure) → IsLawfulState s → IsLawfulDeparture d → Lawfully (stays s p d)
-stays_lawfully s p d h lawful =
+pub stays_lawfully : (s : KernelState) (p : Pid) (d : Departure) → s.here < 16 → IsLawfulState s → IsLawfulDeparture d → Lawfully (stays s p d)
+stays_lawfully s p d here h lawful =
     record {
       state =
           record {
@@ -137,7 +156,7 @@ stays_lawfully s p d h lawful =
             inbox = All-append IsLawfulMessage d.held s.inbox lawful.held h.inbox;
             servers = h.servers;
           };
-      parts = said none_said;
+      parts = said (tells_lawfully s.here d.process ends.Stayed d.asker here lawful.process lawful.asker);
     }
 
 pub gives_lawfully : (s : KernelState) (m : Message) (w : What) → s.here < 16 → IsLawfulState s → IsLawfulMessage m → is_answer (kind_of w) ≡ false → IsLawfulWhat w → Lawfully (gives_piece s m w)
@@ -182,19 +201,19 @@ free_lawfully : (r : Taken) → r.slots ≤ 64 → r.blocks ≤ 4096 → (free_s
 free_lawfully r slots blocks = (omega arith, omega arith)
 
 accepts_lawfully : (b : Boot) (s : KernelState) (m : Message) (p : Pid) (blocks moves size : ℕ) (asker : Option Asker) (room : Bool) → s.here < 16 → IsLawfulState s → IsLawfulMessage m
-    → IsMachine p.home → Lawfully (accepts b s m p blocks moves size asker room)
-accepts_lawfully b s m p blocks moves size asker true here h message home =
+    → IsMachine p.home → IsLawfulAsker asker → Lawfully (accepts b s m p blocks moves size asker room)
+accepts_lawfully b s m p blocks moves size asker true here h message home asks =
     record {
       state =
           record {
-            records = knows s p (Incoming (expected p blocks moves size asker (slots_of b.format))) h (record { home = home; held = All-nil IsLawfulMessage });
+            records = knows s p (Incoming (expected p blocks moves size asker (slots_of b.format))) h (record { home = home; asker = asks; held = All-nil IsLawfulMessage });
             room = same_room s.room _ _ h.room;
             inbox = h.inbox;
             servers = h.servers;
           };
       parts = said (routed _ (own_lawfully s m.sender (what.PullState p 0) here message.sender refl home));
     }
-accepts_lawfully b s m p blocks moves size asker false here h message home =
+accepts_lawfully b s m p blocks moves size asker false here h message home asks =
     let free : (free_slots s.room ≤ 64) × (free_blocks s.room ≤ 4096) = free_lawfully s.room h.room.slots h.room.blocks in
     record {
       state = record { records = h.records; room = h.room; inbox = h.inbox; servers = h.servers };
@@ -202,15 +221,15 @@ accepts_lawfully b s m p blocks moves size asker false here h message home =
     }
 
 pub asks_lawfully : (b : Boot) (s : KernelState) (m : Message) (p : Pid) (blocks moves size : ℕ) (asker : Option Asker) → s.here < 16 → IsLawfulState s → IsLawfulMessage m → IsMachine p.home
-    → Lawfully (answers_ask b s m p blocks moves size asker)
-asks_lawfully b s m p blocks moves size asker here h message home = accepts_lawfully b s m p blocks moves size asker (has_room s.room blocks) here h message home
+    → IsLawfulAsker asker → Lawfully (answers_ask b s m p blocks moves size asker)
+asks_lawfully b s m p blocks moves size asker here h message home asks = accepts_lawfully b s m p blocks moves size asker (has_room s.room blocks) here h message home asks
 
 pub holds_arriving_lawfully : (s : KernelState) (m : Message) (a : Arrival) → IsLawfulState s → IsLawfulArrival a → IsLawfulMessage m → Lawfully (holds_arriving s m a)
 holds_arriving_lawfully s m a h lawful message =
     record {
       state =
           record {
-            records = knows s m.to.pid (Incoming (with_held_too a m)) h (record { home = lawful.home; held = All-push IsLawfulMessage a.held m lawful.held message });
+            records = knows s m.to.pid (Incoming (with_held_too a m)) h (record { home = lawful.home; asker = lawful.asker; held = All-push IsLawfulMessage a.held m lawful.held message });
             room = h.room;
             inbox = h.inbox;
             servers = h.servers;
@@ -237,16 +256,16 @@ took_lawfully s m p a here h message lawful =
 
 piece_lawfully : (s : KernelState) (m : Message) (p : Pid) (a : Arrival) (w : What) → s.here < 16 → IsLawfulState s → IsLawfulMessage m → IsLawfulArrival a → Lawfully (took_piece s m p (with_piece a w))
 piece_lawfully s m p a (what.State q k last bytes) here h message lawful =
-    took_lawfully s m p (with_chunk a k last bytes.items) here h message (record { home = lawful.home; held = lawful.held })
+    took_lawfully s m p (with_chunk a k last bytes.items) here h message (record { home = lawful.home; asker = lawful.asker; held = lawful.held })
 piece_lawfully s m p a (what.Memory q k bytes) here h message lawful =
-    took_lawfully s m p (with_block a k bytes) here h message (record { home = lawful.home; held = lawful.held })
+    took_lawfully s m p (with_block a k bytes) here h message (record { home = lawful.home; asker = lawful.asker; held = lawful.held })
 piece_lawfully s m p a w here h message lawful = tt
 
 pub takes_lawfully : (s : KernelState) (m : Message) (p : Pid) (a : Arrival) → s.here < 16 → IsLawfulState s → IsLawfulMessage m → IsLawfulArrival a → Lawfully (takes_piece s m p a)
 takes_lawfully s m p a here h message lawful = piece_lawfully s m p a m.what here h message lawful
 
-restarts_as_lawfully : (s : KernelState) (p : Pid) (a : Arrival) (x : Process) → IsLawfulState s → IsLawfulArrival a → IsLawfulProcess x → Lawfully (restarts_as s p a (Some x))
-restarts_as_lawfully s p a x h lawful process =
+restarts_as_lawfully : (s : KernelState) (p : Pid) (a : Arrival) (x : Process) → s.here < 16 → IsLawfulState s → IsLawfulArrival a → IsLawfulProcess x → Lawfully (restarts_as s p a (Some x))
+restarts_as_lawfully s p a x here h lawful process =
     record {
       state =
           record {
@@ -255,12 +274,12 @@ restarts_as_lawfully s p a x h lawful process =
             inbox = All-append IsLawfulMessage a.held s.inbox lawful.held h.inbox;
             servers = h.servers;
           };
-      parts = said none_said;
+      parts = said (tells_lawfully s.here x ends.Done a.asker here process lawful.asker);
     }
 
-pub restarts_lawfully : (s : KernelState) (p : Pid) (a : Arrival) → IsLawfulState s → IsLawfulArrival a → MayRestart a → Lawfully (restarts s p a)
-restarts_lawfully s p a h lawful may =
-    subst (λ (o : Option Process). Lawfully (restarts_as s p a o)) (sym may.restarts) (restarts_as_lawfully s p a may.process h lawful may.lawful)
+pub restarts_lawfully : (s : KernelState) (p : Pid) (a : Arrival) → s.here < 16 → IsLawfulState s → IsLawfulArrival a → MayRestart a → Lawfully (restarts s p a)
+restarts_lawfully s p a here h lawful may =
+    subst (λ (o : Option Process). Lawfully (restarts_as s p a o)) (sym may.restarts) (restarts_as_lawfully s p a may.process here h lawful may.lawful)
 
 -- a process is told to move
 told_lawfully : (s : KernelState) (p : Pid) (r : Result Message MoveError) → IsLawfulState s → IfOk r IsLawfulMessage → Lawfully (told_to_move s p r)

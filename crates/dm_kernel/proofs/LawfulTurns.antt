@@ -7,10 +7,10 @@ use Rattle.dm_kernel.proofs.Names.{receive_refusals, first_failed, heard, manage
 use Rattle.dm_kernel.proofs.Names.{completes_lawfully, IsLawfulDone, call_lawfully, Servers, Halt, asks_move, child_of, restarts, takes_piece, gives_piece, leaves, stays, answers_with, board_handles, board_took, ended_handles, handles}
 use Rattle.dm_kernel.proofs.Names.{here_handles, kernel_handles, lands, lands_as, makes, makes_of, manager_handles, manager_took, next_pid, process_handles, told_board, told_manager, IsLawfulArrival, IsLawfulDeparture, IsLawfulKnown}
 use Rattle.dm_kernel.proofs.Names.{IsLawfulPair, IsLawfulState, IsLawfulTurned, FitsEnded, FitsHere, FitsKernel, FrontMay, FitsKnown, FitsManager, FitsManagerWhat, IsSuch, MayHandle, MayRestart, MayTurn, called_with, ends, halts}
-use Rattle.dm_kernel.proofs.Names.{processor_of, ran, received_by, receives, serves, serves_status, with_machine, KernelState, KernelKnown, Turned, with_here, first_runnable, goes_round, turn, turns}
+use Rattle.dm_kernel.proofs.Names.{processor_of, ran, received_by, receives, serves, serves_status, with_machine, KernelState, KernelKnown, Turned, with_here, first_runnable, goes_round, turn, turns, answer, gone_what, state_of}
 use Rattle.dm_message.specs.declared.What.TheVariants as what
+use Rattle.dm_message.specs.declared.Outcome.TheVariants as ends
 use Rattle.dm_process.specs.declared.process.Status.TheVariants as status
-use Rattle.dm_migrate.specs.Pieces.{state_of}
 use Rattle.dm_datamove.specs.declared.Landed.TheVariants as landed
 use Rattle.dm_onekernel.specs.declared.label.Why.TheVariants as why
 use Rattle.dm_procman.specs.Taking as manage
@@ -21,7 +21,8 @@ use Rattle.dm_kernel.specs.declared.run.Halt.TheVariants as halt
 use Rattle.dm_kernel.specs.Handle.{has_room}
 use Rattle.dm_kernel.proofs.Making.{image_fits}
 use Rattle.dm_kernel.proofs.Serving.{first_is_on, has_run, runs_lawfully}
-use Rattle.dm_kernel.proofs.LawfulMoves.{asks_lawfully, asks_move_lawfully, board_follows_lawfully, chunk_lawfully, forwards_lawfully, gives_lawfully, holds_arriving_lawfully, holds_leaving_lawfully, leaves_lawfully, manager_follows_lawfully, migrates_lawfully, not_server, process_follows_lawfully, restarts_lawfully, stays_lawfully, takes_lawfully}
+use Rattle.dm_kernel.proofs.LawfulMoves.{asked_lawfully, asks_lawfully, asks_move_lawfully, board_follows_lawfully, chunk_lawfully, forwards_lawfully, gives_lawfully}
+use Rattle.dm_kernel.proofs.LawfulMoves.{holds_arriving_lawfully, holds_leaving_lawfully, leaves_lawfully, manager_follows_lawfully, migrates_lawfully, not_server, process_follows_lawfully, restarts_lawfully, stays_lawfully, takes_lawfully}
 use Rattle.dm_kernel.proofs.LawfulRows.{Lawfully, all_dropped, answer_lawfully, child_lawfully, enough, if_lawfully, none_said, of_known, routed, routes_lawfully, said, with_one_more, with_process, with_queued, with_stopped, without}
 
 -- a process that executes
@@ -154,15 +155,21 @@ here_lawfully s m x (what.Block bytes) machine h message what lawful none fits =
 here_lawfully s m x what.Written machine h message what lawful none fits = lands_here s m x (landing s.here x m.what x.status) machine h lawful fits refl
 here_lawfully s m x what.Gone machine h message what lawful none fits = lands_here s m x (landing s.here x m.what x.status) machine h lawful fits refl
 here_lawfully s m x (what.Migrate to) machine h message what lawful none fits = migrates_lawfully s m x to machine h lawful none what
+here_lawfully s m x (what.Move to) machine h message what lawful none fits = asked_lawfully s m x to machine h message lawful none what
 here_lawfully s m x (what.Update about) machine h message what lawful none fits = process_follows_lawfully s m x about h lawful what
 here_lawfully s m x w machine h message what lawful none fits = absurd fits
 
+gone_lawfully_by : (here : ℕ) (m : Message) (w : What) → here < 16 → IsLawfulMessage m → IsLawfulMessage (answer here m.to.moves m (gone_what w))
+gone_lawfully_by here m (what.Move to) machine message = answer_lawfully here m.to.moves m (what.Moved ends.Ended) machine message refl tt
+gone_lawfully_by here m w machine message = answer_lawfully here m.to.moves m what.Gone machine message refl tt
+
 gone_lawfully : (s : KernelState) (m : Message) → s.here < 16 → IsLawfulMessage m → IsLawfulMessage (gone_answer s.here m)
-gone_lawfully s m machine message = answer_lawfully s.here m.to.moves m what.Gone machine message refl tt
+gone_lawfully s m machine message = gone_lawfully_by s.here m m.what machine message
 
 ended_lawfully : (s : KernelState) (m : Message) (w : What) → s.here < 16 → IsLawfulState s → IsLawfulMessage m → FitsEnded w → Lawfully (ended_handles s m w)
 ended_lawfully s m (what.Read base len) machine h message fits = record { state = h; parts = said (routed _ (gone_lawfully s m machine message)) }
 ended_lawfully s m (what.Write base bytes) machine h message fits = record { state = h; parts = said (routed _ (gone_lawfully s m machine message)) }
+ended_lawfully s m (what.Move to) machine h message fits = record { state = h; parts = said (routed _ (gone_lawfully s m machine message)) }
 ended_lawfully s m (what.User code channel body links) machine h message fits = record { state = h; parts = said none_said }
 ended_lawfully s m what.Stop machine h message fits = record { state = h; parts = said none_said }
 ended_lawfully s m what.Resume machine h message fits = record { state = h; parts = said none_said }
@@ -226,8 +233,8 @@ kernel_lawfully : (b : Boot) (s : KernelState) (m : Message) (w : What) → s.he
     → Lawfully (kernel_handles b s m w)
 kernel_lawfully b s m (what.Create image links) machine images h message lawful fits =
     makes_of_lawfully b s m links.items (slice_get b.images image) machine h message (λ i at. image_fits b.images image i images at) lawful.0 lawful.1
-kernel_lawfully b s m (what.Ask pid blocks moves size asker) machine images h message lawful fits = asks_lawfully b s m pid blocks moves size asker machine h message lawful.0
-kernel_lawfully b s m (what.Refuse pid slots blocks) machine images h message lawful fits = each_leaving (s.records pid) (stays s pid) (h.records pid) (λ d e leaving. stays_lawfully s pid d h leaving)
+kernel_lawfully b s m (what.Ask pid blocks moves size asker) machine images h message lawful fits = asks_lawfully b s m pid blocks moves size asker machine h message lawful.0 lawful.2
+kernel_lawfully b s m (what.Refuse pid slots blocks) machine images h message lawful fits = each_leaving (s.records pid) (stays s pid) (h.records pid) (λ d e leaving. stays_lawfully s pid d machine h leaving)
 kernel_lawfully b s m (what.PullState pid chunk) machine images h message lawful fits =
     each_leaving (s.records pid) (λ d. gives_piece s m (chunk_of d.process.pid (state_of d.process) chunk)) (h.records pid)
     (λ d e leaving.
@@ -244,13 +251,13 @@ kernel_lawfully b s m (what.AllTaken pid) machine images h message lawful fits =
     each_leaving (s.records pid) (leaves s pid) (h.records pid) (λ d e leaving. leaves_lawfully s pid d machine lawful h leaving)
 kernel_lawfully b s m (what.Restart pid) machine images h message lawful fits =
     each_arriving (s.records pid) (restarts s pid) (h.records pid)
-    (λ a e arriving. restarts_lawfully s pid a h arriving (such MayRestart (incoming_of (s.records pid)) a e fits))
+    (λ a e arriving. restarts_lawfully s pid a machine h arriving (such MayRestart (incoming_of (s.records pid)) a e fits))
 kernel_lawfully b s m w machine images h message lawful fits = absurd fits
 
 -- a message for a server
-board_what : (s : KernelState) (m : Message) (v : Servers) (w : What) → IsLawfulState s → IsLawfulPair v → IsLawfulMessage m → IsLawfulWhat w → m.what ≡ w → Lawfully (board_took s m v (board.takes v.board w))
-board_what s m v (what.User code channel body links) h pair message lawful is =
-    let t = board.takes_request v.board body.items links.items in
+board_what : (s : KernelState) (m : Message) (v : Servers) (w : What) → s.here < 16 → IsLawfulState s → IsLawfulPair v → IsLawfulMessage m → IsLawfulWhat w → m.what ≡ w → Lawfully (board_took s m v (board.takes s.here v.board w))
+board_what s m v (what.User code channel body links) machine h pair message lawful is =
+    let t = board.takes_request s.here v.board body.items links.items in
     record {
       state =
           record {
@@ -259,27 +266,27 @@ board_what s m v (what.User code channel body links) h pair message lawful is =
             inbox = h.inbox;
             servers =
                 record {
-                  board = board_after (Ok t.took) v.board t.board m code channel body links body.items links.items is refl refl tt pair.board message;
+                  board = board_after s.here (Ok t.took) v.board t.board m code channel body links body.items links.items machine is refl refl tt pair.board message;
                   manager = pair.manager;
                 };
           };
-      parts = said (routes_lawfully t.took.answer (answer_after (Ok t.took) v.board t.board m code channel body links body.items links.items is refl refl pair.board message));
+      parts = said (routes_lawfully t.took.answer (answer_after s.here (Ok t.took) v.board t.board m code channel body links body.items links.items machine is refl refl pair.board message));
     }
-board_what s m v (what.Update about) h pair message lawful is = subst (λ (w : What). Lawfully (told_board s m v w)) (sym is) (board_follows_lawfully s m v about h pair lawful)
-board_what s m v w h pair message lawful is = subst (λ (w : What). Lawfully (told_board s m v w)) (sym is) tt
+board_what s m v (what.Update about) machine h pair message lawful is = subst (λ (w : What). Lawfully (told_board s m v w)) (sym is) (board_follows_lawfully s m v about h pair lawful)
+board_what s m v w machine h pair message lawful is = subst (λ (w : What). Lawfully (told_board s m v w)) (sym is) tt
 
-board_lawfully : (s : KernelState) (m : Message) (o : Option Servers) → IsLawfulState s → IfSome o IsLawfulPair → IsLawfulMessage m → Lawfully (board_handles s m o)
-board_lawfully s m None h pair message = tt
-board_lawfully s m (Some v) h pair message = board_what s m v m.what h pair message message.what refl
+board_lawfully : (s : KernelState) (m : Message) (o : Option Servers) → s.here < 16 → IsLawfulState s → IfSome o IsLawfulPair → IsLawfulMessage m → Lawfully (board_handles s m o)
+board_lawfully s m None machine h pair message = tt
+board_lawfully s m (Some v) machine h pair message = board_what s m v m.what machine h pair message message.what refl
 
 not_told : (s : KernelState) (m : Message) (v : Servers) (w : What) → ((about : Addr) → w ≡ what.Update about → ⊥) → Lawfully (told_manager s m v w)
 not_told s m v (what.Update about) h = absurd (h about refl)
 not_told s m v w h = tt
 
-manager_what : (s : KernelState) (m : Message) (v : Servers) (o : Option manage.Taken) → IsLawfulState s → IsLawfulPair v → IsLawfulMessage m → manage.IsForManager v.manager m.id.n m.what
-    → manage.takes v.manager m.id.n m.what ≡ o → Lawfully (manager_took s m v o)
-manager_what s m v None h pair message fits e = (not_told s m v m.what (λ about is. absurd (subst (manage.IsForManager v.manager m.id.n) is fits)))
-manager_what s m v (Some t) h pair message fits e =
+manager_what : (s : KernelState) (m : Message) (v : Servers) (o : Option manage.Taken) → s.here < 16 → IsLawfulState s → IsLawfulPair v → IsLawfulMessage m → manage.IsForManager v.manager m.id.n m.what
+    → manage.takes s.here v.manager m.id.n m.what ≡ o → Lawfully (manager_took s m v o)
+manager_what s m v None machine h pair message fits e = (not_told s m v m.what (λ about is. absurd (subst (manage.IsForManager v.manager m.id.n) is fits)))
+manager_what s m v (Some t) machine h pair message fits e =
     record {
       state =
           record {
@@ -289,22 +296,22 @@ manager_what s m v (Some t) h pair message fits e =
             servers =
                 record {
                   board = pair.board;
-                  manager = manager_after (Ok t.message) v.manager t.manager m (heard v.manager m.id.n m.what fits) e tt pair.manager message;
+                  manager = manager_after s.here machine (Ok t.message) v.manager t.manager m (heard v.manager m.id.n m.what fits) e tt pair.manager message;
                 };
           };
-      parts = said (routes_lawfully t.message (message_after (Ok t.message) v.manager t.manager m (heard v.manager m.id.n m.what fits) e pair.manager message));
+      parts = said (routes_lawfully t.message (message_after s.here machine (Ok t.message) v.manager t.manager m (heard v.manager m.id.n m.what fits) e pair.manager message));
     }
 
-manager_told_lawfully : (s : KernelState) (m : Message) (v : Servers) (w : What) → IsLawfulState s → IsLawfulPair v → IsLawfulMessage m → IsLawfulWhat w → FitsManagerWhat v m.id.n w → m.what ≡ w
-    → Lawfully (manager_took s m v (manage.takes v.manager m.id.n w))
-manager_told_lawfully s m v (what.Update about) h pair message lawful fits is =
+manager_told_lawfully : (s : KernelState) (m : Message) (v : Servers) (w : What) → s.here < 16 → IsLawfulState s → IsLawfulPair v → IsLawfulMessage m → IsLawfulWhat w → FitsManagerWhat v m.id.n w → m.what ≡ w
+    → Lawfully (manager_took s m v (manage.takes s.here v.manager m.id.n w))
+manager_told_lawfully s m v (what.Update about) machine h pair message lawful fits is =
     subst (λ (w : What). Lawfully (told_manager s m v w)) (sym is) (manager_follows_lawfully s m v about h pair lawful)
-manager_told_lawfully s m v w h pair message lawful fits is =
-    manager_what s m v (manage.takes v.manager m.id.n w) h pair message (subst (manage.IsForManager v.manager m.id.n) (sym is) fits.0) (ap (manage.takes v.manager m.id.n) is)
+manager_told_lawfully s m v w machine h pair message lawful fits is =
+    manager_what s m v (manage.takes s.here v.manager m.id.n w) machine h pair message (subst (manage.IsForManager v.manager m.id.n) (sym is) fits.0) (ap (manage.takes s.here v.manager m.id.n) is)
 
-manager_lawfully : (s : KernelState) (m : Message) (o : Option Servers) → IsLawfulState s → IfSome o IsLawfulPair → IsLawfulMessage m → FitsManager m o → Lawfully (manager_handles s m o)
-manager_lawfully s m None h pair message fits = tt
-manager_lawfully s m (Some v) h pair message fits = manager_told_lawfully s m v m.what h pair message message.what fits refl
+manager_lawfully : (s : KernelState) (m : Message) (o : Option Servers) → s.here < 16 → IsLawfulState s → IfSome o IsLawfulPair → IsLawfulMessage m → FitsManager m o → Lawfully (manager_handles s m o)
+manager_lawfully s m None machine h pair message fits = tt
+manager_lawfully s m (Some v) machine h pair message fits = manager_told_lawfully s m v m.what machine h pair message message.what fits refl
 
 -- each process that is here bears its name
 abbrev AreNamed : KernelState → Type 0
@@ -320,10 +327,10 @@ handles_lawfully b s m machine images h named may =
     (λ is. kernel_lawfully b s m m.what machine images h may.lawful may.lawful.what (may.for_kernel is))
     (λ no.
     if_lawfully (pid_eq m.to.pid switchboard) (board_handles s m s.servers) _
-    (λ is. board_lawfully s m s.servers h h.servers may.lawful)
+    (λ is. board_lawfully s m s.servers machine h h.servers may.lawful)
     (λ nor.
     if_lawfully (pid_eq m.to.pid manager) (manager_handles s m s.servers) (process_handles s m (s.records m.to.pid))
-    (λ is. manager_lawfully s m s.servers h h.servers may.lawful (may.for_manager is))
+    (λ is. manager_lawfully s m s.servers machine h h.servers may.lawful (may.for_manager is))
     (λ none. known_lawfully s m (s.records m.to.pid) machine h may.lawful (no_server_here s m.to.pid named nor none) (may.for_process no nor none) refl)))
 
 -- without the message that is taken, and with the ring turned
@@ -344,6 +351,7 @@ known_still s m rest (Some (Here x)) h = here_still s m x rest m.what h
   where
     here_still : (s : KernelState) (m : Message) (x : Process) (rest : List Message) (w : What) → FitsHere s m x w → FitsHere (record s { inbox = rest }) m x w
     here_still s m x rest (what.Migrate to) h = h
+    here_still s m x rest (what.Move to) h = h
     here_still s m x rest w h = h
 known_still s m rest (Some (Frozen d)) h = h
 known_still s m rest (Some (Incoming a)) h = h

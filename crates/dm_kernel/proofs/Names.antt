@@ -31,12 +31,13 @@ pub use Rattle.dm_process.specs.declared.process.Service.{Service}
 pub use Rattle.dm_process.specs.declared.process.Service.TheVariants.{Execute}
 pub use Rattle.dm_linkupdate.proofs.Lawful.{applied_lawful}
 pub use Rattle.dm_linkupdate.proofs.Names.{Addr, All, All-map, IsLawfulAddr, IsLawfulEnclosed, IsLawfulProcess, IsLawfulStatus, IsMachine, Process, Ready, SlotIsLawful, Status}
-pub use Rattle.dm_linkupdate.specs.Notice.{is_told_back, kernel_at, update_of}
+pub use Rattle.dm_linkupdate.specs.Notice.{is_told_back, update_of}
 pub use Rattle.dm_statebytes.proofs.Names.{Direction, General, IfOk, IfSome, IsLawfulMessage, Regs, direction_numbered, inl, inr, length-drop, nat_le, ◌⊎◌}
 unfoldable pub use Rattle.dm_statebytes.specs.Shell.{registers, shell_of_bytes, shell_spelling}
 pub use Rattle.dm_migrate.proofs.Messages.{lawful_all}
-pub use Rattle.dm_migrate.proofs.Names.{All-append, All-cons, Arrival, Asker, Departure, Err, HasChunk, Ok, Result, What, block_of, chunk_bytes, chunk_of, into_iter_items, length-take, pull, sent_on, with_chunk, with_piece}
+pub use Rattle.dm_migrate.proofs.Names.{All-append, All-cons, Arrival, Asker, Departure, Err, HasChunk, Ok, Result, What, block_of, chunk_bytes, chunk_of, into_iter_items, length-take, pull, sent_on, state_of, with_chunk, with_piece}
 pub use Rattle.dm_migrate.specs.Arrival.{expected, with_block, with_held as with_held_too}
+pub use Rattle.dm_migrate.specs.Asking.{asker_of, moved_answer}
 pub use Rattle.dm_migrate.specs.Departure.{all_sent_on, ask_of, frozen, with_held}
 pub use Rattle.dm_migrate.specs.declared.arriving.Wanted.{Wanted}
 pub use Rattle.dm_migrate.specs.declared.arriving.Wanted.TheVariants.{Block, Chunk, Nothing}
@@ -53,19 +54,19 @@ pub use Rattle.dm_switchboard.proofs.Imports.{All-push, IsLawfulNamed, IsLawfulW
 pub use Rattle.dm_switchboard.proofs.Lawful.{answer_after, board_after}
 pub use Rattle.dm_procman.proofs.Hearing.{heard}
 pub use Rattle.dm_procman.proofs.Lawful.{manager_after, message_after, moves_lawful, started_lawful}
-pub use Rattle.dm_procman.proofs.Names.{Boot, BootProcess, IsForManager, IsValid, is_answer, kind_of, manager, moves_child, process_is_valid, processes_are_valid, starting, starting_at, ◌||◌}
+pub use Rattle.dm_procman.proofs.Names.{Boot, BootProcess, IsForManager, IsValid, MsgId, Outcome, is_answer, kernel_at, kind_of, manager, moves_child, process_is_valid, processes_are_valid, starting, starting_at, ◌||◌}
 pub use Rattle.dm_procman.specs.declared.moving.MoveError.{MoveError}
 pub use Rattle.dm_datamove.proofs.Landings.{lands_lawfully}
-pub use Rattle.dm_datamove.proofs.Names.{All-nil, IsAwaited, IsLawfulLanded, IsWithin, Landing, Reply, after_serving, answer, bind, landing, plain_process, serving_answer}
+pub use Rattle.dm_datamove.proofs.Names.{All-nil, IsAwaited, IsLawfulLanded, IsWithin, Landing, Reply, after_serving, answer, bind, gone_answer, landing, plain_process, serving_answer}
 pub use Rattle.dm_datamove.proofs.Services.{answers_lawfully, serves_lawfully}
 pub use Rattle.dm_datamove.proofs.Tested.{none_lawful}
-pub use Rattle.dm_datamove.specs.Serving.{gone_answer}
+pub use Rattle.dm_datamove.specs.Serving.{gone_what}
 pub use Rattle.dm_datamove.specs.declared.Landed.{Landed}
 pub use Rattle.dm_syscall.proofs.Completes.{completes_lawfully}
 pub use Rattle.dm_syscall.proofs.LawfulCalls.{IsLawfulDone, call_lawfully}
-pub use Rattle.dm_syscall.proofs.Names.{CallNumber, Completion, Copy, Done, Drop, Exit, IsLawfulCalled, IsLawfulLanding, Make, Move, Out, Receive, Send, Unknown, after_send, call_number, calls, completes, completes_unless, completion}
-pub use Rattle.dm_syscall.proofs.Names.{copies, does_call, drop-cons, first_failed, is_outside, is_reply, make_refusals, message_over, move_refusals, moves, moves_bytes, moves_over, own_link, pid_eq_self, puts_link, receive_refusals}
-pub use Rattle.dm_syscall.proofs.Names.{refusal, reg, replied, send_refusals, sends, unless_refused, waits, whole}
+pub use Rattle.dm_syscall.proofs.Names.{CallNumber, Completion, Copy, Done, Drop, Exit, IsLawfulCalled, IsLawfulLanding, Make, Move, Out, Receive, Send, Unknown, after_send, begins, call_number, calls, completes, completes_unless}
+pub use Rattle.dm_syscall.proofs.Names.{completion, copies, does_call, drop-cons, first_failed, is_outside, is_reply, make_refusals, message_over, move_refusals, moves, moves_bytes, moves_over, own_link, pid_eq_self, puts_link}
+pub use Rattle.dm_syscall.proofs.Names.{receive_refusals, refusal, reg, replied, send_refusals, sends, unless_refused, waits, whole}
 pub use Rattle.dm_syscall.specs.declared.Called.{Called}
 pub use Rattle.dm_syscall.specs.declared.Completed.{Completed}
 pub use Rattle.dm_line.specs.Sets.{moved_back, without}
@@ -73,16 +74,16 @@ pub use Rattle.dm_line.specs.declared.line.Line.{Line}
 pub use Rattle.dm_kernel.specs.Asking.{asks_manager, asks_move, told_to_move}
 pub use Rattle.dm_kernel.specs.Begun.{begins_process, child_of, empty, opened, room_of, with_all, with_child}
 pub use Rattle.dm_kernel.specs.Coming.{accepts, answers_ask, holds_arriving, restarts, restarts_as, takes_piece, took_piece}
-pub use Rattle.dm_kernel.specs.Departing.{freezes, gives_piece, holds_leaving, leaves, migrates, stays}
+pub use Rattle.dm_kernel.specs.Departing.{asked_to_move, freezes, freezing, gives_piece, holds_leaving, leaves, migrates, stays, tells_asker, with_frozen}
 pub use Rattle.dm_kernel.specs.Following.{board_follows, forwards, forwards_and, manager_follows, process_follows}
 pub use Rattle.dm_kernel.specs.Handle.{answers_with, board_handles, board_took, ended_handles, handles, here_handles, kernel_handles, lands, lands_as, makes, makes_of, manager_handles, manager_took, next_pid, process_handles, routes}
 pub use Rattle.dm_kernel.specs.Handle.{told_board, told_manager}
-pub use Rattle.dm_kernel.specs.Lawful.{AreLawful, IsLawfulArrival, IsLawfulDeparture, IsLawfulKnown, IsLawfulPair, IsLawfulPart, IsLawfulRoom, IsLawfulState, IsLawfulTurned}
+pub use Rattle.dm_kernel.specs.Lawful.{AreLawful, IsLawfulArrival, IsLawfulAsker, IsLawfulDeparture, IsLawfulKnown, IsLawfulPair, IsLawfulPart, IsLawfulRoom, IsLawfulState, IsLawfulTurned}
 pub use Rattle.dm_kernel.specs.May.{FitsBoardWhat, FitsEnded, FitsHere, FitsKernel, FitsKnown, FitsManager, FitsManagerWhat, FrontMay, IsSuch, MayAct, MayHandle, MayRestart, MayTurn, most}
 pub use Rattle.dm_kernel.specs.Meets.{Answers, IsIn, MeetsSome, kernel_state}
 pub use Rattle.dm_kernel.specs.Serve.{Ran, after_row, called_with, completed_label, does, ends, executes, halts, one_more, processor_of, ran, received, received_by, receives, serves, serves_status, with_machine}
 pub use Rattle.dm_kernel.specs.Served.{Executes, HasPlace, IsHere, Receives, Serves}
-pub use Rattle.dm_kernel.specs.State.{KernelKnown, KernelState, Turned, blocks_of, drops, own, own_id, says, turned, with_here, without_process}
+pub use Rattle.dm_kernel.specs.State.{KernelKnown, KernelState, Turned, blocks_of, drops, own, own_id, says, turned, with_here, with_sent, without_process}
 pub use Rattle.dm_kernel.specs.Turn.{first_runnable, goes_round, known_is_runnable, turn, turns}
 pub use Rattle.dm_kernel.specs.declared.kernel.Kernel.{Kernel}
 pub use Rattle.dm_kernel.specs.declared.kernel.Servers.{Servers}

@@ -4,12 +4,12 @@ use Rattle.dm_kernel.proofs.Names.{first_empty, link_at, pid_eq_self, Message, R
 use Rattle.dm_kernel.proofs.Names.{HasTaken, Taken, Here, Frozen, Incoming, Forward, Ended, here_of, with_record, Reply, CallNumber, Exit, Out, Make, Copy, Drop, Send, Receive, Move, Unknown, call_number, is_outside, is_reply}
 use Rattle.dm_kernel.proofs.Names.{make_refusals, move_refusals, send_refusals, bind, plain_process, reg, first_failed, Machine, Called, Done, after_send, calls, copies, does_call, message_over, moves, moves_bytes, moves_over, own_link}
 use Rattle.dm_kernel.proofs.Names.{puts_link, replied, sends, unless_refused, waits, whole, KernelState, KernelKnown, blocks_of, with_here, Ran, after_row, called_with, does, executes, halts, processor_of, ran, receives, serves}
-use Rattle.dm_kernel.proofs.Names.{serves_status, with_machine, MayAct, HasPlace, IsHere}
+use Rattle.dm_kernel.proofs.Names.{serves_status, with_machine, MayAct, HasPlace, IsHere, begins}
 use Rattle.dm_processor.specs.Instructions as row
 use Rattle.dm_process.specs.declared.process.Status.TheVariants as status
 use Rattle.dm_onekernel.specs.declared.label.Reply.TheVariants as reply
 use Rattle.dm_syscall.specs.declared.Called.TheVariants as called
-use Rattle.dm_syscall.specs.Calls.{begins, drops}
+use Rattle.dm_syscall.specs.Calls.{drops}
 use Rattle.dm_syscall.specs.Completing.{IsAwaited}
 use Rattle.dm_kernel.proofs.Known.{of_here, there}
 

@@ -1,8 +1,11 @@
 -- Worked cases, computed: what the kernels of two machines say where a process moves from the one to the other.
 use Rattle.dm_kernel.proofs.Names.{◌≡◌, ℕ, ◌==◌, List, [], ◌∷◌, ◌++◌, map, refl, if◌then◌else◌, Option, pid_of, Message, id_of, kind_of, registers, shell_of_bytes, shell_spelling, Boot, One, bind, Line, Part, Says, Routes, asks_move}
-use Rattle.dm_kernel.proofs.Names.{opened, KernelState, Turned, turn}
+use Rattle.dm_kernel.proofs.Names.{opened, KernelState, Turned, turn, true, MsgId}
 use Rattle.std.specs.declared.option.Option.TheVariants.{Some}
+use Rattle.dm_message.specs.declared.Outcome.TheVariants as ends
+use Rattle.dm_message.specs.declared.What.TheVariants as what
 use Rattle.dm_message.specs.declared.kind.MessageKind.TheVariants as kind
+use Rattle.dm_onekernel.specs.declared.label.Label.TheVariants as label
 use Rattle.dm_line.specs.declared.line.Line.TheVariants as line
 use Rattle.dm_line.specs.declared.line.Stage.TheVariants as stage
 
@@ -115,3 +118,52 @@ follows : groups (places 2) (at_first 2) (Asks 1 ∷ Turns 0 ∷ Turns 1 ∷ Tur
     ∷ [])
 unfolding shell_spelling registers shell_of_bytes
 follows = refl
+
+-- a process asks the manager that the process on machine 0 move
+abbrev wants : ℕ → ℕ → Message
+wants n machine =
+    record {
+      id = id_of (pid_of 0 3) n;
+      to = record { pid = pid_of 0 2; at = 0; moves = 0 };
+      sender = record { pid = pid_of 0 3; at = 0; moves = 0 };
+      what = what.User 1 0 (record { items = 5 ∷ machine ∷ [] }) (record { items = [] });
+    }
+
+-- the manager's requests, and their answers
+abbrev request : ℕ → MsgId
+request n = id_of (pid_of 0 2) n
+
+abbrev answer_to : ℕ → MsgId
+answer_to n = record (request n) { answer = true }
+
+-- it is asked to move to where it is, which is answered at once, and to where there is no slot, which is answered as it stays
+asked_in_vain : groups (places 0) (comes_to (comes_to (at_first 0) (wants 0 0)) (wants 1 1)) (Turns 0 ∷ Turns 0 ∷ Turns 0 ∷ Turns 0 ∷ Turns 0 ∷ Turns 1 ∷ Turns 0 ∷ Turns 0 ∷ [])
+    ≡ Some (
+    (line.Label (label.Took (id_of (pid_of 0 3) 0)) ∷ line.Put 0 0 (request 0) kind.Move (pid_of 0 3) ∷ [])
+    ∷ (line.Label (label.Took (id_of (pid_of 0 3) 1)) ∷ line.Put 0 0 (request 1) kind.Move (pid_of 0 3) ∷ [])
+    ∷ (line.Label (label.Asked (request 0)) ∷ line.Label (label.Answered (request 0) ends.Done) ∷ line.Put 0 0 (answer_to 0) kind.Moved (pid_of 0 2) ∷ [])
+    ∷ (line.Label (label.Asked (request 1)) ∷ line.Migration stage.Frozen (pid_of 0 3) ∷ line.Migration stage.Asked (pid_of 0 3) ∷ line.Put 0 1 (id_of (pid_of 0 0) 0) kind.Ask (pid_of 1 0) ∷ [])
+    ∷ (line.Label (label.Took (answer_to 0)) ∷ [])
+    ∷ (line.Lacks (pid_of 0 3) 0 2 ∷ line.Put 1 0 (id_of (pid_of 1 0) 0) kind.Refuse (pid_of 0 0) ∷ [])
+    ∷ (line.Stays (pid_of 0 3) ∷ line.Label (label.Answered (request 1) ends.Stayed) ∷ line.Put 0 0 (answer_to 1) kind.Moved (pid_of 0 2) ∷ [])
+    ∷ (line.Label (label.Took (answer_to 1)) ∷ [])
+    ∷ [])
+unfolding shell_spelling registers
+asked_in_vain = refl
+
+-- it is asked to move to where there is a slot: the other machine answers as it goes on there
+asked_and_moves : groups (places 2) (comes_to (at_first 2) (wants 0 1)) (Turns 0 ∷ Turns 0 ∷ Turns 1 ∷ Turns 0 ∷ Turns 1 ∷ Turns 0 ∷ Turns 1 ∷ Turns 0 ∷ Turns 1 ∷ Turns 0 ∷ [])
+    ≡ Some (
+    (line.Label (label.Took (id_of (pid_of 0 3) 0)) ∷ line.Put 0 0 (request 0) kind.Move (pid_of 0 3) ∷ [])
+    ∷ (line.Label (label.Asked (request 0)) ∷ line.Migration stage.Frozen (pid_of 0 3) ∷ line.Migration stage.Asked (pid_of 0 3) ∷ line.Put 0 1 (id_of (pid_of 0 0) 0) kind.Ask (pid_of 1 0) ∷ [])
+    ∷ (line.Migration stage.Accepted (pid_of 0 3) ∷ line.Put 1 0 (id_of (pid_of 1 0) 0) kind.PullState (pid_of 0 0) ∷ [])
+    ∷ (line.Proto (id_of (pid_of 1 0) 0) ∷ line.Put 0 1 (id_of (pid_of 0 0) 1) kind.State (pid_of 1 0) ∷ [])
+    ∷ (line.Migration stage.StateTaken (pid_of 0 3) ∷ line.Put 1 0 (id_of (pid_of 1 0) 1) kind.PullBlock (pid_of 0 0) ∷ [])
+    ∷ (line.Proto (id_of (pid_of 1 0) 1) ∷ line.Put 0 1 (id_of (pid_of 0 0) 2) kind.Memory (pid_of 1 0) ∷ [])
+    ∷ (line.Migration stage.MemoryTaken (pid_of 0 3) ∷ line.Put 1 0 (id_of (pid_of 1 0) 2) kind.AllTaken (pid_of 0 0) ∷ [])
+    ∷ (line.SentOn (pid_of 0 3) 0 ∷ line.Migration stage.Left (pid_of 0 3) ∷ line.Put 0 1 (id_of (pid_of 0 0) 3) kind.Restart (pid_of 1 0) ∷ [])
+    ∷ (line.Migration stage.Restarted (pid_of 0 3) ∷ line.Label (label.Answered (request 0) ends.Done) ∷ line.Put 1 0 (answer_to 0) kind.Moved (pid_of 0 2) ∷ [])
+    ∷ (line.Label (label.Took (answer_to 0)) ∷ [])
+    ∷ [])
+unfolding shell_spelling registers shell_of_bytes
+asked_and_moves = refl

@@ -167,7 +167,14 @@ impl Kernel {
         let asker = arriving.asker();
         let (process, held) = arriving.restart();
         let mut parts = list_of(self.alloc, [step(Stage::Restarted, pid)])?;
-        tell_asker(&process, self.here, Outcome::Done, asker, &mut parts)?;
+        tell_asker(
+            self.alloc,
+            &process,
+            self.here,
+            Outcome::Done,
+            asker,
+            &mut parts,
+        )?;
         self.go_on(pid, process, held)?;
         Ok(parts)
     }

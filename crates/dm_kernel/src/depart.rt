@@ -1,16 +1,15 @@
 //! What a machine's kernel does where a process leaves it.
-ghost use Rattle.std.specs.Prelude.{◌≡◌, ◌≢◌, ◌<◌, ◌+◌, ◌++◌, ◌∷◌, [], IfOk, IfSome, IsSome, OnOk, Some, length, map};
+ghost use Rattle.std.specs.Prelude.{◌≡◌, ◌≢◌, ◌<◌, ◌+◌, ◌++◌, ◌∷◌, [], IfOk, IfSome, IsSome, OnOk, length, map};
+ghost use Rattle.dm_message.specs.declared.Outcome.TheVariants as ends_;
 ghost use Rattle.dm_records.specs.Records.{at, frozen_of, here_of};
-ghost use Rattle.dm_link.specs.Places.{kernel_at};
-ghost use Rattle.dm_migrate.specs.Departure.{CanMove, Departure, ask_of};
+ghost use Rattle.dm_migrate.specs.Departure.{CanMove, Departure};
 ghost use Rattle.dm_migrate.specs.Pieces.{HasBlock, HasChunk, block_of, chunk_of, state_of};
 ghost use Rattle.dm_onekernel.specs.Options.{bind};
-ghost use Rattle.dm_process.specs.declared.process.Process.{Process};
-ghost use Rattle.dm_kernel.specs.Departing.{asked_to_move, gives_piece, holds_leaving, leaves, migrates, stays, takes_step, tells_asker, with_frozen};
+ghost use Rattle.dm_kernel.specs.Departing.{asked_to_move, freezing, gives_piece, holds_leaving, leaves, migrates, stays, takes_step, tells_asker, with_frozen};
 ghost use Rattle.dm_kernel.specs.May.{IsSuch, MayLeave};
-ghost use Rattle.dm_kernel.specs.Meets.{Answers, IsIn, kernel_state};
+ghost use Rattle.dm_kernel.specs.Meets.{Answers, kernel_state};
 ghost use Rattle.dm_kernel.specs.Served.{CanFreeze, IsHere};
-ghost use Rattle.dm_kernel.specs.State.{own, with_sent};
+ghost use Rattle.dm_kernel.specs.State.{turned, with_sent};
 ghost use Rattle.dm_line.specs.declared.line.Line.TheVariants as line_;
 ghost use Rattle.dm_line.specs.declared.line.Stage.TheVariants as stage_;
 
@@ -38,45 +37,68 @@ impl Kernel {
         if to == self.here {
             self.say(Line::Here(message.id))
         } else {
-            let pid = message.to.pid;
-            let ask = self.freeze(pid, to, None)?;
-            self.say_frozen(pid, ask)
+            self.freeze(message.to.pid, to, None, Vec::new(self.alloc))
         }
     }
 
     /// Lets a process leave for a machine, as it is asked, and tells who asked how that ended; at once, where the process is
     /// there already.
     pub(crate) fn move_asked(&mut self, message: &Message, to: u8) -> Result<Vec<Part>, NoMemory>
-        requires { IsHere (CanFreeze (kernel_state self.old)) (at self.old.records message.now.to.pid) }
+        requires process { IsHere (CanFreeze (kernel_state self.old)) (at self.old.records message.now.to.pid) }
         ensures answers { Answers result self.new (bind (here_of (at self.old.records message.now.to.pid))
             (λ x. asked_to_move (kernel_state self.old) message.now x to)) }
         ensures whole { OnOk result (to ≢ self.old.here → IfSome (here_of (at self.old.records message.now.to.pid)) CanMove) }
     {
-        let pid = message.to.pid;
-        let here = self.here;
-        let asker = Some(asker_of(message));
         let asked = Part::Says(Line::Label(Label::Asked { id: message.id }));
-        let mut parts = list_of(self.alloc, [asked])?;
-        if to == here {
-            let process = self.records.here_mut(pid).unwrap();
-            tell_asker(process, here, Outcome::Done, asker, &mut parts)?;
+        let parts = list_of(self.alloc, [asked])?;
+        let asker = Some(asker_of(message));
+        if to == self.here {
+            self.tell_there(message.to.pid, asker, parts)
         } else {
-            let ask = self.freeze(pid, to, asker)?;
-            push(&mut parts, step(Stage::Frozen, pid))?;
-            push(&mut parts, step(Stage::Asked, pid))?;
-            push(&mut parts, Part::Routes(ask))?;
+            self.freeze(message.to.pid, to, asker, parts)
         }
-        Ok(parts)
     }
 
-    /// Freezes a process that is to leave for a machine, and keeps who waits to hear how that ends: it isn't served any more. The
-    /// ask that is to go to that machine.
-    fn freeze(&mut self, pid: Pid, to: u8, asker: Option<Asker>) -> Result<Message, NoMemory>
-        requires { IsHere (CanFreeze (kernel_state self.old)) (at self.old.records pid) }
-        ensures state { (x : Process) → here_of (at self.old.records pid) ≡ Some x →
-            OnOk result (IsIn self.new (with_sent (with_frozen (kernel_state self.old) pid x to asker))) }
-        ensures ask { (x : Process) → here_of (at self.old.records pid) ≡ Some x →
-            IfOk result (λ m. m ≡ own (kernel_state self.old) (kernel_at to) (ask_of x asker)) }
+    /// Tells who asked for the move of a process that it is there already, behind what is said so far.
+    fn tell_there(
+        &self,
+        pid: Pid,
+        asker: Option<Asker>,
+        mut parts: Vec<Part>,
+    ) -> Result<Vec<Part>, NoMemory>
+        requires { IsSome (here_of (at self.now.records pid)) }
+        ensures { Answers result self.now (bind (here_of (at self.now.records pid))
+            (λ x. turned (kernel_state self.now) (parts.items ++ tells_asker self.now.here x ends_.Done asker))) }
+    {
+        match self.records.borrow(pid) {
+            Record::Here(process) => {
+                tell_asker(
+                    self.alloc,
+                    process,
+                    self.here,
+                    Outcome::Done,
+                    asker,
+                    &mut parts,
+                )?;
+                Ok(parts)
+            }
+            // It is here: the requirement says so.
+            _ => unreachable!(),
+        }
+    }
+
+    /// Freezes a process that is to leave for a machine, and keeps who waits to hear how that ends: it isn't served any more, and
+    /// that machine is asked, behind what is said so far.
+    fn freeze(
+        &mut self,
+        pid: Pid,
+        to: u8,
+        asker: Option<Asker>,
+        parts: Vec<Part>,
+    ) -> Result<Vec<Part>, NoMemory>
+        requires process { IsHere (CanFreeze (kernel_state self.old)) (at self.old.records pid) }
+        ensures answers { Answers result self.new (bind (here_of (at self.old.records pid))
+            (λ x. turned (with_sent (with_frozen (kernel_state self.old) pid x to asker)) (parts.items ++ freezing (kernel_state self.old) pid x to asker))) }
         ensures whole { OnOk result (IfSome (here_of (at self.old.records pid)) CanMove) }
     {
         let process = self.records.take_here(pid);
@@ -84,7 +106,8 @@ impl Kernel {
             Ok((leaving, ask)) => {
                 self.records.put_back(pid, Record::Frozen(leaving));
                 remove(&mut self.ring, pid);
-                Ok(self.send(Addr::of_kernel(to), ask))
+                let ask = self.send(Addr::of_kernel(to), ask);
+                self.say_asked(pid, ask, parts)
             }
             Err((process, e)) => {
                 self.records.put_back(pid, Record::Here(process));
@@ -93,16 +116,14 @@ impl Kernel {
         }
     }
 
-    /// What is said of a process that is frozen, and the ask that goes out.
-    fn say_frozen(&self, pid: Pid, ask: Message) -> Result<Vec<Part>, NoMemory>
-        ensures { IfOk result (λ parts. parts.items ≡ takes_step stage_.Frozen pid ∷ takes_step stage_.Asked pid ∷ Part.Routes ask ∷ []) }
+    /// What is said of a process that is frozen, and the ask that goes out, behind what is said so far.
+    fn say_asked(&self, pid: Pid, ask: Message, mut parts: Vec<Part>) -> Result<Vec<Part>, NoMemory>
+        ensures { IfOk result (λ said. said.items ≡ parts.items ++ takes_step stage_.Frozen pid ∷ takes_step stage_.Asked pid ∷ Part.Routes ask ∷ []) }
     {
-        let frozen = step(Stage::Frozen, pid);
-        let ask = Parcel::new(self.alloc, ask)?;
-        list_of(
-            self.alloc,
-            [frozen, step(Stage::Asked, pid), Part::Routes(ask)],
-        )
+        push(&mut parts, step(Stage::Frozen, pid))?;
+        push(&mut parts, step(Stage::Asked, pid))?;
+        push(&mut parts, Part::Routes(Parcel::new(self.alloc, ask)?))?;
+        Ok(parts)
     }
 
     /// Keeps a message for a process that leaves.
@@ -129,7 +150,14 @@ impl Kernel {
         let asker = leaving.asker();
         let (process, held) = leaving.stay();
         let mut parts = list_of(self.alloc, [Part::Says(Line::Stays(pid))])?;
-        tell_asker(&process, self.here, Outcome::Stayed, asker, &mut parts)?;
+        tell_asker(
+            self.alloc,
+            &process,
+            self.here,
+            Outcome::Stayed,
+            asker,
+            &mut parts,
+        )?;
         self.go_on(pid, process, held)?;
         Ok(parts)
     }
@@ -218,6 +246,7 @@ impl Kernel {
 
 /// Tells who asked for the move of a process how it ended, if somebody asked; the process is on machine `here`.
 pub(crate) fn tell_asker(
+    alloc: Global,
     process: &Process,
     here: u8,
     outcome: Outcome,
@@ -234,10 +263,8 @@ pub(crate) fn tell_asker(
         parts,
         Part::Says(Line::Label(Label::Answered { id, outcome })),
     )?;
-    push(
-        parts,
-        Part::Routes(moved_answer(process, here, outcome, asker)),
-    )
+    let answer = Parcel::new(alloc, moved_answer(process, here, outcome, asker))?;
+    push(parts, Part::Routes(answer))
 }
 
 /// What is said of a step of a migration.

@@ -1,6 +1,6 @@
 -- A process that is looked at stays as it is.
-use Rattle.dm_kernel.proofs.Names.{◌≡◌, ◌∙◌, Some, None, false, ap, refl, subst, sym, is_some, Pid, at, here_of, with_record, Here, Process, kernel_state, KernelKnown, known_is_runnable}
-use Rattle.dm_kernel.proofs.Known.{has_some, here_runs, is_here_as, none_runs, same_state, set_again}
+use Rattle.dm_kernel.proofs.Names.{◌≡◌, ◌∙◌, Some, ap, sym, at, here_of, with_record, Here, Process, kernel_state, known_is_runnable}
+use Rattle.dm_kernel.proofs.Known.{has_some, here_runs, none_runs, same_state, set_again}
 use Rattle.dm_kernel.proofs.Rounds.{here_does}
 use Rattle.dm_kernel.proofs.kernel.Kernel.service_of.Goals as goal
 
