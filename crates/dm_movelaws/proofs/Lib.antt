@@ -12,6 +12,7 @@ pub mod Forwards
 pub mod Pending
 pub mod Worked
 pub mod Open
+pub mod Asked
 pub mod NumbersAlways
 pub mod Real
 pub mod Movers

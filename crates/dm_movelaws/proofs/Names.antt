@@ -130,6 +130,7 @@ pub use Rattle.dm_rulelaws.proofs.Queued.{IsQueued}
 pub use Rattle.dm_rulelaws.proofs.RunLabels.{after_replay, group_replay, labels-append, replay-append}
 pub use Rattle.dm_rulelaws.proofs.Runs.{Based, Run}
 pub use Rattle.dm_rulelaws.proofs.RunsAlways.{run_always, run_group, run_start}
+pub use Rattle.dm_movelaws.specs.Asked.{FollowsWhileMoving}
 pub use Rattle.dm_movelaws.specs.AtRest.{AtRest, AtRestAlways, DropsAlways, IsAt, IsWaiting, is_moving}
 pub use Rattle.dm_movelaws.specs.Counts.{CountsKept, CountsStay, gives_to, in_next, is_filled, is_owned, refilled}
 pub use Rattle.dm_movelaws.specs.Ends.{EndsAlways, asks, count, ends, is_for}

@@ -2,6 +2,7 @@
 pub mod Moves
 pub mod Spares
 pub mod Quiet
+pub mod Fine
 pub mod Apart
 pub mod Stays
 pub mod Keeps

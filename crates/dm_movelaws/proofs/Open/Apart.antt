@@ -1,4 +1,5 @@
 -- Each line of a group leaves a process that moves alone, where it stands.
+use Rattle.dm_movelaws.proofs.Open.Fine.{AnswersAnother, AnswersIf}
 use Rattle.dm_movelaws.proofs.Names.{◌≡◌, ◌≢◌, ℕ, ◌+◌, ◌==◌, Bool, true, false, List, [], ◌∷◌, ◌++◌, length, refl, ap, ◌∙◌, sym, subst, ⊤, if◌then◌else◌, slice_get, Option, None, Some, false≢true, Pid, pid_of, MsgId, MessageKind}
 use Rattle.dm_movelaws.proofs.Names.{plain_kind, Load, PlainMessage, Boot, Label, Why, first_number, Life, OneKernel, bind, bind-is, Step, Line, Receiver, IsOthers, Spares, migrates, Part, Says, Routes, Again, Owns, Transmits, Spelled}
 use Rattle.dm_movelaws.proofs.Names.{lines_of, puts, goes_out, packet_line, spelled, Moves, knows, IsIn, Point, label_of, kernel_after, moved, after_line, after, group_of, Here, own_id, SparesPart, FirstApart, ApartOf, apart_first}
@@ -68,6 +69,9 @@ outcome_apart b pt (Step.Deliver a c k) y h child off =
     apart_first pt.kernel y qs (net_apart y qs (arrives_net a c (pt.view.pair a c) (pt.view.pair c a) s))
 outcome_apart b pt (Step.Migrate p m) y h child off = apart_first pt.kernel y (migrates pt p) (migrates_apart y pt p)
 
+pub moving_off : (pt : Point) (y : Pid) (k : MessageKind) (s t : ℕ) (o : Option MsgId) → IsIn pt.view y (Moves k s t o) → (m : ℕ) (p : Pid) → pt.view.known m p ≡ Here → p ≢ y
+moving_off pt y k s t o phase m p here is = false≢true (sym (moves_away k s t m o (s == m) (t == m) refl refl) ∙ sym (ap (knows (Moves k s t o) m) (ap (pt.view.known m) (sym is) ∙ here)) ∙ phase.known m)
+
 pub moving_alone : (b : Boot) (pt : Point) (d : Step) (w : Spelled) (y : Pid) (k : MessageKind) (s t : ℕ) (o : Option MsgId) → Rooted pt → IsIn pt.view y (Moves k s t o) → group_of b pt d ≡ Some w → AllAlone y pt w.lines
 moving_alone b pt d w y k s t o h phase e =
     group_alone b pt d w y
@@ -107,14 +111,15 @@ gone_over s t id m is there =
 fixed_off : (y q : Pid) → is_fixed y ≡ false → is_fixed q ≡ true → q ≢ y
 fixed_off y q free fixed e = false≢true (sym free ∙ ap is_fixed (sym e) ∙ fixed)
 
-pub anothers_is : (s t : OneKernel) (y : Pid) (l : Label) → is_fixed y ≡ false → ((z : Why) → s.processes y ≡ Some (Ended z) → ⊥) → IsOthers s y l → kernel.step s l ≡ Some t → IsAnothers s y l
-anothers_is s t y (Label.Dropped id) free lives h e = λ m there to. let (z, over) = dropped_over s t id m e there in lives z (ap s.processes (sym to) ∙ over)
-anothers_is s t y (Label.Gone id) free lives h e = λ m there to. let (z, over) = gone_over s t id m e there in lives z (ap s.processes (sym to) ∙ over)
-anothers_is s t y (Label.Took id) free lives h e = λ m there. fixed_off y m.to free (took_for s t id e m there)
-anothers_is s t y (Label.Created id q) free lives h e = (h, λ m there. fixed_off y m.to free (created_for s t id q e m there))
-anothers_is s t y (Label.NoSpace id a b) free lives h e = λ m there. fixed_off y m.to free (no_space_for s t id a b e m there)
-anothers_is s t y _ free lives h e = h
+pub anothers_is : (s t : OneKernel) (y : Pid) (l : Label) → is_fixed y ≡ false → ((z : Why) → s.processes y ≡ Some (Ended z) → ⊥) → AnswersAnother s y l → IsOthers s y l → kernel.step s l ≡ Some t → IsAnothers s y l
+anothers_is s t y (Label.Dropped id) free lives fine h e = λ m there to. let (z, over) = dropped_over s t id m e there in lives z (ap s.processes (sym to) ∙ over)
+anothers_is s t y (Label.Gone id) free lives fine h e = λ m there to. let (z, over) = gone_over s t id m e there in lives z (ap s.processes (sym to) ∙ over)
+anothers_is s t y (Label.Took id) free lives fine h e = λ m there. fixed_off y m.to free (took_for s t id e m there)
+anothers_is s t y (Label.Created id q) free lives fine h e = (h, λ m there. fixed_off y m.to free (created_for s t id q e m there))
+anothers_is s t y (Label.NoSpace id a b) free lives fine h e = λ m there. fixed_off y m.to free (no_space_for s t id a b e m there)
+anothers_is s t y (Label.Answered id o) free lives fine h e = fine
+anothers_is s t y _ free lives fine h e = h
 
-pub anothers_if : (s t : OneKernel) (y : Pid) (o : Option Label) → is_fixed y ≡ false → ((z : Why) → s.processes y ≡ Some (Ended z) → ⊥) → Spares s y o → kernel_after s o ≡ Some t → IsAnothersIf s y o
-anothers_if s t y None free lives h e = tt
-anothers_if s t y (Some l) free lives h e = anothers_is s t y l free lives h e
+pub anothers_if : (s t : OneKernel) (y : Pid) (o : Option Label) → is_fixed y ≡ false → ((z : Why) → s.processes y ≡ Some (Ended z) → ⊥) → AnswersIf s y o → Spares s y o → kernel_after s o ≡ Some t → IsAnothersIf s y o
+anothers_if s t y None free lives fine h e = tt
+anothers_if s t y (Some l) free lives fine h e = anothers_is s t y l free lives fine h e

@@ -35,7 +35,7 @@ AllMild p o [] = ⊤
 AllMild p o (q ∷ ps) = Mild p o q × AllMild p o ps
 
 -- they don't mark it
-line_marks : (p : Pid) (o : Option MsgId) (l : Line) (ms : List Mark) → MildLine p o l → with_mark p l ms ≡ ms
+pub line_marks : (p : Pid) (o : Option MsgId) (l : Line) (ms : List Mark) → MildLine p o l → with_mark p l ms ≡ ms
 line_marks p o (Line.Migration Stage.Asked q) ms h = mark_other p q _ ms (pid_eq-swap p q ∙ h)
 line_marks p o (Line.Migration Stage.Left q) ms h = mark_other p q _ ms (pid_eq-swap p q ∙ h)
 line_marks p o (Line.Migration Stage.Frozen q) ms h = absurd h
