@@ -6,6 +6,7 @@ use Rattle.dm_movelaws.proofs.Names.{phases_always, AtRestAlways, IsAt, IsWaitin
 use Rattle.dm_movelaws.proofs.At.RestPairs.{Routed, routed_always}
 use Rattle.dm_movelaws.proofs.At.RestQueues.{Dropped, dropped_always}
 use Rattle.dm_rulelaws.proofs.Names.{machine_of}
+use Rattle.dm_movelaws.proofs.Names.{Note}
 
 within_by : (b : Boot) (pt : Point) (i : MsgId) (z : Spot) (o : Option PlainMessage) → pt.kernel.bag i ≡ o → Run b pt → 1 ≤ standing pt.view i z → (pt.addresses (Receiver i)).at < pt.kernel.machines
 within_by b pt i z (Some x) there h least = h.found.within (Receiver i) x.to (ap to_of there)
@@ -128,6 +129,14 @@ lives_at b pt p x phase h calm_ alive is due =
     let server : is_server p ≡ false = ap (λ (c : Bool). c || pid_eq p manager) k.0 ∙ k.1 in
     phase_at pt.view p x phase calm_ (h.based.known.home p server (ap is_some alive)) (λ m. sym (ap (agrees (pt.view.known m p)) alive) ∙ h.based.known.agree m p server) is due
 
+-- so none follows a request to move
+unasked_at : (b : Boot) (pt : Point) (p : Pid) (o : Option Note) (phase : Phase) → Run b pt → Calm pt.view → pt.kernel.notes p ≡ o → IsIn pt.view p phase → is_due phase ≡ false → o ≡ None
+unasked_at b pt p None phase h calm_ noted is due = refl
+unasked_at b pt p (Some n) phase h calm_ noted is due =
+    let (x, alive) = h.based.phased.state.sound.notes.lives p n noted in
+    let at = lives_at b pt p x phase h calm_ alive is due in
+    absurd (false≢true (sym (h.based.noted.away p n noted tt at.machine) ∙ ap is_here at.here))
+
 pub at_rest_always : AtRestAlways
 at_rest_always b es pt valid leads quiet =
     let h = (run_always b es pt valid leads).run in
@@ -143,5 +152,6 @@ at_rest_always b es pt valid leads quiet =
       inbox = calm_.inbox;
       untaken = calm_.untaken;
       waiting = λ i x there. let (z, one, others) = stands_right pt i h.based.phased.state (Some x) there in waits_at b pt i x z h rest there one others;
+      unasked = λ p. (let (phase, is, due) = phases_always b es pt p valid leads in unasked_at b pt p (pt.kernel.notes p) phase h calm_ refl is due);
       own = λ i z own. own_nowhere b pt i z h rest own;
     }

@@ -32,7 +32,7 @@ AllMild p o [] = ⊤
 AllMild p o (q ∷ ps) = Mild p o q × AllMild p o ps
 
 -- they don't mark it
-line_marks : (p : Pid) (o : Option MsgId) (l : Line) (ms : List Mark) → MildLine p o l → with_mark p l ms ≡ ms
+pub line_marks : (p : Pid) (o : Option MsgId) (l : Line) (ms : List Mark) → MildLine p o l → with_mark p l ms ≡ ms
 line_marks p o l ms h = grind (arith, nat_tests, mark_other, pid_eq-swap)
 
 pub mild_marks : (p : Pid) (o : Option MsgId) (ps : List Part) → AllMild p o ps → marks_of p ps ≡ []
