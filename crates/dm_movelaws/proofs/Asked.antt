@@ -1,2 +1,3 @@
 -- Lemmas of the family Asked, by file.
 pub mod Following
+pub mod Rows

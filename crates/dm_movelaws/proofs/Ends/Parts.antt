@@ -78,7 +78,7 @@ untold_plain p v i none t told = absurd (let f : None ≡ Some t = sym none ∙ 
 pub first_off : (b c : Bool) → b ≡ false → (b && c) ≡ false
 first_off b c e = ap (λ (x : Bool). x && c) e
 
-rest_behind : (p : Pid) (pt : Point) (x : Part) → Sane pt → PairsFit pt.view → Quiet p pt.view x → NeedsPart pt x → Behind (λ q. Rest p pt.view q.view) pt x
+pub rest_behind : (p : Pid) (pt : Point) (x : Part) → Sane pt → PairsFit pt.view → Quiet p pt.view x → NeedsPart pt x → Behind (λ q. Rest p pt.view q.view) pt x
 rest_behind p pt (Says l) h fits quiet need = λ s step. rest_about p pt.view (view_after pt.view l) (moved pt l s).view.topic (says_rest p pt s l h fits quiet need step)
 rest_behind p pt (Routes i) h fits quiet need = λ m there. put_rest p pt.view _ i (plain_kind m.what) m.to fits (first_off (is_migrate (plain_kind m.what)) (pid_eq p m.to) (plain_not m.what)) (plain_in_bag p pt i m h there)
 rest_behind p pt (Again i b) h fits quiet need = λ t there. put_rest p pt.view b i t.kind t.receiver fits (tame_plain p pt.view i quiet t there) (tame_plain p pt.view i quiet)

@@ -7,6 +7,7 @@ use Rattle.dm_onekernel.specs.Manager as manage
 pub use Rattle.dm_rule.proofs.Trails.Spares.{and_no as and_false}
 use Rattle.dm_movelaws.proofs.Names.{Pid, Note, with_note, without_note}
 use Rattle.dm_laws.proofs.Notes.{Notes-agree}
+use Rattle.dm_movelaws.proofs.Names.{⊤}
 
 -- a request to make a process or to move one, and an answer to one
 abbrev pub is_request : PlainWhat → Bool

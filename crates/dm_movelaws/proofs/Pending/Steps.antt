@@ -13,6 +13,7 @@ use Rattle.dm_movelaws.proofs.Names.{Note, Outcome, answer_id}
 use Rattle.dm_movelaws.proofs.Pending.Pairs.{is_answer, noted_ones, unnoted_ones}
 use Rattle.dm_rule.proofs.Changes.{Follows}
 use Rattle.dm_laws.proofs.Servers.{note-is}
+use Rattle.dm_movelaws.proofs.Names.{sym}
 
 -- what a process receives is a user message
 completes_if : (p : Pid) (x : PlainProcess) (m : PlainMessage) (stopped : Bool) (c : receiving.Completed) → (if stopped then None else receiving.completes_status p x m x.status) ≡ Some c → Neither m.what
