@@ -128,3 +128,4 @@ pub use Rattle.dm_rule.proofs.Phases.Calm.{calm_about}
 pub use Rattle.dm_rule.specs.View.{sets_off}
 pub use Rattle.dm_rule.specs.Migrating.{tells_asker}
 pub use Rattle.dm_rule.specs.Migrating.{updates}
+pub use Rattle.dm_laws.proofs.Runs.{notes_always_agree, start-sound}

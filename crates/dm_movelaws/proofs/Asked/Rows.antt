@@ -112,7 +112,7 @@ hears_row b o m id q ps = by_hears (Row o (Step.Turn m)) b o m id q ps (λ t is.
   frozen = λ to at_. Plain (refl, (refl, (tt, tt)));
 })
 
-net_unmarked : (l : Line) → IsNetLine l → IsUnmarked l
+pub net_unmarked : (l : Line) → IsNetLine l → IsUnmarked l
 net_unmarked l h = grind (arith, nat_tests)
 
 pub outcome_row : (b : Boot) (o : Point) (d : Step) (ps : List Part) → outcome b o d ≡ Some ps → Row o d ps
@@ -199,6 +199,7 @@ answers_notes pt id r q p w noted e =
 end_label : (q : Pid) (r : Outcome) (l : Line) → EndLine q r l → label_of l ≡ None
 end_label q Outcome.Done l e = ap label_of e
 end_label q Outcome.Stayed l e = ap label_of e
+end_label q Outcome.Ended l e = absurd e
 
 pub ends_notes : (pt : Point) (q p : Pid) (n : Note) (l : Line) (r : Outcome) (w : Spelled) → pt.kernel.noted n.id ≡ Some q → EndLine q r l → spelled pt (Says l ∷ answers_move n.id r) ≡ Some w → w.point.kernel.notes p ≡ noted_if q p None (pt.kernel.notes p)
 ends_notes pt q p n l r w noted end e =

@@ -11,6 +11,7 @@ use Rattle.dm_movelaws.proofs.Ends.Quiet.{quiet_stays, quiet_empty}
 use Rattle.dm_movelaws.specs.Ends.{own_ends}
 use Rattle.dm_movelaws.proofs.Ends.Own.{owned, owned_zero, own-append, leads_next}
 use Rattle.dm_movelaws.proofs.Asked.Following.{noted_moves}
+use Rattle.dm_movelaws.proofs.Names.{◌∙◌}
 
 -- how many moves are under way that no process asked for
 abbrev moving_at : (b : Boot) (pt : Point) → Both b pt → Pid → ℕ

@@ -21,6 +21,9 @@ use Rattle.dm_movelaws.proofs.Ends.Rows.{line_then, other_still, pid_swap}
 use Rattle.dm_movelaws.proofs.Ends.Lines.{Smooth, smooth_trans, moves_none}
 use Rattle.dm_movelaws.proofs.Ends.Moving.{here_stays}
 use Rattle.dm_movelaws.proofs.Asked.Rows.{Row, Plain, Ends, IsHere, Leaves, outcome_row, plain_notes, ends_notes, here_notes, leaves_notes}
+use Rattle.dm_movelaws.proofs.Asked.Rows.{AllUnmarked, IsUnmarked, net_unmarked}
+use Rattle.dm_movelaws.proofs.Leading.{net_says}
+use Rattle.dm_movelaws.proofs.Names.{◌&&◌}
 
 abbrev begun_phases : (pt : Point) (d : Step) → InPhases pt.view → InPhases (begun pt d).view
 begun_phases pt d h = calm_phases pt.view (after_head pt.view d) (head_calm pt.view d) h
@@ -147,13 +150,17 @@ leaves_own p d pt h id msg to w unasked sane fits there here what e g ids opens 
           record { left = ids; opens = smooth_opens p pt.view w.point.view ids smooth opens; quiet = refl; sum = λ f ext. (let z : own_count f p (rule.says (Label.Asked id) ∷ leaves_for q to) ≡ 0 = refl in omega (arith, z, zero_, same)) }
     ]
 
--- by what the parts say of requests to move
-own_of : (p : Pid) (pt : Point) (d : Step) (h : InPhases (begun pt d).view) (ps : List Part) (w : Spelled) → Sane (begun pt d) → PairsFit (begun pt d).view → Row pt d ps → spelled (begun pt d) ps ≡ Some w → Directed p d (begun pt d) h ps w → OwnDirected p d (begun pt d) h ps w
-own_of p pt d h ps w sane fits (Plain so) e r g ids opens before behind =
+-- parts that say nothing of requests to move
+plain_own : (p : Pid) (pt : Point) (d : Step) (h : InPhases (begun pt d).view) (ps : List Part) (w : Spelled) → AllUnmarked ps → spelled (begun pt d) ps ≡ Some w → Directed p d (begun pt d) h ps w → OwnDirected p d (begun pt d) h ps w
+plain_own p pt d h ps w so e r g ids opens before behind =
     let a = pt.kernel.notes p in
     let notes = plain_notes p ps (begun pt d) w so e in
     subst (λ (x : Option Note). OwnBalance p w.point.view ids (asked_by p d) (owned a (moving_in (h.of p))) (owned x (moving_in (g.of p))) ps) (sym notes)
     (kept_own p w.point.view ids (asked_by p d) (moving_in (h.of p)) (moving_in (g.of p)) ps a (λ f. own_same f p ps so) before (λ n is. behind n (notes ∙ is)) (r g ids opens))
+
+-- by what the parts say of requests to move
+own_of : (p : Pid) (pt : Point) (d : Step) (h : InPhases (begun pt d).view) (ps : List Part) (w : Spelled) → Sane (begun pt d) → PairsFit (begun pt d).view → Row pt d ps → spelled (begun pt d) ps ≡ Some w → Directed p d (begun pt d) h ps w → OwnDirected p d (begun pt d) h ps w
+own_of p pt d h ps w sane fits (Plain so) e r g ids opens before behind = plain_own p pt d h ps w so e r g ids opens before behind
 own_of p pt d h ps w sane fits (Ends q n l k noted end are) e r g ids opens before behind =
     let start = begun pt d in
     let qs = Says l ∷ answers_move n.id k in
@@ -174,8 +181,10 @@ own_of p pt d h ps w sane fits (Ends q n l k noted end are) e r g ids opens befo
             quiet = old.quiet;
             sum = λ f ext.
                 let s = old.sum f ext in
-                let count_ : part_count (ends f p) qs ≡ 1 = ap (λ (b : Bool). unit_if b) (end_ends f p q k l end ∙ other) in
-                let own : own_count f p qs ≡ 0 = ap (λ (b : Bool). unit_if b) (and_off (ends f p l) false refl) in
+                let x : unit_if (ends f p l) ≡ 1 = ap (λ (b : Bool). unit_if b) (end_ends f p q k l end ∙ other) in
+                let y : unit_if (ends f p l && false) ≡ 0 = ap (λ (b : Bool). unit_if b) (and_off (ends f p l) false refl) in
+                let count_ : part_count (ends f p) qs ≡ 1 = omega (arith, x) in
+                let own : own_count f p qs ≡ 0 = omega (arith, y) in
                 omega (arith, s, count_, own, one, was, now);
           }
       | inr off ↦
@@ -183,7 +192,7 @@ own_of p pt d h ps w sane fits (Ends q n l k noted end are) e r g ids opens befo
           let kept : w.point.kernel.notes p ≡ pt.kernel.notes p = notes ∙ ap (λ (b : Bool). if b then None else pt.kernel.notes p) off in
           subst (λ (x : Option Note). OwnBalance p w.point.view ids (asked_by p d) (owned (pt.kernel.notes p) (moving_in (h.of p))) (owned x (moving_in (g.of p))) qs) (sym kept)
           (kept_own p w.point.view ids (asked_by p d) (moving_in (h.of p)) (moving_in (g.of p)) qs (pt.kernel.notes p)
-          (λ f. ap (λ (b : Bool). unit_if b) (and_off (ends f p l) false refl) ∙ sym (ap (λ (b : Bool). unit_if b) (end_ends f p q k l end ∙ off_)))
+          (λ f. let x : unit_if (ends f p l) ≡ 0 = ap (λ (b : Bool). unit_if b) (end_ends f p q k l end ∙ off_) in let y : unit_if (ends f p l && false) ≡ 0 = ap (λ (b : Bool). unit_if b) (and_off (ends f p l) false refl) in omega (arith, x, y))
           before (λ n is. behind n (kept ∙ is)) old)
     ])
 own_of p pt d h ps w sane fits (IsHere id msg there here are) e r g ids opens before behind =
@@ -205,8 +214,9 @@ own_of p pt d h ps w sane fits (IsHere id msg there here are) e r g ids opens be
           subst (λ (x : Option Note). OwnBalance p w.point.view ids (asked_by p d) (owned (pt.kernel.notes p) (moving_in (h.of p))) (owned x (moving_in (g.of p))) qs) (sym kept)
           (kept_own p w.point.view ids (asked_by p d) (moving_in (h.of p)) (moving_in (g.of p)) qs (pt.kernel.notes p) (λ f. refl) before (λ n is. behind n (kept ∙ is)) old)
     ])
-own_of p pt d h ps w sane fits (Leaves id msg to unasked there here what are) e r =
-    subst (λ (xs : List Part). OwnDirected p d (begun pt d) h xs w) (sym are) (leaves_own p d (begun pt d) h id msg to w (unasked p) sane fits there here what (ap (spelled (begun pt d)) (sym are) ∙ e))
+own_of p pt d h ps w sane fits (Leaves id msg to unasked there here what are) e r g ids opens before behind =
+    subst (OwnBalance p w.point.view ids (asked_by p d) (owned (pt.kernel.notes p) (moving_in (h.of p))) (owned (w.point.kernel.notes p) (moving_in (g.of p)))) (sym are)
+    (leaves_own p d (begun pt d) h id msg to w (unasked p) sane fits there here what (ap (spelled (begun pt d)) (sym are) ∙ e) g ids opens before behind)
 
 handled_own : (p : Pid) (pt : Point) (m : ℕ) (id : MsgId) (msg : PlainMessage) (h : InPhases (turned pt m).view) (ps : List Part) (w : Spelled) → Sane (turned pt m) → PairsFit (turned pt m).view → pt.kernel.bag id ≡ Some msg → Row pt (Step.Turn m) ps → Walks (turned pt m) ps → spelled (turned pt m) ps ≡ Some w
     → Handled p (turned pt m).view pt m id msg ps → OwnDirected p (Step.Turn m) (turned pt m) h ps w
@@ -237,10 +247,10 @@ directed p b pt d parts w h phased known fits is =
           own_of p pt (Step.Turn m) (begun_phases pt (Step.Turn m) h) ps u s.sane turn.fits row said (comes u said));
       ticks = λ m ps net u row said.
           (let x = Step.Tick m in
-          own_of p pt x (begun_phases pt x h) ps u (begun_sane pt x phased.sane) (record { within = fits.within; home = fits.home }) row said (net_comes p (begun pt x) (begun_phases pt x h) ps u net said));
+          plain_own p pt x (begun_phases pt x h) ps u (net_says IsUnmarked net_unmarked ps net) said (net_comes p (begun pt x) (begun_phases pt x h) ps u net said));
       delivers = λ a c k ps net u row said.
           (let x = Step.Deliver a c k in
-          own_of p pt x (begun_phases pt x h) ps u (begun_sane pt x phased.sane) (fits_as pt.view (begun pt x).view (λ y z. refl) fits) row said (net_comes p (begun pt x) (begun_phases pt x h) ps u net said));
+          plain_own p pt x (begun_phases pt x h) ps u (net_says IsUnmarked net_unmarked ps net) said (net_comes p (begun pt x) (begun_phases pt x h) ps u net said));
       asks = λ q m u row said.
           (let x = Step.Migrate q m in
           let pairs : PairsFit (begun pt x).view = record { within = fits.within; home = fits.home } in

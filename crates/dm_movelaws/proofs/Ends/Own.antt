@@ -77,6 +77,7 @@ kept_own p w ids asked before behind ps (Some n) same one two h =
 pub end_ends : (f : MsgId → Option Told) (p q : Pid) (r : Outcome) (l : Line) → EndLine q r l → ends f p l ≡ pid_eq p q
 end_ends f p q Outcome.Done l e = ap (ends f p) e
 end_ends f p q Outcome.Stayed l e = ap (ends f p) e
+end_ends f p q Outcome.Ended l e = absurd e
 
 -- a process that is asked to move where it is stays there
 pub asker_here : (pt : Point) (id : MsgId) (r : Outcome) (q : Pid) (w : Spelled) → spelled pt (rule.says (Label.Asked id) ∷ answers_move id r) ≡ Some w → pt.view.known pt.view.acting q ≡ Here → w.point.view.known pt.view.acting q ≡ Here

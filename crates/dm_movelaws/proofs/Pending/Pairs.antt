@@ -8,6 +8,8 @@ pub use Rattle.dm_rule.proofs.Trails.Spares.{and_no as and_false}
 use Rattle.dm_movelaws.proofs.Names.{Pid, Note, with_note, without_note}
 use Rattle.dm_laws.proofs.Notes.{Notes-agree}
 use Rattle.dm_movelaws.proofs.Names.{⊤}
+use Rattle.dm_movelaws.proofs.Names.{◌≤◌}
+use Rattle.dm_laws.proofs.Entered.{counts}
 
 -- a request to make a process or to move one, and an answer to one
 abbrev pub is_request : PlainWhat → Bool
@@ -155,9 +157,31 @@ took_pair s id k n sends up p off h = grind (arith, nat_tests, pending_less, off
 none_out : (s : OneKernel) (id i : MsgId) (c : Bool) → s.bag i ≡ None → (if c then None else s.bag i) ≡ None
 none_out s id i c e = grind (arith, nat_tests)
 
+new_pair : (a b : Option PlainMessage) (c : Option Pid) (x : PlainMessage) → is_request x.what ≡ true → a ≡ Some x → b ≡ None → c ≡ None → Pair a b c
+new_pair a b c x e f g k = grind (arith, nat_tests)
+
+-- nothing has come under its next number
+fresh_answer : (r e : MsgId → ℕ) (s : OneKernel) → Sound r e s → s.bag (answer_of s.manager.sent) ≡ None
+fresh_answer r e s h = grind (arith, nat_tests, not_counted)
+
+next_uncounted : (e : MsgId → ℕ) (s : OneKernel) → ((i : MsgId) → 1 ≤ e i → counts s i ≡ true) → 1 ≤ e (id_of manager s.manager.sent) → ⊥
+next_uncounted e s counted least = grind (arith, nat_tests)
+
+unfollowed : (r e : MsgId → ℕ) (s : OneKernel) (i : MsgId) (o : Option Pid) → s.noted i ≡ o → Sound r e s → i ≡ id_of manager s.manager.sent → o ≡ None
+unfollowed r e s i None is h at_ = refl
+unfollowed r e s i (Some p) is h at_ = absurd (next_uncounted e s h.entered.counted (subst (λ (j : MsgId). 1 ≤ e j) at_ (h.notes.followed i p is).entered))
+
 pub asked_pair : (r e : MsgId → ℕ) (s : OneKernel) (id : MsgId) (k : manage.ManagerTook) (x : PlainMessage) → k.message ≡ Some x → x.id ≡ id_of manager s.manager.sent → is_request x.what ≡ true → Sound r e s
     → PairAt (manager_took s id k) s.manager.sent
-asked_pair r e s id k x sends name creates h = grind (arith, nat_tests, not_counted, id_eq-same, sent_off, none_out)
+asked_pair r e s id k x sends name creates h =
+    let n = s.manager.sent in
+    let i = id_of manager n in
+    let u = record (without_message s id) { manager = k.manager } in
+    let off : id_eq x.id (answer_of n) ≡ false = ap (λ (j : MsgId). id_eq j (answer_of n)) name ∙ and_false (pid_eq manager manager && (n == n)) in
+    new_pair ((manager_took s id k).bag i) ((manager_took s id k).bag (answer_of n)) ((manager_took s id k).noted i) x creates
+    (ap (λ (o : Option PlainMessage). (with_sent u o).bag i) sends ∙ ap (λ (c : Bool). if c then Some x else u.bag i) (ap (λ (j : MsgId). id_eq j i) name ∙ id_eq-same i))
+    (ap (λ (o : Option PlainMessage). (with_sent u o).bag (answer_of n)) sends ∙ sent_off u x (answer_of n) off ∙ none_out s id (answer_of n) (id_eq id (answer_of n)) (fresh_answer r e s h))
+    (ap (λ (o : Option PlainMessage). (with_sent u o).noted i) sends ∙ unfollowed r e s i (s.noted i) refl h refl)
 
 -- the request goes from the bag to the process, and from there into its answer
 to_process : (a b : Option PlainMessage) (c : Option Pid) (m : PlainMessage) (a_ b_ : Option PlainMessage) (q : Pid) → a ≡ Some m → Pair a b c → a_ ≡ None → b_ ≡ b → Pair a_ b_ (Some q)

@@ -58,7 +58,7 @@ label_ones r e s t l sound requests h takes =
   outputs = λ p w k v y is n. h;
   ends = λ p y next is w. h;
   receives = λ p id y is w c.
-      (let (x, alive, more) = bind-is (kernel.alive (s.processes p)) (λ v. bind (s.bag id) (receiving.completes_with p v)) (receiving.Receives y) c in
+      (let (x, hand, more) = bind-is (kernel.at_hand s p) (λ v. bind (s.bag id) (receiving.completes_with p v)) (receiving.Receives y) c in
       let (m, there, last) = bind-is (s.bag id) (receiving.completes_with p x) (receiving.Receives y) more in
       out_ones s id m there (completes_if p x m x.stopped (receiving.Receives y) last) h);
   refuses = λ p id c d y is w f. h;
