@@ -1,5 +1,6 @@
 pub mod Names
 pub mod After
+pub mod Leading
 pub mod Trail
 pub mod Lists
 pub mod Stages
@@ -7,6 +8,7 @@ pub mod Updates
 pub mod At
 pub mod CountsStay
 pub mod Promise
+pub mod Asked
 pub mod Ends
 pub mod Forwards
 pub mod Pending
@@ -17,5 +19,4 @@ pub mod Real
 pub mod Movers
 pub mod Routed
 pub mod ProtocolMoves
-pub mod LifePlaces
 pub mod LifeLines

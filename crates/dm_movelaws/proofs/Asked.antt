@@ -1,0 +1,2 @@
+-- Lemmas of the family Asked, by file.
+pub mod Following
