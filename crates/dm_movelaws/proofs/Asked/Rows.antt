@@ -196,7 +196,7 @@ answers_notes pt id r q p w noted e =
     let k = said_by pt n.next l n.steps in
     ap (λ (x : Point). x.kernel.notes p) (sym n.point) ∙ plain_notes p (Routes (answer_id id) ∷ []) n.next n.rest (tt, tt) n.more ∙ ap (λ (x : Point). x.kernel.notes p) (sym k.is) ∙ answered_notes pt.kernel k.kernel id r q p noted k.step
 
-end_label : (q : Pid) (r : Outcome) (l : Line) → EndLine q r l → label_of l ≡ None
+pub end_label : (q : Pid) (r : Outcome) (l : Line) → EndLine q r l → label_of l ≡ None
 end_label q Outcome.Done l e = ap label_of e
 end_label q Outcome.Stayed l e = ap label_of e
 end_label q Outcome.Ended l e = absurd e
@@ -218,6 +218,14 @@ here_notes pt id m p w there off e =
     ap (λ (y : Point). y.kernel.notes p) (sym x.point) ∙ answers_notes x.next id Outcome.Done m.to p x.rest (ap (λ (u : OneKernel). u.noted id) (sym same) ∙ asked_noted pt.kernel k.kernel id m k.step there) x.more
     ∙ ap (λ (c : Bool). if c then None else x.next.kernel.notes p) off ∙ ap (λ (u : OneKernel). u.notes p) (sym same) ∙ asked_notes pt.kernel k.kernel id m p there k.step
     ∙ ap (λ (c : Bool). if c then Some (record { id = id; asker = m.sender }) else pt.kernel.notes p) off
+
+pub here_gone : (pt : Point) (id : MsgId) (m : PlainMessage) (p : Pid) (w : Spelled) → pt.kernel.bag id ≡ Some m → pid_eq m.to p ≡ true → spelled pt (rule.says (Label.Asked id) ∷ answers_move id Outcome.Done) ≡ Some w → w.point.kernel.notes p ≡ None
+here_gone pt id m p w there same e =
+    let l = Line.Label (Label.Asked id) in
+    let x = next_of pt (Says l) (answers_move id Outcome.Done) w e in
+    let k = said_by pt x.next l x.steps in
+    let to = ap (λ (y : Point). y.kernel) k.is in
+    ap (λ (y : Point). y.kernel.notes p) (sym x.point) ∙ answers_notes x.next id Outcome.Done m.to p x.rest (ap (λ (u : OneKernel). u.noted id) (sym to) ∙ asked_noted pt.kernel k.kernel id m k.step there) x.more ∙ ap (λ (c : Bool). if c then None else x.next.kernel.notes p) same
 
 pub leaves_notes : (pt : Point) (id : MsgId) (m : PlainMessage) (to : ℕ) (p : Pid) (w : Spelled) → pt.kernel.bag id ≡ Some m → spelled pt (rule.says (Label.Asked id) ∷ leaves_for m.to to) ≡ Some w → w.point.kernel.notes p ≡ noted_if m.to p (Some (record { id = id; asker = m.sender })) (pt.kernel.notes p)
 leaves_notes pt id m to p w there e =

@@ -36,7 +36,7 @@ none_ran p b pt ls ids h sources opens none = record {
   sum = (let a : count (asks p) ls ≡ 0 = ap (count (asks p)) none in let c : own_ends pt.view.told p ls ≡ 0 = ap (own_ends pt.view.told p) none in omega (arith, a, c));
 }
 
-step_for : (b : Boot) (pt : Point) (d : Step) → Both b pt → IsStep pt.kernel.machines d → IsStep (length b.machines) d
+pub step_for : (b : Boot) (pt : Point) (d : Step) → Both b pt → IsStep pt.kernel.machines d → IsStep (length b.machines) d
 step_for b pt d h fit = subst (λ (n : ℕ). IsStep n d) h.run.based.machines fit
 
 ran : (p : Pid) (b : Boot) (es : List Step) (pt end : Point) (ls : List Line) (ids : List MsgId) → IsValid b → (h : Both b pt) → Sources (length b.machines) pt.view → Opens p pt.view ids → LeadsBy b pt es ls end → Ran p b pt end ls (length ids + moving_at b pt h p)

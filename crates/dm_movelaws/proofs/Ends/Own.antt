@@ -33,7 +33,7 @@ own_step f p pt x ps ls zs is e n = grind (arith, nat_tests, lines_are)
 pub own_is : (f : MsgId → Option Told) (p : Pid) (ps : List Part) (pt : Point) (w : Spelled) → spelled pt ps ≡ Some w → (own_ends f p w.lines ≡ own_count f p ps) × (is_answered_next w.lines ≡ is_answer_part ps)
 own_is f p = by_parts (λ ps pt w. (own_ends f p w.lines ≡ own_count f p ps) × (is_answered_next w.lines ≡ is_answer_part ps)) (λ pt. (refl, refl)) (λ x ps pt next ls z lines leads rest. own_step f p pt x ps ls z.lines lines rest.0 rest.1)
 
-unmarked_answer : (l : Line) → IsUnmarked l → is_answer_by (act_of l) ≡ false
+pub unmarked_answer : (l : Line) → IsUnmarked l → is_answer_by (act_of l) ≡ false
 unmarked_answer l h = grind (arith, nat_tests)
 
 unmarked_next : (ps : List Part) → AllUnmarked ps → is_answer_part ps ≡ false
