@@ -1,11 +1,8 @@
 -- The answer to a request to move follows at once on a line that is its cause.
-use Rattle.dm_movelaws.proofs.Names.{◌≡◌, ◌⊎◌, ℕ, Bool, true, false, List, [], ◌∷◌, ◌++◌, length, refl, ap, ◌∙◌, sym, subst, inl, inr, ⊤, cases_Bool, false≢true, if◌then◌else◌, nat_tests, arith, Option, None, Some, Pid, pid_eq, pid_eq-is, MsgId}
-use Rattle.dm_movelaws.proofs.Names.{Stage, Outcome, Note, PlainMessage, Boot, IsValid, Label, Line, Step, IsStep, Told, View, Point, first_point, Part, Says, Routes, Spelled, spelled, lines_of, group_of, group_is, by_parts, answers_move, leaves_for}
-use Rattle.dm_movelaws.proofs.Names.{LeadsBy, Both, both_start, both_group, run_start, run_group, Run, Based, begun, receiver_of, append_assoc, answer_id, id_of, MessageKind, Load}
-use Rattle.dm_movelaws.specs.Asked.{AnswersHaveCauses, HasCause, IsCause}
-use Rattle.dm_movelaws.specs.Ends.{is_answer_by}
-use Rattle.dm_rule.proofs.Letters.{letter_of}
-use Rattle.dm_rule.specs.Acts.{act_of}
+use Rattle.dm_movelaws.proofs.Names.{◌≡◌, ◌⊎◌, ℕ, Bool, true, false, List, [], ◌∷◌, ◌++◌, length, refl, ap, ◌∙◌, sym, subst, inl, inr, ⊤, cases_Bool, false≢true, if◌then◌else◌, nat_tests, arith, Option, None, Some, Pid, pid_eq, pid_eq-is}
+use Rattle.dm_movelaws.proofs.Names.{MsgId, Stage, Outcome, Note, PlainMessage, Boot, IsValid, Label, Line, Step, IsStep, Told, View, Point, first_point, Part, Says, Routes, Spelled, spelled, lines_of, group_of, group_is, by_parts}
+use Rattle.dm_movelaws.proofs.Names.{answers_move, leaves_for, LeadsBy, Both, both_start, both_group, run_start, run_group, Run, Based, begun, receiver_of, append_assoc, answer_id, id_of, MessageKind, Load, AnswersHaveCauses, HasCause}
+use Rattle.dm_movelaws.proofs.Names.{IsCause, is_answer_by, letter_of, act_of}
 use Rattle.dm_rule.specs.Rule as rule
 use Rattle.dm_movelaws.proofs.Leading.{All, Saying, lines_are, next_of}
 use Rattle.dm_movelaws.proofs.Asked.Rows.{Row, Plain, Ends, IsHere, Leaves, AllUnmarked, EndLine, end_label, outcome_row, plain_notes, ends_notes, here_notes, here_gone, leaves_notes, noted_if}

@@ -1,14 +1,12 @@
 -- The parts of a group, by what they say of requests to move: none is asked or answered; a process comes here, and its request is answered; a process is asked that is here already, or sets off.
-use Rattle.dm_movelaws.proofs.Names.{◌≡◌, ℕ, ◌+◌, ◌==◌, Bool, true, false, List, [], ◌∷◌, ◌++◌, refl, ap, ◌∙◌, sym, subst, if◌then◌else◌, Option, None, Some, false≢true, Pid, pid_of, pid_eq, MsgId, MessageKind, Stage, Outcome, Boot, manager}
-use Rattle.dm_movelaws.proofs.Names.{Label, OneKernel, PlainMessage, PlainWhat, Note, with_note, without_note, without_message, with_sent, first_number, Step, Line, Told, Here, Addresses, Point, label_of, kernel_after, moved, Part, Says, Routes}
-use Rattle.dm_movelaws.proofs.Names.{Again, Owns, Transmits, Spelled, spelled, outcome, sends_on, to_kernel, forwards_on, answers_move, leaves_for, migrates, IsNetLine, IsNet, by_round, by_handles, by_hears, by_forwards, by_migrates, by_outcome, by_step}
-use Rattle.dm_movelaws.proofs.Names.{bind, bind-is, said_by, plain_kind, nat_tests, arith, answer_id, asked_noted}
+use Rattle.dm_movelaws.proofs.Names.{◌≡◌, ℕ, ◌+◌, ◌==◌, Bool, true, false, List, [], ◌∷◌, ◌++◌, refl, ap, ◌∙◌, sym, subst, if◌then◌else◌, Option, None, Some, false≢true, Pid, pid_of, pid_eq, MsgId, MessageKind, Stage, Outcome, Boot}
+use Rattle.dm_movelaws.proofs.Names.{manager, Label, OneKernel, PlainMessage, PlainWhat, Note, with_note, without_note, without_message, with_sent, first_number, Step, Line, Told, Here, Addresses, Point, label_of, kernel_after, moved, Part}
+use Rattle.dm_movelaws.proofs.Names.{Says, Routes, Again, Owns, Transmits, Spelled, spelled, outcome, sends_on, to_kernel, forwards_on, answers_move, leaves_for, migrates, IsNetLine, IsNet, by_round, by_handles, by_hears, by_forwards}
+use Rattle.dm_movelaws.proofs.Names.{by_migrates, by_outcome, by_step, bind, bind-is, said_by, plain_kind, nat_tests, arith, answer_id, asked_noted, ends_move-is, begun, asks}
 use Rattle.dm_movelaws.proofs.Leading.{All, Saying, Behind, whatever_put, parts_lead, net_says, next_of}
-use Rattle.dm_laws.proofs.Servers.{ends_move-is}
 use Rattle.dm_onekernel.specs.Service as service
 use Rattle.dm_onekernel.specs.Step as kernel
 use Rattle.dm_rule.specs.Rule as rule
-use Rattle.dm_movelaws.proofs.Names.{begun, asks}
 
 -- a step by which a process follows a request to move, or has followed it
 abbrev pub marks_note : Option Label → Bool

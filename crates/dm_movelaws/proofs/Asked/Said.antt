@@ -1,13 +1,9 @@
 -- What the answer to a request to move says was said: that the request was answered so, or that its receiver had ended.
-use Rattle.dm_movelaws.proofs.Names.{◌≡◌, ◌⊎◌, ℕ, ◌+◌, Bool, true, false, List, [], ◌∷◌, ◌++◌, length, refl, ap, ◌∙◌, sym, subst, inl, inr, take, drop, false≢true, Option, None, Some, Pid, MsgId, id_of, Label, OneKernel, PlainMessage, PlainWhat}
-use Rattle.dm_movelaws.proofs.Names.{Outcome, Note, Line, Boot, Point, first_point, without_note, without_message, with_sent, answer_id, answer_to, entry, reception, replay, bind-is, Sound, KernelFits, ServerSends, board_takes_lem, manager_takes_lem, lands-is}
-use Rattle.dm_movelaws.proofs.Names.{after_step, fits_step, by_step, append_assoc, append-nil, ascends, came, stayed, View, switchboard, manager, labels, label_of, with_label, after_replay, start, start-sound, first_view}
-use Rattle.dm_movelaws.proofs.Names.{arith, nat_tests}
-use Rattle.dm_movelaws.specs.Asked.{MovedIsSaid, IsSaidOf}
+use Rattle.dm_movelaws.proofs.Names.{◌≡◌, ◌⊎◌, ℕ, ◌+◌, Bool, true, false, List, [], ◌∷◌, ◌++◌, length, refl, ap, ◌∙◌, sym, subst, inl, inr, take, drop, false≢true, Option, None, Some, Pid, MsgId, id_of, Label, OneKernel, PlainMessage}
+use Rattle.dm_movelaws.proofs.Names.{PlainWhat, Outcome, Note, Line, Boot, Point, first_point, without_note, without_message, with_sent, answer_id, answer_to, entry, reception, replay, bind-is, Sound, KernelFits, ServerSends}
+use Rattle.dm_movelaws.proofs.Names.{board_takes_lem, manager_takes_lem, lands-is, after_step, fits_step, by_step, append_assoc, append-nil, ascends, came, stayed, View, switchboard, manager, labels, label_of, with_label, after_replay}
+use Rattle.dm_movelaws.proofs.Names.{start, start-sound, first_view, arith, nat_tests, MovedIsSaid, IsSaidOf, note-is, Follows, start_fits}
 use Rattle.dm_laws.proofs.Entered.{asks}
-use Rattle.dm_laws.proofs.Servers.{note-is}
-use Rattle.dm_rule.proofs.Changes.{Follows}
-use Rattle.dm_rulelaws.proofs.Fits.Start.{start_fits}
 use Rattle.dm_movelaws.proofs.Promise.Before.{step_pending}
 use Rattle.dm_movelaws.proofs.Open.Moves.{run_after}
 use Rattle.dm_onekernel.specs.Pieces as pieces
