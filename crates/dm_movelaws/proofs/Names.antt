@@ -25,7 +25,7 @@ pub use Rattle.dm_rule.proofs.Apart.Turns.{migrates_apart, net_apart, turns_apar
 pub use Rattle.dm_rule.proofs.Bags.{bag_asked, cases_zero, out_of}
 pub use Rattle.dm_rule.proofs.Changes.{Follows, Lives, is_served}
 pub use Rattle.dm_rule.proofs.Groups.{GroupIs, acked_off, deliver_off, early_off, fits, migrate_off, tick_off}
-pub use Rattle.dm_rule.proofs.Hearing.{IsHeardLine, Kept, hears_kept, kept_forward, kernel_kept}
+pub use Rattle.dm_rule.proofs.Hearing.{IsHeardLine, Kept, hears_kept, kept_forward}
 pub use Rattle.dm_rule.proofs.Homes.{HomesAre}
 pub use Rattle.dm_rule.proofs.Homes.Lines.{acting_label}
 pub use Rattle.dm_rule.proofs.Homes.Parts.{acting_taken}
@@ -36,19 +36,18 @@ pub use Rattle.dm_rule.proofs.Moves.Lists.{emptied}
 pub use Rattle.dm_rule.proofs.Moves.Rows.{accepted_off, asked_off, frozen_off, home_again, home_off, lacks_off, left_off, memory_off, proto_off, restarted_off, state_off}
 pub use Rattle.dm_rule.proofs.Moves.Sent.{least_of as either, fits_packet, fits_put, line_next}
 pub use Rattle.dm_rule.proofs.Moves.States.{kernels_by, packet_off}
-pub use Rattle.dm_rule.proofs.Names.{About, Addresses, AddressesOn, Again, Answer, AskedBy, Child, Enclosed, Ended, Forward, Frozen, Gets, Held, Here, Holder, Inbox, Incoming, IsIn, IsOn, IsQuiet, IsStep, IsToken, Known, Leads, LifeGrows}
-pub use Rattle.dm_rule.proofs.Names.{Line, Load, MessageKind, Moves, Name, NamedLink, NothingElse, Nowhere, Of, Over, Owner, Owns, Pair, Part, Phase, Place, Point, Queue, Receiver, Rests, Routes, Says, Sender, ServerSends, Slot, Sort}
-pub use Rattle.dm_rule.proofs.Names.{Sound, Spares, Spelled, Spot, Stage, StandsOutside, StandsRight, Step, StoodOnTrail, Target, Told, Trail, Trails, TrailsAlways, Transmits, Trodden, Unknown, Untaken, View, accepts, actor}
-pub use Rattle.dm_rule.proofs.Names.{addresses_after, after, after_head, after_line, after_proto, after_put, after_step, alive-is, all_follow, along, answers_move, ascends, at_machine, at_pair, at_record, behind, behind_count, belongs_to}
-pub use Rattle.dm_rule.proofs.Names.{bind-is, board_gets, board_takes_lem, both_true, child_links, chunks_of, counts, counts_process, destination, enclosed_from, encloses, ended_told, ends_move-is, filter, first_gives, first_point}
-pub use Rattle.dm_rule.proofs.Names.{first_trails, first_trodden, first_view, forwarded_for, forwards, forwards_on, front_of, front_told, given, gives, gives_piece, goes_out, goes_round, gone_to, group_of, handled, handled_first, hears}
-pub use Rattle.dm_rule.proofs.Names.{held_for, here_told, holder_eq, id_eq-is, id_eq-same, ids_at, is_away, is_behind, is_between, is_counted, is_dropped, is_due, is_early, is_here, is_kernels, is_over, is_pid, is_restart, is_told_back}
-pub use Rattle.dm_rule.proofs.Names.{kernel_after, kernel_hears, kernel_told, kills, kind_comes, kind_leaves, knowing, knows, label_of, landing_gets, lands-is, leads_to, leaves, leaves_for, left_true, length-append, lines_of, link_target}
-pub use Rattle.dm_rule.proofs.Names.{machine_in, machine_of, manager_gets, manager_sends, manager_takes_lem, manager_tells, migrates, moved, name_link, not_server, outcome, own_given, own_gives, own_id, packet_line, pending_of, pid_eq-is}
-pub use Rattle.dm_rule.proofs.Names.{pid_eq-same, pieces_of, place_told, plain_kind, process_told, puts, receiver_in, receiver_of, receives_links, receives_what, released, right_true, seen, sender_in, sender_of, sends_on, sends_what}
-pub use Rattle.dm_rule.proofs.Names.{sent_at, sent_off, served_told, server_told, sets_off, slice_get_cases, slice_get_within, slot_after, slot_of, sort_of, spelled, standing, start-sound, stayed, taken_id, takes_block, takes_chunk}
-pub use Rattle.dm_rule.proofs.Names.{target_of, tells_asker, times, to_kernel, to_of, token_in, told_between, topic_by, trails_after, unmoved, untaken, updated, updates, view_after, why_ended-is, with_pair, with_ring, without_front}
-pub use Rattle.dm_rule.proofs.Names.{without_id, ◌||◌}
+pub use Rattle.dm_rule.proofs.Names.{About, Addresses, AddressesOn, Again, Answer, Child, Enclosed, Ended, Forward, Frozen, Gets, Held, Here, Holder, Inbox, Incoming, IsIn, IsOn, IsQuiet, IsStep, IsToken, Known, Leads, LifeGrows, Line}
+pub use Rattle.dm_rule.proofs.Names.{Load, MessageKind, Moves, Name, NamedLink, NothingElse, Nowhere, Of, Over, Owner, Owns, Pair, Part, Phase, Place, Point, Queue, Receiver, Rests, Routes, Says, Sender, ServerSends, Slot, Sort, Sound}
+pub use Rattle.dm_rule.proofs.Names.{Spares, Spelled, Spot, Stage, StandsOutside, StandsRight, Step, StoodOnTrail, Target, Told, Trail, Trails, TrailsAlways, Transmits, Trodden, Unknown, Untaken, View, accepts, actor, addresses_after}
+pub use Rattle.dm_rule.proofs.Names.{after, after_head, after_line, after_proto, after_put, after_step, alive-is, all_follow, along, answers_move, ascends, at_machine, at_pair, at_record, behind, behind_count, belongs_to, bind-is}
+pub use Rattle.dm_rule.proofs.Names.{board_takes_lem, both_true, child_links, chunks_of, counts, counts_process, destination, enclosed_from, encloses, ended_told, ends_move-is, filter, first_gives, first_point, first_trails, first_trodden}
+pub use Rattle.dm_rule.proofs.Names.{first_view, forwarded_for, forwards, forwards_on, front_of, given, gives, gives_piece, goes_out, goes_round, gone_to, group_of, handled, handled_first, hears, held_for, here_told, holder_eq, id_eq-is}
+pub use Rattle.dm_rule.proofs.Names.{id_eq-same, ids_at, is_away, is_behind, is_between, is_counted, is_dropped, is_due, is_early, is_here, is_kernels, is_over, is_pid, is_restart, is_told_back, kernel_after, kernel_hears, kernel_told}
+pub use Rattle.dm_rule.proofs.Names.{kills, kind_comes, kind_leaves, knowing, knows, label_of, lands-is, leads_to, leaves, leaves_for, left_true, length-append, lines_of, link_target, machine_in, machine_of, manager_gets, manager_sends}
+pub use Rattle.dm_rule.proofs.Names.{manager_takes_lem, manager_tells, migrates, moved, name_link, not_server, outcome, own_given, own_gives, own_id, packet_line, pending_of, pid_eq-is, pid_eq-same, pieces_of, place_told, plain_kind}
+pub use Rattle.dm_rule.proofs.Names.{process_told, puts, receiver_in, receiver_of, receives_links, receives_what, released, right_true, seen, sender_in, sender_of, sends_on, sends_what, sent_at, sent_off, served_told, server_told}
+pub use Rattle.dm_rule.proofs.Names.{slice_get_cases, slice_get_within, slot_after, slot_of, sort_of, spelled, standing, start-sound, stayed, taken_id, takes_block, takes_chunk, target_of, tells_asker, times, to_kernel, to_of, token_in}
+pub use Rattle.dm_rule.proofs.Names.{told_between, topic_by, trails_after, unmoved, untaken, updated, updates, view_after, why_ended-is, with_pair, with_ring, without_front, without_id, ◌||◌}
 pub use Rattle.dm_rule.proofs.Once.{one_of-same}
 pub use Rattle.dm_rule.proofs.Pairs.Lines.{AllFit, line_view, onward, pair_same, taken_pair, touches}
 pub use Rattle.dm_rule.proofs.Pairs.Migrating.{migrates_fit}
@@ -68,7 +67,7 @@ pub use Rattle.dm_rule.proofs.Phases.Rests.{released_on}
 pub use Rattle.dm_rule.proofs.Phases.Stand.{held_plain, queued_plain}
 pub use Rattle.dm_rule.proofs.Phases.Start.{start_known}
 pub use Rattle.dm_rule.proofs.Said.{fits_as}
-pub use Rattle.dm_rule.proofs.Seen.{about_off, frozen_is}
+pub use Rattle.dm_rule.proofs.Seen.{about_off}
 pub use Rattle.dm_rule.proofs.Serving.{Loose, loose_handles, loose_round}
 pub use Rattle.dm_rule.proofs.States.{PacketsKeep, PairsFit, said as last_point, puts_next, said, says_next}
 pub use Rattle.dm_rule.proofs.Trails.Along.{Carries, along_treads, trails_always_by}

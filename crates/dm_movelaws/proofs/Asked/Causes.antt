@@ -1,11 +1,9 @@
 -- The answer to a request to move follows at once on a line that is its cause.
-use Rattle.dm_movelaws.proofs.Names.{◌≡◌, ◌⊎◌, ℕ, Bool, true, false, List, [], ◌∷◌, ◌++◌, length, refl, ap, ◌∙◌, sym, subst, inl, inr, ⊤, cases_Bool, false≢true, if◌then◌else◌, nat_tests, arith, Option, None, Some, Pid, pid_eq, pid_eq-is}
-use Rattle.dm_movelaws.proofs.Names.{MsgId, Stage, Outcome, Note, PlainMessage, Boot, IsValid, Label, Line, Step, IsStep, Told, View, Point, first_point, Part, Says, Routes, Spelled, spelled, lines_of, group_of, group_is, by_parts}
-use Rattle.dm_movelaws.proofs.Names.{answers_move, leaves_for, LeadsBy, Both, both_start, both_group, run_start, run_group, Run, Based, begun, receiver_of, append_assoc, answer_id, id_of, MessageKind, Load, AnswersHaveCauses, HasCause}
-use Rattle.dm_movelaws.proofs.Names.{IsCause, is_answer_by, letter_of, act_of}
-use Rattle.dm_rule.specs.Rule as rule
+use Rattle.dm_movelaws.proofs.Names.{◌≡◌, Bool, true, false, List, [], ◌∷◌, ◌++◌, length, refl, ap, ◌∙◌, sym, subst, inl, inr, ⊤, cases_Bool, false≢true, if◌then◌else◌, Option, None, Some, Pid, pid_eq, pid_eq-is, MsgId, Outcome, Note}
+use Rattle.dm_movelaws.proofs.Names.{PlainMessage, Boot, IsValid, Label, Line, Step, Told, View, Point, first_point, Part, Says, Routes, Spelled, spelled, lines_of, group_of, group_is, by_parts, answers_move, LeadsBy, Both, both_start}
+use Rattle.dm_movelaws.proofs.Names.{both_group, run_start, run_group, Run, begun, receiver_of, append_assoc, answer_id, AnswersHaveCauses, HasCause, IsCause, is_answer_by, letter_of, act_of}
 use Rattle.dm_movelaws.proofs.Leading.{All, Saying, lines_are, next_of}
-use Rattle.dm_movelaws.proofs.Asked.Rows.{Row, Plain, Ends, IsHere, Leaves, AllUnmarked, EndLine, end_label, outcome_row, plain_notes, ends_notes, here_notes, here_gone, leaves_notes, noted_if}
+use Rattle.dm_movelaws.proofs.Asked.Rows.{Row, Plain, Ends, IsHere, Leaves, AllUnmarked, EndLine, outcome_row, plain_notes, ends_notes, here_notes, here_gone, leaves_notes}
 use Rattle.dm_movelaws.proofs.Ends.Lines.{Extends}
 use Rattle.dm_movelaws.proofs.Ends.Own.{unmarked_answer}
 use Rattle.dm_movelaws.proofs.Ends.Sources.{Sources, group_acts}
@@ -121,12 +119,14 @@ end_unsaid q Outcome.Done l e = ap (λ (k : Line). is_answer_by (act_of k)) e
 end_unsaid q Outcome.Stayed l e = ap (λ (k : Line). is_answer_by (act_of k)) e
 end_unsaid q Outcome.Ended l e = absurd e
 
-has_cause : (told : MsgId → Option Told) (d : Step) (l : Line) (earlier : List Line) (i j : MsgId) (o r : Outcome) (q : Pid) → Stands earlier (Line.Head d ∷ l ∷ []) i j o r → (t : Told) × (told j ≡ Some t) × (t.receiver ≡ q) → IsCause j q r l → HasCause told earlier i o
+has_cause : (told : MsgId → Option Told) (d : Step) (l : Line) (earlier : List Line) (i j : MsgId) (o r : Outcome) (q : Pid) → Stands earlier (Line.Head d ∷ l ∷ []) i j o r → (t : Told) × (told j ≡ Some t) × (t.receiver ≡ q)
+    → IsCause j q r l → HasCause told earlier i o
 has_cause told d l earlier i j o r q s (t, was, for_) cause =
     subst (λ (x : MsgId). HasCause told earlier x o) (sym s.request)
     (subst (HasCause told earlier j) (sym s.outcome) (record { before = Line.Head d ∷ []; cause = l; behind = s.lines; request = t; was_put = was; is = subst (λ (x : Pid). IsCause j x r l) (sym for_) cause }))
 
-row_cause : (b : Boot) (pt : Point) (d : Step) (ps : List Part) (w : Spelled) (earlier g : List Line) (i : MsgId) (o : Outcome) → Run b pt → NotesTold pt → spelled (begun pt d) ps ≡ Some w → (Line.Head d ∷ w.lines) ≡ earlier ++ Line.Label (Label.Answered i o) ∷ g → Row pt d ps → HasCause pt.view.told earlier i o
+row_cause : (b : Boot) (pt : Point) (d : Step) (ps : List Part) (w : Spelled) (earlier g : List Line) (i : MsgId) (o : Outcome) → Run b pt → NotesTold pt → spelled (begun pt d) ps ≡ Some w
+    → (Line.Head d ∷ w.lines) ≡ earlier ++ Line.Label (Label.Answered i o) ∷ g → Row pt d ps → HasCause pt.view.told earlier i o
 row_cause b pt d ps w earlier g i o run h e split (Plain so) = absurd (none_answers (Line.Head d ∷ w.lines) earlier g i o (refl, parts_unsaid ps (begun pt d) w (unmarked_unsaid ps so) e) split)
 row_cause b pt d ps w earlier g i o run h e split (Ends q n l r noted end are) =
     let (next, rest, more, lines) = says_lines (begun pt d) l (answers_move n.id r) w (ap (spelled (begun pt d)) (sym are) ∙ e) in
@@ -145,7 +145,8 @@ row_cause b pt d ps w earlier g i o run h e split (Leaves id msg to unasked ther
     let ok : All (Saying Unsaid) ps = subst (All (Saying Unsaid)) (sym are) (refl, (refl, (refl, (tt, tt)))) in
     absurd (none_answers (Line.Head d ∷ w.lines) earlier g i o (refl, parts_unsaid ps (begun pt d) w ok e) split)
 
-group_cause : (b : Boot) (pt : Point) (d : Step) (w : Spelled) (earlier g : List Line) (i : MsgId) (o : Outcome) → Run b pt → NotesTold pt → group_of b pt d ≡ Some w → w.lines ≡ earlier ++ Line.Label (Label.Answered i o) ∷ g → HasCause pt.view.told earlier i o
+group_cause : (b : Boot) (pt : Point) (d : Step) (w : Spelled) (earlier g : List Line) (i : MsgId) (o : Outcome) → Run b pt → NotesTold pt → group_of b pt d ≡ Some w → w.lines ≡ earlier ++ Line.Label (Label.Answered i o) ∷ g
+    → HasCause pt.view.told earlier i o
 group_cause b pt d w earlier g i o run h e split =
     let k = group_is b pt d w e in
     row_cause b pt d k.parts k.rest earlier g i o run h k.said (ap (λ (x : Spelled). x.lines) k.whole ∙ split) (outcome_row b pt d k.parts k.is)

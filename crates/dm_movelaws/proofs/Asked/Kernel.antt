@@ -1,12 +1,8 @@
 -- Requests to move, by the steps of the kernel without machines: each is asked once at most, and answered where nobody follows it any more; and what its answer says was said.
-use Rattle.dm_movelaws.proofs.Names.{◌≡◌, ◌⊎◌, ℕ, ◌+◌, ◌≤◌, Bool, true, false, List, [], ◌∷◌, ◌++◌, length, is_some, refl, ap, ◌∙◌, sym, subst, inl, inr, arith, nat_tests, if◌then◌else◌, cases_Bool, false≢true, take, drop, Option, None}
-use Rattle.dm_movelaws.proofs.Names.{Some, Pid, MsgId, id_eq, id_eq-is, id_eq-same, id_of, Label, OneKernel, PlainMessage, PlainWhat, Outcome, Note, with_note, without_note, without_message, with_sent, answer_id, answer_to, in_bag, entry}
-use Rattle.dm_movelaws.proofs.Names.{reception, replay, bind, bind-is, Sound, KernelFits, ServerSends, board_takes_lem, manager_takes_lem, lands-is, after_step, fits_step, by_step, not_true, append_assoc, ascends, asked_noted, came, stayed}
-use Rattle.dm_movelaws.proofs.Names.{View, switchboard, manager, is_none, ◌&&◌, Notes-agree, ends_move-is, note-is, Follows}
-use Rattle.dm_laws.proofs.Entered.{asks}
-use Rattle.dm_movelaws.proofs.Promise.Before.{step_pending}
+use Rattle.dm_movelaws.proofs.Names.{◌≡◌, ℕ, ◌+◌, ◌≤◌, Bool, true, false, List, [], ◌∷◌, is_some, refl, ap, ◌∙◌, sym, arith, nat_tests, if◌then◌else◌, false≢true, Option, None, Some, Pid, MsgId, id_eq, id_eq-is, id_eq-same, Label}
+use Rattle.dm_movelaws.proofs.Names.{OneKernel, PlainMessage, PlainWhat, Outcome, with_note, without_message, with_sent, in_bag, entry, reception, replay, bind, bind-is, Sound, after_step, by_step, not_true, asked_noted, is_none, ◌&&◌}
+use Rattle.dm_movelaws.proofs.Names.{ends_move-is}
 use Rattle.dm_movelaws.proofs.Pending.Pairs.{unnoted_in}
-use Rattle.dm_onekernel.specs.Pieces as pieces
 use Rattle.dm_onekernel.specs.Service as service
 use Rattle.dm_onekernel.specs.Step as kernel
 
@@ -99,7 +95,8 @@ pub record Counted (i : MsgId) (e : MsgId → ℕ) (s : OneKernel) (a b : ℕ) :
 enters_at : (o q : Option PlainMessage) (n : ℕ) → n ≡ (if is_none o && is_some q then 1 else 0) → in_bag q ≤ in_bag o + n
 enters_at o q n e = grind (arith, nat_tests)
 
-counted_step : (i : MsgId) (r e : MsgId → ℕ) (s t : OneKernel) (l : Label) (a b : ℕ) (c d : Bool) → asked_by i l ≡ c → answered_by i l ≡ d → kernel.step s l ≡ Some t → Sound r e s → Counted i e s a b → Counted i (λ j. e j + entry j s t) t (a + one_for c) (b + one_for d)
+counted_step : (i : MsgId) (r e : MsgId → ℕ) (s t : OneKernel) (l : Label) (a b : ℕ) (c d : Bool) → asked_by i l ≡ c → answered_by i l ≡ d → kernel.step s l ≡ Some t → Sound r e s → Counted i e s a b
+    → Counted i (λ j. e j + entry j s t) t (a + one_for c) (b + one_for d)
 counted_step i r e s t (Label.Asked j) a b true d one two is h k =
     let at_ : j ≡ i = sym (id_eq-is i j one) in
     let g = begins_at s t i (ap (λ (x : MsgId). kernel.step s (Label.Asked x)) (sym at_) ∙ is) in

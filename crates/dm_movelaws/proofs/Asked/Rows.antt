@@ -1,8 +1,8 @@
 -- The parts of a group, by what they say of requests to move: none is asked or answered; a process comes here, and its request is answered; a process is asked that is here already, or sets off.
-use Rattle.dm_movelaws.proofs.Names.{◌≡◌, ℕ, ◌+◌, ◌==◌, Bool, true, false, List, [], ◌∷◌, ◌++◌, refl, ap, ◌∙◌, sym, subst, if◌then◌else◌, Option, None, Some, false≢true, Pid, pid_of, pid_eq, MsgId, MessageKind, Stage, Outcome, Boot}
-use Rattle.dm_movelaws.proofs.Names.{manager, Label, OneKernel, PlainMessage, PlainWhat, Note, with_note, without_note, without_message, with_sent, first_number, Step, Line, Told, Here, Addresses, Point, label_of, kernel_after, moved, Part}
-use Rattle.dm_movelaws.proofs.Names.{Says, Routes, Again, Owns, Transmits, Spelled, spelled, outcome, sends_on, to_kernel, forwards_on, answers_move, leaves_for, migrates, IsNetLine, IsNet, by_round, by_handles, by_hears, by_forwards}
-use Rattle.dm_movelaws.proofs.Names.{by_migrates, by_outcome, by_step, bind, bind-is, said_by, plain_kind, nat_tests, arith, answer_id, asked_noted, ends_move-is, begun, asks}
+use Rattle.dm_movelaws.proofs.Names.{◌≡◌, ℕ, Bool, true, false, List, [], ◌∷◌, ◌++◌, refl, ap, ◌∙◌, sym, subst, if◌then◌else◌, Option, None, Some, false≢true, Pid, pid_eq, MsgId, MessageKind, Stage, Outcome, Boot, manager, Label, OneKernel}
+use Rattle.dm_movelaws.proofs.Names.{PlainMessage, PlainWhat, Note, with_note, without_message, with_sent, Step, Line, Told, Here, Addresses, Point, label_of, kernel_after, Part, Says, Routes, Spelled, spelled, outcome, sends_on, to_kernel}
+use Rattle.dm_movelaws.proofs.Names.{forwards_on, answers_move, leaves_for, IsNetLine, by_round, by_handles, by_hears, by_forwards, by_migrates, by_outcome, by_step, bind, bind-is, said_by, plain_kind, nat_tests, arith, answer_id}
+use Rattle.dm_movelaws.proofs.Names.{asked_noted, ends_move-is, begun, asks}
 use Rattle.dm_movelaws.proofs.Leading.{All, Saying, Behind, whatever_put, parts_lead, net_says, next_of}
 use Rattle.dm_onekernel.specs.Service as service
 use Rattle.dm_onekernel.specs.Step as kernel
@@ -199,7 +199,8 @@ end_label q Outcome.Done l e = ap label_of e
 end_label q Outcome.Stayed l e = ap label_of e
 end_label q Outcome.Ended l e = absurd e
 
-pub ends_notes : (pt : Point) (q p : Pid) (n : Note) (l : Line) (r : Outcome) (w : Spelled) → pt.kernel.noted n.id ≡ Some q → EndLine q r l → spelled pt (Says l ∷ answers_move n.id r) ≡ Some w → w.point.kernel.notes p ≡ noted_if q p None (pt.kernel.notes p)
+pub ends_notes : (pt : Point) (q p : Pid) (n : Note) (l : Line) (r : Outcome) (w : Spelled) → pt.kernel.noted n.id ≡ Some q → EndLine q r l → spelled pt (Says l ∷ answers_move n.id r) ≡ Some w
+    → w.point.kernel.notes p ≡ noted_if q p None (pt.kernel.notes p)
 ends_notes pt q p n l r w noted end e =
     let x = next_of pt (Says l) (answers_move n.id r) w e in
     let k = said_by pt x.next l x.steps in
@@ -207,7 +208,8 @@ ends_notes pt q p n l r w noted end e =
     let same : pt.kernel ≡ x.next.kernel = (let f : Some pt.kernel ≡ Some k.kernel = sym (ap (kernel_after pt.kernel) none) ∙ k.step in let g : pt.kernel ≡ k.kernel = cc in g) ∙ ap (λ (y : Point). y.kernel) k.is in
     ap (λ (y : Point). y.kernel.notes p) (sym x.point) ∙ answers_notes x.next n.id r q p x.rest (ap (λ (u : OneKernel). u.noted n.id) (sym same) ∙ noted) x.more ∙ ap (λ (u : OneKernel). noted_if q p None (u.notes p)) (sym same)
 
-pub here_notes : (pt : Point) (id : MsgId) (m : PlainMessage) (p : Pid) (w : Spelled) → pt.kernel.bag id ≡ Some m → pid_eq m.to p ≡ false → spelled pt (rule.says (Label.Asked id) ∷ answers_move id Outcome.Done) ≡ Some w → w.point.kernel.notes p ≡ pt.kernel.notes p
+pub here_notes : (pt : Point) (id : MsgId) (m : PlainMessage) (p : Pid) (w : Spelled) → pt.kernel.bag id ≡ Some m → pid_eq m.to p ≡ false → spelled pt (rule.says (Label.Asked id) ∷ answers_move id Outcome.Done) ≡ Some w
+    → w.point.kernel.notes p ≡ pt.kernel.notes p
 here_notes pt id m p w there off e =
     let l = Line.Label (Label.Asked id) in
     let x = next_of pt (Says l) (answers_move id Outcome.Done) w e in
@@ -217,7 +219,8 @@ here_notes pt id m p w there off e =
     ∙ ap (λ (c : Bool). if c then None else x.next.kernel.notes p) off ∙ ap (λ (u : OneKernel). u.notes p) (sym same) ∙ asked_notes pt.kernel k.kernel id m p there k.step
     ∙ ap (λ (c : Bool). if c then Some (record { id = id; asker = m.sender }) else pt.kernel.notes p) off
 
-pub here_gone : (pt : Point) (id : MsgId) (m : PlainMessage) (p : Pid) (w : Spelled) → pt.kernel.bag id ≡ Some m → pid_eq m.to p ≡ true → spelled pt (rule.says (Label.Asked id) ∷ answers_move id Outcome.Done) ≡ Some w → w.point.kernel.notes p ≡ None
+pub here_gone : (pt : Point) (id : MsgId) (m : PlainMessage) (p : Pid) (w : Spelled) → pt.kernel.bag id ≡ Some m → pid_eq m.to p ≡ true → spelled pt (rule.says (Label.Asked id) ∷ answers_move id Outcome.Done) ≡ Some w
+    → w.point.kernel.notes p ≡ None
 here_gone pt id m p w there same e =
     let l = Line.Label (Label.Asked id) in
     let x = next_of pt (Says l) (answers_move id Outcome.Done) w e in
@@ -225,7 +228,8 @@ here_gone pt id m p w there same e =
     let to = ap (λ (y : Point). y.kernel) k.is in
     ap (λ (y : Point). y.kernel.notes p) (sym x.point) ∙ answers_notes x.next id Outcome.Done m.to p x.rest (ap (λ (u : OneKernel). u.noted id) (sym to) ∙ asked_noted pt.kernel k.kernel id m k.step there) x.more ∙ ap (λ (c : Bool). if c then None else x.next.kernel.notes p) same
 
-pub leaves_notes : (pt : Point) (id : MsgId) (m : PlainMessage) (to : ℕ) (p : Pid) (w : Spelled) → pt.kernel.bag id ≡ Some m → spelled pt (rule.says (Label.Asked id) ∷ leaves_for m.to to) ≡ Some w → w.point.kernel.notes p ≡ noted_if m.to p (Some (record { id = id; asker = m.sender })) (pt.kernel.notes p)
+pub leaves_notes : (pt : Point) (id : MsgId) (m : PlainMessage) (to : ℕ) (p : Pid) (w : Spelled) → pt.kernel.bag id ≡ Some m → spelled pt (rule.says (Label.Asked id) ∷ leaves_for m.to to) ≡ Some w
+    → w.point.kernel.notes p ≡ noted_if m.to p (Some (record { id = id; asker = m.sender })) (pt.kernel.notes p)
 leaves_notes pt id m to p w there e =
     let l = Line.Label (Label.Asked id) in
     let x = next_of pt (Says l) (leaves_for m.to to) w e in

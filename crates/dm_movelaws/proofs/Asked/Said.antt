@@ -1,8 +1,8 @@
 -- What the answer to a request to move says was said: that the request was answered so, or that its receiver had ended.
 use Rattle.dm_movelaws.proofs.Names.{◌≡◌, ◌⊎◌, ℕ, ◌+◌, Bool, true, false, List, [], ◌∷◌, ◌++◌, length, refl, ap, ◌∙◌, sym, subst, inl, inr, take, drop, false≢true, Option, None, Some, Pid, MsgId, id_of, Label, OneKernel, PlainMessage}
-use Rattle.dm_movelaws.proofs.Names.{PlainWhat, Outcome, Note, Line, Boot, Point, first_point, without_note, without_message, with_sent, answer_id, answer_to, entry, reception, replay, bind-is, Sound, KernelFits, ServerSends}
-use Rattle.dm_movelaws.proofs.Names.{board_takes_lem, manager_takes_lem, lands-is, after_step, fits_step, by_step, append_assoc, append-nil, ascends, came, stayed, View, switchboard, manager, labels, label_of, with_label, after_replay}
-use Rattle.dm_movelaws.proofs.Names.{start, start-sound, first_view, arith, nat_tests, MovedIsSaid, IsSaidOf, note-is, Follows, start_fits}
+use Rattle.dm_movelaws.proofs.Names.{PlainWhat, Outcome, Note, Line, first_point, without_note, without_message, with_sent, answer_id, answer_to, entry, reception, replay, bind-is, Sound, KernelFits, ServerSends, board_takes_lem}
+use Rattle.dm_movelaws.proofs.Names.{manager_takes_lem, lands-is, after_step, fits_step, by_step, append_assoc, append-nil, ascends, came, stayed, View, switchboard, manager, labels, label_of, with_label, after_replay, start, start-sound}
+use Rattle.dm_movelaws.proofs.Names.{first_view, arith, nat_tests, MovedIsSaid, IsSaidOf, note-is, Follows, start_fits}
 use Rattle.dm_laws.proofs.Entered.{asks}
 use Rattle.dm_movelaws.proofs.Promise.Before.{step_pending}
 use Rattle.dm_movelaws.proofs.Open.Moves.{run_after}
@@ -26,7 +26,8 @@ record Cause (l : Label) (i : MsgId) (o : Outcome) : Type 0 where
 abbrev Came : OneKernel → Label → OneKernel → Type 0
 Came s l t = (i : MsgId) (m : PlainMessage) → t.bag i ≡ Some m → (s.bag i ≡ Some m) ⊎ (i.answer ≡ true → (o : Outcome) → m.what ≡ PlainWhat.Moved o → Cause l i o)
 
-put_came : (s u : OneKernel) (l : Label) (x : PlainMessage) → ((i : MsgId) (m : PlainMessage) → u.bag i ≡ Some m → s.bag i ≡ Some m) → (x.id.answer ≡ true → (o : Outcome) → x.what ≡ PlainWhat.Moved o → Cause l x.id o) → Came s l (with_sent u (Some x))
+put_came : (s u : OneKernel) (l : Label) (x : PlainMessage) → ((i : MsgId) (m : PlainMessage) → u.bag i ≡ Some m → s.bag i ≡ Some m) → (x.id.answer ≡ true → (o : Outcome) → x.what ≡ PlainWhat.Moved o → Cause l x.id o)
+    → Came s l (with_sent u (Some x))
 put_came s u l x sub f i m k = elim (came u x m i k) [
   | inl is ↦ inr (λ answers o what. subst (λ (j : MsgId). Cause l j o) is.1 (f (ap (λ (j : MsgId). j.answer) is.1 ∙ answers) o (ap (λ (z : PlainMessage). z.what) is.0 ∙ what)))
   | inr was ↦ inl (sub i m was)
@@ -50,12 +51,14 @@ no_moved l i w o e off = absurd (false≢true (sym off ∙ ap is_moved e))
 gone_moved : (w v : PlainWhat) (o : Outcome) → service.gone_what w ≡ Some v → v ≡ PlainWhat.Moved o → (asks w ≡ true) × (o ≡ Outcome.Ended)
 gone_moved w v o e f = grind (arith, nat_tests)
 
-gone_cause : (r e : MsgId → ℕ) (s : OneKernel) (l : Label) (id : MsgId) (m : PlainMessage) (v : PlainWhat) (o : Outcome) → l ≡ Label.Gone id → s.bag id ≡ Some m → service.gone_what m.what ≡ Some v → v ≡ PlainWhat.Moved o → Sound r e s → Cause l (answer_to m v).id o
+gone_cause : (r e : MsgId → ℕ) (s : OneKernel) (l : Label) (id : MsgId) (m : PlainMessage) (v : PlainWhat) (o : Outcome) → l ≡ Label.Gone id → s.bag id ≡ Some m → service.gone_what m.what ≡ Some v → v ≡ PlainWhat.Moved o → Sound r e s
+    → Cause l (answer_to m v).id o
 gone_cause r e s l id m v o is there goes what h =
     let g = gone_moved m.what v o goes what in
     record { request = id; name = ap answer_id (h.entered.named id m there); asked = h.entered.requests id m there g.0; is = is ∙ sym (ap (said_by id) g.1) }
 
-answered_cause : (r e : MsgId → ℕ) (s : OneKernel) (l : Label) (id : MsgId) (a o : Outcome) (p : Pid) (n : Note) → l ≡ Label.Answered id a → PlainWhat.Moved a ≡ PlainWhat.Moved o → Follows s id a p n → Sound r e s → KernelFits s → Cause l (answer_id id) o
+answered_cause : (r e : MsgId → ℕ) (s : OneKernel) (l : Label) (id : MsgId) (a o : Outcome) (p : Pid) (n : Note) → l ≡ Label.Answered id a → PlainWhat.Moved a ≡ PlainWhat.Moved o → Follows s id a p n → Sound r e s → KernelFits s
+    → Cause l (answer_id id) o
 answered_cause r e s l id a o p n is what f h fits =
     let same : a ≡ o = cc in
     record {
@@ -147,7 +150,8 @@ label_is _ l e = cc
 line_on : (x : Line) (ls : List Line) (l : Label) → LineOf l ls → LineOf l (x ∷ ls)
 line_on x ls l h = record { earlier = x ∷ h.earlier; later = h.later; is = ap (λ (ys : List Line). x ∷ ys) h.is }
 
-line_by : (x : Line) (ls : List Line) (l : Label) (behind : List Label) → ((xs : List Label) → labels ls ≡ xs ++ l ∷ behind → LineOf l ls) → (o : Option Label) → label_of x ≡ o → (xs : List Label) → with_label o (labels ls) ≡ xs ++ l ∷ behind → LineOf l (x ∷ ls)
+line_by : (x : Line) (ls : List Line) (l : Label) (behind : List Label) → ((xs : List Label) → labels ls ≡ xs ++ l ∷ behind → LineOf l ls) → (o : Option Label) → label_of x ≡ o → (xs : List Label)
+    → with_label o (labels ls) ≡ xs ++ l ∷ behind → LineOf l (x ∷ ls)
 line_by x ls l behind more None is xs f = line_on x ls l (more xs f)
 line_by x ls l behind more (Some k) is [] f = let g : k ≡ l = cc in record { earlier = []; later = ls; is = ap (λ (y : Line). y ∷ ls) (label_is x l (is ∙ ap Some g)) }
 line_by x ls l behind more (Some k) is (y ∷ xs) f = line_on x ls l (more xs (let g : labels ls ≡ xs ++ l ∷ behind = cc in g))

@@ -3,7 +3,7 @@ use Rattle.dm_movelaws.proofs.Names.{◌≡◌, ℕ, ◌+◌, Bool, true, List, 
 use Rattle.dm_movelaws.proofs.Names.{View, Told, after_head, after_put, view_after, own_id, Point, Part, Says, Owns, Spelled, behind, spelled, group_of, IsNet, front_way, Phased, told_some, put_spots, put_at, head_calm, put_there, put_spot}
 use Rattle.dm_movelaws.proofs.Names.{InPhases, calm_phases, PairsFit, PacketsKeep, put_told_off, said, Sane, KnownStands, Begins, begins, WalksOf, loose_walks, begun, begun_sane, turned, resting, round_walks, handles_walks, asks, ends}
 use Rattle.dm_movelaws.proofs.Names.{count, first_none, by_migrates, by_outcome, group_is, None, false, label_of, nat_tests, seen_none, Note, Outcome, PlainMessage, PlainWhat, Label, Stage, Target, Frozen, Known, Here, to_kernel}
-use Rattle.dm_movelaws.proofs.Names.{leaves_for, answers_move, said_by, part_sane, machine_in, machine_of, sets, aim, asked_off, moved, is_moving, Walks, fits_as, pid_eq-is, pid_eq-same, own_ends, ◌&&◌}
+use Rattle.dm_movelaws.proofs.Names.{leaves_for, answers_move, said_by, part_sane, machine_in, machine_of, sets, aim, asked_off, moved, is_moving, Walks, pid_eq-is, pid_eq-same, own_ends, ◌&&◌}
 use Rattle.dm_movelaws.proofs.Ends.Lines.{is_migrate, Extends, Still, plain_in_bag, own_untold, smooth_same, Tame, still_same}
 use Rattle.dm_movelaws.proofs.Ends.Net.{head_smooth, net_level, net_asks, net_ends}
 use Rattle.dm_movelaws.proofs.Ends.Parts.{packet_smooth, one_if, zero_if, parts_count, round_quiet, handles_quiet}
@@ -111,7 +111,8 @@ OwnDirected p d pt h parts w = (g : InPhases w.point.view) (ids : List MsgId) �
     → OwnBalance p w.point.view ids (asked_by p d) (owned (pt.kernel.notes p) (moving_in (h.of p))) (owned (w.point.kernel.notes p) (moving_in (g.of p))) parts
 
 -- a process is asked to move, and sets off
-leaves_own : (p : Pid) (d : Step) (pt : Point) (h : InPhases pt.view) (id : MsgId) (msg : PlainMessage) (to : ℕ) (w : Spelled) → asks p (Line.Head d) ≡ false → Sane pt → PairsFit pt.view → pt.kernel.bag id ≡ Some msg → pt.view.known pt.view.acting msg.to ≡ Here → msg.what ≡ PlainWhat.Move to
+leaves_own : (p : Pid) (d : Step) (pt : Point) (h : InPhases pt.view) (id : MsgId) (msg : PlainMessage) (to : ℕ) (w : Spelled) → asks p (Line.Head d) ≡ false → Sane pt → PairsFit pt.view → pt.kernel.bag id ≡ Some msg
+    → pt.view.known pt.view.acting msg.to ≡ Here → msg.what ≡ PlainWhat.Move to
     → spelled pt (rule.says (Label.Asked id) ∷ leaves_for msg.to to) ≡ Some w → OwnDirected p d pt h (rule.says (Label.Asked id) ∷ leaves_for msg.to to) w
 leaves_own p d pt h id msg to w unasked sane fits there here what e g ids opens before behind =
     let q = msg.to in
@@ -156,7 +157,8 @@ plain_own p pt d h ps w so e r g ids opens before behind =
     (kept_own p w.point.view ids (asked_by p d) (moving_in (h.of p)) (moving_in (g.of p)) ps a (λ f. own_same f p ps so) before (λ n is. behind n (notes ∙ is)) (r g ids opens))
 
 -- by what the parts say of requests to move
-own_of : (p : Pid) (pt : Point) (d : Step) (h : InPhases (begun pt d).view) (ps : List Part) (w : Spelled) → Sane (begun pt d) → PairsFit (begun pt d).view → Row pt d ps → spelled (begun pt d) ps ≡ Some w → Directed p d (begun pt d) h ps w → OwnDirected p d (begun pt d) h ps w
+own_of : (p : Pid) (pt : Point) (d : Step) (h : InPhases (begun pt d).view) (ps : List Part) (w : Spelled) → Sane (begun pt d) → PairsFit (begun pt d).view → Row pt d ps → spelled (begun pt d) ps ≡ Some w
+    → Directed p d (begun pt d) h ps w → OwnDirected p d (begun pt d) h ps w
 own_of p pt d h ps w sane fits (Plain so) e r g ids opens before behind = plain_own p pt d h ps w so e r g ids opens before behind
 own_of p pt d h ps w sane fits (Ends q n l k noted end are) e r g ids opens before behind =
     let start = begun pt d in
@@ -215,14 +217,16 @@ own_of p pt d h ps w sane fits (Leaves id msg to unasked there here what are) e 
     subst (OwnBalance p w.point.view ids (asked_by p d) (owned (pt.kernel.notes p) (moving_in (h.of p))) (owned (w.point.kernel.notes p) (moving_in (g.of p)))) (sym are)
     (leaves_own p d (begun pt d) h id msg to w (unasked p) sane fits there here what (ap (spelled (begun pt d)) (sym are) ∙ e) g ids opens before behind)
 
-handled_own : (p : Pid) (pt : Point) (m : ℕ) (id : MsgId) (msg : PlainMessage) (h : InPhases (turned pt m).view) (ps : List Part) (w : Spelled) → Sane (turned pt m) → PairsFit (turned pt m).view → pt.kernel.bag id ≡ Some msg → Row pt (Step.Turn m) ps → Walks (turned pt m) ps → spelled (turned pt m) ps ≡ Some w
+handled_own : (p : Pid) (pt : Point) (m : ℕ) (id : MsgId) (msg : PlainMessage) (h : InPhases (turned pt m).view) (ps : List Part) (w : Spelled) → Sane (turned pt m) → PairsFit (turned pt m).view → pt.kernel.bag id ≡ Some msg
+    → Row pt (Step.Turn m) ps → Walks (turned pt m) ps → spelled (turned pt m) ps ≡ Some w
     → Handled p (turned pt m).view pt m id msg ps → OwnDirected p (Step.Turn m) (turned pt m) h ps w
 handled_own p pt m id msg h ps w sane fits there row walks e (Quiets quiet) = own_of p pt (Step.Turn m) h ps w sane fits row e (quiet_row p (turned pt m) h ps w sane fits quiet walks e)
 handled_own p pt m id msg h ps w sane fits there row walks e (SetsOff to here what are) =
     subst (λ (xs : List Part). OwnDirected p (Step.Turn m) (turned pt m) h xs w) (sym are) (leaves_own p (Step.Turn m) (turned pt m) h id msg to w refl sane fits there here what (ap (spelled (turned pt m)) (sym are) ∙ e))
 
 -- what comes of a directive
-directed : (p : Pid) (b : Boot) (pt : Point) (d : Step) (parts : List Part) (w : Spelled) (h : InPhases pt.view) → Phased pt → KnownStands pt.kernel pt.view → PairsFit pt.view → rule.outcome b pt d ≡ Some parts → spelled (begun pt d) parts ≡ Some w → OwnDirected p d (begun pt d) (begun_phases pt d h) parts w
+directed : (p : Pid) (b : Boot) (pt : Point) (d : Step) (parts : List Part) (w : Spelled) (h : InPhases pt.view) → Phased pt → KnownStands pt.kernel pt.view → PairsFit pt.view → rule.outcome b pt d ≡ Some parts
+    → spelled (begun pt d) parts ≡ Some w → OwnDirected p d (begun pt d) (begun_phases pt d h) parts w
 directed p b pt d parts w h phased known fits is =
     by_outcome (λ x ps. (u : Spelled) → Row pt x ps → spelled (begun pt x) ps ≡ Some u → OwnDirected p x (begun pt x) (begun_phases pt x h) ps u) b pt d parts (record {
       round = λ m ps box e u row said.
@@ -273,7 +277,8 @@ whole_balance p d parts ids before behind start rest e h = record {
       omega (arith, s, a, q, o);
 }
 
-pub group_balance : (p : Pid) (b : Boot) (pt : Point) (d : Step) (w : Spelled) (h : InPhases pt.view) (g : InPhases w.point.view) (ids : List MsgId) → Phased pt → KnownStands pt.kernel pt.view → PairsFit pt.view → group_of b pt d ≡ Some w → Opens p pt.view ids → Follows p pt h → Follows p w.point g
+pub group_balance : (p : Pid) (b : Boot) (pt : Point) (d : Step) (w : Spelled) (h : InPhases pt.view) (g : InPhases w.point.view) (ids : List MsgId) → Phased pt → KnownStands pt.kernel pt.view → PairsFit pt.view
+    → group_of b pt d ≡ Some w → Opens p pt.view ids → Follows p pt h → Follows p w.point g
     → GroupBalance p w ids (owned (pt.kernel.notes p) (moving_in (h.of p))) (owned (w.point.kernel.notes p) (moving_in (g.of p)))
 group_balance p b pt d w h g ids phased known fits e opens before behind =
     let k = group_is b pt d w e in

@@ -1,16 +1,16 @@
 -- A turn that handles a kernel's own message: a request to move ends where it finds its process, and else goes on.
 use Rattle.dm_movelaws.proofs.Names.{◌≡◌, ℕ, ◌==◌, ◌&&◌, Bool, true, false, List, [], ◌∷◌, length, refl, ap, ◌∙◌, sym, subst, inl, inr, arith, if◌then◌else◌, Option, None, Some, cases_Bool, Pid, pid_eq, MsgId, MessageKind, Stage, Boot}
 use Rattle.dm_movelaws.proofs.Names.{manager, bind, pid_eq-is, Line, Addresses, Sender, is_told_back, to_kernel, forwards_on, kernel_told, here_told, ended_told, process_told, server_told, View, Told, About, Of, Known, Unknown, Here}
-use Rattle.dm_movelaws.proofs.Names.{Frozen, Forward, Ended, view_after, handled, handled_first, receiver_of, target_of, front_told, Point, moved, Part, Says, Again, Owns, Spelled, spelled, kernel_hears, hears, Spot, Inbox, ids_at}
-use Rattle.dm_movelaws.proofs.Names.{first_off, line_next, fits_put, pair_same, handled_spots, held_known, forwarded_spots, forwarded_known, put_spots, put_there, put_spot, InPhases, fits_as, PairsFit, sane_line, part_sane, AllLoose}
-use Rattle.dm_movelaws.proofs.Names.{loose_walks, turned, is_moving, is_for, frozen_off, ◌+◌, ◌++◌, ⊤, pid_of, PlainProcess, accepts, takes_chunk, takes_block, sends_on, chunks_of, pieces_of, Incoming, rejoins, front_of, gone_to}
-use Rattle.dm_movelaws.proofs.Names.{is_between, parts, at_record_off, due, Walks, asks, ends, accepted_off, state_off, memory_off, lacks_off, left_off, leaves, label_of, is_put, touches, nat_tests, sets, aim, at_record, Note, Outcome}
-use Rattle.dm_movelaws.proofs.Names.{tells_asker, answers_move, restarted_off, times}
+use Rattle.dm_movelaws.proofs.Names.{Frozen, Forward, Ended, view_after, handled, handled_first, receiver_of, target_of, Point, moved, Part, Says, Again, Owns, Spelled, spelled, kernel_hears, hears, Spot, Inbox, ids_at, first_off}
+use Rattle.dm_movelaws.proofs.Names.{line_next, fits_put, pair_same, handled_spots, held_known, forwarded_spots, forwarded_known, put_spots, put_there, put_spot, InPhases, fits_as, PairsFit, sane_line, part_sane, AllLoose, loose_walks}
+use Rattle.dm_movelaws.proofs.Names.{turned, is_moving, is_for, frozen_off, ◌+◌, ◌++◌, ⊤, pid_of, PlainProcess, accepts, takes_chunk, takes_block, sends_on, chunks_of, pieces_of, Incoming, rejoins, front_of, gone_to, is_between, parts}
+use Rattle.dm_movelaws.proofs.Names.{at_record_off, due, Walks, asks, ends, accepted_off, state_off, memory_off, lacks_off, left_off, leaves, label_of, is_put, touches, nat_tests, sets, aim, at_record, Note, Outcome, tells_asker}
+use Rattle.dm_movelaws.proofs.Names.{restarted_off, times}
 use Rattle.dm_movelaws.proofs.Ends.Lines.{is_migrate, asks_for, kind_not, Smooth, Still, smooth_trans, told_by, Tame, Foreign, still_by, smooth_still, moves_none}
 use Rattle.dm_movelaws.proofs.Ends.Parts.{AllQuiet, Rest, rest_packet, Settled, parts_settle, quiet_count, quiet_asks, told_quiet, one_if, zero_if, first_off as first_off_and}
 use Rattle.dm_movelaws.proofs.Ends.Moving.{moving_in, waits_moves, here_stays, still_moves, not_false, target_waits}
 use Rattle.dm_movelaws.proofs.Ends.Open.{IsOpen, level_balance, close_opens, smooth_opens}
-use Rattle.dm_movelaws.proofs.Ends.Rows.{Turn, plain_one, front_one, stands_front, first_smooth, first_closes, line_then, and_off, other_still, set_here, level_row, level_still, quiet_row, end_row, Comes, between_plain, line_alone}
+use Rattle.dm_movelaws.proofs.Ends.Rows.{Turn, plain_one, front_one, stands_front, first_smooth, first_closes, line_then, and_off, other_still, set_here, level_row, level_still, quiet_row, end_row, Comes, between_plain}
 use Rattle.dm_movelaws.proofs.Ends.Rows.{due_moves, about_same}
 use Rattle.dm_movelaws.proofs.Ends.Sends.{smooth_moves, held_smooth, again_told, all_sent, sent_smooth, sends_count, sent_begins, handled_smooth, rejoins_smooth}
 use Rattle.dm_movelaws.proofs.Leading.{next_of, part_leads}
@@ -79,8 +79,10 @@ asker_loose : (a : Option Note) (r : Outcome) → AllLoose (tells_asker a r)
 asker_loose None r = tt
 asker_loose (Some n) r = (λ q. tt, (λ q. tt, tt))
 
-comes_back : (p : Pid) (pt : Point) (i : MsgId) (is : List MsgId) (t : Told) (q : Pid) (l : Line) (a : Option Note) (r : Outcome) (h : Turn pt i is t) → is_between t.kind ≡ true → t.about ≡ Of q → label_of l ≡ None → is_put l ≡ false → touches l ≡ false
-    → ((z : Spot) → ids_at (view_after pt.view l) z ≡ ids_at (rejoins (handled_first pt.view) q) z) → (view_after pt.view l).known ≡ (rejoins (handled_first pt.view) q).known → ((f : MsgId → Option Told) → ends f p l ≡ pid_eq p q) → asks p l ≡ false
+comes_back : (p : Pid) (pt : Point) (i : MsgId) (is : List MsgId) (t : Told) (q : Pid) (l : Line) (a : Option Note) (r : Outcome) (h : Turn pt i is t) → is_between t.kind ≡ true → t.about ≡ Of q → label_of l ≡ None → is_put l ≡ false
+    → touches l ≡ false
+    → ((z : Spot) → ids_at (view_after pt.view l) z ≡ ids_at (rejoins (handled_first pt.view) q) z) → (view_after pt.view l).known ≡ (rejoins (handled_first pt.view) q).known → ((f : MsgId → Option Told) → ends f p l ≡ pid_eq p q)
+    → asks p l ≡ false
     → ComesOf p pt h.phases (Some (Says l ∷ tells_asker a r))
 comes_back p pt i is t q l a r h between about none quiet calm off known ended plain w e g ids opens =
     let v = pt.view in
@@ -88,7 +90,8 @@ comes_back p pt i is t q l a r h between about none quiet calm off known ended p
     let u = w.point.view in
     let ps = tells_asker a r in
     let back = rejoins (handled_first v) q in
-    let first : Smooth p v mid = smooth_trans p v back mid (smooth_trans p v (handled_first v) back (handled_smooth p v i is h.front (between_plain p v i t h.told between)) (rejoins_smooth p (handled_first v) q)) (smooth_still p back mid (told_by v l quiet) (λ j z. ap (times j) (off z))) in
+    let first : Smooth p v mid = smooth_trans p v back mid (smooth_trans p v (handled_first v) back (handled_smooth p v i is h.front (between_plain p v i t h.told between)) (rejoins_smooth p (handled_first v) q))
+    (smooth_still p back mid (told_by v l quiet) (λ j z. ap (times j) (off z))) in
     let at_ : (m : ℕ) → mid.known m p ≡ at_record v.known v.acting q Here m p = λ m. ap (λ (f : ℕ → Pid → Known). f m p) known in
     let rest = line_then p pt l ps w none quiet calm h.sane h.fits (asker_quiet p mid a r) (loose_walks ps (moved pt l pt.kernel) (asker_loose a r)) e in
     let n = line_next pt l ps w none e in
@@ -111,10 +114,12 @@ comes_back p pt i is t q l a r h between about none quiet calm off known ended p
           level_row p pt h.phases l ps w first (asker_quiet p mid a r) rest (λ f. ended f ∙ off) plain (λ x. level_still p pt h.phases l w still rest x) g ids opens
     ]
 
-stays_comes : (p : Pid) (pt : Point) (i : MsgId) (is : List MsgId) (t : Told) (q : Pid) (a : Option Note) (h : Turn pt i is t) → is_between t.kind ≡ true → t.about ≡ Of q → ComesOf p pt h.phases (Some (Says (Line.Stays q) ∷ tells_asker a Outcome.Stayed))
+stays_comes : (p : Pid) (pt : Point) (i : MsgId) (is : List MsgId) (t : Told) (q : Pid) (a : Option Note) (h : Turn pt i is t) → is_between t.kind ≡ true → t.about ≡ Of q
+    → ComesOf p pt h.phases (Some (Says (Line.Stays q) ∷ tells_asker a Outcome.Stayed))
 stays_comes p pt i is t q a h between about = comes_back p pt i is t q (Line.Stays q) a Outcome.Stayed h between about refl refl refl (λ z. refl) refl (λ f. refl) refl
 
-restarted_comes : (p : Pid) (pt : Point) (i : MsgId) (is : List MsgId) (t : Told) (q : Pid) (a : Option Note) (h : Turn pt i is t) → is_between t.kind ≡ true → t.about ≡ Of q → ComesOf p pt h.phases (Some (Says (Line.Migration Stage.Restarted q) ∷ tells_asker a Outcome.Done))
+restarted_comes : (p : Pid) (pt : Point) (i : MsgId) (is : List MsgId) (t : Told) (q : Pid) (a : Option Note) (h : Turn pt i is t) → is_between t.kind ≡ true → t.about ≡ Of q
+    → ComesOf p pt h.phases (Some (Says (Line.Migration Stage.Restarted q) ∷ tells_asker a Outcome.Done))
 restarted_comes p pt i is t q a h between about = comes_back p pt i is t q (Line.Migration Stage.Restarted q) a Outcome.Done h between about refl refl refl (λ z. restarted_off pt.view q z) refl (λ f. refl) refl
 
 -- a process has left: what waited for it goes on, and the destination waits for it still

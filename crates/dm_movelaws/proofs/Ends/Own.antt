@@ -1,9 +1,8 @@
 -- Ends of moves that no process asked for: those that no answer to a request follows.
-use Rattle.dm_movelaws.proofs.Names.{◌≡◌, ℕ, ◌+◌, ◌≤◌, ◌&&◌, Bool, true, false, not, List, [], ◌∷◌, ◌++◌, length, refl, ap, ◌∙◌, sym, subst, arith, nat_tests, if◌then◌else◌, Option, None, Some, Pid, pid_eq, MsgId, Stage, Outcome, Note}
-use Rattle.dm_movelaws.proofs.Names.{Boot, Label, Step, Line, View, Told, Known, Here, Point, Part, Says, Routes, Again, Owns, Transmits, Spelled, spelled, lines_of, answers_move, LeadsBy, group_of, group_is, is_moving, asks, ends}
-use Rattle.dm_movelaws.proofs.Names.{by_parts, view_after, moved, after_head, said_by, MessageKind, Load, own_ends, is_answered_next, is_answer_by, act_of}
+use Rattle.dm_movelaws.proofs.Names.{◌≡◌, ℕ, ◌+◌, ◌&&◌, Bool, false, not, List, [], ◌∷◌, ◌++◌, length, refl, ap, ◌∙◌, sym, subst, arith, nat_tests, Option, None, Some, Pid, pid_eq, MsgId, Outcome, Note, Boot, Label, Step, Line, View, Told}
+use Rattle.dm_movelaws.proofs.Names.{Here, Point, Part, Says, Spelled, spelled, lines_of, answers_move, LeadsBy, group_is, asks, ends, by_parts, after_head, said_by, own_ends, is_answered_next, is_answer_by, act_of}
 use Rattle.dm_rule.specs.Rule as rule
-use Rattle.dm_movelaws.proofs.Leading.{All, Saying, lines_are, asker_known}
+use Rattle.dm_movelaws.proofs.Leading.{lines_are, asker_known}
 use Rattle.dm_movelaws.proofs.Ends.Lines.{Extends, Still}
 use Rattle.dm_movelaws.proofs.Ends.Parts.{part_count, unit_if, Silent}
 use Rattle.dm_movelaws.proofs.Ends.Open.{Opens, Balance}
@@ -64,7 +63,8 @@ pub record OwnBalance (p : Pid) (w : View) (ids : List MsgId) (asked before behi
   pub sum : (f : MsgId → Option Told) → Extends w.told f → asked + (length ids + before) ≡ own_count f p parts + (length left + behind)
 
 -- the process follows what it followed
-pub kept_own : (p : Pid) (w : View) (ids : List MsgId) (asked before behind : ℕ) (ps : List Part) (a : Option Note) → ((f : MsgId → Option Told) → own_count f p ps ≡ part_count (ends f p) ps) → ((n : Note) → a ≡ Some n → before ≡ 1) → ((n : Note) → a ≡ Some n → behind ≡ 1) → Balance p w ids asked before behind ps
+pub kept_own : (p : Pid) (w : View) (ids : List MsgId) (asked before behind : ℕ) (ps : List Part) (a : Option Note) → ((f : MsgId → Option Told) → own_count f p ps ≡ part_count (ends f p) ps) → ((n : Note) → a ≡ Some n → before ≡ 1)
+    → ((n : Note) → a ≡ Some n → behind ≡ 1) → Balance p w ids asked before behind ps
     → OwnBalance p w ids asked (owned a before) (owned a behind) ps
 kept_own p w ids asked before behind ps None same one two h = record { left = h.left; opens = h.opens; quiet = h.quiet; sum = λ f ext. (let s = h.sum f ext in let z = same f in omega (arith, s, z)) }
 kept_own p w ids asked before behind ps (Some n) same one two h =

@@ -82,7 +82,8 @@ pub memory_end : (m : PlainMessage) (w : PlainWhat) → is_of_memory w ≡ true 
 memory_end m w e = grind (arith, nat_tests)
 
 -- the answer of a receiver that has ended
-gone_says : (s : OneKernel) (id : MsgId) (m : PlainMessage) (v : PlainWhat) → m.id ≡ id → s.bag id ≡ Some m → (w : PlainWhat) → m.what ≡ w → service.gone_what w ≡ Some v → AllSay s → AllSay (with_sent (without_message s id) (Some (answer_to m v)))
+gone_says : (s : OneKernel) (id : MsgId) (m : PlainMessage) (v : PlainWhat) → m.id ≡ id → s.bag id ≡ Some m → (w : PlainWhat) → m.what ≡ w → service.gone_what w ≡ Some v → AllSay s
+    → AllSay (with_sent (without_message s id) (Some (answer_to m v)))
 gone_says s id m v name there (PlainWhat.Read base len) is e h =
     let f : PlainWhat.Gone ≡ v = cc in
     subst (λ (x : PlainWhat). AllSay (with_sent (without_message s id) (Some (answer_to m x)))) f (answer_says (without_message s id) id m PlainWhat.Gone name (h id m m.to there (memory_end m m.what (ap is_of_memory is))) refl (λ a b. tt) (out_says s id h))

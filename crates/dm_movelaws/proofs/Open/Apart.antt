@@ -13,7 +13,7 @@ use Rattle.dm_onekernel.specs.Step as kernel
 use Rattle.dm_rule.specs.Rule as rule
 pub use Rattle.dm_rule.proofs.Apart.Groups.{kernel_same}
 pub use Rattle.dm_rulelaws.proofs.Goes.Own.{source_knows}
-use Rattle.dm_movelaws.proofs.Open.Fine.{AnswersAnother, AnswersIf}
+use Rattle.dm_movelaws.proofs.Open.Fine.{AnswersIf}
 
 -- what moves hasn't ended
 leaving_not : (k : MessageKind) (d : ℕ) (n : Known) (y : Why) → kind_leaves k d n ≡ true → is_restart k ≡ false → agrees n (Some (Ended y)) ≡ true → ⊥

@@ -1,11 +1,10 @@
 -- While a process moves, no line answers a request that it follows: only the line by which it comes here is followed by that.
-use Rattle.dm_movelaws.proofs.Names.{pid_of, first_number, ◌+◌, ◌≡◌, ◌≢◌, ℕ, ◌==◌, Bool, true, false, List, [], ◌∷◌, ◌++◌, length, refl, ap, ◌∙◌, sym, subst, ⊤, is_some, inl, inr, cases_Bool, if◌then◌else◌, Option, None, Some, false≢true}
-use Rattle.dm_movelaws.proofs.Names.{Pid, pid_eq, pid_eq-same, MsgId, MessageKind, plain_kind, Boot, manager, Label, OneKernel, PlainMessage, Note, bind, bind-is, Step, Line, Stage, Load, Addresses, Receiver, Point, label_of, kernel_after}
-use Rattle.dm_movelaws.proofs.Names.{after_line, after, moved, Part, Says, Routes, Again, Owns, Transmits, Spelled, lines_of, puts, goes_out, packet_line, behind, spelled, group_of, own_id, Told, Here, Sane, sends_on, to_kernel}
-use Rattle.dm_movelaws.proofs.Names.{gives_piece, forwards_on, updates, migrates, left_parts, Mark, Reached, Staying, with_mark, mark_for, marks, left_open, IsNet, IsNetLine, by_net, by_hears, by_handles, by_round, by_forwards, by_migrates}
-use Rattle.dm_movelaws.proofs.Names.{by_outcome, by_parts, by_group, sane_line, Outcome, answers_move, leaves_for, asked_noted}
+use Rattle.dm_movelaws.proofs.Names.{pid_of, first_number, ◌+◌, ◌≡◌, ◌≢◌, ℕ, ◌==◌, Bool, true, false, List, [], ◌∷◌, ◌++◌, length, refl, ap, ◌∙◌, sym, subst, ⊤, is_some, if◌then◌else◌, Option, None, Some, false≢true, Pid, pid_eq}
+use Rattle.dm_movelaws.proofs.Names.{pid_eq-same, MsgId, MessageKind, plain_kind, Boot, manager, Label, OneKernel, PlainMessage, Note, bind, bind-is, Step, Line, Stage, Load, Addresses, Receiver, Point, label_of, kernel_after, after_line}
+use Rattle.dm_movelaws.proofs.Names.{after, moved, Part, Says, Routes, Again, Owns, Transmits, Spelled, lines_of, puts, goes_out, packet_line, behind, spelled, group_of, own_id, Told, Here, Sane, sends_on, to_kernel, gives_piece}
+use Rattle.dm_movelaws.proofs.Names.{forwards_on, updates, migrates, left_parts, Mark, Reached, Staying, with_mark, mark_for, marks, left_open, IsNet, IsNetLine, by_net, by_hears, by_handles, by_round, by_forwards, by_migrates, by_outcome}
+use Rattle.dm_movelaws.proofs.Names.{by_parts, by_group, Outcome, answers_move, leaves_for, asked_noted}
 use Rattle.dm_onekernel.specs.Pieces as pieces
-use Rattle.dm_onekernel.specs.Step as kernel
 use Rattle.dm_rule.specs.Rule as rule
 use Rattle.dm_movelaws.proofs.Stages.Marks.{open_after, open-append, marks-append}
 
@@ -104,14 +103,17 @@ then_of pt l ps w e =
     let k : behind (l ∷ []) z ≡ w = cc in
     record { kernel = s; step = step; rest = z; is = ap (λ (q : Point). spelled q ps) (f ∙ g) ∙ is; lines = ap (λ (x : Spelled). x.lines) k }
 
-says_fine : (p : Pid) (pt : Point) (o : Option Mark) (l : Line) (ps : List Part) → (is_some o ≡ true → AnswersIf pt.kernel p (label_of l)) → ((s : OneKernel) → kernel_after pt.kernel (label_of l) ≡ Some s → FineBy p (moved pt l s) (open_after o (with_mark p l [])) ps) → FineBy p pt o (Says l ∷ ps)
+says_fine : (p : Pid) (pt : Point) (o : Option Mark) (l : Line) (ps : List Part) → (is_some o ≡ true → AnswersIf pt.kernel p (label_of l))
+    → ((s : OneKernel) → kernel_after pt.kernel (label_of l) ≡ Some s → FineBy p (moved pt l s) (open_after o (with_mark p l [])) ps) → FineBy p pt o (Says l ∷ ps)
 says_fine p pt o l ps need rest w e =
     let g = then_of pt l ps w e in
     let u = open_after o (with_mark p l []) in
-    subst (Fine p pt o) g.lines
-    (need, λ next f.
-    let same : moved pt l g.kernel ≡ next = (let k : Some (moved pt l g.kernel) ≡ Some next = sym (ap (λ (x : Option OneKernel). bind x (λ (s : OneKernel). Some (moved pt l s))) g.step) ∙ f in cc) in
-    subst (λ (q : Point). Fine p q u g.rest.lines) same (rest g.kernel g.step g.rest g.is))
+    subst (Fine p pt o) g.lines (
+      need,
+      λ next f.
+          let same : moved pt l g.kernel ≡ next = (let k : Some (moved pt l g.kernel) ≡ Some next = sym (ap (λ (x : Option OneKernel). bind x (λ (s : OneKernel). Some (moved pt l s))) g.step) ∙ f in cc) in
+          subst (λ (q : Point). Fine p q u g.rest.lines) same (rest g.kernel g.step g.rest g.is),
+    )
 
 -- the answer to another's request, or to one whose process has come here
 answers_fine : (p : Pid) (pt : Point) (o : Option Mark) (i : MsgId) (r : Outcome) → (is_some o ≡ true → pt.kernel.noted i ≢ Some p) → FineBy p pt o (answers_move i r)
@@ -121,7 +123,8 @@ answers_fine p pt o i r other = says_fine p pt o (Line.Label (Label.Answered i r
 closed_by : (p q : Pid) (m : Mark) (o : Option Mark) → left_open m ≡ None → pid_eq p q ≡ true → open_after o (mark_for p q m []) ≡ None
 closed_by p q m o e same = ap (λ (c : Bool). open_after o (if c then m ∷ [] else [])) same ∙ e
 
-comes_fine : (p q : Pid) (pt : Point) (o : Option Mark) (l : Line) (m : Mark) (n : Note) (r : Outcome) → label_of l ≡ None → with_mark p l [] ≡ mark_for p q m [] → left_open m ≡ None → pt.kernel.noted n.id ≡ Some q → FineBy p pt o (Says l ∷ answers_move n.id r)
+comes_fine : (p q : Pid) (pt : Point) (o : Option Mark) (l : Line) (m : Mark) (n : Note) (r : Outcome) → label_of l ≡ None → with_mark p l [] ≡ mark_for p q m [] → left_open m ≡ None → pt.kernel.noted n.id ≡ Some q
+    → FineBy p pt o (Says l ∷ answers_move n.id r)
 comes_fine p q pt o l m n r none mark shut noted =
     says_fine p pt o l (answers_move n.id r) (λ e. subst (AnswersIf pt.kernel p) (sym none) tt) (λ s step.
     answers_fine p (moved pt l s) (open_after o (with_mark p l [])) n.id r (λ open_ mine.
@@ -148,14 +151,17 @@ routes_loose (Some m) = (tt, tt)
 
 round_loose : (b : Boot) (o : Point) (m : ℕ) (q : Option Pid) (ps : List Part) → rule.goes_round b o m q ≡ Some ps → LooseParts ps
 round_loose b o m q ps = by_round LooseParts b o m q ps (tt, tt) (λ p x is alive. record {
-  runs = λ k rest stops. (tt, stops LooseParts (record {
-    over = tt;
-    replies = λ n r. (tt, tt);
-    sends = λ id. (tt, (tt, tt));
-    waits = (tt, tt);
-    outputs = λ word. (tt, tt);
-    ends = λ y. (tt, drops_loose (o.view.queue m p));
-  }));
+  runs = λ k rest stops. (
+    tt,
+    stops LooseParts (record {
+      over = tt;
+      replies = λ n r. (tt, tt);
+      sends = λ id. (tt, (tt, tt));
+      waits = (tt, tt);
+      outputs = λ word. (tt, tt);
+      ends = λ y. (tt, drops_loose (o.view.queue m p));
+    }),
+  );
   takes = λ mask id first. (tt, tt);
   refuses = λ id r. (tt, tt);
 })
@@ -170,7 +176,8 @@ sends_loose to (i ∷ is) ps h = (tt, sends_loose to is ps h)
 abbrev begun : Point → Step → Point
 begun o d = moved o (Line.Head d) o.kernel
 
-handles_fine : (p : Pid) (k : Option Mark) (b : Boot) (o : Point) (m : ℕ) (id : MsgId) (msg : PlainMessage) (ps : List Part) → o.kernel.bag id ≡ Some msg → ((q : Pid) → o.view.known m q ≡ Here → q ≢ p) → rule.handles b o m id msg ≡ Some ps → FineBy p (begun o (Step.Turn m)) k ps
+handles_fine : (p : Pid) (k : Option Mark) (b : Boot) (o : Point) (m : ℕ) (id : MsgId) (msg : PlainMessage) (ps : List Part) → o.kernel.bag id ≡ Some msg → ((q : Pid) → o.view.known m q ≡ Here → q ≢ p)
+    → rule.handles b o m id msg ≡ Some ps → FineBy p (begun o (Step.Turn m)) k ps
 handles_fine p k b o m id msg ps there off =
     let pt = begun o (Step.Turn m) in
     let loose : (qs : List Part) → LooseParts qs → FineBy p pt k qs = λ qs h. loose_fine p pt k qs h in

@@ -1,8 +1,7 @@
 -- Each line between a process's step 1 and its step 8 or `stays` is another's, and leaves its plain value.
-use Rattle.dm_movelaws.proofs.Names.{◌≡◌, ℕ, true, false, List, [], ◌∷◌, ◌++◌, is_some, refl, ap, ◌∙◌, sym, subst, inl, inr, Option, None, Some, false≢true, Pid, MsgId, MessageKind, Boot, Label, IsValid, OneKernel, bind, bind-is, Step}
-use Rattle.dm_movelaws.proofs.Names.{Line, Spelled, Phase, Moves, IsIn, Point, label_of, kernel_after, moved, after_line, after, first_point, group_of, View, Known, first_view, rooted, is_fixed, LeadsBy, KnownIs, Both, both_start}
-use Rattle.dm_movelaws.proofs.Names.{both_group, after_replay, Run, run_start, run_group, IsAnothersIf, OpenStays, Mark, marks, kind_leaves, append_assoc, start, replay, with_label, labels, labels-append, replay-append, AllOpen, OpenKeeps}
-use Rattle.dm_movelaws.proofs.Names.{nat_tests, arith}
+use Rattle.dm_movelaws.proofs.Names.{◌≡◌, ℕ, true, false, List, [], ◌∷◌, ◌++◌, is_some, refl, ap, ◌∙◌, sym, subst, Option, None, Some, Pid, MsgId, MessageKind, Boot, Label, IsValid, OneKernel, bind, bind-is, Step, Line, Spelled, Phase}
+use Rattle.dm_movelaws.proofs.Names.{Moves, IsIn, Point, label_of, kernel_after, moved, after_line, after, first_point, group_of, View, Known, first_view, rooted, is_fixed, LeadsBy, KnownIs, Both, both_start, both_group, after_replay, Run}
+use Rattle.dm_movelaws.proofs.Names.{run_start, run_group, IsAnothersIf, OpenStays, Mark, marks, kind_leaves, append_assoc, start, replay, with_label, labels, labels-append, replay-append, AllOpen, OpenKeeps, nat_tests, arith}
 use Rattle.dm_movelaws.proofs.After.{after-append, group_after}
 use Rattle.dm_movelaws.proofs.Open.Apart.{AllAlone, moving_off, moving_alone, kernel_same, alone_rest, anothers_if, source_knows, moving_lives}
 use Rattle.dm_movelaws.proofs.Open.Moves.{open_is, none_due, start_mark}
@@ -42,7 +41,8 @@ meets (x ∷ xs) ys l pt end e =
 leaves_free : (n : ℕ) (v : View) (m : ℕ) (p : Pid) (k : MessageKind) (d : ℕ) (x : Known) → kind_leaves k d x ≡ true → KnownIs n v m p x → is_fixed p ≡ false
 leaves_free n v m p k d x e h = grind (arith, nat_tests)
 
-moving_at : (b : Boot) (pt : Point) (d : Step) (w : Spelled) (p : Pid) (k : MessageKind) (s t : ℕ) (id : Option MsgId) (earlier g : List Line) (l : Line) → Run b pt → IsIn pt.view p (Moves k s t id) → group_of b pt d ≡ Some w → w.lines ≡ earlier ++ l ∷ g → is_some (open_after (mark_in (Moves k s t id)) (marks p earlier)) ≡ true → At pt earlier l p
+moving_at : (b : Boot) (pt : Point) (d : Step) (w : Spelled) (p : Pid) (k : MessageKind) (s t : ℕ) (id : Option MsgId) (earlier g : List Line) (l : Line) → Run b pt → IsIn pt.view p (Moves k s t id) → group_of b pt d ≡ Some w
+    → w.lines ≡ earlier ++ l ∷ g → is_some (open_after (mark_in (Moves k s t id)) (marks p earlier)) ≡ true → At pt earlier l p
 moving_at b pt d w p k s t id earlier g l run phase e split begun =
     let m = meets earlier g l pt w.point (ap (after pt) (sym split) ∙ group_after b pt d w e) in
     let phased = run.based.phased in

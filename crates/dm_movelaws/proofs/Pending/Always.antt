@@ -259,9 +259,10 @@ pending_has_one b es pt valid leads =
       only = λ i m there e. of_pending pt.kernel i m m.what (based.fits.messages i m there) (sane.sound.entered.requests i m there) e;
       followed = λ i p noted.
           let (k, notes, name) = sane.sound.notes.follows i p noted in
-          let f = based.fits.notes p k notes in
-          (id_as i manager (ap (λ (j : MsgId). j.from) (sym name) ∙ f.pending.from) (ap (λ (j : MsgId). j.answer) (sym name) ∙ f.unanswered),
-            for_some PendingKind.Move (manage.pending_numbered i.n pt.kernel.manager.pending) (ap (λ (j : MsgId). is_for PendingKind.Move (manage.pending_numbered j.n pt.kernel.manager.pending)) (sym name) ∙ f.pending.pending));
+          let f = based.fits.notes p k notes in (
+            id_as i manager (ap (λ (j : MsgId). j.from) (sym name) ∙ f.pending.from) (ap (λ (j : MsgId). j.answer) (sym name) ∙ f.unanswered),
+            for_some PendingKind.Move (manage.pending_numbered i.n pt.kernel.manager.pending) (ap (λ (j : MsgId). is_for PendingKind.Move (manage.pending_numbered j.n pt.kernel.manager.pending)) (sym name) ∙ f.pending.pending),
+          );
     }
 
 pub pending_ascends : PendingAscends

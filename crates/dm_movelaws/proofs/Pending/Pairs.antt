@@ -90,13 +90,15 @@ off_by : (i j : MsgId) (n : ℕ) → i ≡ j → Off j n → Off i n
 off_by i j n e h = subst (λ (k : MsgId). Off k n) (sym e) h
 
 -- a message is answered that is no request to make a process
-pub answered_ones : (r e : MsgId → ℕ) (s u t : OneKernel) (id : MsgId) (m : PlainMessage) (w : PlainWhat) → with_sent u (Some (answer_to m w)) ≡ t → ((n : ℕ) → is_pending u n ≡ true → is_pending s n ≡ true) → s.bag id ≡ Some m → asks m.what ≡ true → is_request m.what ≡ false → Sound r e s → Ones s → Ones u → Ones t
+pub answered_ones : (r e : MsgId → ℕ) (s u t : OneKernel) (id : MsgId) (m : PlainMessage) (w : PlainWhat) → with_sent u (Some (answer_to m w)) ≡ t → ((n : ℕ) → is_pending u n ≡ true → is_pending s n ≡ true) → s.bag id ≡ Some m
+    → asks m.what ≡ true → is_request m.what ≡ false → Sound r e s → Ones s → Ones u → Ones t
 answered_ones r e s u t id m w is up there asked off h ones on =
     let name : (answer_to m w).id ≡ answer_id id = ap answer_id (h.entered.named id m there) in
     subst Ones is (put_ones u (answer_to m w) (λ n p. off_by (answer_to m w).id (answer_id id) n name (answer_off id n (h.entered.requests id m there asked) (off_request s n id m ones (up n p) there off))) on)
 
 -- a request to make a process is answered
-made_pair : (id : MsgId) (n : ℕ) (s u : OneKernel) (x : PlainMessage) → ((i : MsgId) → u.bag i ≡ (without_message s id).bag i) → u.noted (id_of manager n) ≡ None → x.id ≡ answer_id id → is_answer x.what ≡ true → id_eq id (id_of manager n) ≡ true → PairAt (with_sent u (Some x)) n
+made_pair : (id : MsgId) (n : ℕ) (s u : OneKernel) (x : PlainMessage) → ((i : MsgId) → u.bag i ≡ (without_message s id).bag i) → u.noted (id_of manager n) ≡ None → x.id ≡ answer_id id → is_answer x.what ≡ true
+    → id_eq id (id_of manager n) ≡ true → PairAt (with_sent u (Some x)) n
 made_pair id n s u x same free name answers here = grind (arith, nat_tests, sent_off, parts)
 
 -- what is in the bag is followed by nobody
@@ -110,7 +112,8 @@ unnoted_in r e s i m h there = free_of s i m (s.noted i) refl (λ p is. ((Notes-
 unnoted : (r e : MsgId → ℕ) (s : OneKernel) (id : MsgId) (n : ℕ) (m : PlainMessage) → Sound r e s → id_eq id (id_of manager n) ≡ true → s.bag id ≡ Some m → s.noted (id_of manager n) ≡ None
 unnoted r e s id n m h same there = ap s.noted (sym (id_eq-is id (id_of manager n) same)) ∙ unnoted_in r e s id m h there
 
-pub made_ones : (r e : MsgId → ℕ) (s u t : OneKernel) (id : MsgId) (m : PlainMessage) (w : PlainWhat) → with_sent u (Some (answer_to m w)) ≡ t → ((i : MsgId) → u.bag i ≡ (without_message s id).bag i) → ((i : MsgId) → u.noted i ≡ s.noted i) → ((n : ℕ) → is_pending u n ≡ true → is_pending s n ≡ true) → s.bag id ≡ Some m → asks m.what ≡ true → is_answer w ≡ true
+pub made_ones : (r e : MsgId → ℕ) (s u t : OneKernel) (id : MsgId) (m : PlainMessage) (w : PlainWhat) → with_sent u (Some (answer_to m w)) ≡ t → ((i : MsgId) → u.bag i ≡ (without_message s id).bag i)
+    → ((i : MsgId) → u.noted i ≡ s.noted i) → ((n : ℕ) → is_pending u n ≡ true → is_pending s n ≡ true) → s.bag id ≡ Some m → asks m.what ≡ true → is_answer w ≡ true
     → Sound r e s → Ones s → Ones t
 made_ones r e s u t id m w is same noted up there asked answers h ones =
     let x = answer_to m w in
@@ -191,7 +194,7 @@ noted_ones r e s id m q k there name asked h ones n p =
     let t = with_note (without_message s id) q k in
     let i = id_of manager n in
     elim (cases_Bool (id_eq id i)) [
-      | inl here ↦ 
+      | inl here ↦
           let is : id ≡ i = id_eq-is id i here in
           let out : id_eq id (answer_of n) ≡ false = ap (λ (a : Bool). (pid_eq id.from manager && (id.n == n)) && bool_eq a true) (h.entered.requests id m there asked) ∙ and_false (pid_eq id.from manager && (id.n == n)) in
           subst (Pair (t.bag i) (t.bag (answer_of n))) (sym (ap (λ (c : Bool). if c then Some q else s.noted i) (ap (λ (j : MsgId). id_eq j i) name ∙ here)))
@@ -211,7 +214,8 @@ unnoted_ones s id q x noted asked name answers ones n p =
           let is : id ≡ i = id_eq-is id i here in
           let at_ : x.id ≡ answer_of n = name ∙ ap answer_id is in
           followed_pair (s.bag i) (t.bag i) (s.bag (answer_of n)) (t.bag (answer_of n)) (s.noted i) (t.noted i) q x (ones n p) (ap s.noted (sym is) ∙ noted) (ap (λ (c : Bool). if c then None else s.noted i) here)
-          (sent_off (without_note s q id) x i (ap (λ (j : MsgId). id_eq j i) at_ ∙ and_false (pid_eq manager manager && (n == n)))) (ap (λ (j : MsgId). if id_eq j (answer_of n) then Some x else s.bag (answer_of n)) at_ ∙ ap (λ (c : Bool). if c then Some x else s.bag (answer_of n)) (id_eq-same (answer_of n))) answers
+          (sent_off (without_note s q id) x i (ap (λ (j : MsgId). id_eq j i) at_ ∙ and_false (pid_eq manager manager && (n == n))))
+          (ap (λ (j : MsgId). if id_eq j (answer_of n) then Some x else s.bag (answer_of n)) at_ ∙ ap (λ (c : Bool). if c then Some x else s.bag (answer_of n)) (id_eq-same (answer_of n))) answers
       | inr apart ↦
           let off = off_by x.id (answer_id id) n name (answer_off id n asked apart) in
           by_same s t n ones (record { was = p; request = sent_off (without_note s q id) x i off.0; answer = sent_off (without_note s q id) x (answer_of n) off.1; noted = ap (λ (c : Bool). if c then None else s.noted i) apart })

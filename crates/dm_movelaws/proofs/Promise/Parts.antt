@@ -178,7 +178,8 @@ asks_goes j t pt id msg to h there what w is =
     let o = next_of n.next first ps n.rest n.more in
     inl (subst (λ (x : Point). Stands x.view j) (o.point ∙ n.point) (loose_stands ps j t o.next o.rest refl (part_base j t n.next o.next first need base o.steps) (part_stands j t n.next o.next first need base stands o.steps) o.more))
 
-pub handles_goes : (j : MsgId) (t : Told) (pt : Point) (b : Boot) (o : Point) (m : ℕ) (id : MsgId) (msg : PlainMessage) (ps : List Part) → Waits j t pt → pt.kernel.bag id ≡ Some msg → id_eq id j ≡ false → rule.handles b o m id msg ≡ Some ps → Goes j pt ps
+pub handles_goes : (j : MsgId) (t : Told) (pt : Point) (b : Boot) (o : Point) (m : ℕ) (id : MsgId) (msg : PlainMessage) (ps : List Part) → Waits j t pt → pt.kernel.bag id ≡ Some msg → id_eq id j ≡ false
+    → rule.handles b o m id msg ≡ Some ps → Goes j pt ps
 handles_goes j t pt b o m id msg ps h there off e =
     loose_handles (Goes j pt) (λ xs. all_loose xs ≡ true) quiet_loose (λ xs. loose_row j t pt xs h) b o m id msg ps (λ here. first_row j t pt (Says (Line.Queued id)) [] h off refl) (first_row j t pt (Says (Line.Held id)) [] h off refl)
     (λ to here what apart. asks_goes j t pt id msg to h there what) (λ to moves at_. forwards_goes j t pt o.addresses id (plain_kind msg.what) msg.sender to h off) e

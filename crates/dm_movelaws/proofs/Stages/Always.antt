@@ -79,7 +79,8 @@ front_tame pt i is msg sane state front there =
 head_marked : (u v w : View) (p : Pid) (ms : List Mark) → Calm u v → Marked v w p ms → Marked u w p ms
 head_marked u v w p ms c m a b h k da db = m a b (calm_in u v p a c h) k da db
 
-handled_marked : (o pt : Point) (m : ℕ) (i : MsgId) (is : List MsgId) (msg : PlainMessage) (ps : List Part) (w : Spelled) → Turning o pt m → pt.view.inbox pt.view.acting ≡ i ∷ is → pt.kernel.bag i ≡ Some msg → Handled o m i msg ps → spelled pt ps ≡ Some w → MarkedBy pt w ps
+handled_marked : (o pt : Point) (m : ℕ) (i : MsgId) (is : List MsgId) (msg : PlainMessage) (ps : List Part) (w : Spelled) → Turning o pt m → pt.view.inbox pt.view.acting ≡ i ∷ is → pt.kernel.bag i ≡ Some msg → Handled o m i msg ps
+    → spelled pt ps ≡ Some w → MarkedBy pt w ps
 handled_marked o pt m i is msg ps w h box there (Spared mild) e p = mild_marked pt (Some i) ps w h.sane h.fits (tame_front pt.view i (front_tame pt i is msg h.sane h.state box there)) mild e p
 handled_marked o pt m i is msg ps w h box there (SetsOff to here what are) e p =
     let q = msg.to in

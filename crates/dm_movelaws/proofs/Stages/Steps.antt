@@ -1,10 +1,9 @@
 -- The rows of a migration that freeze a process, send on what waits for it, and bring it home.
 use Rattle.dm_movelaws.proofs.Names.{◌≡◌, ℕ, ◌≤◌, true, false, List, [], ◌∷◌, ◌++◌, length, refl, ap, ◌∙◌, sym, subst, Option, None, Some, false≢true, Pid, pid_of, pid_eq, MsgId, MessageKind, Stage, Line, at_record, Told, Of, Known, Here}
-use Rattle.dm_movelaws.proofs.Names.{Frozen, view_after, handled_first, released, target_of, front_told, to_kernel, sends_on, is_between, Point, label_of, moved, Part, Says, Spelled, spelled, Spot, Queue, Held, Inbox, Untaken, times}
-use Rattle.dm_movelaws.proofs.Names.{ids_at, standing, pid_eq-swap, is_put, at_record_at, first_off, home_again, home_off, frozen_off, line_next, touches, handled_spots, record_off, InPhases, queued_plain, held_plain, said, Mark, Reached}
-use Rattle.dm_movelaws.proofs.Names.{mark_for, with_mark, in_order, released_on, nat_tests, arith, ◌==◌, Bool, PlainProcess, Incoming, handled, front_of, accepts, gives_piece, takes_chunk, takes_block, kernel_told, chunks_of, pieces_of}
-use Rattle.dm_movelaws.proofs.Names.{Owns, accepted_off, state_off, memory_off, lacks_off, proto_off, restarted_off, proto_known, Lacking, Staying, leaves, sets, sets_off, View, Note, Outcome, NothingElse, tells_asker, answers_move}
-use Rattle.dm_movelaws.proofs.Names.{frozen_is, aim, PairsFit, Sane, Target, asked_off}
+use Rattle.dm_movelaws.proofs.Names.{Frozen, view_after, handled_first, released, to_kernel, sends_on, is_between, Point, label_of, moved, Part, Says, Spelled, spelled, Spot, Queue, Held, Inbox, Untaken, times, ids_at, standing}
+use Rattle.dm_movelaws.proofs.Names.{pid_eq-swap, is_put, at_record_at, first_off, home_again, home_off, frozen_off, line_next, touches, handled_spots, record_off, InPhases, queued_plain, held_plain, Mark, Reached, mark_for, with_mark}
+use Rattle.dm_movelaws.proofs.Names.{in_order, released_on, nat_tests, arith, ◌==◌, Bool, PlainProcess, Incoming, handled, front_of, accepts, gives_piece, takes_chunk, takes_block, kernel_told, chunks_of, pieces_of, Owns, accepted_off}
+use Rattle.dm_movelaws.proofs.Names.{state_off, memory_off, lacks_off, proto_off, restarted_off, proto_known, Lacking, Staying, leaves, sets, Note, Outcome, NothingElse, tells_asker, aim, PairsFit, Sane, Target, asked_off}
 use Rattle.dm_movelaws.proofs.Stages.Marks.{open_after, marks_of, mark_same, mark_other, marks_sent}
 use Rattle.dm_movelaws.proofs.Stages.Spares.{is_settled, Spares, spares_same, TokenOf, HasMark, token_mark, here_mark, some_marked, mark_of, Marked}
 use Rattle.dm_movelaws.proofs.Stages.Lines.{AllMild, spares_line, same_spot, Kept, parts_spare}
@@ -34,7 +33,8 @@ asker_mild : (p : Pid) (o : Option Note) (r : Outcome) → AllMild p None (tells
 asker_mild p None r = tt
 asker_mild p (Some n) r = (tt, (tt, tt))
 
-home_known : (pt : Point) (l : Line) (o : Option Note) (r : Outcome) (w : Spelled) (q : Pid) → label_of l ≡ None → (view_after pt.view l).known ≡ at_record pt.view.known pt.view.acting q Here → spelled pt (Says l ∷ tells_asker o r) ≡ Some w → w.point.view.known pt.view.acting q ≡ Here
+home_known : (pt : Point) (l : Line) (o : Option Note) (r : Outcome) (w : Spelled) (q : Pid) → label_of l ≡ None → (view_after pt.view l).known ≡ at_record pt.view.known pt.view.acting q Here
+    → spelled pt (Says l ∷ tells_asker o r) ≡ Some w → w.point.view.known pt.view.acting q ≡ Here
 home_known pt l o r w q none known e =
     let n = line_next pt l (tells_asker o r) w none e in
     let a = pt.view.acting in
@@ -61,7 +61,8 @@ frozen_marked : (q : Pid) (to : ℕ) → marks_of q (freezes q to) ≡ Reached 1
 frozen_marked q to = mark_same q (Reached 1) (mark_for q q (Reached 2) []) ∙ ap (λ (ms : List Mark). Reached 1 ∷ ms) (mark_same q (Reached 2) [])
 
 -- wherever its request stood, if the others are left alone
-pub sets_row : (pt : Point) (q : Pid) (to : ℕ) (w : Spelled) → Sane pt → PairsFit pt.view → pt.view.known pt.view.acting q ≡ Here → ((p : Pid) → pid_eq q p ≡ false → Spares pt.view (view_after pt.view (Line.Migration Stage.Frozen q)) p) → spelled pt (freezes q to) ≡ Some w
+pub sets_row : (pt : Point) (q : Pid) (to : ℕ) (w : Spelled) → Sane pt → PairsFit pt.view → pt.view.known pt.view.acting q ≡ Here
+    → ((p : Pid) → pid_eq q p ≡ false → Spares pt.view (view_after pt.view (Line.Migration Stage.Frozen q)) p) → spelled pt (freezes q to) ≡ Some w
     → Row pt.view w.point.view q (λ p. marks_of p (freezes q to))
 sets_row pt q to w sane fits here spared e =
     let v = pt.view in
@@ -80,7 +81,8 @@ sets_row pt q to w sane fits here spared e =
       mine = some_marked v w.point.view q (marks_of q (freezes q to)) (Reached 1 ∷ Reached 2 ∷ []) None (Some (Reached 2)) (frozen_marked q to) (here_mark v q v.acting here) (token_mark w.point.view q MessageKind.Ask token) refl refl;
     }
 
-pub freezes_row : (pt : Point) (i : MsgId) (is : List MsgId) (q : Pid) (to : ℕ) (w : Spelled) → Handling pt i is q → pt.view.topic ≡ NothingElse → pt.view.known pt.view.acting q ≡ Here → spelled pt (freezes q to) ≡ Some w → Row pt.view w.point.view q (λ p. marks_of p (freezes q to))
+pub freezes_row : (pt : Point) (i : MsgId) (is : List MsgId) (q : Pid) (to : ℕ) (w : Spelled) → Handling pt i is q → pt.view.topic ≡ NothingElse → pt.view.known pt.view.acting q ≡ Here → spelled pt (freezes q to) ≡ Some w
+    → Row pt.view w.point.view q (λ p. marks_of p (freezes q to))
 freezes_row pt i is q to w h topic here =
     let v = pt.view in
     let l = Line.Migration Stage.Frozen q in
@@ -88,7 +90,8 @@ freezes_row pt i is q to w h topic here =
     (λ p apart. first_spares pt i is q p l h apart refl (λ z. frozen_off v q topic z ∙ first_off v i is h.front z) (λ m. ap (λ (f : ℕ → Pid → Known). f m p) (sets v q v.topic).known ∙ record_off v.known v.acting q (Frozen (aim v v.topic)) m p apart))
 
 -- behind the line that says that it is asked to move
-pub setting_row : (pt : Point) (q : Pid) (to : ℕ) (w : Spelled) → Sane pt → PairsFit pt.view → pt.view.topic ≡ Target to → pt.view.known pt.view.acting q ≡ Here → spelled pt (freezes q to) ≡ Some w → Row pt.view w.point.view q (λ p. marks_of p (freezes q to))
+pub setting_row : (pt : Point) (q : Pid) (to : ℕ) (w : Spelled) → Sane pt → PairsFit pt.view → pt.view.topic ≡ Target to → pt.view.known pt.view.acting q ≡ Here → spelled pt (freezes q to) ≡ Some w
+    → Row pt.view w.point.view q (λ p. marks_of p (freezes q to))
 setting_row pt q to w sane fits topic here =
     let v = pt.view in
     let l = Line.Migration Stage.Frozen q in
@@ -140,7 +143,8 @@ departs_row pt i is q to ids from w h phases before e =
     let mid = s.mid.point in
     let last = moved mid k mid.kernel in
     let o = line_next mid k (to_kernel MessageKind.Restart from ∷ []) s.rest refl s.more in
-    let token : TokenOf w.point.view q MessageKind.Restart = subst (λ (y : Point). TokenOf y.view q MessageKind.Restart) (o.point ∙ s.point ∙ n.point) (owns_token last MessageKind.Restart q (pid_of from 0) from o.rest (line_sane mid k refl refl kept.sane) (line_fits mid mid.kernel k refl kept.fits) refl refl o.more) in
+    let token : TokenOf w.point.view q MessageKind.Restart = subst (λ (y : Point). TokenOf y.view q MessageKind.Restart) (o.point ∙ s.point ∙ n.point)
+    (owns_token last MessageKind.Restart q (pid_of from 0) from o.rest (line_sane mid k refl refl kept.sane) (line_fits mid mid.kernel k refl kept.fits) refl refl o.more) in
     record {
       others = λ p apart. (
         departs_unmarked p q to ids from apart,
@@ -214,7 +218,8 @@ stays_row pt i is t q a w h e n p =
     row_marked pt.view w.point.view q (λ r. marks_of r (Says (Line.Stays q) ∷ tells_asker a Outcome.Stayed))
     (comes_home pt i is q (Line.Stays q) a Outcome.Stayed (Staying ∷ []) (Some Lacking) w h.at refl refl refl (λ z. refl) refl (λ r apart. unmarked q Staying r apart) (mark_same q Staying []) (heard_mark pt i is t q MessageKind.Refuse h e refl) refl refl n) p
 
-restarted_row : (pt : Point) (i : MsgId) (is : List MsgId) (t : Told) (q : Pid) (a : Option Note) (w : Spelled) → Heard pt i is t q → t.kind ≡ MessageKind.Restart → spelled pt (Says (Line.Migration Stage.Restarted q) ∷ tells_asker a Outcome.Done) ≡ Some w
+restarted_row : (pt : Point) (i : MsgId) (is : List MsgId) (t : Told) (q : Pid) (a : Option Note) (w : Spelled) → Heard pt i is t q → t.kind ≡ MessageKind.Restart
+    → spelled pt (Says (Line.Migration Stage.Restarted q) ∷ tells_asker a Outcome.Done) ≡ Some w
     → MarkedBy pt w (Says (Line.Migration Stage.Restarted q) ∷ tells_asker a Outcome.Done)
 restarted_row pt i is t q a w h e n p =
     row_marked pt.view w.point.view q (λ r. marks_of r (Says (Line.Migration Stage.Restarted q) ∷ tells_asker a Outcome.Done))
