@@ -1,7 +1,7 @@
 -- Numbers and names of processes as they are written.
 use Rattle.std.specs.Prelude.{ℕ, Bool, ◌==◌, ◌&&◌, nat_le, ◌+◌, ◌-◌, ◌*◌, if◌then◌else◌, Option, Some, None, List, [], ◌∷◌, length, take, drop}
 use Rattle.std.specs.List.{position}
-use Rattle.std.specs.Option.{option_and_then}
+use Rattle.std.specs.Option.{option_and_then, option_map}
 use Rattle.dm_link.specs.Names.{pid_of}
 use Rattle.dm_link.specs.declared.Pid.{Pid}
 
@@ -20,9 +20,7 @@ number_of_word word = if nat_le 1 (length word) && nat_le (length word) 10 then 
 
 -- the name that two numbers make, if both are there
 abbrev pub pid_from_numbers : Option ℕ → Option ℕ → Option Pid
-pid_from_numbers None num = None
-pid_from_numbers (Some home) None = None
-pid_from_numbers (Some home) (Some num) = Some (pid_of home num)
+pid_from_numbers home num = option_and_then (λ h. option_map (pid_of h) num) home
 
 -- a point
 abbrev pub is_point : ℕ → Bool
