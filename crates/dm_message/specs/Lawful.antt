@@ -38,11 +38,17 @@ IsSize p blocks = (blocks ≤ 256) × ((blocks ≡ 0) ↔ IsServer p)
 -- what each kind may carry
 abbrev pub IsLawfulWhat : What → Type 0
 IsLawfulWhat (what.User code channel body links) = (channel ≤ 31) × (length body.items ≤ 256) × (length links.items ≤ 4) × All IsLawfulEnclosed links.items
+IsLawfulWhat what.Stop = Unit {0}
+IsLawfulWhat what.Resume = Unit {0}
+IsLawfulWhat what.Kill = Unit {0}
 IsLawfulWhat (what.Read base len) = IsPiece len × (base + len ≤ 65536)
 IsLawfulWhat (what.Write base bytes) = IsPiece (length bytes.items) × (base + length bytes.items ≤ 65536)
 IsLawfulWhat (what.Block bytes) = IsPiece (length bytes.items)
+IsLawfulWhat what.Written = Unit {0}
+IsLawfulWhat what.Gone = Unit {0}
 IsLawfulWhat (what.Create image links) = (length links.items ≤ 3) × All IsLawfulEnclosed links.items
 IsLawfulWhat (what.Created pid) = IsMachine pid.home
+IsLawfulWhat what.NoRoom = Unit {0}
 IsLawfulWhat (what.Migrate machine) = IsMachine machine
 IsLawfulWhat (what.Update about) = IsLawfulAddr about
 IsLawfulWhat (what.Ask pid blocks moves size asker) = IsMachine pid.home × IsSize pid blocks × IfSome asker (λ (a : Asker). IsLawfulAddr a.addr)
@@ -54,9 +60,9 @@ IsLawfulWhat (what.Memory pid block bytes) = IsMachine pid.home
 IsLawfulWhat (what.AllTaken pid) = IsMachine pid.home
 IsLawfulWhat (what.Restart pid) = IsMachine pid.home
 IsLawfulWhat (what.Move machine) = IsMachine machine
+IsLawfulWhat (what.Moved outcome) = Unit {0}
 IsLawfulWhat (what.CallOff pid) = IsMachine pid.home
 IsLawfulWhat (what.Bury pid) = IsMachine pid.home
-IsLawfulWhat w = Unit {0}
 
 pub record IsLawfulMessage (m : Message) : Type 0 where
   pub from : IsMachine m.id.from.home
