@@ -4,10 +4,7 @@ use Rattle.std.specs.List.{position}
 use Rattle.std.specs.Option.{option_and_then, option_map}
 use Rattle.dm_link.specs.Names.{pid_of}
 use Rattle.dm_link.specs.declared.Pid.{Pid}
-
--- a decimal digit
-abbrev pub is_digit : ℕ → Bool
-is_digit c = nat_le 48 c && nat_le c 57
+use Rattle.dm_memory.specs.Cuts.{is_digit}
 
 -- the number that begins with n and goes on with these digits
 abbrev pub going_on : ℕ → List ℕ → Option ℕ
