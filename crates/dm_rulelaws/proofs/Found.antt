@@ -4,7 +4,6 @@ pub mod Made
 pub mod Spares
 pub mod Lists
 pub mod Places
-pub mod Held
 pub mod Core
 pub mod Labels
 pub mod Puts

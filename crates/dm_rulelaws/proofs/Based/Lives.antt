@@ -6,6 +6,7 @@ use Rattle.dm_onekernel.specs.Pieces as pieces
 use Rattle.dm_onekernel.specs.Service as service
 use Rattle.dm_onekernel.specs.Step as kernel
 use Rattle.dm_rule.proofs.Changes.{Lives}
+use Rattle.dm_rulelaws.proofs.Names.{is_some}
 
 -- nobody was made, alive or ended
 abbrev pub life_sort : Option Life → Option Bool
@@ -15,6 +16,13 @@ life_sort (Some (Ended y)) = Some false
 
 abbrev pub Alike : OneKernel → OneKernel → Type 0
 Alike s t = (q : Pid) → life_sort (t.processes q) ≡ life_sort (s.processes q)
+
+some_sort : (o : Option Life) → is_some o ≡ is_some (life_sort o)
+some_sort (Some (Alive x)) = refl
+some_sort _ = refl
+
+pub some_alike : (a b : Option Life) → life_sort a ≡ life_sort b → is_some a ≡ is_some b
+some_alike a b e = some_sort a ∙ ap is_some e ∙ sym (some_sort b)
 
 -- one life is set, and the others stay
 pub record SetLife (s t : OneKernel) (p : Pid) (sort : Option Bool) : Type 0 where

@@ -1,7 +1,7 @@
 -- What is queued for a process is a user message for it, and what is held for it is for it: each group keeps it.
-use Rattle.dm_rulelaws.proofs.Names.{◌≡◌, ℕ, ◌≤◌, Bool, true, false, List, [], ◌∷◌, ◌++◌, refl, ap, ◌∙◌, sym, subst, inl, inr, arith, if◌then◌else◌, cases_Bool, false≢true, Option, None, Some, Pid, MsgId, MessageKind, id_eq, plain_kind}
+use Rattle.dm_rulelaws.proofs.Names.{◌≡◌, ℕ, ◌≤◌, Bool, true, false, List, [], ◌∷◌, ◌++◌, refl, ◌∙◌, sym, subst, arith, false≢true, Option, None, Some, Pid, MsgId, MessageKind, plain_kind}
 use Rattle.dm_rulelaws.proofs.Names.{PlainMessage, PlainWhat, Boot, Step, id_eq-is, Spelled, Point, first_point, group_of, at_record, without_id, without_front, to_of, Spot, Queue, times, standing, StandsAsBag, View, Told, handled}
-use Rattle.dm_rulelaws.proofs.Names.{receiver_of, served_told, first_told, is_kernels, letters, letters_bag, kernels_fresh, Phased, told_some, KnownStands, zero_cases}
+use Rattle.dm_rulelaws.proofs.Names.{receiver_of, served_told, is_kernels, letters, letters_bag, kernels_fresh, Phased, told_some, KnownStands, zero_cases}
 use Rattle.dm_message.specs.Plain as what
 use Rattle.dm_rule.specs.View as view
 use Rattle.dm_rulelaws.proofs.Queued.{IsQueued, is_user}
@@ -38,14 +38,7 @@ none_there T i least = absurd (let k : 1 ≤ 0 = least in omega (arith, k))
 
 -- what was told stays
 pub told_kept : (v : View) (a b : ℕ) (i : MsgId) (k : MessageKind) (q : Pid) (j : MsgId) (t : Told) → v.told j ≡ Some t → (view.after_put v a b i k q).told j ≡ Some t
-told_kept v a b i k q j t e =
-    let new : Told = record { kind = k; receiver = q; about = v.topic } in
-    elim (cases_Bool (id_eq i j)) [
-      | inl same ↦
-          let is : v.told i ≡ Some t = ap v.told (id_eq-is i j same) ∙ e in
-          ap (λ (c : Bool). if c then Some (first_told (v.told i) new) else v.told j) same ∙ ap (λ (o : Option Told). Some (first_told o new)) is
-      | inr apart ↦ ap (λ (c : Bool). if c then Some (first_told (v.told i) new) else v.told j) apart ∙ e
-    ]
+told_kept v a b i k q j t e = search (arith, v.topic, v.told, id_eq-is)
 
 users_on : (f g : MsgId → Option Told) (p : Pid) (i : MsgId) → ((t : Told) → f i ≡ Some t → g i ≡ Some t) → IsUsers f p i → IsUsers g p i
 users_on f g p i kept h = record { what = h.what; is = kept h.what h.is; kind = h.kind; receiver = h.receiver; other = h.other }
@@ -54,10 +47,7 @@ for_on : (f g : MsgId → Option Told) (p : Pid) (i : MsgId) → ((t : Told) →
 for_on f g p i kept h = record { what = h.what; is = kept h.what h.is; receiver = h.receiver }
 
 waits_as : (v w : View) → w.queue ≡ v.queue → w.held ≡ v.held → w.told ≡ v.told → Waits v → Waits w
-waits_as v w queue held told h = record {
-  queue = λ n p i least. users_on v.told w.told p i (λ t e. ap (λ (f : MsgId → Option Told). f i) told ∙ e) (h.queue n p i (subst (λ (f : ℕ → Pid → List MsgId). 1 ≤ times i (f n p)) queue least));
-  held = λ n p i least. for_on v.told w.told p i (λ t e. ap (λ (f : MsgId → Option Told). f i) told ∙ e) (h.held n p i (subst (λ (f : ℕ → Pid → List MsgId). 1 ≤ times i (f n p)) held least));
-}
+waits_as v w queue held told h = search (arith, users_on, v.told, w.told, h.queue, for_on, h.held)
 
 -- lists that change
 waits_queue : (v : View) (p : Pid) (xs : List MsgId) → AreUsers v.told v.acting p xs → Waits v → Waits (record v { queue = at_record v.queue v.acting p xs })
@@ -98,13 +88,7 @@ emptied v p n q i h = set_all (λ m r xs. (j : MsgId) → 1 ≤ times j xs → I
 
 waits_loud : Loud (λ pt. Waits pt.view)
 waits_loud = record {
-  rides = record {
-    put = λ pt a b i k q h. record {
-      queue = λ n p j least. users_on pt.view.told (view.after_put pt.view a b i k q).told p j (λ t e. told_kept pt.view a b i k q j t e) (h.queue n p j least);
-      held = λ n p j least. for_on pt.view.told (view.after_put pt.view a b i k q).told p j (λ t e. told_kept pt.view a b i k q j t e) (h.held n p j least);
-    };
-    packet = λ pt a b k l h. record { queue = h.queue; held = h.held };
-  };
+  rides = (search (arith, users_on, told_kept, for_on));
   quiet = λ pt w t l e s told alike sane is h. subst Waits (sym e) (waits_as pt.view w s.queue s.held told h);
   ran = λ pt t p k here alike sane is h. record { queue = h.queue; held = h.held };
   receive = λ pt t p id here alike sane is h.
@@ -140,10 +124,7 @@ users_are (what.User code channel body links) e = refl
 users_are _ e = cc
 
 entered_of : (pt : Point) (h : Phased pt) (i : MsgId) (t : Told) → pt.view.told i ≡ Some t → is_kernels i ≡ false → 1 ≤ h.state.e i
-entered_of pt h i t told other = elim (zero_cases (h.state.e i)) [
-  | inl none ↦ absurd (let f : None ≡ Some t = sym (h.state.untold i none other) ∙ told in cc)
-  | inr least ↦ least
-]
+entered_of pt h i t told other = search (arith, zero_cases, h.state.e, h.state.untold)
 
 pub queued_of : (pt : Point) (h : Phased pt) → Waits pt.view → (n : ℕ) (p : Pid) (i : MsgId) → 1 ≤ times i (pt.view.queue n p) → IsQueued (h.state.e i) p (pt.kernel.bag i)
 queued_of pt h waits n p i least =
@@ -180,17 +161,8 @@ users_by pt h n p i least q =
     let (m, there) = bag_some (pt.kernel.bag i) x (sym (letters_bag h.state.own pt.kernel.bag i other) ∙ way) in
     let (t, told) = told_some (pt.view.told i) x (h.state.stands.told i x way) in
     let k = q.is m there in
-    record {
-      what = t;
-      is = told;
-      kind = h.sane.tells.kind i m t there told ∙ user_kind m.what k.1;
-      receiver = h.sane.tells.receiver i m t there told ∙ k.0;
-      other = other;
-    }
+    search (arith, h.sane.tells.kind i m t there told ∙ user_kind m.what k.1, h.sane.tells.receiver i m t there told ∙ k.0)
 
 pub waits_by : (pt : Point) (h : Phased pt) → ((n : ℕ) (p : Pid) (i : MsgId) → 1 ≤ times i (pt.view.queue n p) → IsQueued (h.state.e i) p (pt.kernel.bag i))
     → ((n : ℕ) (p : Pid) (i : MsgId) → 1 ≤ times i (pt.view.held n p) → (t : Told) × (pt.view.told i ≡ Some t) × (t.receiver ≡ p)) → Waits pt.view
-waits_by pt h queued held = record {
-  queue = λ n p i least. users_by pt h n p i least (queued n p i least);
-  held = λ n p i least. let (t, told, receiver) = held n p i least in record { what = t; is = told; receiver = receiver };
-}
+waits_by pt h queued held = search (arith, users_by)

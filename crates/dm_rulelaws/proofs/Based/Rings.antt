@@ -1,5 +1,5 @@
 -- How often a process stands in a ring.
-use Rattle.dm_rulelaws.proofs.Names.{◌≡◌, ℕ, ◌+◌, ◌==◌, Bool, true, false, not, List, [], ◌∷◌, ◌++◌, refl, ap, ◌∙◌, sym, inl, inr, arith, if◌then◌else◌, cases_Bool, Pid, pid_eq, pid_eq-is, pid_eq-same, pid_eq-swap, at_machine, without}
+use Rattle.dm_rulelaws.proofs.Names.{◌≡◌, ℕ, ◌+◌, Bool, true, false, not, List, [], ◌∷◌, ◌++◌, refl, ap, ◌∙◌, sym, arith, if◌then◌else◌, Pid, pid_eq, pid_eq-is, pid_eq-same, pid_eq-swap, at_machine, without}
 use Rattle.dm_rulelaws.proofs.Names.{moved_back, eq_is, rings}
 
 -- rings
@@ -43,41 +43,20 @@ rings_one : (p q : Pid) → rings q (p ∷ []) ≡ one_if (pid_eq q p)
 rings_one p q = omega arith
 
 pub back_self : (p : Pid) (xs : List Pid) → rings p (moved_back p xs) ≡ 1
-back_self p xs =
-    let a = rings-append p (without p xs) (p ∷ []) in
-    let b = rings_without p xs in
-    let c = rings_one p p in
-    let d : one_if (pid_eq p p) ≡ 1 = ap one_if (pid_eq-same p) in
-    omega (arith, a, b, c, d)
+back_self p xs = search (arith, rings-append, rings_without, rings_one, pid_eq-same)
 
 one_off : (p q : Pid) → pid_eq p q ≡ false → one_if (pid_eq q p) ≡ 0
 one_off p q apart = ap one_if (pid_eq-swap q p ∙ apart)
 
 pub back_others : (p q : Pid) (xs : List Pid) → pid_eq p q ≡ false → rings q (moved_back p xs) ≡ rings q xs
-back_others p q xs apart =
-    let a = rings-append q (without p xs) (p ∷ []) in
-    let b = rings_others p q xs apart in
-    let c = rings_one p q in
-    let d = one_off p q apart in
-    omega (arith, a, b, c, d)
+back_others p q xs apart = search (arith, rings-append, rings_others, rings_one, one_off)
 
 pub last_self : (p : Pid) (xs : List Pid) → rings p xs ≡ 0 → rings p (xs ++ p ∷ []) ≡ 1
-last_self p xs none =
-    let a = rings-append p xs (p ∷ []) in
-    let c = rings_one p p in
-    let d : one_if (pid_eq p p) ≡ 1 = ap one_if (pid_eq-same p) in
-    omega (arith, a, none, c, d)
+last_self p xs none = search (arith, rings-append, rings_one, pid_eq-same)
 
 pub last_others : (p q : Pid) (xs : List Pid) → pid_eq p q ≡ false → rings q (xs ++ p ∷ []) ≡ rings q xs
-last_others p q xs apart =
-    let a = rings-append q xs (p ∷ []) in
-    let c = rings_one p q in
-    let d = one_off p q apart in
-    omega (arith, a, c, d)
+last_others p q xs apart = search (arith, rings-append, rings_one, one_off)
 
 -- one machine's ring is set
 pub ring_set : (f : ℕ → List Pid) (a : ℕ) (zs : List Pid) (q : Pid) → rings q zs ≡ rings q (f a) → (m : ℕ) → rings q (at_machine f a zs m) ≡ rings q (f m)
-ring_set f a zs q same m = elim (cases_Bool (a == m)) [
-  | inl here ↦ ap (λ (c : Bool). rings q (if c then zs else f m)) here ∙ same ∙ ap (λ (n : ℕ). rings q (f n)) (eq_is a m here)
-  | inr there ↦ ap (λ (c : Bool). rings q (if c then zs else f m)) there
-]
+ring_set f a zs q same m = search (arith, eq_is)

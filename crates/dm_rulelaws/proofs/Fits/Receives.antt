@@ -1,38 +1,21 @@
 -- What a process becomes by its instructions, its calls and its receives fits.
-use Rattle.dm_rulelaws.proofs.Names.{◌≡◌, ℕ, zero, suc, ◌+◌, ◌≤◌, ◌&&◌, Bool, true, false, List, [], ◌∷◌, length, refl, ap, ◌∙◌, sym, subst, nat_le, arith, ⊤, if◌then◌else◌, Option, None, Some, common_steps, Pid, pid_eq, PlainLink}
-use Rattle.dm_rulelaws.proofs.Names.{first_empty, MsgId, PlainMessage, PlainWhat, on_mask, Row, instruction, Regs, KeepsLengths, instruction-lengths, Reply, bind, PlainProcess, PlainStatus, Ready, Waiting, Alive, OneKernel, written_at}
-use Rattle.dm_rulelaws.proofs.Names.{first_failed, pending_of, bind-is, alive-is, Runs, Each, Lives, has_bytes, LinkFits, SlotFits, move_fits, ProcessFits, WhatFits, KernelFits}
+use Rattle.dm_rulelaws.proofs.Names.{◌≡◌, ℕ, zero, suc, ◌+◌, ◌≤◌, Bool, true, false, List, [], ◌∷◌, length, refl, ap, ◌∙◌, sym, subst, nat_le, arith, ⊤, if◌then◌else◌, Option, None, Some, common_steps, Pid, PlainLink}
+use Rattle.dm_rulelaws.proofs.Names.{first_empty, MsgId, PlainMessage, PlainWhat, Row, instruction, Regs, KeepsLengths, instruction-lengths, Reply, bind, PlainProcess, PlainStatus, Waiting, Alive, OneKernel, written_at}
+use Rattle.dm_rulelaws.proofs.Names.{pending_of, bind-is, alive-is, Runs, Each, Lives, has_bytes, LinkFits, SlotFits, move_fits, ProcessFits, WhatFits, KernelFits}
 use Rattle.dm_onekernel.specs.Receiving as receiving
 use Rattle.dm_onekernel.specs.Calls as calls
 use Rattle.dm_onekernel.specs.Step as kernel
 use Rattle.dm_rulelaws.proofs.Fits.Rises.{move_on}
 use Rattle.dm_rulelaws.proofs.Fits.Calls.{CallFits, call_fits, slots_set}
+use Rattle.dm_rule.proofs.Changes.{running_is}
 
 -- a process that executes
-ready_if : (y x : PlainProcess) (b : Bool) → (if b then None else Some y) ≡ Some x → y ≡ x
-ready_if y x true e = cc
-ready_if y x false e = cc
-
-ready_is : (y x : PlainProcess) (st : PlainStatus) → kernel.if_ready y st ≡ Some x → (y ≡ x) × (pending_of st ≡ None)
-ready_is y x Ready e = (ready_if y x y.stopped e, refl)
-ready_is y x _ e = cc
-
-pub running_is : (s : OneKernel) (p : Pid) (x : PlainProcess) → kernel.running s p ≡ Some x → Runs s p x
-running_is s p x e =
-    let (y, is, ready) = bind-is (kernel.alive (s.processes p)) (λ (v : PlainProcess). kernel.if_ready v v.status) x e in
-    let k = ready_is y x y.status ready in
-    record { alive = alive-is (s.processes p) x (is ∙ ap Some k.0); still = sym (ap (λ (v : PlainProcess). pending_of v.status) k.0) ∙ k.1 }
-
 -- memory never shrinks
 pub written_longer : (memory : List ℕ) (base : ℕ) (bytes : List ℕ) → length memory ≤ length (written_at memory base bytes)
 written_longer memory base bytes = grind (arith, common_steps)
 
 plain_length : (w : Row) (regs : Regs) (bytes : List ℕ) (m : kernel.Machine) → KeepsLengths w regs bytes → kernel.plain_row w ≡ Some m → length m.bytes ≡ length bytes
-plain_length (Row.Plain r b) regs bytes m h e =
-    let f : record { regs = r; bytes = b } ≡ m = cc in
-    let g = h.1 in
-    sym (ap (λ (v : kernel.Machine). length v.bytes) f) ∙ g
-plain_length _ regs bytes m h e = cc
+plain_length w regs bytes m h1 h2 = search arith
 
 pub steps_length : (k : ℕ) (m n : kernel.Machine) → kernel.plain_steps k m ≡ Some n → length n.bytes ≡ length m.bytes
 steps_length zero m n e = let f : m ≡ n = cc in sym (ap (λ (v : kernel.Machine). length v.bytes) f)
@@ -97,12 +80,7 @@ CompletedFits ps x (receiving.Receives y) = GoesOn ps x y
 CompletedFits ps x (receiving.Refuses c y) = GoesOn ps x y
 
 unless_fits : (ps : Lives) (x : PlainProcess) (base code channel : ℕ) (body : List ℕ) (links : List PlainLink) (o : Option Reply) → Each (LinkFits ps) links → ProcessFits ps x → CompletedFits ps x (receiving.completes_unless o x (receiving.with_received x base code channel body links))
-unless_fits ps x base code channel body links None f h = record {
-  memory = written_longer x.memory base body;
-  slots = placed_fit ps links (record { regs = receiving.received_regs x.regs code channel (length body) (length links); links = x.links }) 5 f h.slots;
-  move = refl;
-}
-unless_fits ps x base code channel body links (Some c) f h = record { memory = omega arith; slots = h.slots; move = refl }
+unless_fits ps x base code channel body links o h1 h2 = search (arith, written_longer, x.memory, placed_fit, x.regs, x.links)
 
 if_completes : (ps : Lives) (x : PlainProcess) (b : Bool) (c d : receiving.Completed) → CompletedFits ps x c → (if b then Some c else None) ≡ Some d → CompletedFits ps x d
 if_completes ps x true c d h e = let f : c ≡ d = cc in subst (CompletedFits ps x) f h
@@ -110,10 +88,7 @@ if_completes ps x false c d h e = cc
 
 completes_what_fits : (s : OneKernel) (p : Pid) (x : PlainProcess) (i : MsgId) (m : PlainMessage) (mask base size : ℕ) (w : PlainWhat) (d : receiving.Completed) → WhatFits s i m w → ProcessFits s.processes x → receiving.completes_what p x m mask base size w ≡ Some d
     → CompletedFits s.processes x d
-completes_what_fits s p x i m mask base size (PlainWhat.User code channel body links) d f h e =
-    if_completes s.processes x (pid_eq m.to p && on_mask mask channel) (receiving.completes x base size code channel body links) d
-    (unless_fits s.processes x base code channel body links (first_failed (receiving.receive_refusals x size body links)) f.1 h) e
-completes_what_fits s p x i m mask base size _ d f h e = cc
+completes_what_fits s p x i m mask base size w d h1 h2 h3 = search (arith, if_completes, s.processes, m.to, unless_fits)
 
 abbrev StatusCompletes : OneKernel → PlainProcess → PlainStatus → receiving.Completed → Type 0
 StatusCompletes s x st d = (pending_of st ≡ None) × CompletedFits s.processes x d

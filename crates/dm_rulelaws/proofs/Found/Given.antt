@@ -1,11 +1,10 @@
 -- Lines that give addresses keep where messages stand: a message that goes on, messages that are sent on, and an update.
-use Rattle.dm_rulelaws.proofs.Names.{◌≡◌, ℕ, ◌<◌, ◌≤◌, Bool, true, false, is_some, List, [], ◌∷◌, ◌++◌, refl, ap, ◌∙◌, sym, subst, inl, inr, arith, if◌then◌else◌, Option, None, Some, Pid, Place, MsgId, id_eq, id_eq-is, Line, View, Told}
+use Rattle.dm_rulelaws.proofs.Names.{◌≡◌, ℕ, ◌<◌, ◌≤◌, Bool, true, false, List, [], ◌∷◌, ◌++◌, refl, ap, ◌∙◌, sym, subst, inl, inr, arith, if◌then◌else◌, Option, None, Some, Pid, Place, MsgId, id_eq, id_eq-is, Line, View, Told}
 use Rattle.dm_rulelaws.proofs.Names.{own_id, view_after, handled, forwarded_for, forward_about, receiver_of, Addresses, Receiver, Sender, given, place_known, all_follow, told_back_gets, is_told_back, forwards, updated, Point, moved, Spot}
 use Rattle.dm_rulelaws.proofs.Names.{times, standing, not_true, one_of, Named, zero_cases, flip_zero}
 use Rattle.dm_rulelaws.proofs.Found.Lists.{Places, places_line, places_handled, places_forwarded}
-use Rattle.dm_rulelaws.proofs.Found.Held.{HeldFor, held_as, held_line}
-use Rattle.dm_rulelaws.proofs.Found.Places.{AllAre, all_as, forwarded_all, sent_on_all, updated_all, updated_leaves}
-use Rattle.dm_rulelaws.proofs.Found.Core.{Knows, AboutIs, IsAt, Core, learns_nothing, knows_grow, own_grows, about_grows}
+use Rattle.dm_rulelaws.proofs.Found.Places.{AllAre, forwarded_all, sent_on_all, updated_all, updated_leaves}
+use Rattle.dm_rulelaws.proofs.Found.Core.{Knows, AboutIs, IsAt, Core, learns_nothing, about_grows, core_view}
 use Rattle.dm_rulelaws.proofs.Found.Puts.{told_apart}
 
 -- a line that gives addresses, and says nothing of processes
@@ -13,24 +12,10 @@ abbrev gives_at : Point → View → Addresses → Point
 gives_at pt w b = record { kernel = pt.kernel; view = w; addresses = b }
 
 given_core : (n : ℕ) (pt : Point) (w : View) (b : Addresses) → w.acting ≡ pt.view.acting → ((m : ℕ) (q : Pid) → w.known m q ≡ pt.view.known m q) → w.told ≡ pt.view.told → AboutIs n pt.view w.topic → AllAre (Knows pt.view) pt.kernel pt.view b
-    → Places (IsAt b pt.view) w → HeldFor w → Core n pt → Core n (gives_at pt w b)
-given_core n pt w b acting known told topic all places held h =
+    → Places (IsAt b pt.view) w → Core n pt → Core n (gives_at pt w b)
+given_core n pt w b acting known told topic all places h =
     let learnt = learns_nothing n pt.view w acting known h.known in
-    record {
-      acting = subst (λ (k : ℕ). k < n) (sym acting) h.acting;
-      machines = h.machines;
-      all = λ g q e. knows_grow pt.view w q (b g).at learnt.grows (all_as (Knows pt.view) pt.kernel pt.view w b told all g q e);
-      tells = λ i u e. about_grows n pt.view w u.about learnt.grows (h.tells i u (sym (ap (λ (f : MsgId → Option Told). f i) told) ∙ e));
-      real = λ i u e own. own_grows n pt.view w u learnt.grows (h.real i u (sym (ap (λ (f : MsgId → Option Told). f i) told) ∙ e) own);
-      topic = about_grows n pt.view w w.topic learnt.grows topic;
-      known = learnt.known;
-      places = λ i z e. let k = places i z e in (k.0, ap (λ (f : MsgId → Option Told). is_some (f i)) told ∙ k.1);
-      held = held;
-      senders = h.senders;
-      fits = h.fits;
-      home = λ q some. learnt.grows q.home q (h.home q some);
-      pending = h.pending;
-    }
+    core_view n pt w b (subst (λ (k : ℕ). k < n) (sym acting) h.acting) learnt.grows learnt.known told (about_grows n pt.view w w.topic learnt.grows topic) all places h
 
 -- a message that goes on
 back_off : (v : View) (a : Addresses) (id i : MsgId) (c : Bool) → id_eq (own_id v) i ≡ false → given a (told_back_gets v a id c) (Receiver i) ≡ a (Receiver i)
@@ -62,7 +47,7 @@ forwarded_core n pt id m need h =
     (λ i z e. (not_true (id_eq id i) (λ k. let f : standing (handled v id) i z ≡ 0 = ap (λ (j : MsgId). standing (handled v id) j z) (sym (id_eq-is id i k)) ∙ need.gone z in absurd (omega (arith, e, f))), places_handled (IsAt a v) v id h.places i z e)) in
     subst (λ (o : Option Told). Core n (gives_at pt (forwarded_for (handled v id) (receiver_of o)) (given a (forwards v a id o)))) (sym need.told)
     (given_core n pt w b refl (λ k q. refl) refl need.topic all
-    (λ i z e. let k = apart i z e in (ap (λ (p : Place). p.at) (forwards_off v a id i need.u k.0 (told_apart v (own_id v) i need.fresh k.1.1)) ∙ k.1.0, k.1.1)) (held_as v w refl refl h.held) h)
+    (λ i z e. let k = apart i z e in (ap (λ (p : Place). p.at) (forwards_off v a id i need.u k.0 (told_apart v (own_id v) i need.fresh k.1.1)) ∙ k.1.0, k.1.1)) h)
 
 follow_off : (v : View) (a : Addresses) (p : Pid) (i : MsgId) (ids : List MsgId) → times i ids ≡ 0 → given a (all_follow v a p ids) (Receiver i) ≡ a (Receiver i)
 follow_off v a p i [] e = refl
@@ -90,7 +75,7 @@ sent_core n pt p k need h =
         | inr least ↦ absurd (let f = need.gone i z k least in omega (arith, e, f))
       ],
       x.1,
-    )) (held_line v (Line.SentOn p k) refl h.held) h
+    )) h
 
 -- an update
 pub updated_core : (n : ℕ) (pt : Point) (id : MsgId) (k : ℕ) → Core n pt → Core n (moved pt (Line.Updated id k) pt.kernel)
@@ -99,4 +84,4 @@ updated_core n pt id k h =
     let a = pt.addresses in
     given_core n pt (handled v id) (updated pt.kernel v a (v.told id)) refl (λ m q. refl) refl h.topic
     (updated_all (Knows v) pt.kernel v a (v.told id) (λ u p m c e f. subst (AboutIs n v) f (h.tells id u e)) h.all)
-    (λ i z e. let x = places_handled (IsAt a v) v id h.places i z e in (ap (λ (q : Place). q.at) (updated_leaves pt.kernel v a (v.told id) i) ∙ x.0, x.1)) (held_as v (handled v id) refl refl h.held) h
+    (λ i z e. let x = places_handled (IsAt a v) v id h.places i z e in (ap (λ (q : Place). q.at) (updated_leaves pt.kernel v a (v.told id) i) ∙ x.0, x.1)) h

@@ -5,48 +5,25 @@ use Rattle.dm_rulelaws.proofs.Names.{chunks_of, pieces_of, kernel_told, here_tol
 use Rattle.dm_onekernel.specs.Step as kernel
 use Rattle.dm_rule.specs.View.{Ended}
 use Rattle.dm_rule.specs.Rule as rule
-use Rattle.dm_rulelaws.proofs.Found.Parts.{AllNeed, NeedOf, AllLoose, NeedsOwn, between_own, first_need}
+use Rattle.dm_rulelaws.proofs.Found.Parts.{AllNeed, NeedOf, AllLoose, between_own, first_need}
+use Rattle.dm_rulelaws.proofs.Names.{own_gives, own_id, goes_between, is_own}
 use Rattle.dm_rulelaws.proofs.Found.Rows.{Front}
 
--- a message to a kernel of a machine that there is
-owns_between : (n : ℕ) (k : MessageKind) (m : ℕ) → ((pt : Point) → NeedsOwn n pt k (pid_of m 0) m) → AllLoose n (to_kernel k m ∷ [])
-owns_between n k m h = (h, tt)
-
-pub to_ask : (n m : ℕ) → m < n → AllLoose n (to_kernel MessageKind.Ask m ∷ [])
-to_ask n m le = owns_between n MessageKind.Ask m (λ pt. between_own n pt MessageKind.Ask m refl (λ e. cc) refl le)
-
-pub to_refuse : (n m : ℕ) → m < n → AllLoose n (to_kernel MessageKind.Refuse m ∷ [])
-to_refuse n m le = owns_between n MessageKind.Refuse m (λ pt. between_own n pt MessageKind.Refuse m refl (λ e. cc) refl le)
-
-pub to_pullstate : (n m : ℕ) → m < n → AllLoose n (to_kernel MessageKind.PullState m ∷ [])
-to_pullstate n m le = owns_between n MessageKind.PullState m (λ pt. between_own n pt MessageKind.PullState m refl (λ e. cc) refl le)
-
-pub to_state : (n m : ℕ) → m < n → AllLoose n (to_kernel MessageKind.State m ∷ [])
-to_state n m le = owns_between n MessageKind.State m (λ pt. between_own n pt MessageKind.State m refl (λ e. cc) refl le)
-
-pub to_pullblock : (n m : ℕ) → m < n → AllLoose n (to_kernel MessageKind.PullBlock m ∷ [])
-to_pullblock n m le = owns_between n MessageKind.PullBlock m (λ pt. between_own n pt MessageKind.PullBlock m refl (λ e. cc) refl le)
-
-pub to_memory : (n m : ℕ) → m < n → AllLoose n (to_kernel MessageKind.Memory m ∷ [])
-to_memory n m le = owns_between n MessageKind.Memory m (λ pt. between_own n pt MessageKind.Memory m refl (λ e. cc) refl le)
-
-pub to_alltaken : (n m : ℕ) → m < n → AllLoose n (to_kernel MessageKind.AllTaken m ∷ [])
-to_alltaken n m le = owns_between n MessageKind.AllTaken m (λ pt. between_own n pt MessageKind.AllTaken m refl (λ e. cc) refl le)
-
-pub to_restart : (n m : ℕ) → m < n → AllLoose n (to_kernel MessageKind.Restart m ∷ [])
-to_restart n m le = owns_between n MessageKind.Restart m (λ pt. between_own n pt MessageKind.Restart m refl (λ e. cc) refl le)
+-- a message from kernel to kernel, to a machine that there is
+pub to_one : (n : ℕ) (k : MessageKind) (m : ℕ) → ((pt : Point) → own_gives pt.kernel pt.view pt.addresses (own_id pt.view) (pid_of m 0) k ≡ goes_between pt.view (own_id pt.view) (pid_of m 0)) → (k ≡ MessageKind.Migrate → ⊥) → is_own k ≡ true → m < n → AllLoose n (to_kernel k m ∷ [])
+to_one n k m gives none own le = ((λ pt. between_own n pt k m (gives pt) none own le), tt)
 
 accepts_need : (n : ℕ) (pt : Point) (from : ℕ) (p : Pid) (c : Bool) (slots blocks : ℕ) → from < n → (front_of (pt.view.inbox pt.view.acting) < n) × (is_fixed p ≡ false) → AllNeed n pt (accepts from p c slots blocks)
-accepts_need n pt from p true slots blocks le front = first_need n pt (Says (Line.Migration Stage.Accepted p)) (to_kernel MessageKind.PullState from ∷ []) front (to_pullstate n from le)
-accepts_need n pt from p false slots blocks le front = first_need n pt (Says (Line.Lacks p slots blocks)) (to_kernel MessageKind.Refuse from ∷ []) tt (to_refuse n from le)
+accepts_need n pt from p true slots blocks le front = first_need n pt (Says (Line.Migration Stage.Accepted p)) (to_kernel MessageKind.PullState from ∷ []) front (to_one n MessageKind.PullState from (λ q. refl) (λ e. cc) refl le)
+accepts_need n pt from p false slots blocks le front = first_need n pt (Says (Line.Lacks p slots blocks)) (to_kernel MessageKind.Refuse from ∷ []) tt (to_one n MessageKind.Refuse from (λ q. refl) (λ e. cc) refl le)
 
 chunk_need : (n : ℕ) (pt : Point) (id : MsgId) (p : Pid) (c : Bool) → id.from.home < n → AllNeed n pt (takes_chunk id p c)
-chunk_need n pt id p true le = first_need n pt (Says (Line.Migration Stage.StateTaken p)) (to_kernel MessageKind.PullBlock id.from.home ∷ []) tt (to_pullblock n id.from.home le)
-chunk_need n pt id p false le = first_need n pt (Says (Line.Proto id)) (to_kernel MessageKind.PullState id.from.home ∷ []) tt (to_pullstate n id.from.home le)
+chunk_need n pt id p true le = first_need n pt (Says (Line.Migration Stage.StateTaken p)) (to_kernel MessageKind.PullBlock id.from.home ∷ []) tt (to_one n MessageKind.PullBlock id.from.home (λ q. refl) (λ e. cc) refl le)
+chunk_need n pt id p false le = first_need n pt (Says (Line.Proto id)) (to_kernel MessageKind.PullState id.from.home ∷ []) tt (to_one n MessageKind.PullState id.from.home (λ q. refl) (λ e. cc) refl le)
 
 block_need : (n : ℕ) (pt : Point) (id : MsgId) (p : Pid) (c : Bool) → id.from.home < n → AllNeed n pt (takes_block id p c)
-block_need n pt id p true le = first_need n pt (Says (Line.Migration Stage.MemoryTaken p)) (to_kernel MessageKind.AllTaken id.from.home ∷ []) tt (to_alltaken n id.from.home le)
-block_need n pt id p false le = first_need n pt (Says (Line.Proto id)) (to_kernel MessageKind.PullBlock id.from.home ∷ []) tt (to_pullblock n id.from.home le)
+block_need n pt id p true le = first_need n pt (Says (Line.Migration Stage.MemoryTaken p)) (to_kernel MessageKind.AllTaken id.from.home ∷ []) tt (to_one n MessageKind.AllTaken id.from.home (λ q. refl) (λ e. cc) refl le)
+block_need n pt id p false le = first_need n pt (Says (Line.Proto id)) (to_kernel MessageKind.PullBlock id.from.home ∷ []) tt (to_one n MessageKind.PullBlock id.from.home (λ q. refl) (λ e. cc) refl le)
 
 -- where one between kernels is heard
 abbrev pub Heard : ℕ → Point → Point → ℕ → MsgId → Pid → MessageKind → Type 0
@@ -55,9 +32,9 @@ Heard n pt o m id p k = (id.from.home < n) × ((front_of (pt.view.inbox pt.view.
 told_need : (n : ℕ) (pt o : Point) (m : ℕ) (id : MsgId) (p : Pid) (room : Bool × ℕ × ℕ) (x : PlainProcess) (k : MessageKind) → (is_between k ≡ true → Heard n pt o m id p k) → NeedOf n pt (kernel_told o m id p room x k)
 told_need n pt o m id p room x MessageKind.Ask h = accepts_need n pt id.from.home p room.0 room.1 room.2 (h refl).0 (h refl).1
 told_need n pt o m id p room x MessageKind.Refuse h = first_need n pt (Says (Line.Stays p)) [] tt tt
-told_need n pt o m id p room x MessageKind.PullState h = first_need n pt (Says (Line.Proto id)) (to_kernel MessageKind.State id.from.home ∷ []) tt (to_state n id.from.home (h refl).0)
+told_need n pt o m id p room x MessageKind.PullState h = first_need n pt (Says (Line.Proto id)) (to_kernel MessageKind.State id.from.home ∷ []) tt (to_one n MessageKind.State id.from.home (λ q. refl) (λ e. cc) refl (h refl).0)
 told_need n pt o m id p room x MessageKind.State h = chunk_need n pt id p (o.view.asked p == chunks_of x) (h refl).0
-told_need n pt o m id p room x MessageKind.PullBlock h = first_need n pt (Says (Line.Proto id)) (to_kernel MessageKind.Memory id.from.home ∷ []) tt (to_memory n id.from.home (h refl).0)
+told_need n pt o m id p room x MessageKind.PullBlock h = first_need n pt (Says (Line.Proto id)) (to_kernel MessageKind.Memory id.from.home ∷ []) tt (to_one n MessageKind.Memory id.from.home (λ q. refl) (λ e. cc) refl (h refl).0)
 told_need n pt o m id p room x MessageKind.Memory h = block_need n pt id p (o.view.asked p == pieces_of x) (h refl).0
 told_need n pt o m id p room x MessageKind.AllTaken h = (h refl).2 refl
 told_need n pt o m id p room x MessageKind.Restart h = first_need n pt (Says (Line.Migration Stage.Restarted p)) [] tt tt
@@ -77,7 +54,7 @@ kernel_hears_need n pt b o m id k _ h = tt
 moves_need : (n : ℕ) (pt : Point) (id : MsgId) (p : Pid) (to : ℕ) (c : Bool) → to < n → (target_of (front_told pt.view (pt.view.inbox pt.view.acting)) < n) × (is_fixed p ≡ false)
     → AllNeed n pt (if c then Says (Line.Here id) ∷ [] else Says (Line.Migration Stage.Frozen p) ∷ Says (Line.Migration Stage.Asked p) ∷ to_kernel MessageKind.Ask to ∷ [])
 moves_need n pt id p to true le front = first_need n pt (Says (Line.Here id)) [] tt tt
-moves_need n pt id p to false le front = first_need n pt (Says (Line.Migration Stage.Frozen p)) (Says (Line.Migration Stage.Asked p) ∷ to_kernel MessageKind.Ask to ∷ []) front (λ q. tt, to_ask n to le)
+moves_need n pt id p to false le front = first_need n pt (Says (Line.Migration Stage.Frozen p)) (Says (Line.Migration Stage.Asked p) ∷ to_kernel MessageKind.Ask to ∷ []) front (λ q. tt, to_one n MessageKind.Ask to (λ q. refl) (λ e. cc) refl le)
 
 here_told_need : (n : ℕ) (pt o : Point) (m : ℕ) (id : MsgId) (t : Told) (k : MessageKind) → target_of (Some t) < n → (target_of (front_told pt.view (pt.view.inbox pt.view.acting)) < n) × (is_fixed t.receiver ≡ false) → NeedOf n pt (here_told o m id t k)
 here_told_need n pt o m id t MessageKind.Migrate le front = moves_need n pt id t.receiver (target_of (Some t)) (m == target_of (Some t)) le front

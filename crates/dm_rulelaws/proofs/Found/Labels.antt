@@ -12,7 +12,6 @@ use Rattle.dm_rulelaws.proofs.Fits.Start.{fits_step}
 use Rattle.dm_rulelaws.proofs.Found.Made.{MadeBefore, created_made, step_made}
 use Rattle.dm_rulelaws.proofs.Found.Spares.{told_spares}
 use Rattle.dm_rulelaws.proofs.Found.Lists.{places_label}
-use Rattle.dm_rulelaws.proofs.Found.Held.{held_line}
 use Rattle.dm_rulelaws.proofs.Found.Places.{AllAre, all_as}
 use Rattle.dm_rulelaws.proofs.Found.Core.{AboutIs, KnowsAt, Knows, IsAt, KnownIs, Core, Grows, Learns, learns_nothing, learns, knows_grow, own_grows, about_grows}
 
@@ -58,35 +57,20 @@ there_known : (n : ℕ) (pt : Point) (id : MsgId) (m : PlainMessage) → pt.kern
 there_known n pt id m there at h = subst (KnowsAt pt.view m.to) at (h.all (Receiver id) m.to (Links (ap to_of there)))
 
 pub fixed_home : (v : View) (q : Pid) (m : ℕ) → is_fixed q ≡ true → KnowsAt v q m → q.home ≡ m
-fixed_home v q m fixed h = elim h [
-  | inl home ↦ sym home
-  | inr away ↦ absurd (false≢true (sym away.0 ∙ fixed))
-]
+fixed_home v q m fixed h = search arith
 
 received_at : (n : ℕ) (pt : Point) (id : MsgId) → ((m : PlainMessage) → pt.kernel.bag id ≡ Some m → is_fixed m.to ≡ true) → (pt.addresses (Receiver id)).at ≡ pt.view.acting → Core n pt → ReceivedAt pt.kernel pt.view.acting id
 received_at n pt id fixed at h m there = fixed_home pt.view m.to pt.view.acting (fixed m there) (there_known n pt id m there at h)
 
 said_on : (n : ℕ) (pt : Point) (s : OneKernel) (l : Label) → kernel.step pt.kernel l ≡ Some s → NeedsLabel pt l → Core n pt → SaidOn (Knows pt.view) pt.kernel pt.view pt.addresses l
-said_on n pt s (Label.Call p k c) is need h = need
-said_on n pt s (Label.Send p id) is need h = need
-said_on n pt s (Label.Wait p) is need h = need
-said_on n pt s (Label.Out p w) is need h = need
-said_on n pt s (Label.Served id) is need h = λ m there. there_known n pt id m there need.0 h
-said_on n pt s (Label.Gone id) is need h = λ m there. there_known n pt id m there need.0 h
-said_on n pt s (Label.Took id) is need h = received_at n pt id (took_for pt.kernel s id is) need.0 h
-said_on n pt s (Label.Created id child) is need h = received_at n pt id (created_for pt.kernel s id child is) need.0 h
-said_on n pt s (Label.NoSpace id a b) is need h = received_at n pt id (no_space_for pt.kernel s id a b is) need.0 h
-said_on n pt s _ is need h = tt
+said_on n pt s l h1 h2 h3 = search (arith, there_known, received_at, took_for, pt.kernel, created_for, no_space_for)
 
 told_some : (o : Option Told) → is_some o ≡ true → o ≡ None → ⊥
 told_some None some e = false≢true some
 told_some (Some t) some e = cc
 
 entered : (pt : Point) (i : MsgId) (h : Sane pt) → is_some (pt.view.told i) ≡ true → is_kernels i ≡ false → 1 ≤ h.e i
-entered pt i h some other = elim (zero_cases (h.e i)) [
-  | inl none ↦ absurd (told_some (pt.view.told i) some (h.untold i none other))
-  | inr least ↦ least
-]
+entered pt i h some other = search (arith, zero_cases, h.e, told_some, pt.view.told, h.untold)
 
 outside : (pt : Point) (s : OneKernel) (l : Label) (h : Sane pt) → kernel.step pt.kernel l ≡ Some s → Outside s
 outside pt s l h is j x there = not_kernels (λ i. h.r i + reception i l) (λ i. h.e i + entry i pt.kernel s) s j x there (after_step h.r h.e pt.kernel s l is h.sound).sound
@@ -101,15 +85,10 @@ keeps_receiver pt s l i h is some =
 
 -- what was made stays so
 made_stays : (a b : Option Life) → (b ≡ None → a ≡ None) → is_some a ≡ true → is_some b ≡ true
-made_stays a (Some l) stays some = refl
-made_stays (Some l) None stays some = absurd (let f : Some l ≡ None = stays refl in cc)
-made_stays None None stays some = some
+made_stays a b h1 h2 = search arith
 
 sends_grow : (n : ℕ) (s t : OneKernel) (q : Pid) → Grown s t → Sends n s q → Sends n t q
-sends_grow n s t q grown h = elim h [
-  | inl fixed ↦ inl fixed
-  | inr made ↦ inr (made_stays (s.processes q) (t.processes q) (grown_none (s.processes q) (t.processes q) (grown.lives q)) made)
-]
+sends_grow n s t q grown h = search (arith, made_stays, s.processes, t.processes, grown_none, grown.lives)
 
 label_all : (n : ℕ) (pt : Point) (s : OneKernel) (l : Label) → Sane pt → kernel.step pt.kernel l ≡ Some s → AtHome (Knows pt.view) s (given pt.addresses (gives pt.kernel pt.view pt.addresses l)) → Core n pt
     → AllAre (Knows pt.view) s pt.view (given pt.addresses (gives pt.kernel pt.view pt.addresses l))
@@ -128,15 +107,7 @@ other_home : (n : ℕ) (pt : Point) (s : OneKernel) (w : View) → Grows pt.view
 other_home n pt s w grows made h q some = grows q.home q (h.home q (made q some))
 
 label_home : (n : ℕ) (pt : Point) (s : OneKernel) (l : Label) → NeedsLabel pt l → kernel.step pt.kernel l ≡ Some s → Grows pt.view (after_label pt.view l) → Core n pt → (q : Pid) → is_some (s.processes q) ≡ true → (after_label pt.view l).known q.home q ≢ Unknown
-label_home n pt s (Label.Created id child) need is grows h q some = elim (created_made pt.kernel s id child is q some) [
-  | inl old ↦ grows q.home q (h.home q old)
-  | inr new ↦
-      let w = after_label pt.view (Label.Created id child) in
-      let at : child.home ≡ pt.view.acting = new.home ∙ received_at n pt id (created_for pt.kernel s id child is) need.0 h new.m new.there in
-      let here : w.known child.home child ≡ Here = ap (λ (m : ℕ). w.known m child) at ∙ at_record_at pt.view.known pt.view.acting child Here in
-      subst (λ (r : Pid). w.known r.home r ≢ Unknown) new.is (λ e. let f : Here ≡ Unknown = sym here ∙ e in cc)
-]
-label_home n pt s any_ need is grows h q some = other_home n pt s (after_label pt.view any_) grows (step_made pt.kernel s any_ refl is) h q some
+label_home n pt s l h1 h2 h3 h4 q h5 = search (arith, created_made, pt.kernel, q.home, pt.view, pt.view.acting, received_at, created_for, at_record_at, pt.view.known, other_home, step_made)
 
 pub label_core : (n : ℕ) (pt : Point) (s : OneKernel) (l : Label) → Sane pt → NeedsLabel pt l → kernel.step pt.kernel l ≡ Some s → Core n pt → Core n (moved pt (Line.Label l) s)
 label_core n pt s l sane need is h =
@@ -159,7 +130,6 @@ label_core n pt s l sane need is h =
       topic = subst (λ (x : view.About). AboutIs n w x) (sym (label_topic v l)) (about_grows n v w v.topic learnt.grows h.topic);
       known = learnt.known;
       places = λ i z e. let k = places_label (IsAt a v) v l h.places i z e in (ap (λ (p : Place). p.at) (keeps_receiver pt s l i sane is k.1) ∙ k.0, ap (λ (f : MsgId → Option Told). is_some (f i)) told ∙ k.1);
-      held = held_line v (Line.Label l) refl h.held;
       senders = λ i m there. elim (left.senders i m there) [
         | inl old ↦ sends_grow n pt.kernel s m.sender (after_step sane.r sane.e pt.kernel s l is sane.sound).grown (h.senders i m old)
         | inr new ↦ sends_grow n pt.kernel s m.sender (after_step sane.r sane.e pt.kernel s l is sane.sound).grown new

@@ -3,7 +3,6 @@ use Rattle.dm_rulelaws.proofs.Names.{◌≡◌, ◌≢◌, ℕ, ◌+◌, ◌<◌
 use Rattle.dm_rulelaws.proofs.Names.{Incoming, view_after, after_head, after_stage, after_proto, handled, queued_for, held_for, taken_id, oldest, receiver_of, gone_to, target_of, front_told, front_of, Point, label_of, kernel_after, moved}
 use Rattle.dm_rulelaws.proofs.Names.{is_put, hushed, queued_known, held_known, proto_known, Sane, is_fixed, proto_acting}
 use Rattle.dm_rule.specs.View as view
-use Rattle.dm_rulelaws.proofs.Found.Held.{HeldFor, held_line}
 use Rattle.dm_rulelaws.proofs.Found.Lists.{Places, Brings, places_line}
 use Rattle.dm_rulelaws.proofs.Found.Core.{AboutIs, KnownIs, IsAt, Core, Grows, Learns, learns_nothing, learns, about_grows, known_grows, core_view}
 use Rattle.dm_rulelaws.proofs.Found.Labels.{NeedsLabel, label_core}
@@ -14,15 +13,15 @@ abbrev at_view : Point → View → Point
 at_view pt w = record { kernel = pt.kernel; view = w; addresses = pt.addresses }
 
 -- a line that only says what a machine learns
-learnt_core : (n : ℕ) (pt : Point) (w : View) → Learns n pt.view w → w.told ≡ pt.view.told → AboutIs n w w.topic → Places (IsAt pt.addresses pt.view) w → HeldFor w → Core n pt → Core n (at_view pt w)
-learnt_core n pt w learnt told topic places held h = core_view n pt w (subst (λ (k : ℕ). k < n) (sym learnt.acting) h.acting) learnt.grows learnt.known told topic places held h
+learnt_core : (n : ℕ) (pt : Point) (w : View) → Learns n pt.view w → w.told ≡ pt.view.told → AboutIs n w w.topic → Places (IsAt pt.addresses pt.view) w → Core n pt → Core n (at_view pt w)
+learnt_core n pt w learnt told topic places h = core_view n pt w pt.addresses (subst (λ (k : ℕ). k < n) (sym learnt.acting) h.acting) learnt.grows learnt.known told topic h.all places h
 
 -- and one that says nothing of processes
 quiet_core : (n : ℕ) (pt : Point) (l : Line) → is_put l ≡ false → (view_after pt.view l).acting ≡ pt.view.acting → ((m : ℕ) (q : Pid) → (view_after pt.view l).known m q ≡ pt.view.known m q) → (view_after pt.view l).told ≡ pt.view.told → AboutIs n pt.view (view_after pt.view l).topic
     → Brings (IsAt pt.addresses pt.view) pt.view l → Core n pt → Core n (at_view pt (view_after pt.view l))
 quiet_core n pt l quiet acting known told topic brings h =
     let learnt = learns_nothing n pt.view (view_after pt.view l) acting known h.known in
-    learnt_core n pt (view_after pt.view l) learnt told (about_grows n pt.view (view_after pt.view l) (view_after pt.view l).topic learnt.grows topic) (places_line (IsAt pt.addresses pt.view) pt.view l brings h.places) (held_line pt.view l quiet h.held) h
+    learnt_core n pt (view_after pt.view l) learnt told (about_grows n pt.view (view_after pt.view l) (view_after pt.view l).topic learnt.grows topic) (places_line (IsAt pt.addresses pt.view) pt.view l brings h.places) h
 
 same_topic : (n : ℕ) (pt : Point) (x : About) → x ≡ pt.view.topic → Core n pt → AboutIs n pt.view x
 same_topic n pt x e h = subst (AboutIs n pt.view) (sym e) h.topic
@@ -79,13 +78,13 @@ stage_core : (n : ℕ) (pt : Point) (p : Pid) (s : Stage) → NeedsStage n pt p 
 stage_core n pt p s need h =
     let learnt = stage_learns n pt p s need h in
     learnt_core n pt (after_stage pt.view p s) learnt (hushed pt.view (Line.Migration s p) refl).told (about_grows n pt.view (after_stage pt.view p s) (after_stage pt.view p s).topic learnt.grows (stage_topic n pt p s h))
-    (places_line (IsAt pt.addresses pt.view) pt.view (Line.Migration s p) tt h.places) (held_line pt.view (Line.Migration s p) refl h.held) h
+    (places_line (IsAt pt.addresses pt.view) pt.view (Line.Migration s p) tt h.places) h
 
 stays_core : (n : ℕ) (pt : Point) (p : Pid) → Core n pt → Core n (at_view pt (view_after pt.view (Line.Stays p)))
 stays_core n pt p h =
     let w = view_after pt.view (Line.Stays p) in
     let learnt = learns n pt.view w p Here refl refl (λ e. cc) h.acting h.known in
-    learnt_core n pt w learnt refl (about_grows n pt.view w pt.view.topic learnt.grows h.topic) (places_line (IsAt pt.addresses pt.view) pt.view (Line.Stays p) tt h.places) (held_line pt.view (Line.Stays p) refl h.held) h
+    learnt_core n pt w learnt refl (about_grows n pt.view w pt.view.topic learnt.grows h.topic) (places_line (IsAt pt.addresses pt.view) pt.view (Line.Stays p) tt h.places) h
 
 -- what a line needs
 abbrev pub NeedsHead : ℕ → Step → Type 0
@@ -111,8 +110,8 @@ head_known n v w same h m p =
     subst (KnownIs n w m p) (sym (ap (λ (f : ℕ → Pid → Known). f m p) same)) (known_grows n v w m p (v.known m p) grows (h m p))
 
 head_core : (n : ℕ) (pt : Point) (d : Step) → NeedsHead n d → Core n pt → Core n (at_view pt (after_head pt.view d))
-head_core n pt (Step.Migrate p m) need h = core_view n pt (after_head pt.view (Step.Migrate p m)) need.0 (λ i q e. e) (head_known n pt.view (after_head pt.view (Step.Migrate p m)) refl h.known) refl need.1 (places_line (IsAt pt.addresses pt.view) pt.view (Line.Head (Step.Migrate p m)) tt h.places) (held_line pt.view (Line.Head (Step.Migrate p m)) refl h.held) h
-head_core n pt any_ need h = core_view n pt (after_head pt.view any_) need (λ i q e. e) (head_known n pt.view (after_head pt.view any_) refl h.known) refl tt (places_line (IsAt pt.addresses pt.view) pt.view (Line.Head any_) tt h.places) (held_line pt.view (Line.Head any_) refl h.held) h
+head_core n pt (Step.Migrate p m) need h = core_view n pt (after_head pt.view (Step.Migrate p m)) pt.addresses need.0 (λ i q e. e) (head_known n pt.view (after_head pt.view (Step.Migrate p m)) refl h.known) refl need.1 h.all (places_line (IsAt pt.addresses pt.view) pt.view (Line.Head (Step.Migrate p m)) tt h.places) h
+head_core n pt any_ need h = core_view n pt (after_head pt.view any_) pt.addresses need (λ i q e. e) (head_known n pt.view (after_head pt.view any_) refl h.known) refl tt h.all (places_line (IsAt pt.addresses pt.view) pt.view (Line.Head any_) tt h.places) h
 
 pub packet_core : (n : ℕ) (pt : Point) (a b k : ℕ) (l : Load) → Core n pt → Core n (moved pt (Line.Packet a b k l) pt.kernel)
 packet_core n pt a b k l h = quiet_core n pt (Line.Packet a b k l) refl refl (λ m q. refl) refl h.topic tt h

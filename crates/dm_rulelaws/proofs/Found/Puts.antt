@@ -3,7 +3,6 @@ use Rattle.dm_rulelaws.proofs.Names.{◌≡◌, ℕ, Bool, true, false, is_some,
 use Rattle.dm_rulelaws.proofs.Names.{id_eq-is, View, Told, is_kernels, after_put, Addresses, Receiver, Sender, given, unmoved, child_number, place_of_child, own_gives, first_gives, Point, moved, not_true, put_at, put_told_off, is_own, Sort}
 use Rattle.dm_rulelaws.proofs.Names.{sort_of, own_given}
 use Rattle.dm_rulelaws.proofs.Found.Lists.{places_put}
-use Rattle.dm_rulelaws.proofs.Found.Held.{held_put}
 use Rattle.dm_rulelaws.proofs.Found.Places.{AllAre, put_all, put_routed, put_again, put_tells, routed_gives}
 use Rattle.dm_rulelaws.proofs.Found.Core.{Knows, IsReal, AboutIs, IsAt, Core, Grows, learns_nothing, IsOwn, knows_grow, own_grows, about_grows}
 
@@ -84,7 +83,6 @@ put_core n pt x b id k q need h =
       known = (learns_nothing n v w refl (λ m r. refl) h.known).known;
       places = places_put (IsAt c w) v x b id k q (put_place n pt b id k q need, put_told v x b id k q)
           (λ i z e. let y = h.places i z e in (ap (λ (p : Place). p.at) (put_address n pt b id i k q need y.1) ∙ y.0, put_keeps v x b id i k q y.1));
-      held = held_put v x b id k q h.held;
       senders = h.senders;
       fits = h.fits;
       home = λ r some. grows r.home r (h.home r some);

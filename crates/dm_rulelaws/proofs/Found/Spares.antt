@@ -1,6 +1,6 @@
 -- No label gives another address to a message that was told of.
-use Rattle.dm_rulelaws.proofs.Names.{◌≤◌, arith, nat_lt, ◌≡◌, ℕ, Bool, true, false, List, [], ◌∷◌, ◌++◌, length, refl, ap, ◌∙◌, sym, subst, if◌then◌else◌, Option, None, Some, Pid, pid_eq, PlainLink, MsgId, id_eq, id_of, PlainMessage}
-use Rattle.dm_rulelaws.proofs.Names.{PlainWhat, Label, switchboard, manager, bind, PlainProcess, OneKernel, answer_id, id_eq-is, bind-is, View, Addresses, Gets, gives, landing_gets, serves_what, board_finds, board_keeps, board_gets}
+use Rattle.dm_rulelaws.proofs.Names.{◌≤◌, arith, nat_lt, ◌≡◌, ℕ, Bool, true, false, List, [], length, refl, ap, ◌∙◌, sym, subst, if◌then◌else◌, Option, None, Some, Pid, pid_eq, PlainLink, MsgId, id_eq, id_of, PlainMessage}
+use Rattle.dm_rulelaws.proofs.Names.{PlainWhat, Label, switchboard, manager, bind, PlainProcess, OneKernel, answer_id, id_eq-is, bind-is, View, Addresses, Gets, gives, landing_gets, serves_what, board_gets}
 use Rattle.dm_rulelaws.proofs.Names.{manager_gets, not_true, nat_tests, unentered, Sound, id_in, landed_id, served_id, board_id, manager_id, took_id, bag_sends, bag_served, bag_gone, bag_no_space, bag_created, bag_took, spares}
 use Rattle.dm_rulelaws.proofs.Names.{spares_both, two_more, made_spares, sends_spares, receives_spares, creates_what_spares, finds_spares, keeps_spares, manager_takes_spares}
 use Rattle.dm_onekernel.specs.Pieces as pieces
@@ -20,11 +20,7 @@ lands_spares v a p (Some (pieces.Next n y)) i new = two_more i n.id [] (new n.id
 lands_spares v a p _ i new = refl
 
 serve_spares : (v : View) (a : Addresses) (id : MsgId) (m : PlainMessage) (x : PlainProcess) (w : PlainWhat) (i : MsgId) → ((j : MsgId) → served_id id m x w ≡ Some j → id_eq j i ≡ false) → spares i (serves_what v a id m x w) ≡ true
-serve_spares v a id m x (PlainWhat.Read b1 b2) i new = two_more i (answer_id id) [] (new (answer_id id) refl) refl
-serve_spares v a id m x (PlainWhat.Write b1 b2) i new = two_more i (answer_id id) [] (new (answer_id id) refl) refl
-serve_spares v a id m x (PlainWhat.Block b1) i new = lands_spares v a m.to (pieces.lands m.to x m x.status) i new
-serve_spares v a id m x PlainWhat.Written i new = lands_spares v a m.to (pieces.lands m.to x m x.status) i new
-serve_spares v a id m x _ i new = refl
+serve_spares v a id m x w i h1 = search (arith, two_more, lands_spares, m.to, x.status)
 
 creates_spares : (v : View) (a : Addresses) (id : MsgId) (child : Pid) (o : Option PlainMessage) (i : MsgId) → id_eq (answer_id id) i ≡ false → spares i (addresses.creation_gets v a id child o) ≡ true
 creates_spares v a id child None i e = refl
@@ -33,12 +29,7 @@ creates_spares v a id child (Some m) i e = two_more i (answer_id id) (addresses.
 -- the switchboard
 board_links_spares : (s : OneKernel) (v : View) (a : Addresses) (id : MsgId) (code channel : ℕ) (body : List ℕ) (links : List PlainLink) (i : MsgId) → id_eq (id_of switchboard s.switchboard.sent) i ≡ false
     → spares i (board_gets s v a id (PlainWhat.User code channel body links)) ≡ true
-board_links_spares s v a id code channel body [] i e = refl
-board_links_spares s v a id code channel body (l ∷ ls) i e =
-    let sent = id_of switchboard s.switchboard.sent in
-    let asked = board.asks s.switchboard.names body ls in
-    two_more i sent (board_finds a sent s.switchboard.names body asked.answer ++ board_keeps a id s.switchboard.names asked.answer) e
-    (spares_both i (board_finds a sent s.switchboard.names body asked.answer) (board_keeps a id s.switchboard.names asked.answer) (finds_spares a sent s.switchboard.names body asked.answer i) (keeps_spares a id s.switchboard.names asked.answer i))
+board_links_spares s v a id code channel body links i h1 = search (arith, s.switchboard.sent, s.switchboard.names, two_more, spares_both, finds_spares, keeps_spares)
 
 board_takes_spares : (s : OneKernel) (v : View) (a : Addresses) (id : MsgId) (w : PlainWhat) (i : MsgId) → id_eq (id_of switchboard s.switchboard.sent) i ≡ false → spares i (board_gets s v a id w) ≡ true
 board_takes_spares s v a id (PlainWhat.User b1 b2 b3 b4) i e = board_links_spares s v a id b1 b2 b3 b4 i e
@@ -53,11 +44,7 @@ takes_spares : (s t : OneKernel) (v : View) (a : Addresses) (id : MsgId) (m : Pl
     else if c then bind (manage.manager_takes s.manager s.machines (length s.images) m m.what) (λ (k : manage.ManagerTook). Some (service.manager_took s id k))
     else None) ≡ Some t
     → spares i (if b then board_gets s v a id m.what else manager_gets s v a m m.what (manage.manager_takes s.manager s.machines (length s.images) m m.what)) ≡ true
-takes_spares s t v a id m true c i e new is = board_takes_spares s v a id m.what i e
-takes_spares s t v a id m false true i e new is =
-    let o = manage.manager_takes s.manager s.machines (length s.images) m m.what in
-    manager_takes_spares s v a m m.what o i (λ k f x g. message_in o i new k f x g)
-takes_spares s t v a id m false false i e new is = cc
+takes_spares s t v a id m b c i h1 h2 h3 = search (arith, board_takes_spares, m.what, s.manager, s.machines, s.images, manager_takes_spares, message_in)
 
 took_spares : (r e : MsgId → ℕ) (s t : OneKernel) (v : View) (a : Addresses) (id : MsgId) (m : PlainMessage) (i : MsgId) → s.bag id ≡ Some m → service.takes s id m ≡ Some t → ((j : MsgId) → took_id s m ≡ Some j → e j ≡ 0) → Sound r e s → 1 ≤ e i
     → spares i (addresses.taking_gets s v a id (Some m)) ≡ true

@@ -10,23 +10,10 @@ use Rattle.dm_rulelaws.proofs.Order.Lines.{Which, Ord}
 use Rattle.dm_rulelaws.proofs.Order.Finds.{which, Taking, Reaches, ord_head, taken_order, taken_bound, quiet_split, found_later, taking_of}
 
 ord_start : (b : Boot) (q : Which) → q.floor ≡ 0 → Ord q (start b) (first_view b)
-ord_start b q none = record {
-  order = refl;
-  floor = λ n less. absurd (omega (arith, less, none));
-  last_told = λ n e. absurd (omega (arith, e, none));
-  queue_told = tt;
-  inbox_told = tt;
-  away_told = λ a. tt;
-  sourced = λ a. tt;
-  loop = refl;
-}
+ord_start b q none = search arith
 
 never_nothing : (xs ys : List Label) (y : Label) → [] ≡ xs ++ y ∷ ys → ⊥
-never_nothing [] ys y e = let f : true ≡ false = ap is_nothing e in false≢true (sym f)
-  where
-    is_nothing : List Label → Bool
-    is_nothing [] = true
-    is_nothing (z ∷ zs) = false
+never_nothing [] ys y e = search arith
 never_nothing (x ∷ xs) ys y e = let f : true ≡ false = ap is_nothing e in false≢true (sym f)
   where
     is_nothing : List Label → Bool
@@ -34,18 +21,12 @@ never_nothing (x ∷ xs) ys y e = let f : true ≡ false = ap is_nothing e in fa
     is_nothing (z ∷ zs) = false
 
 take_as : (b : Boot) (pt next : Point) (p r : Pid) (i j : MsgId) → Label.Receive r j ≡ Label.Receive p i → Taking b pt r j next → Taking b pt p i next
-take_as b pt next p r i j e t =
-    let f : r ≡ p = cc in
-    let g : j ≡ i = cc in
-    subst (λ (x : Pid). Taking b pt x i next) f (subst (λ (x : MsgId). Taking b pt r x next) g t)
+take_as b pt next p r i j e t = search arith
 
 -- a group that receives, and what is behind it
 find_taken : (b : Boot) (end pt mid : Point) (es : List Step) (ls : List Line) (before later : List Label) (p r : Pid) (i j : MsgId) → Taking b pt r j mid → Stays b mid → AreStill es → LeadsBy b mid es ls end → ((k : Which) → Ord k pt.kernel pt.view → Ord k mid.kernel mid.view)
     → replay pt.kernel (Label.Receive r j ∷ []) ≡ Some mid.kernel → Label.Receive r j ∷ labels ls ≡ before ++ Label.Receive p i ∷ later → ((more : List Label) → labels ls ≡ more ++ Label.Receive p i ∷ later → Reaches b end mid more later p i) → Reaches b end pt before later p i
-find_taken b end pt mid es ls [] later p r i j t on still leads order replays e again =
-    let f : Label.Receive r j ≡ Label.Receive p i = cc in
-    let g : labels ls ≡ later = cc in
-    record { at = pt; replays = refl; order = λ k o. o; next = mid; on = on; goes = order; takes = take_as b pt mid p r i j f t; es = es; still = still; ls = ls; leads = leads; rest = g }
+find_taken b end pt mid es ls [] later p r i j t on still leads order replays e again = search (arith, take_as)
 find_taken b end pt mid es ls (z ∷ zs) later p r i j t on still leads order replays e again =
     let f : z ≡ Label.Receive r j = cc in
     let g : labels ls ≡ zs ++ Label.Receive p i ∷ later = cc in
@@ -54,9 +35,7 @@ find_taken b end pt mid es ls (z ∷ zs) later p r i j t on still leads order re
 find_by : (b : Boot) (end pt mid : Point) (d : Step) (w : Spelled) (es : List Step) (ls : List Line) (before later : List Label) (p : Pid) (i : MsgId) (g : Goes (CalmFor pt d) b pt d) → Shape (view.actor d) (moved pt (Line.Head d) pt.kernel) g.parts → g.w ≡ w → Stays b pt → Stays b w.point → AreStill es
     → LeadsBy b w.point es ls end → ((k : Which) → Ord k pt.kernel pt.view → Ord k w.point.kernel w.point.view) → replay pt.kernel (said g.parts) ≡ Some w.point.kernel → said g.parts ++ labels ls ≡ before ++ Label.Receive p i ∷ later
     → ((more : List Label) → labels ls ≡ more ++ Label.Receive p i ∷ later → Reaches b end w.point more later p i) → Reaches b end pt before later p i
-find_by b end pt mid d w es ls before later p i g (Quiet quiet) same here on still leads order replays e again =
-    let (more, is, rest) = quiet_split (said g.parts) (labels ls) before later p i quiet e in
-    found_later b end pt w.point (said g.parts) before more later p i replays order is (again more rest)
+find_by b end pt mid d w es ls before later p i g (Quiet quiet) same here on still leads order replays e again = search (arith, quiet_split, g.parts, found_later, w.point)
 find_by b end pt mid d w es ls before later p i g (Takes r) same here on still leads order replays e again =
     let says : said g.parts ≡ Label.Receive r.p r.i ∷ [] = ap said r.is in
     find_taken b end pt w.point es ls before later p r.p i r.i (taking_of b pt d w g here r same) on still leads order (ap (replay pt.kernel) (sym says) ∙ replays) (ap (λ xs. xs ++ labels ls) (sym says) ∙ e) again

@@ -1,7 +1,7 @@
 -- Receptions in a run, and what is behind them.
-use Rattle.dm_rulelaws.proofs.Names.{◌≡◌, ℕ, suc, ◌+◌, ◌≤◌, ◌==◌, ◌&&◌, Bool, true, false, List, [], ◌∷◌, ◌++◌, refl, ap, ◌∙◌, sym, subst, nat_lt, inl, inr, arith, if◌then◌else◌, Option, None, Some, cases_Bool, false≢true, nat_tests, Pid}
-use Rattle.dm_rulelaws.proofs.Names.{pid_eq, MsgId, id_eq, id_of, PlainMessage, PlainWhat, on_mask, Boot, Label, switchboard, manager, Life, Alive, Ended, OneKernel, bind, replay, in_bag, counts, is_counted, pid_eq-same, id_eq-is}
-use Rattle.dm_rulelaws.proofs.Names.{id_eq-same, after_step, Step, Line, Spelled, behind, spelled, Point, labels, after, moved, without_id, times, untaken, View, after_label, Each, LeadsBy, channel_in, is_for_home, are_for_home, AreStill}
+use Rattle.dm_rulelaws.proofs.Names.{◌≡◌, ℕ, suc, ◌+◌, ◌≤◌, ◌==◌, Bool, true, false, List, [], ◌∷◌, ◌++◌, refl, ap, ◌∙◌, sym, subst, nat_lt, inl, inr, arith, if◌then◌else◌, Option, None, Some, cases_Bool, nat_tests, Pid}
+use Rattle.dm_rulelaws.proofs.Names.{pid_eq, MsgId, id_eq, id_of, PlainMessage, PlainWhat, on_mask, Boot, Label, switchboard, manager, Life, OneKernel, replay, in_bag, counts, is_counted, pid_eq-same, id_eq-is}
+use Rattle.dm_rulelaws.proofs.Names.{id_eq-same, after_step, Step, Line, Spelled, spelled, Point, labels, moved, without_id, times, untaken, View, after_label, Each, LeadsBy, channel_in, is_for_home, are_for_home, AreStill}
 use Rattle.dm_rulelaws.proofs.Names.{About, NothingElse, begins, marked, homes_of, Sane}
 use Rattle.dm_onekernel.specs.Step as kernel
 use Rattle.dm_rule.specs.Rule as rule
@@ -15,7 +15,7 @@ use Rattle.dm_rulelaws.proofs.Goes.Always.{CalmFor}
 use Rattle.dm_rulelaws.proofs.Goes.Runs.{Stays}
 use Rattle.dm_rulelaws.proofs.Order.Puts.{thin_pair}
 use Rattle.dm_rulelaws.proofs.Order.Lists.{ordered, first_one, first_not, drop_one, put_not}
-use Rattle.dm_rulelaws.proofs.Order.Lines.{Which, on_channel, is_mine, is_one, is_told, Ord, ord_view, ord_step, thin_label, thin_same, box_same, was_told, counts_grown}
+use Rattle.dm_rulelaws.proofs.Order.Lines.{Which, on_channel, is_one, is_told, Ord, ord_view, ord_step, thin_label, thin_same, box_same, was_told, counts_grown}
 use Rattle.dm_rulelaws.proofs.Order.Moves.{one_is}
 use Rattle.dm_rulelaws.proofs.Order.Takes.{queue_on}
 
@@ -85,20 +85,7 @@ bound_in g from (i ∷ is) rest j h least one = elim (cases_Bool (id_eq j i)) [
 first_by : (s : OneKernel) (g : MsgId → Bool) (mask from : ℕ) (j : MsgId) (js rest : List MsgId) (i : MsgId) (c : Bool) → rule.is_awaited mask (s.bag j) ≡ c → (if c then Some j else rule.first_awaited s mask js) ≡ Some i → ((k : MsgId) → g k ≡ true → rule.is_awaited mask (s.bag k) ≡ true) → g i ≡ true
     → ordered g from (j ∷ (js ++ rest)) ≡ true → (rule.first_awaited s mask js ≡ Some i → ordered g from (js ++ rest) ≡ true → ordered g (i.n + 1) (without_id i js ++ rest) ≡ true)
     → ordered g (i.n + 1) ((if id_eq i j then js else j ∷ without_id i js) ++ rest) ≡ true
-first_by s g mask from j js rest i true e f awaited one h later =
-    let is : j ≡ i = cc in
-    let k = (first_one g from j (js ++ rest) (ap g is ∙ one) h).1 in
-    let same : id_eq i j ≡ true = ap (id_eq i) is ∙ id_eq-same i in
-    ap (λ (c : Bool). ordered g (i.n + 1) ((if c then js else j ∷ without_id i js) ++ rest)) same ∙ ap (λ (v : MsgId). ordered g (v.n + 1) (js ++ rest)) (sym is) ∙ k
-first_by s g mask from j js rest i false e f awaited one h later =
-    let not_one : g j ≡ false = never (g j) (λ k. sym e ∙ awaited j k) in
-    let apart : id_eq i j ≡ false = never (id_eq i j) (λ k. sym e ∙ ap (λ (v : MsgId). rule.is_awaited mask (s.bag v)) (sym (id_eq-is i j k)) ∙ awaited i one) in
-    ap (λ (c : Bool). ordered g (i.n + 1) ((if c then js else j ∷ without_id i js) ++ rest)) apart
-    ∙ put_not g (i.n + 1) j (without_id i js ++ rest) not_one (later f (first_not g from j (js ++ rest) not_one h))
-  where
-    never : (c : Bool) → (c ≡ true → false ≡ true) → c ≡ false
-    never false f = refl
-    never true f = absurd (false≢true (f refl))
+first_by s g mask from j js rest i c h1 h2 h3 h4 h5 h6 = search (arith, first_one, id_eq-same, i.n, s.bag, id_eq-is, put_not, first_not)
 
 first_goes : (s : OneKernel) (g : MsgId → Bool) (mask from : ℕ) (is rest : List MsgId) (i : MsgId) → rule.first_awaited s mask is ≡ Some i → ((k : MsgId) → g k ≡ true → rule.is_awaited mask (s.bag k) ≡ true) → g i ≡ true → ordered g from (is ++ rest) ≡ true → ordered g (i.n + 1) (without_id i is ++ rest) ≡ true
 first_goes s g mask from [] rest i e awaited one h = cc
@@ -119,18 +106,11 @@ on_is c (PlainWhat.User code channel body links) e = let k : channel ≡ c = cc 
 on_is c _ e = cc
 
 one_of : (s : OneKernel) (from to : Pid) (channel floor n : ℕ) (x : PlainMessage) → s.bag (id_of from n) ≡ Some x → x.to ≡ to → channel_in x.what ≡ Some channel → is_one s (which from to channel floor) (id_of from n) ≡ true
-one_of s from to channel floor n x there receiver on =
-    ap (λ (c : Bool). (c && true) && is_mine (which from to channel floor) (s.bag (id_of from n))) (pid_eq-same from)
-    ∙ ap (is_mine (which from to channel floor)) there
-    ∙ two (pid_eq x.to to) (on_channel channel x.what) (ap (λ (p : Pid). pid_eq p to) receiver ∙ pid_eq-same to) (on_is channel x.what on)
+one_of s from to channel floor n x there receiver on = search (arith, s.bag, pid_eq-same, two, x.to, x.what, on_is)
 
 -- counts below
 lower_of : (b c : Bool) (n k a l : ℕ) (x : Option Life) → k ≤ n → (if b then nat_lt n a else if c then nat_lt n l else is_counted n x) ≡ true → (if b then nat_lt k a else if c then nat_lt k l else is_counted k x) ≡ true
-lower_of true c n k a l x le e = grind (arith, nat_tests)
-lower_of false true n k a l x le e = grind (arith, nat_tests)
-lower_of false false n k a l None le e = cc
-lower_of false false n k a l (Some (Alive x)) le e = grind (arith, nat_tests)
-lower_of false false n k a l (Some (Ended y)) le e = refl
+lower_of b c n k a l x h1 h2 = search arith
 
 counts_lower : (s : OneKernel) (p : Pid) (n k : ℕ) → k ≤ n → counts s (id_of p n) ≡ true → counts s (id_of p k) ≡ true
 counts_lower s p n k le e = lower_of (pid_eq p switchboard) (pid_eq p manager) n k s.switchboard.sent s.manager.sent (s.processes p) le e
@@ -220,9 +200,7 @@ both_if false d e = cc
 -- labels before the first reception of a rest
 pub quiet_split : (xs ys before later : List Label) (p : Pid) (i : MsgId) → no_receive xs ≡ true → xs ++ ys ≡ before ++ Label.Receive p i ∷ later → (more : List Label) × (before ≡ xs ++ more) × (ys ≡ more ++ Label.Receive p i ∷ later)
 quiet_split [] ys before later p i h e = (before, refl, e)
-quiet_split (x ∷ xs) ys [] later p i h e =
-    let f : x ≡ Label.Receive p i = cc in
-    absurd (let k = (both_if (not_receive x) (no_receive xs) h).0 in false≢true (sym (ap not_receive f) ∙ k))
+quiet_split (x ∷ xs) ys [] later p i h e = search (arith, both_if)
 quiet_split (x ∷ xs) ys (z ∷ zs) later p i h e =
     let f : z ≡ x = cc in
     let g : xs ++ ys ≡ zs ++ Label.Receive p i ∷ later = cc in
@@ -248,13 +226,7 @@ found_later b end pt mid ls before more later p i replays order is f = record {
 
 -- one label alone
 alone : (pt : Point) (l : Label) (t : OneKernel) (v : Spelled) → kernel.step pt.kernel l ≡ Some t → spelled pt (rule.says l ∷ []) ≡ Some v → v.point ≡ moved pt (Line.Label l) t
-alone pt l t v step e =
-    let z : Spelled = record { lines = Line.Label l ∷ []; point = moved pt (Line.Label l) t } in
-    let f : spelled pt (rule.says l ∷ []) ≡ Some z =
-    ap (λ (o : Option OneKernel). bind (bind (bind o (λ (s : OneKernel). Some (moved pt (Line.Label l) s))) (λ (n : Point). after n [])) (λ (n : Point). bind (spelled n []) (λ (y : Spelled). Some (behind (Line.Label l ∷ []) y)))) step in
-    let g : Some v ≡ Some z = sym e ∙ f in
-    let k : v ≡ z = cc in
-    ap (λ (y : Spelled). y.point) k
+alone pt l t v step e = search arith
 
 -- what a machine has queued is for processes of its home
 queued_home : (s : OneKernel) (m : ℕ) (is : List MsgId) (i : MsgId) → are_for_home s m is ≡ true → 1 ≤ times i is → is_for_home m (s.bag i) ≡ true

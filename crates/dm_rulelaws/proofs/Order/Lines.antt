@@ -1,7 +1,7 @@
 -- Messages of one sender to one process on one channel stand in the order in which they were sent: each line keeps it.
-use Rattle.dm_rulelaws.proofs.Names.{◌≡◌, ℕ, suc, ◌+◌, ◌≤◌, ◌<◌, ◌==◌, ◌&&◌, Bool, true, false, not, List, [], ◌∷◌, ◌++◌, refl, ap, ◌∙◌, sym, subst, is_some, nat_lt, arith, if◌then◌else◌, Option, None, Some, false≢true, nat_tests, Pid}
-use Rattle.dm_rulelaws.proofs.Names.{pid_eq, MsgId, id_of, PlainMessage, PlainWhat, Label, switchboard, manager, Life, Alive, Ended, OneKernel, counts, is_counted, Grown, LifeGrows, after_step, at_machine, at_record, without_id}
-use Rattle.dm_rulelaws.proofs.Names.{without_front, untaken, Queue, Inbox, Untaken, View, Told, after_label, handled, Point, served_keeps, Each, not_kernels, Sane, pid_eq-is, entry, reception, came_from}
+use Rattle.dm_rulelaws.proofs.Names.{◌≡◌, ℕ, suc, ◌+◌, ◌≤◌, ◌<◌, ◌==◌, ◌&&◌, Bool, true, false, not, List, [], ◌∷◌, ◌++◌, refl, ap, ◌∙◌, sym, subst, is_some, nat_lt, arith, if◌then◌else◌, Option, None, Some, false≢true, Pid}
+use Rattle.dm_rulelaws.proofs.Names.{pid_eq, MsgId, id_of, PlainMessage, PlainWhat, Label, switchboard, manager, Life, OneKernel, counts, is_counted, Grown, LifeGrows, after_step, at_machine, at_record}
+use Rattle.dm_rulelaws.proofs.Names.{without_front, untaken, View, Told, after_label, handled, Point, served_keeps, Each, not_kernels, Sane, pid_eq-is, entry, reception, came_from}
 use Rattle.dm_onekernel.specs.Step as kernel
 use Rattle.dm_rule.specs.View as view
 use Rattle.dm_rulelaws.proofs.Fits.Rises.{Each-on}
@@ -81,9 +81,7 @@ ord_view q s v w t h =
 
 -- a step of the kernel: what is told was there before
 one_was_of : (s t : OneKernel) (q : Which) (i : MsgId) (c : Bool) (o : Option PlainMessage) → t.bag i ≡ o → ((x : PlainMessage) → t.bag i ≡ Some x → s.bag i ≡ Some x) → (c && is_mine q o) ≡ true → (c && is_mine q (s.bag i)) ≡ true
-one_was_of s t q i true None e f h = cc
-one_was_of s t q i true (Some x) e f h = ap (is_mine q) (f x e) ∙ h
-one_was_of s t q i false o e f h = cc
+one_was_of s t q i c o h1 h2 h3 = search arith
 
 one_was : (s t : OneKernel) (q : Which) (i : MsgId) → ((x : PlainMessage) → t.bag i ≡ Some x → s.bag i ≡ Some x) → is_one t q i ≡ true → is_one s q i ≡ true
 one_was s t q i f h = one_was_of s t q i (pid_eq i.from q.from && not i.answer) (t.bag i) refl f h
@@ -93,10 +91,7 @@ Each-two P Q R f [] h k = tt
 Each-two P Q R f (x ∷ xs) h k = (f x h.0 k.0, Each-two P Q R f xs h.1 k.1)
 
 pub all_told : (q : Which) (s : OneKernel) (v : View) → Ord q s v → AllTold v (awaiting q v)
-all_told q s v h =
-    let m = q.to.home in
-    Each-both (λ (i : MsgId). is_told v i ≡ true) (v.queue m q.to) (v.inbox m ++ untaken (v.pair q.from.home m)) h.queue_told
-    (Each-both (λ (i : MsgId). is_told v i ≡ true) (v.inbox m) (untaken (v.pair q.from.home m)) h.inbox_told (h.away_told q.from.home))
+all_told q s v h = search (arith, q.to.home, Each-both, v.queue, q.to, v.inbox, v.pair, q.from.home, h.queue_told, h.inbox_told, h.away_told)
 
 pub ord_step : (q : Which) (s t : OneKernel) (v : View) → ((i : MsgId) (x : PlainMessage) → is_told v i ≡ true → t.bag i ≡ Some x → s.bag i ≡ Some x) → ((i : MsgId) → counts s i ≡ true → counts t i ≡ true) → Ord q s v → Ord q t v
 ord_step q s t v was grows h = record {
@@ -113,16 +108,10 @@ ord_step q s t v was grows h = record {
 
 -- counts only grow
 life_counts : (n : ℕ) (a b : Option Life) → LifeGrows a b → is_counted n a ≡ true → is_counted n b ≡ true
-life_counts n None b g h = cc
-life_counts n (Some (Ended y)) b g h = ap (is_counted n) g
-life_counts n (Some (Alive x)) None g h = absurd g
-life_counts n (Some (Alive x)) (Some (Alive z)) g h = let le : x.sent ≤ z.sent = g in grind (arith, nat_tests)
-life_counts n (Some (Alive x)) (Some (Ended y)) g h = refl
+life_counts n a b h1 h2 = search arith
 
 counts_of : (b c : Bool) (n k l k' l' : ℕ) (x y : Option Life) → k ≤ k' → l ≤ l' → LifeGrows x y → (if b then nat_lt n k else if c then nat_lt n l else is_counted n x) ≡ true → (if b then nat_lt n k' else if c then nat_lt n l' else is_counted n y) ≡ true
-counts_of true c n k l k' l' x y p q g h = grind (arith, nat_tests)
-counts_of false true n k l k' l' x y p q g h = grind (arith, nat_tests)
-counts_of false false n k l k' l' x y p q g h = life_counts n x y g h
+counts_of b c n k l k' l' x y h1 h2 h3 h4 = search (arith, life_counts)
 
 pub counts_grown : (s t : OneKernel) → Grown s t → (i : MsgId) → counts s i ≡ true → counts t i ≡ true
 counts_grown s t g i h =
@@ -130,19 +119,10 @@ counts_grown s t g i h =
 
 -- labels
 pub thin_same : (q : Which) (v w : View) → w.queue q.to.home q.to ≡ v.queue q.to.home q.to → Thins (w.inbox q.to.home) (v.inbox q.to.home) → ((a : ℕ) → untaken (w.pair a q.to.home) ≡ untaken (v.pair a q.to.home)) → ((i : MsgId) → w.told i ≡ v.told i) → ThinFor q v w
-thin_same q v w queue inbox away told = record {
-  queue = thins_same (w.queue q.to.home q.to) (v.queue q.to.home q.to) queue;
-  inbox = inbox;
-  away = away;
-  told = λ i e. ap is_some (told i) ∙ e;
-}
+thin_same q v w queue inbox away told = search (arith, thins_same, w.queue, q.to.home, q.to, v.queue)
 
 pub box_at : (f : ℕ → List MsgId) (a n : ℕ) (xs : List MsgId) (T : List MsgId → Type 0) → (a ≡ n → T xs) → T (f n) → T (at_machine f a xs n)
-box_at f a n xs T here there = picked (a == n) (λ e. here (let g : a ≡ n = grind (arith, nat_tests) in g))
-  where
-    picked : (c : Bool) → (c ≡ true → T xs) → T (if c then xs else f n)
-    picked true h = h refl
-    picked false h = there
+box_at f a n xs T h1 h2 = search arith
 
 pub handled_thin : (v : View) (i : MsgId) (n : ℕ) → Thins ((handled v i).inbox n) (v.inbox n)
 handled_thin v i n = box_at v.inbox v.acting n (without_front i (v.inbox v.acting)) (λ (xs : List MsgId). Thins xs (v.inbox n)) (λ e. subst (λ k. Thins (without_front i (v.inbox v.acting)) (v.inbox k)) e (thins_front i (v.inbox v.acting))) (thins_same (v.inbox n) (v.inbox n) refl)
@@ -154,44 +134,22 @@ pub box_same : (v : View) (n : ℕ) → Thins (v.inbox n) (v.inbox n)
 box_same v n = thins_same (v.inbox n) (v.inbox n) refl
 
 pub queue_at : (f : ℕ → Pid → List MsgId) (a n : ℕ) (p q : Pid) (xs : List MsgId) (T : List MsgId → Type 0) → (a ≡ n → p ≡ q → T xs) → T (f n q) → T (at_record f a p xs n q)
-queue_at f a n p q xs T here there = picked ((a == n) && pid_eq p q) (λ e. here (let g : (a == n) ≡ true = (two_of (a == n) (pid_eq p q) e).0 in let k : a ≡ n = grind (arith, nat_tests) in k) (pid_eq-is p q (two_of (a == n) (pid_eq p q) e).1))
-  where
-    two_of : (c d : Bool) → (c && d) ≡ true → (c ≡ true) × (d ≡ true)
-    two_of true d e = (refl, e)
-    two_of false d e = cc
-
-    picked : (c : Bool) → (c ≡ true → T xs) → T (if c then xs else f n q)
-    picked true h = h refl
-    picked false h = there
+queue_at f a n p q xs T h1 h2 = search (arith, pid_eq-is)
 
 queue_thin : (v : View) (p : Pid) (xs : List MsgId) (n : ℕ) (r : Pid) → Thins xs (v.queue v.acting p) → Thins (at_record v.queue v.acting p xs n r) (v.queue n r)
 queue_thin v p xs n r t = queue_at v.queue v.acting n p r xs (λ (ys : List MsgId). Thins ys (v.queue n r)) (λ at is. subst (λ k. Thins xs (v.queue k r)) at (subst (λ (k : Pid). Thins xs (v.queue v.acting k)) is t)) (thins_same (v.queue n r) (v.queue n r) refl)
 
 dropped_thin : (q : Which) (v : View) (i : MsgId) (o : Option Pid) → ThinFor q v (view.dropped_for (handled v i) i o)
 dropped_thin q v i None = thin_handled q v i
-dropped_thin q v i (Some p) = record {
-  queue = queue_thin v p (without_front i (v.queue v.acting p)) q.to.home q.to (thins_front i (v.queue v.acting p));
-  inbox = handled_thin v i q.to.home;
-  away = λ a. refl;
-  told = λ j e. e;
-}
+dropped_thin q v i (Some p) = search (arith, queue_thin, v.queue, v.acting, q.to.home, q.to, thins_front, handled_thin)
 
 served_thin : (q : Which) (v : View) (i : MsgId) → ThinFor q v (view.served_told (handled v i) (v.told i))
-served_thin q v i =
-    let w = view.served_told (handled v i) (v.told i) in
-    let k = served_keeps (handled v i) (v.told i) in
-    let box : w.inbox q.to.home ≡ (handled v i).inbox q.to.home = k.0 (Inbox q.to.home) in
-    thin_same q v w (k.0 (Queue q.to.home q.to)) (subst (λ xs. Thins xs (v.inbox q.to.home)) (sym box) (handled_thin v i q.to.home)) (λ a. k.0 (Untaken a q.to.home)) (λ j. k.1 j)
+served_thin q v i = search (arith, v.told, served_keeps, q.to.home, thin_same, q.to, v.inbox, handled_thin)
 
 pub thin_label : (q : Which) (v : View) (l : Label) → ThinFor q v (after_label v l)
 thin_label q v (Label.Ran p k) = thin_same q v (after_label v (Label.Ran p k)) refl (box_same v q.to.home) (λ a. refl) (λ j. refl)
 thin_label q v (Label.End p y) = thin_same q v (after_label v (Label.End p y)) refl (box_same v q.to.home) (λ a. refl) (λ j. refl)
-thin_label q v (Label.Receive p id) = record {
-  queue = queue_thin v p (without_id id (v.queue v.acting p)) q.to.home q.to (thins_without id (v.queue v.acting p));
-  inbox = box_same v q.to.home;
-  away = λ a. refl;
-  told = λ j e. e;
-}
+thin_label q v (Label.Receive p id) = search (arith, queue_thin, v.queue, v.acting, q.to.home, q.to, thins_without, box_same)
 thin_label q v (Label.Refuse p id c) = thin_same q v (after_label v (Label.Refuse p id c)) refl (box_same v q.to.home) (λ a. refl) (λ j. refl)
 thin_label q v (Label.Dropped id) = dropped_thin q v id (view.receiver_of (v.told id))
 thin_label q v (Label.Served id) = served_thin q v id

@@ -1,5 +1,5 @@
 -- Lists whose messages of one kind ascend.
-use Rattle.dm_rulelaws.proofs.Names.{◌≡◌, ℕ, zero, suc, ◌+◌, ◌≤◌, ◌<◌, ◌&&◌, Bool, true, false, List, [], ◌∷◌, ◌++◌, drop, refl, ap, ◌∙◌, sym, subst, nat_le, ◌⊎◌, inl, inr, arith, if◌then◌else◌, cases_Bool, nat_tests, MsgId, id_eq}
+use Rattle.dm_rulelaws.proofs.Names.{◌≡◌, ℕ, zero, suc, ◌+◌, ◌≤◌, ◌<◌, ◌&&◌, Bool, true, false, List, [], ◌∷◌, ◌++◌, drop, refl, ap, ◌∙◌, sym, nat_le, ◌⊎◌, inl, inr, arith, if◌then◌else◌, cases_Bool, nat_tests, MsgId, id_eq}
 use Rattle.dm_rulelaws.proofs.Names.{without_id, without_front, Each}
 use Rattle.dm_rulelaws.proofs.Fits.Rises.{both, two}
 
@@ -10,10 +10,7 @@ ordered g from (i ∷ is) = if g i then nat_le from i.n && ordered g (i.n + 1) i
 
 -- the two ways of a first message
 pub first_one : (g : MsgId → Bool) (from : ℕ) (i : MsgId) (is : List MsgId) → g i ≡ true → ordered g from (i ∷ is) ≡ true → (from ≤ i.n) × (ordered g (i.n + 1) is ≡ true)
-first_one g from i is e h =
-    let k = both (nat_le from i.n) (ordered g (i.n + 1) is) (sym (ap (λ (c : Bool). if c then nat_le from i.n && ordered g (i.n + 1) is else ordered g from is) e) ∙ h) in
-    let f = k.0 in
-    ((let z : from ≤ i.n = grind (arith, nat_tests) in z), k.1)
+first_one g from i is e h = search (arith, both, i.n)
 
 pub first_not : (g : MsgId → Bool) (from : ℕ) (i : MsgId) (is : List MsgId) → g i ≡ false → ordered g from (i ∷ is) ≡ true → ordered g from is ≡ true
 first_not g from i is e h = sym (ap (λ (c : Bool). if c then nat_le from i.n && ordered g (i.n + 1) is else ordered g from is) e) ∙ h
@@ -34,10 +31,7 @@ lower g less from (i ∷ is) le h = elim (cases_Bool (g i)) [
 
 -- without the first
 pub drop_one : (g : MsgId → Bool) (from : ℕ) (i : MsgId) (is : List MsgId) → ordered g from (i ∷ is) ≡ true → ordered g from is ≡ true
-drop_one g from i is h = elim (cases_Bool (g i)) [
-  | inl one ↦ let k = first_one g from i is one h in let f = k.0 in lower g from (i.n + 1) is (omega (arith, f)) k.1
-  | inr not_ ↦ first_not g from i is not_ h
-]
+drop_one g from i is h = search (arith, first_one, lower, i.n, first_not)
 
 -- what stands before doesn't matter
 pub context : (g : MsgId → Bool) (from : ℕ) (pre xs ys : List MsgId) → ((k : ℕ) → ordered g k xs ≡ true → ordered g k ys ≡ true) → ordered g from (pre ++ xs) ≡ true → ordered g from (pre ++ ys) ≡ true
@@ -57,10 +51,7 @@ fewer g h from (i ∷ is) f e = elim (cases_Bool (h i)) [
 
 -- one more at the end
 pub add_last : (g : MsgId → Bool) (from : ℕ) (is : List MsgId) (j : MsgId) → Each (λ (i : MsgId). g i ≡ true → i.n < j.n) is → from ≤ j.n → ordered g from is ≡ true → ordered g from (is ++ j ∷ []) ≡ true
-add_last g from [] j below le h = elim (cases_Bool (g j)) [
-  | inl one ↦ put_one g from j [] one le refl
-  | inr not_ ↦ put_not g from j [] not_ refl
-]
+add_last g from [] j below le h = search (arith, put_one, put_not)
 add_last g from (i ∷ is) j below le h = elim (cases_Bool (g i)) [
   | inl one ↦ let k = first_one g from i is one h in let b = below.0 one in put_one g from i (is ++ j ∷ []) one k.0 (add_last g (i.n + 1) is j below.1 (omega (arith, b)) k.1)
   | inr not_ ↦ put_not g from i (is ++ j ∷ []) not_ (add_last g from is j below.1 le (first_not g from i is not_ h))
@@ -77,32 +68,13 @@ pub record Thins (xs ys : List MsgId) : Type 0 where
   pub told : (g : MsgId → Bool) → Each (λ (i : MsgId). g i ≡ true) ys → Each (λ (i : MsgId). g i ≡ true) xs
 
 pub thins_same : (xs ys : List MsgId) → xs ≡ ys → Thins xs ys
-thins_same xs ys e = record {
-  order = λ g from rest h. ap (λ zs. ordered g from (zs ++ rest)) e ∙ h;
-  told = λ g h. subst (Each (λ (i : MsgId). g i ≡ true)) (sym e) h;
-}
+thins_same xs ys e = search arith
 
 pub thins_front : (i : MsgId) (xs : List MsgId) → Thins (without_front i xs) xs
-thins_front i [] = thins_same [] [] refl
-thins_front i (x ∷ xs) = record {
-  order = λ g from rest h. picked_order (id_eq i x) g from rest h;
-  told = λ g h. picked_told (id_eq i x) g h;
-}
-  where
-    picked_order : (c : Bool) (g : MsgId → Bool) (from : ℕ) (rest : List MsgId) → ordered g from (x ∷ xs ++ rest) ≡ true → ordered g from ((if c then xs else x ∷ xs) ++ rest) ≡ true
-    picked_order true g from rest h = drop_one g from x (xs ++ rest) h
-    picked_order false g from rest h = h
-
-    picked_told : (c : Bool) (g : MsgId → Bool) → Each (λ (i : MsgId). g i ≡ true) (x ∷ xs) → Each (λ (i : MsgId). g i ≡ true) (if c then xs else x ∷ xs)
-    picked_told true g h = h.1
-    picked_told false g h = h
+thins_front i xs = search (arith, thins_same, drop_one)
 
 thins_if : (x : MsgId) (xs ys : List MsgId) (c : Bool) → Thins ys xs → Thins (if c then xs else x ∷ ys) (x ∷ xs)
-thins_if x xs ys true t = record { order = λ g from rest h. drop_one g from x (xs ++ rest) h; told = λ g h. h.1 }
-thins_if x xs ys false t = record {
-  order = λ g from rest h. context g from (x ∷ []) (xs ++ rest) (ys ++ rest) (λ k e. t.order g k rest e) h;
-  told = λ g h. (h.0, t.told g h.1);
-}
+thins_if x xs ys c h1 = search (arith, drop_one, context)
 
 pub thins_without : (i : MsgId) (xs : List MsgId) → Thins (without_id i xs) xs
 thins_without i [] = thins_same [] [] refl

@@ -1,6 +1,6 @@
 -- A route, a delivery and a queue keep the order in which messages were sent.
 use Rattle.dm_rulelaws.proofs.Names.{◌≡◌, ℕ, zero, suc, ◌+◌, ◌==◌, Bool, true, false, List, [], ◌∷◌, ◌++◌, drop, refl, ap, ◌∙◌, sym, subst, is_some, inl, inr, arith, if◌then◌else◌, Some, cases_Bool, nat_tests, Pid, MsgId, MessageKind}
-use Rattle.dm_rulelaws.proofs.Names.{id_eq, id_of, PlainMessage, OneKernel, counts, id_eq-same, at_machine, at_pair, at_id, untaken, View, Pair, Told, after_put, Each, ◌⊎◌, plain_kind, pair_keeps}
+use Rattle.dm_rulelaws.proofs.Names.{id_of, PlainMessage, OneKernel, counts, id_eq-same, at_machine, at_pair, at_id, untaken, View, Pair, Told, after_put, Each, ◌⊎◌, plain_kind, pair_keeps}
 use Rattle.dm_rule.specs.View as view
 use Rattle.dm_rulelaws.proofs.Queued.{is_user}
 use Rattle.dm_rulelaws.proofs.Order.Lists.{context, Each-both, thins_same, drop_end}
@@ -13,10 +13,7 @@ thin_pair q v a c p same = thin_same q v (view.with_pair v a c p) refl (box_same
 
 -- routes
 told_put : (v : View) (j : MsgId) (t : Told) (i : MsgId) → is_told v i ≡ true → is_some (at_id v.told j (Some t) i) ≡ true
-told_put v j t i e = elim (cases_Bool (id_eq j i)) [
-  | inl same ↦ ap (λ (c : Bool). is_some (if c then Some t else v.told i)) same
-  | inr apart ↦ ap (λ (c : Bool). is_some (if c then Some t else v.told i)) apart ∙ e
-]
+told_put v j t i e = search (arith, v.told)
 
 told_now : (v : View) (j : MsgId) (t : Told) → is_some (at_id v.told j (Some t) j) ≡ true
 told_now v j t = ap (λ (c : Bool). is_some (if c then Some t else v.told j)) (id_eq-same j)
@@ -28,16 +25,7 @@ abbrev new_told : View → MsgId → MessageKind → Pid → Told
 new_told v j k p = view.first_told (v.told j) (record { kind = k; receiver = p; about = v.topic })
 
 put_elsewhere : (q : Which) (v : View) (c : ℕ) (j : MsgId) (k : MessageKind) (p : Pid) → (c == q.to.home) ≡ false → ThinFor q v (after v c j k p)
-put_elsewhere q v c j k p off = record {
-  queue = thins_same (v.queue q.to.home q.to) (v.queue q.to.home q.to) refl;
-  inbox = thins_same ((after v c j k p).inbox q.to.home) (v.inbox q.to.home) (boxed (v.acting == c));
-  away = λ x. pair_off v.pair v.acting c x q.to.home (view.routed_on v.acting c (v.pair v.acting c) j) off;
-  told = λ i e. told_put v j (new_told v j k p) i e;
-}
-  where
-    boxed : (d : Bool) → (if d then at_machine v.inbox c (v.inbox c ++ j ∷ []) else v.inbox) q.to.home ≡ v.inbox q.to.home
-    boxed true = box_off v.inbox c q.to.home (v.inbox c ++ j ∷ []) off
-    boxed false = refl
+put_elsewhere q v c j k p h1 = search (arith, thins_same, v.queue, q.to.home, q.to, v.inbox, v.acting, pair_off, v.pair, told_put, box_off)
 
 drop_put : (n : ℕ) (xs : List MsgId) (j : MsgId) → drop n xs ≡ [] → drop (suc n) (xs ++ j ∷ []) ≡ []
 drop_put zero [] j e = refl

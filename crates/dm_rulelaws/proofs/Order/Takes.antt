@@ -21,16 +21,10 @@ taken_is p n = let e : p.taken + 1 ≡ suc p.taken = omega arith in ap (λ k. dr
 
 -- on the way to another process's home
 taken_elsewhere : (q : Which) (v : View) (a c n : ℕ) (o : Option MsgId) → (c == q.to.home) ≡ false → ThinFor q v (view.taken_id (view.with_pair v a c (taken_pair (v.pair a c) n)) c o)
-taken_elsewhere q v a c n None off = thin_same q v (view.with_pair v a c (taken_pair (v.pair a c) n)) refl (box_same v q.to.home) (λ x. pair_off v.pair a c x q.to.home (taken_pair (v.pair a c) n) off) (λ i. refl)
-taken_elsewhere q v a c n (Some i) off = thin_same q v (view.taken_id (view.with_pair v a c (taken_pair (v.pair a c) n)) c (Some i)) refl
-    (thins_same ((at_machine v.inbox c (v.inbox c ++ i ∷ [])) q.to.home) (v.inbox q.to.home) (box_off v.inbox c q.to.home (v.inbox c ++ i ∷ []) off))
-    (λ x. pair_off v.pair a c x q.to.home (taken_pair (v.pair a c) n) off) (λ j. refl)
+taken_elsewhere q v a c n o h1 = search (arith, thin_same, v.pair, box_same, q.to.home, pair_off, thins_same, v.inbox, box_off)
 
 none_here : (q : Which) (s : OneKernel) (v : View) (a n : ℕ) (o : Option MsgId) → slice_get (v.pair a q.to.home).ids (v.pair a q.to.home).taken ≡ o → Ord q s v → Ord q s (view.taken_id (view.with_pair v a q.to.home (taken_pair (v.pair a q.to.home) n)) q.to.home o)
-none_here q s v a n None is h =
-    let m = q.to.home in
-    let p = v.pair a m in
-    ord_view q s v (view.with_pair v a m (taken_pair p n)) (thin_pair q v a m (taken_pair p n) (taken_is p n ∙ place_none p.ids p.taken is)) h
+none_here q s v a n None is h = search (arith, q.to.home, v.pair, ord_view, thin_pair, taken_is, place_none)
 none_here q s v a n (Some i) is h =
     let m = q.to.home in
     let p = v.pair a m in
@@ -84,11 +78,7 @@ pub queue_on : (f : ℕ → Pid → List MsgId) (a m : ℕ) (p r : Pid) (xs : Li
 queue_on f a m p r xs e same = let k : (a == m) ≡ true = grind (arith, nat_tests) in ap (λ (c : Bool). if c && pid_eq p r then xs else f m r) k ∙ ap (λ (c : Bool). if c then xs else f m r) same
 
 queue_off : (f : ℕ → Pid → List MsgId) (a m : ℕ) (p r : Pid) (xs : List MsgId) → pid_eq p r ≡ false → at_record f a p xs m r ≡ f m r
-queue_off f a m p r xs apart = ap (λ (c : Bool). if (a == m) && c then xs else f m r) apart ∙ never (a == m)
-  where
-    never : (c : Bool) → (if c && false then xs else f m r) ≡ f m r
-    never true = refl
-    never false = refl
+queue_off f a m p r xs h1 = search arith
 
 front_is : (i : MsgId) (is : List MsgId) → without_front i (i ∷ is) ≡ is
 front_is i is = ap (λ (c : Bool). if c then is else i ∷ is) (id_eq-same i)
@@ -115,15 +105,5 @@ ord_queued q s v i is p box home now h =
           let inbox : w.inbox m ≡ is = ap (λ k. at_machine v.inbox k (without_front i (v.inbox k)) m) at ∙ box_on v.inbox m (without_front i (v.inbox m)) ∙ ap (without_front i) front ∙ front_is i is in
           let queue : w.queue m q.to ≡ Q ++ i ∷ [] = queue_on v.queue v.acting m p q.to (v.queue v.acting p ++ i ∷ []) at same ∙ ap (λ k. v.queue k p ++ i ∷ []) at ∙ ap (λ r. v.queue m r ++ i ∷ []) is_p in
           let told : AllTold v (i ∷ is) = subst (AllTold v) front h.inbox_told in
-          record {
-            order = order_as (is_one s q) q.floor (awaiting q v) (awaiting q w)
-                (ap (λ xs. xs ++ (w.inbox m ++ U)) queue ∙ ap (λ xs. (Q ++ i ∷ []) ++ (xs ++ U)) inbox ∙ append-assoc Q (i ∷ []) (is ++ U) ∙ ap (λ xs. Q ++ (xs ++ U)) (sym front)) h.order;
-            floor = h.floor;
-            last_told = h.last_told;
-            queue_told = subst (AllTold v) (sym queue) (Each-both (λ (j : MsgId). is_told v j ≡ true) Q (i ∷ []) h.queue_told (now, tt));
-            inbox_told = subst (AllTold v) (sym inbox) told.1;
-            away_told = h.away_told;
-            sourced = h.sourced;
-            loop = h.loop;
-          }
+          search (arith, order_as, q.floor, w.inbox, append-assoc, h.order, h.floor, h.last_told, Each-both, h.queue_told, told.1, h.away_told, h.sourced, h.loop)
     ]

@@ -1,9 +1,10 @@
 -- What the servers send encloses few links, and a process that is made has as many link slots as the format gives.
-use Rattle.dm_rulelaws.proofs.Names.{◌≡◌, ℕ, ◌+◌, ◌*◌, ◌-◌, ◌≤◌, ◌==◌, ◌&&◌, Bool, true, false, List, [], ◌∷◌, ◌++◌, length, map, replicate, subst, nat_lt, arith, ⊤, if◌then◌else◌, Option, None, Some, length-append, length-map}
-use Rattle.dm_rulelaws.proofs.Names.{length-replicate, Pid, PlainLink, PlainMessage, PlainWhat, BootImage, Format, slots_of, Pending, Manager, OneKernel, with_sent, begun, slots_with}
+use Rattle.dm_rulelaws.proofs.Names.{◌≡◌, ℕ, ◌-◌, ◌≤◌, List, [], ◌∷◌, length, map, replicate, subst, arith, ⊤, Option, None, Some, length-append, length-map}
+use Rattle.dm_rulelaws.proofs.Names.{length-replicate, PlainLink, PlainMessage, PlainWhat, BootImage, Format, slots_of, Manager, OneKernel, with_sent, begun, slots_with}
 use Rattle.dm_onekernel.specs.Switchboard as board
 use Rattle.dm_onekernel.specs.Manager as manage
 use Rattle.dm_rulelaws.proofs.Tables.{FewLinks, Tables, put_tables}
+use Rattle.dm_rulelaws.proofs.Takes.{by_manager}
 
 -- what a server sends
 abbrev pub SendsFew : Option PlainMessage → Type 0
@@ -28,61 +29,17 @@ board_few b m (PlainWhat.User code channel body links) k e = let f : board.takes
 board_few b m _ k e = cc
 
 -- the manager
-bad_few : (g : Manager) (links : List PlainLink) → SendsFew (manage.bad_request g links).message
-bad_few g [] = tt
-bad_few g (l ∷ ls) = let none : 0 ≤ 4 = omega arith in none
-
-few_if : (b : Bool) (x y : manage.ManagerTook) → SendsFew x.message → SendsFew y.message → SendsFew (if b then x else y).message
-few_if true x y h k = h
-few_if false x y h k = k
-
-wants_few : (g : Manager) (machines images machine image : ℕ) (links : List PlainLink) → length links ≤ 4 → SendsFew (manage.wants_child g machines images machine image links).message
-wants_few g machines images machine image [] few = tt
-wants_few g machines images machine image (l ∷ ls) few =
-    few_if (nat_lt machine machines && nat_lt image images) (manage.asks_for g machine image l ls) (manage.bad_request g (l ∷ ls)) (let less : length ls ≤ 4 = omega (arith, few) in less) (bad_few g (l ∷ ls))
-
-requests_few : (g : Manager) (machines images : ℕ) (body : List ℕ) (links : List PlainLink) → length links ≤ 4 → SendsFew (manage.requests_child g machines images body links).message
-requests_few g machines images (a ∷ b ∷ c ∷ d ∷ []) links few =
-    few_if (a == 1) (manage.wants_child g machines images b (256 * c + d) links) (manage.bad_request g links) (wants_few g machines images b (256 * c + d) links few) (bad_few g links)
-requests_few g machines images _ links few = bad_few g links
-
-control_by : (g : Manager) (child : Pid) (b c d : Bool) (links : List PlainLink) → SendsFew (manage.tells_child g child (if b then Some PlainWhat.Stop else if c then Some PlainWhat.Resume else if d then Some PlainWhat.Kill else None) links).message
-control_by g child true c d links = tt
-control_by g child false true d links = tt
-control_by g child false false true links = tt
-control_by g child false false false links = bad_few g links
-
-controls_few : (g : Manager) (o : Option Pid) (body : List ℕ) (links : List PlainLink) → SendsFew (manage.controls g o body links).message
-controls_few g (Some child) (a ∷ []) links = control_by g child (a == 2) (a == 3) (a == 4) links
-controls_few g None (a ∷ []) links = bad_few g links
-controls_few g _ _ links = bad_few g links
-
-user_few : (g : Manager) (machines images code : ℕ) (body : List ℕ) (links : List PlainLink) → length links ≤ 4 → SendsFew (manage.takes_user g machines images code body links).message
-user_few g machines images code body links few =
-    few_if (code == 0) (manage.requests_child g machines images body links) (manage.controls g (manage.child_numbered g.children code) body links) (requests_few g machines images body links few)
-    (controls_few g (manage.child_numbered g.children code) body links)
-
-created_few : (g : Manager) (n : ℕ) (child : Pid) (o : Option Pending) (k : manage.ManagerTook) → manage.takes_created g n child o ≡ Some k → SendsFew k.message
-created_few g n child None k e = cc
-created_few g n child (Some r) k e =
-    let t = manage.answers_byte (record g { children = g.children ++ child ∷ []; pending = manage.without_pending n g.pending }) r.answer 0 (manage.control_link (length g.children + 1) ∷ []) in
-    let f : t ≡ k = cc in
-    subst (λ (x : manage.ManagerTook). SendsFew x.message) f (let one : 1 ≤ 4 = omega arith in one)
-
-no_room_few : (g : Manager) (n : ℕ) (o : Option Pending) (k : manage.ManagerTook) → manage.takes_no_room g n o ≡ Some k → SendsFew k.message
-no_room_few g n None k e = cc
-no_room_few g n (Some r) k e =
-    let t = manage.answers_byte (record g { pending = manage.without_pending n g.pending }) r.answer 1 [] in
-    let f : t ≡ k = cc in
-    subst (λ (x : manage.ManagerTook). SendsFew x.message) f (let none : 0 ≤ 4 = omega arith in none)
-
 pub took_few : (g : Manager) (machines images : ℕ) (m : PlainMessage) (w : PlainWhat) (k : manage.ManagerTook) → manage.manager_takes g machines images m w ≡ Some k → FewLinks w → SendsFew k.message
-took_few g machines images m (PlainWhat.User code channel body links) k e few =
-    let f : manage.takes_user g machines images code body links ≡ k = cc in
-    subst (λ (x : manage.ManagerTook). SendsFew x.message) f (user_few g machines images code body links few)
-took_few g machines images m (PlainWhat.Created child) k e few = created_few g m.id.n child (manage.pending_numbered m.id.n g.pending) k e
-took_few g machines images m PlainWhat.NoRoom k e few = no_room_few g m.id.n (manage.pending_numbered m.id.n g.pending) k e
-took_few g machines images m _ k e few = cc
+took_few g machines images m w k e few =
+    let none : 0 ≤ 4 = omega arith in
+    by_manager (λ x. SendsFew x.message) g machines images m w k (record {
+      ignores = tt;
+      refuses = λ l ls u. none;
+      asks = λ machine image l ls u within. (let less : length (l ∷ ls) ≤ 4 = subst FewLinks u.is few in omega (arith, less));
+      tells = λ code child v is control. control FewLinks tt tt tt;
+      created = λ child r is there. omega arith;
+      no_room = λ r is there. none;
+    }) e
 
 -- a process that is made
 pub slots_with_length : {L : Type 0} (n : ℕ) (links : List L) → length links ≤ n → length (slots_with n links) ≡ n

@@ -6,7 +6,7 @@ use Rattle.dm_onekernel.specs.Pieces as pieces
 use Rattle.dm_onekernel.specs.Receiving as receiving
 use Rattle.dm_onekernel.specs.Service as service
 use Rattle.dm_onekernel.specs.Step as kernel
-use Rattle.dm_rulelaws.proofs.Fits.Receives.{running_is}
+use Rattle.dm_rule.proofs.Changes.{running_is}
 use Rattle.dm_rulelaws.proofs.Tables.{FewLinks, Tables, SameSlots, out_tables, put_tables, set_tables, end_tables, goes_tables, changed_tables}
 use Rattle.dm_rulelaws.proofs.Tables.Calls.{CallTables, CompletedTables, call_tables, with_tables, requests_few}
 use Rattle.dm_rulelaws.proofs.Tables.Servers.{put_maybe, board_few, took_few, child_length}
