@@ -1,8 +1,7 @@
 -- The format, the images and the number of machines of the kernel without machines never change, and the manager's pending
-use Rattle.dm_rulelaws.proofs.Names.{take, drop, by_step, ◌≡◌, ℕ, true, List, [], ◌∷◌, length, refl, ◌∙◌, subst, Option, None, Some, Pid, MsgId, PlainMessage, PlainWhat, Label}
-use Rattle.dm_rulelaws.proofs.Names.{Why, Ended, Life, OneKernel, Manager, replay, Step, Boot, ascends, Spelled, Point, labels, group_of, ascends_more, ascends_last, ascends_without, PlainProcess, answer_to}
-use Rattle.dm_rulelaws.proofs.Names.{without_message, bind-is}
 -- requests stay in order.
+use Rattle.dm_rulelaws.proofs.Names.{take, drop, by_step, ◌≡◌, ℕ, true, List, [], ◌∷◌, length, refl, ◌∙◌, subst, Option, None, Some, Pid, MsgId, PlainMessage, PlainWhat, Label, Why, Ended, Life, OneKernel, Manager, replay, Step, Boot}
+use Rattle.dm_rulelaws.proofs.Names.{ascends, Spelled, Point, labels, group_of, ascends_more, ascends_last, ascends_without, PlainProcess, answer_to, without_message, bind-is}
 use Rattle.dm_onekernel.specs.Kernel as kernels
 use Rattle.dm_rulelaws.proofs.RunLabels.{group_replay}
 use Rattle.dm_onekernel.specs.Manager as manage

@@ -1,8 +1,8 @@
 -- What a turn says of a kernel's own message has what its lines need; so each group keeps what each line keeps.
-use Rattle.dm_rulelaws.proofs.Names.{◌≡◌, ℕ, ◌==◌, Bool, true, false, not, List, [], ◌∷◌, ◌++◌, length, refl, ap, ◌∙◌, sym, subst, Option, None, Some, arith, false≢true, Pid, MsgId, MessageKind, Stage, Boot}
-use Rattle.dm_rulelaws.proofs.Names.{manager, Life, Alive, OneKernel, Step, Line, View, Told, Of, Known, Here, Frozen, Incoming, after_head, Point, moved, Part, Says, Spelled, is_between, is_apart, is_away, is_here}
-use Rattle.dm_rulelaws.proofs.Names.{kind_comes, Phase, Moves, knows, receiver_in, to_kernel, sends_on, updates, migrates, group_of, at_record_at, IsNetLine, IsNet, front_way, Sane, InPhases, calm_phases, due, head_calm, told_some, Rooted}
-use Rattle.dm_rulelaws.proofs.Names.{Phased, rooted, moves_away, State, is_server, has_nothing_held, agrees, KnownStands, right_true, by_migrates, by_hears, left_parts, by_net, by_outcome}
+use Rattle.dm_rulelaws.proofs.Names.{◌≡◌, ℕ, ◌==◌, Bool, true, false, not, List, [], ◌∷◌, ◌++◌, length, refl, ap, ◌∙◌, sym, subst, Option, None, Some, arith, false≢true, Pid, MsgId, MessageKind, Stage, Boot, manager, Life, Alive, OneKernel}
+use Rattle.dm_rulelaws.proofs.Names.{Step, Line, View, Told, Of, Known, Here, Frozen, Incoming, after_head, Point, moved, Part, Says, Spelled, is_between, is_apart, is_away, is_here, kind_comes, Phase, Moves, knows, receiver_in, to_kernel}
+use Rattle.dm_rulelaws.proofs.Names.{sends_on, updates, migrates, group_of, at_record_at, IsNetLine, IsNet, front_way, Sane, InPhases, calm_phases, due, head_calm, told_some, Rooted, Phased, rooted, moves_away, State, is_server}
+use Rattle.dm_rulelaws.proofs.Names.{has_nothing_held, agrees, KnownStands, right_true, by_migrates, by_hears, left_parts, by_net, by_outcome}
 use Rattle.dm_rule.specs.Rule as rule
 use Rattle.dm_rulelaws.proofs.Based.Needs.{Living, Leaving, Needs, Rides, Keeps, Walks, WalksOf, AllLoose, loose_walks, first_walks, said_by, again_rides, begun, begun_sane, outcome_keeps}
 use Rattle.dm_rulelaws.proofs.Based.Rows.{turned, resting, living, round_walks, handles_walks, forwards_walks}
@@ -21,7 +21,7 @@ leaves_walks pt id p ids to known server = (
   λ next s.
       let v = pt.view in
       let k = said_by pt next (Line.SentOn p (length ids)) s in
-      let left : Leaving (moved pt (Line.SentOn p (length ids)) k.kernel).view p = (search (arith, at_record_at, v.queue, v.acting, v.held)) in
+      let left : Leaving (moved pt (Line.SentOn p (length ids)) k.kernel).view p = (search (arith, at_record_at)) in
       again_walks p to id ids next (subst (λ (q : Point). Leaving q.view p) k.is left),
 )
 

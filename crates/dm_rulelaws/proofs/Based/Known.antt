@@ -1,18 +1,16 @@
 -- What machines know of processes agrees with the kernel without machines: each group keeps it.
 use Rattle.dm_rulelaws.proofs.Names.{◌≡◌, ◌≢◌, ℕ, ◌+◌, ◌==◌, ◌&&◌, Bool, true, false, List, [], ◌∷◌, ◌++◌, is_some, refl, ap, ◌∙◌, sym, subst, inl, inr, arith, if◌then◌else◌, cases_Bool, false≢true, nat_tests, Option, None, Some, Pid}
-use Rattle.dm_rulelaws.proofs.Names.{pid_eq, MsgId, Boot, Label, Line, Stage, PlainProcess, Life, Alive, OneKernel, Step, pid_eq-is, bind-is, completing, Spelled, Point, group_of, at_machine, at_record, without, moved_back, View}
-use Rattle.dm_rulelaws.proofs.Names.{Told, Known, Unknown, Here, Frozen, Incoming, Forward, handled, handled_first, receiver_of, target_of, front_told, front_of, gone_to, served_told, rejoins, view_after, is_away, is_here, at_machine_at}
-use Rattle.dm_rulelaws.proofs.Names.{Phased, is_kill, Sane, is_server, KnownStands, agrees, server_at, rings, turns_here}
+use Rattle.dm_rulelaws.proofs.Names.{pid_eq, MsgId, Boot, Label, Line, Stage, PlainProcess, Life, Alive, OneKernel, Step, pid_eq-is, bind-is, completing, Spelled, Point, group_of, at_machine, at_record, without, moved_back, View, Told}
+use Rattle.dm_rulelaws.proofs.Names.{Known, Unknown, Here, Frozen, Incoming, Forward, handled, handled_first, receiver_of, target_of, front_told, front_of, gone_to, served_told, rejoins, view_after, is_away, is_here, at_machine_at, Phased}
+use Rattle.dm_rulelaws.proofs.Names.{is_kill, Sane, is_server, KnownStands, agrees, server_at, rings, turns_here}
 use Rattle.dm_onekernel.specs.Step as kernel
 use Rattle.dm_rule.specs.View.{Ended}
 use Rattle.dm_rule.specs.View as view
 use Rattle.dm_rulelaws.proofs.Based.Groups.{group_keeps}
-use Rattle.dm_rulelaws.proofs.Based.Lives.{Alike, SetLife, life_sort, some_alike, step_ends, step_serves, step_creates}
-use Rattle.dm_rulelaws.proofs.Based.Loud.{Loud, keeps_by}
+use Rattle.dm_rulelaws.proofs.Based.Loud.{Alike, SetLife, life_sort, some_alike, step_ends, step_serves, step_creates, Loud, keeps_by}
 use Rattle.dm_rulelaws.proofs.Based.Needs.{Resting, Serves}
-use Rattle.dm_rulelaws.proofs.Based.Rings.{rings_without, rings_others, back_self, back_others, last_self, last_others, ring_set}
+use Rattle.dm_rulelaws.proofs.Based.Sets.{rings_without, rings_others, back_self, back_others, last_self, last_others, ring_set, set_all, killed_or}
 use Rattle.dm_rulelaws.proofs.Based.Rows.{living}
-use Rattle.dm_rulelaws.proofs.Based.Sets.{set_all, killed_or}
 
 -- what a machine knows agrees by whether a process was made, lives or has ended
 agrees_by : Known → Option Bool → Bool

@@ -1,7 +1,7 @@
 -- What fits goes on fitting as long as processes are only made, end, and keep their memory.
-use Rattle.dm_rulelaws.proofs.Names.{◌≡◌, ℕ, ◌+◌, ◌≤◌, ◌&&◌, ◌||◌, Bool, true, false, List, [], ◌∷◌, length, refl, ap, ◌∙◌, sym, subst, inl, inr, arith, if◌then◌else◌, Option, None, Some, cases_Bool, Pid, pid_eq}
-use Rattle.dm_rulelaws.proofs.Names.{PlainLink, MsgId, PlainMessage, PlainWhat, PlainProcess, PlainStatus, Life, Alive, Ended, NamedLink, Pending, OneKernel, with_process, with_sent, without_message, pid_eq-is, pid_eq-same, stayed}
-use Rattle.dm_rulelaws.proofs.Names.{came, Each, Lives, has_bytes, is_server, takes_users, gives_no_right, LinkFits, SlotFits, move_fits, ProcessFits, awaits, IsPending, WhatFits, KernelFits}
+use Rattle.dm_rulelaws.proofs.Names.{◌≡◌, ℕ, ◌+◌, ◌≤◌, ◌&&◌, ◌||◌, Bool, true, false, List, [], ◌∷◌, length, refl, ap, ◌∙◌, sym, subst, inl, inr, arith, if◌then◌else◌, Option, None, Some, cases_Bool, Pid, pid_eq, PlainLink, MsgId}
+use Rattle.dm_rulelaws.proofs.Names.{PlainMessage, PlainWhat, PlainProcess, PlainStatus, Life, Alive, Ended, NamedLink, Pending, OneKernel, with_process, with_sent, without_message, pid_eq-is, pid_eq-same, stayed, came, Each, Lives}
+use Rattle.dm_rulelaws.proofs.Names.{has_bytes, is_server, takes_users, gives_no_right, LinkFits, SlotFits, move_fits, ProcessFits, awaits, IsPending, WhatFits, KernelFits}
 pub use Rattle.dm_rule.proofs.Homes.Servers.{and-both as both}
 pub use Rattle.dm_line.proofs.Below.{both_true as two}
 
@@ -73,7 +73,7 @@ pub record Carries (s t : OneKernel) : Type 0 where
   pub children : Each (λ (p : Pid). has_bytes 0 (s.processes p) ≡ true) t.manager.children
 
 pub carries : (s t : OneKernel) → Carries s t → KernelFits s → KernelFits t
-carries s t c h = search (arith, process_on, s.processes, t.processes, c.rises, c.alive, what_on, c.waits, c.pending, c.machines, c.images, h.messages, c.bag, Each-on, link_on)
+carries s t c h = search (arith, process_on, c.rises, c.alive, what_on, c.waits, c.pending, c.machines, c.images, h.messages, c.bag, Each-on, link_on)
 
 -- a message goes
 pub out_fits : (s : OneKernel) (id : MsgId) → KernelFits s → KernelFits (without_message s id)

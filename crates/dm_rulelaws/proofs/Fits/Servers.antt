@@ -1,14 +1,13 @@
 -- What the servers do keeps that all fits.
-use Rattle.dm_rulelaws.proofs.Names.{◌≡◌, ℕ, zero, suc, ◌+◌, ◌==◌, ◌&&◌, Bool, true, false, List, [], ◌∷◌, ◌++◌, length, refl, ap, ◌∙◌, sym, subst, is_some, nat_lt, arith, ⊤, if◌then◌else◌, slice_get, Option, None, Some}
-use Rattle.dm_rulelaws.proofs.Names.{nat_tests, Pid, PlainLink, MsgId, PlainMessage, PlainWhat, manager, NamedLink, Pending, Manager, OneKernel, with_sent, without_message}
-use Rattle.dm_rulelaws.proofs.Names.{id_eq-same, stayed, out_at, Sound, Each, Lives, has_bytes, LinkFits, awaits, WhatFits, KernelFits}
+use Rattle.dm_rulelaws.proofs.Names.{◌≡◌, ℕ, zero, suc, ◌+◌, ◌==◌, ◌&&◌, Bool, true, false, List, [], ◌∷◌, ◌++◌, length, refl, ap, ◌∙◌, sym, subst, is_some, nat_lt, arith, ⊤, if◌then◌else◌, slice_get, Option, None, Some, nat_tests, Pid}
+use Rattle.dm_rulelaws.proofs.Names.{PlainLink, MsgId, PlainMessage, PlainWhat, manager, NamedLink, Pending, Manager, OneKernel, with_sent, without_message, id_eq-same, stayed, out_at, Sound, Each, Lives, has_bytes, LinkFits, awaits}
+use Rattle.dm_rulelaws.proofs.Names.{WhatFits, KernelFits, id_of, takes_users, IsPending}
 use Rattle.dm_onekernel.specs.Switchboard as board
 use Rattle.dm_onekernel.specs.Manager as manage
 use Rattle.dm_onekernel.specs.Service as service
 use Rattle.dm_rulelaws.proofs.Fits.Rises.{carries, what_on, out_fits, put_fits}
 use Rattle.dm_rulelaws.proofs.Fits.Calls.{link_users}
 use Rattle.dm_rulelaws.proofs.Takes.{Letter, by_manager}
-use Rattle.dm_rulelaws.proofs.Names.{id_of, takes_users, IsPending}
 
 pub Each-last : {X : Type 0} (P : X → Type 0) (xs : List X) (y : X) → Each P xs → P y → Each P (xs ++ y ∷ [])
 Each-last P [] y h k = (k, tt)

@@ -1,14 +1,12 @@
 -- What kernels do with messages keeps that all fits.
 use Rattle.dm_rulelaws.proofs.Names.{◌≡◌, ℕ, ◌+◌, ◌-◌, ◌≤◌, ◌==◌, ◌&&◌, Bool, true, false, List, length, take, drop, refl, ap, ◌∙◌, sym, subst, nat_le, arith, if◌then◌else◌, Option, None, Some, nat_tests, length-take, length-drop, Pid}
-use Rattle.dm_rulelaws.proofs.Names.{MsgId, id_of, Reply, PlainMessage, PlainWhat, Direction, PlainProcess, PlainStatus, Moving, Life, Alive, OneKernel, with_process, with_sent, answer_id, answer_to}
-use Rattle.dm_rulelaws.proofs.Names.{without_message, is_of_memory, is_piece, pending_of, One, stayed, Sound, Each, Lives, has_bytes, SlotFits, move_fits, ProcessFits, piece_fits}
-use Rattle.dm_rulelaws.proofs.Names.{status_awaits, awaits, WhatFits, KernelFits}
+use Rattle.dm_rulelaws.proofs.Names.{MsgId, id_of, Reply, PlainMessage, PlainWhat, Direction, PlainProcess, PlainStatus, Moving, Life, Alive, OneKernel, with_process, with_sent, answer_id, answer_to, without_message, is_of_memory, is_piece}
+use Rattle.dm_rulelaws.proofs.Names.{pending_of, One, stayed, Sound, Each, Lives, has_bytes, SlotFits, move_fits, ProcessFits, piece_fits, status_awaits, awaits, WhatFits, KernelFits}
 use Rattle.dm_onekernel.specs.Pieces as pieces
 use Rattle.dm_onekernel.specs.Service as service
 use Rattle.dm_rulelaws.proofs.Fits.Rises.{both, two, move_on, Becomes, set_if, set_fits, set_at, set_rises, out_fits, put_fits}
 use Rattle.dm_rulelaws.proofs.Fits.Calls.{SentFits, requests_fit}
-use Rattle.dm_rulelaws.proofs.Fits.Receives.{GoesOn, written_longer}
-use Rattle.dm_rulelaws.proofs.Fits.Steps.{becomes, sent_fits}
+use Rattle.dm_rulelaws.proofs.Fits.Steps.{GoesOn, written_longer, becomes, sent_fits}
 
 -- a process that goes on waiting for the same
 pub same_becomes : (s : OneKernel) (p : Pid) (x y : PlainProcess) → s.processes p ≡ Some (Alive x) → y.status ≡ x.status → GoesOn s.processes x y → Becomes s p (Alive y)

@@ -1,22 +1,18 @@
 -- All fits where a run begins, and wherever it comes.
 use Rattle.dm_rulelaws.proofs.Names.{◌≡◌, ℕ, zero, suc, ◌+◌, ◌*◌, ◌-◌, ◌≤◌, ◌==◌, ◌&&◌, ◌||◌, Bool, true, false, not, List, [], ◌∷◌, ◌++◌, length, map, replicate, refl, ap, ◌∙◌, sym, subst, is_some, nat_le, nat_lt, inl, inr, arith}
 use Rattle.dm_rulelaws.proofs.Names.{if◌then◌else◌, slice_get, option_map, Option, None, Some, cases_Bool, false≢true, nat_tests, length-append, length-replicate, Link, Pid, pid_eq, plain_link, MsgId, BootImage, BootProcess, Boot, Label}
-use Rattle.dm_rulelaws.proofs.Names.{IsValid, switchboard, manager, starting_at, processes_are_valid, process_is_valid, links_are_valid, link_is_valid, leads_to_process, leads_to_server, controls_child, process_named}
-use Rattle.dm_rulelaws.proofs.Names.{memory_size, area_is_empty, blocks_of_image, PlainProcess, Life, Alive, OneKernel, start, begun, memory_of, first_life, life_at, pid_eq-same, Sound, Each, has_bytes}
-use Rattle.dm_rulelaws.proofs.Names.{gives_no_right, LinkFits, ProcessFits, KernelFits}
+use Rattle.dm_rulelaws.proofs.Names.{IsValid, switchboard, manager, starting_at, processes_are_valid, process_is_valid, links_are_valid, link_is_valid, leads_to_process, leads_to_server, controls_child, process_named, memory_size}
+use Rattle.dm_rulelaws.proofs.Names.{area_is_empty, blocks_of_image, PlainProcess, Life, Alive, OneKernel, start, begun, memory_of, first_life, life_at, pid_eq-same, Sound, Each, has_bytes, gives_no_right, LinkFits, ProcessFits, KernelFits}
+use Rattle.dm_rulelaws.proofs.Names.{by_step, Changes, PlainMessage, PlainWhat, Why, Called, with_sent, without_message, answer_to, pid_of, first_number, pid_eq-is, WhatFits}
 use Rattle.dm_onekernel.specs.Step as kernel
 use Rattle.dm_rulelaws.proofs.Fits.Rises.{both, Each-on, out_fits, put_fits, end_fits}
 use Rattle.dm_rulelaws.proofs.Fits.Creates.{begun_fits, created_fits, no_space_fits}
 use Rattle.dm_rulelaws.proofs.Fits.Serves.{changed_fits, goes_same, gone_fits, read_fits, write_fits, landed_fits}
 use Rattle.dm_rulelaws.proofs.Fits.Servers.{board_row, manager_row}
-use Rattle.dm_rulelaws.proofs.Fits.Steps.{ran_fits, goes_fits, call_goes, send_goes}
-use Rattle.dm_rulelaws.proofs.Fits.Receives.{next_is, completing_is}
-use Rattle.dm_rule.proofs.Changes.{by_step, Changes, Next}
+use Rattle.dm_rulelaws.proofs.Fits.Steps.{ran_fits, goes_fits, call_goes, send_goes, next_is, completing_is}
+use Rattle.dm_rule.proofs.Changes.{Next}
 use Rattle.dm_onekernel.specs.Receiving as receiving
 use Rattle.dm_onekernel.specs.Pieces as pieces
-use Rattle.dm_laws.proofs.Names.{MsgId, PlainMessage, PlainWhat, Why, Called, with_sent, without_message, answer_to, pid_of, first_number}
-use Rattle.dm_rule.proofs.Names.{pid_eq-is}
-use Rattle.dm_rulelaws.specs.Fits.{WhatFits}
 
 -- each step keeps that all fits
 abbrev is_ran : Label → Bool

@@ -1,14 +1,13 @@
 -- What a turn needs where a message goes on, and where those of a process that leaves do.
 use Rattle.dm_rulelaws.proofs.Names.{◌≡◌, ◌≢◌, ℕ, ◌<◌, ◌≤◌, Bool, true, false, List, [], ◌∷◌, ◌++◌, length, refl, ap, ◌∙◌, sym, subst, inl, inr, arith, if◌then◌else◌, Option, None, Some, cases_Bool, false≢true, Pid, Place, MsgId, id_eq}
-use Rattle.dm_rulelaws.proofs.Names.{MessageKind, Line, Stage, id_eq-is, id_eq-same, View, Told, Known, Unknown, Frozen, Forward, is_kernels, own_id, handled, forwarded_for, forward_about, receiver_of, view_after, Addresses}
-use Rattle.dm_rulelaws.proofs.Names.{Receiver, Sender, given, place_known, all_follow, is_told_back, forwards, Point, moved, Part, Says, Again, Owns, to_kernel, forwards_on, sends_on, leaves, Spot, times, standing}
-use Rattle.dm_rulelaws.proofs.Names.{StandsAsBag, letters, not_true, both_lists, without_all, without_at, first_off, sent_way, one_of, front_gone, forwarded_known, State, Sane, Named, forwarded_back, is_own, is_fixed}
+use Rattle.dm_rulelaws.proofs.Names.{MessageKind, Line, Stage, id_eq-is, id_eq-same, View, Told, Known, Unknown, Frozen, Forward, is_kernels, own_id, handled, forwarded_for, forward_about, receiver_of, view_after, Addresses, Receiver}
+use Rattle.dm_rulelaws.proofs.Names.{Sender, given, place_known, all_follow, is_told_back, forwards, Point, moved, Part, Says, Again, Owns, to_kernel, forwards_on, sends_on, leaves, Spot, times, standing, StandsAsBag, letters, not_true}
+use Rattle.dm_rulelaws.proofs.Names.{both_lists, without_all, without_at, first_off, sent_way, one_of, front_gone, forwarded_known, State, Sane, Named, forwarded_back, is_own, is_fixed}
 use Rattle.dm_rule.proofs.Trails.Places.{Owns}
 use Rattle.dm_rulelaws.proofs.Found.Core.{AboutIs, KnowsAt, Knows, IsReal, KnownIs, Core, Grows, knows_grow, real_grows}
-use Rattle.dm_rulelaws.proofs.Found.Given.{NeedsForward, NeedsSent}
+use Rattle.dm_rulelaws.proofs.Found.Puts.{NeedsForward, NeedsSent}
 use Rattle.dm_rulelaws.proofs.Found.Parts.{AllNeed, NeedOf, NeedsOwn, Same, again_same, loose_need, own_outside, own_fresh}
-use Rattle.dm_rulelaws.proofs.Found.Rows.{said_next}
-use Rattle.dm_rulelaws.proofs.Found.Hears.{to_one}
+use Rattle.dm_rulelaws.proofs.Found.Rows.{said_next, to_one}
 
 -- whom a message of which something was told is for
 pub named_for : (pt : Point) (id : MsgId) (u : Told) (q : Pid) → Sane pt → pt.view.told id ≡ Some u → Named pt.kernel pt.view (Receiver id) q → q ≡ u.receiver

@@ -1,21 +1,20 @@
 -- Each group keeps where addresses lead, what machines know, and where messages stand.
-use Rattle.dm_rulelaws.proofs.Names.{◌≡◌, ℕ, ◌<◌, ◌≤◌, ◌==◌, Bool, true, false, is_some, List, [], ◌∷◌, refl, ap, ◌∙◌, sym, subst, inl, inr, arith, if◌then◌else◌, Option, None, Some, Pid, MsgId, plain_kind}
-use Rattle.dm_rulelaws.proofs.Names.{PlainMessage, MessageKind, Boot, manager, Step, id_eq-same, alive-is, Line, View, Told, About, Target, Of, Known, Unknown, Here, Frozen, Incoming, Forward, is_kernels, own_id, receiver_of, target_in}
-use Rattle.dm_rulelaws.proofs.Names.{target_of, front_told, front_of, Child, Receiver, Sender, child_number, names, sender_of, IsStep, forwards_on, migrates, Part, Says, Owns, Spelled, Moves}
-use Rattle.dm_rulelaws.proofs.Names.{is_between, is_restart, is_early, knows, receiver_in, is_of_source, Point, moved, group_of, Inbox, Queue, Held, times, standing, IsNet, IsNetLine, group_is, turn_off, letters, eq_is, parts, both_lists}
-use Rattle.dm_rulelaws.proofs.Names.{both_times, under_way, front_kernels, Phased, due, head_calm, InPhases, calm_phases, rooted, State, Sane, sane_line, outcome_sayable, Comes, Named, Links, child_is, source_holds, destination_expects}
-use Rattle.dm_rulelaws.proofs.Names.{is_fixed, eq_self, about_same, front_one, least_of, by_migrates, by_net, by_outcome}
+use Rattle.dm_rulelaws.proofs.Names.{◌≡◌, ℕ, ◌<◌, ◌≤◌, ◌==◌, Bool, true, false, is_some, List, [], ◌∷◌, refl, ap, ◌∙◌, sym, subst, inl, inr, arith, if◌then◌else◌, Option, None, Some, Pid, MsgId, plain_kind, PlainMessage, MessageKind, Boot}
+use Rattle.dm_rulelaws.proofs.Names.{manager, Step, id_eq-same, alive-is, Line, View, Told, About, Target, Of, Known, Unknown, Here, Frozen, Incoming, Forward, is_kernels, own_id, receiver_of, target_in, target_of, front_told, front_of}
+use Rattle.dm_rulelaws.proofs.Names.{Child, Receiver, Sender, child_number, names, sender_of, IsStep, forwards_on, migrates, Part, Says, Owns, Spelled, Moves, is_between, is_restart, is_early, knows, receiver_in, is_of_source, Point, moved}
+use Rattle.dm_rulelaws.proofs.Names.{group_of, Inbox, Queue, Held, times, standing, IsNet, IsNetLine, group_is, turn_off, letters, eq_is, parts, both_lists, both_times, under_way, front_kernels, Phased, due, head_calm, InPhases}
+use Rattle.dm_rulelaws.proofs.Names.{calm_phases, rooted, State, Sane, sane_line, outcome_sayable, Comes, Named, Links, child_is, source_holds, destination_expects, is_fixed, eq_self, about_same, front_one, least_of, by_migrates, by_net}
+use Rattle.dm_rulelaws.proofs.Names.{by_outcome}
 use Rattle.dm_rule.specs.Phases as phases
 use Rattle.dm_rule.specs.Rule as rule
 use Rattle.dm_rule.proofs.Groups.{begun}
 use Rattle.dm_rule.proofs.Trails.Places.{Owns}
 use Rattle.dm_rulelaws.proofs.Found.Core.{IsReal, AboutIs, KnownIs, Core, known_within}
 use Rattle.dm_rulelaws.proofs.Found.Forward.{forwards_need, moves_back, leaves_need, named_for}
-use Rattle.dm_rulelaws.proofs.Found.Hears.{Heard, told_by_need}
+use Rattle.dm_rulelaws.proofs.Found.Rows.{Heard, told_by_need, round_need, handles_need}
 use Rattle.dm_rulelaws.proofs.Found.Lines.{NeedsLine, NeedsHead, line_core}
 use Rattle.dm_rulelaws.proofs.Found.Parts.{AllNeed, NeedOf, AllLoose, loose_need, first_need, parts_core}
 use Rattle.dm_rulelaws.proofs.Found.Real.{made_free, child_real, sends_real}
-use Rattle.dm_rulelaws.proofs.Found.Rows.{round_need, handles_need}
 
 -- behind the head of a group
 abbrev headed : Point → Step → Point

@@ -6,8 +6,7 @@ use Rattle.dm_rule.specs.View as view
 use Rattle.dm_rulelaws.proofs.Found.Lists.{Places, Brings, places_line}
 use Rattle.dm_rulelaws.proofs.Found.Core.{AboutIs, KnownIs, IsAt, Core, Grows, Learns, learns_nothing, learns, about_grows, known_grows, core_view}
 use Rattle.dm_rulelaws.proofs.Found.Labels.{NeedsLabel, label_core}
-use Rattle.dm_rulelaws.proofs.Found.Puts.{NeedsPut, put_core}
-use Rattle.dm_rulelaws.proofs.Found.Given.{NeedsForward, NeedsSent, forwarded_core, sent_core, updated_core}
+use Rattle.dm_rulelaws.proofs.Found.Puts.{NeedsPut, put_core, NeedsForward, NeedsSent, forwarded_core, sent_core, updated_core}
 
 abbrev at_view : Point → View → Point
 at_view pt w = record { kernel = pt.kernel; view = w; addresses = pt.addresses }

@@ -1,8 +1,7 @@
 -- The parts of a group keep where messages stand, where each has what it needs.
-use Rattle.dm_rulelaws.proofs.Names.{◌≡◌, ℕ, ◌<◌, ◌==◌, Bool, true, false, List, [], ◌∷◌, length, refl, ap, ◌∙◌, sym, subst, arith, ⊤, if◌then◌else◌, Option, None, Some, false≢true, Pid, pid_of, MsgId, MessageKind, plain_kind}
-use Rattle.dm_rulelaws.proofs.Names.{PlainMessage, PlainWhat, manager, id_eq-same, bind-is, Line, Load, Told, is_kernels, own_id, Holder, Receiver, Sender, given, goes_between, own_gives, Point}
-use Rattle.dm_rulelaws.proofs.Names.{moved, after, Part, Says, Routes, Again, Owns, Transmits, Spelled, lines_of, puts, goes_out, packet_line, spelled, not_kernels, not_first, Sane, AllSayable, part_sane}
-use Rattle.dm_rulelaws.proofs.Names.{is_own, by_parts}
+use Rattle.dm_rulelaws.proofs.Names.{◌≡◌, ℕ, ◌<◌, ◌==◌, Bool, true, false, List, [], ◌∷◌, length, refl, ap, ◌∙◌, sym, subst, arith, ⊤, if◌then◌else◌, Option, None, Some, false≢true, Pid, pid_of, MsgId, MessageKind, plain_kind, PlainMessage}
+use Rattle.dm_rulelaws.proofs.Names.{PlainWhat, manager, id_eq-same, bind-is, Line, Load, Told, is_kernels, own_id, Holder, Receiver, Sender, given, goes_between, own_gives, Point, moved, after, Part, Says, Routes, Again, Owns, Transmits}
+use Rattle.dm_rulelaws.proofs.Names.{Spelled, lines_of, puts, goes_out, packet_line, spelled, not_kernels, not_first, Sane, AllSayable, part_sane, is_own, by_parts}
 use Rattle.dm_rulelaws.proofs.Found.Core.{Knows, IsReal, Core}
 use Rattle.dm_rulelaws.proofs.Found.Puts.{NeedsPut, put_core}
 use Rattle.dm_rulelaws.proofs.Found.Lines.{NeedsLine, line_core, packet_core}

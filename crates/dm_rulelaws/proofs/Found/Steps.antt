@@ -1,6 +1,5 @@
 -- What a step of the kernel without machines leaves: how many machines there are, and who sends.
-use Rattle.dm_rulelaws.proofs.Names.{◌≡◌, ◌⊎◌, ℕ, ◌<◌, true, ◌∙◌, sym, subst, inl, inr, arith, is_some, ⊤, Some, nat_tests, Pid, MsgId, PlainMessage, Label}
-use Rattle.dm_rulelaws.proofs.Names.{OneKernel, is_fixed, by_step}
+use Rattle.dm_rulelaws.proofs.Names.{◌≡◌, ◌⊎◌, ℕ, ◌<◌, true, ◌∙◌, sym, subst, inl, inr, arith, is_some, ⊤, Some, nat_tests, Pid, MsgId, PlainMessage, Label, OneKernel, is_fixed, by_step}
 use Rattle.dm_onekernel.specs.Service as service
 use Rattle.dm_onekernel.specs.Step as kernel
 use Rattle.dm_rulelaws.proofs.Own.Senders.{Origin, brings}

@@ -5,8 +5,7 @@ use Rattle.dm_rulelaws.proofs.Names.{is_kernels, IsStep, arrives_net, resends_ne
 use Rattle.dm_rule.specs.Rule as rule
 use Rattle.dm_rule.specs.View as view
 use Rattle.dm_rulelaws.proofs.Runs.{Run}
-use Rattle.dm_rulelaws.proofs.Own.Told.{OwnTold, own_sort}
-use Rattle.dm_rulelaws.proofs.Own.Fits.{OwnsFit, NoOwns, FirstOwns}
+use Rattle.dm_rulelaws.proofs.Own.Told.{OwnTold, own_sort, OwnsFit, NoOwns, FirstOwns}
 use Rattle.dm_rulelaws.proofs.Goes.Parts.{ArePlain, Can, Shape, Goes, goes, can_plain, can_net}
 use Rattle.dm_rulelaws.proofs.Goes.Serves.{can_turn}
 use Rattle.dm_rulelaws.proofs.Goes.Turns.{queue_drops}
@@ -108,7 +107,7 @@ group_by b pt d c = record { goes = goes (CalmFor pt d) b pt d c.ps c.is c.does;
 
 pub group_on : (b : Boot) (pt : Point) (d : Step) → Run b pt → OwnTold pt → Group b pt d
 group_on b pt (Step.Turn m) h own = group_by b pt (Step.Turn m) (can_turn_by b m pt (pt.view.inbox m) refl h own)
-group_on b pt (Step.Tick m) h own = search (arith, pt.kernel, pt.view, pt.kernel.machines, group_by, can_net, resends_net)
+group_on b pt (Step.Tick m) h own = search (arith, pt.view, group_by, can_net, resends_net)
 group_on b pt (Step.Deliver a c k) h own =
     let q = moved pt (Line.Head (Step.Deliver a c k)) pt.kernel in
     let there = slice_get (pt.view.pair a c).wire k in

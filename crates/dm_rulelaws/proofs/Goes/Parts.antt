@@ -8,9 +8,8 @@ use Rattle.dm_rule.specs.Rule as rule
 use Rattle.dm_rulelaws.proofs.Queued.{is_user}
 use Rattle.dm_rulelaws.proofs.Order.Lines.{Which, Ord, ord_view, ord_label}
 use Rattle.dm_rulelaws.proofs.Order.Moves.{Last}
-use Rattle.dm_rulelaws.proofs.Order.Puts.{thin_pair, ord_put}
-use Rattle.dm_rulelaws.proofs.Order.Takes.{ord_taken}
-use Rattle.dm_rulelaws.proofs.Own.Fits.{HaveNoOwn, OwnsFit, NoOwns}
+use Rattle.dm_rulelaws.proofs.Order.Puts.{thin_pair, ord_put, ord_taken}
+use Rattle.dm_rulelaws.proofs.Own.Told.{HaveNoOwn, OwnsFit, NoOwns}
 
 -- the labels that parts say
 abbrev pub part_says : Part → List Label → List Label
@@ -62,7 +61,7 @@ does_line C pt l ps none quiet keeps d =
 
 -- a packet
 ord_packet : (q : Which) (s : OneKernel) (v : View) (a c k : ℕ) (l : Load) → Ord q s v → Ord q s (view.after_packet v a c l)
-ord_packet q s v a c k l o = search (arith, v.pair, ord_view, thin_pair)
+ord_packet q s v a c k l o = search (arith, ord_view, thin_pair)
 
 -- what stands in the bag is counted
 counted_in : (pt : Point) → Sane pt → (i : MsgId) (y : PlainMessage) → pt.kernel.bag i ≡ Some y → counts pt.kernel i ≡ true
@@ -104,7 +103,7 @@ puts_if pt l false true a b k x none topic =
     }
 
 pub put_lines : (pt : Point) (b : ℕ) (i : MsgId) (k : MessageKind) (q : Pid) → Puts pt (puts pt.view b i k q)
-put_lines pt b i k q = search (arith, pt.view, puts_if)
+put_lines pt b i k q = search (arith, puts_if)
 
 -- a message of the bag is routed
 pub does_route : (C : Type 0) (pt : Point) (i : MsgId) (x : PlainMessage) → pt.kernel.bag i ≡ Some x → (C → Sane pt → is_user x.what ≡ true → Last pt.kernel pt.view i) → Does C pt (Routes i ∷ [])

@@ -1,26 +1,25 @@
 -- A message for a process at the front of the inbox can be handled.
-use Rattle.dm_rulelaws.proofs.Names.{◌≡◌, ◌≢◌, ℕ, ◌+◌, ◌≤◌, ◌==◌, ◌&&◌, ◌||◌, Bool, true, false, [], ◌∷◌, length, refl, ap, ◌∙◌, sym, subst, is_some, nat_le, arith, if◌then◌else◌, take, drop, Option, None, Some, false≢true, Pid}
-use Rattle.dm_rulelaws.proofs.Names.{pid_eq, MsgId, MessageKind, Label, Reply, Line, id_eq, plain_kind, PlainMessage, PlainWhat, Direction, Boot, Why, switchboard, manager, bind, PlainProcess, PlainStatus, Moving, Life, Alive, Ended}
-use Rattle.dm_rulelaws.proofs.Names.{OneKernel, with_process, with_sent, answer_id, answer_to, without_message, is_dropped, is_of_memory, id_eq-is, out_off, LandsSo, lands-is, Addresses, Sender, is_told_back, forwards_on, Point, moved}
-use Rattle.dm_rulelaws.proofs.Names.{Says, Routes, Owns, times, View, Known, has_bytes, is_server, awaits, status_awaits, move_fits, piece_fits, WhatFits, is_fixed, agrees, is_still, handled}
+use Rattle.dm_rulelaws.proofs.Names.{◌≡◌, ◌≢◌, ℕ, ◌+◌, ◌≤◌, ◌==◌, ◌&&◌, ◌||◌, Bool, true, false, [], ◌∷◌, length, refl, ap, ◌∙◌, sym, subst, is_some, nat_le, arith, if◌then◌else◌, take, drop, Option, None, Some, false≢true, Pid, pid_eq}
+use Rattle.dm_rulelaws.proofs.Names.{MsgId, MessageKind, Label, Reply, Line, id_eq, plain_kind, PlainMessage, PlainWhat, Direction, Boot, Why, switchboard, manager, bind, PlainProcess, PlainStatus, Moving, Life, Alive, Ended, OneKernel}
+use Rattle.dm_rulelaws.proofs.Names.{with_process, with_sent, answer_id, answer_to, without_message, is_dropped, is_of_memory, id_eq-is, out_off, LandsSo, lands-is, Addresses, Sender, is_told_back, forwards_on, Point, moved, Says, Routes}
+use Rattle.dm_rulelaws.proofs.Names.{Owns, times, View, Known, has_bytes, is_server, awaits, status_awaits, move_fits, piece_fits, WhatFits, is_fixed, agrees, is_still, handled}
 use Rattle.dm_onekernel.specs.Pieces as pieces
 use Rattle.dm_onekernel.specs.Service as service
 use Rattle.dm_onekernel.specs.Step as kernel
 use Rattle.dm_rule.specs.Rule as rule
 use Rattle.dm_rule.specs.View as view
 use Rattle.dm_rulelaws.proofs.Fits.Rises.{both, set_at}
-use Rattle.dm_rulelaws.proofs.Own.Told.{OwnTold}
-use Rattle.dm_rulelaws.proofs.Own.Fits.{NoOwns, forwarded_place, forwards_own}
+use Rattle.dm_rulelaws.proofs.Own.Told.{OwnTold, NoOwns, forwarded_place, forwards_own}
 use Rattle.dm_rulelaws.proofs.Goes.Parts.{does_nothing, does_route, can_as, can_say, can_line, can_plain, ArePlain}
 use Rattle.dm_rulelaws.proofs.Queued.{is_user}
 use Rattle.dm_rulelaws.proofs.Order.Lines.{Which, Ord}
-use Rattle.dm_rulelaws.proofs.Order.Takes.{ord_queued}
+use Rattle.dm_rulelaws.proofs.Order.Puts.{ord_queued}
 use Rattle.dm_rulelaws.proofs.Goes.Turns.{drops_quiet, drops_own, droppable_on, does_drops, dropped_is}
 use Rattle.dm_rulelaws.proofs.Goes.Front.{begun, Calm, CanTurn, Front, name_of, told_receiver, is_manager, answer_there, sent_there}
 
 -- a served message's step
 served_step_is : (s : OneKernel) (i : MsgId) (x : PlainMessage) (y : PlainProcess) (w : PlainWhat) (t : OneKernel) → s.bag i ≡ Some x → s.processes x.to ≡ Some (Alive y) → x.what ≡ w → service.serves s i x y w ≡ Some t → kernel.step s (Label.Served i) ≡ Some t
-served_step_is s i x y w t there alive is e = search (arith, s.processes, x.what)
+served_step_is s i x y w t there alive is e = search (arith)
 
 -- stop, resume
 can_set : (b : Boot) (m : ℕ) (o : Point) (i : MsgId) (x : PlainMessage) (y z : PlainProcess) (w : PlainWhat) → x.what ≡ w → o.kernel.processes x.to ≡ Some (Alive y) → Front b m o i x → service.serves o.kernel i x y w ≡ Some (service.changed o.kernel i x z)
@@ -139,7 +138,7 @@ can_here b m o i x y any_ is num other alive f h =
 
 -- a receiver that has ended
 pub gone_is : (s : OneKernel) (i : MsgId) (x : PlainMessage) (y : Why) → s.bag i ≡ Some x → s.processes x.to ≡ Some (Ended y) → is_of_memory x.what ≡ true → kernel.step s (Label.Gone i) ≡ Some (with_sent (without_message s i) (Some (answer_to x PlainWhat.Gone)))
-gone_is s i x y there ended memory = search (arith, s.processes)
+gone_is s i x y there ended memory = search (arith)
 
 can_gone : (b : Boot) (m : ℕ) (o : Point) (i : MsgId) (x : PlainMessage) (y : Why) → is_of_memory x.what ≡ true → o.kernel.processes x.to ≡ Some (Ended y) → Front b m o i x → CanTurn m o (Some (rule.says (Label.Gone i) ∷ Routes (answer_id i) ∷ []))
 can_gone b m o i x y memory ended f =

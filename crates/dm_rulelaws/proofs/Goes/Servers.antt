@@ -1,17 +1,16 @@
 -- A message for a kernel or a server at the front of the inbox can be handled.
 use Rattle.dm_rulelaws.proofs.Names.{◌≡◌, ℕ, zero, suc, ◌+◌, ◌==◌, ◌&&◌, ◌||◌, ◌++◌, Bool, true, false, List, [], ◌∷◌, length, refl, ap, ◌∙◌, sym, is_some, nat_lt, arith, ⊤, if◌then◌else◌, slice_get, Option, None, Some, false≢true}
 use Rattle.dm_rulelaws.proofs.Names.{nat_tests, Pid, pid_of, pid_eq, PlainLink, MsgId, Label, Line, PlainMessage, PlainWhat, BootImage, Boot, first_number, switchboard, manager, bind, when, Pending, OneKernel, with_sent, answer_id}
-use Rattle.dm_rulelaws.proofs.Names.{answer_to, without_message, Made, pid_eq-same, Point, moved, Part, Routes, is_server, IsPending, WhatFits, is_fixed, counts, ServerSends, handled, is_kernels, not_kernels, or_first}
+use Rattle.dm_rulelaws.proofs.Names.{answer_to, without_message, Made, pid_eq-same, Point, moved, Part, Routes, is_server, IsPending, WhatFits, is_fixed, counts, ServerSends, handled, is_kernels, not_kernels, or_first, board_takes_lem}
+use Rattle.dm_rulelaws.proofs.Names.{manager_takes_lem}
 use Rattle.dm_onekernel.specs.Switchboard as board
 use Rattle.dm_onekernel.specs.Manager as manage
 use Rattle.dm_onekernel.specs.Service as service
 use Rattle.dm_onekernel.specs.Step as kernel
 use Rattle.dm_rule.specs.Rule as rule
 use Rattle.dm_rulelaws.proofs.Queued.{is_user}
-use Rattle.dm_rulelaws.proofs.Own.Told.{OwnTold}
-use Rattle.dm_rulelaws.proofs.Own.Fits.{HaveNoOwn}
+use Rattle.dm_rulelaws.proofs.Own.Told.{OwnTold, HaveNoOwn}
 use Rattle.dm_rulelaws.proofs.Goes.Parts.{said, no_receive, does_route, Can, can_as, can_say}
-use Rattle.dm_laws.proofs.Servers.{board_takes_lem, manager_takes_lem}
 use Rattle.dm_rulelaws.proofs.Order.Moves.{Last, next_id}
 use Rattle.dm_rulelaws.proofs.Goes.Serves.{never_counted}
 use Rattle.dm_rulelaws.proofs.Goes.Front.{begun, Calm, CanTurn, Front, made_of, name_of, home_of, ForOthers, ForWhom, ForProcess, ForOther, for_whom, process_not_kernel, process_not_board, process_not_manager, answer_there, does_routes, sent_there}
@@ -204,4 +203,4 @@ can_by b m o i x false false true num one two f own = can_manager b m o i x x.wh
 can_by b m o i x false false false num one two f own = can_process b m o i x num one two f own
 
 pub can_handle : (b : Boot) (m : ℕ) (o : Point) (i : MsgId) (x : PlainMessage) → Front b m o i x → OwnTold o → CanTurn m o (rule.comes_to b o m i (o.kernel.bag i))
-can_handle b m o i x f own = search (arith, can_as, o.kernel.bag, f.there, can_by, x.to.num, x.to)
+can_handle b m o i x f own = search (arith, can_as, o.kernel.bag, f.there, can_by)

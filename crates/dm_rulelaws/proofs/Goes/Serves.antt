@@ -1,8 +1,8 @@
 -- With an empty inbox a machine's turn can be said.
 use Rattle.dm_rulelaws.proofs.Names.{◌≡◌, ℕ, zero, suc, ◌+◌, ◌≤◌, ◌==◌, ◌&&◌, Bool, true, false, List, [], ◌∷◌, refl, ap, ◌∙◌, sym, subst, is_some, nat_lt, inl, inr, arith, if◌then◌else◌, Option, None, Some, cases_Bool, false≢true}
 use Rattle.dm_rulelaws.proofs.Names.{nat_tests, Pid, pid_eq, MsgId, id_eq, Label, Why, Line, PlainMessage, PlainWhat, on_mask, instruction, Boot, Reply, reply_eq, reply_code, why_code, bind, when, PlainProcess, PlainStatus, Ready, Waiting}
-use Rattle.dm_rulelaws.proofs.Names.{Life, Alive, Ended, OneKernel, with_process, with_sent, without_message, id_eq-is, id_eq-same, pid_eq-same, sent_at, bind-is, alive-is, counts, Point, moved, Part, Routes, times}
-use Rattle.dm_rulelaws.proofs.Names.{is_kernels, not_kernels, switchboard, manager, not_server, nexts, are_home, Sane, eq_self, not_is, zero_if, runnable_home}
+use Rattle.dm_rulelaws.proofs.Names.{Life, Alive, Ended, OneKernel, with_process, with_sent, without_message, id_eq-is, id_eq-same, pid_eq-same, sent_at, bind-is, alive-is, counts, Point, moved, Part, Routes, times, is_kernels, not_kernels}
+use Rattle.dm_rulelaws.proofs.Names.{switchboard, manager, not_server, nexts, are_home, Sane, eq_self, not_is, zero_if, runnable_home}
 use Rattle.dm_onekernel.specs.Calls as calls
 use Rattle.dm_onekernel.specs.Receiving as receiving
 use Rattle.dm_onekernel.specs.Step as kernel
@@ -10,7 +10,7 @@ use Rattle.dm_rule.specs.Rule as rule
 use Rattle.dm_rulelaws.proofs.Fits.Rises.{set_at, both}
 use Rattle.dm_rulelaws.proofs.Goes.Parts.{said, no_receive, Shape, Quiet, Takes, Does, does_nothing, does_label, does_route, sane_by, Can, can_line}
 use Rattle.dm_rulelaws.proofs.Order.Moves.{Last}
-use Rattle.dm_rulelaws.proofs.Own.Fits.{HaveNoOwn}
+use Rattle.dm_rulelaws.proofs.Own.Told.{HaveNoOwn}
 use Rattle.dm_rulelaws.proofs.Goes.Turns.{times_self, times_more, Droppable, droppable_on, does_drops, drops_quiet, drops_own}
 
 -- a process that executes
@@ -103,7 +103,7 @@ does_executes C b pt p queue x is going ready drops home h =
     ∙ ap (λ (o : Option kernel.Machine). bind o (λ (z : kernel.Machine). Some (kernel.goes_on s p (kernel.with_machine x z)))) (ran_steps b.quantum (kernel.machine_of x)) in
     let o = kernel.next_row p y (instruction r.machine.regs r.machine.bytes) in
     let next : kernel.next_trap t p ≡ o = ap (λ (v : Option PlainProcess). bind v (λ (z : PlainProcess). kernel.next_row p z (instruction z.regs z.memory))) (running_of t p y (set_at s p (Alive y)) going ready) in
-    search (arith, r.count, does_label, b.quantum, does_rest, does_stops, droppable_on, sane_by)
+    search (arith, does_label, does_rest, does_stops, droppable_on, sane_by)
 
 -- a waiting process takes a message
 pub record Awaited (s : OneKernel) (mask : ℕ) (ids : List MsgId) (i : MsgId) : Type 0 where

@@ -5,8 +5,7 @@ use Rattle.dm_rulelaws.proofs.Names.{Spelled, lines_of, puts, goes_out, packet_l
 use Rattle.dm_rulelaws.proofs.Names.{Sayable, AllSayable, outcome_sayable}
 use Rattle.dm_rule.specs.View as view
 use Rattle.dm_rulelaws.proofs.Runs.{Run}
-use Rattle.dm_rulelaws.proofs.Own.Told.{OwnTold, own_sort}
-use Rattle.dm_rulelaws.proofs.Own.Fits.{HasNoOwn, HaveNoOwn, topic_stage, Later, OwnsFit, NoOwns, FirstOwns, ThenOwns}
+use Rattle.dm_rulelaws.proofs.Own.Told.{OwnTold, own_sort, HasNoOwn, HaveNoOwn, topic_stage, Later, OwnsFit, NoOwns, FirstOwns, ThenOwns}
 use Rattle.dm_rulelaws.proofs.Own.Senders.{senders_step}
 use Rattle.dm_rulelaws.proofs.Goes.Parts.{put_lines}
 use Rattle.dm_rulelaws.proofs.Goes.Always.{group_on}
