@@ -7,7 +7,8 @@ use Rattle.dm_rule.proofs.Trails.Places.{Owns}
 use Rattle.dm_rulelaws.proofs.Found.Core.{AboutIs, KnowsAt, Knows, IsReal, KnownIs, Core, Grows, knows_grow, real_grows}
 use Rattle.dm_rulelaws.proofs.Found.Puts.{NeedsForward, NeedsSent}
 use Rattle.dm_rulelaws.proofs.Found.Parts.{AllNeed, NeedOf, NeedsOwn, Same, again_same, loose_need, own_outside, own_fresh}
-use Rattle.dm_rulelaws.proofs.Found.Rows.{said_next, to_one}
+use Rattle.dm_rulelaws.proofs.Found.Rows.{to_one}
+use Rattle.dm_rulelaws.proofs.Based.Needs.{said_by}
 
 -- whom a message of which something was told is for
 pub named_for : (pt : Point) (id : MsgId) (u : Told) (q : Pid) → Sane pt → pt.view.told id ≡ Some u → Named pt.kernel pt.view (Receiver id) q → q ≡ u.receiver
@@ -63,9 +64,9 @@ forwards_need n pt id is u sender to c front state sane h told at free back =
     } in (
       needs,
       (λ ls mid is_ leads.
-          let (s, same) = said_next pt mid (Line.Forwarded id to) ls is_ leads in
-          let first = moved pt (Line.Forwarded id to) s in
-          subst (λ (p : Point). AllNeed n p (Again id to ∷ (if is_told_back u.kind then Owns MessageKind.Update sender (a (Sender id)).at ∷ [] else []))) same (
+          let s = said_by pt mid (Line.Forwarded id to) (record { lines = ls; are = is_; leads = leads }) in
+          let first = moved pt (Line.Forwarded id to) s.kernel in
+          subst (λ (p : Point). AllNeed n p (Again id to ∷ (if is_told_back u.kind then Owns MessageKind.Update sender (a (Sender id)).at ∷ [] else []))) s.is (
             goes_to v a id u to c (v.told id) told at,
             (λ xs next is__ leads_.
                 let stays = again_same first next id to xs is__ leads_ in
@@ -136,9 +137,9 @@ leaves_need n pt id is p (Frozen to) front state h own at there free for le =
     } in (
       needs,
       (λ ls next is_ leads.
-          let (s, same) = said_next pt next (Line.SentOn p (length ids)) ls is_ leads in
-          let first = moved pt (Line.SentOn p (length ids)) s in
-          subst (λ (q : Point). AllNeed n q (sends_on to ids ++ Says (Line.Migration Stage.Left p) ∷ to_kernel MessageKind.Restart id.from.home ∷ [])) same
+          let s = said_by pt next (Line.SentOn p (length ids)) (record { lines = ls; are = is_; leads = leads }) in
+          let first = moved pt (Line.SentOn p (length ids)) s.kernel in
+          subst (λ (q : Point). AllNeed n q (sends_on to ids ++ Says (Line.Migration Stage.Left p) ∷ to_kernel MessageKind.Restart id.from.home ∷ [])) s.is
           (agains_need n pt first to ids (Says (Line.Migration Stage.Left p) ∷ to_kernel MessageKind.Restart id.from.home ∷ []) (λ i least. follow_at v a p to ids i at least) refl (λ m q. refl)
           (λ q acting same_known. left_need n pt q p to id.from.home acting same_known at known le))),
     )

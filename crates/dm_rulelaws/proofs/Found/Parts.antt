@@ -5,6 +5,7 @@ use Rattle.dm_rulelaws.proofs.Names.{Spelled, lines_of, puts, goes_out, packet_l
 use Rattle.dm_rulelaws.proofs.Found.Core.{Knows, IsReal, Core}
 use Rattle.dm_rulelaws.proofs.Found.Puts.{NeedsPut, put_core}
 use Rattle.dm_rulelaws.proofs.Found.Lines.{NeedsLine, line_core, packet_core}
+use Rattle.dm_rulelaws.proofs.Based.Needs.{by_puts}
 
 -- the next message of the acting machine's kernel
 pub record NeedsOwn (n : ℕ) (pt : Point) (k : MessageKind) (q : Pid) (b : ℕ) : Type 0 where
@@ -26,21 +27,8 @@ NeedsPart n pt (Owns k q b) = NeedsOwn n pt k q b
 NeedsPart n pt _ = ⊤
 
 -- a put with its packet
-puts_by : (n : ℕ) (pt next : Point) (b : ℕ) (i : MsgId) (k : MessageKind) (q : Pid) (c d : Bool) → Core n (moved pt (Line.Put pt.view.acting b i k q) pt.kernel) → ((p : Point) (x y z : ℕ) (l : Load) → Core n p → Core n (moved p (Line.Packet x y z l) p.kernel))
-    → after pt (Line.Put pt.view.acting b i k q ∷ (if c then [] else if d then packet_line pt.view pt.view.acting b (Load.Data (length (pt.view.pair pt.view.acting b).ids)) ∷ [] else [])) ≡ Some next → Core n next
-puts_by n pt next b i k q true d h keep is = let f : moved pt (Line.Put pt.view.acting b i k q) pt.kernel ≡ next = cc in subst (Core n) f h
-puts_by n pt next b i k q false false h keep is = let f : moved pt (Line.Put pt.view.acting b i k q) pt.kernel ≡ next = cc in subst (Core n) f h
-puts_by n pt next b i k q false true h keep is =
-    let m = length (pt.view.pair pt.view.acting b).wire in
-    let l = Load.Data (length (pt.view.pair pt.view.acting b).ids) in
-    let mid = moved pt (Line.Put pt.view.acting b i k q) pt.kernel in
-    let f : moved mid (Line.Packet pt.view.acting b m l) mid.kernel ≡ next = cc in
-    subst (Core n) f (keep mid pt.view.acting b m l h)
-
 puts_core : (n : ℕ) (pt next : Point) (b : ℕ) (i : MsgId) (k : MessageKind) (q : Pid) (ls : List Line) → NeedsPut n pt b i k q → Core n pt → Some (puts pt.view b i k q) ≡ Some ls → after pt ls ≡ Some next → Core n next
-puts_core n pt next b i k q ls need h is leads =
-    let f : puts pt.view b i k q ≡ ls = cc in
-    puts_by n pt next b i k q (pt.view.acting == b) (goes_out (pt.view.pair pt.view.acting b)) (put_core n pt pt.view.acting b i k q need h) (λ p x y z l. packet_core n p x y z l) (ap (after pt) f ∙ leads)
+puts_core n pt next b i k q ls need h = by_puts (Core n) pt next b i k q ls (put_core n pt pt.view.acting b i k q need h) (packet_core n)
 
 one_line : (n : ℕ) (pt next : Point) (l : Line) (ls : List Line) → NeedsLine n pt l → Sane pt → Some (l ∷ []) ≡ Some ls → after pt ls ≡ Some next → Core n pt → Core n next
 one_line n pt next l ls need sane is leads h = search (arith, bind-is, pt.kernel, line_core)
@@ -112,9 +100,7 @@ pub record Same (v w : Point) : Type 0 where
 again_put : (pt : Point) (b : ℕ) (i : MsgId) (k : MessageKind) (q : Pid) (t : Told) → pt.view.told i ≡ Some t → Same pt (moved pt (Line.Put pt.view.acting b i k q) pt.kernel)
 again_put pt b i k q t h1 = search (arith, pt.addresses, pt.kernel, pt.view, pt.view.count, i.from.home, not_first, pt.view.told)
 
-again_by : (pt next : Point) (b : ℕ) (i : MsgId) (k : MessageKind) (q : Pid) (c d : Bool) → Same pt (moved pt (Line.Put pt.view.acting b i k q) pt.kernel)
-    → after pt (Line.Put pt.view.acting b i k q ∷ (if c then [] else if d then packet_line pt.view pt.view.acting b (Load.Data (length (pt.view.pair pt.view.acting b).ids)) ∷ [] else [])) ≡ Some next → Same pt next
-again_by pt next b i k q c d h1 h2 = search (arith, pt.view.acting, pt.kernel, pt.view.pair)
-
 pub again_same : (pt next : Point) (i : MsgId) (b : ℕ) (ls : List Line) → lines_of pt (Again i b) ≡ Some ls → after pt ls ≡ Some next → Same pt next
-again_same pt next i b ls is leads = search (arith, bind-is, pt.view.told, pt.view, again_by, pt.view.acting, pt.view.pair, again_put)
+again_same pt next i b ls is leads =
+    let (t, told, last) = bind-is (pt.view.told i) (λ t. Some (puts pt.view b i t.kind t.receiver)) ls is in
+    by_puts (Same pt) pt next b i t.kind t.receiver ls (again_put pt b i t.kind t.receiver t told) (λ o x y z l h. record { kernel = h.kernel; addresses = h.addresses; own = h.own; acting = h.acting; known = h.known }) last leads

@@ -9,16 +9,7 @@ use Rattle.dm_rule.specs.Rule as rule
 use Rattle.dm_rulelaws.proofs.Found.Core.{KnowsAt, IsAt}
 use Rattle.dm_rulelaws.proofs.Found.Parts.{AllNeed, AllLoose, first_need, NeedOf, between_own}
 use Rattle.dm_rule.specs.View.{Ended}
-
--- behind a line
-pub said_next : (pt next : Point) (l : Line) (ls : List Line) → lines_of pt (Says l) ≡ Some ls → after pt ls ≡ Some next → (s : OneKernel) × (moved pt l s ≡ next)
-said_next pt next l ls is leads =
-    let f : l ∷ [] ≡ ls = cc in
-    let (mid, first, last) = bind-is (after_line pt l) (λ q. after q []) next (ap (after pt) f ∙ leads) in
-    let (s, step_, then_) = bind-is (kernel_after pt.kernel (label_of l)) (λ s. Some (moved pt l s)) mid first in
-    let g : moved pt l s ≡ mid = cc in
-    let e : mid ≡ next = cc in
-    (s, g ∙ e)
+use Rattle.dm_rulelaws.proofs.Based.Needs.{said_by}
 
 -- the queue of a process that ends goes
 drops_loose : (n : ℕ) (ids : List MsgId) → AllLoose n (rule.drop_parts ids)
@@ -40,9 +31,9 @@ round_need n pt b o m q ps at = by_round (AllNeed n pt) b o m q ps (first_need n
   runs = λ k rest stops. (
     tt,
     (λ ls next lines leads.
-        let (s, same) = said_next pt next (Line.Label (Label.Ran p k)) ls lines leads in
-        let mid = moved pt (Line.Label (Label.Ran p k)) s in
-        subst (λ (z : Point). AllNeed n z rest) same (stops (AllNeed n mid) (stops_need n mid p (o.view.queue m p) (at p x is alive)))),
+        let s = said_by pt next (Line.Label (Label.Ran p k)) (record { lines = ls; are = lines; leads = leads }) in
+        let mid = moved pt (Line.Label (Label.Ran p k)) s.kernel in
+        subst (λ (z : Point). AllNeed n z rest) s.is (stops (AllNeed n mid) (stops_need n mid p (o.view.queue m p) (at p x is alive)))),
   );
   takes = λ mask id first. first_need n pt (rule.says (Label.Receive p id)) [] tt tt;
   refuses = λ id r. first_need n pt (rule.says (Label.Refuse p id r)) [] tt tt;

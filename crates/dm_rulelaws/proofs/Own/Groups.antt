@@ -9,6 +9,7 @@ use Rattle.dm_rulelaws.proofs.Own.Told.{OwnTold, own_sort, HasNoOwn, HaveNoOwn, 
 use Rattle.dm_rulelaws.proofs.Own.Senders.{senders_step}
 use Rattle.dm_rulelaws.proofs.Goes.Parts.{put_lines}
 use Rattle.dm_rulelaws.proofs.Goes.Always.{group_on}
+use Rattle.dm_rulelaws.proofs.Based.Needs.{by_puts}
 
 -- a line that is no put
 own_by : (pt : Point) (l : Line) (o : Option Label) (s : OneKernel) → is_put l ≡ false → kernel_after pt.kernel o ≡ Some s → Sane pt → OwnTold pt → OwnTold (moved pt l s)
@@ -58,21 +59,8 @@ one_line pt next l ls quiet is leads sane h =
     let g : mid ≡ next = cc in
     subst OwnTold g (own_line pt mid l quiet first sane h)
 
-puts_own : (pt next : Point) (b : ℕ) (i : MsgId) (k : MessageKind) (q : Pid) (c d : Bool) (w : _) → (is_kernels i ≡ true → pt.view.told i ≡ None → own_sort k q pt.view.topic ≡ true)
-    → after pt (Line.Put pt.view.acting b i k q ∷ (if c then [] else if d then packet_line pt.view pt.view.acting b w ∷ [] else [])) ≡ Some next → OwnTold pt → OwnTold next
-puts_own pt next b i k q true d w right is h = let f : moved pt (Line.Put pt.view.acting b i k q) pt.kernel ≡ next = cc in subst OwnTold f (own_put pt pt.view.acting b i k q right h)
-puts_own pt next b i k q false false w right is h = let f : moved pt (Line.Put pt.view.acting b i k q) pt.kernel ≡ next = cc in subst OwnTold f (own_put pt pt.view.acting b i k q right h)
-puts_own pt next b i k q false true w right is h =
-    let l = packet_line pt.view pt.view.acting b w in
-    let mid = moved pt (Line.Put pt.view.acting b i k q) pt.kernel in
-    let f : moved mid l mid.kernel ≡ next = cc in
-    let o = own_put pt pt.view.acting b i k q right h in
-    subst OwnTold f (record { own = o.own; sender = o.sender })
-
 puts_lead : (pt next : Point) (b : ℕ) (i : MsgId) (k : MessageKind) (q : Pid) (ls : List Line) → (is_kernels i ≡ true → pt.view.told i ≡ None → own_sort k q pt.view.topic ≡ true) → Some (puts pt.view b i k q) ≡ Some ls → after pt ls ≡ Some next → OwnTold pt → OwnTold next
-puts_lead pt next b i k q ls right is leads h =
-    let f : puts pt.view b i k q ≡ ls = cc in
-    puts_own pt next b i k q (pt.view.acting == b) (goes_out (pt.view.pair pt.view.acting b)) (Load.Data (length (pt.view.pair pt.view.acting b).ids)) right (ap (after pt) f ∙ leads) h
+puts_lead pt next b i k q ls right is leads h = by_puts OwnTold pt next b i k q ls (own_put pt pt.view.acting b i k q right h) (λ p x y z l o. record { own = o.own; sender = o.sender }) is leads
 
 own_part : (pt next : Point) (p : Part) (ls : List Line) → Sayable p → IsRight pt p → lines_of pt p ≡ Some ls → after pt ls ≡ Some next → Sane pt → OwnTold pt → OwnTold next
 own_part pt next (Says l) ls ok right is leads sane h = one_line pt next l ls ok is leads sane h
