@@ -5,9 +5,10 @@ use Rattle.dm_rulelaws.proofs.Names.{Receiver, Sender, names, to_of, IsStep, Spe
 use Rattle.dm_rulelaws.proofs.Names.{is_fixed, times}
 use Rattle.dm_rule.proofs.Trails.Places.{Owns}
 use Rattle.dm_rulelaws.proofs.Fits.Start.{start_fits}
-use Rattle.dm_rulelaws.proofs.Found.Core.{KnowsAt, Knows, IsReal, AboutIs, KnownIs, Core, known_within}
+use Rattle.dm_rulelaws.proofs.Found.Core.{KnowsAt, Knows, IsReal, AboutIs, KnownIs, LineCore, Core, lines_of_core, known_within}
 use Rattle.dm_rulelaws.proofs.Found.Groups.{core_group}
 use Rattle.dm_rulelaws.proofs.Found.Real.{named_real}
+use Rattle.dm_rulelaws.proofs.Names.{receiver_of}
 
 -- what each group keeps
 abbrev pub FoundBy : Point → Type 0
@@ -54,17 +55,37 @@ found_start b valid =
       topic = tt;
       known = λ m q. start_knows b (first_view b) [] b.processes m q valid.processes some;
       places = λ i z e. absurd (let f = nothing_stands b i z in omega (arith, e, f));
+      held = λ m p i least. absurd (omega (arith, least));
       senders = λ i m e. absurd (let f : None ≡ Some m = e in cc);
       fits = start_fits b valid;
       home = λ q made. start_home b b.processes q made;
       pending = refl;
     }
 
+-- what is held for a process is for it
+abbrev pub HoldsFor : Point → Type 0
+HoldsFor pt = (m : ℕ) (p : Pid) (i : MsgId) → 1 ≤ times i (pt.view.held m p) → (t : Told) × (pt.view.told i ≡ Some t) × (t.receiver ≡ p)
+
 -- each group
-pub found_group : (b : Boot) (pt : Point) (d : Step) (w : Spelled) → IsStep pt.kernel.machines d → group_of b pt d ≡ Some w → Phased pt → ((m : ℕ) (p : Pid) (i : MsgId) → 1 ≤ times i (pt.view.held m p) → (t : Told) × (pt.view.told i ≡ Some t) × (t.receiver ≡ p)) → FoundBy pt → FoundBy w.point
-found_group b pt d w fit is phased holds h =
-    let k = core_group pt.kernel.machines b pt d w fit is phased holds h in
-    subst (λ (n : ℕ). Core n w.point) (sym k.machines) k
+pub found_group : (b : Boot) (pt : Point) (d : Step) (w : Spelled) → IsStep pt.kernel.machines d → group_of b pt d ≡ Some w → Phased pt → HoldsFor pt → HoldsFor w.point → FoundBy pt → FoundBy w.point
+found_group b pt d w fit is phased holds next h =
+    let line = core_group pt.kernel.machines b pt d w fit is phased holds (lines_of_core pt.kernel.machines pt h) in
+    let k = subst (λ (n : ℕ). LineCore n w.point) (sym line.machines) line in
+    record {
+      acting = k.acting;
+      machines = k.machines;
+      all = k.all;
+      tells = k.tells;
+      real = k.real;
+      topic = k.topic;
+      known = k.known;
+      places = k.places;
+      held = λ m p i least. let (t, told, to) = next m p i least in ap receiver_of told ∙ ap Some to;
+      senders = k.senders;
+      fits = k.fits;
+      home = k.home;
+      pending = k.pending;
+    }
 
 -- what stands somewhere is in the bag, or a kernel's own
 stands_own : (i : MsgId) (c : Bool) (f : Spot → ℕ) (z : Spot) → is_kernels i ≡ c → StandsOutside c f → 1 ≤ f z → c ≡ true

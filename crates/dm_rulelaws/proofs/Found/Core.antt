@@ -5,6 +5,7 @@ use Rattle.dm_rule.specs.View.{Ended}
 use Rattle.dm_rulelaws.proofs.Found.Steps.{Sends}
 use Rattle.dm_rulelaws.proofs.Found.Lists.{Places}
 use Rattle.dm_rulelaws.proofs.Found.Places.{AllAre, all_as}
+use Rattle.dm_rulelaws.proofs.Names.{times, receiver_of, ◌≤◌}
 
 -- a process is at home there, or known; kernels and servers are at home
 abbrev pub KnowsAt : View → Pid → ℕ → Type 0
@@ -39,7 +40,7 @@ KnownIs n v m p _ = m < n
 abbrev pub IsAt : Addresses → View → MsgId → ℕ → Type 0
 IsAt a v i m = ((a (Receiver i)).at ≡ m) × (is_some (v.told i) ≡ true)
 
-pub record Core (n : ℕ) (pt : Point) : Type 0 where
+pub record LineCore (n : ℕ) (pt : Point) : Type 0 where
   pub acting : pt.view.acting < n
   pub machines : pt.kernel.machines ≡ n
   pub all : AllAre (Knows pt.view) pt.kernel pt.view pt.addresses
@@ -52,6 +53,38 @@ pub record Core (n : ℕ) (pt : Point) : Type 0 where
   pub fits : KernelFits pt.kernel
   pub home : (q : Pid) → is_some (pt.kernel.processes q) ≡ true → pt.view.known q.home q ≢ Unknown
   pub pending : ascends 0 pt.kernel.manager.pending pt.kernel.manager.sent ≡ true
+
+-- and what each group keeps: that what is held for a process is for it, too
+pub record Core (n : ℕ) (pt : Point) : Type 0 where
+  pub acting : pt.view.acting < n
+  pub machines : pt.kernel.machines ≡ n
+  pub all : AllAre (Knows pt.view) pt.kernel pt.view pt.addresses
+  pub tells : (i : MsgId) (u : Told) → pt.view.told i ≡ Some u → AboutIs n pt.view u.about
+  pub real : (i : MsgId) (u : Told) → pt.view.told i ≡ Some u → is_kernels i ≡ true → IsOwn n pt.view u
+  pub topic : AboutIs n pt.view pt.view.topic
+  pub known : (m : ℕ) (p : Pid) → KnownIs n pt.view m p (pt.view.known m p)
+  pub places : Places (IsAt pt.addresses pt.view) pt.view
+  pub held : (m : ℕ) (p : Pid) (i : MsgId) → 1 ≤ times i (pt.view.held m p) → receiver_of (pt.view.told i) ≡ Some p
+  pub senders : (i : MsgId) (m : PlainMessage) → pt.kernel.bag i ≡ Some m → Sends n pt.kernel m.sender
+  pub fits : KernelFits pt.kernel
+  pub home : (q : Pid) → is_some (pt.kernel.processes q) ≡ true → pt.view.known q.home q ≢ Unknown
+  pub pending : ascends 0 pt.kernel.manager.pending pt.kernel.manager.sent ≡ true
+
+pub lines_of_core : (n : ℕ) (pt : Point) → Core n pt → LineCore n pt
+lines_of_core n pt h = record {
+  acting = h.acting;
+  machines = h.machines;
+  all = h.all;
+  tells = h.tells;
+  real = h.real;
+  topic = h.topic;
+  known = h.known;
+  places = h.places;
+  senders = h.senders;
+  fits = h.fits;
+  home = h.home;
+  pending = h.pending;
+}
 
 -- machines forget no process
 abbrev pub Grows : View → View → Type 0
@@ -126,8 +159,8 @@ learns n v w p x acting known new is h =
     record { acting = acting; grows = grows; known = known_by n v w p x known grows (known_grows n v w v.acting p x grows is) h }
 
 -- a line that changes no kernel
-pub core_view : (n : ℕ) (pt : Point) (w : View) (b : Addresses) → w.acting < n → Grows pt.view w → ((m : ℕ) (p : Pid) → KnownIs n w m p (w.known m p)) → w.told ≡ pt.view.told → AboutIs n w w.topic → AllAre (Knows pt.view) pt.kernel pt.view b → Places (IsAt b pt.view) w → Core n pt
-    → Core n (record { kernel = pt.kernel; view = w; addresses = b })
+pub core_view : (n : ℕ) (pt : Point) (w : View) (b : Addresses) → w.acting < n → Grows pt.view w → ((m : ℕ) (p : Pid) → KnownIs n w m p (w.known m p)) → w.told ≡ pt.view.told → AboutIs n w w.topic → AllAre (Knows pt.view) pt.kernel pt.view b → Places (IsAt b pt.view) w → LineCore n pt
+    → LineCore n (record { kernel = pt.kernel; view = w; addresses = b })
 core_view n pt w b acting grows known told topic all places h = record {
   acting = acting;
   machines = h.machines;

@@ -4,7 +4,7 @@ use Rattle.dm_rulelaws.proofs.Names.{MessageKind, Line, Stage, id_eq-is, id_eq-s
 use Rattle.dm_rulelaws.proofs.Names.{Sender, given, place_known, all_follow, is_told_back, forwards, Point, moved, Part, Says, Again, Owns, to_kernel, forwards_on, sends_on, leaves, Spot, times, standing, StandsAsBag, letters, not_true}
 use Rattle.dm_rulelaws.proofs.Names.{both_lists, without_all, without_at, first_off, sent_way, one_of, front_gone, forwarded_known, State, Sane, Named, forwarded_back, is_own, is_fixed}
 use Rattle.dm_rule.proofs.Trails.Places.{Owns}
-use Rattle.dm_rulelaws.proofs.Found.Core.{AboutIs, KnowsAt, Knows, IsReal, KnownIs, Core, Grows, knows_grow, real_grows}
+use Rattle.dm_rulelaws.proofs.Found.Core.{AboutIs, KnowsAt, Knows, IsReal, KnownIs, LineCore, Grows, knows_grow, real_grows}
 use Rattle.dm_rulelaws.proofs.Found.Puts.{NeedsForward, NeedsSent}
 use Rattle.dm_rulelaws.proofs.Found.Parts.{AllNeed, NeedOf, NeedsOwn, Same, again_same, loose_need, own_outside, own_fresh}
 use Rattle.dm_rulelaws.proofs.Found.Rows.{to_one}
@@ -47,7 +47,7 @@ back_if n pt sender m true h = (h refl, λ ls next is leads. tt)
 back_if n pt sender m false h = tt
 
 -- a message that comes to where its receiver went away goes on
-pub forwards_need : (n : ℕ) (pt : Point) (id : MsgId) (is : List MsgId) (u : Told) (sender : Pid) (to c : ℕ) → pt.view.inbox pt.view.acting ≡ id ∷ is → State None pt → Sane pt → Core n pt → pt.view.told id ≡ Some u → pt.view.known pt.view.acting u.receiver ≡ Forward to c
+pub forwards_need : (n : ℕ) (pt : Point) (id : MsgId) (is : List MsgId) (u : Told) (sender : Pid) (to c : ℕ) → pt.view.inbox pt.view.acting ≡ id ∷ is → State None pt → Sane pt → LineCore n pt → pt.view.told id ≡ Some u → pt.view.known pt.view.acting u.receiver ≡ Forward to c
     → is_fixed u.receiver ≡ false → (is_told_back u.kind ≡ true → Knows pt.view sender (pt.addresses (Sender id)) × IsReal n pt.view sender) → AllNeed n pt (forwards_on pt.addresses id u.kind sender to)
 forwards_need n pt id is u sender to c front state sane h told at free back =
     let v = pt.view in
@@ -123,7 +123,7 @@ sent_gone pt p id is state front own i z k least =
     nowhere (Some x) f e h z = cc
 
 -- where all is taken of a process that leaves
-pub leaves_need : (n : ℕ) (pt : Point) (id : MsgId) (is : List MsgId) (p : Pid) (k : Known) → pt.view.inbox pt.view.acting ≡ id ∷ is → State None pt → Core n pt → is_kernels id ≡ true → pt.view.known pt.view.acting p ≡ k
+pub leaves_need : (n : ℕ) (pt : Point) (id : MsgId) (is : List MsgId) (p : Pid) (k : Known) → pt.view.inbox pt.view.acting ≡ id ∷ is → State None pt → LineCore n pt → is_kernels id ≡ true → pt.view.known pt.view.acting p ≡ k
     → ((to : ℕ) → k ≡ Frozen to → pt.view.known to p ≢ Unknown) → is_fixed p ≡ false → ((i : MsgId) (q : Pid) → 1 ≤ times i (both_lists pt.view p) → Named pt.kernel pt.view (Receiver i) q → q ≡ p) → id.from.home < n
     → NeedOf n pt (leaves id p (both_lists pt.view p) k)
 leaves_need n pt id is p (Frozen to) front state h own at there free for le =

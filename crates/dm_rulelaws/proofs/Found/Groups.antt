@@ -9,7 +9,7 @@ use Rattle.dm_rule.specs.Phases as phases
 use Rattle.dm_rule.specs.Rule as rule
 use Rattle.dm_rule.proofs.Groups.{begun}
 use Rattle.dm_rule.proofs.Trails.Places.{Owns}
-use Rattle.dm_rulelaws.proofs.Found.Core.{IsReal, AboutIs, KnownIs, Core, known_within}
+use Rattle.dm_rulelaws.proofs.Found.Core.{IsReal, AboutIs, KnownIs, LineCore, known_within}
 use Rattle.dm_rulelaws.proofs.Found.Forward.{forwards_need, moves_back, leaves_need, named_for}
 use Rattle.dm_rulelaws.proofs.Found.Rows.{Heard, told_by_need, round_need, handles_need}
 use Rattle.dm_rulelaws.proofs.Found.Lines.{NeedsLine, NeedsHead, line_core}
@@ -26,14 +26,14 @@ head_sane pt d h = sane_line pt (headed pt d) (Line.Head d) refl refl h
 step_head : (n : ℕ) (d : Step) → 0 < n → IsStep n d → NeedsHead n d
 step_head n d h1 h2 = search arith
 
-head_core : (n : ℕ) (pt : Point) (d : Step) → IsStep n d → Sane pt → Core n pt → Core n (headed pt d)
+head_core : (n : ℕ) (pt : Point) (d : Step) → IsStep n d → Sane pt → LineCore n pt → LineCore n (headed pt d)
 head_core n pt d fit sane h = line_core n pt pt.kernel (Line.Head d) (step_head n d (let le = h.acting in omega (arith, le)) fit) sane refl h
 
-group_core : (n : ℕ) (b : Boot) (pt : Point) (d : Step) (w : Spelled) → IsStep n d → group_of b pt d ≡ Some w → ((ps : List Part) → rule.outcome b pt d ≡ Some ps → Core n (headed pt d) → AllNeed n (headed pt d) ps) → Sane pt → Core n pt → Core n w.point
+group_core : (n : ℕ) (b : Boot) (pt : Point) (d : Step) (w : Spelled) → IsStep n d → group_of b pt d ≡ Some w → ((ps : List Part) → rule.outcome b pt d ≡ Some ps → LineCore n (headed pt d) → AllNeed n (headed pt d) ps) → Sane pt → LineCore n pt → LineCore n w.point
 group_core n b pt d w fit e needs sane h =
     let g = group_is b pt d w e in
     let start = head_core n pt d fit sane h in
-    subst (Core n) g.point (parts_core n g.parts (headed pt d) g.rest (outcome_sayable b pt d g.parts g.is) (needs g.parts g.is start) (head_sane pt d sane) g.said start)
+    subst (LineCore n) g.point (parts_core n g.parts (headed pt d) g.rest (outcome_sayable b pt d g.parts g.is) (needs g.parts g.is start) (head_sane pt d sane) g.said start)
 
 -- ticks and deliveries
 net_need : (n : ℕ) (l : Line) → IsNetLine l → (pt : Point) → NeedsLine n pt l
@@ -43,14 +43,14 @@ net_loose : (n : ℕ) (ps : List Part) → IsNet ps → AllLoose n ps
 net_loose n = by_net (AllLoose n) tt (λ l ps net h. (net_need n l net, h)) (λ a b l ps h. (λ pt. tt, h))
 
 -- a directive to move a process
-asks_need : (n : ℕ) (pt : Point) (p : Pid) (k : ℕ) → pt.view.acting ≡ 0 → child_number pt.kernel p ≡ Some k → Core n pt → ((k : ℕ) → names pt.kernel (Child k) ≡ Some p → IsReal n pt.view p) → AllNeed n pt (Owns MessageKind.Migrate p (pt.addresses (Child k)).at ∷ [])
+asks_need : (n : ℕ) (pt : Point) (p : Pid) (k : ℕ) → pt.view.acting ≡ 0 → child_number pt.kernel p ≡ Some k → LineCore n pt → ((k : ℕ) → names pt.kernel (Child k) ≡ Some p → IsReal n pt.view p) → AllNeed n pt (Owns MessageKind.Migrate p (pt.addresses (Child k)).at ∷ [])
 asks_need n pt p k first is h real =
     let id = own_id pt.view in
     let a = pt.addresses in
     let named = child_is pt.kernel p k is in
     search (arith, pt.kernel, pt.view, id_eq-same, pt.view.acting, h.all, first_need)
 
-migrates_need : (n : ℕ) (pt : Point) (p : Pid) → pt.view.acting ≡ 0 → Core n pt → ((k : ℕ) → names pt.kernel (Child k) ≡ Some p → IsReal n pt.view p) → AllNeed n pt (migrates pt p)
+migrates_need : (n : ℕ) (pt : Point) (p : Pid) → pt.view.acting ≡ 0 → LineCore n pt → ((k : ℕ) → names pt.kernel (Child k) ≡ Some p → IsReal n pt.view p) → AllNeed n pt (migrates pt p)
 migrates_need n pt p first h real =
     by_migrates (AllNeed n pt) pt p (first_need n pt (Says (Line.Pinned p)) [] tt tt) (first_need n pt (Says (Line.NoChild p)) [] tt tt) (λ k off is. asks_need n pt p k first is h real)
 
@@ -103,7 +103,7 @@ waits_for pt p i q holds state sane least named = elim (least_of (standing pt.vi
 ]
 
 -- a message of a migration is heard
-heard : (n : ℕ) (pt : Point) (m : ℕ) (i : MsgId) (is : List MsgId) (t : Told) (p : Pid) → Core n (headed pt (Step.Turn m)) → HeldFor pt.view → Sane (headed pt (Step.Turn m)) → State None (headed pt (Step.Turn m)) → InPhases (headed pt (Step.Turn m)).view
+heard : (n : ℕ) (pt : Point) (m : ℕ) (i : MsgId) (is : List MsgId) (t : Told) (p : Pid) → LineCore n (headed pt (Step.Turn m)) → HeldFor pt.view → Sane (headed pt (Step.Turn m)) → State None (headed pt (Step.Turn m)) → InPhases (headed pt (Step.Turn m)).view
     → pt.view.inbox m ≡ i ∷ is → pt.view.told i ≡ Some t → is_kernels i ≡ true → t.about ≡ Of p → is_between t.kind ≡ true → Heard n (headed pt (Step.Turn m)) pt m i p t.kind
 heard n pt m i is t p h holds sane state in_ front told own about between =
     let start = headed pt (Step.Turn m) in
@@ -133,7 +133,7 @@ heard n pt m i is t p h holds sane state in_ front told own about between =
 forward_free : (n : ℕ) (v : View) (m : ℕ) (p : Pid) (to c : ℕ) → v.known m p ≡ Forward to c → AllKnown n v → is_fixed p ≡ false
 forward_free n v m p to c e h = (subst (KnownIs n v m p) e (h m p)).2
 
-front_need : (n : ℕ) (b : Boot) (pt : Point) (m : ℕ) (i : MsgId) (is : List MsgId) (k : PlainMessage) (ps : List Part) → Core n (headed pt (Step.Turn m)) → Sane (headed pt (Step.Turn m)) → State None (headed pt (Step.Turn m)) → pt.view.inbox m ≡ i ∷ is → pt.kernel.bag i ≡ Some k
+front_need : (n : ℕ) (b : Boot) (pt : Point) (m : ℕ) (i : MsgId) (is : List MsgId) (k : PlainMessage) (ps : List Part) → LineCore n (headed pt (Step.Turn m)) → Sane (headed pt (Step.Turn m)) → State None (headed pt (Step.Turn m)) → pt.view.inbox m ≡ i ∷ is → pt.kernel.bag i ≡ Some k
     → rule.handles b pt m i k ≡ Some ps → AllNeed n (headed pt (Step.Turn m)) ps
 front_need n b pt m i is k ps h sane state front there =
     let start = headed pt (Step.Turn m) in
@@ -146,7 +146,7 @@ front_need n b pt m i is k ps h sane state front there =
     (forwards_need n start i is t k.sender to c front state sane h told (ap (pt.view.known m) to_same ∙ e) (subst (λ (x : Pid). is_fixed x ≡ false) (sym to_same) (forward_free n start.view m k.to to c e h.known))
     (λ back. (h.all (Sender i) k.sender (Links (ap sender_of there)), sends_real start n k.sender h (h.senders i k there)))))
 
-own_need : (n : ℕ) (b : Boot) (pt : Point) (m : ℕ) (i : MsgId) (is : List MsgId) (ps : List Part) → Core n (headed pt (Step.Turn m)) → HeldFor pt.view → Sane (headed pt (Step.Turn m)) → State None (headed pt (Step.Turn m)) → InPhases (headed pt (Step.Turn m)).view
+own_need : (n : ℕ) (b : Boot) (pt : Point) (m : ℕ) (i : MsgId) (is : List MsgId) (ps : List Part) → LineCore n (headed pt (Step.Turn m)) → HeldFor pt.view → Sane (headed pt (Step.Turn m)) → State None (headed pt (Step.Turn m)) → InPhases (headed pt (Step.Turn m)).view
     → pt.view.inbox m ≡ i ∷ is → pt.kernel.bag i ≡ None → rule.hears b pt m i (pt.view.told i) ≡ Some ps → AllNeed n (headed pt (Step.Turn m)) ps
 own_need n b pt m i is ps h holds sane state in_ front there e =
     let start = headed pt (Step.Turn m) in
@@ -162,10 +162,10 @@ own_need n b pt m i is ps h holds sane state in_ front there e =
     (λ to c f. forwards_need n start i is t manager to c front state sane h told f (forward_free n start.view m t.receiver to c f h.known)
     (λ back. (h.all (Sender i) manager (Owns (Comes i t refl own told (moves_back t.kind (h.real i t told own).1 back) refl)), inl (refl, some)))))
 
-outcome_need : (n : ℕ) (b : Boot) (pt : Point) (d : Step) (ps : List Part) → Phased pt → HeldFor pt.view → Core n pt → rule.outcome b pt d ≡ Some ps → Core n (headed pt d) → AllNeed n (headed pt d) ps
+outcome_need : (n : ℕ) (b : Boot) (pt : Point) (d : Step) (ps : List Part) → Phased pt → HeldFor pt.view → LineCore n pt → rule.outcome b pt d ≡ Some ps → LineCore n (headed pt d) → AllNeed n (headed pt d) ps
 outcome_need n b pt d ps base holds core =
     let state : (m : ℕ) → State None (headed pt (Step.Turn m)) = λ m. begun pt (Step.Turn m) base.state (λ z. turn_off pt.view m z) (λ i. refl) in
-    by_outcome (λ x xs. Core n (headed pt x) → AllNeed n (headed pt x) xs) b pt d ps (record {
+    by_outcome (λ x xs. LineCore n (headed pt x) → AllNeed n (headed pt x) xs) b pt d ps (record {
       round = λ m xs box e h. round_need n (headed pt (Step.Turn m)) b pt m (rule.first_runnable pt.kernel (pt.view.queue m) (pt.view.ring m)) xs
           (λ p x runs alive. inr (
             made_free pt p base.sane.sound.made (ap is_some (alive-is (pt.kernel.processes p) x alive)),
@@ -180,5 +180,5 @@ outcome_need n b pt d ps base holds core =
     })
 
 -- each group
-pub core_group : (n : ℕ) (b : Boot) (pt : Point) (d : Step) (w : Spelled) → IsStep n d → group_of b pt d ≡ Some w → Phased pt → HeldFor pt.view → Core n pt → Core n w.point
+pub core_group : (n : ℕ) (b : Boot) (pt : Point) (d : Step) (w : Spelled) → IsStep n d → group_of b pt d ≡ Some w → Phased pt → HeldFor pt.view → LineCore n pt → LineCore n w.point
 core_group n b pt d w fit e base holds h = group_core n b pt d w fit e (λ ps. outcome_need n b pt d ps base holds h) base.sane h

@@ -14,7 +14,7 @@ use Rattle.dm_rulelaws.proofs.Found.Steps.{Sends, step_leaves, took_for, created
 use Rattle.dm_rulelaws.proofs.Fits.Start.{fits_step}
 use Rattle.dm_rulelaws.proofs.Found.Lists.{places_label}
 use Rattle.dm_rulelaws.proofs.Found.Places.{AllAre, all_as}
-use Rattle.dm_rulelaws.proofs.Found.Core.{AboutIs, KnowsAt, Knows, IsAt, KnownIs, Core, Grows, Learns, learns_nothing, learns, knows_grow, own_grows, about_grows}
+use Rattle.dm_rulelaws.proofs.Found.Core.{AboutIs, KnowsAt, Knows, IsAt, KnownIs, LineCore, Grows, Learns, learns_nothing, learns, knows_grow, own_grows, about_grows}
 use Rattle.dm_onekernel.specs.Service as service
 use Rattle.dm_rulelaws.proofs.Based.Loud.{Alike, SetLife, some_alike, step_alike, step_ends, step_serves, step_creates}
 use Rattle.dm_rulelaws.proofs.Fits.Rises.{both}
@@ -180,16 +180,16 @@ NeedsLabel pt (Label.NoSpace id a b) = IsAt pt.addresses pt.view id pt.view.acti
 NeedsLabel pt _ = ⊤
 
 -- a message's receiver is known where it stands, or at home
-there_known : (n : ℕ) (pt : Point) (id : MsgId) (m : PlainMessage) → pt.kernel.bag id ≡ Some m → (pt.addresses (Receiver id)).at ≡ pt.view.acting → Core n pt → KnowsAt pt.view m.to pt.view.acting
+there_known : (n : ℕ) (pt : Point) (id : MsgId) (m : PlainMessage) → pt.kernel.bag id ≡ Some m → (pt.addresses (Receiver id)).at ≡ pt.view.acting → LineCore n pt → KnowsAt pt.view m.to pt.view.acting
 there_known n pt id m there at h = subst (KnowsAt pt.view m.to) at (h.all (Receiver id) m.to (Links (ap to_of there)))
 
 pub fixed_home : (v : View) (q : Pid) (m : ℕ) → is_fixed q ≡ true → KnowsAt v q m → q.home ≡ m
 fixed_home v q m fixed h = search arith
 
-received_at : (n : ℕ) (pt : Point) (id : MsgId) → ((m : PlainMessage) → pt.kernel.bag id ≡ Some m → is_fixed m.to ≡ true) → (pt.addresses (Receiver id)).at ≡ pt.view.acting → Core n pt → ReceivedAt pt.kernel pt.view.acting id
+received_at : (n : ℕ) (pt : Point) (id : MsgId) → ((m : PlainMessage) → pt.kernel.bag id ≡ Some m → is_fixed m.to ≡ true) → (pt.addresses (Receiver id)).at ≡ pt.view.acting → LineCore n pt → ReceivedAt pt.kernel pt.view.acting id
 received_at n pt id fixed at h m there = fixed_home pt.view m.to pt.view.acting (fixed m there) (there_known n pt id m there at h)
 
-said_on : (n : ℕ) (pt : Point) (s : OneKernel) (l : Label) → kernel.step pt.kernel l ≡ Some s → NeedsLabel pt l → Core n pt → SaidOn (Knows pt.view) pt.kernel pt.view pt.addresses l
+said_on : (n : ℕ) (pt : Point) (s : OneKernel) (l : Label) → kernel.step pt.kernel l ≡ Some s → NeedsLabel pt l → LineCore n pt → SaidOn (Knows pt.view) pt.kernel pt.view pt.addresses l
 said_on n pt s l h1 h2 h3 = search (arith, there_known, received_at, took_for, pt.kernel, created_for, no_space_for)
 
 told_some : (o : Option Told) → is_some o ≡ true → o ≡ None → ⊥
@@ -217,7 +217,7 @@ made_stays a b h1 h2 = search arith
 sends_grow : (n : ℕ) (s t : OneKernel) (q : Pid) → Grown s t → Sends n s q → Sends n t q
 sends_grow n s t q grown h = search (arith, made_stays, s.processes, t.processes, grown_none, grown.lives)
 
-label_all : (n : ℕ) (pt : Point) (s : OneKernel) (l : Label) → Sane pt → kernel.step pt.kernel l ≡ Some s → AtHome (Knows pt.view) s (given pt.addresses (gives pt.kernel pt.view pt.addresses l)) → Core n pt
+label_all : (n : ℕ) (pt : Point) (s : OneKernel) (l : Label) → Sane pt → kernel.step pt.kernel l ≡ Some s → AtHome (Knows pt.view) s (given pt.addresses (gives pt.kernel pt.view pt.addresses l)) → LineCore n pt
     → AllAre (Knows pt.view) s pt.view (given pt.addresses (gives pt.kernel pt.view pt.addresses l))
 label_all n pt s l sane is home h g q (Links e) = homes_are (Knows pt.view) s (given pt.addresses (gives pt.kernel pt.view pt.addresses l)) home g q e
 label_all n pt s l sane is home h g q (Owns (Goes i u at own told to)) =
@@ -230,13 +230,13 @@ label_all n pt s l sane is home h g q (Owns (Comes i u at own told move to)) =
     (subst (Knows pt.view q) (sym (spared_sender pt.addresses i (gives pt.kernel pt.view pt.addresses l) spared)) (h.all (Sender i) q (Owns (Comes i u refl own told move to))))
 
 -- what is made is known at home
-other_home : (n : ℕ) (pt : Point) (s : OneKernel) (w : View) → Grows pt.view w → MadeBefore pt.kernel s → Core n pt → (q : Pid) → is_some (s.processes q) ≡ true → w.known q.home q ≢ Unknown
+other_home : (n : ℕ) (pt : Point) (s : OneKernel) (w : View) → Grows pt.view w → MadeBefore pt.kernel s → LineCore n pt → (q : Pid) → is_some (s.processes q) ≡ true → w.known q.home q ≢ Unknown
 other_home n pt s w grows made h q some = grows q.home q (h.home q (made q some))
 
-label_home : (n : ℕ) (pt : Point) (s : OneKernel) (l : Label) → NeedsLabel pt l → kernel.step pt.kernel l ≡ Some s → Grows pt.view (after_label pt.view l) → Core n pt → (q : Pid) → is_some (s.processes q) ≡ true → (after_label pt.view l).known q.home q ≢ Unknown
+label_home : (n : ℕ) (pt : Point) (s : OneKernel) (l : Label) → NeedsLabel pt l → kernel.step pt.kernel l ≡ Some s → Grows pt.view (after_label pt.view l) → LineCore n pt → (q : Pid) → is_some (s.processes q) ≡ true → (after_label pt.view l).known q.home q ≢ Unknown
 label_home n pt s l h1 h2 h3 h4 q h5 = search (arith, created_made, pt.kernel, q.home, pt.view, pt.view.acting, received_at, created_for, at_record_at, pt.view.known, other_home, step_made)
 
-pub label_core : (n : ℕ) (pt : Point) (s : OneKernel) (l : Label) → Sane pt → NeedsLabel pt l → kernel.step pt.kernel l ≡ Some s → Core n pt → Core n (moved pt (Line.Label l) s)
+pub label_core : (n : ℕ) (pt : Point) (s : OneKernel) (l : Label) → Sane pt → NeedsLabel pt l → kernel.step pt.kernel l ≡ Some s → LineCore n pt → LineCore n (moved pt (Line.Label l) s)
 label_core n pt s l sane need is h =
     let v = pt.view in
     let w = after_label v l in

@@ -1,8 +1,8 @@
 -- The parts of a group keep where messages stand, where each has what it needs.
-use Rattle.dm_rulelaws.proofs.Names.{◌≡◌, ℕ, ◌<◌, ◌==◌, Bool, true, false, List, [], ◌∷◌, length, refl, ap, ◌∙◌, sym, subst, arith, ⊤, if◌then◌else◌, Option, None, Some, false≢true, Pid, pid_of, MsgId, MessageKind, plain_kind, PlainMessage}
-use Rattle.dm_rulelaws.proofs.Names.{PlainWhat, manager, id_eq-same, bind-is, Line, Load, Told, is_kernels, own_id, Holder, Receiver, Sender, given, goes_between, own_gives, Point, moved, after, Part, Says, Routes, Again, Owns, Transmits}
-use Rattle.dm_rulelaws.proofs.Names.{Spelled, lines_of, puts, goes_out, packet_line, spelled, not_kernels, not_first, Sane, AllSayable, part_sane, is_own, by_parts}
-use Rattle.dm_rulelaws.proofs.Found.Core.{Knows, IsReal, Core}
+use Rattle.dm_rulelaws.proofs.Names.{◌≡◌, ℕ, ◌<◌, true, false, List, [], ◌∷◌, refl, ◌∙◌, sym, arith, ⊤, Option, None, Some, false≢true, Pid, pid_of, MsgId, MessageKind, plain_kind, PlainMessage, PlainWhat, manager, id_eq-same, bind-is}
+use Rattle.dm_rulelaws.proofs.Names.{Line, Told, is_kernels, own_id, Holder, Receiver, Sender, given, goes_between, own_gives, Point, moved, after, Part, Says, Routes, Again, Owns, Transmits, Spelled, lines_of, puts, packet_line, spelled}
+use Rattle.dm_rulelaws.proofs.Names.{not_kernels, not_first, Sane, AllSayable, part_sane, is_own, by_parts}
+use Rattle.dm_rulelaws.proofs.Found.Core.{Knows, IsReal, LineCore}
 use Rattle.dm_rulelaws.proofs.Found.Puts.{NeedsPut, put_core}
 use Rattle.dm_rulelaws.proofs.Found.Lines.{NeedsLine, line_core, packet_core}
 use Rattle.dm_rulelaws.proofs.Based.Needs.{by_puts}
@@ -27,10 +27,10 @@ NeedsPart n pt (Owns k q b) = NeedsOwn n pt k q b
 NeedsPart n pt _ = ⊤
 
 -- a put with its packet
-puts_core : (n : ℕ) (pt next : Point) (b : ℕ) (i : MsgId) (k : MessageKind) (q : Pid) (ls : List Line) → NeedsPut n pt b i k q → Core n pt → Some (puts pt.view b i k q) ≡ Some ls → after pt ls ≡ Some next → Core n next
-puts_core n pt next b i k q ls need h = by_puts (Core n) pt next b i k q ls (put_core n pt pt.view.acting b i k q need h) (packet_core n)
+puts_core : (n : ℕ) (pt next : Point) (b : ℕ) (i : MsgId) (k : MessageKind) (q : Pid) (ls : List Line) → NeedsPut n pt b i k q → LineCore n pt → Some (puts pt.view b i k q) ≡ Some ls → after pt ls ≡ Some next → LineCore n next
+puts_core n pt next b i k q ls need h = by_puts (LineCore n) pt next b i k q ls (put_core n pt pt.view.acting b i k q need h) (packet_core n)
 
-one_line : (n : ℕ) (pt next : Point) (l : Line) (ls : List Line) → NeedsLine n pt l → Sane pt → Some (l ∷ []) ≡ Some ls → after pt ls ≡ Some next → Core n pt → Core n next
+one_line : (n : ℕ) (pt next : Point) (l : Line) (ls : List Line) → NeedsLine n pt l → Sane pt → Some (l ∷ []) ≡ Some ls → after pt ls ≡ Some next → LineCore n pt → LineCore n next
 one_line n pt next l ls need sane is leads h = search (arith, bind-is, pt.kernel, line_core)
 
 -- a message of the bag is none of a kernel's
@@ -52,7 +52,7 @@ own_outside pt sane = bag_none pt (own_id pt.view) (pt.kernel.bag (own_id pt.vie
 pub own_fresh : (pt : Point) → Sane pt → pt.view.told (own_id pt.view) ≡ None
 own_fresh pt sane = sane.numbered pt.view.acting (pt.view.count pt.view.acting) (omega arith)
 
-pub part_core : (n : ℕ) (pt next : Point) (p : Part) (ls : List Line) → NeedsPart n pt p → Sane pt → lines_of pt p ≡ Some ls → after pt ls ≡ Some next → Core n pt → Core n next
+pub part_core : (n : ℕ) (pt next : Point) (p : Part) (ls : List Line) → NeedsPart n pt p → Sane pt → lines_of pt p ≡ Some ls → after pt ls ≡ Some next → LineCore n pt → LineCore n next
 part_core n pt next (Says l) ls need sane is leads h = one_line n pt next l ls need sane is leads h
 part_core n pt next (Routes i) ls need sane is leads h =
     let (m, there, last) = bind-is (pt.kernel.bag i) (λ m. Some (puts pt.view (pt.addresses (Receiver i)).at i (plain_kind m.what) m.to)) ls is in
@@ -85,8 +85,8 @@ loose_need n pt (p ∷ ps) h = (h.0 pt, λ ls next is leads. loose_need n next p
 pub first_need : (n : ℕ) (pt : Point) (p : Part) (ps : List Part) → NeedsPart n pt p → AllLoose n ps → AllNeed n pt (p ∷ ps)
 first_need n pt p ps need h = (need, λ ls next is leads. loose_need n next ps h)
 
-pub parts_core : (n : ℕ) (ps : List Part) (pt : Point) (w : Spelled) → AllSayable ps → AllNeed n pt ps → Sane pt → spelled pt ps ≡ Some w → Core n pt → Core n w.point
-parts_core n qs q w ok need sane is h = by_parts (λ ps pt v. AllSayable ps → AllNeed n pt ps → Sane pt → Core n pt → Core n v.point) (λ pt ok need sane h. h)
+pub parts_core : (n : ℕ) (ps : List Part) (pt : Point) (w : Spelled) → AllSayable ps → AllNeed n pt ps → Sane pt → spelled pt ps ≡ Some w → LineCore n pt → LineCore n w.point
+parts_core n qs q w ok need sane is h = by_parts (λ ps pt v. AllSayable ps → AllNeed n pt ps → Sane pt → LineCore n pt → LineCore n v.point) (λ pt ok need sane h. h)
     (λ p ps pt next ls z lines leads rest ok need sane h. rest ok.1 (need.1 ls next lines leads) (part_sane pt next p ls ok.0 lines leads sane) (part_core n pt next p ls need.0 sane lines leads h)) qs q w is ok need sane h
 
 -- a message that was put before is put again: nothing but lists and wires changes

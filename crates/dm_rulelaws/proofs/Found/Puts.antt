@@ -5,7 +5,7 @@ use Rattle.dm_rulelaws.proofs.Names.{sort_of, own_given, ◌<◌, ◌≤◌, Lis
 use Rattle.dm_rulelaws.proofs.Names.{Spot, times, standing, one_of, Named, zero_cases, flip_zero}
 use Rattle.dm_rulelaws.proofs.Found.Lists.{places_put, Places, places_line, places_handled, places_forwarded}
 use Rattle.dm_rulelaws.proofs.Found.Places.{AllAre, put_all, put_routed, put_again, put_tells, routed_gives, forwarded_all, sent_on_all, updated_all, updated_leaves}
-use Rattle.dm_rulelaws.proofs.Found.Core.{Knows, IsReal, AboutIs, IsAt, Core, Grows, learns_nothing, IsOwn, knows_grow, own_grows, about_grows, core_view}
+use Rattle.dm_rulelaws.proofs.Found.Core.{Knows, IsReal, AboutIs, IsAt, LineCore, Grows, learns_nothing, IsOwn, knows_grow, own_grows, about_grows, core_view}
 
 -- what was told of, and what wasn't
 pub told_apart : (v : View) (i j : MsgId) → v.told i ≡ None → is_some (v.told j) ≡ true → id_eq i j ≡ false
@@ -41,7 +41,7 @@ put_place n pt b id k q (Again u told at) = ap (λ (o : Option Told). (given pt.
 put_place n pt b id k q (Own bag none to from at real own_) = ap (λ (o : Option Told). (given pt.addresses (first_gives o (own_gives pt.kernel pt.view pt.addresses id q k)) (Receiver id)).at) none ∙ at
 put_place n pt b id k q (Routed other plain none at) = ap (λ (p : Place). p.at) (routed_gives pt.kernel pt.view pt.addresses id k q plain (pt.view.told id) (Receiver id)) ∙ at
 
-put_are : (n : ℕ) (pt : Point) (x b : ℕ) (id : MsgId) (k : MessageKind) (q : Pid) → NeedsPut n pt b id k q → Core n pt
+put_are : (n : ℕ) (pt : Point) (x b : ℕ) (id : MsgId) (k : MessageKind) (q : Pid) → NeedsPut n pt b id k q → LineCore n pt
     → AllAre (Knows pt.view) pt.kernel (after_put pt.view x b id k q) (given pt.addresses (first_gives (pt.view.told id) (own_gives pt.kernel pt.view pt.addresses id q k)))
 put_are n pt x b id k q (Again u told at) h = put_again (Knows pt.view) pt.kernel pt.view pt.addresses x b id k q u told h.all
 put_are n pt x b id k q (Own bag none to from at real own_) h = put_all (Knows pt.view) pt.kernel pt.view pt.addresses x b id k q bag none to from h.all
@@ -61,7 +61,7 @@ put_keeps v x y id i k q some = elim (cases_Bool (id_eq id i)) [
   | inr apart ↦ ap is_some (put_told_off v x y id i k q apart) ∙ some
 ]
 
-pub put_core : (n : ℕ) (pt : Point) (x b : ℕ) (id : MsgId) (k : MessageKind) (q : Pid) → NeedsPut n pt b id k q → Core n pt → Core n (moved pt (Line.Put x b id k q) pt.kernel)
+pub put_core : (n : ℕ) (pt : Point) (x b : ℕ) (id : MsgId) (k : MessageKind) (q : Pid) → NeedsPut n pt b id k q → LineCore n pt → LineCore n (moved pt (Line.Put x b id k q) pt.kernel)
 put_core n pt x b id k q need h =
     let v = pt.view in
     let w = after_put v x b id k q in
@@ -95,7 +95,7 @@ abbrev gives_at : Point → View → Addresses → Point
 gives_at pt w b = record { kernel = pt.kernel; view = w; addresses = b }
 
 given_core : (n : ℕ) (pt : Point) (w : View) (b : Addresses) → w.acting ≡ pt.view.acting → ((m : ℕ) (q : Pid) → w.known m q ≡ pt.view.known m q) → w.told ≡ pt.view.told → AboutIs n pt.view w.topic → AllAre (Knows pt.view) pt.kernel pt.view b
-    → Places (IsAt b pt.view) w → Core n pt → Core n (gives_at pt w b)
+    → Places (IsAt b pt.view) w → LineCore n pt → LineCore n (gives_at pt w b)
 given_core n pt w b acting known told topic all places h =
     let learnt = learns_nothing n pt.view w acting known h.known in
     core_view n pt w b (subst (λ (k : ℕ). k < n) (sym acting) h.acting) learnt.grows learnt.known told (about_grows n pt.view w w.topic learnt.grows topic) all places h
@@ -118,7 +118,7 @@ pub record NeedsForward (n : ℕ) (pt : Point) (id : MsgId) : Type 0 where
   pub fresh : pt.view.told (own_id pt.view) ≡ None
   pub gone : (z : Spot) → standing (handled pt.view id) id z ≡ 0
 
-pub forwarded_core : (n : ℕ) (pt : Point) (id : MsgId) (m : ℕ) → NeedsForward n pt id → Core n pt → Core n (moved pt (Line.Forwarded id m) pt.kernel)
+pub forwarded_core : (n : ℕ) (pt : Point) (id : MsgId) (m : ℕ) → NeedsForward n pt id → LineCore n pt → LineCore n (moved pt (Line.Forwarded id m) pt.kernel)
 forwarded_core n pt id m need h =
     let v = pt.view in
     let a = pt.addresses in
@@ -128,7 +128,7 @@ forwarded_core n pt id m need h =
     let apart : Places (λ i k. (id_eq id i ≡ false) × IsAt a v i k) w =
     places_forwarded (λ i k. (id_eq id i ≡ false) × IsAt a v i k) (handled v id) (Some need.u.receiver)
     (λ i z e. (not_true (id_eq id i) (λ k. let f : standing (handled v id) i z ≡ 0 = ap (λ (j : MsgId). standing (handled v id) j z) (sym (id_eq-is id i k)) ∙ need.gone z in absurd (omega (arith, e, f))), places_handled (IsAt a v) v id h.places i z e)) in
-    subst (λ (o : Option Told). Core n (gives_at pt (forwarded_for (handled v id) (receiver_of o)) (given a (forwards v a id o)))) (sym need.told)
+    subst (λ (o : Option Told). LineCore n (gives_at pt (forwarded_for (handled v id) (receiver_of o)) (given a (forwards v a id o)))) (sym need.told)
     (given_core n pt w b refl (λ k q. refl) refl need.topic all
     (λ i z e. let k = apart i z e in (ap (λ (p : Place). p.at) (forwards_off v a id i need.u k.0 (told_apart v (own_id v) i need.fresh k.1.1)) ∙ k.1.0, k.1.1)) h)
 
@@ -144,7 +144,7 @@ pub record NeedsSent (pt : Point) (p : Pid) : Type 0 where
       → Knows pt.view q (place_known (pt.view.known pt.view.acting p) (pt.view.moves p) (pt.addresses (Receiver i)))
   pub gone : (i : MsgId) (z : Spot) (k : ℕ) → 1 ≤ times i (pt.view.queue pt.view.acting p ++ pt.view.held pt.view.acting p) → standing (view_after pt.view (Line.SentOn p k)) i z ≡ 0
 
-pub sent_core : (n : ℕ) (pt : Point) (p : Pid) (k : ℕ) → NeedsSent pt p → Core n pt → Core n (moved pt (Line.SentOn p k) pt.kernel)
+pub sent_core : (n : ℕ) (pt : Point) (p : Pid) (k : ℕ) → NeedsSent pt p → LineCore n pt → LineCore n (moved pt (Line.SentOn p k) pt.kernel)
 sent_core n pt p k need h =
     let v = pt.view in
     let a = pt.addresses in
@@ -161,7 +161,7 @@ sent_core n pt p k need h =
     )) h
 
 -- an update
-pub updated_core : (n : ℕ) (pt : Point) (id : MsgId) (k : ℕ) → Core n pt → Core n (moved pt (Line.Updated id k) pt.kernel)
+pub updated_core : (n : ℕ) (pt : Point) (id : MsgId) (k : ℕ) → LineCore n pt → LineCore n (moved pt (Line.Updated id k) pt.kernel)
 updated_core n pt id k h =
     let v = pt.view in
     let a = pt.addresses in

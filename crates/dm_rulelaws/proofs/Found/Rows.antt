@@ -1,8 +1,8 @@
 -- What each row of a turn needs: processes that run, messages of the bag, and messages of kernels.
-use Rattle.dm_rulelaws.proofs.Names.{◌≡◌, ℕ, ◌+◌, List, [], ◌∷◌, ap, ◌∙◌, subst, Option, None, Some, Pid, pid_of, MsgId, plain_kind, Label, PlainMessage, Boot, first_number, PlainProcess, OneKernel, bind-is, Line, Forward, Point, label_of}
-use Rattle.dm_rulelaws.proofs.Names.{kernel_after, moved, after_line, after, Part, Says, Routes, lines_of, forwards_on, Stops, by_round, by_handles, ◌/◌, ◌<◌, ◌==◌, Bool, true, false, ◌++◌, length, refl, ◌||◌, if◌then◌else◌, pid_eq}
-use Rattle.dm_rulelaws.proofs.Names.{MessageKind, Stage, switchboard, manager, bind, Told, About, Of, Known, Unknown, Here, target_of, front_told, front_of, to_kernel, accepts, takes_chunk, takes_block, leaves, chunks_of, pieces_of}
-use Rattle.dm_rulelaws.proofs.Names.{kernel_told, here_told, ended_told, process_told, server_told, is_between, is_fixed, own_gives, own_id, goes_between, is_own}
+use Rattle.dm_rulelaws.proofs.Names.{◌≡◌, ℕ, ◌+◌, List, [], ◌∷◌, ap, ◌∙◌, subst, Option, None, Some, Pid, pid_of, MsgId, plain_kind, Label, PlainMessage, Boot, first_number, PlainProcess, Line, Forward, Point, moved, Part, Says, Routes}
+use Rattle.dm_rulelaws.proofs.Names.{forwards_on, Stops, by_round, by_handles, ◌/◌, ◌<◌, ◌==◌, Bool, true, false, ◌++◌, length, refl, ◌||◌, if◌then◌else◌, pid_eq, MessageKind, Stage, switchboard, manager, bind, Told, About, Of, Known}
+use Rattle.dm_rulelaws.proofs.Names.{Unknown, Here, target_of, front_told, front_of, to_kernel, accepts, takes_chunk, takes_block, leaves, chunks_of, pieces_of, kernel_told, here_told, ended_told, process_told, server_told, is_between}
+use Rattle.dm_rulelaws.proofs.Names.{is_fixed, own_gives, own_id, goes_between, is_own}
 use Rattle.dm_onekernel.specs.Pieces as pieces
 use Rattle.dm_onekernel.specs.Step as kernel
 use Rattle.dm_rule.specs.Rule as rule
