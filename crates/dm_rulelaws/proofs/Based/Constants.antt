@@ -1,77 +1,31 @@
 -- The format, the images and the number of machines of the kernel without machines never change, and the manager's pending
-use Rattle.dm_rulelaws.proofs.Names.{take, drop, by_step, ◌≡◌, ℕ, ◌+◌, ◌*◌, ◌==◌, ◌&&◌, Bool, true, false, nat_lt, List, [], ◌∷◌, ◌++◌, length, refl, ◌∙◌, subst, if◌then◌else◌, Option, None, Some, Pid, MsgId, PlainMessage, PlainWhat, Label}
-use Rattle.dm_rulelaws.proofs.Names.{Why, PlainLink, Ended, Life, OneKernel, Manager, Pending, replay, Step, Boot, ascends, Spelled, Point, labels, group_of, ascends_more, ascends_last, ascends_without, PlainProcess, answer_to}
-use Rattle.dm_rulelaws.proofs.Names.{without_message, bind-is}
 -- requests stay in order.
+use Rattle.dm_rulelaws.proofs.Names.{take, drop, by_step, ◌≡◌, ℕ, true, List, [], ◌∷◌, length, refl, ◌∙◌, subst, Option, None, Some, Pid, MsgId, PlainMessage, PlainWhat, Label, Why, Ended, Life, OneKernel, Manager, replay, Step, Boot}
+use Rattle.dm_rulelaws.proofs.Names.{ascends, Spelled, Point, labels, group_of, ascends_more, ascends_last, ascends_without, PlainProcess, answer_to, without_message, bind-is}
 use Rattle.dm_onekernel.specs.Kernel as kernels
 use Rattle.dm_rulelaws.proofs.RunLabels.{group_replay}
 use Rattle.dm_onekernel.specs.Manager as manage
 use Rattle.dm_onekernel.specs.Pieces as pieces
 use Rattle.dm_onekernel.specs.Service as service
 use Rattle.dm_onekernel.specs.Step as kernel
+use Rattle.dm_rulelaws.proofs.Takes.{by_manager}
 
 -- the manager's pending requests stand in the order in which it sent them
 abbrev pub InOrder : Manager → Type 0
 InOrder g = ascends 0 g.pending g.sent ≡ true
 
-more_order : (g : Manager) → InOrder g → InOrder (record g { sent = g.sent + 1 })
-more_order g h = ascends_more g.pending 0 g.sent h
-
-bad_order : (g : Manager) (links : List PlainLink) → InOrder g → InOrder (manage.bad_request g links).manager
-bad_order g [] h = h
-bad_order g (l ∷ ls) h = more_order g h
-
-wants_order : (g : Manager) (machine image : ℕ) (l : PlainLink) (ls : List PlainLink) (c : Bool) → InOrder g → InOrder (if c then manage.asks_for g machine image l ls else manage.bad_request g (l ∷ ls)).manager
-wants_order g machine image l ls true h = ascends_last g.pending 0 g.sent l h
-wants_order g machine image l ls false h = more_order g h
-
-child_order : (g : Manager) (machines images machine image : ℕ) (links : List PlainLink) → InOrder g → InOrder (manage.wants_child g machines images machine image links).manager
-child_order g machines images machine image [] h = h
-child_order g machines images machine image (l ∷ ls) h = wants_order g machine image l ls (nat_lt machine machines && nat_lt image images) h
-
-asks_order : (g : Manager) (machines images machine image : ℕ) (links : List PlainLink) (c : Bool) → InOrder g → InOrder (if c then manage.wants_child g machines images machine image links else manage.bad_request g links).manager
-asks_order g machines images machine image links true h = child_order g machines images machine image links h
-asks_order g machines images machine image links false h = bad_order g links h
-
-requests_order : (g : Manager) (machines images : ℕ) (body : List ℕ) (links : List PlainLink) → InOrder g → InOrder (manage.requests_child g machines images body links).manager
-requests_order g machines images (a ∷ b ∷ c ∷ d ∷ []) links h = asks_order g machines images b (256 * c + d) links (a == 1) h
-requests_order g machines images _ links h = bad_order g links h
-
-control_order : (g : Manager) (child : Pid) (w : Option PlainWhat) (links : List PlainLink) → InOrder g → InOrder (manage.tells_child g child w links).manager
-control_order g child None links h = bad_order g links h
-control_order g child (Some w) links h = more_order g h
-
-controls_order : (g : Manager) (child : Option Pid) (body : List ℕ) (links : List PlainLink) → InOrder g → InOrder (manage.controls g child body links).manager
-controls_order g None body links h = bad_order g links h
-controls_order g (Some p) (a ∷ []) links h = control_order g p (manage.control_of a) links h
-controls_order g (Some p) _ links h = bad_order g links h
-
-user_order : (g : Manager) (machines images code : ℕ) (body : List ℕ) (links : List PlainLink) (c : Bool) → InOrder g
-    → InOrder (if c then manage.requests_child g machines images body links else manage.controls g (manage.child_numbered g.children code) body links).manager
-user_order g machines images code body links true h = requests_order g machines images body links h
-user_order g machines images code body links false h = controls_order g (manage.child_numbered g.children code) body links h
-
-created_order : (g : Manager) (n : ℕ) (child : Pid) (o : Option Pending) (k : manage.ManagerTook) → manage.takes_created g n child o ≡ Some k → InOrder g → InOrder k.manager
-created_order g n child None k e h = cc
-created_order g n child (Some r) k e h =
-    let t = manage.answers_byte (record g { children = g.children ++ child ∷ []; pending = manage.without_pending n g.pending }) r.answer 0 (manage.control_link (length g.children + 1) ∷ []) in
-    let f : t ≡ k = cc in
-    subst (λ (x : manage.ManagerTook). InOrder x.manager) f (ascends_more (manage.without_pending n g.pending) 0 g.sent (ascends_without g.pending 0 g.sent n h))
-
-no_room_order : (g : Manager) (n : ℕ) (o : Option Pending) (k : manage.ManagerTook) → manage.takes_no_room g n o ≡ Some k → InOrder g → InOrder k.manager
-no_room_order g n None k e h = cc
-no_room_order g n (Some r) k e h =
-    let t = manage.answers_byte (record g { pending = manage.without_pending n g.pending }) r.answer 1 [] in
-    let f : t ≡ k = cc in
-    subst (λ (x : manage.ManagerTook). InOrder x.manager) f (ascends_more (manage.without_pending n g.pending) 0 g.sent (ascends_without g.pending 0 g.sent n h))
-
 took_order : (g : Manager) (machines images : ℕ) (m : PlainMessage) (w : PlainWhat) (k : manage.ManagerTook) → manage.manager_takes g machines images m w ≡ Some k → InOrder g → InOrder k.manager
-took_order g machines images m (PlainWhat.User code channel body links) k e h =
-    let f : manage.takes_user g machines images code body links ≡ k = cc in
-    subst (λ (x : manage.ManagerTook). InOrder x.manager) f (user_order g machines images code body links (code == 0) h)
-took_order g machines images m (PlainWhat.Created child) k e h = created_order g m.id.n child (manage.pending_numbered m.id.n g.pending) k e h
-took_order g machines images m PlainWhat.NoRoom k e h = no_room_order g m.id.n (manage.pending_numbered m.id.n g.pending) k e h
-took_order g machines images m _ k e h = cc
+took_order g machines images m w k e h =
+    let more = ascends_more g.pending 0 g.sent h in
+    let less = ascends_more (manage.without_pending m.id.n g.pending) 0 g.sent (ascends_without g.pending 0 g.sent m.id.n h) in
+    by_manager (λ x. InOrder x.manager) g machines images m w k (record {
+      ignores = h;
+      refuses = λ l ls u. more;
+      asks = λ machine image l ls u within. ascends_last g.pending 0 g.sent l h;
+      tells = λ code child v is control. more;
+      created = λ child r is there. less;
+      no_room = λ r is there. less;
+    }) e
 
 -- what is made of the boot file, and stays
 pub record Constant (s t : OneKernel) : Type 0 where
