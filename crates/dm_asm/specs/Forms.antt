@@ -4,7 +4,7 @@ use Rattle.std.specs.List.{find}
 use Rattle.std.specs.Str.{bytes_eq}
 use Rattle.dm_processor.specs.Opcodes.{opcodes, opcode_word}
 use Rattle.dm_processor.specs.declared.opcodes.Opcode.{Opcode}
-use Rattle.dm_processor.specs.declared.opcodes.Opcode.TheVariants.{Li, Lih, Mov, Add, Sub, Mul, And, Or, Xor, Shl, Shr, Lw, Sw, Lb, Sb, Jmp, Beq, Bne, Bltu, Sys}
+use Rattle.dm_processor.specs.declared.opcodes.Opcode.TheVariants.{Li, Lih, Mov, Lw, Sw, Lb, Sb, Jmp, Beq, Bne, Bltu, Sys}
 use Rattle.dm_asm.specs.declared.forms.Form.{Form}
 use Rattle.dm_asm.specs.declared.forms.Form.TheVariants.{Instruction, Word, Byte, Zero}
 use Rattle.dm_asm.specs.declared.forms.Shape.{Shape}

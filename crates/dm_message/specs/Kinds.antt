@@ -1,5 +1,5 @@
 -- The kinds of message: the word and the number of each.
-use Rattle.std.specs.Prelude.{◌≡◌, ⊤, ℕ, List, [], ◌∷◌, ◌==◌, Option, None, Some, codes}
+use Rattle.std.specs.Prelude.{◌≡◌, ⊤, ℕ, List, [], ◌∷◌, ◌==◌, Option, None, Some}
 use Rattle.std.specs.List.{find}
 use Rattle.dm_message.specs.declared.What.{What}
 use Rattle.dm_message.specs.declared.What.TheVariants as what
