@@ -1,5 +1,6 @@
 pub mod Names
 pub mod After
+pub mod Leading
 pub mod Trail
 pub mod Lists
 pub mod Stages

@@ -27,10 +27,7 @@ LineEnds o a l ps = AllStay ps
 abbrev pub LastEnds : Point → ℕ → List Part → Type 0
 LastEnds o a [] = ⊤
 LastEnds o a (Says l ∷ ps) = LineEnds o a l ps
-LastEnds o a (Routes i ∷ ps) = AllStay ps
-LastEnds o a (Again i b ∷ ps) = AllStay ps
-LastEnds o a (Owns k q b ∷ ps) = AllStay ps
-LastEnds o a (Transmits x y l ∷ ps) = AllStay ps
+LastEnds o a (p ∷ ps) = AllStay ps
 
 -- or a process runs, and then it is so
 pub data Ends (o : Point) (a : ℕ) (ps : List Part) : Type 0 where

@@ -5,6 +5,7 @@ use Rattle.dm_movelaws.proofs.Names.{About, NothingElse, Known, Here, Frozen, In
 use Rattle.dm_rule.specs.View as view
 use Rattle.dm_movelaws.proofs.At.RestBuried.{Knows}
 use Rattle.dm_movelaws.proofs.At.RestEnds.{is_ending, PartStays, AllStay}
+use Rattle.dm_movelaws.proofs.Leading.{Behind, whatever_put, parts_lead}
 
 -- what has ended had ended before
 pub record Only (before : Knows) (v : View) : Type 0 where
@@ -101,58 +102,20 @@ line_only before v (Line.Forwarded id m) e h = only_as before v (view_after v (L
 line_only before v (Line.Proto id) e h = only_as before v (view_after v (Line.Proto id)) (proto_known (handled v id) (v.told id)) h
 line_only before v (Line.Migration s p) e h = stage_only before v p s h
 line_only before v (Line.Stays p) e h = only_set before v (view_after v (Line.Stays p)) p Here refl (here_not (v.known v.acting p ≡ Ended)) h
-line_only before v Line.Nothing e h = h
 line_only before v any_ e h = only_as before v (view_after v any_) refl h
 
 -- parts that end nothing
-one_view : (pt next : Point) (l : Line) → after pt (l ∷ []) ≡ Some next → next.view ≡ view_after pt.view l
-one_view pt next l e =
-    let (mid, first, rest) = bind-is (after_line pt l) (λ q. after q []) next e in
-    let f : mid ≡ next = cc in
-    sym (ap (λ (q : Point). q.view) f) ∙ line_view pt mid l first
-
-puts_by : (before : Knows) (pt next : Point) (b : ℕ) (i : MsgId) (k : MessageKind) (q : Pid) (c d : Bool) → Only before pt.view
-    → after pt (Line.Put pt.view.acting b i k q ∷ (if c then [] else if d then packet_line pt.view pt.view.acting b (Load.Data (length (pt.view.pair pt.view.acting b).ids)) ∷ [] else [])) ≡ Some next → Only before next.view
-puts_by before pt next b i k q true d h is = subst (Only before) (sym (one_view pt next (Line.Put pt.view.acting b i k q) is)) (line_only before pt.view (Line.Put pt.view.acting b i k q) refl h)
-puts_by before pt next b i k q false false h is = subst (Only before) (sym (one_view pt next (Line.Put pt.view.acting b i k q) is)) (line_only before pt.view (Line.Put pt.view.acting b i k q) refl h)
-puts_by before pt next b i k q false true h is =
-    let l = packet_line pt.view pt.view.acting b (Load.Data (length (pt.view.pair pt.view.acting b).ids)) in
-    let (mid, first, rest) = bind-is (after_line pt (Line.Put pt.view.acting b i k q)) (λ q. after q (l ∷ [])) next is in
-    let one : Only before mid.view = subst (Only before) (sym (line_view pt mid (Line.Put pt.view.acting b i k q) first)) (line_only before pt.view (Line.Put pt.view.acting b i k q) refl h) in
-    subst (Only before) (sym (one_view mid next l rest)) (line_only before mid.view l refl one)
-
-puts_only : (before : Knows) (pt next : Point) (b : ℕ) (i : MsgId) (k : MessageKind) (q : Pid) (ls : List Line) → Only before pt.view → Some (puts pt.view b i k q) ≡ Some ls → after pt ls ≡ Some next → Only before next.view
-puts_only before pt next b i k q ls h is leads =
-    let f : puts pt.view b i k q ≡ ls = cc in
-    puts_by before pt next b i k q (pt.view.acting == b) (goes_out (pt.view.pair pt.view.acting b)) h (ap (after pt) f ∙ leads)
-
-part_only : (before : Knows) (pt next : Point) (p : Part) (ls : List Line) → PartStays p → lines_of pt p ≡ Some ls → after pt ls ≡ Some next → Only before pt.view → Only before next.view
-part_only before pt next (Says l) ls stays is leads h =
-    let f : l ∷ [] ≡ ls = cc in
-    subst (Only before) (sym (one_view pt next l (ap (after pt) f ∙ leads))) (line_only before pt.view l stays h)
-part_only before pt next (Routes i) ls stays is leads h =
-    let (m, there, last) = bind-is (pt.kernel.bag i) (λ m. Some (puts pt.view (pt.addresses (Receiver i)).at i (plain_kind m.what) m.to)) ls is in
-    puts_only before pt next (pt.addresses (Receiver i)).at i (plain_kind m.what) m.to ls h last leads
-part_only before pt next (Again i b) ls stays is leads h =
-    let (t, there, last) = bind-is (pt.view.told i) (λ t. Some (puts pt.view b i t.kind t.receiver)) ls is in
-    puts_only before pt next b i t.kind t.receiver ls h last leads
-part_only before pt next (Owns k q b) ls stays is leads h = puts_only before pt next b (view.own_id pt.view) k q ls h is leads
-part_only before pt next (Transmits a b l) ls stays is leads h =
-    let f : packet_line pt.view a b l ∷ [] ≡ ls = cc in
-    subst (Only before) (sym (one_view pt next (packet_line pt.view a b l) (ap (after pt) f ∙ leads))) (line_only before pt.view (packet_line pt.view a b l) refl h)
+only_behind : (before : Knows) (pt : Point) (p : Part) → PartStays p → Only before pt.view → Behind (λ q. Only before q.view) pt p
+only_behind before pt p stays h =
+    whatever_put (λ q. Only before q.view) pt p (λ l is s step. line_only before pt.view l (subst PartStays is stays) h) (λ b i k q. line_only before pt.view (Line.Put pt.view.acting b i k q) refl h) h
 
 pub parts_only : (before : Knows) (ps : List Part) (pt : Point) (w : Spelled) → AllStay ps → spelled pt ps ≡ Some w → Only before pt.view → Only before w.point.view
-parts_only before qs q w stays is h = by_parts (λ ps pt v. AllStay ps → Only before pt.view → Only before v.point.view) (λ pt stays h. h) (λ p ps pt next ls z lines leads rest stays h. rest stays.1 (part_only before pt next p ls stays.0 lines leads h)) qs q w is stays h
+parts_only before = parts_lead (λ q. Only before q.view) (λ q a b k l h. line_only before q.view (Line.Packet a b k l) refl h) PartStays (only_behind before)
 
 -- all directives but turns are so
 net_stays : (l : Line) → IsNetLine l → is_ending l ≡ false
-net_stays (Line.Taken a b k) h = refl
-net_stays (Line.Old a b k) h = refl
-net_stays (Line.Early a b k) h = refl
-net_stays (Line.Acked a b k) h = refl
-net_stays (Line.Resent m k) h = refl
-net_stays Line.Nothing h = refl
-net_stays _ h = absurd h
+net_stays (Line.Label l) h = absurd h
+net_stays _ h = refl
 
 pub nets_stay : (ps : List Part) → IsNet ps → AllStay ps
 nets_stay [] h = tt

@@ -6,6 +6,8 @@ use Rattle.dm_movelaws.proofs.Names.{arrives_net, resends_net, acting_label, All
 use Rattle.dm_movelaws.proofs.Names.{forwarded_acting, by_parts}
 use Rattle.dm_rule.specs.Rule as rule
 use Rattle.dm_rule.specs.View as view
+use Rattle.dm_movelaws.proofs.Leading.{All, Behind, whatever_put, parts_lead}
+use Rattle.dm_movelaws.proofs.After.{keeps_always}
 
 pub record Routed (n : ℕ) (v : View) : Type 0 where
   pub acting : v.acting < n
@@ -76,34 +78,22 @@ PartCalm (Says l) = is_calm l ≡ true
 PartCalm _ = ⊤
 
 abbrev AllCalm : List Part → Type 0
-AllCalm [] = ⊤
-AllCalm (p ∷ ps) = PartCalm p × AllCalm ps
+AllCalm = All PartCalm
 
 calm_of : (l : Line) → touches l ≡ false → is_calm l ≡ true
 calm_of (Line.Head d) e = absurd (false≢true (sym e))
 calm_of (Line.Put a b id k q) e = absurd (false≢true (sym e))
-calm_of (Line.Packet a b k l) e = absurd (false≢true (sym e))
-calm_of (Line.Taken a b k) e = absurd (false≢true (sym e))
-calm_of (Line.Early a b k) e = absurd (false≢true (sym e))
-calm_of (Line.Acked a b k) e = absurd (false≢true (sym e))
 calm_of _ e = refl
 
 net_calm : (l : Line) → IsNetLine l → is_calm l ≡ true
-net_calm (Line.Taken a b k) h = refl
-net_calm (Line.Early a b k) h = refl
-net_calm (Line.Acked a b k) h = refl
-net_calm (Line.Old a b k) h = refl
-net_calm (Line.Resent m k) h = refl
-net_calm Line.Nothing h = refl
-net_calm _ h = absurd h
+net_calm (Line.Head d) h = absurd h
+net_calm (Line.Put a b id k q) h = absurd h
+net_calm _ h = refl
 
 fit_calm : (f : ℕ → ℕ → Pair) (ps : List Part) → AllFit f ps → AllCalm ps
 fit_calm f [] h = tt
 fit_calm f (Says l ∷ ps) h = (calm_of l h.0, fit_calm f ps h.1)
-fit_calm f (Routes i ∷ ps) h = (tt, fit_calm f ps h.1)
-fit_calm f (Again i b ∷ ps) h = (tt, fit_calm f ps h.1)
-fit_calm f (Owns k q b ∷ ps) h = (tt, fit_calm f ps h.1)
-fit_calm f (Transmits a b l ∷ ps) h = (tt, fit_calm f ps h.1)
+fit_calm f (p ∷ ps) h = (tt, fit_calm f ps h.1)
 
 nets_calm : (ps : List Part) → IsNet ps → AllCalm ps
 nets_calm [] h = tt
@@ -124,44 +114,11 @@ outcome_calm b pt (Step.Deliver a c k) ps is =
 outcome_calm b pt (Step.Migrate p m) ps is = let f : migrates pt p ≡ ps = cc in subst AllCalm f (fit_calm pt.view.pair (migrates pt p) (migrates_fit pt.view.pair pt p))
 
 -- each part keeps it
-one_view : (pt next : Point) (l : Line) → after pt (l ∷ []) ≡ Some next → next.view ≡ view_after pt.view l
-one_view pt next l e =
-    let (mid, first, rest) = bind-is (after_line pt l) (λ q. after q []) next e in
-    let f : mid ≡ next = cc in
-    sym (ap (λ (q : Point). q.view) f) ∙ line_view pt mid l first
-
-puts_by : (n : ℕ) (pt next : Point) (b : ℕ) (i : MsgId) (k : MessageKind) (q : Pid) (c d : Bool) → Routed n pt.view
-    → after pt (Line.Put pt.view.acting b i k q ∷ (if c then [] else if d then packet_line pt.view pt.view.acting b (Load.Data (length (pt.view.pair pt.view.acting b).ids)) ∷ [] else [])) ≡ Some next → Routed n next.view
-puts_by n pt next b i k q true d h is = subst (Routed n) (sym (one_view pt next (Line.Put pt.view.acting b i k q) is)) (put_routed n pt.view b i k q h)
-puts_by n pt next b i k q false false h is = subst (Routed n) (sym (one_view pt next (Line.Put pt.view.acting b i k q) is)) (put_routed n pt.view b i k q h)
-puts_by n pt next b i k q false true h is =
-    let l = packet_line pt.view pt.view.acting b (Load.Data (length (pt.view.pair pt.view.acting b).ids)) in
-    let (mid, first, rest) = bind-is (after_line pt (Line.Put pt.view.acting b i k q)) (λ q. after q (l ∷ [])) next is in
-    let one : Routed n mid.view = subst (Routed n) (sym (line_view pt mid (Line.Put pt.view.acting b i k q) first)) (put_routed n pt.view b i k q h) in
-    subst (Routed n) (sym (one_view mid next l rest)) (packet_routed n mid.view pt.view.acting b (length (pt.view.pair pt.view.acting b).wire) (Load.Data (length (pt.view.pair pt.view.acting b).ids)) one)
-
-puts_routed : (n : ℕ) (pt next : Point) (b : ℕ) (i : MsgId) (k : MessageKind) (q : Pid) (ls : List Line) → Routed n pt.view → Some (puts pt.view b i k q) ≡ Some ls → after pt ls ≡ Some next → Routed n next.view
-puts_routed n pt next b i k q ls h is leads =
-    let f : puts pt.view b i k q ≡ ls = cc in
-    puts_by n pt next b i k q (pt.view.acting == b) (goes_out (pt.view.pair pt.view.acting b)) h (ap (after pt) f ∙ leads)
-
-part_routed : (n : ℕ) (pt next : Point) (p : Part) (ls : List Line) → PartCalm p → lines_of pt p ≡ Some ls → after pt ls ≡ Some next → Routed n pt.view → Routed n next.view
-part_routed n pt next (Says l) ls calm is leads h =
-    let f : l ∷ [] ≡ ls = cc in
-    subst (Routed n) (sym (one_view pt next l (ap (after pt) f ∙ leads))) (calm_line n pt.view l calm h)
-part_routed n pt next (Routes i) ls calm is leads h =
-    let (m, there, last) = bind-is (pt.kernel.bag i) (λ m. Some (puts pt.view (pt.addresses (Receiver i)).at i (plain_kind m.what) m.to)) ls is in
-    puts_routed n pt next (pt.addresses (Receiver i)).at i (plain_kind m.what) m.to ls h last leads
-part_routed n pt next (Again i b) ls calm is leads h =
-    let (t, there, last) = bind-is (pt.view.told i) (λ t. Some (puts pt.view b i t.kind t.receiver)) ls is in
-    puts_routed n pt next b i t.kind t.receiver ls h last leads
-part_routed n pt next (Owns k q b) ls calm is leads h = puts_routed n pt next b (view.own_id pt.view) k q ls h is leads
-part_routed n pt next (Transmits a b l) ls calm is leads h =
-    let f : packet_line pt.view a b l ∷ [] ≡ ls = cc in
-    subst (Routed n) (sym (one_view pt next (packet_line pt.view a b l) (ap (after pt) f ∙ leads))) (packet_routed n pt.view a b (length (pt.view.pair a b).wire) l h)
+routed_behind : (n : ℕ) (pt : Point) (p : Part) → PartCalm p → Routed n pt.view → Behind (λ q. Routed n q.view) pt p
+routed_behind n pt p calm h = whatever_put (λ q. Routed n q.view) pt p (λ l is s step. calm_line n pt.view l (subst PartCalm is calm) h) (λ b i k q. put_routed n pt.view b i k q h) h
 
 parts_routed : (n : ℕ) (ps : List Part) (pt : Point) (w : Spelled) → AllCalm ps → spelled pt ps ≡ Some w → Routed n pt.view → Routed n w.point.view
-parts_routed n qs q w calm is h = by_parts (λ ps pt v. AllCalm ps → Routed n pt.view → Routed n v.point.view) (λ pt calm h. h) (λ p ps pt next ls z lines leads rest calm h. rest calm.1 (part_routed n pt next p ls calm.0 lines leads h)) qs q w is calm h
+parts_routed n = parts_lead (λ q. Routed n q.view) (λ q a b k l h. packet_routed n q.view a b k l h) PartCalm (routed_behind n)
 
 -- a group
 head_routed : (n : ℕ) (v : View) (d : Step) → IsStep n d → Routed n v → Routed n (after_head v d)
@@ -176,13 +133,9 @@ routed_group n b pt d w fit is h =
     let g = group_is b pt d w is in
     subst (λ (q : Point). Routed n q.view) g.point (parts_routed n g.parts (moved pt (Line.Head d) pt.kernel) g.rest (outcome_calm b pt d g.parts g.is) g.said (head_routed n pt.view d fit h))
 
-routed_on : (n : ℕ) (b : Boot) (es : List Step) (pt end : Point) → pt.kernel.machines ≡ n → Leads b pt es end → Routed n pt.view → Routed n end.view
-routed_on n b [] pt end machines leads h = subst (λ (q : Point). Routed n q.view) leads h
-routed_on n b (d ∷ ds) pt end machines (w, fit, is, more) h =
-    routed_on n b ds w.point end ((constant_group b pt d w is).machines ∙ machines) more (routed_group n b pt d w (subst (λ (k : ℕ). IsStep k d) machines fit) is h)
-
 -- wherever the rule leads
 pub routed_always : (b : Boot) (es : List Step) (pt : Point) → IsValid b → Leads b (first_point b) es pt → Routed (length b.machines) pt.view
 routed_always b es pt valid leads =
     let some : 0 < length b.machines = let e = valid.some_machines in grind (arith, nat_tests) in
-    routed_on (length b.machines) b es (first_point b) pt refl leads (record { acting = some; none = λ a c most. refl })
+    keeps_always b (λ q. Routed (length b.machines) q.view) (λ q d w fit is run h. routed_group (length b.machines) b q d w (subst (λ (k : ℕ). IsStep k d) run.based.machines fit) is h)
+    valid (record { acting = some; none = λ a c most. refl }) es pt leads

@@ -10,6 +10,7 @@ use Rattle.dm_rule.proofs.Lines as lines
 use Rattle.dm_movelaws.proofs.At.RestBuried.{Knows, buried_group}
 use Rattle.dm_movelaws.proofs.At.RestEnds.{AllStay, LineEnds, LastEnds, Ends, Once, Runs, turns_ends}
 use Rattle.dm_movelaws.proofs.At.RestOnly.{Only, only_as, parts_only, nets_stay, migrates_stay}
+use Rattle.dm_movelaws.proofs.After.{keeps_always}
 
 -- what is left of the queue of a process that has ended
 record Left (a : ℕ) (p : Pid) (known : Knows) (v : View) (ids : List MsgId) : Type 0 where
@@ -205,13 +206,8 @@ dropped_group b pt d w is h old =
       ];
     }
 
-dropped_on : (b : Boot) (es : List Step) (pt end : Point) → IsValid b → Leads b pt es end → Both b pt → Dropped pt.view → Dropped end.view
-dropped_on b [] pt end valid leads h old = subst (λ (q : Point). Dropped q.view) leads old
-dropped_on b (d ∷ ds) pt end valid (w, fit, is, more) h old =
-    dropped_on b ds w.point end valid more (both_group run_group b pt d w valid fit is h) (dropped_group b pt d w is h.run old)
-
 pub dropped_always : (b : Boot) (es : List Step) (pt : Point) → IsValid b → Leads b (first_point b) es pt → Dropped pt.view
-dropped_always b es pt valid leads = dropped_on b es (first_point b) pt valid leads (both_start run_start b valid) (record { queue = λ n q e. refl })
+dropped_always b es pt valid leads = keeps_always b (λ q. Dropped q.view) (λ q d w fit is run old. dropped_group b q d w is run old) valid (record { queue = λ n q e. refl }) es pt leads
 
 pub drops_always : DropsAlways
 drops_always b es pt n q valid leads ended = (dropped_always b es pt valid leads).queue n q ended

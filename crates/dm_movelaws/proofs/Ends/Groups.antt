@@ -12,10 +12,10 @@ use Rattle.dm_movelaws.proofs.Ends.Parts.{packet_smooth, one_if, zero_if, parts_
 use Rattle.dm_movelaws.proofs.Ends.Moving.{moving_in, still_moves}
 use Rattle.dm_movelaws.proofs.Ends.Open.{Opens, Adds, Balance, level_balance, smooth_opens, add_opens}
 use Rattle.dm_movelaws.proofs.Ends.Rows.{Turn, Comes, line_alone, quiet_row, and_off}
-use Rattle.dm_movelaws.proofs.Ends.Sends.{puts_lead}
 use Rattle.dm_movelaws.proofs.Ends.Steps.{ComesOf}
 use Rattle.dm_movelaws.proofs.Ends.Hears.{hears_comes}
 use Rattle.dm_movelaws.proofs.Ends.Turns.{round_quiet, handles_quiet}
+use Rattle.dm_movelaws.proofs.Leading.{puts_lead}
 
 abbrev begun_phases : (pt : Point) (d : Step) → InPhases pt.view → InPhases (begun pt d).view
 begun_phases pt d h = calm_phases pt.view (after_head pt.view d) (head_calm pt.view d) h

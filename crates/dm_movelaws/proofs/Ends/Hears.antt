@@ -10,13 +10,14 @@ use Rattle.dm_rule.specs.Rule.{fits}
 use Rattle.dm_movelaws.proofs.Ends.Smooth.{is_migrate, asks_for, kind_not, Smooth, Still, smooth_trans, told_by}
 use Rattle.dm_movelaws.proofs.Ends.Lines.{Tame, Foreign}
 use Rattle.dm_movelaws.proofs.Ends.Still.{still_by}
-use Rattle.dm_movelaws.proofs.Ends.Parts.{AllQuiet, Rest, Settled, parts_settle, packet_smooth, quiet_count, quiet_asks}
+use Rattle.dm_movelaws.proofs.Ends.Parts.{AllQuiet, Rest, rest_packet, Settled, parts_settle, packet_smooth, quiet_count, quiet_asks}
 use Rattle.dm_movelaws.proofs.Ends.Turns.{told_quiet}
 use Rattle.dm_movelaws.proofs.Ends.Moving.{moving_in, waits_moves, here_stays, still_moves}
 use Rattle.dm_movelaws.proofs.Ends.Open.{IsOpen, level_balance, close_opens, smooth_opens}
 use Rattle.dm_movelaws.proofs.Ends.Rows.{Turn, plain_one, front_one, stands_front, first_smooth, first_closes, line_then, and_off, other_still, set_here, level_row, level_still, quiet_row, end_row}
-use Rattle.dm_movelaws.proofs.Ends.Sends.{smooth_moves, held_smooth, again_told, puts_lead}
+use Rattle.dm_movelaws.proofs.Ends.Sends.{smooth_moves, held_smooth, again_told}
 use Rattle.dm_movelaws.proofs.Ends.Steps.{ComesOf, told_comes}
+use Rattle.dm_movelaws.proofs.Leading.{puts_lead}
 
 -- a message is held
 held_comes : (p : Pid) (pt : Point) (i : MsgId) (is : List MsgId) (t : Told) (h : Turn pt i is t) → ComesOf p pt h.phases (Some (Says (Line.Held i) ∷ []))
@@ -41,9 +42,6 @@ forwarded_put p v i is t to b front told pairs =
 told_loose : (c : Bool) (q : Pid) (to : ℕ) → AllLoose (if c then Owns MessageKind.Update q to ∷ [] else [])
 told_loose true q to = (λ pt. tt, tt)
 told_loose false q to = tt
-
-rest_packet : (p : Pid) (v : View) → PacketsKeep (λ q. Rest p v q.view)
-rest_packet p v q a b k l h = record { smooth = smooth_trans p v q.view (view_after q.view (Line.Packet a b k l)) h.smooth (packet_smooth p q.view a b k l); still = h.still; fits = fits_packet q.view a b k l h.fits }
 
 forwards_settle : (p : Pid) (pt : Point) (i : MsgId) (is : List MsgId) (t : Told) (to b : ℕ) (ps : List Part) (w : Spelled) → Turn pt i is t → ((v : View) → AllQuiet p v ps) → AllLoose ps → spelled pt (Says (Line.Forwarded i to) ∷ Again i b ∷ ps) ≡ Some w → Settled p pt.view w.point
 forwards_settle p pt i is t to b ps w h quiet loose e =

@@ -34,12 +34,6 @@ QuietLine p v (Line.NoMove i) = Foreign p v i
 QuietLine p v (Line.NoChild q) = pid_eq p q ≡ false
 QuietLine p v (Line.Pinned q) = pid_eq p q ≡ false
 QuietLine p v (Line.Migration Stage.Asked q) = ⊤
-QuietLine p v (Line.Migration Stage.Frozen q) = ⊥
-QuietLine p v (Line.Migration Stage.Accepted q) = ⊥
-QuietLine p v (Line.Migration Stage.StateTaken q) = ⊥
-QuietLine p v (Line.Migration Stage.MemoryTaken q) = ⊥
-QuietLine p v (Line.Migration Stage.Left q) = ⊥
-QuietLine p v (Line.Migration Stage.Restarted q) = ⊥
 QuietLine p v _ = ⊥
 
 pub told_one : (o : Option Told) (t u : Told) → o ≡ Some t → o ≡ Some u → t ≡ u

@@ -8,6 +8,8 @@ use Rattle.dm_movelaws.proofs.Ends.Smooth.{asks_for, is_migrate, plain_not, Exte
 use Rattle.dm_movelaws.proofs.Ends.Lines.{Tame, QuietLine, Foreign, tame_plain, line_smooth}
 use Rattle.dm_movelaws.proofs.Ends.Still.{still_same, still_trans, line_still, quiet_ends}
 pub use Rattle.dm_rule.proofs.Phases.Lines.{first_kept}
+use Rattle.dm_movelaws.proofs.Leading.{All, Behind, part_leads}
+use Rattle.dm_movelaws.proofs.Names.{PacketsKeep, OneKernel, label_of, kernel_after}
 
 -- a put of a message that is no request to move this process
 first_plain : (p : Pid) (o : Option Told) (k : MessageKind) (q : Pid) (a : view.About) (t : Told) → Some (view.first_told o (record { kind = k; receiver = q; about = a })) ≡ Some t → (is_migrate k && pid_eq p q) ≡ false → ((u : Told) → o ≡ Some u → asks_for p u ≡ false)
@@ -32,8 +34,7 @@ Quiet p v (Owns k q b) = (is_migrate k && pid_eq p q) ≡ false
 Quiet p v _ = ⊤
 
 abbrev pub AllQuiet : Pid → View → List Part → Type 0
-AllQuiet p v [] = ⊤
-AllQuiet p v (x ∷ ps) = Quiet p v x × AllQuiet p v ps
+AllQuiet p v = All (Quiet p v)
 
 -- what is quiet stays so
 tame_on : (p : Pid) (v w : View) (i : MsgId) → Smooth p v w → Tame p v i → Tame p w i
@@ -51,12 +52,6 @@ line_on p v w (Line.Proto i) c h = tame_on p v w i c h
 line_on p v w (Line.Here i) c h = foreign_on p v w i c h
 line_on p v w (Line.NoMove i) c h = foreign_on p v w i c h
 line_on p v w (Line.Migration Stage.Asked q) c h = h
-line_on p v w (Line.Migration Stage.Frozen q) c h = h
-line_on p v w (Line.Migration Stage.Accepted q) c h = h
-line_on p v w (Line.Migration Stage.StateTaken q) c h = h
-line_on p v w (Line.Migration Stage.MemoryTaken q) c h = h
-line_on p v w (Line.Migration Stage.Left q) c h = h
-line_on p v w (Line.Migration Stage.Restarted q) c h = h
 line_on p v w l c h = h
 
 quiet_on : (p : Pid) (v w : View) (x : Part) → Smooth p v w → Quiet p v x → Quiet p w x
@@ -89,28 +84,16 @@ pub record Rest (p : Pid) (v w : View) : Type 0 where
   pub still : Still p v w
   pub fits : PairsFit w
 
-packet_or_none : (p : Pid) (v : View) (pt next : Point) (c d : Bool) (a b k : ℕ) (l : Load) → Rest p v pt.view → after pt (if c then [] else if d then Line.Packet a b k l ∷ [] else []) ≡ Some next → Rest p v next.view
-packet_or_none p v pt next true d a b k l h is = let f : pt ≡ next = cc in subst (λ (q : Point). Rest p v q.view) f h
-packet_or_none p v pt next false false a b k l h is = let f : pt ≡ next = cc in subst (λ (q : Point). Rest p v q.view) f h
-packet_or_none p v pt next false true a b k l h is =
-    let f : moved pt (Line.Packet a b k l) pt.kernel ≡ next = cc in
-    let w = view_after pt.view (Line.Packet a b k l) in
-    let r : Rest p v w = record { smooth = smooth_trans p v pt.view w h.smooth (packet_smooth p pt.view a b k l); still = h.still; fits = fits_packet pt.view a b k l h.fits } in
-    subst (λ (q : Point). Rest p v q.view) f r
+pub rest_packet : (p : Pid) (v : View) → PacketsKeep (λ q. Rest p v q.view)
+rest_packet p v q a b k l h =
+    record { smooth = smooth_trans p v q.view (view_after q.view (Line.Packet a b k l)) h.smooth (packet_smooth p q.view a b k l); still = h.still; fits = fits_packet q.view a b k l h.fits }
 
-puts_rest : (p : Pid) (pt next : Point) (b : ℕ) (i : MsgId) (k : MessageKind) (q : Pid) (ls : List Line) → PairsFit pt.view → (is_migrate k && pid_eq p q) ≡ false → Plain p pt.view i → Some (puts pt.view b i k q) ≡ Some ls → after pt ls ≡ Some next → Rest p pt.view next.view
-puts_rest p pt next b i k q ls fits e plain is leads =
-    let v = pt.view in
-    let f : puts v b i k q ≡ ls = cc in
-    let mid = moved pt (Line.Put v.acting b i k q) pt.kernel in
-    packet_or_none p v mid next (v.acting == b) (goes_out (v.pair v.acting b)) v.acting b (length (v.pair v.acting b).wire) (Load.Data (length (v.pair v.acting b).ids))
-    (record { smooth = put_smooth p v v.acting b i k q fits e plain; still = λ m. refl; fits = fits_put v v.acting b i k q fits }) (ap (after pt) f ∙ leads)
+put_rest : (p : Pid) (v : View) (b : ℕ) (i : MsgId) (k : MessageKind) (q : Pid) → PairsFit v → (is_migrate k && pid_eq p q) ≡ false → Plain p v i → Rest p v (after_put v v.acting b i k q)
+put_rest p v b i k q fits e plain = record { smooth = put_smooth p v v.acting b i k q fits e plain; still = λ m. refl; fits = fits_put v v.acting b i k q fits }
 
-says_rest : (p : Pid) (pt next : Point) (l : Line) → Sane pt → PairsFit pt.view → QuietLine p pt.view l → Needs pt l → Said pt l next → Rest p pt.view next.view
-says_rest p pt next l h fits quiet need k =
-    let w = view_after pt.view l in
-    let r : Rest p pt.view w = record { smooth = line_smooth p pt k.kernel l h quiet k.step; still = line_still p pt l quiet need; fits = fits_as pt.view w (pair_same pt.view l (quiet_touches p pt.view l quiet)) fits } in
-    subst (λ (q : Point). Rest p pt.view q.view) k.is r
+says_rest : (p : Pid) (pt : Point) (s : OneKernel) (l : Line) → Sane pt → PairsFit pt.view → QuietLine p pt.view l → Needs pt l → kernel_after pt.kernel (label_of l) ≡ Some s → Rest p pt.view (view_after pt.view l)
+says_rest p pt s l h fits quiet need step =
+    record { smooth = line_smooth p pt s l h quiet step; still = line_still p pt l quiet need; fits = fits_as pt.view (view_after pt.view l) (pair_same pt.view l (quiet_touches p pt.view l quiet)) fits }
 
 untold_plain : (p : Pid) (v : View) (i : MsgId) → v.told i ≡ None → Plain p v i
 untold_plain p v i none t told = absurd (let f : None ≡ Some t = sym none ∙ told in cc)
@@ -118,19 +101,12 @@ untold_plain p v i none t told = absurd (let f : None ≡ Some t = sym none ∙ 
 first_off : (b c : Bool) → b ≡ false → (b && c) ≡ false
 first_off b c e = ap (λ (x : Bool). x && c) e
 
-part_rest : (p : Pid) (pt next : Point) (x : Part) → Sane pt → PairsFit pt.view → Quiet p pt.view x → NeedsPart pt x → Steps pt x next → Rest p pt.view next.view
-part_rest p pt next (Says l) h fits quiet need s = says_rest p pt next l h fits quiet need (said_by pt next l s)
-part_rest p pt next (Routes i) h fits quiet need s =
-    let (m, there, last) = bind-is (pt.kernel.bag i) (λ m. Some (puts pt.view (pt.addresses (Receiver i)).at i (plain_kind m.what) m.to)) s.lines s.are in
-    puts_rest p pt next (pt.addresses (Receiver i)).at i (plain_kind m.what) m.to s.lines fits (first_off (is_migrate (plain_kind m.what)) (pid_eq p m.to) (plain_not m.what)) (plain_in_bag p pt i m h there) last s.leads
-part_rest p pt next (Again i b) h fits quiet need s =
-    let (t, there, last) = bind-is (pt.view.told i) (λ t. Some (puts pt.view b i t.kind t.receiver)) s.lines s.are in
-    puts_rest p pt next b i t.kind t.receiver s.lines fits (tame_plain p pt.view i quiet t there) (tame_plain p pt.view i quiet) last s.leads
-part_rest p pt next (Owns k q b) h fits quiet need s = puts_rest p pt next b (own_id pt.view) k q s.lines fits quiet (untold_plain p pt.view (own_id pt.view) (own_untold pt h)) s.are s.leads
-part_rest p pt next (Transmits a b l) h fits quiet need s =
-    let lines_are = s.are in
-    let f : packet_line pt.view a b l ∷ [] ≡ s.lines = cc in
-    packet_or_none p pt.view pt next false true a b (length (pt.view.pair a b).wire) l (record { smooth = smooth_same p pt.view; still = λ m. refl; fits = fits }) (ap (after pt) f ∙ s.leads)
+rest_behind : (p : Pid) (pt : Point) (x : Part) → Sane pt → PairsFit pt.view → Quiet p pt.view x → NeedsPart pt x → Behind (λ q. Rest p pt.view q.view) pt x
+rest_behind p pt (Says l) h fits quiet need = λ s step. says_rest p pt s l h fits quiet need step
+rest_behind p pt (Routes i) h fits quiet need = λ m there. put_rest p pt.view _ i (plain_kind m.what) m.to fits (first_off (is_migrate (plain_kind m.what)) (pid_eq p m.to) (plain_not m.what)) (plain_in_bag p pt i m h there)
+rest_behind p pt (Again i b) h fits quiet need = λ t there. put_rest p pt.view b i t.kind t.receiver fits (tame_plain p pt.view i quiet t there) (tame_plain p pt.view i quiet)
+rest_behind p pt (Owns k q b) h fits quiet need = put_rest p pt.view b (own_id pt.view) k q fits quiet (untold_plain p pt.view (own_id pt.view) (own_untold pt h))
+rest_behind p pt (Transmits a b l) h fits quiet need = record { smooth = smooth_same p pt.view; still = λ m. refl; fits = fits }
 
 sayable_of : (p : Pid) (v : View) (x : Part) → Quiet p v x → Sayable x
 sayable_of p v (Says l) h = quiet_put p v l h
@@ -140,22 +116,17 @@ pub settled_same : (p : Pid) (pt : Point) → Sane pt → PairsFit pt.view → S
 settled_same p pt sane fits = record { smooth = smooth_same p pt.view; still = still_same p pt.view; sane = sane; fits = fits }
 
 pub parts_settle : (p : Pid) (ps : List Part) (v : View) (pt : Point) (w : Spelled) → AllQuiet p v ps → Walks pt ps → Settled p v pt → spelled pt ps ≡ Some w → Settled p v w.point
-parts_settle p [] v pt w quiet walks h is = let f : record { lines = []; point = pt } ≡ w = cc in subst (λ (x : Spelled). Settled p v x.point) f h
-parts_settle p (x ∷ ps) v pt w quiet walks h is =
-    let (ls, lines, rest) = bind-is (lines_of pt x) (λ (xs : List Line). bind (after pt xs) (λ (q : Point). bind (spelled q ps) (λ (z : Spelled). Some (behind xs z)))) w is in
-    let (next, leads, last) = bind-is (after pt ls) (λ (q : Point). bind (spelled q ps) (λ (z : Spelled). Some (behind ls z))) w rest in
-    let (z, more, end) = bind-is (spelled next ps) (λ (y : Spelled). Some (behind ls y)) w last in
-    let f : behind ls z ≡ w = cc in
+parts_settle p qs v q w quiet walks h is = by_parts (λ ps pt u. AllQuiet p v ps → Walks pt ps → Settled p v pt → Settled p v u.point) (λ pt quiet walks h. h) (λ x ps pt next ls z lines leads rest quiet walks h. (
     let here : Quiet p pt.view x = quiet_on p v pt.view x h.smooth quiet.0 in
     let s : Steps pt x next = record { lines = ls; are = lines; leads = leads } in
-    let c = part_rest p pt next x h.sane h.fits here walks.0 s in
-    let there : Settled p v next = record {
+    let c = part_leads (λ y. Rest p pt.view y.view) (rest_packet p pt.view) pt next x (rest_behind p pt x h.sane h.fits here walks.0) s in
+    rest quiet.1 (walks.1 next s) (record {
       smooth = smooth_trans p v pt.view next.view h.smooth c.smooth;
       still = still_trans p v pt.view next.view h.still c.still;
       sane = part_sane pt next x ls (sayable_of p pt.view x here) lines leads h.sane;
       fits = c.fits;
-    } in
-    subst (λ (y : Spelled). Settled p v y.point) f (parts_settle p ps v next z quiet.1 (walks.1 next s) there more)
+    })
+    )) qs q w is quiet walks h
 
 -- the lines of parts, counted
 abbrev pub one_if : (Line → Bool) → Line → ℕ
@@ -164,10 +135,7 @@ one_if f l = if f l then 1 else 0
 abbrev pub part_count : (Line → Bool) → List Part → ℕ
 part_count f [] = 0
 part_count f (Says l ∷ ps) = one_if f l + part_count f ps
-part_count f (Routes i ∷ ps) = part_count f ps
-part_count f (Again i b ∷ ps) = part_count f ps
-part_count f (Owns k q b ∷ ps) = part_count f ps
-part_count f (Transmits a b l ∷ ps) = part_count f ps
+part_count f (x ∷ ps) = part_count f ps
 
 -- puts and packets don't count
 pub record Silent (f : Line → Bool) : Type 0 where
@@ -233,10 +201,7 @@ quiet_count p v (Says l ∷ ps) f quiet ext =
     let a = zero_if (ends f p l) (quiet_ends p v l f quiet.0 ext) in
     let b = quiet_count p v ps f quiet.1 ext in
     omega (arith, a, b)
-quiet_count p v (Routes i ∷ ps) f quiet ext = quiet_count p v ps f quiet.1 ext
-quiet_count p v (Again i b ∷ ps) f quiet ext = quiet_count p v ps f quiet.1 ext
-quiet_count p v (Owns k q b ∷ ps) f quiet ext = quiet_count p v ps f quiet.1 ext
-quiet_count p v (Transmits a b l ∷ ps) f quiet ext = quiet_count p v ps f quiet.1 ext
+quiet_count p v (x ∷ ps) f quiet ext = quiet_count p v ps f quiet.1 ext
 
 line_asks : (p : Pid) (v : View) (l : Line) → QuietLine p v l → asks p l ≡ false
 line_asks p v (Line.Head d) h = absurd h
@@ -248,7 +213,4 @@ quiet_asks p v (Says l ∷ ps) quiet =
     let a = zero_if (asks p l) (line_asks p v l quiet.0) in
     let b = quiet_asks p v ps quiet.1 in
     omega (arith, a, b)
-quiet_asks p v (Routes i ∷ ps) quiet = quiet_asks p v ps quiet.1
-quiet_asks p v (Again i b ∷ ps) quiet = quiet_asks p v ps quiet.1
-quiet_asks p v (Owns k q b ∷ ps) quiet = quiet_asks p v ps quiet.1
-quiet_asks p v (Transmits a b l ∷ ps) quiet = quiet_asks p v ps quiet.1
+quiet_asks p v (x ∷ ps) quiet = quiet_asks p v ps quiet.1

@@ -8,7 +8,7 @@ use Rattle.dm_rule.specs.View as view
 use Rattle.dm_rule.specs.Rule as rule
 use Rattle.dm_movelaws.proofs.Ends.Smooth.{Extends, told_by}
 use Rattle.dm_movelaws.proofs.Ends.Parts.{first_kept}
-use Rattle.dm_movelaws.proofs.Ends.Sends.{puts_lead}
+use Rattle.dm_movelaws.proofs.Leading.{All, Behind, whatever_put, parts_lead}
 
 -- nothing was routed from another machine
 abbrev pub Sources : ℕ → View → Type 0
@@ -106,53 +106,17 @@ Goes (Says l) = (is_head l ≡ false) × (is_put l ≡ false)
 Goes _ = ⊤
 
 abbrev AllGo : List Part → Type 0
-AllGo [] = ⊤
-AllGo (x ∷ ps) = Goes x × AllGo ps
+AllGo = All Goes
 
 acts_packet : (n : ℕ) (f : MsgId → Option Told) → PacketsKeep (λ q. Acts n f q.view)
 acts_packet n f q a b k l h = line_acts n f q.view (Line.Packet a b k l) refl refl h
 
--- a part that puts a message
-record ActsNext (n : ℕ) (f : MsgId → Option Told) (ps : List Part) (w : Spelled) : Type 0 where
-  next : Point
-  acts : Acts n f next.view
-  rest : Spelled
-  more : spelled next ps ≡ Some rest
-  point : rest.point ≡ w.point
+acts_behind : (n : ℕ) (f : MsgId → Option Told) (pt : Point) (p : Part) → Goes p → Acts n f pt.view → Behind (λ q. Acts n f q.view) pt p
+acts_behind n f pt p ok h =
+    whatever_put (λ q. Acts n f q.view) pt p (λ l is s step. let k = subst Goes is ok in line_acts n f pt.view l k.0 k.1 h) (λ b i k q. put_acts n f pt.view b i k q h) h
 
-acts_next : (n : ℕ) (f : MsgId → Option Told) (x : Part) (ps : List Part) (pt : Point) (w : Spelled) → ((ls : List Line) (next : Point) → lines_of pt x ≡ Some ls → after pt ls ≡ Some next → Acts n f next.view) → spelled pt (x ∷ ps) ≡ Some w → ActsNext n f ps w
-acts_next n f x ps pt w go e =
-    let (ls, lines, rest) = bind-is (lines_of pt x) (λ (xs : List Line). bind (after pt xs) (λ (q : Point). bind (spelled q ps) (λ (z : Spelled). Some (behind xs z)))) w e in
-    let (next, leads, last) = bind-is (after pt ls) (λ (q : Point). bind (spelled q ps) (λ (z : Spelled). Some (behind ls z))) w rest in
-    let (z, more, end) = bind-is (spelled next ps) (λ (y : Spelled). Some (behind ls y)) w last in
-    let g : behind ls z ≡ w = cc in
-    record { next = next; acts = go ls next lines leads; rest = z; more = more; point = ap (λ (y : Spelled). y.point) g }
-
-put_lines : (n : ℕ) (f : MsgId → Option Told) (pt next : Point) (b : ℕ) (i : MsgId) (k : MessageKind) (q : Pid) (ls : List Line) → Acts n f pt.view → Some (puts pt.view b i k q) ≡ Some ls → after pt ls ≡ Some next → Acts n f next.view
-put_lines n f pt next b i k q ls h is leads = puts_lead (λ (x : Point). Acts n f x.view) (acts_packet n f) pt next b i k q ls (put_acts n f pt.view b i k q h) is leads
-
-parts_act : (n : ℕ) (f : MsgId → Option Told) (ps : List Part) (pt : Point) (w : Spelled) → AllGo ps → Acts n f pt.view → spelled pt ps ≡ Some w → Acts n f w.point.view
-parts_act n f [] pt w ok h e = subst (λ (q : Point). Acts n f q.view) (said pt w e) h
-parts_act n f (Says l ∷ ps) pt w ok h e =
-    let k = says_next pt l ps w e in
-    subst (λ (q : Point). Acts n f q.view) k.point (parts_act n f ps (moved pt l k.s) k.rest ok.1 (line_acts n f pt.view l ok.0.0 ok.0.1 h) k.more)
-parts_act n f (Transmits a b l ∷ ps) pt w ok h e =
-    let k = transmits_next pt a b l ps w e in
-    let x = packet_line pt.view a b l in
-    subst (λ (q : Point). Acts n f q.view) k.point (parts_act n f ps (moved pt x pt.kernel) k.rest ok.1 (line_acts n f pt.view x refl refl h) k.more)
-parts_act n f (Routes i ∷ ps) pt w ok h e =
-    let k = acts_next n f (Routes i) ps pt w (λ ls next lines leads.
-    let (m, there, last) = bind-is (pt.kernel.bag i) (λ m. Some (puts pt.view (pt.addresses (Receiver i)).at i (plain_kind m.what) m.to)) ls lines in
-    put_lines n f pt next (pt.addresses (Receiver i)).at i (plain_kind m.what) m.to ls h last leads) e in
-    subst (λ (q : Point). Acts n f q.view) k.point (parts_act n f ps k.next k.rest ok.1 k.acts k.more)
-parts_act n f (Again i b ∷ ps) pt w ok h e =
-    let k = acts_next n f (Again i b) ps pt w (λ ls next lines leads.
-    let (t, there, last) = bind-is (pt.view.told i) (λ t. Some (puts pt.view b i t.kind t.receiver)) ls lines in
-    put_lines n f pt next b i t.kind t.receiver ls h last leads) e in
-    subst (λ (q : Point). Acts n f q.view) k.point (parts_act n f ps k.next k.rest ok.1 k.acts k.more)
-parts_act n f (Owns c q b ∷ ps) pt w ok h e =
-    let k = acts_next n f (Owns c q b) ps pt w (λ ls next lines leads. put_lines n f pt next b (own_id pt.view) c q ls h lines leads) e in
-    subst (λ (q : Point). Acts n f q.view) k.point (parts_act n f ps k.next k.rest ok.1 k.acts k.more)
+parts_act : (n : ℕ) (f : MsgId → Option Told) (ps : List Part) (pt : Point) (w : Spelled) → AllGo ps → spelled pt ps ≡ Some w → Acts n f pt.view → Acts n f w.point.view
+parts_act n f = parts_lead (λ q. Acts n f q.view) (acts_packet n f) Goes (acts_behind n f)
 
 -- what the parts of a group are
 fit_goes : (l : Line) → touches l ≡ false → (is_head l ≡ false) × (is_put l ≡ false)
@@ -163,10 +127,7 @@ fit_goes l e = (refl, refl)
 fit_go : (f : ℕ → ℕ → Pair) (ps : List Part) → AllFit f ps → AllGo ps
 fit_go f [] h = tt
 fit_go f (Says l ∷ ps) h = (fit_goes l h.0, fit_go f ps h.1)
-fit_go f (Routes i ∷ ps) h = (tt, fit_go f ps h.1)
-fit_go f (Again i b ∷ ps) h = (tt, fit_go f ps h.1)
-fit_go f (Owns k q b ∷ ps) h = (tt, fit_go f ps h.1)
-fit_go f (Transmits a b l ∷ ps) h = (tt, fit_go f ps h.1)
+fit_go f (p ∷ ps) h = (tt, fit_go f ps h.1)
 
 net_goes : (l : Line) → IsNetLine l → (is_head l ≡ false) × (is_put l ≡ false)
 net_goes (Line.Head d) e = absurd e
@@ -204,4 +165,4 @@ pub group_acts : (n : ℕ) (b : Boot) (pt : Point) (d : Step) (w : Spelled) → 
 group_acts n b pt d w fit e h =
     let g = group_is b pt d w e in
     let start : Acts n pt.view.told (begun pt d).view = record { acting = actor_less n pt.view d fit; sources = λ x y le. head_ids pt.view d x y ∙ h x y le; grows = λ i t told. told_by pt.view (Line.Head d) refl i ∙ told } in
-    subst (λ (q : Point). Acts n pt.view.told q.view) g.point (parts_act n pt.view.told g.parts (begun pt d) g.rest (outcome_go b pt d g.parts g.is) start g.said)
+    subst (λ (q : Point). Acts n pt.view.told q.view) g.point (parts_act n pt.view.told g.parts (begun pt d) g.rest (outcome_go b pt d g.parts g.is) g.said start)

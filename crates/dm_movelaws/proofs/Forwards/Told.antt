@@ -4,11 +4,11 @@ use Rattle.dm_movelaws.proofs.Names.{Boot, manager, bind-is, Step, Line, Receive
 use Rattle.dm_movelaws.proofs.Names.{Forward, own_id, handled, receiver_of, actor, view_after, fits, fits_put, fits_packet, pair_same, put_at, fits_as, PairsFit, Sane, part_sane, Steps, begun, begun_sane, said_by, again_rides, again_same}
 use Rattle.dm_movelaws.proofs.Names.{own_fresh, front, Run, Tells, ForwardsTell, RequestsTell, update_of, IsUnderWay, run_always, last_point, first_none, forwarded_own, GroupIs, group_is, by_parts}
 use Rattle.dm_rule.specs.View as view
-use Rattle.dm_movelaws.proofs.Ends.Sends.{puts_lead}
 use Rattle.dm_movelaws.proofs.Forwards.Rows.{Onward, with_forward, part_forwards, forwards_of, goes_on, GoesOn, GoesOnOwn, Form, Nothing, Plain, Own, outcome_form}
 use Rattle.dm_movelaws.proofs.Promise.Parts.{next_of}
 use Rattle.dm_movelaws.proofs.Promise.Spots.{Stands}
 use Rattle.dm_movelaws.proofs.Promise.Stands.{put_this, packet_stands}
+use Rattle.dm_movelaws.proofs.Leading.{puts_lead}
 
 -- the messages that lines send on
 abbrev sent_on : List Line → List Onward

@@ -7,6 +7,8 @@ use Rattle.dm_movelaws.proofs.Lists.Hears.{migrates_ok}
 use Rattle.dm_movelaws.proofs.Lists.Parts.{ForProcess, NoQueues, AllOk, nets_ok, line_queues, parts_queues}
 use Rattle.dm_movelaws.proofs.Lists.Hears.{hears_ok}
 use Rattle.dm_movelaws.proofs.Lists.Turns.{round_ok, handles_ok}
+use Rattle.dm_movelaws.proofs.After.{keeps_always}
+use Rattle.dm_movelaws.proofs.Names.{run_always}
 
 at_front : (xs is : List MsgId) (i : MsgId) → xs ≡ i ∷ is → 1 ≤ times i xs
 at_front xs is i e =
@@ -39,16 +41,8 @@ queues_group b pt d w e h none = by_group (λ v. NoneQueued v.point.view) b pt d
     )) e
 
 -- wherever the rule leads
-record Kept (b : Boot) (pt : Point) : Type 0 where
-  both : Both b pt
-  none : NoneQueued pt.view
-
-kept_on : (b : Boot) (es : List Step) (pt end : Point) → IsValid b → Leads b pt es end → Kept b pt → Kept b end
-kept_on b [] pt end valid way h = subst (Kept b) way h
-kept_on b (e ∷ es) pt end valid (w, fit, is, more) h =
-    kept_on b es w.point end valid more (record { both = both_group run_group b pt e w valid fit is h.both; none = queues_group b pt e w is h.both.run h.none })
-
 pub lists_always : ListsAlways
 lists_always b es pt valid way =
-    let k = kept_on b es (first_point b) pt valid way (record { both = both_start run_start b valid; none = λ m p e. refl }) in
-    record { stand = k.both.run.based.lists; ended = λ m p e. drops_always b es pt m p valid way e; server = k.none }
+    let none = keeps_always b (λ q. NoneQueued q.view) (λ q d w fit is run h. queues_group b q d w is run h) valid (λ m p e. refl) es pt way in
+    record { stand = (run_always b es pt valid way).run.based.lists; ended = λ m p e. drops_always b es pt m p valid way e; server = none }
+

@@ -19,13 +19,8 @@ AllOk ok (p ∷ ps) = PartOk ok p × AllOk ok ps
 
 -- what the net says
 net_ok : (ok : MsgId → Type 0) (l : Line) → IsNetLine l → LineOk ok l
-net_ok ok (Line.Taken a b k) h = tt
-net_ok ok (Line.Old a b k) h = tt
-net_ok ok (Line.Early a b k) h = tt
-net_ok ok (Line.Acked a b k) h = tt
-net_ok ok (Line.Resent m k) h = tt
-net_ok ok Line.Nothing h = tt
-net_ok ok _ h = absurd h
+net_ok ok (Line.Queued i) h = absurd h
+net_ok ok _ h = tt
 
 pub nets_ok : (ok : MsgId → Type 0) (ps : List Part) → IsNet ps → AllOk ok ps
 nets_ok ok [] h = tt
@@ -112,10 +107,6 @@ label_queues before v (Label.Receive p id) h =
     set_queue before v (view_after v (Line.Label (Label.Receive p id))) p (without_id id (v.queue v.acting p)) refl refl (λ e. ap (without_id id) (h.none v.acting p e)) h
 label_queues before v (Label.Dropped id) h = dropped_queues before v id (receiver_of (v.told id)) (hushed v (Line.Label (Label.Dropped id)) refl).told h
 label_queues before v (Label.Served id) h = same_queues before v (view_after v (Line.Label (Label.Served id))) (hushed v (Line.Label (Label.Served id)) refl).told (served_queue (handled v id) (v.told id)) h
-label_queues before v (Label.Call p n c) h = h
-label_queues before v (Label.Send p id) h = h
-label_queues before v (Label.Wait p) h = h
-label_queues before v (Label.Out p w) h = h
 label_queues before v any_ h = same_queues before v (view_after v (Line.Label any_)) refl refl h
 
 quiet_queues : (before v : View) (l : Line) → is_put l ≡ false → (view_after v l).queue ≡ v.queue → NoQueues before v → NoQueues before (view_after v l)
@@ -134,12 +125,6 @@ line_queues before v (Line.Held id) e h = quiet_queues before v (Line.Held id) r
 line_queues before v (Line.Forwarded id m) e h = quiet_queues before v (Line.Forwarded id m) refl (forwarded_queue (handled v id) (receiver_of (v.told id))) h
 line_queues before v (Line.Proto id) e h = quiet_queues before v (Line.Proto id) refl (proto_queue (handled v id) (v.told id)) h
 line_queues before v (Line.Migration s p) e h = quiet_queues before v (Line.Migration s p) refl (stage_queue v p s) h
-line_queues before v Line.Nothing e h = h
-line_queues before v (Line.Idle m) e h = h
-line_queues before v (Line.Old a b k) e h = h
-line_queues before v (Line.Resent m k) e h = h
-line_queues before v (Line.NoChild p) e h = h
-line_queues before v (Line.Pinned p) e h = h
 line_queues before v any_ e h = quiet_queues before v any_ refl refl h
 
 -- lines, one after another

@@ -8,6 +8,8 @@ use Rattle.dm_movelaws.specs.Movers.{Moves}
 use Rattle.dm_movelaws.proofs.Movers.Says.{other_end, Begins, StatusSays, Says, AllSay}
 use Rattle.dm_movelaws.proofs.Movers.Gone.{GoneEnded, step_gone}
 use Rattle.dm_movelaws.proofs.Movers.Rows.{memory_end, step_says}
+use Rattle.dm_movelaws.proofs.After.{keeps_always}
+use Rattle.dm_movelaws.proofs.Names.{Spelled, group_of}
 
 -- a run
 replay_says : (ls : List Label) (r e : MsgId → ℕ) (s t : OneKernel) → replay s ls ≡ Some t → KernelFits s → Sound r e s → AllSay s × GoneEnded s → AllSay t × GoneEnded t
@@ -18,11 +20,8 @@ replay_says (l ∷ ls) r e s t is fits sound h =
     let after = after_step r e s u l first sound in
     replay_says ls (λ i. r i + reception i l) (λ i. e i + entry i s u) u t rest next after.sound (step_says r e s u l first sound next h.0, step_gone s u l first after.grown h.1)
 
-says_on : (b : Boot) (es : List Step) (pt end : Point) → Leads b pt es end → Based b pt → AllSay pt.kernel × GoneEnded pt.kernel → AllSay end.kernel × GoneEnded end.kernel
-says_on b [] pt end leads based h = subst (λ (x : Point). AllSay x.kernel × GoneEnded x.kernel) leads h
-says_on b (d ∷ es) pt end (w, fit, is, rest) based h =
-    let sane = based.phased.sane in
-    says_on b es w.point end rest (based_group b pt d w fit is based) (replay_says (labels w.lines) sane.r sane.e pt.kernel w.point.kernel (group_replay b pt d w is) based.fits sane.sound h)
+says_on : (b : Boot) (pt : Point) (d : Step) (w : Spelled) → group_of b pt d ≡ Some w → Based b pt → AllSay pt.kernel × GoneEnded pt.kernel → AllSay w.point.kernel × GoneEnded w.point.kernel
+says_on b pt d w is based h = let sane = based.phased.sane in replay_says (labels w.lines) sane.r sane.e pt.kernel w.point.kernel (group_replay b pt d w is) based.fits sane.sound h
 
 -- one of the two
 pair_one : (a b : Option PlainMessage) → One a b → in_bag a + in_bag b ≡ 1
@@ -151,7 +150,7 @@ movers_have_pieces b es pt valid leads =
     let based = based_always b es pt valid leads in
     let s = pt.kernel in
     let sane = based.phased.sane in
-    let says = says_on b es (first_point b) pt leads (based_start b valid) (λ i m q there e. absurd (let f : None ≡ Some m = there in cc), λ i m there e. absurd (let f : None ≡ Some m = there in cc)) in
+    let says = keeps_always b (λ q. AllSay q.kernel × GoneEnded q.kernel) (λ q d w fit is run h. says_on b q d w is run.based h) valid (λ i m q there e. absurd (let f : None ≡ Some m = there in cc), λ i m there e. absurd (let f : None ≡ Some m = there in cc)) es pt leads in
     record {
       has = λ p x dir owner base own left pending alive status. has_piece sane.r sane.e s p x dir owner base own left pending alive status sane.sound based.fits says.0 says.1;
       requests = λ i m x there e alive. requests_move sane.r sane.e s i m x there (kind_memory m.what e) alive sane.sound based.fits;

@@ -10,6 +10,8 @@ use Rattle.dm_onekernel.specs.Switchboard as board
 use Rattle.dm_movelaws.proofs.Pending.Pairs.{is_create, is_answer, Neither, neither, Pair, answer_of, Ones, Off, off_both, out_ones, put_ones, from_other, and_false, took_pair, asked_pair}
 use Rattle.dm_movelaws.proofs.Pending.Steps.{label_ones}
 use Rattle.dm_movelaws.proofs.Promise.Before.{step_pending}
+use Rattle.dm_movelaws.proofs.After.{keeps_always}
+use Rattle.dm_movelaws.proofs.Names.{Spelled, group_of}
 
 -- the switchboard takes user messages
 board_neither : (b : _) (m : PlainMessage) (w : PlainWhat) (k : board.BoardTook) → m.what ≡ w → board.board_takes b m w ≡ Some k → Neither m.what
@@ -189,11 +191,10 @@ replay_ones (l ∷ ls) r e s t v is fits up sound h =
     let a = after_step r e s u l first sound in
     replay_ones ls (λ i. r i + reception i l) (λ i. e i + entry i s u) u t v rest (fits_step r e s u l first sound fits) (step_pending s u v l first sound.entered.named up) a.sound (step_ones r e s u l first fits up sound h)
 
-ones_on : (b : Boot) (es : List Step) (pt end : Point) → Leads b pt es end → Based b pt → Ones pt.kernel → Ones end.kernel
-ones_on b [] pt end leads based h = subst (λ (x : Point). Ones x.kernel) leads h
-ones_on b (d ∷ es) pt end (w, fit, is, rest) based h =
+ones_on : (b : Boot) (pt : Point) (d : Step) (w : Spelled) → group_of b pt d ≡ Some w → Based b pt → Ones pt.kernel → Ones w.point.kernel
+ones_on b pt d w is based h =
     let sane = based.phased.sane in
-    ones_on b es w.point end rest (based_group b pt d w fit is based) (replay_ones (labels w.lines) sane.r sane.e pt.kernel w.point.kernel pt.view (group_replay b pt d w is) based.fits based.pending sane.sound h)
+    replay_ones (labels w.lines) sane.r sane.e pt.kernel w.point.kernel pt.view (group_replay b pt d w is) based.fits based.pending sane.sound h
 
 -- what that comes to
 pair_one : (a b : Option PlainMessage) → Pair a b → in_bag a + in_bag b ≡ 1
@@ -244,5 +245,5 @@ of_pending s i m w fits e = cc
 pub pending_has_one : PendingHasOne
 pending_has_one b es pt valid leads =
     let based = based_always b es pt valid leads in
-    let ones = ones_on b es (first_point b) pt leads (based_start b valid) (λ n p. absurd (false≢true p)) in
+    let ones = keeps_always b (λ q. Ones q.kernel) (λ q d w fit is run h. ones_on b q d w is run.based h) valid (λ n p. absurd (false≢true p)) es pt leads in
     record { has = λ n p. has_one pt.kernel n (ones n p); only = λ i m there e. of_pending pt.kernel i m m.what (based.fits.messages i m there) e }

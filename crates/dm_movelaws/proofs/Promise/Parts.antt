@@ -6,6 +6,8 @@ use Rattle.dm_movelaws.proofs.Names.{fits_packet, Sane, Sayable, part_sane, Step
 use Rattle.dm_movelaws.proofs.Promise.Kept.{lines_told}
 use Rattle.dm_movelaws.proofs.Promise.Spots.{Stands, Spares, line_stands}
 use Rattle.dm_movelaws.proofs.Promise.Stands.{label_stands, put_this, put_stands, packet_stands}
+use Rattle.dm_movelaws.proofs.Leading.{Behind, whatever_put, part_leads}
+use Rattle.dm_onekernel.specs.Kernel.{OneKernel}
 
 -- a kernel's own message that was told of
 pub record Base (j : MsgId) (t : Told) (pt : Point) : Type 0 where
@@ -56,58 +58,27 @@ part_loose j pt (Says l) e = line_loose j pt.view l e
 part_loose j pt _ e = tt
 
 spares_quiet : (j : MsgId) (v : View) (l : Line) → Spares j v l → (touches l ≡ false) × (is_put l ≡ false)
-spares_quiet j v (Line.Migration Stage.Asked p) e = (refl, refl)
 spares_quiet j v (Line.Early a b n) e = absurd e
 spares_quiet j v (Line.Acked a b n) e = absurd e
-spares_quiet j v (Line.SentOn p n) e = absurd e
 spares_quiet j v (Line.Head s) e = absurd e
 spares_quiet j v (Line.Put a b i k q) e = absurd e
 spares_quiet j v (Line.Packet a b k l) e = absurd e
 spares_quiet j v (Line.Taken a b n) e = absurd e
 spares_quiet j v _ e = (refl, refl)
 
--- a put and its packet
-puts_by : (Q : Point → Type 0) → ((x : Point) (a b n : ℕ) (l : Load) → Q x → Q (moved x (Line.Packet a b n l) x.kernel)) → (pt next : Point) (b : ℕ) (i : MsgId) (k : MessageKind) (q : Pid) (c d : Bool) → Q (moved pt (Line.Put pt.view.acting b i k q) pt.kernel)
-    → after pt (Line.Put pt.view.acting b i k q ∷ (if c then [] else if d then packet_line pt.view pt.view.acting b (Load.Data (length (pt.view.pair pt.view.acting b).ids)) ∷ [] else [])) ≡ Some next → Q next
-puts_by Q keep pt next b i k q true d h is = let f : moved pt (Line.Put pt.view.acting b i k q) pt.kernel ≡ next = cc in subst Q f h
-puts_by Q keep pt next b i k q false false h is = let f : moved pt (Line.Put pt.view.acting b i k q) pt.kernel ≡ next = cc in subst Q f h
-puts_by Q keep pt next b i k q false true h is =
-    let n = length (pt.view.pair pt.view.acting b).wire in
-    let l = Load.Data (length (pt.view.pair pt.view.acting b).ids) in
-    let mid = moved pt (Line.Put pt.view.acting b i k q) pt.kernel in
-    let f : moved mid (Line.Packet pt.view.acting b n l) mid.kernel ≡ next = cc in
-    subst Q f (keep mid pt.view.acting b n l h)
-
-puts_keep : (Q : Point → Type 0) → ((x : Point) (a b n : ℕ) (l : Load) → Q x → Q (moved x (Line.Packet a b n l) x.kernel)) → (pt next : Point) (b : ℕ) (i : MsgId) (k : MessageKind) (q : Pid) (ls : List Line) → Q (moved pt (Line.Put pt.view.acting b i k q) pt.kernel)
-    → Some (puts pt.view b i k q) ≡ Some ls → after pt ls ≡ Some next → Q next
-puts_keep Q keep pt next b i k q ls h is leads =
-    let f : puts pt.view b i k q ≡ ls = cc in
-    puts_by Q keep pt next b i k q (pt.view.acting == b) (goes_out (pt.view.pair pt.view.acting b)) h (ap (after pt) f ∙ leads)
-
 -- pairs that fit
-puts_fit : (pt next : Point) (b : ℕ) (i : MsgId) (k : MessageKind) (q : Pid) (ls : List Line) → PairsFit pt.view → Some (puts pt.view b i k q) ≡ Some ls → after pt ls ≡ Some next → PairsFit next.view
-puts_fit pt next b i k q ls h is leads = puts_keep (λ x. PairsFit x.view) (λ x a c n l f. fits_packet x.view a c n l f) pt next b i k q ls (fits_put pt.view pt.view.acting b i k q h) is leads
-
 says_fit : (pt next : Point) (l : Line) → touches l ≡ false → PairsFit pt.view → Steps pt (Says l) next → PairsFit next.view
 says_fit pt next l quiet h s =
     let k = said_by pt next l s in
     subst (λ (x : Point). PairsFit x.view) k.is (fits_as pt.view (view_after pt.view l) (pair_same pt.view l quiet) h)
 
-sent_fit : (pt next : Point) (a b : ℕ) (l : Load) → PairsFit pt.view → Steps pt (Transmits a b l) next → PairsFit next.view
-sent_fit pt next a b l h s =
-    let k = said_by pt next (packet_line pt.view a b l) (record { lines = s.lines; are = s.are; leads = s.leads }) in
-    subst (λ (x : Point). PairsFit x.view) k.is (fits_packet pt.view a b (length (pt.view.pair a b).wire) l h)
+fits_behind : (j : MsgId) (pt : Point) (p : Part) → NeedsPart j pt p → PairsFit pt.view → Behind (λ x. PairsFit x.view) pt p
+fits_behind j pt p need h =
+    whatever_put (λ x. PairsFit x.view) pt p (λ l is s step. fits_as pt.view (view_after pt.view l) (pair_same pt.view l (spares_quiet j pt.view l (subst (NeedsPart j pt) is need)).0) h)
+    (λ b i k q. fits_put pt.view pt.view.acting b i k q h) h
 
 part_fits : (j : MsgId) (pt next : Point) (p : Part) → NeedsPart j pt p → PairsFit pt.view → Steps pt p next → PairsFit next.view
-part_fits j pt next (Says l) need h s = says_fit pt next l (spares_quiet j pt.view l need).0 h s
-part_fits j pt next (Routes i) need h s =
-    let (m, there, last) = bind-is (pt.kernel.bag i) (λ m. Some (puts pt.view (pt.addresses (Receiver i)).at i (plain_kind m.what) m.to)) s.lines s.are in
-    puts_fit pt next (pt.addresses (Receiver i)).at i (plain_kind m.what) m.to s.lines h last s.leads
-part_fits j pt next (Again i b) need h s =
-    let (t, there, last) = bind-is (pt.view.told i) (λ t. Some (puts pt.view b i t.kind t.receiver)) s.lines s.are in
-    puts_fit pt next b i t.kind t.receiver s.lines h last s.leads
-part_fits j pt next (Owns k q b) need h s = puts_fit pt next b (own_id pt.view) k q s.lines h s.are s.leads
-part_fits j pt next (Transmits a b l) need h s = sent_fit pt next a b l h s
+part_fits j pt next p need h s = part_leads (λ x. PairsFit x.view) (λ x a c n l f. fits_packet x.view a c n l f) pt next p (fits_behind j pt p need h) s
 
 part_says : (j : MsgId) (pt : Point) (p : Part) → NeedsPart j pt p → Sayable p
 part_says j pt (Says l) need = (spares_quiet j pt.view l need).1
@@ -129,36 +100,19 @@ part_base : (j : MsgId) (t : Told) (pt next : Point) (p : Part) → NeedsPart j 
 part_base j t pt next p need h s = base_on j t pt next p (part_says j pt p need) (part_fits j pt next p need h.fits s) h s
 
 -- and it stands
-puts_stand : (j : MsgId) (pt next : Point) (b : ℕ) (i : MsgId) (k : MessageKind) (q : Pid) (ls : List Line) → PairsFit pt.view → Stands pt.view j → Some (puts pt.view b i k q) ≡ Some ls → after pt ls ≡ Some next → Stands next.view j
-puts_stand j pt next b i k q ls fits h is leads =
-    puts_keep (λ x. Stands x.view j) (λ x a c n l f. packet_stands x.view a c n l j f) pt next b i k q ls (put_stands pt.view pt.view.acting b i k q j fits h) is leads
-
-line_on : (j : MsgId) (pt next : Point) (l : Line) → Spares j pt.view l → Sane pt → is_kernels j ≡ true → Stands pt.view j → Steps pt (Says l) next → Stands next.view j
-line_on j pt next l need sane own h s =
-    let k = said_by pt next l s in
-    subst (λ (x : Point). Stands x.view j) k.is
-    (line_stands pt.view j l need
-    (λ x is. subst (λ (y : Line). Stands (view_after pt.view y) j) (sym is)
-    (label_stands pt k.kernel x j sane (ap (λ (y : Line). kernel_after pt.kernel (label_of y)) (sym is) ∙ k.step) own h)) h)
+line_behind : (j : MsgId) (pt : Point) (s : OneKernel) (l : Line) → Spares j pt.view l → Sane pt → is_kernels j ≡ true → Stands pt.view j → kernel_after pt.kernel (label_of l) ≡ Some s → Stands (view_after pt.view l) j
+line_behind j pt s l need sane own h step =
+    line_stands pt.view j l need
+    (λ x is. subst (λ (y : Line). Stands (view_after pt.view y) j) (sym is) (label_stands pt s x j sane (ap (λ (y : Line). kernel_after pt.kernel (label_of y)) (sym is) ∙ step) own h)) h
 
 part_stands : (j : MsgId) (t : Told) (pt next : Point) (p : Part) → NeedsPart j pt p → Base j t pt → Stands pt.view j → Steps pt p next → Stands next.view j
-part_stands j t pt next (Says l) need base h s = line_on j pt next l need base.sane base.own h s
-part_stands j t pt next (Routes i) need base h s =
-    let (m, there, last) = bind-is (pt.kernel.bag i) (λ m. Some (puts pt.view (pt.addresses (Receiver i)).at i (plain_kind m.what) m.to)) s.lines s.are in
-    puts_stand j pt next (pt.addresses (Receiver i)).at i (plain_kind m.what) m.to s.lines base.fits h last s.leads
-part_stands j t pt next (Again i b) need base h s =
-    let (u, there, last) = bind-is (pt.view.told i) (λ t. Some (puts pt.view b i t.kind t.receiver)) s.lines s.are in
-    puts_stand j pt next b i u.kind u.receiver s.lines base.fits h last s.leads
-part_stands j t pt next (Owns k q b) need base h s = puts_stand j pt next b (own_id pt.view) k q s.lines base.fits h s.are s.leads
-part_stands j t pt next (Transmits a b l) need base h s =
-    let k = said_by pt next (packet_line pt.view a b l) (record { lines = s.lines; are = s.are; leads = s.leads }) in
-    subst (λ (x : Point). Stands x.view j) k.is (packet_stands pt.view a b (length (pt.view.pair a b).wire) l j h)
+part_stands j t pt next p need base h s =
+    part_leads (λ x. Stands x.view j) (λ x a c n l f. packet_stands x.view a c n l j f) pt next p
+    (whatever_put (λ x. Stands x.view j) pt p (λ l is k step. line_behind j pt k l (subst (NeedsPart j pt) is need) base.sane base.own h step) (λ b i k q. put_stands pt.view pt.view.acting b i k q j base.fits h) h) s
 
 -- the message itself is put again
 pub again_this : (j : MsgId) (t : Told) (pt next : Point) (b : ℕ) → Base j t pt → Steps pt (Again j b) next → Stands next.view j
-again_this j t pt next b base s =
-    let (u, there, last) = bind-is (pt.view.told j) (λ t. Some (puts pt.view b j t.kind t.receiver)) s.lines s.are in
-    puts_keep (λ x. Stands x.view j) (λ x a c n l f. packet_stands x.view a c n l j f) pt next b j u.kind u.receiver s.lines (put_this pt.view pt.view.acting b j u.kind u.receiver base.fits) last s.leads
+again_this j t pt next b base s = part_leads (λ x. Stands x.view j) (λ x a c n l f. packet_stands x.view a c n l j f) pt next (Again j b) (λ u told. put_this pt.view pt.view.acting b j u.kind u.receiver base.fits) s
 
 -- the first part, and what is spelled behind it
 pub record Next (pt : Point) (p : Part) (ps : List Part) (w : Spelled) : Type 0 where

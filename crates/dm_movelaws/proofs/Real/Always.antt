@@ -8,6 +8,8 @@ use Rattle.dm_movelaws.proofs.Ends.Smooth.{told_by}
 use Rattle.dm_movelaws.proofs.NumbersAlways.{bag_counted, told_counted}
 use Rattle.dm_movelaws.proofs.Real.Rows.{HereReal, InboxTold, outcome_real}
 use Rattle.dm_movelaws.proofs.Real.Lines.{rises_same, Reals, Receivers, parts_reals}
+use Rattle.dm_movelaws.proofs.After.{keeps_always}
+use Rattle.dm_movelaws.proofs.Names.{run_always}
 
 -- whom a machine knows
 agrees_made : (k : Known) (l : Option Life) → k ≢ Unknown → agrees k l ≡ true → is_some l ≡ true
@@ -96,15 +98,6 @@ real_group b pt d w fit e run h =
     subst RealAt g.point (record { own = k.own; receiver = k.receiver; about = k.about })
 
 -- a run
-record Ran (b : Boot) (pt : Point) : Type 0 where
-  both : Both b pt
-  real : RealAt pt
-
-real_on : (b : Boot) (es : List Step) (pt end : Point) → IsValid b → Leads b pt es end → Ran b pt → Ran b end
-real_on b [] pt end valid leads h = subst (Ran b) leads h
-real_on b (d ∷ ds) pt end valid (w, fit, is, rest) h =
-    real_on b ds w.point end valid rest (record { both = both_group run_group b pt d w valid fit is h.both; real = real_group b pt d w fit is h.both.run h.real })
-
 start_real : (b : Boot) → RealAt (first_point b)
 start_real b = record {
   own = λ i t e mine. absurd (let f : None ≡ Some t = e in cc);
@@ -123,18 +116,18 @@ child_made s i m w p is fits = made (s.processes p) refl (subst (WhatFits s i m)
 -- wherever the rule leads
 pub real_always : RealAlways
 real_always b es pt valid leads =
-    let ran = real_on b es (first_point b) pt valid leads (record { both = both_start run_start b valid; real = start_real b }) in
-    let run = ran.both.run in
+    let real = keeps_always b RealAt (λ q d w fit is h. real_group b q d w fit is h) valid (start_real b) es pt leads in
+    let run = (run_always b es pt valid leads).run in
     let sane = run.based.phased.sane in
     record {
       named = λ h q e. core_real b pt q run (named_real pt pt.kernel.machines h q run.kept e);
       bag = λ i m there. counted_real pt.kernel i (bag_counted sane.r sane.e pt.kernel i m sane.sound there);
       told = λ i t told. elim (cases_Bool (is_kernels i)) [
-        | inl own ↦ Kernel (from_kernel i own) (ran.real.own i t told own)
+        | inl own ↦ Kernel (from_kernel i own) (real.own i t told own)
         | inr other ↦ counted_real pt.kernel i (told_counted pt i t sane told other)
       ];
-      receiver = receivers b pt run ran.real;
-      about = ran.real.about;
+      receiver = receivers b pt run real;
+      about = real.about;
       child = λ i m p there is. child_made pt.kernel i m m.what p is (run.based.fits.messages i m there);
       known = λ n p some. known_real b pt n p run some;
     }

@@ -5,9 +5,9 @@ use Rattle.dm_movelaws.proofs.Names.{spelled, Point, label_of, kernel_after, mov
 use Rattle.dm_movelaws.proofs.Names.{PacketsKeep, put_told_off, Sane, AllSayable, part_sane, label_topic, Within, HeadIn, line_within, has_bytes, is_server, awaits, WhatFits, KernelFits, step_constant, said_by, fits_step, IsReal, Kernel}
 use Rattle.dm_movelaws.proofs.Names.{Server, Made, IsAboutReal, or_cases, queued_topic, held_topic, taken_topic, told_kept, by_parts}
 use Rattle.dm_rule.specs.View as view
-use Rattle.dm_movelaws.proofs.Ends.Sends.{puts_lead}
 use Rattle.dm_movelaws.proofs.Ends.Smooth.{told_by}
 use Rattle.dm_movelaws.proofs.Real.Rows.{LineReal, AllReal, PartReal}
+use Rattle.dm_movelaws.proofs.Leading.{Behind, sane_lead}
 
 -- who was made stays so, and there are as many machines
 pub record Rises (s t : OneKernel) : Type 0 where
@@ -200,31 +200,18 @@ packet_reals o pt a b k l h = record {
 }
 
 -- a part
-part_reals : (o pt next : Point) (p : Part) (ls : List Line) → Receivers o → PartReal o p → lines_of pt p ≡ Some ls → after pt ls ≡ Some next → Sane pt → Reals o pt → Reals o next
-part_reals o pt next (Says l) ls known need is leads sane h =
-    let k = said_by pt next l (record { lines = ls; are = is; leads = leads }) in
-    subst (Reals o) k.is (line_reals o pt k.kernel l known need k.step sane h)
-part_reals o pt next (Routes i) ls known need is leads sane h =
-    let (m, there, last) = bind-is (pt.kernel.bag i) (λ m. Some (puts pt.view (pt.addresses (Receiver i)).at i (plain_kind m.what) m.to)) ls is in
-    puts_lead (Reals o) (packet_reals o) pt next (pt.addresses (Receiver i)).at i (plain_kind m.what) m.to ls
-    (put_reals o pt (pt.addresses (Receiver i)).at i (plain_kind m.what) m.to
+reals_behind : (o pt : Point) (p : Part) → Receivers o → PartReal o p → Sane pt → Reals o pt → Behind (Reals o) pt p
+reals_behind o pt (Says l) known need sane h = λ s step. line_reals o pt s l known need step sane h
+reals_behind o pt (Routes i) known need sane h = λ m there.
+    put_reals o pt (pt.addresses (Receiver i)).at i (plain_kind m.what) m.to
     (record {
       mine = λ none own. absurd (false≢true (sym (not_kernels sane.r sane.e pt.kernel i m there sane.sound) ∙ own));
       other = λ none other. receiver_real pt.kernel i m m.what (h.fits.messages i m there);
-    }) h) last leads
-part_reals o pt next (Again i b) ls known need is leads sane h =
-    let (t, there, last) = bind-is (pt.view.told i) (λ t. Some (puts pt.view b i t.kind t.receiver)) ls is in
-    puts_lead (Reals o) (packet_reals o) pt next b i t.kind t.receiver ls
-    (put_reals o pt b i t.kind t.receiver
-    (record { mine = λ none own. absurd (let f : None ≡ Some t = sym none ∙ there in cc); other = λ none other. absurd (let f : None ≡ Some t = sym none ∙ there in cc) }) h) last leads
-part_reals o pt next (Owns k q b) ls known need is leads sane h =
-    puts_lead (Reals o) (packet_reals o) pt next b (own_id pt.view) k q ls
-    (put_reals o pt b (own_id pt.view) k q (record { mine = λ none own. h.within.acting; other = λ none other. absurd (false≢true (sym other)) }) h) is leads
-part_reals o pt next (Transmits a b l) ls known need is leads sane h =
-    let x = packet_line pt.view a b l in
-    let k = said_by pt next x (record { lines = ls; are = is; leads = leads }) in
-    subst (Reals o) k.is (line_reals o pt k.kernel x known tt k.step sane h)
+    }) h
+reals_behind o pt (Again i b) known need sane h = λ t there. put_reals o pt b i t.kind t.receiver (record { mine = λ none own. cc; other = λ none other. cc }) h
+reals_behind o pt (Owns k q b) known need sane h = put_reals o pt b (own_id pt.view) k q (record { mine = λ none own. h.within.acting; other = λ none other. absurd (false≢true (sym other)) }) h
+reals_behind o pt (Transmits a b l) known need sane h = h
 
 pub parts_reals : (o : Point) (ps : List Part) (pt : Point) (w : Spelled) → Receivers o → AllReal o ps → AllSayable ps → Sane pt → spelled pt ps ≡ Some w → Reals o pt → Reals o w.point
-parts_reals o qs q w known need ok sane is h = by_parts (λ ps pt v. AllReal o ps → AllSayable ps → Sane pt → Reals o pt → Reals o v.point) (λ pt need ok sane h. h)
-    (λ p ps pt next ls z lines leads rest need ok sane h. rest need.1 ok.1 (part_sane pt next p ls ok.0 lines leads sane) (part_reals o pt next p ls known need.0 lines leads sane h)) qs q w is need ok sane h
+parts_reals o qs q w known need ok sane is h = sane_lead (Reals o) (packet_reals o) (PartReal o) (λ pt p so say fine. reals_behind o pt p known so fine) qs q w need ok sane is h
+

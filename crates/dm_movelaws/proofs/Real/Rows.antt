@@ -4,6 +4,7 @@ use Rattle.dm_movelaws.proofs.Names.{to_kernel, sends_on, migrates, Part, Says, 
 use Rattle.dm_rule.specs.Rule as rule
 use Rattle.dm_movelaws.proofs.Stages.Lines.{MildLine, AllMild}
 use Rattle.dm_movelaws.proofs.Stages.Turns.{round_mild, handles_mild}
+use Rattle.dm_movelaws.proofs.Leading.{All}
 
 -- a row a line, seen from where its group begins
 abbrev pub LineReal : Point → Line → Type 0
@@ -20,8 +21,7 @@ PartReal o (Says l) = LineReal o l
 PartReal o _ = ⊤
 
 abbrev pub AllReal : Point → List Part → Type 0
-AllReal o [] = ⊤
-AllReal o (p ∷ ps) = PartReal o p × AllReal o ps
+AllReal o = All (PartReal o)
 
 -- parts that leave all migrations as they are; the message at the front was told of
 abbrev FrontTold : Point → Option MsgId → Type 0
@@ -33,11 +33,7 @@ self_off q e = false≢true (sym e ∙ pid_eq-same q)
 mild_line : (o : Point) (front : Option MsgId) (l : Line) → FrontTold o front → ((me : Pid) → MildLine me front l) → LineReal o l
 mild_line o front (Line.Migration Stage.Asked q) told h = absurd (self_off q (h q))
 mild_line o front (Line.Migration Stage.Left q) told h = absurd (self_off q (h q))
-mild_line o front (Line.Migration Stage.Frozen q) told h = absurd (h q)
-mild_line o front (Line.Migration Stage.Accepted q) told h = absurd (h q)
-mild_line o front (Line.Migration Stage.StateTaken q) told h = absurd (h q)
-mild_line o front (Line.Migration Stage.MemoryTaken q) told h = absurd (h q)
-mild_line o front (Line.Migration Stage.Restarted q) told h = absurd (h q)
+mild_line o front (Line.Migration s q) told h = absurd (h q)
 mild_line o front (Line.SentOn q n) told h = absurd (h q)
 mild_line o front (Line.Lacks q a b) told h = absurd (h q)
 mild_line o front (Line.Forwarded i m) told h = told i (h manager)
@@ -48,10 +44,7 @@ mild_line o front _ told h = tt
 mild_real : (o : Point) (front : Option MsgId) (ps : List Part) → FrontTold o front → ((me : Pid) → AllMild me front ps) → AllReal o ps
 mild_real o front [] told h = tt
 mild_real o front (Says l ∷ ps) told h = (mild_line o front l told (λ me. (h me).0), mild_real o front ps told (λ me. (h me).1))
-mild_real o front (Routes i ∷ ps) told h = (tt, mild_real o front ps told (λ me. (h me).1))
-mild_real o front (Again i b ∷ ps) told h = (tt, mild_real o front ps told (λ me. (h me).1))
-mild_real o front (Owns k q b ∷ ps) told h = (tt, mild_real o front ps told (λ me. (h me).1))
-mild_real o front (Transmits a b l ∷ ps) told h = (tt, mild_real o front ps told (λ me. (h me).1))
+mild_real o front (p ∷ ps) told h = (tt, mild_real o front ps told (λ me. (h me).1))
 
 -- deliveries and repeats
 net_line : (o : Point) (l : Line) → IsNetLine l → LineReal o l

@@ -6,9 +6,10 @@ use Rattle.dm_movelaws.proofs.Names.{bag_gone, bag_no_space, bag_created, bag_se
 use Rattle.dm_movelaws.proofs.Names.{begun, begun_sane, Run, by_parts}
 use Rattle.dm_onekernel.specs.Step as kernel
 use Rattle.dm_rule.specs.View as view
-use Rattle.dm_movelaws.proofs.Ends.Sends.{puts_lead}
 use Rattle.dm_movelaws.proofs.Routed.Outs.{LineOuts, PartOuts, AllOuts, outcome_outs}
 use Rattle.dm_movelaws.proofs.Routed.Steps.{is_sent, step_counts}
+use Rattle.dm_movelaws.proofs.Leading.{Behind, whatever_put, sane_lead}
+use Rattle.dm_movelaws.proofs.Names.{Sayable}
 
 -- a message that was told of
 abbrev pub IsTold : View → MsgId → Type 0
@@ -114,23 +115,9 @@ counted_rides v = record {
 }
 
 -- a part, and the parts of a group
-counted_part : (v : View) (pt next : Point) (p : Part) → AllSayable (p ∷ []) → PartOuts (IsTold v) p → Sane pt → Steps pt p next → Counted v pt → Counted v next
-counted_part v pt next (Says l) ok outs sane s h =
-    let k = said_by pt next l s in
-    subst (Counted v) k.is (counted_line v pt l k.kernel ok.0 outs k.step sane h)
-counted_part v pt next (Routes i) ok outs sane s h =
-    let (m, there, last) = bind-is (pt.kernel.bag i) (λ m. Some (puts pt.view (pt.addresses (Receiver i)).at i (plain_kind m.what) m.to)) s.lines s.are in
-    puts_lead (Counted v) (counted_rides v).packet pt next (pt.addresses (Receiver i)).at i (plain_kind m.what) m.to s.lines ((counted_rides v).put pt pt.view.acting (pt.addresses (Receiver i)).at i (plain_kind m.what) m.to h) last s.leads
-counted_part v pt next (Again i b) ok outs sane s h = again_rides (Counted v) (counted_rides v) pt next i b s h
-counted_part v pt next (Owns k q b) ok outs sane s h = puts_lead (Counted v) (counted_rides v).packet pt next b (own_id pt.view) k q s.lines ((counted_rides v).put pt pt.view.acting b (own_id pt.view) k q h) s.are s.leads
-counted_part v pt next (Transmits a b l) ok outs sane s h =
-    let t : Steps pt (Says (packet_line pt.view a b l)) next = record { lines = s.lines; are = s.are; leads = s.leads } in
-    let k = said_by pt next (packet_line pt.view a b l) t in
-    subst (Counted v) k.is (counted_quiet v pt (packet_line pt.view a b l) k.kernel refl k.step h)
-
-counted_parts : (v : View) (ps : List Part) (pt : Point) (w : Spelled) → AllSayable ps → AllOuts (IsTold v) ps → Sane pt → spelled pt ps ≡ Some w → Counted v pt → Counted v w.point
-counted_parts v qs q w ok outs sane is h = by_parts (λ ps pt u. AllSayable ps → AllOuts (IsTold v) ps → Sane pt → Counted v pt → Counted v u.point) (λ pt ok outs sane h. h) (λ p ps pt next ls z lines leads rest ok outs sane h.
-    rest ok.1 outs.1 (part_sane pt next p ls ok.0 lines leads sane) (counted_part v pt next p (ok.0, tt) outs.0 sane (record { lines = ls; are = lines; leads = leads }) h)) qs q w is ok outs sane h
+counted_behind : (v : View) (pt : Point) (p : Part) → PartOuts (IsTold v) p → Sayable p → Sane pt → Counted v pt → Behind (Counted v) pt p
+counted_behind v pt p outs ok sane h =
+    whatever_put (Counted v) pt p (λ l is t step. counted_line v pt l t (subst Sayable is ok) (subst (PartOuts (IsTold v)) is outs) step sane h) (λ b i k q. (counted_rides v).put pt pt.view.acting b i k q h) h
 
 -- between groups
 abbrev pub AllTold : Point → Type 0
@@ -149,7 +136,7 @@ told_group b pt d w e run next h i ask sent =
     let sane = run.based.phased.sane in
     let first : Counted pt.view (begun pt d) = counted_quiet pt.view pt (Line.Head d) pt.kernel refl refl (record { kept = λ j k. k; each = λ j a s. inl (h j a s) }) in
     let outs = outcome_outs (IsTold pt.view) b pt d g.parts (λ m j least. run.found.told j (Inbox m) least) (λ m p j least. run.found.told j (Queue m p) least) g.is in
-    let last = counted_parts pt.view g.parts (begun pt d) g.rest (outcome_sayable b pt d g.parts g.is) outs (begun_sane pt d sane) g.said first in
+    let last = sane_lead (Counted pt.view) (counted_rides pt.view).packet (PartOuts (IsTold pt.view)) (counted_behind pt.view) g.parts (begun pt d) g.rest outs (outcome_sayable b pt d g.parts g.is) (begun_sane pt d sane) g.said first in
     elim ((subst (Counted pt.view) g.point last).each i ask sent) [
       | inl told ↦ told
       | inr there ↦ stands_told b w.point i (w.point.kernel.bag i) next refl there

@@ -2,6 +2,7 @@
 use Rattle.dm_movelaws.proofs.Names.{◌≡◌, ℕ, ◌≤◌, List, [], ◌∷◌, subst, arith, ⊤, Option, None, Some, Pid, MsgId, PlainMessage, Boot, Step, Line, migrates, Part, Says, Point, times, Told, out_of, IsNetLine, IsNet, first_is, times_self}
 use Rattle.dm_movelaws.proofs.Names.{times_more, by_migrates, IsHeardLine, hears_kept, plain_kind, by_round, by_handles, by_forwards, by_net, by_outcome}
 use Rattle.dm_rule.specs.Rule as rule
+use Rattle.dm_movelaws.proofs.Leading.{All}
 
 -- the message that goes by a label is one of these
 abbrev pub LineOuts : (MsgId → Type 0) → Line → Type 0
@@ -13,8 +14,7 @@ PartOuts P (Says l) = LineOuts P l
 PartOuts P _ = ⊤
 
 abbrev pub AllOuts : (MsgId → Type 0) → List Part → Type 0
-AllOuts P [] = ⊤
-AllOuts P (p ∷ ps) = PartOuts P p × AllOuts P ps
+AllOuts P = All (PartOuts P)
 
 nothing : (P : MsgId → Type 0) (i : MsgId) → None ≡ Some i → P i
 nothing P i e = cc

@@ -19,11 +19,6 @@ MildLine p o (Line.Here i) = o ≡ Some i
 MildLine p o (Line.NoMove i) = o ≡ Some i
 MildLine p o (Line.Migration Stage.Asked q) = pid_eq q p ≡ false
 MildLine p o (Line.Migration Stage.Left q) = pid_eq q p ≡ false
-MildLine p o (Line.Migration Stage.Frozen q) = ⊥
-MildLine p o (Line.Migration Stage.Accepted q) = ⊥
-MildLine p o (Line.Migration Stage.StateTaken q) = ⊥
-MildLine p o (Line.Migration Stage.MemoryTaken q) = ⊥
-MildLine p o (Line.Migration Stage.Restarted q) = ⊥
 MildLine p o _ = ⊥
 
 abbrev pub Mild : Pid → Option MsgId → Part → Type 0
@@ -38,11 +33,7 @@ AllMild p o (q ∷ ps) = Mild p o q × AllMild p o ps
 line_marks : (p : Pid) (o : Option MsgId) (l : Line) (ms : List Mark) → MildLine p o l → with_mark p l ms ≡ ms
 line_marks p o (Line.Migration Stage.Asked q) ms h = mark_other p q _ ms (pid_eq-swap p q ∙ h)
 line_marks p o (Line.Migration Stage.Left q) ms h = mark_other p q _ ms (pid_eq-swap p q ∙ h)
-line_marks p o (Line.Migration Stage.Frozen q) ms h = absurd h
-line_marks p o (Line.Migration Stage.Accepted q) ms h = absurd h
-line_marks p o (Line.Migration Stage.StateTaken q) ms h = absurd h
-line_marks p o (Line.Migration Stage.MemoryTaken q) ms h = absurd h
-line_marks p o (Line.Migration Stage.Restarted q) ms h = absurd h
+line_marks p o (Line.Migration s q) ms h = absurd h
 line_marks p o (Line.SentOn q n) ms h = absurd h
 line_marks p o (Line.Lacks q a b) ms h = absurd h
 line_marks p o (Line.Stays q) ms h = absurd h
@@ -51,20 +42,15 @@ line_marks p o _ ms h = refl
 pub mild_marks : (p : Pid) (o : Option MsgId) (ps : List Part) → AllMild p o ps → marks_of p ps ≡ []
 mild_marks p o [] h = refl
 mild_marks p o (Says l ∷ ps) h = line_marks p o l (marks_of p ps) h.0 ∙ mild_marks p o ps h.1
-mild_marks p o (Routes i ∷ ps) h = mild_marks p o ps h.1
-mild_marks p o (Again i b ∷ ps) h = mild_marks p o ps h.1
-mild_marks p o (Owns k q b ∷ ps) h = mild_marks p o ps h.1
-mild_marks p o (Transmits a b l ∷ ps) h = mild_marks p o ps h.1
+mild_marks p o (x ∷ ps) h = mild_marks p o ps h.1
 
 -- the lines of deliveries and repeats don't either
 net_line : (p : Pid) (l : Line) (ms : List Mark) → IsNetLine l → with_mark p l ms ≡ ms
-net_line p (Line.Taken a b n) ms h = refl
-net_line p (Line.Old a b n) ms h = refl
-net_line p (Line.Early a b n) ms h = refl
-net_line p (Line.Acked a b n) ms h = refl
-net_line p (Line.Resent m n) ms h = refl
-net_line p Line.Nothing ms h = refl
-net_line p _ ms h = absurd h
+net_line p (Line.Migration s q) ms h = absurd h
+net_line p (Line.SentOn q n) ms h = absurd h
+net_line p (Line.Lacks q a b) ms h = absurd h
+net_line p (Line.Stays q) ms h = absurd h
+net_line p _ ms h = refl
 
 pub net_marks : (p : Pid) (ps : List Part) → IsNet ps → marks_of p ps ≡ []
 net_marks p [] h = refl

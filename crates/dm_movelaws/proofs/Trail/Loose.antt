@@ -9,48 +9,23 @@ use Rattle.dm_rule.specs.View as view
 use Rattle.dm_rule.specs.Rule as rule
 use Rattle.dm_movelaws.proofs.Trail.Placed.{Places, placed_same}
 use Rattle.dm_movelaws.proofs.Trail.Walks.{Walks, Loose, AllLoose, first_walks, places_ride}
+use Rattle.dm_movelaws.proofs.Leading.{Behind, whatever_put, part_leads}
 
 pub places_same : (v w : View) (t : Trails) → ((m : ℕ) (q : Pid) → w.known m q ≡ v.known m q) → ((q : Pid) → w.moves q ≡ v.moves q) → Places v t → Places w t
 places_same v w t known moves h p = placed_same v w t t p (λ m. known m p) (moves p) refl (h p)
 
 -- a put and its packet
-puts_by : (P : Point → Type 0) (keeps : Rides P) (pt next : Point) (b : ℕ) (i : MsgId) (k : MessageKind) (q : Pid) (c d : Bool) → P pt
-    → after pt (Line.Put pt.view.acting b i k q ∷ (if c then [] else if d then packet_line pt.view pt.view.acting b (Load.Data (length (pt.view.pair pt.view.acting b).ids)) ∷ [] else [])) ≡ Some next → P next
-puts_by P keeps pt next b i k q true d h is =
-    let f : moved pt (Line.Put pt.view.acting b i k q) pt.kernel ≡ next = cc in subst P f (keeps.put pt pt.view.acting b i k q h)
-puts_by P keeps pt next b i k q false false h is =
-    let f : moved pt (Line.Put pt.view.acting b i k q) pt.kernel ≡ next = cc in subst P f (keeps.put pt pt.view.acting b i k q h)
-puts_by P keeps pt next b i k q false true h is =
-    let n = length (pt.view.pair pt.view.acting b).wire in
-    let l = Load.Data (length (pt.view.pair pt.view.acting b).ids) in
-    let mid = moved pt (Line.Put pt.view.acting b i k q) pt.kernel in
-    let f : moved mid (Line.Packet pt.view.acting b n l) mid.kernel ≡ next = cc in
-    subst P f (keeps.packet mid pt.view.acting b n l (keeps.put pt pt.view.acting b i k q h))
-
-puts_keep : (P : Point → Type 0) (keeps : Rides P) (pt next : Point) (b : ℕ) (i : MsgId) (k : MessageKind) (q : Pid) (ls : List Line) → P pt → Some (puts pt.view b i k q) ≡ Some ls → after pt ls ≡ Some next → P next
-puts_keep P keeps pt next b i k q ls h is leads =
-    let f : puts pt.view b i k q ≡ ls = cc in
-    puts_by P keeps pt next b i k q (pt.view.acting == b) (goes_out (pt.view.pair pt.view.acting b)) h (ap (after pt) f ∙ leads)
+part_rides : (p : Part) (pt next : Point) (t : Trails) → ((l : Line) → p ≡ Says l → Behind (λ q. Places q.view t) pt (Says l)) → Steps pt p next → Places pt.view t → Places next.view t
+part_rides p pt next t says s h = part_leads (λ q. Places q.view t) (places_ride t).packet pt next p (whatever_put (λ q. Places q.view t) pt p says (λ b i k q. (places_ride t).put pt pt.view.acting b i k q h) h) s
 
 pub routes_loose : (i : MsgId) → Loose (Routes i)
-routes_loose i = record {
-  fits = λ pt t sane on. tt;
-  leaves = λ pt next t s h. (let (m, there, last) = bind-is (pt.kernel.bag i) (λ m. Some (puts pt.view (pt.addresses (Receiver i)).at i (plain_kind m.what) m.to)) s.lines s.are in
-      puts_keep (λ (q : Point). Places q.view t) (places_ride t) pt next (pt.addresses (Receiver i)).at i (plain_kind m.what) m.to s.lines h last s.leads);
-}
+routes_loose i = record { fits = λ pt t sane on. tt; leaves = λ pt next t. part_rides (Routes i) pt next t (λ l is. cc) }
 
 pub owns_leave : (k : MessageKind) (q : Pid) (b : ℕ) (pt next : Point) (t : Trails) → Steps pt (Owns k q b) next → Places pt.view t → Places next.view t
-owns_leave k q b pt next t s h = puts_keep (λ (z : Point). Places z.view t) (places_ride t) pt next b (own_id pt.view) k q s.lines h s.are s.leads
+owns_leave k q b pt next t = part_rides (Owns k q b) pt next t (λ l is. cc)
 
 pub transmits_loose : (a b : ℕ) (l : Load) → Loose (Transmits a b l)
-transmits_loose a b l = record {
-  fits = λ pt t sane on. tt;
-  leaves = λ pt next t s h. (let e = s.are in let leads = s.leads in
-      let f : packet_line pt.view a b l ∷ [] ≡ s.lines = cc in
-      let g : Some (moved pt (packet_line pt.view a b l) pt.kernel) ≡ Some next = ap (after pt) f ∙ leads in
-      let k : moved pt (packet_line pt.view a b l) pt.kernel ≡ next = cc in
-      subst (λ (q : Point). Places q.view t) k ((places_ride t).packet pt a b (length (pt.view.pair a b).wire) l h));
-}
+transmits_loose a b l = record { fits = λ pt t sane on. tt; leaves = λ pt next t. part_rides (Transmits a b l) pt next t (λ m is. cc) }
 
 -- a message to a kernel
 between_loose : (k : MessageKind) (m : ℕ) → ((pt : Point) → own_gives pt.kernel pt.view pt.addresses (own_id pt.view) (pid_of m 0) k ≡ goes_between pt.view (own_id pt.view) (pid_of m 0)) → (k ≡ MessageKind.Migrate → ⊥) → Loose (Owns k (pid_of m 0) m)

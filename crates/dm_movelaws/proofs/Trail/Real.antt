@@ -7,6 +7,8 @@ use Rattle.dm_movelaws.proofs.Names.{both_start, both_group, run_start, run_grou
 use Rattle.dm_onekernel.specs.Step as kernel
 use Rattle.dm_rule.specs.View as view
 use Rattle.dm_rulelaws.proofs.Found.Core.{IsReal}
+use Rattle.dm_movelaws.proofs.After.{keeps_always}
+use Rattle.dm_movelaws.proofs.Names.{run_always}
 
 -- a process that leaves a machine, or has left it
 abbrev passes : Known → Bool
@@ -199,14 +201,11 @@ record Passed (b : Boot) (pt : Point) : Type 0 where
   both : Both b pt
   passing : Passing pt.kernel pt.view
 
-passed_on : (b : Boot) (es : List Step) (pt end : Point) → IsValid b → Leads b pt es end → Passed b pt → Passed b end
-passed_on b [] pt end valid way h = subst (Passed b) way h
-passed_on b (e ∷ es) pt end valid (w, fit, is, more) h =
-    passed_on b es w.point end valid more
-    (record { both = both_group run_group b pt e w valid fit is h.both; passing = passing_group b pt e w is h.both.run.based.phased h.both.run.based.known h.passing })
-
 passed_always : (b : Boot) (es : List Step) (pt : Point) → IsValid b → Leads b (first_point b) es pt → Passed b pt
-passed_always b es pt valid way = passed_on b es (first_point b) pt valid way (record { both = both_start run_start b valid; passing = passing_start b })
+passed_always b es pt valid way = record {
+  both = run_always b es pt valid way;
+  passing = keeps_always b (λ q. Passing q.kernel q.view) (λ q d w fit is run h. passing_group b q d w is run.based.phased run.based.known h) valid (passing_start b) es pt way;
+}
 
 or_left : (c d : Bool) → c ≡ true → (c || d) ≡ true
 or_left true d e = refl

@@ -53,13 +53,8 @@ hears_shape b o m id is q ps told box none = by_hears (Shape o) b o m id q ps (�
 
 -- the other directives
 net_line : (l : Line) → IsNetLine l → is_updated l ≡ false
-net_line (Line.Taken a b k) h = refl
-net_line (Line.Old a b k) h = refl
-net_line (Line.Early a b k) h = refl
-net_line (Line.Acked a b k) h = refl
-net_line (Line.Resent m k) h = refl
-net_line Line.Nothing h = refl
-net_line _ h = absurd h
+net_line (Line.Updated i n) h = absurd h
+net_line _ h = refl
 
 nets_quiet : (ps : List Part) → IsNet ps → AllQuiet ps
 nets_quiet = by_net AllQuiet tt (λ l ps net h. (net_line l net, h)) (λ a b l ps h. (tt, h))

@@ -1,0 +1,67 @@
+-- Where parts lead: what holds behind the lines that they say, behind the puts of their messages, and still behind packets, holds where they lead.
+use Rattle.dm_movelaws.proofs.Names.{◌≡◌, ℕ, ◌==◌, Bool, true, false, List, [], ◌∷◌, length, refl, ap, ◌∙◌, subst, ⊤, if◌then◌else◌, Option, Some, Pid, MsgId, MessageKind, plain_kind, PlainMessage, OneKernel, bind-is, Line, Load, View, Told}
+use Rattle.dm_movelaws.proofs.Names.{own_id, Receiver, Point, label_of, kernel_after, moved, after, Part, Says, Routes, Again, Owns, Transmits, Spelled, puts, goes_out, packet_line, spelled, Steps, said_by, PacketsKeep, by_parts}
+use Rattle.dm_movelaws.proofs.Names.{AllSayable, Sayable, Sane, part_sane}
+
+-- a put and its packet
+puts_by : (P : Point → Type 0) (keeps : PacketsKeep P) (pt next : Point) (b : ℕ) (i : MsgId) (k : MessageKind) (q : Pid) (c d : Bool) → P (moved pt (Line.Put pt.view.acting b i k q) pt.kernel)
+    → after pt (Line.Put pt.view.acting b i k q ∷ (if c then [] else if d then packet_line pt.view pt.view.acting b (Load.Data (length (pt.view.pair pt.view.acting b).ids)) ∷ [] else [])) ≡ Some next → P next
+puts_by P keeps pt next b i k q true d h is =
+    let f : moved pt (Line.Put pt.view.acting b i k q) pt.kernel ≡ next = cc in subst P f h
+puts_by P keeps pt next b i k q false false h is =
+    let f : moved pt (Line.Put pt.view.acting b i k q) pt.kernel ≡ next = cc in subst P f h
+puts_by P keeps pt next b i k q false true h is =
+    let n = length (pt.view.pair pt.view.acting b).wire in
+    let l = Load.Data (length (pt.view.pair pt.view.acting b).ids) in
+    let mid = moved pt (Line.Put pt.view.acting b i k q) pt.kernel in
+    let f : moved mid (Line.Packet pt.view.acting b n l) mid.kernel ≡ next = cc in
+    subst P f (keeps mid pt.view.acting b n l h)
+
+pub puts_lead : (P : Point → Type 0) (keeps : PacketsKeep P) (pt next : Point) (b : ℕ) (i : MsgId) (k : MessageKind) (q : Pid) (ls : List Line) → P (moved pt (Line.Put pt.view.acting b i k q) pt.kernel) → Some (puts pt.view b i k q) ≡ Some ls → after pt ls ≡ Some next → P next
+puts_lead P keeps pt next b i k q ls h is leads =
+    let f : puts pt.view b i k q ≡ ls = cc in
+    puts_by P keeps pt next b i k q (pt.view.acting == b) (goes_out (pt.view.pair pt.view.acting b)) h (ap (after pt) f ∙ leads)
+
+-- what holds behind what a part says, or behind the put of its message
+abbrev pub Behind : (Point → Type 0) → Point → Part → Type 0
+Behind P pt (Says l) = (s : OneKernel) → kernel_after pt.kernel (label_of l) ≡ Some s → P (moved pt l s)
+Behind P pt (Routes i) = (m : PlainMessage) → pt.kernel.bag i ≡ Some m → P (moved pt (Line.Put pt.view.acting (pt.addresses (Receiver i)).at i (plain_kind m.what) m.to) pt.kernel)
+Behind P pt (Again i b) = (t : Told) → pt.view.told i ≡ Some t → P (moved pt (Line.Put pt.view.acting b i t.kind t.receiver) pt.kernel)
+Behind P pt (Owns k q b) = P (moved pt (Line.Put pt.view.acting b (own_id pt.view) k q) pt.kernel)
+Behind P pt (Transmits a b l) = P pt
+
+pub part_leads : (P : Point → Type 0) (keeps : PacketsKeep P) (pt next : Point) (p : Part) → Behind P pt p → Steps pt p next → P next
+part_leads P keeps pt next (Says l) h s = let k = said_by pt next l s in subst P k.is (h k.kernel k.step)
+part_leads P keeps pt next (Routes i) h s =
+    let (m, there, last) = bind-is (pt.kernel.bag i) (λ m. Some (puts pt.view (pt.addresses (Receiver i)).at i (plain_kind m.what) m.to)) s.lines s.are in
+    puts_lead P keeps pt next (pt.addresses (Receiver i)).at i (plain_kind m.what) m.to s.lines (h m there) last s.leads
+part_leads P keeps pt next (Again i b) h s =
+    let (t, there, last) = bind-is (pt.view.told i) (λ t. Some (puts pt.view b i t.kind t.receiver)) s.lines s.are in
+    puts_lead P keeps pt next b i t.kind t.receiver s.lines (h t there) last s.leads
+part_leads P keeps pt next (Owns k q b) h s = puts_lead P keeps pt next b (own_id pt.view) k q s.lines h s.are s.leads
+part_leads P keeps pt next (Transmits a b l) h s =
+    let k = said_by pt next (packet_line pt.view a b l) (record { lines = s.lines; are = s.are; leads = s.leads }) in
+    let same : pt.kernel ≡ k.kernel = let e = k.step in cc in
+    subst P (ap (moved pt (packet_line pt.view a b l)) same ∙ k.is) (keeps pt a b (length (pt.view.pair a b).wire) l h)
+
+-- whatever is put
+pub whatever_put : (P : Point → Type 0) (pt : Point) (p : Part) → ((l : Line) → p ≡ Says l → Behind P pt (Says l)) → ((b : ℕ) (i : MsgId) (k : MessageKind) (q : Pid) → P (moved pt (Line.Put pt.view.acting b i k q) pt.kernel)) → P pt → Behind P pt p
+whatever_put P pt (Says l) says put h = says l refl
+whatever_put P pt (Routes i) says put h = λ m there. put (pt.addresses (Receiver i)).at i (plain_kind m.what) m.to
+whatever_put P pt (Again i b) says put h = λ t told. put b i t.kind t.receiver
+whatever_put P pt (Owns k q b) says put h = put b (own_id pt.view) k q
+whatever_put P pt (Transmits a b l) says put h = h
+
+-- each of these parts is so
+abbrev pub All : (Part → Type 0) → List Part → Type 0
+All Q [] = ⊤
+All Q (p ∷ ps) = Q p × All Q ps
+
+-- part by part
+pub parts_lead : (P : Point → Type 0) (keeps : PacketsKeep P) (Q : Part → Type 0) → ((pt : Point) (p : Part) → Q p → P pt → Behind P pt p) → (ps : List Part) (pt : Point) (w : Spelled) → All Q ps → spelled pt ps ≡ Some w → P pt → P w.point
+parts_lead P keeps Q one qs q w so is h = by_parts (λ ps pt v. All Q ps → P pt → P v.point) (λ pt so h. h)
+    (λ p ps pt next ls z lines leads rest so h. rest so.1 (part_leads P keeps pt next p (one pt p so.0 h) (record { lines = ls; are = lines; leads = leads }))) qs q w is so h
+
+pub sane_lead : (P : Point → Type 0) (keeps : PacketsKeep P) (Q : Part → Type 0) → ((pt : Point) (p : Part) → Q p → Sayable p → Sane pt → P pt → Behind P pt p) → (ps : List Part) (pt : Point) (w : Spelled) → All Q ps → AllSayable ps → Sane pt → spelled pt ps ≡ Some w → P pt → P w.point
+sane_lead P keeps Q one qs q w so ok sane is h = by_parts (λ ps pt v. All Q ps → AllSayable ps → Sane pt → P pt → P v.point) (λ pt so ok sane h. h) (λ p ps pt next ls z lines leads rest so ok sane h.
+    rest so.1 ok.1 (part_sane pt next p ls ok.0 lines leads sane) (part_leads P keeps pt next p (one pt p so.0 ok.0 sane h) (record { lines = ls; are = lines; leads = leads }))) qs q w is so ok sane h
