@@ -120,8 +120,12 @@ net_smooth p v _ h = absurd h
 
 net_still : (p : Pid) (v : View) (l : Line) → IsNetLine l → Still p v (view_after v l)
 net_still p v (Line.Taken a b n) h = λ m. taken_still p (taken_view v a b n) b (slice_get (v.pair a b).ids (v.pair a b).taken) m
-net_still p v (Line.Head d) h = absurd h
-net_still p v _ h = λ m. refl
+net_still p v (Line.Old a b n) h = λ m. refl
+net_still p v (Line.Early a b n) h = λ m. refl
+net_still p v (Line.Acked a b n) h = λ m. refl
+net_still p v Line.Nothing h = λ m. refl
+net_still p v (Line.Resent m n) h = λ k. refl
+net_still p v _ h = absurd h
 
 -- what a group keeps
 pub record Level (p : Pid) (v w : View) : Type 0 where
@@ -162,11 +166,13 @@ net_line_asks p (Line.Head d) h = absurd h
 net_line_asks p l h = refl
 
 net_line_ends : (g : MsgId → Option Told) (p : Pid) → Neither (ends g p)
-net_line_ends g p (Line.Here i) h = absurd h
-net_line_ends g p (Line.NoMove i) h = absurd h
-net_line_ends g p (Line.NoChild q) h = absurd h
-net_line_ends g p (Line.Pinned q) h = absurd h
-net_line_ends g p l h = refl
+net_line_ends g p (Line.Taken a b n) h = refl
+net_line_ends g p (Line.Old a b n) h = refl
+net_line_ends g p (Line.Early a b n) h = refl
+net_line_ends g p (Line.Acked a b n) h = refl
+net_line_ends g p Line.Nothing h = refl
+net_line_ends g p (Line.Resent m n) h = refl
+net_line_ends g p l h = absurd h
 
 pub net_asks : (p : Pid) (ps : List Part) → IsNet ps → part_count (asks p) ps ≡ 0
 net_asks p ps h = net_none (asks p) (net_line_asks p) ps h
