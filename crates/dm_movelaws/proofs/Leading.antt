@@ -2,6 +2,7 @@
 use Rattle.dm_movelaws.proofs.Names.{◌≡◌, ℕ, ◌==◌, Bool, true, false, List, [], ◌∷◌, length, refl, ap, ◌∙◌, subst, ⊤, if◌then◌else◌, Option, Some, Pid, MsgId, MessageKind, plain_kind, PlainMessage, OneKernel, bind-is, Line, Load, View, Told}
 use Rattle.dm_movelaws.proofs.Names.{own_id, Receiver, Point, label_of, kernel_after, moved, after, Part, Says, Routes, Again, Owns, Transmits, Spelled, puts, goes_out, packet_line, spelled, Steps, said_by, PacketsKeep, by_parts}
 use Rattle.dm_movelaws.proofs.Names.{AllSayable, Sayable, Sane, part_sane}
+use Rattle.dm_movelaws.proofs.Names.{lines_of}
 
 -- a put and its packet
 puts_by : (P : Point → Type 0) (keeps : PacketsKeep P) (pt next : Point) (b : ℕ) (i : MsgId) (k : MessageKind) (q : Pid) (c d : Bool) → P (moved pt (Line.Put pt.view.acting b i k q) pt.kernel)
@@ -65,3 +66,35 @@ parts_lead P keeps Q one qs q w so is h = by_parts (λ ps pt v. All Q ps → P p
 pub sane_lead : (P : Point → Type 0) (keeps : PacketsKeep P) (Q : Part → Type 0) → ((pt : Point) (p : Part) → Q p → Sayable p → Sane pt → P pt → Behind P pt p) → (ps : List Part) (pt : Point) (w : Spelled) → All Q ps → AllSayable ps → Sane pt → spelled pt ps ≡ Some w → P pt → P w.point
 sane_lead P keeps Q one qs q w so ok sane is h = by_parts (λ ps pt v. All Q ps → AllSayable ps → Sane pt → P pt → P v.point) (λ pt so ok sane h. h) (λ p ps pt next ls z lines leads rest so ok sane h.
     rest so.1 ok.1 (part_sane pt next p ls ok.0 lines leads sane) (part_leads P keeps pt next p (one pt p so.0 ok.0 sane h) (record { lines = ls; are = lines; leads = leads }))) qs q w is so ok sane h
+
+-- whether a part says a line of its own
+abbrev pub is_said : Part → Bool
+is_said (Says l) = true
+is_said _ = false
+
+-- the lines of a part: what it says, a put and perhaps its packet, or a packet
+pub record LinesOf (S : List Line → Type 0) (p : Part) : Type 0 where
+  pub says : (l : Line) → p ≡ Says l → S (l ∷ [])
+  pub put : is_said p ≡ false → (a b : ℕ) (i : MsgId) (k : MessageKind) (q : Pid) → S (Line.Put a b i k q ∷ [])
+  pub goes : is_said p ≡ false → (a b n : ℕ) (i : MsgId) (k : MessageKind) (q : Pid) (l : Load) → S (Line.Put a b i k q ∷ Line.Packet a b n l ∷ [])
+  pub packet : is_said p ≡ false → (a b n : ℕ) (l : Load) → S (Line.Packet a b n l ∷ [])
+
+put_lines : (S : List Line → Type 0) (p : Part) (v : View) (b : ℕ) (i : MsgId) (k : MessageKind) (q : Pid) (c d : Bool) → LinesOf S p → is_said p ≡ false
+    → S (Line.Put v.acting b i k q ∷ (if c then [] else if d then packet_line v v.acting b (Load.Data (length (v.pair v.acting b).ids)) ∷ [] else []))
+put_lines S p v b i k q true d h none = h.put none v.acting b i k q
+put_lines S p v b i k q false false h none = h.put none v.acting b i k q
+put_lines S p v b i k q false true h none = h.goes none v.acting b (length (v.pair v.acting b).wire) i k q (Load.Data (length (v.pair v.acting b).ids))
+
+puts_lines : (S : List Line → Type 0) (p : Part) (v : View) (b : ℕ) (i : MsgId) (k : MessageKind) (q : Pid) (ls : List Line) → LinesOf S p → is_said p ≡ false → Some (puts v b i k q) ≡ Some ls → S ls
+puts_lines S p v b i k q ls h none is = let f : puts v b i k q ≡ ls = cc in subst S f (put_lines S p v b i k q (v.acting == b) (goes_out (v.pair v.acting b)) h none)
+
+pub lines_are : (S : List Line → Type 0) (pt : Point) (p : Part) (ls : List Line) → LinesOf S p → lines_of pt p ≡ Some ls → S ls
+lines_are S pt (Says l) ls h is = let f : l ∷ [] ≡ ls = cc in subst S f (h.says l refl)
+lines_are S pt (Routes i) ls h is =
+    let (m, there, last) = bind-is (pt.kernel.bag i) (λ m. Some (puts pt.view (pt.addresses (Receiver i)).at i (plain_kind m.what) m.to)) ls is in
+    puts_lines S (Routes i) pt.view (pt.addresses (Receiver i)).at i (plain_kind m.what) m.to ls h refl last
+lines_are S pt (Again i b) ls h is =
+    let (t, there, last) = bind-is (pt.view.told i) (λ t. Some (puts pt.view b i t.kind t.receiver)) ls is in
+    puts_lines S (Again i b) pt.view b i t.kind t.receiver ls h refl last
+lines_are S pt (Owns k q b) ls h is = puts_lines S (Owns k q b) pt.view b (own_id pt.view) k q ls h refl is
+lines_are S pt (Transmits a b l) ls h is = let f : packet_line pt.view a b l ∷ [] ≡ ls = cc in subst S f (h.packet refl a b (length (pt.view.pair a b).wire) l)

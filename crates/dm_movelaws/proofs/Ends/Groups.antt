@@ -8,7 +8,7 @@ use Rattle.dm_movelaws.proofs.Ends.Smooth.{is_migrate, Extends, Smooth, Still, p
 use Rattle.dm_movelaws.proofs.Ends.Lines.{Tame}
 use Rattle.dm_movelaws.proofs.Ends.Still.{still_same}
 use Rattle.dm_movelaws.proofs.Ends.Net.{head_smooth, net_level, net_asks, net_ends}
-use Rattle.dm_movelaws.proofs.Ends.Parts.{packet_smooth, one_if, zero_if, parts_count, asks_silent, ends_silent}
+use Rattle.dm_movelaws.proofs.Ends.Parts.{packet_smooth, one_if, unit_if, zero_if, parts_count, asks_silent, ends_silent}
 use Rattle.dm_movelaws.proofs.Ends.Moving.{moving_in, still_moves}
 use Rattle.dm_movelaws.proofs.Ends.Open.{Opens, Adds, Balance, level_balance, smooth_opens, add_opens}
 use Rattle.dm_movelaws.proofs.Ends.Rows.{Turn, Comes, line_alone, quiet_row, and_off}
@@ -16,6 +16,7 @@ use Rattle.dm_movelaws.proofs.Ends.Steps.{ComesOf}
 use Rattle.dm_movelaws.proofs.Ends.Hears.{hears_comes}
 use Rattle.dm_movelaws.proofs.Ends.Turns.{round_quiet, handles_quiet}
 use Rattle.dm_movelaws.proofs.Leading.{puts_lead}
+use Rattle.dm_movelaws.proofs.Names.{None, label_of}
 
 abbrev begun_phases : (pt : Point) (d : Step) → InPhases pt.view → InPhases (begun pt d).view
 begun_phases pt d h = calm_phases pt.view (after_head pt.view d) (head_calm pt.view d) h
@@ -40,23 +41,14 @@ asked_by p d = one_if (asks p) (Line.Head d)
 abbrev Directed : Pid → Step → (pt : Point) → InPhases pt.view → List Part → Spelled → Type 0
 Directed p d pt h parts w = (g : InPhases w.point.view) (ids : List MsgId) → Opens p pt.view ids → Balance p w.point.view ids (asked_by p d) (moving_in (h.of p)) (moving_in (g.of p)) parts
 
-pinned_comes : (p q : Pid) (m : ℕ) (pt : Point) (h : InPhases pt.view) (w : Spelled) → spelled pt (Says (Line.Pinned q) ∷ []) ≡ Some w → Directed p (Step.Migrate q m) pt h (Says (Line.Pinned q) ∷ []) w
-pinned_comes p q m pt h w e g ids opens =
-    let at : moved pt (Line.Pinned q) pt.kernel ≡ w.point = line_alone pt (Line.Pinned q) w refl e in
+said_comes : (p q : Pid) (m : ℕ) (pt : Point) (l : Line) (h : InPhases pt.view) (w : Spelled) → label_of l ≡ None → view_after pt.view l ≡ pt.view → asks p l ≡ false → ((f : MsgId → Option Told) → ends f p l ≡ pid_eq p q) → spelled pt (Says l ∷ []) ≡ Some w
+    → Directed p (Step.Migrate q m) pt h (Says l ∷ []) w
+said_comes p q m pt l h w none alike plain ended e g ids opens =
     let v = pt.view in
-    let smooth : Smooth p v w.point.view = subst (λ (x : Point). Smooth p v x.view) at (smooth_same p v) in
-    let still : Still p v w.point.view = subst (λ (x : Point). Still p v x.view) at (still_same p v) in
-    let same = still_moves p v w.point.view h g still in
-    record { left = ids; opens = smooth_opens p v w.point.view ids smooth opens; quiet = refl; sum = λ f ext. omega (arith, same) }
-
-no_child_comes : (p q : Pid) (m : ℕ) (pt : Point) (h : InPhases pt.view) (w : Spelled) → spelled pt (Says (Line.NoChild q) ∷ []) ≡ Some w → Directed p (Step.Migrate q m) pt h (Says (Line.NoChild q) ∷ []) w
-no_child_comes p q m pt h w e g ids opens =
-    let at : moved pt (Line.NoChild q) pt.kernel ≡ w.point = line_alone pt (Line.NoChild q) w refl e in
-    let v = pt.view in
-    let smooth : Smooth p v w.point.view = subst (λ (x : Point). Smooth p v x.view) at (smooth_same p v) in
-    let still : Still p v w.point.view = subst (λ (x : Point). Still p v x.view) at (still_same p v) in
-    let same = still_moves p v w.point.view h g still in
-    record { left = ids; opens = smooth_opens p v w.point.view ids smooth opens; quiet = refl; sum = λ f ext. omega (arith, same) }
+    let at : v ≡ w.point.view = sym alike ∙ ap (λ (x : Point). x.view) (line_alone pt l w none e) in
+    let same = still_moves p v w.point.view h g (subst (Still p v) at (still_same p v)) in
+    let zero_ = zero_if (asks p l) plain in
+    record { left = ids; opens = smooth_opens p v w.point.view ids (subst (Smooth p v) at (smooth_same p v)) opens; quiet = omega (arith, zero_); sum = λ f ext. (let one = ap unit_if (ended f) in omega (arith, same, one)) }
 
 -- a request is put
 record Added (p : Pid) (v : View) (ids : List MsgId) (w : View) : Type 0 where
@@ -107,7 +99,7 @@ owns_comes p q m b pt h w sane fits e g ids opens = elim (cases_Bool (pid_eq p q
 
 migrates_comes : (p q : Pid) (m : ℕ) (o pt : Point) (h : InPhases pt.view) (w : Spelled) → Sane pt → PairsFit pt.view → spelled pt (migrates o q) ≡ Some w → Directed p (Step.Migrate q m) pt h (migrates o q) w
 migrates_comes p q m o pt h w sane fits =
-    by_migrates (λ (ps : List Part). spelled pt ps ≡ Some w → Directed p (Step.Migrate q m) pt h ps w) o q (pinned_comes p q m pt h w) (no_child_comes p q m pt h w)
+    by_migrates (λ (ps : List Part). spelled pt ps ≡ Some w → Directed p (Step.Migrate q m) pt h ps w) o q (said_comes p q m pt (Line.Pinned q) h w refl refl refl (λ f. refl)) (said_comes p q m pt (Line.NoChild q) h w refl refl refl (λ f. refl))
     (λ n off is. owns_comes p q m (o.addresses (Child n)).at pt h w sane fits)
 
 -- what comes of a directive

@@ -10,6 +10,8 @@ use Rattle.dm_movelaws.proofs.Ends.Still.{still_same, still_trans, line_still, q
 pub use Rattle.dm_rule.proofs.Phases.Lines.{first_kept}
 use Rattle.dm_movelaws.proofs.Leading.{All, Behind, part_leads}
 use Rattle.dm_movelaws.proofs.Names.{PacketsKeep, OneKernel, label_of, kernel_after}
+use Rattle.dm_movelaws.proofs.Leading.{is_said, lines_are}
+use Rattle.dm_movelaws.proofs.Names.{false≢true}
 
 -- a put of a message that is no request to move this process
 first_plain : (p : Pid) (o : Option Told) (k : MessageKind) (q : Pid) (a : view.About) (t : Told) → Some (view.first_told o (record { kind = k; receiver = q; about = a })) ≡ Some t → (is_migrate k && pid_eq p q) ≡ false → ((u : Told) → o ≡ Some u → asks_for p u ≡ false)
@@ -158,59 +160,41 @@ unit_if c = if c then 1 else 0
 pub zero_if : (c : Bool) → c ≡ false → unit_if c ≡ 0
 zero_if c e = ap unit_if e
 
-puts_zero : (f : Line → Bool) (v : View) (b : ℕ) (i : MsgId) (k : MessageKind) (q : Pid) (c d : Bool) → Silent f → count f (Line.Put v.acting b i k q ∷ (if c then [] else if d then packet_line v v.acting b (Load.Data (length (v.pair v.acting b).ids)) ∷ [] else [])) ≡ 0
-puts_zero f v b i k q true d h = let x = zero_if (f (Line.Put v.acting b i k q)) (h.put v.acting b i k q) in omega (arith, x)
-puts_zero f v b i k q false false h = let x = zero_if (f (Line.Put v.acting b i k q)) (h.put v.acting b i k q) in omega (arith, x)
-puts_zero f v b i k q false true h =
-    let l = packet_line v v.acting b (Load.Data (length (v.pair v.acting b).ids)) in
-    let x = zero_if (f (Line.Put v.acting b i k q)) (h.put v.acting b i k q) in
-    let y = zero_if (f l) (h.packet v.acting b (length (v.pair v.acting b).wire) (Load.Data (length (v.pair v.acting b).ids))) in
-    omega (arith, x, y)
-
-puts_count : (f : Line → Bool) (v : View) (b : ℕ) (i : MsgId) (k : MessageKind) (q : Pid) (ls : List Line) → Silent f → Some (puts v b i k q) ≡ Some ls → count f ls ≡ 0
-puts_count f v b i k q ls h is =
-    let g : puts v b i k q ≡ ls = cc in
-    subst (λ (xs : List Line). count f xs ≡ 0) g (puts_zero f v b i k q (v.acting == b) (goes_out (v.pair v.acting b)) h)
-
-one_count : (f : Line → Bool) (l : Line) (ls : List Line) → Some (l ∷ []) ≡ Some ls → count f ls ≡ one_if f l
-one_count f l ls is = let g : l ∷ [] ≡ ls = cc in sym (ap (count f) g) ∙ (omega arith)
+unsaid_count : (f : Line → Bool) (x : Part) (ps : List Part) → is_said x ≡ false → part_count f (x ∷ ps) ≡ part_count f ps
+unsaid_count f (Says l) ps e = absurd (false≢true (sym e))
+unsaid_count f x ps e = refl
 
 lines_count : (f : Line → Bool) (pt : Point) (x : Part) (ps : List Part) (ls : List Line) → Silent f → lines_of pt x ≡ Some ls → count f ls + part_count f ps ≡ part_count f (x ∷ ps)
-lines_count f pt (Says l) ps ls h is = let e = one_count f l ls is in omega (arith, e)
-lines_count f pt (Routes i) ps ls h is =
-    let (m, there, last) = bind-is (pt.kernel.bag i) (λ m. Some (puts pt.view (pt.addresses (Receiver i)).at i (plain_kind m.what) m.to)) ls is in
-    let e = puts_count f pt.view (pt.addresses (Receiver i)).at i (plain_kind m.what) m.to ls h last in
-    omega (arith, e)
-lines_count f pt (Again i b) ps ls h is =
-    let (t, there, last) = bind-is (pt.view.told i) (λ t. Some (puts pt.view b i t.kind t.receiver)) ls is in
-    let e = puts_count f pt.view b i t.kind t.receiver ls h last in
-    omega (arith, e)
-lines_count f pt (Owns k q b) ps ls h is = let e = puts_count f pt.view b (own_id pt.view) k q ls h is in omega (arith, e)
-lines_count f pt (Transmits a b l) ps ls h is =
-    let e = one_count f (packet_line pt.view a b l) ls is in
-    let z = zero_if (f (packet_line pt.view a b l)) (h.packet a b (length (pt.view.pair a b).wire) l) in
-    omega (arith, e, z)
+lines_count f pt x ps ls h is =
+    let none = unsaid_count f x ps in
+    lines_are (λ xs. count f xs + part_count f ps ≡ part_count f (x ∷ ps)) pt x ls (record {
+      says = λ l e. (let same = ap (λ (y : Part). part_count f (y ∷ ps)) e in omega (arith, same));
+      put = λ off a b i k q. (let c = none off in let z = zero_if (f (Line.Put a b i k q)) (h.put a b i k q) in omega (arith, c, z));
+      goes = λ off a b n i k q l.
+          (let c = none off in let z = zero_if (f (Line.Put a b i k q)) (h.put a b i k q) in let y = zero_if (f (Line.Packet a b n l)) (h.packet a b n l) in omega (arith, c, z, y));
+      packet = λ off a b n l. (let c = none off in let z = zero_if (f (Line.Packet a b n l)) (h.packet a b n l) in omega (arith, c, z));
+    }) is
 
 pub parts_count : (f : Line → Bool) → Silent f → (ps : List Part) (pt : Point) (w : Spelled) → spelled pt ps ≡ Some w → count f w.lines ≡ part_count f ps
 parts_count f h = by_parts (λ ps pt w. count f w.lines ≡ part_count f ps) (λ pt. refl) (λ x ps pt next ls z lines leads rest. count-append f ls z.lines ∙ ap (λ n. count f ls + n) rest ∙ lines_count f pt x ps ls h lines)
 
+-- parts whose lines don't count
+pub none_count : (f : Line → Bool) (Q : Part → Type 0) → ((l : Line) → Q (Says l) → f l ≡ false) → (ps : List Part) → All Q ps → part_count f ps ≡ 0
+none_count f Q none [] so = refl
+none_count f Q none (Says l ∷ ps) so =
+    let a = zero_if (f l) (none l so.0) in
+    let b = none_count f Q none ps so.1 in
+    omega (arith, a, b)
+none_count f Q none (x ∷ ps) so = none_count f Q none ps so.1
+
 -- quiet parts end none, and are no directive
 pub quiet_count : (p : Pid) (v : View) (ps : List Part) (f : MsgId → Option Told) → AllQuiet p v ps → Extends v.told f → part_count (ends f p) ps ≡ 0
-quiet_count p v [] f quiet ext = refl
-quiet_count p v (Says l ∷ ps) f quiet ext =
-    let a = zero_if (ends f p l) (quiet_ends p v l f quiet.0 ext) in
-    let b = quiet_count p v ps f quiet.1 ext in
-    omega (arith, a, b)
-quiet_count p v (x ∷ ps) f quiet ext = quiet_count p v ps f quiet.1 ext
+quiet_count p v ps f quiet ext = none_count (ends f p) (Quiet p v) (λ l q. quiet_ends p v l f q ext) ps quiet
 
 line_asks : (p : Pid) (v : View) (l : Line) → QuietLine p v l → asks p l ≡ false
 line_asks p v (Line.Head d) h = absurd h
 line_asks p v l h = refl
 
 pub quiet_asks : (p : Pid) (v : View) (ps : List Part) → AllQuiet p v ps → part_count (asks p) ps ≡ 0
-quiet_asks p v [] quiet = refl
-quiet_asks p v (Says l ∷ ps) quiet =
-    let a = zero_if (asks p l) (line_asks p v l quiet.0) in
-    let b = quiet_asks p v ps quiet.1 in
-    omega (arith, a, b)
-quiet_asks p v (x ∷ ps) quiet = quiet_asks p v ps quiet.1
+quiet_asks p v = none_count (asks p) (Quiet p v) (line_asks p v)
+

@@ -11,6 +11,7 @@ use Rattle.dm_movelaws.proofs.Ends.Moving.{moving_in, not_false, target_waits, k
 use Rattle.dm_movelaws.proofs.Ends.Open.{level_balance, smooth_opens}
 use Rattle.dm_movelaws.proofs.Ends.Rows.{Turn, Comes, between_plain, first_smooth, line_then, line_alone, due_moves, other_still, set_here, level_row, level_still, quiet_row, about_same}
 use Rattle.dm_movelaws.proofs.Ends.Sends.{all_sent, sent_smooth, sends_count, sent_begins, handled_smooth, rejoins_smooth}
+use Rattle.dm_movelaws.proofs.Names.{label_of, is_put, touches}
 
 abbrev pub ComesOf : Pid → (pt : Point) → InPhases pt.view → Option (List Part) → Type 0
 ComesOf p pt h None = ⊤
@@ -23,10 +24,12 @@ kernel_quiet : (p : Pid) (v : View) (k : MessageKind) (b : ℕ) → is_migrate k
 kernel_quiet p v k b e = (ap (λ (c : Bool). c && pid_eq p (pid_of b 0)) e, tt)
 
 -- a step that makes no machine wait
-step_comes : (p : Pid) (pt : Point) (i : MsgId) (is : List MsgId) (t : Told) (l : Line) (k : MessageKind) (b : ℕ) (h : Turn pt i is t) → is_between t.kind ≡ true → Smooth p pt.view (view_after pt.view l) → Still p pt.view (view_after pt.view l)
-    → ((w : Spelled) → spelled pt (Says l ∷ to_kernel k b ∷ []) ≡ Some w → Settled p (view_after pt.view l) w.point) → is_migrate k ≡ false → ((f : MsgId → Option Told) → ends f p l ≡ false) → asks p l ≡ false → ComesOf p pt h.phases (Some (Says l ∷ to_kernel k b ∷ []))
-step_comes p pt i is t l k b h between first still rest plain none silent w e =
-    level_row p pt h.phases l (to_kernel k b ∷ []) w first (kernel_quiet p (view_after pt.view l) k b plain) (rest w e) none silent (λ g. level_still p pt h.phases l w still (rest w e) g)
+step_comes : (p : Pid) (pt : Point) (i : MsgId) (is : List MsgId) (t : Told) (l : Line) (k : MessageKind) (b : ℕ) (h : Turn pt i is t) → is_between t.kind ≡ true → label_of l ≡ None → is_put l ≡ false → touches l ≡ false
+    → ((z : Spot) → ids_at (view_after pt.view l) z ≡ ids_at (handled_first pt.view) z) → Still p pt.view (view_after pt.view l) → is_migrate k ≡ false → ((f : MsgId → Option Told) → ends f p l ≡ false) → asks p l ≡ false → ComesOf p pt h.phases (Some (Says l ∷ to_kernel k b ∷ []))
+step_comes p pt i is t l k b h between none quiet calm off still plain ended silent w e =
+    let next = kernel_quiet p (view_after pt.view l) k b plain in
+    let rest = line_then p pt l (to_kernel k b ∷ []) w none quiet calm h.sane h.fits next (owns_loose k b (moved pt l pt.kernel)) e in
+    level_row p pt h.phases l (to_kernel k b ∷ []) w (first_smooth p pt.view l i is h.front (between_plain p pt.view i t h.told between) quiet off) next rest ended silent (λ g. level_still p pt h.phases l w still rest g)
 
 -- the destination accepts, and waits for the process
 accepted_comes : (p : Pid) (pt : Point) (i : MsgId) (is : List MsgId) (t : Told) (q : Pid) (b : ℕ) (h : Turn pt i is t) → is_between t.kind ≡ true → t.about ≡ Of q → ComesOf p pt h.phases (Some (Says (Line.Migration Stage.Accepted q) ∷ to_kernel MessageKind.PullState b ∷ []))
@@ -43,10 +46,7 @@ accepted_comes p pt i is t q b h between about w e =
     ])
 
 lacks_comes : (p : Pid) (pt : Point) (i : MsgId) (is : List MsgId) (t : Told) (q : Pid) (x y b : ℕ) (h : Turn pt i is t) → is_between t.kind ≡ true → ComesOf p pt h.phases (Some (Says (Line.Lacks q x y) ∷ to_kernel MessageKind.Refuse b ∷ []))
-lacks_comes p pt i is t q x y b h between =
-    let l = Line.Lacks q x y in
-    step_comes p pt i is t l MessageKind.Refuse b h between (first_smooth p pt.view l i is h.front (between_plain p pt.view i t h.told between) refl (lacks_off pt.view q x y)) (λ m. refl)
-    (λ w e. line_then p pt l (to_kernel MessageKind.Refuse b ∷ []) w refl refl refl h.sane h.fits (refl, tt) (owns_loose MessageKind.Refuse b (moved pt l pt.kernel)) e) refl (λ f. refl) refl
+lacks_comes p pt i is t q x y b h between = step_comes p pt i is t (Line.Lacks q x y) MessageKind.Refuse b h between refl refl refl (lacks_off pt.view q x y) (λ m. refl) refl (λ f. refl) refl
 
 accepts_comes : (p : Pid) (pt : Point) (i : MsgId) (is : List MsgId) (t : Told) (q : Pid) (room : Bool) (x y b : ℕ) (h : Turn pt i is t) → is_between t.kind ≡ true → t.about ≡ Of q → ComesOf p pt h.phases (Some (accepts b q room x y))
 accepts_comes p pt i is t q true x y b h between about = accepted_comes p pt i is t q b h between about
@@ -62,17 +62,11 @@ piece_comes p pt i is t k b h between plain w e =
     quiet_row p pt h.phases ps w h.sane h.fits (tame_one p pt i is t h between, kernel_quiet p pt.view k b plain) (loose_walks ps pt (λ q. tt, (λ q. tt, tt))) e
 
 chunk_comes : (p : Pid) (pt : Point) (i : MsgId) (is : List MsgId) (t : Told) (q : Pid) (last : Bool) (h : Turn pt i is t) → is_between t.kind ≡ true → ComesOf p pt h.phases (Some (takes_chunk i q last))
-chunk_comes p pt i is t q true h between =
-    let l = Line.Migration Stage.StateTaken q in
-    step_comes p pt i is t l MessageKind.PullBlock i.from.home h between (first_smooth p pt.view l i is h.front (between_plain p pt.view i t h.told between) refl (state_off pt.view q)) (λ m. refl)
-    (λ w e. line_then p pt l (to_kernel MessageKind.PullBlock i.from.home ∷ []) w refl refl refl h.sane h.fits (refl, tt) (owns_loose MessageKind.PullBlock i.from.home (moved pt l pt.kernel)) e) refl (λ f. refl) refl
+chunk_comes p pt i is t q true h between = step_comes p pt i is t (Line.Migration Stage.StateTaken q) MessageKind.PullBlock i.from.home h between refl refl refl (state_off pt.view q) (λ m. refl) refl (λ f. refl) refl
 chunk_comes p pt i is t q false h between = piece_comes p pt i is t MessageKind.PullState i.from.home h between refl
 
 block_comes : (p : Pid) (pt : Point) (i : MsgId) (is : List MsgId) (t : Told) (q : Pid) (last : Bool) (h : Turn pt i is t) → is_between t.kind ≡ true → ComesOf p pt h.phases (Some (takes_block i q last))
-block_comes p pt i is t q true h between =
-    let l = Line.Migration Stage.MemoryTaken q in
-    step_comes p pt i is t l MessageKind.AllTaken i.from.home h between (first_smooth p pt.view l i is h.front (between_plain p pt.view i t h.told between) refl (memory_off pt.view q)) (λ m. refl)
-    (λ w e. line_then p pt l (to_kernel MessageKind.AllTaken i.from.home ∷ []) w refl refl refl h.sane h.fits (refl, tt) (owns_loose MessageKind.AllTaken i.from.home (moved pt l pt.kernel)) e) refl (λ f. refl) refl
+block_comes p pt i is t q true h between = step_comes p pt i is t (Line.Migration Stage.MemoryTaken q) MessageKind.AllTaken i.from.home h between refl refl refl (memory_off pt.view q) (λ m. refl) refl (λ f. refl) refl
 block_comes p pt i is t q false h between = piece_comes p pt i is t MessageKind.PullBlock i.from.home h between refl
 
 -- a process is here again: its move has ended

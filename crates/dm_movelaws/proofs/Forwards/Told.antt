@@ -9,6 +9,8 @@ use Rattle.dm_movelaws.proofs.Promise.Parts.{next_of}
 use Rattle.dm_movelaws.proofs.Promise.Spots.{Stands}
 use Rattle.dm_movelaws.proofs.Promise.Stands.{put_this, packet_stands}
 use Rattle.dm_movelaws.proofs.Leading.{puts_lead}
+use Rattle.dm_movelaws.proofs.Leading.{is_said, lines_are}
+use Rattle.dm_movelaws.proofs.Names.{false≢true}
 
 -- the messages that lines send on
 abbrev sent_on : List Line → List Onward
@@ -24,30 +26,15 @@ sent_append [] ys = refl
 sent_append (x ∷ xs) ys = ap (with_forward x) (sent_append xs ys) ∙ with_append x (sent_on xs) (sent_on ys)
 
 -- those of a group's lines are those of its parts
-puts_if : (v : View) (b : ℕ) (i : MsgId) (k : MessageKind) (q : Pid) (c d : Bool)
-    → sent_on (Line.Put v.acting b i k q ∷ (if c then [] else if d then packet_line v v.acting b (Load.Data (length (v.pair v.acting b).ids)) ∷ [] else [])) ≡ []
-puts_if v b i k q true d = refl
-puts_if v b i k q false true = refl
-puts_if v b i k q false false = refl
-
-puts_none : (v : View) (b : ℕ) (i : MsgId) (k : MessageKind) (q : Pid) (ls : List Line) → puts v b i k q ≡ ls → sent_on ls ≡ []
-puts_none v b i k q ls e = sym (ap sent_on e) ∙ puts_if v b i k q (v.acting == b) (goes_out (v.pair v.acting b))
-
-then_none : (ls : List Line) (fs : List Onward) → sent_on ls ≡ [] → sent_on ls ++ fs ≡ fs
-then_none ls fs e = ap (λ (xs : List Onward). xs ++ fs) e
+unsaid_none : (p : Part) (fs : List Onward) → is_said p ≡ false → fs ≡ part_forwards p fs
+unsaid_none (Says l) fs e = absurd (false≢true (sym e))
+unsaid_none _ fs e = refl
 
 part_sends : (pt : Point) (p : Part) (ls : List Line) (fs : List Onward) → lines_of pt p ≡ Some ls → sent_on ls ++ fs ≡ part_forwards p fs
-part_sends pt (Says l) ls fs is =
-    let f : l ∷ [] ≡ ls = cc in
-    sym (ap (λ (xs : List Line). sent_on xs ++ fs) f) ∙ sym (with_append l [] fs)
-part_sends pt (Routes i) ls fs is =
-    let (m, there, last) = bind-is (pt.kernel.bag i) (λ m. Some (puts pt.view (pt.addresses (Receiver i)).at i (plain_kind m.what) m.to)) ls is in
-    then_none ls fs (puts_none pt.view (pt.addresses (Receiver i)).at i (plain_kind m.what) m.to ls (let f : puts pt.view (pt.addresses (Receiver i)).at i (plain_kind m.what) m.to ≡ ls = cc in f))
-part_sends pt (Again i b) ls fs is =
-    let (t, there, last) = bind-is (pt.view.told i) (λ t. Some (puts pt.view b i t.kind t.receiver)) ls is in
-    then_none ls fs (puts_none pt.view b i t.kind t.receiver ls (let f : puts pt.view b i t.kind t.receiver ≡ ls = cc in f))
-part_sends pt (Owns k q b) ls fs is = then_none ls fs (puts_none pt.view b (own_id pt.view) k q ls (let f : puts pt.view b (own_id pt.view) k q ≡ ls = cc in f))
-part_sends pt (Transmits a b l) ls fs is = let f : packet_line pt.view a b l ∷ [] ≡ ls = cc in then_none ls fs (sym (ap sent_on f))
+part_sends pt p ls fs is =
+    let none = unsaid_none p fs in
+    lines_are (λ xs. sent_on xs ++ fs ≡ part_forwards p fs) pt p ls
+    (record { says = λ l e. sym (with_append l [] fs) ∙ sym (ap (λ (x : Part). part_forwards x fs) e); put = λ off a b i k q. none off; goes = λ off a b n i k q l. none off; packet = λ off a b n l. none off }) is
 
 parts_send : (ps : List Part) (pt : Point) (w : Spelled) → spelled pt ps ≡ Some w → sent_on w.lines ≡ forwards_of ps
 parts_send = by_parts (λ ps pt w. sent_on w.lines ≡ forwards_of ps) (λ pt. refl) (λ p ps pt next ls z lines leads rest. sent_append ls z.lines ∙ ap (λ (fs : List Onward). sent_on ls ++ fs) rest ∙ part_sends pt p ls (forwards_of ps) lines)

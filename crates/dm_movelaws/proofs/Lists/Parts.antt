@@ -3,6 +3,7 @@ use Rattle.dm_movelaws.proofs.Names.{◌≡◌, ℕ, ◌+◌, ◌==◌, Bool, tr
 use Rattle.dm_movelaws.proofs.Names.{bind-is, Step, Line, Load, Stage, Receiver, Part, Says, Routes, Again, Owns, Transmits, Spelled, lines_of, puts, goes_out, packet_line, spelled, Point, after_line, after, at_record, without_id}
 use Rattle.dm_movelaws.proofs.Names.{without_front, View, Told, About, NothingElse, view_after, handled, receiver_of, IsNetLine, IsNet, is_put, hushed, line_view, is_server, set_all, killed_or, told_kept, by_parts}
 use Rattle.dm_rule.specs.View as view
+use Rattle.dm_movelaws.proofs.Leading.{All, lines_are}
 
 -- what is queued is so
 abbrev pub LineOk : (MsgId → Type 0) → Line → Type 0
@@ -14,8 +15,7 @@ PartOk ok (Says l) = LineOk ok l
 PartOk ok _ = ⊤
 
 abbrev pub AllOk : (MsgId → Type 0) → List Part → Type 0
-AllOk ok [] = ⊤
-AllOk ok (p ∷ ps) = PartOk ok p × AllOk ok ps
+AllOk ok = All (PartOk ok)
 
 -- what the net says
 net_ok : (ok : MsgId → Type 0) (l : Line) → IsNetLine l → LineOk ok l
@@ -139,26 +139,9 @@ lines_queues before (l ∷ ls) pt next ok e h =
     lines_queues before ls mid next ok.1 rest (subst (NoQueues before) (sym (line_view pt mid l first)) (line_queues before pt.view l ok.0 h))
 
 -- what a part says
-packet_ok : (ok : MsgId → Type 0) (c d : Bool) (v : View) (a b : ℕ) (l : Load) → LinesOk ok (if c then [] else if d then packet_line v a b l ∷ [] else [])
-packet_ok ok true d v a b l = tt
-packet_ok ok false true v a b l = (tt, tt)
-packet_ok ok false false v a b l = tt
-
-puts_ok : (ok : MsgId → Type 0) (v : View) (b : ℕ) (i : MsgId) (k : MessageKind) (q : Pid) (ls : List Line) → Some (puts v b i k q) ≡ Some ls → LinesOk ok ls
-puts_ok ok v b i k q ls is =
-    let f : puts v b i k q ≡ ls = cc in
-    subst (LinesOk ok) f (tt, packet_ok ok (v.acting == b) (goes_out (v.pair v.acting b)) v v.acting b (Load.Data (length (v.pair v.acting b).ids)))
-
 part_ok : (ok : MsgId → Type 0) (pt : Point) (p : Part) (ls : List Line) → PartOk ok p → lines_of pt p ≡ Some ls → LinesOk ok ls
-part_ok ok pt (Says l) ls h is = let f : l ∷ [] ≡ ls = cc in subst (LinesOk ok) f (h, tt)
-part_ok ok pt (Routes i) ls h is =
-    let (m, there, last) = bind-is (pt.kernel.bag i) (λ m. Some (puts pt.view (pt.addresses (Receiver i)).at i (plain_kind m.what) m.to)) ls is in
-    puts_ok ok pt.view (pt.addresses (Receiver i)).at i (plain_kind m.what) m.to ls last
-part_ok ok pt (Again i b) ls h is =
-    let (t, there, last) = bind-is (pt.view.told i) (λ t. Some (puts pt.view b i t.kind t.receiver)) ls is in
-    puts_ok ok pt.view b i t.kind t.receiver ls last
-part_ok ok pt (Owns k q b) ls h is = puts_ok ok pt.view b (view.own_id pt.view) k q ls is
-part_ok ok pt (Transmits a b l) ls h is = let f : packet_line pt.view a b l ∷ [] ≡ ls = cc in subst (LinesOk ok) f (tt, tt)
+part_ok ok pt p ls h is = lines_are (LinesOk ok) pt p ls
+    (record { says = λ l e. (subst (PartOk ok) e h, tt); put = λ none a b i k q. (tt, tt); goes = λ none a b n i k q l. (tt, (tt, tt)); packet = λ none a b n l. (tt, tt) }) is
 
 pub parts_queues : (before : View) (ps : List Part) (pt : Point) (w : Spelled) → AllOk (ForProcess before) ps → spelled pt ps ≡ Some w → NoQueues before pt.view → NoQueues before w.point.view
 parts_queues before qs q w ok is h = by_parts (λ ps pt v. AllOk (ForProcess before) ps → NoQueues before pt.view → NoQueues before v.point.view) (λ pt ok h. h)

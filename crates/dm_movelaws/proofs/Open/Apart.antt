@@ -9,6 +9,7 @@ use Rattle.dm_onekernel.specs.Step as kernel
 use Rattle.dm_rule.specs.Rule as rule
 use Rattle.dm_movelaws.proofs.Open.Spares.{dropped_over}
 pub use Rattle.dm_rule.proofs.Apart.Groups.{kernel_same}
+use Rattle.dm_movelaws.proofs.Leading.{lines_are}
 
 -- each of these lines spares the process where it stands
 abbrev pub AllAlone : Pid → Point → List Line → Type 0
@@ -20,27 +21,13 @@ alone_append y [] ys pt h k = k pt refl
 alone_append y (x ∷ xs) ys pt h k = (h.0, λ next e. alone_append y xs ys next (h.1 next e) (λ end f. k end (ap (λ (o : Option Point). bind o (λ (q : Point). after q xs)) e ∙ f)))
 
 -- the lines of a part
-packet_alone : (y : Pid) (pt : Point) (l : Line) (c d : Bool) → label_of l ≡ None → AllAlone y pt (if c then [] else if d then l ∷ [] else [])
-packet_alone y pt l true d none = tt
-packet_alone y pt l false true none = (subst (Spares pt.kernel y) (sym none) tt, λ next e. tt)
-packet_alone y pt l false false none = tt
-
-puts_alone : (y : Pid) (pt : Point) (b : ℕ) (i : MsgId) (k : MessageKind) (q : Pid) (ls : List Line) → Some (puts pt.view b i k q) ≡ Some ls → AllAlone y pt ls
-puts_alone y pt b i k q ls is =
-    let f : puts pt.view b i k q ≡ ls = cc in
-    subst (AllAlone y pt) f
-    (tt, λ next e. packet_alone y next (packet_line pt.view pt.view.acting b (Load.Data (length (pt.view.pair pt.view.acting b).ids))) (pt.view.acting == b) (goes_out (pt.view.pair pt.view.acting b)) refl)
-
 part_alone : (y : Pid) (pt : Point) (p : Part) (ls : List Line) → SparesPart pt.kernel y p → lines_of pt p ≡ Some ls → AllAlone y pt ls
-part_alone y pt (Says l) ls h is = let f : l ∷ [] ≡ ls = cc in subst (AllAlone y pt) f (h, λ next e. tt)
-part_alone y pt (Routes i) ls h is =
-    let (m, there, last) = bind-is (pt.kernel.bag i) (λ m. Some (puts pt.view (pt.addresses (Receiver i)).at i (plain_kind m.what) m.to)) ls is in
-    puts_alone y pt (pt.addresses (Receiver i)).at i (plain_kind m.what) m.to ls last
-part_alone y pt (Again i b) ls h is =
-    let (t, there, last) = bind-is (pt.view.told i) (λ t. Some (puts pt.view b i t.kind t.receiver)) ls is in
-    puts_alone y pt b i t.kind t.receiver ls last
-part_alone y pt (Owns k q b) ls h is = puts_alone y pt b (own_id pt.view) k q ls is
-part_alone y pt (Transmits a b l) ls h is = let f : packet_line pt.view a b l ∷ [] ≡ ls = cc in subst (AllAlone y pt) f (tt, λ next e. tt)
+part_alone y pt p ls h is = lines_are (AllAlone y pt) pt p ls (record {
+  says = λ l e. (subst (SparesPart pt.kernel y) e h, λ next f. tt);
+  put = λ none a b i k q. (tt, λ next e. tt);
+  goes = λ none a b n i k q l. (tt, λ next e. (tt, λ end f. tt));
+  packet = λ none a b n l. (tt, λ next e. tt);
+}) is
 
 parts_alone : (y : Pid) (ps : List Part) (pt : Point) (w : Spelled) → FirstApart pt.kernel y ps → spelled pt ps ≡ Some w → AllAlone y pt w.lines
 parts_alone y qs p w h is = by_parts (λ ps pt v. FirstApart pt.kernel y ps → AllAlone y pt v.lines) (λ pt h. tt) (λ x ps pt next ls z lines leads rest h. (

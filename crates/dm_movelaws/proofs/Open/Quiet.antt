@@ -7,6 +7,7 @@ use Rattle.dm_movelaws.proofs.Stages.Marks.{marks_of, spelled_marks}
 use Rattle.dm_movelaws.proofs.Stages.Lines.{AllMild, mild_marks, net_marks}
 use Rattle.dm_movelaws.proofs.Stages.Turns.{round_mild, handles_mild}
 use Rattle.dm_movelaws.proofs.Stages.Hears.{Hears, Calms, Freezes, server_mild, process_hears}
+use Rattle.dm_movelaws.proofs.Leading.{All, lines_are}
 
 -- lines that are no steps of the kernel without machines
 abbrev pub AllQuiet : List Line → Type 0
@@ -19,8 +20,7 @@ QuietPart (Says l) = label_of l ≡ None
 QuietPart _ = ⊤
 
 abbrev QuietParts : List Part → Type 0
-QuietParts [] = ⊤
-QuietParts (p ∷ ps) = QuietPart p × QuietParts ps
+QuietParts = All QuietPart
 
 -- what kernels tell each other of a process
 quiet_line : (l : Line) → IsHeardLine l → label_of l ≡ None
@@ -71,26 +71,9 @@ quiet_append : (xs ys : List Line) → AllQuiet xs → AllQuiet ys → AllQuiet 
 quiet_append [] ys h k = k
 quiet_append (x ∷ xs) ys h k = (h.0, quiet_append xs ys h.1 k)
 
-packet_quiet : (l : Line) (c d : Bool) → label_of l ≡ None → AllQuiet (if c then [] else if d then l ∷ [] else [])
-packet_quiet l true d h = tt
-packet_quiet l false true h = (h, tt)
-packet_quiet l false false h = tt
-
-puts_quiet : (pt : Point) (b : ℕ) (i : MsgId) (k : MessageKind) (q : Pid) (ls : List Line) → Some (puts pt.view b i k q) ≡ Some ls → AllQuiet ls
-puts_quiet pt b i k q ls is =
-    let f : puts pt.view b i k q ≡ ls = cc in
-    subst AllQuiet f (refl, packet_quiet (packet_line pt.view pt.view.acting b _) (pt.view.acting == b) (goes_out (pt.view.pair pt.view.acting b)) refl)
-
 part_quiet : (pt : Point) (p : Part) (ls : List Line) → QuietPart p → lines_of pt p ≡ Some ls → AllQuiet ls
-part_quiet pt (Says l) ls h is = let f : l ∷ [] ≡ ls = cc in subst AllQuiet f (h, tt)
-part_quiet pt (Routes i) ls h is =
-    let (m, there, last) = bind-is (pt.kernel.bag i) (λ m. Some (puts pt.view (pt.addresses (Receiver i)).at i (plain_kind m.what) m.to)) ls is in
-    puts_quiet pt (pt.addresses (Receiver i)).at i (plain_kind m.what) m.to ls last
-part_quiet pt (Again i b) ls h is =
-    let (t, there, last) = bind-is (pt.view.told i) (λ t. Some (puts pt.view b i t.kind t.receiver)) ls is in
-    puts_quiet pt b i t.kind t.receiver ls last
-part_quiet pt (Owns k q b) ls h is = puts_quiet pt b (own_id pt.view) k q ls is
-part_quiet pt (Transmits a b l) ls h is = let f : packet_line pt.view a b l ∷ [] ≡ ls = cc in subst AllQuiet f (refl, tt)
+part_quiet pt p ls h is = lines_are AllQuiet pt p ls
+    (record { says = λ l e. (subst QuietPart e h, tt); put = λ none a b i k q. (refl, tt); goes = λ none a b n i k q l. (refl, (refl, tt)); packet = λ none a b n l. (refl, tt) }) is
 
 parts_quiet : (ps : List Part) (pt : Point) (w : Spelled) → QuietParts ps → spelled pt ps ≡ Some w → AllQuiet w.lines
 parts_quiet qs q w h is = by_parts (λ ps pt v. QuietParts ps → AllQuiet v.lines) (λ pt h. tt) (λ p ps pt next ls z lines leads rest h. quiet_append ls z.lines (part_quiet pt p ls h.0 lines) (rest h.1)) qs q w is h

@@ -2,6 +2,8 @@
 use Rattle.dm_movelaws.proofs.Names.{◌≡◌, ℕ, ◌==◌, Bool, true, false, List, [], ◌∷◌, ◌++◌, refl, ap, ◌∙◌, sym, length, if◌then◌else◌, Option, Some, Pid, pid_eq, MsgId, MessageKind, plain_kind, Boot, pid_eq-same, bind-is, Step, Line, Load}
 use Rattle.dm_movelaws.proofs.Names.{own_id, Receiver, Point, moved, Part, Says, Routes, Again, Owns, Transmits, Spelled, lines_of, puts, goes_out, packet_line, spelled, sends_on, group_of, outcome, Mark, mark_for, with_mark, marks}
 use Rattle.dm_movelaws.proofs.Names.{follows, left_open, in_order, left_true, right_true, both_true, by_parts, group_is}
+use Rattle.dm_movelaws.proofs.Leading.{is_said, lines_are}
+use Rattle.dm_movelaws.proofs.Names.{false≢true}
 
 -- the mark that is last behind these marks, if its migration isn't over
 abbrev pub open_after : Option Mark → List Mark → Option Mark
@@ -42,27 +44,15 @@ abbrev pub marks_of : Pid → List Part → List Mark
 marks_of p [] = []
 marks_of p (q ∷ ps) = mark_part p q (marks_of p ps)
 
-packet_or_none : (p : Pid) (c d : Bool) (a b k : ℕ) (l : Load) (zs : List Line) → marks p ((if c then [] else if d then Line.Packet a b k l ∷ [] else []) ++ zs) ≡ marks p zs
-packet_or_none p true d a b k l zs = refl
-packet_or_none p false true a b k l zs = refl
-packet_or_none p false false a b k l zs = refl
-
-puts_marks : (p : Pid) (pt : Point) (b : ℕ) (i : MsgId) (k : MessageKind) (q : Pid) (ls zs : List Line) → Some (puts pt.view b i k q) ≡ Some ls → marks p (ls ++ zs) ≡ marks p zs
-puts_marks p pt b i k q ls zs is =
-    let f : puts pt.view b i k q ≡ ls = cc in
-    ap (λ (xs : List Line). marks p (xs ++ zs)) (sym f)
-    ∙ packet_or_none p (pt.view.acting == b) (goes_out (pt.view.pair pt.view.acting b)) pt.view.acting b (length (pt.view.pair pt.view.acting b).wire) (Load.Data (length (pt.view.pair pt.view.acting b).ids)) zs
+unsaid_marks : (p : Pid) (q : Part) (ms : List Mark) → is_said q ≡ false → ms ≡ mark_part p q ms
+unsaid_marks p (Says l) ms e = absurd (false≢true (sym e))
+unsaid_marks p _ ms e = refl
 
 part_marks : (p : Pid) (pt : Point) (q : Part) (ls zs : List Line) → lines_of pt q ≡ Some ls → marks p (ls ++ zs) ≡ mark_part p q (marks p zs)
-part_marks p pt (Says l) ls zs is = let f : l ∷ [] ≡ ls = cc in ap (λ (xs : List Line). marks p (xs ++ zs)) (sym f)
-part_marks p pt (Routes i) ls zs is =
-    let (m, there, last) = bind-is (pt.kernel.bag i) (λ m. Some (puts pt.view (pt.addresses (Receiver i)).at i (plain_kind m.what) m.to)) ls is in
-    puts_marks p pt (pt.addresses (Receiver i)).at i (plain_kind m.what) m.to ls zs last
-part_marks p pt (Again i b) ls zs is =
-    let (t, there, last) = bind-is (pt.view.told i) (λ t. Some (puts pt.view b i t.kind t.receiver)) ls is in
-    puts_marks p pt b i t.kind t.receiver ls zs last
-part_marks p pt (Owns k q b) ls zs is = puts_marks p pt b (own_id pt.view) k q ls zs is
-part_marks p pt (Transmits a b l) ls zs is = let f : packet_line pt.view a b l ∷ [] ≡ ls = cc in ap (λ (xs : List Line). marks p (xs ++ zs)) (sym f)
+part_marks p pt q ls zs is =
+    let none = unsaid_marks p q (marks p zs) in
+    lines_are (λ xs. marks p (xs ++ zs) ≡ mark_part p q (marks p zs)) pt q ls
+    (record { says = λ l e. sym (ap (λ (x : Part). mark_part p x (marks p zs)) e); put = λ off a b i k r. none off; goes = λ off a b n i k r l. none off; packet = λ off a b n l. none off }) is
 
 pub spelled_marks : (p : Pid) (ps : List Part) (pt : Point) (w : Spelled) → spelled pt ps ≡ Some w → marks p w.lines ≡ marks_of p ps
 spelled_marks p = by_parts (λ ps pt w. marks p w.lines ≡ marks_of p ps) (λ pt. refl) (λ q ps pt next ls z lines leads rest. part_marks p pt q ls z.lines lines ∙ ap (mark_part p q) rest)

@@ -7,6 +7,8 @@ use Rattle.dm_movelaws.proofs.Stages.Marks.{mark_same, mark_other, marks_of}
 use Rattle.dm_movelaws.proofs.Stages.Spares.{mark_of, HasMark, token_mark, Marked}
 use Rattle.dm_movelaws.proofs.Stages.Rows.{Handling, front_token, row_marked, answer}
 use Rattle.dm_movelaws.proofs.Stages.Steps.{comes_home, departs, departs_row}
+use Rattle.dm_movelaws.proofs.Names.{label_of, is_put, touches, Spot, ids_at, handled_first, with_mark, in_order, to_kernel}
+use Rattle.dm_movelaws.proofs.Stages.Marks.{open_after}
 
 -- the message about a process at the front
 pub record Heard (pt : Point) (i : MsgId) (is : List MsgId) (t : Told) (q : Pid) : Type 0 where
@@ -28,20 +30,23 @@ unmarked q m p e = mark_other p q m [] (pid_eq-swap p q ∙ e)
 given : (pt : Point) (w : Spelled) (qs ps : List Part) → Some qs ≡ Some ps → (spelled pt qs ≡ Some w → MarkedBy pt w qs) → spelled pt ps ≡ Some w → MarkedBy pt w ps
 given pt w qs ps e h n = let f : qs ≡ ps = cc in subst (MarkedBy pt w) f (h (ap (spelled pt) f ∙ n))
 
+-- a step is made, and answered
+step_row : (pt : Point) (i : MsgId) (is : List MsgId) (t : Told) (q : Pid) (l : Line) (m : Mark) (j k : MessageKind) (w : Spelled) → Heard pt i is t q → t.kind ≡ j → is_between j ≡ true → label_of l ≡ None → is_put l ≡ false → touches l ≡ false
+    → ((z : Spot) → ids_at (view_after pt.view l) z ≡ ids_at (handled_first pt.view) z) → ((n : ℕ) (r : Pid) → pid_eq q r ≡ false → (view_after pt.view l).known n r ≡ pt.view.known n r) → (view_after pt.view l).topic ≡ Of q → is_between k ≡ true
+    → ((r : Pid) → with_mark r l [] ≡ mark_for r q m []) → in_order (mark_of j) (m ∷ []) ≡ true → open_after (mark_of j) (m ∷ []) ≡ mark_of k → spelled pt (Says l ∷ to_kernel k i.from.home ∷ []) ≡ Some w → MarkedBy pt w (Says l ∷ to_kernel k i.from.home ∷ [])
+step_row pt i is t q l m j k w h e between none quiet calm off known topic next marked order ends n p =
+    let v = pt.view in
+    row_marked v w.point.view q (λ r. with_mark r l [])
+    (answer pt i is q (pid_of i.from.home 0) l k i.from.home (m ∷ []) (mark_of j) w h.at none quiet calm (λ z. off z ∙ first_off v i is h.at.front z) known topic next (λ r apart. marked r ∙ unmarked q m r apart)
+    (marked q ∙ mark_same q m []) (heard_mark pt i is t q j h e between) order ends n) p
+
 -- a machine takes the process, or says what is free
 asked_row : (pt : Point) (i : MsgId) (is : List MsgId) (t : Told) (q : Pid) (room : Bool) (slots blocks : ℕ) (w : Spelled) → Heard pt i is t q → t.kind ≡ MessageKind.Ask → spelled pt (accepts i.from.home q room slots blocks) ≡ Some w → MarkedBy pt w (accepts i.from.home q room slots blocks)
-asked_row pt i is t q true slots blocks w h e n p =
-    let v = pt.view in
-    let l = Line.Migration Stage.Accepted q in
-    row_marked v w.point.view q (λ r. mark_for r q (Reached 3) [])
-    (answer pt i is q (pid_of i.from.home 0) l MessageKind.PullState i.from.home (Reached 3 ∷ []) (Some (Reached 2)) w h.at refl refl refl (λ z. accepted_off v q z ∙ first_off v i is h.at.front z)
-    (λ m r apart. record_off v.known v.acting q (Incoming (front_of (v.inbox v.acting))) m r apart) refl refl (λ r apart. unmarked q (Reached 3) r apart) (mark_same q (Reached 3) []) (heard_mark pt i is t q MessageKind.Ask h e refl) refl refl n) p
-asked_row pt i is t q false slots blocks w h e n p =
-    let v = pt.view in
-    let l = Line.Lacks q slots blocks in
-    row_marked v w.point.view q (λ r. mark_for r q Lacking [])
-    (answer pt i is q (pid_of i.from.home 0) l MessageKind.Refuse i.from.home (Lacking ∷ []) (Some (Reached 2)) w h.at refl refl refl (λ z. lacks_off v q slots blocks z ∙ first_off v i is h.at.front z)
-    (λ m r apart. refl) refl refl (λ r apart. unmarked q Lacking r apart) (mark_same q Lacking []) (heard_mark pt i is t q MessageKind.Ask h e refl) refl refl n) p
+asked_row pt i is t q true slots blocks w h e =
+    step_row pt i is t q (Line.Migration Stage.Accepted q) (Reached 3) MessageKind.Ask MessageKind.PullState w h e refl refl refl refl (accepted_off pt.view q)
+    (λ m r apart. record_off pt.view.known pt.view.acting q (Incoming (front_of (pt.view.inbox pt.view.acting))) m r apart) refl refl (λ r. refl) refl refl
+asked_row pt i is t q false slots blocks w h e =
+    step_row pt i is t q (Line.Lacks q slots blocks) Lacking MessageKind.Ask MessageKind.Refuse w h e refl refl refl refl (lacks_off pt.view q slots blocks) (λ m r apart. refl) refl refl (λ r. refl) refl refl
 
 -- a piece goes or comes, and says no more than that
 proto_topic : (pt : Point) (i : MsgId) (is : List MsgId) (t : Told) (q : Pid) → Heard pt i is t q → (view_after pt.view (Line.Proto i)).topic ≡ Of q
@@ -60,20 +65,12 @@ proto_row pt i is t q j k w h e between next same n p =
     (proto_topic pt i is t q h) next (λ r apart. refl) refl (heard_mark pt i is t q j h e between) refl same n) p
 
 chunk_row : (pt : Point) (i : MsgId) (is : List MsgId) (t : Told) (q : Pid) (last : Bool) (w : Spelled) → Heard pt i is t q → t.kind ≡ MessageKind.State → spelled pt (takes_chunk i q last) ≡ Some w → MarkedBy pt w (takes_chunk i q last)
-chunk_row pt i is t q true w h e n p =
-    let v = pt.view in
-    row_marked v w.point.view q (λ r. mark_for r q (Reached 4) [])
-    (answer pt i is q (pid_of i.from.home 0) (Line.Migration Stage.StateTaken q) MessageKind.PullBlock i.from.home (Reached 4 ∷ []) (Some (Reached 3)) w h.at refl refl refl (λ z. state_off v q z ∙ first_off v i is h.at.front z)
-    (λ m r apart. refl) refl refl (λ r apart. unmarked q (Reached 4) r apart) (mark_same q (Reached 4) []) (heard_mark pt i is t q MessageKind.State h e refl) refl refl n) p
-chunk_row pt i is t q false w h e n p = proto_row pt i is t q MessageKind.State MessageKind.PullState w h e refl refl refl n p
+chunk_row pt i is t q true w h e = step_row pt i is t q (Line.Migration Stage.StateTaken q) (Reached 4) MessageKind.State MessageKind.PullBlock w h e refl refl refl refl (state_off pt.view q) (λ m r apart. refl) refl refl (λ r. refl) refl refl
+chunk_row pt i is t q false w h e = proto_row pt i is t q MessageKind.State MessageKind.PullState w h e refl refl refl
 
 block_row : (pt : Point) (i : MsgId) (is : List MsgId) (t : Told) (q : Pid) (last : Bool) (w : Spelled) → Heard pt i is t q → t.kind ≡ MessageKind.Memory → spelled pt (takes_block i q last) ≡ Some w → MarkedBy pt w (takes_block i q last)
-block_row pt i is t q true w h e n p =
-    let v = pt.view in
-    row_marked v w.point.view q (λ r. mark_for r q (Reached 5) [])
-    (answer pt i is q (pid_of i.from.home 0) (Line.Migration Stage.MemoryTaken q) MessageKind.AllTaken i.from.home (Reached 5 ∷ []) (Some (Reached 4)) w h.at refl refl refl (λ z. memory_off v q z ∙ first_off v i is h.at.front z)
-    (λ m r apart. refl) refl refl (λ r apart. unmarked q (Reached 5) r apart) (mark_same q (Reached 5) []) (heard_mark pt i is t q MessageKind.Memory h e refl) refl refl n) p
-block_row pt i is t q false w h e n p = proto_row pt i is t q MessageKind.Memory MessageKind.PullBlock w h e refl refl refl n p
+block_row pt i is t q true w h e = step_row pt i is t q (Line.Migration Stage.MemoryTaken q) (Reached 5) MessageKind.Memory MessageKind.AllTaken w h e refl refl refl refl (memory_off pt.view q) (λ m r apart. refl) refl refl (λ r. refl) refl refl
+block_row pt i is t q false w h e = proto_row pt i is t q MessageKind.Memory MessageKind.PullBlock w h e refl refl refl
 
 -- it stays, and it is restarted
 stays_row : (pt : Point) (i : MsgId) (is : List MsgId) (t : Told) (q : Pid) (w : Spelled) → Heard pt i is t q → t.kind ≡ MessageKind.Refuse → spelled pt (Says (Line.Stays q) ∷ []) ≡ Some w → MarkedBy pt w (Says (Line.Stays q) ∷ [])

@@ -4,6 +4,7 @@ use Rattle.dm_movelaws.proofs.Names.{Line, Load, Receiver, Part, Says, Routes, A
 use Rattle.dm_rule.specs.View as view
 use Rattle.dm_movelaws.proofs.Updates.Rows.{Handles, is_updated, PartQuiet, AllQuiet, Shape, Quiet, Updates}
 use Rattle.dm_movelaws.proofs.Updates.Shapes.{outcome_shape}
+use Rattle.dm_movelaws.proofs.Leading.{lines_are}
 
 abbrev begun : Point → Step → Point
 begun pt d = moved pt (Line.Head d) pt.kernel
@@ -29,27 +30,9 @@ neither : (xs ys : List Line) → has xs ≡ false → has ys ≡ false → has 
 neither [] ys e f = f
 neither (x ∷ xs) ys e f = neither_if (is_updated x) xs ys (xs ++ ys) (λ g. neither xs ys g f) e
 
-puts_if : (v : View) (b : ℕ) (i : MsgId) (k : MessageKind) (q : Pid) (c d : Bool)
-    → has (Line.Put v.acting b i k q ∷ (if c then [] else if d then packet_line v v.acting b (Load.Data (length (v.pair v.acting b).ids)) ∷ [] else [])) ≡ false
-puts_if v b i k q true d = refl
-puts_if v b i k q false true = refl
-puts_if v b i k q false false = refl
-
-puts_has : (v : View) (b : ℕ) (i : MsgId) (k : MessageKind) (q : Pid) → has (puts v b i k q) ≡ false
-puts_has v b i k q = puts_if v b i k q (v.acting == b) (goes_out (v.pair v.acting b))
-
 part_has : (pt : Point) (p : Part) (ls : List Line) → PartQuiet p → lines_of pt p ≡ Some ls → has ls ≡ false
-part_has pt (Says l) ls quiet is = let f : l ∷ [] ≡ ls = cc in sym (ap has f) ∙ ap (λ (c : Bool). c || false) quiet
-part_has pt (Routes i) ls quiet is =
-    let (m, there, last) = bind-is (pt.kernel.bag i) (λ m. Some (puts pt.view (pt.addresses (Receiver i)).at i (plain_kind m.what) m.to)) ls is in
-    let f : puts pt.view (pt.addresses (Receiver i)).at i (plain_kind m.what) m.to ≡ ls = cc in
-    sym (ap has f) ∙ puts_has pt.view (pt.addresses (Receiver i)).at i (plain_kind m.what) m.to
-part_has pt (Again i b) ls quiet is =
-    let (t, there, last) = bind-is (pt.view.told i) (λ t. Some (puts pt.view b i t.kind t.receiver)) ls is in
-    let f : puts pt.view b i t.kind t.receiver ≡ ls = cc in
-    sym (ap has f) ∙ puts_has pt.view b i t.kind t.receiver
-part_has pt (Owns k q b) ls quiet is = let f : puts pt.view b (view.own_id pt.view) k q ≡ ls = cc in sym (ap has f) ∙ puts_has pt.view b (view.own_id pt.view) k q
-part_has pt (Transmits a b l) ls quiet is = let f : packet_line pt.view a b l ∷ [] ≡ ls = cc in sym (ap has f)
+part_has pt p ls quiet is = lines_are (λ xs. has xs ≡ false) pt p ls
+    (record { says = λ l e. ap (λ (c : Bool). c || false) (subst PartQuiet e quiet); put = λ none a b i k q. refl; goes = λ none a b n i k q l. refl; packet = λ none a b n l. refl }) is
 
 parts_have : (ps : List Part) (pt : Point) (w : Spelled) → AllQuiet ps → spelled pt ps ≡ Some w → has w.lines ≡ false
 parts_have ps pt w quiet is = by_parts (λ qs q v. AllQuiet qs → has v.lines ≡ false) (λ q h. refl) (λ x qs q next ls z lines leads rest h. neither ls z.lines (part_has q x ls h.0 lines) (rest h.1)) ps pt w is quiet
