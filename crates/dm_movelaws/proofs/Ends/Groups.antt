@@ -16,7 +16,7 @@ use Rattle.dm_movelaws.proofs.Ends.Steps.{ComesOf}
 use Rattle.dm_movelaws.proofs.Ends.Hears.{hears_comes}
 use Rattle.dm_movelaws.proofs.Ends.Turns.{round_quiet, handles_quiet}
 use Rattle.dm_movelaws.proofs.Leading.{puts_lead}
-use Rattle.dm_movelaws.proofs.Names.{None, label_of}
+use Rattle.dm_movelaws.proofs.Names.{None, false, label_of}
 
 abbrev begun_phases : (pt : Point) (d : Step) → InPhases pt.view → InPhases (begun pt d).view
 begun_phases pt d h = calm_phases pt.view (after_head pt.view d) (head_calm pt.view d) h
