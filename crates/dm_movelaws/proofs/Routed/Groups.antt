@@ -10,6 +10,7 @@ use Rattle.dm_movelaws.proofs.Routed.Outs.{LineOuts, PartOuts, AllOuts, outcome_
 use Rattle.dm_movelaws.proofs.Routed.Steps.{is_sent, step_counts}
 use Rattle.dm_movelaws.proofs.Leading.{Behind, whatever_put, sane_lead}
 use Rattle.dm_movelaws.proofs.Names.{Sayable}
+use Rattle.dm_movelaws.proofs.Names.{nat_tests}
 
 -- a message that was told of
 abbrev pub IsTold : View → MsgId → Type 0
@@ -23,17 +24,11 @@ pub record Counted (v : View) (pt : Point) : Type 0 where
 -- a message stays in the bag, or it is the one that goes
 hidden_some : (out : Option MsgId) (bag : MsgId → Option PlainMessage) (i : MsgId) → is_some (bag i) ≡ true → (is_some (hidden out bag i) ≡ true) ⊎ (out ≡ Some i)
 hidden_some None bag i e = inl e
-hidden_some (Some j) bag i e = elim (cases_Bool (id_eq j i)) [
-  | inl same ↦ inr (ap Some (id_eq-is j i same))
-  | inr apart ↦ inl (ap (λ (c : Bool). is_some (if c then None else bag i)) apart ∙ e)
-]
+hidden_some (Some j) bag i e = grind (arith, nat_tests, id_eq-is)
 
 some_hidden : (put : Option MsgId) (bag : MsgId → Option PlainMessage) (i : MsgId) → is_some (hidden put bag i) ≡ true → is_some (bag i) ≡ true
 some_hidden None bag i e = e
-some_hidden (Some j) bag i e = elim (cases_Bool (id_eq j i)) [
-  | inl same ↦ absurd (false≢true (sym (ap (λ (c : Bool). is_some (if c then None else bag i)) same) ∙ e))
-  | inr apart ↦ sym (ap (λ (c : Bool). is_some (if c then None else bag i)) apart) ∙ e
-]
+some_hidden (Some j) bag i e = grind (arith, nat_tests)
 
 stays_by : (e : MsgId → ℕ) (s t : OneKernel) (out put : Option MsgId) (i : MsgId) → BagStep e s t out put → is_some (s.bag i) ≡ true → (is_some (t.bag i) ≡ true) ⊎ (out ≡ Some i)
 stays_by e s t out put i b there = elim (hidden_some out s.bag i there) [
@@ -64,31 +59,10 @@ same_told v l i quiet h = ap (λ (f : MsgId → Option Told). is_some (f i)) (hu
 counted_label : (v : View) (pt : Point) (l : Label) (t : OneKernel) → ((i : MsgId) → out_of l ≡ Some i → IsTold v i) → kernel.step pt.kernel l ≡ Some t → Sane pt → Counted v pt → Counted v (moved pt (Line.Label l) t)
 counted_label v pt l t outs is sane h =
     let told : (i : MsgId) → IsTold pt.view i → IsTold (view_after pt.view (Line.Label l)) i = λ i e. same_told pt.view (Line.Label l) i refl e in
-    record {
-      kept = λ i e. told i (h.kept i e);
-      each = λ i ask sent. elim (step_counts pt.kernel t l is i ask sent) [
-        | inr now ↦ inr now
-        | inl before ↦ elim (h.each i ask before) [
-          | inl was ↦ inl (told i was)
-          | inr there ↦ elim (stays_or_goes sane.r sane.e pt.kernel t l i is sane.sound there) [
-            | inl stays ↦ inr stays
-            | inr goes ↦ inl (told i (h.kept i (outs i goes)))
-          ]
-        ]
-      ];
-    }
+    grind (arith, nat_tests, step_counts, stays_or_goes)
 
 counted_quiet : (v : View) (pt : Point) (l : Line) (t : OneKernel) → is_put l ≡ false → Some pt.kernel ≡ Some t → Counted v pt → Counted v (moved pt l t)
-counted_quiet v pt l t quiet is h =
-    let same : pt.kernel ≡ t = cc in
-    subst (λ (s : OneKernel). Counted v (moved pt l s)) same
-    (record {
-      kept = λ i e. same_told pt.view l i quiet (h.kept i e);
-      each = λ i ask sent. elim (h.each i ask sent) [
-        | inl was ↦ inl (same_told pt.view l i quiet was)
-        | inr there ↦ inr there
-      ];
-    })
+counted_quiet v pt l t quiet is h = grind (arith, nat_tests, same_told)
 
 counted_line : (v : View) (pt : Point) (l : Line) (t : OneKernel) → is_put l ≡ false → LineOuts (IsTold v) l → kernel_after pt.kernel (label_of l) ≡ Some t → Sane pt → Counted v pt → Counted v (moved pt l t)
 counted_line v pt (Line.Label l) t quiet outs is sane h = counted_label v pt l t outs is sane h
@@ -97,22 +71,10 @@ counted_line v pt any_ t quiet outs is sane h = counted_quiet v pt any_ t quiet 
 
 -- a put tells of its message
 put_told : (v : View) (a b : ℕ) (i j : MsgId) (k : MessageKind) (q : Pid) → IsTold v j → IsTold (view.after_put v a b i k q) j
-put_told v a b i j k q h = elim (cases_Bool (id_eq i j)) [
-  | inl same ↦ ap (λ (c : Bool). is_some (if c then Some (view.first_told (v.told i) (record { kind = k; receiver = q; about = v.topic })) else v.told j)) same
-  | inr apart ↦ ap is_some (put_told_off v a b i j k q apart) ∙ h
-]
+put_told v a b i j k q h = grind (arith, nat_tests, put_told_off)
 
 counted_rides : (v : View) → Rides (Counted v)
-counted_rides v = record {
-  put = λ pt a b i k q h. record {
-    kept = λ j e. put_told pt.view a b i j k q (h.kept j e);
-    each = λ j ask sent. elim (h.each j ask sent) [
-      | inl was ↦ inl (put_told pt.view a b i j k q was)
-      | inr there ↦ inr there
-    ];
-  };
-  packet = λ pt a b k l h. counted_quiet v pt (Line.Packet a b k l) pt.kernel refl refl h;
-}
+counted_rides v = grind (arith, nat_tests, put_told, counted_quiet)
 
 -- a part, and the parts of a group
 counted_behind : (v : View) (pt : Point) (p : Part) → PartOuts (IsTold v) p → Sayable p → Sane pt → Counted v pt → Behind (Counted v) pt p
@@ -126,9 +88,7 @@ AllTold pt = (i : MsgId) → i.answer ≡ false → is_sent pt.kernel i ≡ true
 -- a message of the bag stands somewhere, and so was told of
 stands_told : (b : Boot) (pt : Point) (i : MsgId) (o : Option PlainMessage) → Run b pt → pt.kernel.bag i ≡ o → is_some o ≡ true → IsTold pt.view i
 stands_told b pt i None h is e = absurd (false≢true e)
-stands_told b pt i (Some x) h is e =
-    let (z, one, off) : StandsRight i (Some x) (standing pt.view i) = stands_right pt i h.based.phased.state (Some x) is in
-    h.found.told i z (omega (arith, one))
+stands_told b pt i (Some x) h is e = grind (arith, nat_tests, stands_right)
 
 pub told_group : (b : Boot) (pt : Point) (d : Step) (w : Spelled) → group_of b pt d ≡ Some w → Run b pt → Run b w.point → AllTold pt → AllTold w.point
 told_group b pt d w e run next h i ask sent =

@@ -5,6 +5,8 @@ use Rattle.dm_movelaws.proofs.After.{group_after}
 use Rattle.dm_movelaws.proofs.Trail.Placed.{is_held, Places}
 use Rattle.dm_movelaws.proofs.Trail.Walks.{AllGood, good_fit, good_places, along_after}
 use Rattle.dm_movelaws.proofs.Trail.Turns.{group_good}
+use Rattle.dm_movelaws.proofs.Names.{nat_tests}
+use Rattle.dm_movelaws.proofs.Names.{arith}
 
 held_home : (b c : Bool) → is_held (if b && c then Here else Unknown) ≡ true → c ≡ true
 held_home true true e = refl
@@ -16,13 +18,7 @@ no_forward true d c e = cc
 no_forward false d c e = cc
 
 places_start : (b : Boot) → Places (first_view b) first_trails
-places_start b p = record {
-  now = λ m e. ap Some (eq_is p.home m (held_home (starts b.processes p) (p.home == m) (sym (ap is_held (start_known b.processes m p)) ∙ e)));
-  long = λ m e. refl;
-  next = λ s d c e f. absurd (no_forward (starts b.processes p && (p.home == s)) d c (sym (start_known b.processes s p) ∙ e));
-  longer = λ s d c e f. absurd (no_forward (starts b.processes p && (p.home == s)) d c (sym (start_known b.processes s p) ∙ e));
-  unmade = λ e. (refl, refl);
-}
+places_start b p = grind (arith, nat_tests, eq_is, held_home, start_known, no_forward)
 
 -- what holds of all points that the rule leads to
 pub record Holds (b : Boot) (x : Trodden) : Type 0 where

@@ -7,6 +7,7 @@ use Rattle.dm_rule.proofs.Names.{leaves}
 use Rattle.dm_movelaws.proofs.Trail.Placed.{is_held, Placed, Places, placed_same, placed_left, places_set, moves_held, moves_comes}
 use Rattle.dm_movelaws.proofs.Trail.Walks.{Walks, WalksOf, first_walks, places_ride}
 use Rattle.dm_movelaws.proofs.Trail.Loose.{places_same, owns_leave, to_restart}
+use Rattle.dm_movelaws.proofs.Names.{nat_tests}
 
 forwarded_moves : (v : View) (o : Option Pid) (q : Pid) → (forwarded_for v o).moves q ≡ v.moves q
 forwarded_moves v None q = refl
@@ -49,26 +50,7 @@ record Sent (q : Point) (u : Trails) (p : Pid) (d : ℕ) : Type 0 where
   others : (r : Pid) → pid_eq p r ≡ false → Placed q.view u r
 
 sent_rides : (u : Trails) (p : Pid) (d : ℕ) → Rides (λ (q : Point). Sent q u p d)
-sent_rides u p d = record {
-  put = λ pt a b i k q h. record {
-    holds = h.holds;
-    at = h.at;
-    long = h.long;
-    apart = h.apart;
-    none = h.none;
-    only = h.only;
-    others = λ r e. placed_same pt.view (moved pt (Line.Put a b i k q) pt.kernel).view u u r (λ m. refl) refl refl (h.others r e);
-  };
-  packet = λ pt a b k l h. record {
-    holds = h.holds;
-    at = h.at;
-    long = h.long;
-    apart = h.apart;
-    none = h.none;
-    only = h.only;
-    others = λ r e. placed_same pt.view (moved pt (Line.Packet a b k l) pt.kernel).view u u r (λ m. refl) refl refl (h.others r e);
-  };
-}
+sent_rides u p d = grind (arith, nat_tests, placed_same)
 
 left_places : (q : Point) (u : Trails) (p : Pid) (d : ℕ) → Sent q u p d → Places (view_after q.view (Line.Migration Stage.Left p)) u
 left_places q u p d h =

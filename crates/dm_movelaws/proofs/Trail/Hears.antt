@@ -9,6 +9,8 @@ use Rattle.dm_movelaws.proofs.Trail.Loose.{to_ask, to_refuse, to_pullstate, to_s
 use Rattle.dm_movelaws.proofs.Trail.Forwards.{leaves_walks}
 use Rattle.dm_rule.proofs.Hearing as hearing
 use Rattle.dm_movelaws.proofs.Trail.Walks.{Loose, AllLoose}
+use Rattle.dm_movelaws.proofs.Names.{nat_tests}
+use Rattle.dm_movelaws.proofs.Names.{arith}
 
 -- a process moves, and a message of this kind is heard about it
 pub record Heard (pt : Point) (p : Pid) (k : MessageKind) : Type 0 where
@@ -52,9 +54,7 @@ restarted_places pt t p u h =
     (λ m held. false≢true (sym (moves_held v p MessageKind.Restart u.s u.d m u.o u.phase held).1)) (λ k from at. moves_comes v p MessageKind.Restart u.s u.d k from u.o u.phase at ∙ sym u.acts))
 
 restarts_walks : (pt : Point) (t : Trails) (p : Pid) → Heard pt p MessageKind.Restart → Places pt.view t → Walks pt t (Says (Line.Migration Stage.Restarted p) ∷ [])
-restarts_walks pt t p u h =
-    first_walks (Line.Migration Stage.Restarted p) [] pt t
-    (λ sane on. (record { k = MessageKind.Restart; s = u.s; d = u.d; o = u.o; phase = u.phase; off = refl }, λ next s. subst (λ (z : Point). Places z.view t) s.is (restarted_places pt t p u h))) tt
+restarts_walks pt t p u h = grind (arith, nat_tests, first_walks, restarted_places)
 
 freezes_walks : (pt : Point) (t : Trails) (p : Pid) (to : ℕ) → pt.view.known pt.view.acting p ≡ Here → Places pt.view t → Walks pt t (Says (Line.Migration Stage.Frozen p) ∷ Says (Line.Migration Stage.Asked p) ∷ to_kernel MessageKind.Ask to ∷ [])
 freezes_walks pt t p to here h =

@@ -7,6 +7,7 @@ use Rattle.dm_movelaws.proofs.Promise.Trail.{TrailKnown}
 use Rattle.dm_movelaws.proofs.Stages.Spares.{restart_late}
 use Rattle.dm_movelaws.proofs.Trail.Always.{Holds, carries}
 use Rattle.dm_movelaws.proofs.Trail.Placed.{is_held, Placed}
+use Rattle.dm_movelaws.proofs.Names.{nat_tests}
 
 abbrev trodden : Point → Trails → Trodden
 trodden pt t = record { point = pt; trails = t }
@@ -71,8 +72,7 @@ at_other s d x y z apart e = at_self d y z (sym (ap (λ (c : Bool). if c then x 
 never_moves : (v : View) (p : Pid) (k : MessageKind) (s d : ℕ) (o : Option MsgId) → IsIn v p (Moves k s d o) → ((m : ℕ) → is_moving (v.known m p) ≡ false) → ⊥
 never_moves v p k s d o h still =
     let restart = still_leaves k d (v.known s p) (still s) (at_self s (kind_leaves k d (v.known s p)) (if d == s then kind_comes k s (v.known s p) else is_away (v.known s p)) (h.known s)) in
-    let early = still_comes k s (v.known d p) (still d) (at_other s d (kind_leaves k d (v.known d p)) (kind_comes k s (v.known d p)) (is_away (v.known d p)) (not_false (s == d) (parts (is_between k) (not (s == d)) h.apart).1) (h.known d)) in
-    false≢true (sym (restart_late k restart) ∙ early)
+    grind (arith, nat_tests, still_comes, at_other, not_false, parts, restart_late)
 
 long_in : (v : View) (t : Trails) (p : Pid) (phase : Phase) → IsIn v p phase → Placed v t p → ((m : ℕ) → is_moving (v.known m p) ≡ false) → length (t p) ≡ v.moves p + 1
 long_in v t p Nowhere h on still = let k = on.unmade (λ m. unknown_is (v.known m p) (h.known m)) in let none = k.0 in let one = k.1 in omega (arith, none, one)

@@ -10,6 +10,8 @@ use Rattle.dm_rule.specs.Rule as rule
 use Rattle.dm_movelaws.proofs.Trail.Placed.{Places, placed_same}
 use Rattle.dm_movelaws.proofs.Trail.Walks.{Walks, Loose, AllLoose, first_walks, places_ride}
 use Rattle.dm_movelaws.proofs.Leading.{Behind, whatever_put, part_leads}
+use Rattle.dm_movelaws.proofs.Names.{nat_tests}
+use Rattle.dm_movelaws.proofs.Names.{arith}
 
 pub places_same : (v w : View) (t : Trails) → ((m : ℕ) (q : Pid) → w.known m q ≡ v.known m q) → ((q : Pid) → w.moves q ≡ v.moves q) → Places v t → Places w t
 places_same v w t known moves h p = placed_same v w t t p (λ m. known m p) (moves p) refl (h p)
@@ -30,10 +32,7 @@ transmits_loose a b l = record { fits = λ pt t sane on. tt; leaves = λ pt next
 -- a message to a kernel
 between_loose : (k : MessageKind) (m : ℕ) → ((pt : Point) → own_gives pt.kernel pt.view pt.addresses (own_id pt.view) (pid_of m 0) k ≡ goes_between pt.view (own_id pt.view) (pid_of m 0)) → (k ≡ MessageKind.Migrate → ⊥) → Loose (Owns k (pid_of m 0) m)
 between_loose k m gives none = record {
-  fits = λ pt t sane on. (let id = own_id pt.view in
-      PutFits.Own (own_outside pt sane) (own_fresh pt sane)
-      (subst (IsOn t (pid_of m 0)) (sym (ap (λ (gs : List Gets). given pt.addresses gs (Receiver id)) (gives pt) ∙ ap (λ (c : Bool). if c then unmoved m else pt.addresses (Receiver id)) (id_eq-same id))) (on.trail (pid_of m 0)).begins)
-      (λ e. absurd (none e)));
+  fits = λ pt t sane on. grind (arith, nat_tests, own_outside, own_fresh, id_eq-same);
   leaves = λ pt next t s h. owns_leave k (pid_of m 0) m pt next t s h;
 }
 
@@ -63,10 +62,7 @@ to_restart m = (between_loose MessageKind.Restart m (λ pt. refl) (λ e. cc), tt
 
 -- lines that say nothing of where processes are
 pub line_loose : (l : Line) → ((pt : Point) (t : Trails) → Sane pt → Treads pt t → LineFits pt t l) → ((v : View) (t : Trails) → Places v t → Places (view_after v l) (trails_after v t l)) → Loose (Says l)
-line_loose l fits leaves = record {
-  fits = fits;
-  leaves = λ pt next t s h. (let k = said_by pt next l s in subst (λ (q : Point). Places q.view (trails_after pt.view t l)) k.is (leaves pt.view t h));
-}
+line_loose l fits leaves = grind (arith, nat_tests, said_by)
 
 asks_moves : (v : View) (a : About) → (asks_on v a).moves ≡ v.moves
 asks_moves v NothingElse = refl
@@ -132,10 +128,7 @@ pinned_loose p = quiet (Line.Pinned p) (λ pt t. tt) (λ v t. refl) (λ v n q. r
 
 -- what the net says
 net_line : (l : Line) → IsNetLine l → Loose (Says l)
-net_line (Line.Taken a b n) h =
-    quiet (Line.Taken a b n) (λ pt t. tt) (λ v t. refl)
-    (λ v m q. ap (λ (f : ℕ → Pid → view.Known). f m q) (taken_same (view.with_pair v a b (record (v.pair a b) { taken = (v.pair a b).taken + 1; kept = filter (λ j. not (j == n)) (v.pair a b).kept })) b (view.oldest (v.pair a b))).0)
-    (λ v q. at_pid (view_after v (Line.Taken a b n)).moves v.moves q (taken_same (view.with_pair v a b (record (v.pair a b) { taken = (v.pair a b).taken + 1; kept = filter (λ j. not (j == n)) (v.pair a b).kept })) b (view.oldest (v.pair a b))).1)
+net_line (Line.Taken a b n) h = grind (arith, nat_tests, quiet, taken_same, at_pid)
 net_line (Line.Old a b n) h = quiet (Line.Old a b n) (λ pt t. tt) (λ v t. refl) (λ v m q. refl) (λ v q. refl)
 net_line (Line.Early a b n) h = quiet (Line.Early a b n) (λ pt t. tt) (λ v t. refl) (λ v m q. refl) (λ v q. refl)
 net_line (Line.Acked a b n) h = quiet (Line.Acked a b n) (λ pt t. tt) (λ v t. refl) (λ v m q. refl) (λ v q. refl)

@@ -2,6 +2,7 @@
 use Rattle.dm_movelaws.proofs.Names.{◌≡◌, ◌≢◌, ◌⊎◌, ℕ, ◌+◌, ◌==◌, not, Bool, true, false, List, length, refl, ap, ◌∙◌, sym, subst, inl, inr, arith, cases_Bool, false≢true, if◌then◌else◌, slice_get, Option, Some, Pid, pid_eq, MsgId}
 use Rattle.dm_movelaws.proofs.Names.{MessageKind, pid_eq-is, at_record, View, Known, Unknown, Here, Frozen, Incoming, Forward, Ended, Moves, IsIn, knows, kind_comes, is_restart, is_away, Trails, eq_is, parts, eq_self, set_off, kind_leaves}
 use Rattle.dm_rule.proofs.Trails.Steps.{set_at}
+use Rattle.dm_movelaws.proofs.Names.{nat_tests}
 
 -- a machine has a process, or had it last
 abbrev pub is_held : Known → Bool
@@ -22,13 +23,7 @@ abbrev pub Places : View → Trails → Type 0
 Places v t = (p : Pid) → Placed v t p
 
 pub placed_same : (v w : View) (t u : Trails) (p : Pid) → ((m : ℕ) → w.known m p ≡ v.known m p) → w.moves p ≡ v.moves p → u p ≡ t p → Placed v t p → Placed w u p
-placed_same v w t u p known moves same h = record {
-  now = λ m e. ap (λ (xs : List ℕ). slice_get xs (w.moves p)) same ∙ ap (λ (n : ℕ). slice_get (t p) n) moves ∙ h.now m (sym (ap is_held (known m)) ∙ e);
-  long = λ m e. ap length same ∙ h.long m (sym (ap is_held (known m)) ∙ e) ∙ sym (ap (λ (n : ℕ). n + 1) moves);
-  next = λ s d c e f. ap (λ (xs : List ℕ). slice_get xs (w.moves p + 1)) same ∙ ap (λ (n : ℕ). slice_get (t p) (n + 1)) moves ∙ h.next s d c (sym (known s) ∙ e) (sym (known d) ∙ f);
-  longer = λ s d c e f. ap length same ∙ h.longer s d c (sym (known s) ∙ e) (sym (known d) ∙ f) ∙ sym (ap (λ (n : ℕ). n + 2) moves);
-  unmade = λ e. let k = h.unmade (λ m. sym (known m) ∙ e m) in (moves ∙ k.0, ap length same ∙ k.1);
-}
+placed_same v w t u p known moves same h = grind (arith, nat_tests)
 
 -- the acting machine learns something of a process
 abbrev pub Learnt : View → View → Pid → Known → Type 0
@@ -42,10 +37,7 @@ pub record Off (v w : View) (p : Pid) (m : ℕ) : Type 0 where
   pub is : w.known m p ≡ v.known m p
 
 learnt_either : (v w : View) (p : Pid) (x : Known) (m : ℕ) → Learnt v w p x → ((v.acting ≡ m) × (w.known m p ≡ x)) ⊎ Off v w p m
-learnt_either v w p x m known = elim (cases_Bool (v.acting == m)) [
-  | inl same ↦ inl (eq_is v.acting m same, known m ∙ ap (λ (c : Bool). if c then x else v.known m p) same)
-  | inr apart ↦ inr (record { off = apart; is = known m ∙ ap (λ (c : Bool). if c then x else v.known m p) apart })
-]
+learnt_either v w p x m known = grind (arith, nat_tests, eq_is)
 
 held_incoming : (x : Known) (s : ℕ) → is_held x ≡ true → x ≢ Incoming s
 held_incoming x s held e = false≢true (sym (ap is_held e) ∙ held)
@@ -58,28 +50,7 @@ held_unknown x held e = false≢true (sym (ap is_held e) ∙ held)
 
 -- it has it, where it is at the end of the trail
 pub placed_held : (v w : View) (t : Trails) (p : Pid) (x : Known) → Learnt v w p x → w.moves p ≡ v.moves p → is_held x ≡ true → slice_get (t p) (v.moves p) ≡ Some v.acting → length (t p) ≡ v.moves p + 1 → Placed v t p → Placed w t p
-placed_held v w t p x known moves held at long h = record {
-  now = λ m e. elim (learnt_either v w p x m known) [
-    | inl new ↦ ap (λ (n : ℕ). slice_get (t p) n) moves ∙ at ∙ ap Some new.0
-    | inr old ↦ ap (λ (n : ℕ). slice_get (t p) n) moves ∙ h.now m (sym (ap is_held old.is) ∙ e)
-  ];
-  long = λ m e. long ∙ sym (ap (λ (n : ℕ). n + 1) moves);
-  next = λ s d c e f. elim (learnt_either v w p x s known) [
-    | inl new ↦ absurd (held_forward x d c held (sym new.1 ∙ e))
-    | inr old ↦ elim (learnt_either v w p x d known) [
-      | inl new ↦ absurd (held_incoming x s held (sym new.1 ∙ f))
-      | inr older ↦ ap (λ (n : ℕ). slice_get (t p) (n + 1)) moves ∙ h.next s d c (sym old.is ∙ e) (sym older.is ∙ f)
-    ]
-  ];
-  longer = λ s d c e f. elim (learnt_either v w p x s known) [
-    | inl new ↦ absurd (held_forward x d c held (sym new.1 ∙ e))
-    | inr old ↦ elim (learnt_either v w p x d known) [
-      | inl new ↦ absurd (held_incoming x s held (sym new.1 ∙ f))
-      | inr older ↦ h.longer s d c (sym old.is ∙ e) (sym older.is ∙ f) ∙ sym (ap (λ (n : ℕ). n + 2) moves)
-    ]
-  ];
-  unmade = λ e. absurd (held_unknown x held (sym (learnt_here v w p x known) ∙ e v.acting));
-}
+placed_held v w t p x known moves held at long h = grind (arith, nat_tests, learnt_either, held_forward, held_incoming, held_unknown, learnt_here)
 
 -- it expects it from a machine that doesn't forward
 pub placed_comes : (v w : View) (t : Trails) (p : Pid) (from : ℕ) → Learnt v w p (Incoming from) → w.moves p ≡ v.moves p → ((d c : ℕ) → v.known from p ≢ Forward d c) → Placed v t p → Placed w t p
@@ -211,5 +182,4 @@ forward_by k d _ on e = absurd (false≢true e)
 
 -- then its source forwards
 pub moves_forward : (v : View) (p : Pid) (k : MessageKind) (s d : ℕ) (o : Option MsgId) → IsIn v p (Moves k s d o) → is_restart k ≡ true → (c : ℕ) × (v.known s p ≡ Forward d c)
-moves_forward v p k s d o h on =
-    forward_by k d (v.known s p) on (sym (ap (λ (c : Bool). if c then kind_leaves k d (v.known s p) else if d == s then kind_comes k s (v.known s p) else is_away (v.known s p)) (eq_self s)) ∙ h.known s)
+moves_forward v p k s d o h on = grind (arith, nat_tests, forward_by, eq_self)

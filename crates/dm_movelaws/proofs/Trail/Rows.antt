@@ -8,6 +8,7 @@ use Rattle.dm_rule.specs.Trails.{StoodOnTrail}
 use Rattle.dm_movelaws.proofs.Trail.Placed.{is_held, Placed, Places, Learnt, placed_held, places_set, places_held}
 use Rattle.dm_movelaws.proofs.Trail.Walks.{Walks, AllLoose, loose_walks}
 use Rattle.dm_movelaws.proofs.Trail.Loose.{places_same, label_fits, label_walks, routes_loose, idle_loose, queued_loose, held_loose, dropped_loose, drops_loose}
+use Rattle.dm_movelaws.proofs.Names.{nat_tests}
 
 -- a process that runs
 end_walks : (pt : Point) (t : Trails) (p : Pid) (queue : List MsgId) (y : Why) → pt.view.known pt.view.acting p ≡ Here → Places pt.view t → Walks pt t (rule.says (Label.End p y) ∷ rule.drop_parts queue)
@@ -78,23 +79,12 @@ served_walks pt t id k ps f here loose =
 
 -- a process is made at home
 born_stood : (v : View) (t : Trails) (p : Pid) → ((n : ℕ) → v.known n p ≡ Unknown) → Trail v t p → Placed v t p → StoodOnTrail v t p Nowhere
-born_stood v t p unknown trail h =
-    let k = h.unmade unknown in
-    let moves = k.0 in
-    let long = k.1 in
-    record {
-      now = ap (λ (n : ℕ). slice_get (t p) n) moves ∙ trail.begins;
-      next = λ d e. absurd (let f : None ≡ Some d = e in cc);
-      long = omega (arith, moves, long);
-      unmade = λ e. moves;
-    }
+born_stood v t p unknown trail h = grind (arith, nat_tests)
 
 born_places : (v w : View) (t : Trails) (p : Pid) → Unborn v p → Trail v t p → Places v t → (Learnt v w p Here → w.moves p ≡ v.moves p → Placed w t p)
 born_places v w t p born trail h learnt moves =
     let k = (h p).unmade born.unknown in
-    let at = k.0 in
-    let long = k.1 in
-    placed_held v w t p Here learnt moves refl (ap (λ (n : ℕ). slice_get (t p) n) at ∙ trail.begins ∙ ap Some born.home) (omega (arith, at, long)) (h p)
+    grind (arith, nat_tests, placed_held)
 
 creates_walks : (pt o : Point) (t : Trails) (m : ℕ) (id : MsgId) (k : PlainMessage) (r : rule.Room) (c : Bool) → Front pt t id k → is_fixed k.to ≡ true → Unborn pt.view (pid_of m (first_number + o.kernel.made m))
     → Walks pt t ((if c then rule.says (Label.Created id (pid_of m (first_number + o.kernel.made m))) else rule.says (Label.NoSpace id r.slots r.blocks)) ∷ Routes (pieces.answer_id id) ∷ [])
@@ -106,8 +96,7 @@ creates_walks pt o t m id k r true f fixed born =
       (born.unknown, born.home, born_stood pt.view t child born.unknown (on.trail child) (f.places child)),
       places_set pt.view w t t child Here refl (λ q apart. refl) (λ q apart. refl) (λ q apart. f.places q) (λ learnt. born_places pt.view w t child born (on.trail child) f.places learnt refl),
     )) (routes_loose (pieces.answer_id id), tt)
-creates_walks pt o t m id k r false f fixed born =
-    label_walks pt t (Label.NoSpace id r.slots r.blocks) (Routes (pieces.answer_id id) ∷ []) (λ on. (received pt t id k f fixed, tt, places_same pt.view (handled pt.view id) t (λ n q. refl) (λ q. refl) f.places)) (routes_loose (pieces.answer_id id), tt)
+creates_walks pt o t m id k r false f fixed born = search (label_walks, received, places_same, routes_loose)
 
 sent_loose : (o : Option PlainMessage) → AllLoose (rule.routes o)
 sent_loose None = tt

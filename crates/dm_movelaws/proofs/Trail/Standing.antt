@@ -7,6 +7,7 @@ use Rattle.dm_movelaws.proofs.After.{group_after}
 use Rattle.dm_movelaws.proofs.Trail.Always.{Holds, carries}
 use Rattle.dm_movelaws.proofs.Trail.Placed.{is_held}
 use Rattle.dm_movelaws.proofs.Trail.Real.{named_made}
+use Rattle.dm_movelaws.proofs.Names.{nat_tests}
 
 abbrev trodden : Point → Trails → Trodden
 trodden pt t = record { point = pt; trails = t }
@@ -21,9 +22,7 @@ along_there (l ∷ ls) pt end t e =
 
 along-append : (xs ys : List Line) (x y : Trodden) → along x xs ≡ Some y → along x (xs ++ ys) ≡ along y ys
 along-append [] ys x y e = let f : x ≡ y = cc in ap (λ (z : Trodden). along z ys) f
-along-append (l ∷ xs) ys x y e =
-    let (next, first, rest) = bind-is (after_line x.point l) (λ (n : Point). along (trodden n (trails_after x.point.view x.trails l)) xs) y e in
-    ap (λ (o : Option Point). bind o (λ (n : Point). along (trodden n (trails_after x.point.view x.trails l)) (xs ++ ys))) first ∙ along-append xs ys (trodden next (trails_after x.point.view x.trails l)) y rest
+along-append (l ∷ xs) ys x y e = grind (arith, nat_tests, bind-is, along-append xs ys)
 
 -- where lines lead, with the trails that they lay
 record Laid (b : Boot) (pt : Point) (t : Trails) (ls : List Line) (end : Point) : Type 0 where
@@ -94,10 +93,7 @@ walk_ends _ some off = refl
 
 -- what was never made has only been at home
 never_made : (b : Boot) (pt : Point) (t : Trails) (p : Pid) → Holds b (trodden pt t) → is_fixed p ≡ true → pt.kernel.processes p ≡ None
-never_made b pt t p h fixed = elim (cases_Bool (is_some (pt.kernel.processes p))) [
-  | inl some ↦ absurd (false≢true (sym (made_free pt p h.both.run.based.phased.sane.sound.made some) ∙ fixed))
-  | inr none ↦ none_is (pt.kernel.processes p) none
-]
+never_made b pt t p h fixed = grind (arith, nat_tests, made_free, none_is)
 
 alone_long : (b : Boot) (pt : Point) (t : Trails) (p : Pid) → Holds b (trodden pt t) → pt.kernel.processes p ≡ None → length (t p) ≡ 1
 alone_long b pt t p h none = elim (cases_Bool (is_server p)) [
@@ -114,10 +110,7 @@ alone b pt t p h on none = one_place (t p) p.home (alone_long b pt t p h none) (
 
 -- what was made is known at home
 at_home : (s : OneKernel) (v : View) (p : Pid) → KnownStands s v → is_made s p ≡ true → v.known p.home p ≢ Unknown
-at_home s v p h made = elim (or_made s p (is_server p) refl made) [
-  | inl server ↦ here_known (v.known p.home p) (h.server p.home p server ∙ ap server_at (server_fixed p server).1)
-  | inr process ↦ h.home p process.0 process.1
-]
+at_home s v p h made = grind (arith, nat_tests, or_made, here_known, server_fixed)
 
 -- each place that is named is on the trail
 named_on : (pt : Point) (t : Trails) (q : Pid) (place : Place) → Treads pt t → IsNamed pt q place → IsOn t q place
@@ -132,8 +125,7 @@ no_further : (v : View) (t : Trails) (p : Pid) (place : Place) (m c : ℕ) → T
 no_further v t p place m c trail is e =
     let rises = trail.behind place.at m c place.moves e is.on in
     let less = slice_get_within (t p) c m (trail.named place.at m c e) in
-    let long = is.long in
-    omega (arith, rises, less, long)
+    grind (arith, nat_tests)
 
 some_machines : (n k : ℕ) → k < n → n ≡ suc (n - 1)
 some_machines n k less = omega (arith, less)

@@ -4,6 +4,8 @@ use Rattle.dm_movelaws.proofs.Names.{Line, View, Told, own_id, Receiver, Point, 
 use Rattle.dm_movelaws.proofs.Names.{trails_after, not_kernels, Sane, AllSayable, part_sane, Treads, LineFits, PutFits, line_treads, Rides, Steps, Said, said_by, plain_own, by_parts}
 use Rattle.dm_rule.proofs.Trails.Along.{AllFit}
 use Rattle.dm_movelaws.proofs.Trail.Placed.{Places, placed_same}
+use Rattle.dm_movelaws.proofs.Names.{nat_tests}
+use Rattle.dm_movelaws.proofs.Names.{arith}
 
 -- each of these lines fits where the ones before lead, and behind the last each process is placed
 abbrev pub AllGood : Point → Trails → List Line → Type 0
@@ -47,14 +49,7 @@ WalksOf pt t (Some ps) = Walks pt t ps
 
 -- one line
 one_good : (pt next : Point) (t : Trails) (l : Line) (more : List Line) → LineFits pt t l → after pt (l ∷ []) ≡ Some next → Treads pt t → (Treads next (trails_after pt.view t l) → AllGood next (trails_after pt.view t l) more) → AllGood pt t (l ∷ more)
-one_good pt next t l more fits leads h rest = (
-  fits,
-  (λ n is.
-      let g : Some n ≡ Some next = sym (ap (λ (o : Option Point). bind o (λ (q : Point). after q [])) is) ∙ leads in
-      let e : n ≡ next = cc in
-      let u = trails_after pt.view t l in
-      subst (λ (q : Point). AllGood q u more) (sym e) (rest (subst (λ (q : Point). Treads q u) e (line_treads pt n t l is fits h)))),
-)
+one_good pt next t l more fits leads h rest = grind (arith, nat_tests, line_treads)
 
 -- a put with its packet
 puts_by : (pt next : Point) (t : Trails) (b : ℕ) (i : MsgId) (k : MessageKind) (q : Pid) (more : List Line) (c d : Bool) → PutFits pt t i k q
@@ -80,9 +75,7 @@ routed_fits pt t i m (Some u) told there sane = PutFits.Again u told
 
 -- a part
 part_good : (pt next : Point) (t : Trails) (p : Part) (ls more : List Line) → FitsPart pt t p → Sane pt → lines_of pt p ≡ Some ls → after pt ls ≡ Some next → Treads pt t → (Treads next (behind_part pt.view t p) → AllGood next (behind_part pt.view t p) more) → AllGood pt t (ls ++ more)
-part_good pt next t (Says l) ls more fits sane is leads h rest =
-    let f : l ∷ [] ≡ ls = cc in
-    subst (λ (xs : List Line). AllGood pt t (xs ++ more)) f (one_good pt next t l more fits (ap (after pt) f ∙ leads) h rest)
+part_good pt next t (Says l) ls more fits sane is leads h rest = grind (arith, nat_tests, one_good)
 part_good pt next t (Routes i) ls more fits sane is leads h rest =
     let (m, there, last) = bind-is (pt.kernel.bag i) (λ m. Some (puts pt.view (pt.addresses (Receiver i)).at i (plain_kind m.what) m.to)) ls is in
     puts_good pt next t (pt.addresses (Receiver i)).at i (plain_kind m.what) m.to ls more (routed_fits pt t i m (pt.view.told i) refl there sane) last leads h rest
@@ -115,9 +108,7 @@ loose_walks (p ∷ ps) pt t h at = λ sane on. (h.0.fits pt t sane on, λ next s
 
 -- only the first line needs something
 pub first_walks : (l : Line) (ps : List Part) (pt : Point) (t : Trails) → (Sane pt → Treads pt t → LineFits pt t l × ((next : Point) → Said pt l next → Places next.view (trails_after pt.view t l))) → AllLoose ps → Walks pt t (Says l ∷ ps)
-first_walks l ps pt t h loose = λ sane on.
-    let k = h sane on in
-    (k.0, λ next s. loose_walks ps next (trails_after pt.view t l) loose (k.1 next (said_by pt next l s)))
+first_walks l ps pt t h loose = grind (arith, nat_tests, loose_walks, said_by)
 
 -- what puts and packets leave
 pub places_ride : (t : Trails) → Rides (λ (q : Point). Places q.view t)
