@@ -3,6 +3,8 @@ use Rattle.dm_movelaws.proofs.Names.{◌≡◌, ℕ, ◌==◌, Bool, true, false
 use Rattle.dm_movelaws.proofs.Names.{own_id, Receiver, Point, label_of, kernel_after, moved, after, Part, Says, Routes, Again, Owns, Transmits, Spelled, puts, goes_out, packet_line, spelled, Steps, said_by, PacketsKeep, by_parts}
 use Rattle.dm_movelaws.proofs.Names.{AllSayable, Sayable, Sane, part_sane}
 use Rattle.dm_movelaws.proofs.Names.{lines_of}
+use Rattle.dm_movelaws.proofs.Names.{IsNetLine, IsNet, by_net, touches, Pair, AllFit, Boot, Step, turns_fit, resends_net, arrives_net, slice_get, migrates, migrates_fit}
+use Rattle.dm_rule.specs.Rule as rule
 
 -- a put and its packet
 puts_by : (P : Point → Type 0) (keeps : PacketsKeep P) (pt next : Point) (b : ℕ) (i : MsgId) (k : MessageKind) (q : Pid) (c d : Bool) → P (moved pt (Line.Put pt.view.acting b i k q) pt.kernel)
@@ -98,3 +100,28 @@ lines_are S pt (Again i b) ls h is =
     puts_lines S (Again i b) pt.view b i t.kind t.receiver ls h refl last
 lines_are S pt (Owns k q b) ls h is = puts_lines S (Owns k q b) pt.view b (own_id pt.view) k q ls h refl is
 lines_are S pt (Transmits a b l) ls h is = let f : packet_line pt.view a b l ∷ [] ≡ ls = cc in subst S f (h.packet refl a b (length (pt.view.pair a b).wire) l)
+
+-- what a part says is so
+abbrev pub Saying : (Line → Type 0) → Part → Type 0
+Saying Q (Says l) = Q l
+Saying Q _ = ⊤
+
+pub net_says : (Q : Line → Type 0) → ((l : Line) → IsNetLine l → Q l) → (ps : List Part) → IsNet ps → All (Saying Q) ps
+net_says Q so = by_net (All (Saying Q)) tt (λ l ps net h. (so l net, h)) (λ a b l ps h. (tt, h))
+
+fit_says : (Q : Line → Type 0) → ((l : Line) → touches l ≡ false → Q l) → (f : ℕ → ℕ → Pair) (ps : List Part) → AllFit f ps → All (Saying Q) ps
+fit_says Q so f [] h = tt
+fit_says Q so f (Says l ∷ ps) h = (so l h.0, fit_says Q so f ps h.1)
+fit_says Q so f (p ∷ ps) h = (tt, fit_says Q so f ps h.1)
+
+-- a group says lines that touch no pair, or those of the net
+pub outcome_says : (Q : Line → Type 0) → ((l : Line) → touches l ≡ false → Q l) → ((l : Line) → IsNetLine l → Q l) → (b : Boot) (pt : Point) (d : Step) (ps : List Part) → rule.outcome b pt d ≡ Some ps → All (Saying Q) ps
+outcome_says Q fit net b pt (Step.Turn m) ps is = fit_says Q fit pt.view.pair ps (turns_fit pt.view.pair b pt m (pt.view.inbox m) ps is)
+outcome_says Q fit net b pt (Step.Tick m) ps is =
+    let f : Says (Line.Resent m (rule.outstanding_count pt.view m pt.kernel.machines)) ∷ rule.resends pt.view m pt.kernel.machines ≡ ps = cc in
+    subst (All (Saying Q)) f (net (Line.Resent m (rule.outstanding_count pt.view m pt.kernel.machines)) tt, net_says Q net (rule.resends pt.view m pt.kernel.machines) (resends_net pt.view m pt.kernel.machines))
+outcome_says Q fit net b pt (Step.Deliver a c k) ps is =
+    let qs = rule.arrives a c (pt.view.pair a c) (pt.view.pair c a) (slice_get (pt.view.pair a c).wire k) in
+    let f : qs ≡ ps = cc in
+    subst (All (Saying Q)) f (net_says Q net qs (arrives_net a c (pt.view.pair a c) (pt.view.pair c a) (slice_get (pt.view.pair a c).wire k)))
+outcome_says Q fit net b pt (Step.Migrate p m) ps is = let f : migrates pt p ≡ ps = cc in subst (All (Saying Q)) f (fit_says Q fit pt.view.pair (migrates pt p) (migrates_fit pt.view.pair pt p))

@@ -3,6 +3,7 @@ use Rattle.dm_movelaws.proofs.Names.{◌≡◌, ℕ, Bool, true, false, List, []
 use Rattle.dm_movelaws.proofs.Names.{forwards_on, sends_on, Part, Says, Routes, Again, Owns, Transmits, Point, Told, is_kill, Sane, by_hears, by_round, by_handles, by_forwards}
 use Rattle.dm_rule.specs.Migrating as migrating
 use Rattle.dm_rule.specs.Rule as rule
+use Rattle.dm_movelaws.proofs.Leading.{All, Saying}
 
 -- no process ends by such a line
 abbrev pub is_ending : Line → Bool
@@ -11,12 +12,10 @@ is_ending (Line.Label (Label.Served id)) = true
 is_ending l = false
 
 abbrev pub PartStays : Part → Type 0
-PartStays (Says l) = is_ending l ≡ false
-PartStays _ = ⊤
+PartStays = Saying (λ l. is_ending l ≡ false)
 
 abbrev pub AllStay : List Part → Type 0
-AllStay [] = ⊤
-AllStay (p ∷ ps) = PartStays p × AllStay ps
+AllStay = All PartStays
 
 -- a process may run first; where it ends, or a message kills its receiver, just its queue is dropped behind
 abbrev pub LineEnds : Point → ℕ → Line → List Part → Type 0

@@ -6,6 +6,7 @@ use Rattle.dm_rule.specs.View as view
 use Rattle.dm_movelaws.proofs.At.RestBuried.{Knows}
 use Rattle.dm_movelaws.proofs.At.RestEnds.{is_ending, PartStays, AllStay}
 use Rattle.dm_movelaws.proofs.Leading.{Behind, whatever_put, parts_lead}
+use Rattle.dm_movelaws.proofs.Leading.{net_says}
 
 -- what has ended had ended before
 pub record Only (before : Knows) (v : View) : Type 0 where
@@ -118,10 +119,7 @@ net_stays (Line.Label l) h = absurd h
 net_stays _ h = refl
 
 pub nets_stay : (ps : List Part) → IsNet ps → AllStay ps
-nets_stay [] h = tt
-nets_stay (Says l ∷ ps) h = (net_stays l h.0, nets_stay ps h.1)
-nets_stay (Transmits a b l ∷ ps) h = (tt, nets_stay ps h.1)
-nets_stay _ h = absurd h.0
+nets_stay = net_says (λ l. is_ending l ≡ false) net_stays
 
 pub migrates_stay : (pt : Point) (p : Pid) → AllStay (migrates pt p)
 migrates_stay pt p = by_migrates AllStay pt p (refl, tt) (refl, tt) (λ n off is. (tt, tt))

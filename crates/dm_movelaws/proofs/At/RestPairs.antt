@@ -8,6 +8,7 @@ use Rattle.dm_rule.specs.Rule as rule
 use Rattle.dm_rule.specs.View as view
 use Rattle.dm_movelaws.proofs.Leading.{All, Behind, whatever_put, parts_lead}
 use Rattle.dm_movelaws.proofs.After.{keeps_always}
+use Rattle.dm_movelaws.proofs.Leading.{Saying, outcome_says}
 
 pub record Routed (n : ℕ) (v : View) : Type 0 where
   pub acting : v.acting < n
@@ -74,11 +75,7 @@ calm_line n v any_ calm h = alike n v (view_after v any_) refl refl h
 
 -- all parts are such lines, puts by the acting machine, and packets
 abbrev PartCalm : Part → Type 0
-PartCalm (Says l) = is_calm l ≡ true
-PartCalm _ = ⊤
-
-abbrev AllCalm : List Part → Type 0
-AllCalm = All PartCalm
+PartCalm = Saying (λ l. is_calm l ≡ true)
 
 calm_of : (l : Line) → touches l ≡ false → is_calm l ≡ true
 calm_of (Line.Head d) e = absurd (false≢true (sym e))
@@ -90,34 +87,11 @@ net_calm (Line.Head d) h = absurd h
 net_calm (Line.Put a b id k q) h = absurd h
 net_calm _ h = refl
 
-fit_calm : (f : ℕ → ℕ → Pair) (ps : List Part) → AllFit f ps → AllCalm ps
-fit_calm f [] h = tt
-fit_calm f (Says l ∷ ps) h = (calm_of l h.0, fit_calm f ps h.1)
-fit_calm f (p ∷ ps) h = (tt, fit_calm f ps h.1)
-
-nets_calm : (ps : List Part) → IsNet ps → AllCalm ps
-nets_calm [] h = tt
-nets_calm (Says l ∷ ps) h = (net_calm l h.0, nets_calm ps h.1)
-nets_calm (Transmits a b l ∷ ps) h = (tt, nets_calm ps h.1)
-nets_calm _ h = absurd h.0
-
-outcome_calm : (b : Boot) (pt : Point) (d : Step) (ps : List Part) → rule.outcome b pt d ≡ Some ps → AllCalm ps
-outcome_calm b pt (Step.Turn m) ps is = fit_calm pt.view.pair ps (turns_fit pt.view.pair b pt m (pt.view.inbox m) ps is)
-outcome_calm b pt (Step.Tick m) ps is =
-    let qs = Says (Line.Resent m (rule.outstanding_count pt.view m pt.kernel.machines)) ∷ rule.resends pt.view m pt.kernel.machines in
-    let f : qs ≡ ps = cc in
-    subst AllCalm f (refl, nets_calm (rule.resends pt.view m pt.kernel.machines) (resends_net pt.view m pt.kernel.machines))
-outcome_calm b pt (Step.Deliver a c k) ps is =
-    let qs = rule.arrives a c (pt.view.pair a c) (pt.view.pair c a) (slice_get (pt.view.pair a c).wire k) in
-    let f : qs ≡ ps = cc in
-    subst AllCalm f (nets_calm qs (arrives_net a c (pt.view.pair a c) (pt.view.pair c a) (slice_get (pt.view.pair a c).wire k)))
-outcome_calm b pt (Step.Migrate p m) ps is = let f : migrates pt p ≡ ps = cc in subst AllCalm f (fit_calm pt.view.pair (migrates pt p) (migrates_fit pt.view.pair pt p))
-
 -- each part keeps it
 routed_behind : (n : ℕ) (pt : Point) (p : Part) → PartCalm p → Routed n pt.view → Behind (λ q. Routed n q.view) pt p
 routed_behind n pt p calm h = whatever_put (λ q. Routed n q.view) pt p (λ l is s step. calm_line n pt.view l (subst PartCalm is calm) h) (λ b i k q. put_routed n pt.view b i k q h) h
 
-parts_routed : (n : ℕ) (ps : List Part) (pt : Point) (w : Spelled) → AllCalm ps → spelled pt ps ≡ Some w → Routed n pt.view → Routed n w.point.view
+parts_routed : (n : ℕ) (ps : List Part) (pt : Point) (w : Spelled) → All PartCalm ps → spelled pt ps ≡ Some w → Routed n pt.view → Routed n w.point.view
 parts_routed n = parts_lead (λ q. Routed n q.view) (λ q a b k l h. packet_routed n q.view a b k l h) PartCalm (routed_behind n)
 
 -- a group
@@ -131,7 +105,7 @@ head_routed n v _ fit h = record { acting = fit; none = h.none }
 routed_group : (n : ℕ) (b : Boot) (pt : Point) (d : Step) (w : Spelled) → IsStep n d → group_of b pt d ≡ Some w → Routed n pt.view → Routed n w.point.view
 routed_group n b pt d w fit is h =
     let g = group_is b pt d w is in
-    subst (λ (q : Point). Routed n q.view) g.point (parts_routed n g.parts (moved pt (Line.Head d) pt.kernel) g.rest (outcome_calm b pt d g.parts g.is) g.said (head_routed n pt.view d fit h))
+    subst (λ (q : Point). Routed n q.view) g.point (parts_routed n g.parts (moved pt (Line.Head d) pt.kernel) g.rest (outcome_says (λ l. is_calm l ≡ true) calm_of net_calm b pt d g.parts g.is) g.said (head_routed n pt.view d fit h))
 
 -- wherever the rule leads
 pub routed_always : (b : Boot) (es : List Step) (pt : Point) → IsValid b → Leads b (first_point b) es pt → Routed (length b.machines) pt.view

@@ -7,6 +7,8 @@ use Rattle.dm_movelaws.proofs.Ends.Smooth.{Somewhere, Smooth, Still, smooth_same
 use Rattle.dm_movelaws.proofs.Ends.Still.{still_trans}
 use Rattle.dm_movelaws.proofs.Ends.Parts.{packet_smooth, part_count, zero_if}
 pub use Rattle.dm_rule.proofs.Moves.Lists.{zero_cases}
+use Rattle.dm_movelaws.proofs.Leading.{Saying, net_says}
+use Rattle.dm_movelaws.proofs.Ends.Parts.{none_count}
 
 pub head_smooth : (p : Pid) (v : View) (s : Step) → Smooth p v (after_head v s)
 head_smooth p v (Step.Turn m) = smooth_still p v (after_head v (Step.Turn m)) (λ i. refl) (λ i z. ap (times i) (turn_off v m z))
@@ -152,14 +154,11 @@ net_level p _ pt w h e = absurd h.0
 abbrev Neither : (f : Line → Bool) → Type 0
 Neither f = (l : Line) → IsNetLine l → f l ≡ false
 
+abbrev NetPart : Part → Type 0
+NetPart = Saying IsNetLine
+
 net_none : (f : Line → Bool) → Neither f → (ps : List Part) → IsNet ps → part_count f ps ≡ 0
-net_none f n [] h = refl
-net_none f n (Says l ∷ ps) h =
-    let a = zero_if (f l) (n l h.0) in
-    let b = net_none f n ps h.1 in
-    omega (arith, a, b)
-net_none f n (Transmits a b l ∷ ps) h = net_none f n ps h.1
-net_none f n _ h = absurd h.0
+net_none f n ps h = none_count f NetPart n ps (net_says IsNetLine (λ l net. net) ps h)
 
 net_line_asks : (p : Pid) → Neither (asks p)
 net_line_asks p (Line.Head d) h = absurd h

@@ -9,6 +9,7 @@ use Rattle.dm_rule.specs.Rule as rule
 use Rattle.dm_movelaws.proofs.Ends.Smooth.{Extends, told_by}
 use Rattle.dm_movelaws.proofs.Ends.Parts.{first_kept}
 use Rattle.dm_movelaws.proofs.Leading.{All, Behind, whatever_put, parts_lead}
+use Rattle.dm_movelaws.proofs.Leading.{Saying, outcome_says}
 
 -- nothing was routed from another machine
 abbrev pub Sources : ℕ → View → Type 0
@@ -101,12 +102,11 @@ put_acts n f v b i k q h = record {
 }
 
 -- parts
-abbrev Goes : Part → Type 0
-Goes (Says l) = (is_head l ≡ false) × (is_put l ≡ false)
-Goes _ = ⊤
+abbrev IsSaid : Line → Type 0
+IsSaid l = (is_head l ≡ false) × (is_put l ≡ false)
 
-abbrev AllGo : List Part → Type 0
-AllGo = All Goes
+abbrev Goes : Part → Type 0
+Goes = Saying IsSaid
 
 acts_packet : (n : ℕ) (f : MsgId → Option Told) → PacketsKeep (λ q. Acts n f q.view)
 acts_packet n f q a b k l h = line_acts n f q.view (Line.Packet a b k l) refl refl h
@@ -115,7 +115,7 @@ acts_behind : (n : ℕ) (f : MsgId → Option Told) (pt : Point) (p : Part) → 
 acts_behind n f pt p ok h =
     whatever_put (λ q. Acts n f q.view) pt p (λ l is s step. let k = subst Goes is ok in line_acts n f pt.view l k.0 k.1 h) (λ b i k q. put_acts n f pt.view b i k q h) h
 
-parts_act : (n : ℕ) (f : MsgId → Option Told) (ps : List Part) (pt : Point) (w : Spelled) → AllGo ps → spelled pt ps ≡ Some w → Acts n f pt.view → Acts n f w.point.view
+parts_act : (n : ℕ) (f : MsgId → Option Told) (ps : List Part) (pt : Point) (w : Spelled) → All Goes ps → spelled pt ps ≡ Some w → Acts n f pt.view → Acts n f w.point.view
 parts_act n f = parts_lead (λ q. Acts n f q.view) (acts_packet n f) Goes (acts_behind n f)
 
 -- what the parts of a group are
@@ -124,35 +124,10 @@ fit_goes (Line.Head d) e = absurd (false≢true (sym e))
 fit_goes (Line.Put a b i k q) e = absurd (false≢true (sym e))
 fit_goes l e = (refl, refl)
 
-fit_go : (f : ℕ → ℕ → Pair) (ps : List Part) → AllFit f ps → AllGo ps
-fit_go f [] h = tt
-fit_go f (Says l ∷ ps) h = (fit_goes l h.0, fit_go f ps h.1)
-fit_go f (p ∷ ps) h = (tt, fit_go f ps h.1)
-
 net_goes : (l : Line) → IsNetLine l → (is_head l ≡ false) × (is_put l ≡ false)
 net_goes (Line.Head d) e = absurd e
 net_goes (Line.Put a b i k q) e = absurd e
 net_goes l e = (refl, refl)
-
-net_go : (ps : List Part) → IsNet ps → AllGo ps
-net_go [] h = tt
-net_go (Says l ∷ ps) h = (net_goes l h.0, net_go ps h.1)
-net_go (Transmits a b l ∷ ps) h = (tt, net_go ps h.1)
-net_go _ h = absurd h.0
-
-outcome_go : (b : Boot) (pt : Point) (d : Step) (ps : List Part) → rule.outcome b pt d ≡ Some ps → AllGo ps
-outcome_go b pt (Step.Turn m) ps e = fit_go pt.view.pair ps (turns_fit pt.view.pair b pt m (pt.view.inbox m) ps e)
-outcome_go b pt (Step.Tick m) ps e =
-    let qs = Says (Line.Resent m (rule.outstanding_count pt.view m pt.kernel.machines)) ∷ rule.resends pt.view m pt.kernel.machines in
-    let f : qs ≡ ps = cc in
-    subst AllGo f (net_go qs (tt, resends_net pt.view m pt.kernel.machines))
-outcome_go b pt (Step.Deliver a c k) ps e =
-    let qs = rule.arrives a c (pt.view.pair a c) (pt.view.pair c a) (slice_get (pt.view.pair a c).wire k) in
-    let f : qs ≡ ps = cc in
-    subst AllGo f (net_go qs (arrives_net a c (pt.view.pair a c) (pt.view.pair c a) (slice_get (pt.view.pair a c).wire k)))
-outcome_go b pt (Step.Migrate q m) ps e =
-    let f : migrates pt q ≡ ps = cc in
-    subst AllGo f (fit_go pt.view.pair (migrates pt q) (migrates_fit pt.view.pair pt q))
 
 -- a directive acts on a machine that there is
 actor_less : (n : ℕ) (v : View) (d : Step) → IsStep n d → (after_head v d).acting < n
@@ -165,4 +140,4 @@ pub group_acts : (n : ℕ) (b : Boot) (pt : Point) (d : Step) (w : Spelled) → 
 group_acts n b pt d w fit e h =
     let g = group_is b pt d w e in
     let start : Acts n pt.view.told (begun pt d).view = record { acting = actor_less n pt.view d fit; sources = λ x y le. head_ids pt.view d x y ∙ h x y le; grows = λ i t told. told_by pt.view (Line.Head d) refl i ∙ told } in
-    subst (λ (q : Point). Acts n pt.view.told q.view) g.point (parts_act n pt.view.told g.parts (begun pt d) g.rest (outcome_go b pt d g.parts g.is) g.said start)
+    subst (λ (q : Point). Acts n pt.view.told q.view) g.point (parts_act n pt.view.told g.parts (begun pt d) g.rest (outcome_says IsSaid fit_goes net_goes b pt d g.parts g.is) g.said start)

@@ -4,6 +4,7 @@ use Rattle.dm_movelaws.proofs.Names.{bind-is, Step, Line, Load, Stage, Receiver,
 use Rattle.dm_movelaws.proofs.Names.{without_front, View, Told, About, NothingElse, view_after, handled, receiver_of, IsNetLine, IsNet, is_put, hushed, line_view, is_server, set_all, killed_or, told_kept, by_parts}
 use Rattle.dm_rule.specs.View as view
 use Rattle.dm_movelaws.proofs.Leading.{All, lines_are}
+use Rattle.dm_movelaws.proofs.Leading.{Saying, net_says}
 
 -- what is queued is so
 abbrev pub LineOk : (MsgId → Type 0) → Line → Type 0
@@ -11,8 +12,7 @@ LineOk ok (Line.Queued i) = ok i
 LineOk ok l = ⊤
 
 abbrev pub PartOk : (MsgId → Type 0) → Part → Type 0
-PartOk ok (Says l) = LineOk ok l
-PartOk ok _ = ⊤
+PartOk ok = Saying (LineOk ok)
 
 abbrev pub AllOk : (MsgId → Type 0) → List Part → Type 0
 AllOk ok = All (PartOk ok)
@@ -23,10 +23,7 @@ net_ok ok (Line.Queued i) h = absurd h
 net_ok ok _ h = tt
 
 pub nets_ok : (ok : MsgId → Type 0) (ps : List Part) → IsNet ps → AllOk ok ps
-nets_ok ok [] h = tt
-nets_ok ok (Says l ∷ ps) h = (net_ok ok l h.0, nets_ok ok ps h.1)
-nets_ok ok (Transmits a b l ∷ ps) h = (tt, nets_ok ok ps h.1)
-nets_ok ok _ h = absurd h.0
+nets_ok ok = net_says (LineOk ok) (net_ok ok)
 
 -- a message that was told of is for no server
 pub record ForProcess (v : View) (i : MsgId) : Type 0 where

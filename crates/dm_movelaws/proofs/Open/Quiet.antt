@@ -8,6 +8,7 @@ use Rattle.dm_movelaws.proofs.Stages.Lines.{AllMild, mild_marks, net_marks}
 use Rattle.dm_movelaws.proofs.Stages.Turns.{round_mild, handles_mild}
 use Rattle.dm_movelaws.proofs.Stages.Hears.{Hears, Calms, Freezes, server_mild, process_hears}
 use Rattle.dm_movelaws.proofs.Leading.{All, lines_are}
+use Rattle.dm_movelaws.proofs.Leading.{Saying}
 
 -- lines that are no steps of the kernel without machines
 abbrev pub AllQuiet : List Line → Type 0
@@ -16,8 +17,7 @@ AllQuiet (l ∷ ls) = (label_of l ≡ None) × AllQuiet ls
 
 -- and parts
 abbrev QuietPart : Part → Type 0
-QuietPart (Says l) = label_of l ≡ None
-QuietPart _ = ⊤
+QuietPart = Saying (λ l. label_of l ≡ None)
 
 abbrev QuietParts : List Part → Type 0
 QuietParts = All QuietPart

@@ -5,6 +5,7 @@ use Rattle.dm_rule.specs.Rule as rule
 use Rattle.dm_movelaws.proofs.Stages.Lines.{MildLine, AllMild}
 use Rattle.dm_movelaws.proofs.Stages.Turns.{round_mild, handles_mild}
 use Rattle.dm_movelaws.proofs.Leading.{All}
+use Rattle.dm_movelaws.proofs.Leading.{Saying, net_says}
 
 -- a row a line, seen from where its group begins
 abbrev pub LineReal : Point → Line → Type 0
@@ -17,8 +18,7 @@ LineReal o (Line.Put a b i k q) = ⊥
 LineReal o _ = ⊤
 
 abbrev pub PartReal : Point → Part → Type 0
-PartReal o (Says l) = LineReal o l
-PartReal o _ = ⊤
+PartReal o = Saying (LineReal o)
 
 abbrev pub AllReal : Point → List Part → Type 0
 AllReal o = All (PartReal o)
@@ -57,7 +57,7 @@ net_line o Line.Nothing h = tt
 net_line o _ h = absurd h
 
 net_real : (o : Point) (ps : List Part) → IsNet ps → AllReal o ps
-net_real o = by_net (AllReal o) tt (λ l ps net h. (net_line o l net, h)) (λ a b l ps h. (tt, h))
+net_real o = net_says (LineReal o) (net_line o)
 
 -- what kernels tell each other of a process
 sends_real : (o : Point) (to : ℕ) (ids : List MsgId) (ps : List Part) → AllReal o ps → AllReal o (sends_on to ids ++ ps)

@@ -3,6 +3,7 @@ use Rattle.dm_movelaws.proofs.Names.{◌≡◌, ℕ, ◌≤◌, List, [], ◌∷
 use Rattle.dm_movelaws.proofs.Names.{times_more, by_migrates, IsHeardLine, hears_kept, plain_kind, by_round, by_handles, by_forwards, by_net, by_outcome}
 use Rattle.dm_rule.specs.Rule as rule
 use Rattle.dm_movelaws.proofs.Leading.{All}
+use Rattle.dm_movelaws.proofs.Leading.{Saying, net_says}
 
 -- the message that goes by a label is one of these
 abbrev pub LineOuts : (MsgId → Type 0) → Line → Type 0
@@ -10,8 +11,7 @@ LineOuts P (Line.Label l) = (i : MsgId) → out_of l ≡ Some i → P i
 LineOuts P l = ⊤
 
 abbrev pub PartOuts : (MsgId → Type 0) → Part → Type 0
-PartOuts P (Says l) = LineOuts P l
-PartOuts P _ = ⊤
+PartOuts P = Saying (LineOuts P)
 
 abbrev pub AllOuts : (MsgId → Type 0) → List Part → Type 0
 AllOuts P = All (PartOuts P)
@@ -87,7 +87,7 @@ net_line P (Line.Label l) h = absurd h
 net_line P l h = tt
 
 net_outs : (P : MsgId → Type 0) (ps : List Part) → IsNet ps → AllOuts P ps
-net_outs P = by_net (AllOuts P) tt (λ l ps net h. (net_line P l net, h)) (λ a b l ps h. (tt, h))
+net_outs P = net_says (LineOuts P) (net_line P)
 
 migrates_outs : (P : MsgId → Type 0) (o : Point) (p : Pid) → AllOuts P (migrates o p)
 migrates_outs P o p = by_migrates (AllOuts P) o p (tt, tt) (tt, tt) (λ n off is. (tt, tt))
