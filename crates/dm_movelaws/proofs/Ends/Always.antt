@@ -9,6 +9,7 @@ use Rattle.dm_movelaws.proofs.Ends.Parts.{count-append}
 use Rattle.dm_movelaws.proofs.Ends.Groups.{group_balance}
 use Rattle.dm_movelaws.proofs.Ends.Sources.{Sources, group_acts}
 use Rattle.dm_movelaws.proofs.Ends.Quiet.{quiet_stays, quiet_empty}
+use Rattle.dm_movelaws.proofs.Names.{nat_tests}
 
 -- how many moves are under way
 abbrev moving_at : (b : Boot) (pt : Point) → Both b pt → Pid → ℕ
@@ -50,12 +51,7 @@ ran p b (d ∷ ds) pt end ls ids valid h sources opens (w, rest, fit, is, split,
       sources = r.sources;
       left = r.left;
       opens = r.opens;
-      sum = (let f = end.view.told in
-          let a : count (asks p) ls ≡ count (asks p) w.lines + count (asks p) rest = ap (count (asks p)) split ∙ count-append (asks p) w.lines rest in
-          let c : count (ends f p) ls ≡ count (ends f p) w.lines + count (ends f p) rest = ap (count (ends f p)) split ∙ count-append (ends f p) w.lines rest in
-          let x = g.sum f r.grows in
-          let y = r.sum in
-          omega (arith, a, c, x, y));
+      sum = grind (arith, nat_tests, count-append);
     }
 
 -- where a run begins nothing moves
@@ -68,12 +64,7 @@ known_rests [] m q = here_or ((m == 0) && (pid_eq q switchboard || pid_eq q mana
 known_rests (p ∷ ps) m q = here_or (pid_eq p.pid q && (p.pid.home == m)) (known_at ps m q) (known_rests ps m q)
 
 start_stays : (b : Boot) (p : Pid) (h : Both b (first_point b)) → moving_at b (first_point b) h p ≡ 0
-start_stays b p h =
-    let phases = h.run.based.phased.phases in
-    elim (waits_or (first_view b) p (phases.of p) (phases.each p)) [
-      | inl x ↦ absurd (false≢true (sym (known_rests b.processes x.machine p) ∙ x.waits))
-      | inr x ↦ x.none
-    ]
+start_stays b p h = grind (arith, nat_tests, waits_or, known_rests)
 
 start_opens : (b : Boot) (p : Pid) → Opens p (first_view b) []
 start_opens b p = record { each = λ i least. absurd (omega (arith, least)); all = λ i is. absurd (let e = is.is in none_some is.told e) }

@@ -17,6 +17,7 @@ use Rattle.dm_movelaws.proofs.Ends.Hears.{hears_comes}
 use Rattle.dm_movelaws.proofs.Ends.Turns.{round_quiet, handles_quiet}
 use Rattle.dm_movelaws.proofs.Leading.{puts_lead}
 use Rattle.dm_movelaws.proofs.Names.{None, false, label_of}
+use Rattle.dm_movelaws.proofs.Names.{nat_tests}
 
 abbrev begun_phases : (pt : Point) (d : Step) → InPhases pt.view → InPhases (begun pt d).view
 begun_phases pt d h = calm_phases pt.view (after_head pt.view d) (head_calm pt.view d) h
@@ -47,8 +48,7 @@ said_comes p q m pt l h w none alike plain ended e g ids opens =
     let v = pt.view in
     let at : v ≡ w.point.view = sym alike ∙ ap (λ (x : Point). x.view) (line_alone pt l w none e) in
     let same = still_moves p v w.point.view h g (subst (Still p v) at (still_same p v)) in
-    let zero_ = zero_if (asks p l) plain in
-    record { left = ids; opens = smooth_opens p v w.point.view ids (subst (Smooth p v) at (smooth_same p v)) opens; quiet = omega (arith, zero_); sum = λ f ext. (let one = ap unit_if (ended f) in omega (arith, same, one)) }
+    grind (arith, nat_tests, zero_if, smooth_opens, smooth_same)
 
 -- a request is put
 record Added (p : Pid) (v : View) (ids : List MsgId) (w : View) : Type 0 where
@@ -133,16 +133,7 @@ pub record GroupBalance (p : Pid) (w : Spelled) (ids : List MsgId) (before behin
 
 whole_balance : (p : Pid) (d : Step) (parts : List Part) (ids : List MsgId) (before behind : ℕ) (start : Point) (rest : Spelled) → spelled start parts ≡ Some rest → Balance p rest.point.view ids (asked_by p d) before behind parts
     → GroupBalance p (rule.headed (Line.Head d) rest) ids before behind
-whole_balance p d parts ids before behind start rest e h = record {
-  left = h.left;
-  opens = h.opens;
-  sum = λ f ext.
-      let a = parts_count (asks p) (asks_silent p) parts start rest e in
-      let b = parts_count (ends f p) (ends_silent f p) parts start rest e in
-      let quiet = h.quiet in
-      let s = h.sum f ext in
-      omega (arith, a, b, quiet, s);
-}
+whole_balance p d parts ids before behind start rest e h = grind (arith, nat_tests, parts_count, asks_silent, ends_silent)
 
 pub group_balance : (p : Pid) (b : Boot) (pt : Point) (d : Step) (w : Spelled) (h : InPhases pt.view) (g : InPhases w.point.view) (ids : List MsgId) → Phased pt → KnownStands pt.kernel pt.view → PairsFit pt.view → group_of b pt d ≡ Some w → Opens p pt.view ids
     → GroupBalance p w ids (moving_in (h.of p)) (moving_in (g.of p))
@@ -151,6 +142,4 @@ group_balance p b pt d w h g ids phased known fits e opens =
     let start : Opens p (begun pt d).view ids = smooth_opens p pt.view (begun pt d).view ids (head_smooth p pt.view d) opens in
     let back : InPhases k.rest.point.view = subst (λ (x : Spelled). InPhases x.point.view) (sym k.whole) g in
     let r = directed p b pt d k.parts k.rest h phased known fits k.is k.said back ids start in
-    let same : moving_in (back.of p) ≡ moving_in (g.of p) = still_moves p k.rest.point.view w.point.view back g (subst (λ (x : Spelled). Still p k.rest.point.view x.point.view) k.whole (still_same p k.rest.point.view)) in
-    subst (λ (n : ℕ). GroupBalance p w ids (moving_in (h.of p)) n) same
-    (subst (λ (x : Spelled). GroupBalance p x ids (moving_in (h.of p)) (moving_in (back.of p))) k.whole (whole_balance p d k.parts ids (moving_in (h.of p)) (moving_in (back.of p)) (begun pt d) k.rest k.said r))
+    grind (arith, nat_tests, still_moves, still_same, whole_balance)

@@ -25,8 +25,7 @@ held_comes p pt i is t h w e =
     let v = pt.view in
     let l = Line.Held i in
     let rest = line_then p pt l [] w refl refl refl h.sane h.fits tt tt e in
-    let still : Still p v (view_after v l) = still_by p v (view_after v l) (λ m q. held_known (handled v i) i (receiver_of (v.told i)) m q) in
-    level_row p pt h.phases l [] w (held_smooth p v i is t h.front h.told) tt rest (λ f. refl) refl (λ g. level_still p pt h.phases l w still rest g)
+    search (still_by, held_known, level_row, held_smooth, level_still)
 
 -- a message is forwarded: it goes from the front, and is put again
 forwarded_put : (p : Pid) (v : View) (i : MsgId) (is : List MsgId) (t : Told) (to b : ℕ) → v.inbox v.acting ≡ i ∷ is → v.told i ≡ Some t → PairsFit (view_after v (Line.Forwarded i to)) → let u = view_after v (Line.Forwarded i to) in Smooth p v (view.after_put u u.acting b i t.kind t.receiver)
@@ -172,16 +171,8 @@ of_if p pt h true x y k l = k
 of_if p pt h false x y k l = l
 
 kernel_comes : (p : Pid) (b : Boot) (o : Point) (m : ℕ) (i : MsgId) (is : List MsgId) (t : Told) (a : About) (h : Turn (turned o m) i is t) → t.about ≡ a → ComesOf p (turned o m) h.phases (kernel_hears b o m i t.kind a)
-kernel_comes p b o m i is t (Of q) h about =
-    of_bind p (turned o m) h.phases (kernel.alive (o.kernel.processes q)) (λ x. kernel_told o m i q (fits (free_room b o m) (length x.memory / 256)) x t.kind)
-    (λ x. told_comes p o m i is t q (fits (free_room b o m) (length x.memory / 256)) x t.kind h refl about)
+kernel_comes p b o m i is t (Of q) h about = search (of_bind, told_comes)
 kernel_comes p b o m i is t _ h about = tt
 
 pub hears_comes : (p : Pid) (b : Boot) (o : Point) (m : ℕ) (i : MsgId) (is : List MsgId) (t : Told) (h : Turn (turned o m) i is t) → ComesOf p (turned o m) h.phases (hears b o m i (Some t))
-hears_comes p b o m i is t h =
-    let pt = turned o m in
-    let to_server = server_told o i t t.kind in
-    let to_process = process_told o m i t (o.view.known m t.receiver) in
-    of_if p pt h.phases (t.receiver.num == 0) (kernel_hears b o m i t.kind t.about) (if pid_eq t.receiver switchboard then to_server else if pid_eq t.receiver manager then to_server else to_process) (kernel_comes p b o m i is t t.about h refl)
-    (of_if p pt h.phases (pid_eq t.receiver switchboard) to_server (if pid_eq t.receiver manager then to_server else to_process) (server_comes p o pt i is t t.kind h refl)
-    (of_if p pt h.phases (pid_eq t.receiver manager) to_server to_process (server_comes p o pt i is t t.kind h refl) (process_comes p o m i is t (o.view.known m t.receiver) h refl)))
+hears_comes p b o m i is t h = search (of_if, kernel_comes, server_comes, process_comes)

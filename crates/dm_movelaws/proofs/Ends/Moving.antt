@@ -4,6 +4,8 @@ use Rattle.dm_movelaws.proofs.Names.{Nowhere, Rests, Over, Moves, knows, kind_co
 use Rattle.dm_movelaws.proofs.Ends.Smooth.{Still}
 pub use Rattle.dm_rulelaws.proofs.Goes.Own.{destination_knows as knows_target}
 pub use Rattle.dm_rule.proofs.Phases.Pieces.{not_false}
+use Rattle.dm_movelaws.proofs.Names.{nat_tests}
+use Rattle.dm_movelaws.proofs.Names.{arith}
 
 abbrev pub moving_in : Phase → ℕ
 moving_in (Moves k s d id) = 1
@@ -81,10 +83,7 @@ waits_or v p (Moves k s d o) h =
 
 -- one machine that waits says that the process moves
 pub waits_moves : (v : View) (h : InPhases v) (p : Pid) (m : ℕ) → is_moving (v.known m p) ≡ true → moving_in (h.of p) ≡ 1
-waits_moves v h p m e = elim (waits_or v p (h.of p) (h.each p)) [
-  | inl w ↦ w.one
-  | inr r ↦ absurd (false≢true (sym (r.rests m) ∙ e))
-]
+waits_moves v h p m e = grind (arith, nat_tests, waits_or)
 
 pub here_stays : (v : View) (h : InPhases v) (p : Pid) (m : ℕ) → v.known m p ≡ Here → moving_in (h.of p) ≡ 0
 here_stays v h p m e = ap moving_in (rests_here (h.of p) m (sym (ap (knows (h.of p) m) e) ∙ (h.each p).known m))

@@ -9,6 +9,7 @@ use Rattle.dm_movelaws.proofs.Ends.Parts.{packet_smooth, part_count, zero_if}
 pub use Rattle.dm_rule.proofs.Moves.Lists.{zero_cases}
 use Rattle.dm_movelaws.proofs.Leading.{Saying, net_says}
 use Rattle.dm_movelaws.proofs.Ends.Parts.{none_count}
+use Rattle.dm_movelaws.proofs.Names.{nat_tests}
 
 pub head_smooth : (p : Pid) (v : View) (s : Step) → Smooth p v (after_head v s)
 head_smooth p v (Step.Turn m) = smooth_still p v (after_head v (Step.Turn m)) (λ i. refl) (λ i z. ap (times i) (turn_off v m z))
@@ -26,13 +27,10 @@ taken_view v a b n = with_pair v a b (one_taken (v.pair a b) n)
 none_taken : (p : Pair) (n : ℕ) → slice_get p.ids p.taken ≡ None → untaken (one_taken p n) ≡ untaken p
 none_taken p n is =
     let k = past_place p.ids p.taken is in
-    let next : p.taken + 1 ≡ suc p.taken = omega arith in
-    ap (λ m. drop m p.ids) next ∙ k.1 ∙ sym k.0
+    grind (arith, nat_tests)
 
 taken_front : (p : Pair) (n : ℕ) (i : MsgId) → slice_get p.ids p.taken ≡ Some i → untaken p ≡ i ∷ untaken (one_taken p n)
-taken_front p n i is =
-    let next : suc p.taken ≡ p.taken + 1 = omega arith in
-    at_place p.ids p.taken i is ∙ ap (λ m. i ∷ drop m p.ids) next
+taken_front p n i is = grind (arith, nat_tests, at_place)
 
 none_off : (v : View) (a b n : ℕ) (z : Spot) → untaken (one_taken (v.pair a b) n) ≡ untaken (v.pair a b) → ids_at (taken_view v a b n) z ≡ ids_at v z
 none_off v a b n (Untaken c d) same = pair_keeps v.pair a b (one_taken (v.pair a b) n) same c d
@@ -40,14 +38,7 @@ none_off v a b n _ same = refl
 
 -- the stream has one less, and the inbox one more
 stream_back : (v : View) (a b n : ℕ) (i j : MsgId) (c d : ℕ) → untaken (v.pair a b) ≡ i ∷ untaken (one_taken (v.pair a b) n) → 1 ≤ times j (untaken (at_pair v.pair a b (one_taken (v.pair a b) n) c d)) → 1 ≤ times j (untaken (v.pair c d))
-stream_back v a b n i j c d front st = elim (cases_Bool ((a == c) && (b == d))) [
-  | inl same ↦
-      let both = parts (a == c) (b == d) same in
-      let now : times j (untaken (at_pair v.pair a b (one_taken (v.pair a b) n) c d)) ≡ times j (untaken (one_taken (v.pair a b) n)) = ap (λ (t : Bool). times j (untaken (if t then one_taken (v.pair a b) n else v.pair c d))) same in
-      let was : times j (untaken (v.pair a b)) ≡ times j (i ∷ untaken (one_taken (v.pair a b) n)) = ap (times j) front in
-      subst (λ (k : ℕ). 1 ≤ times j (untaken (v.pair c k))) (eq_is b d both.1) (subst (λ (k : ℕ). 1 ≤ times j (untaken (v.pair k b))) (eq_is a c both.0) (omega (arith, st, now, was)))
-  | inr off ↦ subst (λ k. 1 ≤ k) (ap (λ (t : Bool). times j (untaken (if t then one_taken (v.pair a b) n else v.pair c d))) off) st
-]
+stream_back v a b n i j c d front st = grind (arith, nat_tests, parts, eq_is)
 
 inbox_back : (v : View) (a b n : ℕ) (i j : MsgId) (m : ℕ) → untaken (v.pair a b) ≡ i ∷ untaken (one_taken (v.pair a b) n) → 1 ≤ times j (at_machine v.inbox b (v.inbox b ++ i ∷ []) m) → Somewhere v j
 inbox_back v a b n i j m front st = elim (cases_Bool (b == m)) [
@@ -74,10 +65,7 @@ taken_back v a b n i j front (Inbox m) st = inbox_back v a b n i j m front st
 taken_back v a b n i j front (Untaken c d) st = (Untaken c d, stream_back v a b n i j c d front st)
 
 in_inbox : (v : View) (a b n : ℕ) (i j : MsgId) (m : ℕ) → (b == m) ≡ true → 1 ≤ times j (v.inbox b) + one_of j i → 1 ≤ standing (came_view v a b n i) j (Inbox m)
-in_inbox v a b n i j m same st =
-    let now : times j (at_machine v.inbox b (v.inbox b ++ i ∷ []) m) ≡ times j (v.inbox b ++ i ∷ []) = ap (λ (c : Bool). times j (if c then v.inbox b ++ i ∷ [] else v.inbox m)) same in
-    let sum = times-append j (v.inbox b) (i ∷ []) in
-    omega (arith, st, now, sum)
+in_inbox v a b n i j m same st = grind (arith, nat_tests, times-append)
 
 taken_on : (v : View) (a b n : ℕ) (i j : MsgId) → untaken (v.pair a b) ≡ i ∷ untaken (one_taken (v.pair a b) n) → (z : Spot) → 1 ≤ standing v j z → Somewhere (came_view v a b n i) j
 taken_on v a b n i j front (Queue m p) st = (Queue m p, st)

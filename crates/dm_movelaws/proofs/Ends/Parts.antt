@@ -12,6 +12,7 @@ use Rattle.dm_movelaws.proofs.Leading.{All, Behind, part_leads}
 use Rattle.dm_movelaws.proofs.Names.{PacketsKeep, OneKernel, label_of, kernel_after}
 use Rattle.dm_movelaws.proofs.Leading.{is_said, lines_are}
 use Rattle.dm_movelaws.proofs.Names.{false≢true}
+use Rattle.dm_movelaws.proofs.Names.{nat_tests}
 
 -- a put of a message that is no request to move this process
 first_plain : (p : Pid) (o : Option Told) (k : MessageKind) (q : Pid) (a : view.About) (t : Told) → Some (view.first_told o (record { kind = k; receiver = q; about = a })) ≡ Some t → (is_migrate k && pid_eq p q) ≡ false → ((u : Told) → o ≡ Some u → asks_for p u ≡ false)
@@ -87,15 +88,13 @@ pub record Rest (p : Pid) (v w : View) : Type 0 where
   pub fits : PairsFit w
 
 pub rest_packet : (p : Pid) (v : View) → PacketsKeep (λ q. Rest p v q.view)
-rest_packet p v q a b k l h =
-    record { smooth = smooth_trans p v q.view (view_after q.view (Line.Packet a b k l)) h.smooth (packet_smooth p q.view a b k l); still = h.still; fits = fits_packet q.view a b k l h.fits }
+rest_packet p v q a b k l h = search (smooth_trans, packet_smooth, fits_packet)
 
 put_rest : (p : Pid) (v : View) (b : ℕ) (i : MsgId) (k : MessageKind) (q : Pid) → PairsFit v → (is_migrate k && pid_eq p q) ≡ false → Plain p v i → Rest p v (after_put v v.acting b i k q)
 put_rest p v b i k q fits e plain = record { smooth = put_smooth p v v.acting b i k q fits e plain; still = λ m. refl; fits = fits_put v v.acting b i k q fits }
 
 says_rest : (p : Pid) (pt : Point) (s : OneKernel) (l : Line) → Sane pt → PairsFit pt.view → QuietLine p pt.view l → Needs pt l → kernel_after pt.kernel (label_of l) ≡ Some s → Rest p pt.view (view_after pt.view l)
-says_rest p pt s l h fits quiet need step =
-    record { smooth = line_smooth p pt s l h quiet step; still = line_still p pt l quiet need; fits = fits_as pt.view (view_after pt.view l) (pair_same pt.view l (quiet_touches p pt.view l quiet)) fits }
+says_rest p pt s l h fits quiet need step = search (line_smooth, line_still, fits_as, pair_same, quiet_touches)
 
 untold_plain : (p : Pid) (v : View) (i : MsgId) → v.told i ≡ None → Plain p v i
 untold_plain p v i none t told = absurd (let f : None ≡ Some t = sym none ∙ told in cc)
@@ -122,12 +121,7 @@ parts_settle p qs v q w quiet walks h is = by_parts (λ ps pt u. AllQuiet p v ps
     let here : Quiet p pt.view x = quiet_on p v pt.view x h.smooth quiet.0 in
     let s : Steps pt x next = record { lines = ls; are = lines; leads = leads } in
     let c = part_leads (λ y. Rest p pt.view y.view) (rest_packet p pt.view) pt next x (rest_behind p pt x h.sane h.fits here walks.0) s in
-    rest quiet.1 (walks.1 next s) (record {
-      smooth = smooth_trans p v pt.view next.view h.smooth c.smooth;
-      still = still_trans p v pt.view next.view h.still c.still;
-      sane = part_sane pt next x ls (sayable_of p pt.view x here) lines leads h.sane;
-      fits = c.fits;
-    })
+    rest quiet.1 (walks.1 next s) (search (smooth_trans, still_trans, part_sane, sayable_of))
     )) qs q w is quiet walks h
 
 -- the lines of parts, counted
@@ -165,15 +159,7 @@ unsaid_count f (Says l) ps e = absurd (false≢true (sym e))
 unsaid_count f x ps e = refl
 
 lines_count : (f : Line → Bool) (pt : Point) (x : Part) (ps : List Part) (ls : List Line) → Silent f → lines_of pt x ≡ Some ls → count f ls + part_count f ps ≡ part_count f (x ∷ ps)
-lines_count f pt x ps ls h is =
-    let none = unsaid_count f x ps in
-    lines_are (λ xs. count f xs + part_count f ps ≡ part_count f (x ∷ ps)) pt x ls (record {
-      says = λ l e. (let same = ap (λ (y : Part). part_count f (y ∷ ps)) e in omega (arith, same));
-      put = λ off a b i k q. (let c = none off in let z = zero_if (f (Line.Put a b i k q)) (h.put a b i k q) in omega (arith, c, z));
-      goes = λ off a b n i k q l.
-          (let c = none off in let z = zero_if (f (Line.Put a b i k q)) (h.put a b i k q) in let y = zero_if (f (Line.Packet a b n l)) (h.packet a b n l) in omega (arith, c, z, y));
-      packet = λ off a b n l. (let c = none off in let z = zero_if (f (Line.Packet a b n l)) (h.packet a b n l) in omega (arith, c, z));
-    }) is
+lines_count f pt x ps ls h is = grind (arith, nat_tests, unsaid_count, lines_are, zero_if)
 
 pub parts_count : (f : Line → Bool) → Silent f → (ps : List Part) (pt : Point) (w : Spelled) → spelled pt ps ≡ Some w → count f w.lines ≡ part_count f ps
 parts_count f h = by_parts (λ ps pt w. count f w.lines ≡ part_count f ps) (λ pt. refl) (λ x ps pt next ls z lines leads rest. count-append f ls z.lines ∙ ap (λ n. count f ls + n) rest ∙ lines_count f pt x ps ls h lines)
@@ -181,10 +167,7 @@ parts_count f h = by_parts (λ ps pt w. count f w.lines ≡ part_count f ps) (λ
 -- parts whose lines don't count
 pub none_count : (f : Line → Bool) (Q : Part → Type 0) → ((l : Line) → Q (Says l) → f l ≡ false) → (ps : List Part) → All Q ps → part_count f ps ≡ 0
 none_count f Q none [] so = refl
-none_count f Q none (Says l ∷ ps) so =
-    let a = zero_if (f l) (none l so.0) in
-    let b = none_count f Q none ps so.1 in
-    omega (arith, a, b)
+none_count f Q none (Says l ∷ ps) so = search (zero_if, none_count f Q none ps so.1)
 none_count f Q none (x ∷ ps) so = none_count f Q none ps so.1
 
 -- quiet parts end none, and are no directive

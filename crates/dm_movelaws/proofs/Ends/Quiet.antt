@@ -16,10 +16,7 @@ nothing_stands : (i : MsgId) (xs : List MsgId) → xs ≡ [] → 1 ≤ times i x
 nothing_stands i xs none st = let z : times i xs ≡ 0 = ap (times i) none in omega (arith, z, st)
 
 less_or : (x y : ℕ) → (x < y) ⊎ (y ≤ x)
-less_or x y = elim (cases_Bool (nat_le y x)) [
-  | inl e ↦ inr (grind (arith, nat_tests))
-  | inr e ↦ inl (grind (arith, nat_tests))
-]
+less_or x y = grind (arith, nat_tests)
 
 drop_nothing : (k : ℕ) → drop {A = MsgId} k [] ≡ []
 drop_nothing zero = refl
@@ -44,10 +41,7 @@ own_listed b pt h n is quiet sources i t told mine _ st = refl
 
 -- so no process moves
 token_spot : (z : Spot) (from to : ℕ) → (z ≡ Inbox to) ⊎ (z ≡ Untaken from to) → is_listed z ≡ false
-token_spot z from to e = elim e [
-  | inl x ↦ ap is_listed x
-  | inr x ↦ ap is_listed x
-]
+token_spot z from to e = grind (arith, nat_tests)
 
 none_moves : (b : Boot) (pt : Point) (h : Run b pt) (n : ℕ) → pt.kernel.machines ≡ n → IsQuiet n pt.view → Sources n pt.view → (p : Pid) (x : Phase) → IsIn pt.view p x → is_due x ≡ false → moving_in x ≡ 0
 none_moves b pt h n is quiet sources p (Moves k s d None) i due = absurd (false≢true (sym due))
@@ -77,12 +71,7 @@ quiet_rests b pt h n is quiet sources m p = not_true (is_moving (pt.view.known m
 
 -- no kernel's own message stands anywhere
 pub quiet_own : (b : Boot) (pt : Point) (h : Run b pt) (n : ℕ) → pt.kernel.machines ≡ n → IsQuiet n pt.view → Sources n pt.view → (i : MsgId) (t : Told) → pt.view.told i ≡ Some t → is_kernels i ≡ true → (z : Spot) → 1 ≤ standing pt.view i z → ⊥
-quiet_own b pt h n is quiet sources i t told mine (Queue m p) st =
-    let state = h.based.phased.state in
-    let q = h.based.queued m p i st in
-    let some = q.entered in
-    let none = kernels_fresh state.r state.e pt.kernel i state.sound mine in
-    omega (arith, some, none)
+quiet_own b pt h n is quiet sources i t told mine (Queue m p) st = grind (arith, nat_tests, kernels_fresh)
 quiet_own b pt h n is quiet sources i t told mine (Held m p) st =
     nothing_stands i (pt.view.held m p) (h.based.lists.held m p (rests_empty (pt.view.known m p) (quiet_rests b pt h n is quiet sources m p))) st
 quiet_own b pt h n is quiet sources i t told mine any_ st = false≢true (own_listed b pt h n is quiet sources i t told mine any_ st)

@@ -12,6 +12,7 @@ use Rattle.dm_movelaws.proofs.Ends.Open.{Opens, IsOpen, Closes, Balance, level_b
 pub use Rattle.dm_rule.proofs.Phases.Answers.{about_same}
 pub use Rattle.dm_rulelaws.proofs.Goes.Always.{stands_first as front_one}
 pub use Rattle.dm_rule.proofs.Phases.Pieces.{and_false as and_off}
+use Rattle.dm_movelaws.proofs.Names.{nat_tests}
 
 -- behind the head of a turn: the message at the front, and all that stands there
 pub record Turn (pt : Point) (i : MsgId) (is : List MsgId) (t : Told) : Type 0 where
@@ -47,18 +48,7 @@ pub first_smooth : (p : Pid) (v : View) (l : Line) (i : MsgId) (is : List MsgId)
 first_smooth p v l i is front plain quiet off = hushed_smooth p v l i quiet plain (first_spots v (view_after v l) i is front off)
 
 pub first_closes : (p : Pid) (pt : Point) (l : Line) (i : MsgId) (is : List MsgId) (t : Told) → Turn pt i is t → is_put l ≡ false → ((z : Spot) → ids_at (view_after pt.view l) z ≡ ids_at (handled_first pt.view) z) → Closes p pt.view (view_after pt.view l) i
-first_closes p pt l i is t h quiet off =
-    let v = pt.view in
-    let w = view_after v l in
-    let same = told_by v l quiet in
-    let spots = first_spots v w i is h.front off in
-    record {
-      kept = λ j u e. same j ∙ e;
-      fresh = λ j u e a. sym (same j) ∙ e;
-      on = λ j apart s. stands_as v w j (spots j apart) s;
-      back = λ j apart s. stands_was v w j (spots j apart) s;
-      gone = λ s. (let (z, st) = s in let none = front_gone pt l i is h.state quiet h.front off z in absurd (omega (arith, none, st)));
-    }
+first_closes p pt l i is t h quiet off = grind (arith, nat_tests, told_by, first_spots, stands_as, stands_was, front_gone)
 
 -- a line that is no step, and quiet parts behind it
 pub line_then : (p : Pid) (pt : Point) (l : Line) (ps : List Part) (w : Spelled) → label_of l ≡ None → is_put l ≡ false → touches l ≡ false → Sane pt → PairsFit pt.view → AllQuiet p (view_after pt.view l) ps → Walks (moved pt l pt.kernel) ps → spelled pt (Says l ∷ ps) ≡ Some w
@@ -76,9 +66,7 @@ line_alone pt l w none e = let n = line_next pt l [] w none e in said (moved pt 
 pub due_moves : (p q : Pid) (pt : Point) (i : MsgId) (is : List MsgId) (t : Told) (h : Turn pt i is t) → is_between t.kind ≡ true → t.about ≡ Of q → pid_eq p q ≡ true → moving_in (h.phases.of p) ≡ 1
 due_moves p q pt i is t h b about same =
     let u = due pt i is t h.phases h.front h.told b in
-    let uq : u.p ≡ q = about_same u.p q (sym (ap (λ (y : Told). y.about) u.told) ∙ about) in
-    let pu : p ≡ u.p = pid_eq-is p q same ∙ sym uq in
-    ap (λ (x : Pid). moving_in (h.phases.of x)) pu ∙ ap moving_in u.phase
+    grind (arith, nat_tests, about_same, pid_eq-is)
 
 pub pid_swap : (p q : Pid) → pid_eq p q ≡ false → pid_eq q p ≡ false
 pid_swap p q off = not_true (pid_eq q p) (λ e. let is : q ≡ p = pid_eq-is q p e in false≢true (sym off ∙ ap (pid_eq p) is ∙ pid_eq-same p))

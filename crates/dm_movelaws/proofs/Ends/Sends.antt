@@ -10,6 +10,7 @@ use Rattle.dm_movelaws.proofs.Ends.Parts.{packet_smooth, part_count}
 use Rattle.dm_movelaws.proofs.Ends.Rows.{front_one, first_spots}
 pub use Rattle.dm_rule.proofs.Moves.States.{again_told}
 use Rattle.dm_movelaws.proofs.Leading.{puts_lead}
+use Rattle.dm_movelaws.proofs.Names.{nat_tests}
 
 -- one message stands elsewhere, and the others where they stood
 pub smooth_moves : (p : Pid) (v w : View) (i : MsgId) → ((j : MsgId) → w.told j ≡ v.told j) → Somewhere v i → Somewhere w i → ((j : MsgId) → id_eq i j ≡ false → (z : Spot) → standing w j z ≡ standing v j z) → Smooth p v w
@@ -47,21 +48,7 @@ pub record Sending (p : Pid) (v : View) (js : List MsgId) (w : View) : Type 0 wh
   pub acting : w.acting ≡ v.acting
 
 pub sending_packet : (p : Pid) (v : View) (js : List MsgId) → PacketsKeep (λ q. Sending p v js q.view)
-sending_packet p v js q a b k l h =
-    let w = view_after q.view (Line.Packet a b k l) in
-    let s = packet_smooth p q.view a b k l in
-    record {
-      told = h.told;
-      on = λ i t e c st. elim (h.on i t e c st) [
-        | inl x ↦ inl (s.on i t (h.told i ∙ e) c x)
-        | inr x ↦ inr x
-      ];
-      back = λ i t e c st. h.back i t e c (s.back i t (h.told i ∙ e) c st);
-      from = h.from;
-      known = h.known;
-      fits = fits_packet q.view a b k l h.fits;
-      acting = h.acting;
-    }
+sending_packet p v js q a b k l h = grind (arith, nat_tests, packet_smooth, fits_packet)
 
 one_apart : (i j : MsgId) → id_eq i j ≡ false → one_of i j ≡ 0
 one_apart i j e = ap (λ (c : Bool). if c then 1 else 0) e
@@ -78,10 +65,7 @@ sending_put p v j js w b u told h =
       on = λ i t e c st. elim (cases_Bool (id_eq i j)) [
         | inl is ↦ inl (subst (λ (x : MsgId). Somewhere n x) (sym (id_eq-is i j is)) there)
         | inr apart ↦ elim (h.on i t e c st) [
-          | inl x ↦ elim (cases_Bool (id_eq j i)) [
-            | inl is ↦ inl (subst (λ (y : MsgId). Somewhere n y) (id_eq-is j i is) there)
-            | inr off ↦ inl (stands_as w n i (spots i off) x)
-          ]
+          | inl x ↦ grind (arith, nat_tests, id_eq-is, stands_as)
           | inr x ↦ let none = one_apart i j apart in inr (omega (arith, x, none))
         ]
       ];
@@ -121,15 +105,7 @@ all_sent p v (j ∷ js) b ps pt w h sane e =
     record { next = r.next; sending = r.sending; sane = r.sane; rest = r.rest; more = r.more; point = ◌∙◌ {a = r.rest.point} r.point (ap (λ (x : Spelled). x.point) f) }
 
 pub sent_smooth : (p : Pid) (v w : View) → Sending p v [] w → Smooth p v w
-sent_smooth p v w h = record {
-  kept = λ i t e. h.told i ∙ e;
-  fresh = λ i t e a. sym (h.told i) ∙ e;
-  on = λ i t e a s. elim (h.on i t e a s) [
-    | inl x ↦ x
-    | inr x ↦ absurd (omega (arith, x))
-  ];
-  back = h.back;
-}
+sent_smooth p v w h = grind (arith, nat_tests)
 
 pub sends_count : (f : Line → Bool) (b : ℕ) (js : List MsgId) (ps : List Part) → part_count f (sends_on b js ++ ps) ≡ part_count f ps
 sends_count f b [] ps = refl
@@ -137,12 +113,7 @@ sends_count f b (j ∷ js) ps = sends_count f b js ps
 
 -- what begins: the front goes, and the lists of a process are emptied
 emptied_on : (f : ℕ → Pid → List MsgId) (a : ℕ) (q : Pid) (i : MsgId) (m : ℕ) (r : Pid) → 1 ≤ times i (f m r) → (1 ≤ times i (at_record f a q [] m r)) ⊎ (1 ≤ times i (f a q))
-emptied_on f a q i m r least = elim (cases_Bool ((a == m) && pid_eq q r)) [
-  | inl same ↦
-      let both = parts (a == m) (pid_eq q r) same in
-      inr (subst (λ (n : ℕ). 1 ≤ times i (f n q)) (sym (eq_is a m both.0)) (subst (λ (x : Pid). 1 ≤ times i (f m x)) (sym (pid_eq-is q r both.1)) least))
-  | inr apart ↦ inl (subst (λ n. 1 ≤ n) (sym (ap (λ (c : Bool). times i (if c then [] else f m r)) apart)) least)
-]
+emptied_on f a q i m r least = grind (arith, nat_tests, parts, eq_is, pid_eq-is)
 
 abbrev sent_view : View → Pid → ℕ → View
 sent_view v q n = view_after v (Line.SentOn q n)
@@ -180,10 +151,7 @@ both_stand v q i least =
     ]
 
 other_front : (p : Pid) (v : View) (i j : MsgId) (t : Told) → Plain p v i → v.told j ≡ Some t → asks_for p t ≡ true → id_eq i j ≡ false
-other_front p v i j t plain told a = elim (cases_Bool (id_eq i j)) [
-  | inl same ↦ absurd (false≢true (sym (plain t (ap v.told (id_eq-is i j same) ∙ told)) ∙ a))
-  | inr apart ↦ apart
-]
+other_front p v i j t plain told a = grind (arith, nat_tests, id_eq-is)
 
 pub sent_begins : (p : Pid) (v : View) (q : Pid) (n : ℕ) (i : MsgId) (is : List MsgId) → v.inbox v.acting ≡ i ∷ is → Plain p v i → PairsFit v → Sending p v (v.queue v.acting q ++ v.held v.acting q) (sent_view v q n)
 sent_begins p v q n i is front plain fits =

@@ -2,6 +2,8 @@
 use Rattle.dm_movelaws.proofs.Names.{◌≡◌, ℕ, ◌≤◌, ◌&&◌, Bool, true, false, refl, ap, ◌∙◌, sym, subst, inl, inr, Option, Some, cases_Bool, false≢true, Pid, pid_eq, MsgId, MessageKind, id_eq, plain_kind, PlainMessage, PlainWhat, id_eq-is}
 use Rattle.dm_movelaws.proofs.Names.{Line, Point, Spot, times, ids_at, standing, View, Told, view_after, is_put, hushed, not_true, Sane, is_moving}
 pub use Rattle.dm_rulelaws.proofs.Found.Parts.{own_fresh as own_untold}
+use Rattle.dm_movelaws.proofs.Names.{nat_tests}
+use Rattle.dm_movelaws.proofs.Names.{arith}
 
 abbrev pub is_migrate : MessageKind → Bool
 is_migrate MessageKind.Migrate = true
@@ -27,12 +29,7 @@ pub smooth_same : (p : Pid) (v : View) → Smooth p v v
 smooth_same p v = record { kept = λ i t e. e; fresh = λ i t e a. e; on = λ i t e a s. s; back = λ i t e a s. s }
 
 pub smooth_trans : (p : Pid) (u v w : View) → Smooth p u v → Smooth p v w → Smooth p u w
-smooth_trans p u v w h k = record {
-  kept = λ i t e. k.kept i t (h.kept i t e);
-  fresh = λ i t e a. h.fresh i t (k.fresh i t e a) a;
-  on = λ i t e a s. k.on i t (h.kept i t e) a (h.on i t e a s);
-  back = λ i t e a s. h.back i t e a (k.back i t (h.kept i t e) a s);
-}
+smooth_trans p u v w h k = grind (arith, nat_tests)
 
 -- what a machine knows of the process makes it wait before and behind, or neither
 abbrev pub Still : Pid → View → View → Type 0
@@ -57,33 +54,18 @@ pub stands_was : (v w : View) (j : MsgId) → ((z : Spot) → standing w j z ≡
 stands_was v w j e (z, s) = (z, subst (λ n. 1 ≤ n) (e z) s)
 
 pub smooth_others : (p : Pid) (v w : View) (i : MsgId) → Plain p v i → Plain p w i → ((t : Told) → v.told i ≡ Some t → w.told i ≡ Some t) → Others v w i → Smooth p v w
-smooth_others p v w i plain after kept h = record {
-  kept = λ j t e. elim (cases_Bool (id_eq i j)) [
-    | inl same ↦ let is : i ≡ j = id_eq-is i j same in subst (λ (x : MsgId). w.told x ≡ Some t) is (kept t (ap v.told is ∙ e))
-    | inr apart ↦ h.told j apart ∙ e
-  ];
-  fresh = λ j t e a. sym (h.told j (other_than p w i j t after e a)) ∙ e;
-  on = λ j t e a s. stands_as v w j (h.spots j (other_than p v i j t plain e a)) s;
-  back = λ j t e a s. stands_was v w j (h.spots j (other_than p v i j t plain e a)) s;
-}
+smooth_others p v w i plain after kept h = grind (arith, nat_tests, id_eq-is, other_than, stands_as, stands_was)
 
 -- nothing stands elsewhere
 pub smooth_still : (p : Pid) (v w : View) → ((i : MsgId) → w.told i ≡ v.told i) → ((i : MsgId) (z : Spot) → standing w i z ≡ standing v i z) → Smooth p v w
-smooth_still p v w told spots = record {
-  kept = λ i t e. told i ∙ e;
-  fresh = λ i t e a. sym (told i) ∙ e;
-  on = λ i t e a s. stands_as v w i (spots i) s;
-  back = λ i t e a s. stands_was v w i (spots i) s;
-}
+smooth_still p v w told spots = grind (arith, nat_tests, stands_as, stands_was)
 
 pub told_by : (v : View) (l : Line) → is_put l ≡ false → (j : MsgId) → (view_after v l).told j ≡ v.told j
 told_by v l quiet j = ap (λ (f : MsgId → Option Told). f j) (hushed v l quiet).told
 
 -- a line that tells nothing and moves one message
 pub hushed_smooth : (p : Pid) (v : View) (l : Line) (i : MsgId) → is_put l ≡ false → Plain p v i → ((j : MsgId) → id_eq i j ≡ false → (z : Spot) → standing (view_after v l) j z ≡ standing v j z) → Smooth p v (view_after v l)
-hushed_smooth p v l i quiet plain spots =
-    let same = told_by v l quiet in
-    smooth_others p v (view_after v l) i plain (λ t told. plain t (sym (same i) ∙ told)) (λ t told. same i ∙ told) (record { told = λ j apart. same j; spots = spots })
+hushed_smooth p v l i quiet plain spots = grind (arith, nat_tests, told_by, smooth_others)
 
 -- a line that moves none
 pub moves_none : (p : Pid) (v : View) (l : Line) → is_put l ≡ false → ((z : Spot) → ids_at (view_after v l) z ≡ ids_at v z) → Smooth p v (view_after v l)

@@ -10,6 +10,7 @@ use Rattle.dm_movelaws.proofs.Ends.Smooth.{Extends, told_by}
 use Rattle.dm_movelaws.proofs.Ends.Parts.{first_kept}
 use Rattle.dm_movelaws.proofs.Leading.{All, Behind, whatever_put, parts_lead}
 use Rattle.dm_movelaws.proofs.Leading.{Saying, outcome_says}
+use Rattle.dm_movelaws.proofs.Names.{nat_tests}
 
 -- nothing was routed from another machine
 abbrev pub Sources : ℕ → View → Type 0
@@ -73,33 +74,16 @@ pub record Acts (n : ℕ) (f : MsgId → Option Told) (v : View) : Type 0 where
   pub grows : Extends f v.told
 
 line_acts : (n : ℕ) (f : MsgId → Option Told) (v : View) (l : Line) → is_head l ≡ false → is_put l ≡ false → Acts n f v → Acts n f (view_after v l)
-line_acts n f v l head quiet h = record {
-  acting = subst (λ (m : ℕ). m < n) (sym (line_acting v l head)) h.acting;
-  sources = λ a b le. line_ids v l quiet a b ∙ h.sources a b le;
-  grows = λ i t e. told_by v l quiet i ∙ h.grows i t e;
-}
+line_acts n f v l head quiet h = grind (arith, nat_tests, line_acting, line_ids, told_by)
 
 other_source : (a c n : ℕ) → a < n → n ≤ c → (a == c) ≡ false
-other_source a c n less le = elim (cases_Bool (a == c)) [
-  | inl same ↦ absurd (let e : a ≡ c = eq_is a c same in omega (arith, e, less, le))
-  | inr apart ↦ apart
-]
+other_source a c n less le = grind (arith, nat_tests, eq_is)
 
 put_grows : (v : View) (a b : ℕ) (i : MsgId) (k : MessageKind) (q : Pid) → Extends v.told (after_put v a b i k q).told
-put_grows v a b i k q j t e = elim (cases_Bool (id_eq i j)) [
-  | inl same ↦
-      let ij : i ≡ j = id_eq-is i j same in
-      let u : Told = record { kind = k; receiver = q; about = v.topic } in
-      subst (λ (x : MsgId). (after_put v a b i k q).told x ≡ Some t) ij (put_at v a b i k q ∙ first_kept (v.told i) u t (ap v.told ij ∙ e))
-  | inr apart ↦ put_told_off v a b i j k q apart ∙ e
-]
+put_grows v a b i k q j t e = grind (arith, nat_tests, id_eq-is, put_at, first_kept, put_told_off)
 
 put_acts : (n : ℕ) (f : MsgId → Option Told) (v : View) (b : ℕ) (i : MsgId) (k : MessageKind) (q : Pid) → Acts n f v → Acts n f (after_put v v.acting b i k q)
-put_acts n f v b i k q h = record {
-  acting = h.acting;
-  sources = λ c d le. ap (λ (t : Bool). (if t && (b == d) then view.routed_on v.acting b (v.pair v.acting b) i else v.pair c d).ids) (other_source v.acting c n h.acting le) ∙ h.sources c d le;
-  grows = λ j t e. put_grows v v.acting b i k q j t (h.grows j t e);
-}
+put_acts n f v b i k q h = grind (arith, nat_tests, other_source, put_grows)
 
 -- parts
 abbrev IsSaid : Line → Type 0

@@ -12,6 +12,7 @@ use Rattle.dm_movelaws.proofs.Ends.Open.{level_balance, smooth_opens}
 use Rattle.dm_movelaws.proofs.Ends.Rows.{Turn, Comes, between_plain, first_smooth, line_then, line_alone, due_moves, other_still, set_here, level_row, level_still, quiet_row, about_same}
 use Rattle.dm_movelaws.proofs.Ends.Sends.{all_sent, sent_smooth, sends_count, sent_begins, handled_smooth, rejoins_smooth}
 use Rattle.dm_movelaws.proofs.Names.{label_of, is_put, touches}
+use Rattle.dm_movelaws.proofs.Names.{nat_tests}
 
 abbrev pub ComesOf : Pid → (pt : Point) → InPhases pt.view → Option (List Part) → Type 0
 ComesOf p pt h None = ⊤
@@ -26,10 +27,7 @@ kernel_quiet p v k b e = (ap (λ (c : Bool). c && pid_eq p (pid_of b 0)) e, tt)
 -- a step that makes no machine wait
 step_comes : (p : Pid) (pt : Point) (i : MsgId) (is : List MsgId) (t : Told) (l : Line) (k : MessageKind) (b : ℕ) (h : Turn pt i is t) → is_between t.kind ≡ true → label_of l ≡ None → is_put l ≡ false → touches l ≡ false
     → ((z : Spot) → ids_at (view_after pt.view l) z ≡ ids_at (handled_first pt.view) z) → Still p pt.view (view_after pt.view l) → is_migrate k ≡ false → ((f : MsgId → Option Told) → ends f p l ≡ false) → asks p l ≡ false → ComesOf p pt h.phases (Some (Says l ∷ to_kernel k b ∷ []))
-step_comes p pt i is t l k b h between none quiet calm off still plain ended silent w e =
-    let next = kernel_quiet p (view_after pt.view l) k b plain in
-    let rest = line_then p pt l (to_kernel k b ∷ []) w none quiet calm h.sane h.fits next (owns_loose k b (moved pt l pt.kernel)) e in
-    level_row p pt h.phases l (to_kernel k b ∷ []) w (first_smooth p pt.view l i is h.front (between_plain p pt.view i t h.told between) quiet off) next rest ended silent (λ g. level_still p pt h.phases l w still rest g)
+step_comes p pt i is t l k b h between none quiet calm off still plain ended silent w e = search (kernel_quiet, line_then, owns_loose, level_row, first_smooth, between_plain, level_still)
 
 -- the destination accepts, and waits for the process
 accepted_comes : (p : Pid) (pt : Point) (i : MsgId) (is : List MsgId) (t : Told) (q : Pid) (b : ℕ) (h : Turn pt i is t) → is_between t.kind ≡ true → t.about ≡ Of q → ComesOf p pt h.phases (Some (Says (Line.Migration Stage.Accepted q) ∷ to_kernel MessageKind.PullState b ∷ []))
@@ -109,8 +107,7 @@ restarted_comes p pt i is t q h between about w e =
     let l = Line.Migration Stage.Restarted q in
     let u = rejoins (handled_first v) q in
     let back : Smooth p v u = smooth_trans p v (handled_first v) u (handled_smooth p v i is h.front (between_plain p v i t h.told between)) (rejoins_smooth p (handled_first v) q) in
-    let first : Smooth p v (view_after v l) = smooth_trans p v u (view_after v l) back (smooth_still p u (view_after v l) (λ j. refl) (λ j z. ap (times j) (restarted_off v q z))) in
-    comes_back p pt i is t q l w h between about first (λ m r. refl) (line_then p pt l [] w refl refl refl h.sane h.fits tt tt e) (line_alone pt l w refl e) (λ f. refl) refl
+    search (smooth_trans, smooth_still, restarted_off, comes_back, line_then, line_alone)
 
 -- a process has left: what waited for it goes on, and the destination waits for it still
 abbrev leaving : ℕ → MsgId → Pid → List MsgId → List Part
@@ -121,14 +118,7 @@ target_expects : (p q : Pid) (pt : Point) (i : MsgId) (is : List MsgId) (t : Tol
 target_expects p q pt i is t h all about same =
     let v = pt.view in
     let u = due pt i is t h.phases h.front h.told (ap is_between all) in
-    let uq : u.p ≡ q = about_same u.p q (sym (ap (λ (y : Told). y.about) u.told) ∙ about) in
-    let pu : p ≡ u.p = pid_eq-is p q same ∙ sym uq in
-    let kind_is : u.k ≡ MessageKind.AllTaken = sym (ap (λ (y : Told). y.kind) u.told) ∙ all in
-    let phase : h.phases.of p ≡ Moves MessageKind.AllTaken u.s u.d (Some i) = ap h.phases.of pu ∙ u.phase ∙ ap (λ (k : MessageKind). Moves k u.s u.d (Some i)) kind_is in
-    let acting : v.acting ≡ u.s = u.acting ∙ ap (λ (k : MessageKind). receiver_in k u.s u.d) kind_is in
-    let far : (u.s == u.d) ≡ false = not_false (u.s == u.d) (parts (is_between MessageKind.AllTaken) (not (u.s == u.d)) (sym (ap is_apart phase) ∙ (h.phases.each p).apart)).1 in
-    let known : knows (Moves MessageKind.AllTaken u.s u.d (Some i)) u.d (v.known u.d p) ≡ true = sym (ap (λ (x : Phase). knows x u.d (v.known u.d p)) phase) ∙ (h.phases.each p).known u.d in
-    (u.d, ap (λ (m : ℕ). m == u.d) acting ∙ far, target_waits MessageKind.AllTaken u.s (v.known u.d p) refl (knows_target MessageKind.AllTaken u.s u.d (Some i) (v.known u.d p) far known))
+    grind (arith, nat_tests, about_same, pid_eq-is, not_false, parts, target_waits)
 
 first_off_and : (b c : Bool) → b ≡ false → (b && c) ≡ false
 first_off_and b c e = ap (λ (x : Bool). x && c) e

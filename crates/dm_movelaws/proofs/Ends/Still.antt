@@ -5,6 +5,8 @@ use Rattle.dm_movelaws.proofs.Names.{is_for}
 use Rattle.dm_rule.specs.View as view
 use Rattle.dm_movelaws.proofs.Ends.Smooth.{Extends, Still}
 use Rattle.dm_movelaws.proofs.Ends.Lines.{QuietLine, Foreign, follows_or}
+use Rattle.dm_movelaws.proofs.Names.{nat_tests}
+use Rattle.dm_movelaws.proofs.Names.{arith}
 
 pub still_same : (p : Pid) (v : View) → Still p v v
 still_same p v m = refl
@@ -17,12 +19,7 @@ still_by p v w e m = ap is_moving (e m p)
 
 -- one machine knows something else of one process
 pub set_still : (f : ℕ → Pid → Known) (a : ℕ) (q : Pid) (x : Known) → is_moving x ≡ is_moving (f a q) → (m : ℕ) (p : Pid) → is_moving (at_record f a q x m p) ≡ is_moving (f m p)
-set_still f a q x e m p = elim (cases_Bool ((a == m) && pid_eq q p)) [
-  | inl same ↦
-      let both = parts (a == m) (pid_eq q p) same in
-      ap (λ (c : Bool). is_moving (if c then x else f m p)) same ∙ e ∙ ap (λ (n : ℕ). is_moving (f n q)) (eq_is a m both.0) ∙ ap (λ (r : Pid). is_moving (f m r)) (pid_eq-is q p both.1)
-  | inr apart ↦ ap (λ (c : Bool). is_moving (if c then x else f m p)) apart
-]
+set_still f a q x e m p = grind (arith, nat_tests, parts, eq_is, pid_eq-is)
 
 ended_still : (p : Pid) (v : View) (q : Pid) → v.known v.acting q ≡ Here → Still p v (view.ended v q)
 ended_still p v q here m = set_still v.known v.acting q Ended (sym (ap is_moving here)) m p
@@ -31,10 +28,7 @@ served_by : (p : Pid) (v : View) (o : Option Told) (t : Told) → o ≡ Some t �
 served_by p v o t e h = subst (λ (x : Option Told). Still p v (view.served_told v x)) (sym e) h
 
 served_still : (p : Pid) (v : View) (id : MsgId) → Serves v id → Still p v (view_after v (Line.Label (Label.Served id)))
-served_still p v id h =
-    let u = handled v id in
-    let s : Still p u (view.served_told u (v.told id)) = served_by p u (v.told id) h.told h.is (killed_or (λ (w : View). Still p u w) h.told.kind u h.told.receiver (λ k. ended_still p u h.told.receiver (h.rests k).here) (λ k. still_same p u)) in
-    λ m. s m
+served_still p v id h = grind (arith, nat_tests, served_by, killed_or, ended_still, still_same)
 
 label_still : (p : Pid) (pt : Point) (l : Label) → NeedsLabel pt l → Still p pt.view (view_after pt.view (Line.Label l))
 label_still p pt (Label.End q y) need = ended_still p pt.view q need.here
