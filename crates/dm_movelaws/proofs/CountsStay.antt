@@ -6,6 +6,7 @@ use Rattle.dm_movelaws.proofs.Names.{gives_to, is_filled, in_next, refilled, Cou
 use Rattle.dm_rule.specs.View as view
 use Rattle.dm_movelaws.proofs.After.{group_after}
 use Rattle.dm_movelaws.proofs.Updates.Always.{updates_always}
+use Rattle.dm_movelaws.proofs.Promise.Before.{neither as either}
 
 abbrev count_of : Addresses → Holder → ℕ
 count_of a h = (a h).moves
@@ -14,9 +15,6 @@ same_count : (a c : Addresses) (h : Holder) → c h ≡ a h → count_of a h ≤
 same_count a c h e = let f : count_of c h ≡ count_of a h = ap (λ (p : Place). p.moves) e in omega (arith, f)
 
 -- what a label gives
-either : (b c : Bool) → (b || c) ≡ false → (b ≡ false) × (c ≡ false)
-either true c e = absurd (false≢true (sym e))
-either false c e = (refl, e)
 
 not_given : (a : Addresses) (gs : List Gets) (h : Holder) → gives_to h gs ≡ false → given a gs h ≡ a h
 not_given a [] h e = refl

@@ -5,6 +5,9 @@ use Rattle.dm_movelaws.proofs.Names.{is_early, Point, View, Known, Unknown, Here
 use Rattle.dm_onekernel.specs.Step as kernel
 use Rattle.dm_rule.specs.Ends.{awaits}
 use Rattle.dm_rule.specs.Phases as phases
+use Rattle.dm_movelaws.proofs.At.RestAlways.{is_unknown_is as unknown_by}
+use Rattle.dm_movelaws.proofs.Trail.Known.{over_is as over_by}
+use Rattle.dm_movelaws.proofs.Stages.Spares.{restart_late}
 
 -- the first of so many machines that is looked for
 record Finds (f : Known → Option Standing) (v : View) (p : Pid) (n : ℕ) : Type 0 where
@@ -114,10 +117,6 @@ leaves_or k d (Forward m moves) e = inr (first (is_restart k) (d == m) e)
     first false b e = absurd (false≢true e)
 leaves_or k d _ e = absurd (false≢true e)
 
-restart_late : (k : MessageKind) → is_restart k ≡ true → is_early k ≡ false
-restart_late MessageKind.Restart e = refl
-restart_late k e = absurd (false≢true e)
-
 comes_stands : (k : MessageKind) (s : ℕ) (x : Known) → is_early k ≡ false → phases.kind_comes k s x ≡ true → stands_by x ≡ Some Standing.Arriving
 comes_stands k s (Incoming m) late e = refl
 comes_stands k s Unknown late e = absurd (false≢true (sym late ∙ e))
@@ -146,13 +145,6 @@ moves_stands v p k s d id h =
     other false true e = absurd (false≢true e)
 
 -- a living process is in none of the other phases
-unknown_by : (k : Known) → is_unknown k ≡ true → k ≡ Unknown
-unknown_by Unknown e = refl
-unknown_by _ e = absurd (false≢true e)
-
-over_by : (k : Known) → is_over k ≡ true → k ≡ Known.Ended
-over_by Known.Ended e = refl
-over_by _ e = absurd (false≢true e)
 
 somewhere : (v : View) (p : Pid) (phase : Phase) (l : Option Life) (x : PlainProcess) → IsIn v p phase → l ≡ Some (Alive x) → ((m : ℕ) → agrees (v.known m p) l ≡ true) → v.known p.home p ≢ Unknown → Somewhere v p
 somewhere v p Nowhere l x h alive agree home = absurd (home (unknown_by (v.known p.home p) (h.known p.home)))

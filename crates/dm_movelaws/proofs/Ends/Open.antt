@@ -44,7 +44,7 @@ shorter_by i j js false is least h =
     let rest = h (omega (arith, least, zero_)) in
     ap suc rest
 
-shorter : (i : MsgId) (js : List MsgId) → 1 ≤ times i js → length js ≡ suc (length (without_id i js))
+pub shorter : (i : MsgId) (js : List MsgId) → 1 ≤ times i js → length js ≡ suc (length (without_id i js))
 shorter i [] least = absurd (omega arith)
 shorter i (j ∷ js) least = shorter_by i j js (id_eq i j) refl least (λ x. shorter i js x)
 

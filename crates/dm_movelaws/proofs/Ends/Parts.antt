@@ -100,7 +100,7 @@ says_rest p pt s l h fits quiet need step =
 untold_plain : (p : Pid) (v : View) (i : MsgId) → v.told i ≡ None → Plain p v i
 untold_plain p v i none t told = absurd (let f : None ≡ Some t = sym none ∙ told in cc)
 
-first_off : (b c : Bool) → b ≡ false → (b && c) ≡ false
+pub first_off : (b c : Bool) → b ≡ false → (b && c) ≡ false
 first_off b c e = ap (λ (x : Bool). x && c) e
 
 rest_behind : (p : Pid) (pt : Point) (x : Part) → Sane pt → PairsFit pt.view → Quiet p pt.view x → NeedsPart pt x → Behind (λ q. Rest p pt.view q.view) pt x

@@ -10,6 +10,7 @@ use Rattle.dm_movelaws.proofs.Ends.Parts.{packet_smooth, part_count}
 use Rattle.dm_movelaws.proofs.Ends.Rows.{front_one, first_spots}
 pub use Rattle.dm_rule.proofs.Moves.States.{again_told}
 use Rattle.dm_movelaws.proofs.Leading.{puts_lead}
+use Rattle.dm_movelaws.proofs.Ends.Smooth.{other_than as other_front}
 
 -- one message stands elsewhere, and the others where they stood
 pub smooth_moves : (p : Pid) (v w : View) (i : MsgId) → ((j : MsgId) → w.told j ≡ v.told j) → Somewhere v i → Somewhere w i → ((j : MsgId) → id_eq i j ≡ false → (z : Spot) → standing w j z ≡ standing v j z) → Smooth p v w
@@ -178,12 +179,6 @@ both_stand v q i least =
       | inl none ↦ (Held v.acting q, omega (arith, least, sum, none))
       | inr some ↦ (Queue v.acting q, some)
     ]
-
-other_front : (p : Pid) (v : View) (i j : MsgId) (t : Told) → Plain p v i → v.told j ≡ Some t → asks_for p t ≡ true → id_eq i j ≡ false
-other_front p v i j t plain told a = elim (cases_Bool (id_eq i j)) [
-  | inl same ↦ absurd (false≢true (sym (plain t (ap v.told (id_eq-is i j same) ∙ told)) ∙ a))
-  | inr apart ↦ apart
-]
 
 pub sent_begins : (p : Pid) (v : View) (q : Pid) (n : ℕ) (i : MsgId) (is : List MsgId) → v.inbox v.acting ≡ i ∷ is → Plain p v i → PairsFit v → Sending p v (v.queue v.acting q ++ v.held v.acting q) (sent_view v q n)
 sent_begins p v q n i is front plain fits =

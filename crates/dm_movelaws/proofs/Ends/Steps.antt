@@ -12,6 +12,7 @@ use Rattle.dm_movelaws.proofs.Ends.Open.{level_balance, smooth_opens}
 use Rattle.dm_movelaws.proofs.Ends.Rows.{Turn, Comes, between_plain, first_smooth, line_then, line_alone, due_moves, other_still, set_here, level_row, level_still, quiet_row, about_same}
 use Rattle.dm_movelaws.proofs.Ends.Sends.{all_sent, sent_smooth, sends_count, sent_begins, handled_smooth, rejoins_smooth}
 use Rattle.dm_movelaws.proofs.Names.{label_of, is_put, touches}
+use Rattle.dm_movelaws.proofs.Ends.Parts.{first_off as first_off_and}
 
 abbrev pub ComesOf : Pid → (pt : Point) → InPhases pt.view → Option (List Part) → Type 0
 ComesOf p pt h None = ⊤
@@ -129,9 +130,6 @@ target_expects p q pt i is t h all about same =
     let far : (u.s == u.d) ≡ false = not_false (u.s == u.d) (parts (is_between MessageKind.AllTaken) (not (u.s == u.d)) (sym (ap is_apart phase) ∙ (h.phases.each p).apart)).1 in
     let known : knows (Moves MessageKind.AllTaken u.s u.d (Some i)) u.d (v.known u.d p) ≡ true = sym (ap (λ (x : Phase). knows x u.d (v.known u.d p)) phase) ∙ (h.phases.each p).known u.d in
     (u.d, ap (λ (m : ℕ). m == u.d) acting ∙ far, target_waits MessageKind.AllTaken u.s (v.known u.d p) refl (knows_target MessageKind.AllTaken u.s u.d (Some i) (v.known u.d p) far known))
-
-first_off_and : (b c : Bool) → b ≡ false → (b && c) ≡ false
-first_off_and b c e = ap (λ (x : Bool). x && c) e
 
 left_comes : (p : Pid) (pt : Point) (i : MsgId) (is : List MsgId) (t : Told) (q : Pid) (to : ℕ) (h : Turn pt i is t) → t.kind ≡ MessageKind.AllTaken → t.about ≡ Of q → ComesOf p pt h.phases (Some (leaving to i q (pt.view.queue pt.view.acting q ++ pt.view.held pt.view.acting q)))
 left_comes p pt i is t q to h all about w e g listed opens =

@@ -6,7 +6,7 @@ use Rattle.dm_onekernel.specs.Step as kernel
 use Rattle.dm_rule.proofs.Homes.Serves.{Named}
 use Rattle.dm_movelaws.proofs.Promise.Slots.{same_given, gives_same}
 
-neither : (c d : Bool) → (c || d) ≡ false → (c ≡ false) × (d ≡ false)
+pub neither : (c d : Bool) → (c || d) ≡ false → (c ≡ false) × (d ≡ false)
 neither true d e = absurd (false≢true (sym e))
 neither false d e = (refl, e)
 

@@ -30,7 +30,7 @@ about_rises s t (Of p) h e = real_rises s t p h e
 about_rises s t (view.Place p at moves) h e = real_rises s t p h e
 about_rises s t _ h e = tt
 
-made_by : (a b : Option Life) → LifeGrows a b → is_some a ≡ true → is_some b ≡ true
+pub made_by : (a b : Option Life) → LifeGrows a b → is_some a ≡ true → is_some b ≡ true
 made_by a (Some l) g e = refl
 made_by a None g e = absurd (false≢true (sym (ap is_some (grown_none a None g refl)) ∙ e))
 

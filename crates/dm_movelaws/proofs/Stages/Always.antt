@@ -130,7 +130,7 @@ group_marked b pt d w e h p =
     (head_marked pt.view (begun pt d).view g.rest.point.view p (marks_of p g.parts) (head_calm pt.view d) (outcome_marked b pt d g.parts g.rest h g.is g.said p)))
 
 -- groups
-not_due : (v : View) (h : InPhases v) (p : Pid) → is_due (h.of p) ≡ false
+pub not_due : (v : View) (h : InPhases v) (p : Pid) → is_due (h.of p) ≡ false
 not_due v h p = not_true (is_due (h.of p)) (λ e. let f : None ≡ Some p = h.put p e in cc)
 
 pub run_marked : (b : Boot) (es : List Step) (ls : List Line) (pt end : Point) (p : Pid) → LeadsBy b pt es ls end → (h : Phased pt) → in_order (mark_in (h.phases.of p)) (marks p ls) ≡ true
@@ -144,7 +144,7 @@ run_marked b (d ∷ ds) ls pt end p (w, rest, fit, is, split, more) h =
     ∙ order-append o (marks p w.lines) (marks p rest) g.0 (ap (λ (x : Option Mark). in_order x (marks p rest)) g.1 ∙ later)
 
 -- nothing is told of before the first line
-start_mark : (b : Boot) (p : Pid) (a : Phase) → IsIn (first_view b) p a → is_due a ≡ false → mark_in a ≡ None
+pub start_mark : (b : Boot) (p : Pid) (a : Phase) → IsIn (first_view b) p a → is_due a ≡ false → mark_in a ≡ None
 start_mark b p (Moves k s d None) h due = cc
 start_mark b p (Moves k s d (Some i)) h due = absurd (let e = h.token.told in cc)
 start_mark b p _ h due = refl

@@ -8,6 +8,8 @@ use Rattle.dm_movelaws.proofs.Stages.Spares.{restart_late}
 use Rattle.dm_movelaws.proofs.Trail.Always.{Holds, carries}
 use Rattle.dm_movelaws.proofs.Trail.Placed.{is_held, Placed}
 use Rattle.dm_movelaws.proofs.Names.{nat_tests}
+use Rattle.dm_movelaws.proofs.At.RestAlways.{is_here_is as here_is}
+use Rattle.dm_movelaws.proofs.At.RestAlways.{is_unknown_is as unknown_is}
 
 abbrev trodden : Point → Trails → Trodden
 trodden pt t = record { point = pt; trails = t }
@@ -39,9 +41,6 @@ trod_on b (e ∷ es) pt end (w, fit, is, rest) h =
     })
 
 -- a process that doesn't move is where its trail ends
-unknown_is : (x : Known) → is_unknown x ≡ true → x ≡ Unknown
-unknown_is Unknown e = refl
-unknown_is _ e = absurd (false≢true e)
 
 here_held : (x : Known) → is_here x ≡ true → is_held x ≡ true
 here_held Here e = refl
@@ -81,11 +80,8 @@ long_in v t p (Over at) h on still = on.long at (over_held (v.known at p) (at_se
 long_in v t p (Moves k s d o) h on still = absurd (never_moves v p k s d o h still)
 
 -- and it is there
-here_is : (x : Known) → is_here x ≡ true → x ≡ Here
-here_is Here e = refl
-here_is _ e = absurd (false≢true e)
 
-over_is : (x : Known) → is_over x ≡ true → x ≡ Ended
+pub over_is : (x : Known) → is_over x ≡ true → x ≡ Ended
 over_is Ended e = refl
 over_is _ e = absurd (false≢true e)
 

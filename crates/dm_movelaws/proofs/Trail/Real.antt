@@ -31,7 +31,7 @@ record Passing (s : OneKernel) (v : View) : Type 0 where
 abbrev Goes : OneKernel → OneKernel → Type 0
 Goes s t = (p : Pid) → WasMade s p → WasMade t p
 
-none_is : (o : Option Life) → is_some o ≡ false → o ≡ None
+pub none_is : (o : Option Life) → is_some o ≡ false → o ≡ None
 none_is None e = refl
 none_is (Some x) e = absurd (false≢true (sym e))
 

@@ -8,6 +8,7 @@ use Rattle.dm_movelaws.proofs.Trail.Always.{Holds, carries}
 use Rattle.dm_movelaws.proofs.Trail.Placed.{is_held}
 use Rattle.dm_movelaws.proofs.Trail.Real.{named_made}
 use Rattle.dm_movelaws.proofs.Names.{nat_tests}
+use Rattle.dm_movelaws.proofs.Trail.Real.{none_is}
 
 abbrev trodden : Point → Trails → Trodden
 trodden pt t = record { point = pt; trails = t }
@@ -66,9 +67,6 @@ place_is : (place : Place) (m : ℕ) → place.moves ≡ 0 → place.at ≡ m �
 place_is place m moves at = λ i. record { at = at i; moves = moves i }
 
 -- what was never made
-none_is : (o : Option Life) → is_some o ≡ false → o ≡ None
-none_is None e = refl
-none_is (Some x) e = absurd (false≢true (sym e))
 
 agrees_none : (k : Known) → agrees k None ≡ true → k ≡ Unknown
 agrees_none Unknown e = refl

@@ -8,6 +8,7 @@ use Rattle.dm_rule.specs.Addresses as addresses
 use Rattle.dm_rule.specs.View as view
 use Rattle.dm_movelaws.proofs.Updates.Groups.{Handled, handled_by}
 use Rattle.dm_movelaws.proofs.Updates.Listed.{listed}
+use Rattle.dm_movelaws.proofs.Promise.Before.{neither as either}
 
 -- what it tells
 record Tells (a : About) : Type 0 where
@@ -60,10 +61,6 @@ behind_is s a q p c h x mine leads e =
 ended_none : (o : Option Life) → agrees Ended o ≡ true → kernel.alive o ≡ None
 ended_none (Some (Alive x)) e = absurd (false≢true e)
 ended_none _ e = refl
-
-either : (b c : Bool) → (b || c) ≡ false → (b ≡ false) × (c ≡ false)
-either true c e = absurd (false≢true (sym e))
-either false c e = (refl, e)
 
 none_listed : (s : OneKernel) (q : Pid) → is_server q ≡ false → kernel.alive (s.processes q) ≡ None → holders_of s q ≡ []
 none_listed s q server none =
