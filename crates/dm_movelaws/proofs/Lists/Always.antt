@@ -1,6 +1,6 @@
 -- Messages wait only where a machine has a list for them.
 use Rattle.dm_movelaws.proofs.Names.{◌≡◌, ℕ, ◌+◌, ◌≤◌, Bool, true, false, List, [], ◌∷◌, refl, ap, ◌∙◌, subst, arith, if◌then◌else◌, Some, Pid, MsgId, PlainMessage, Boot, IsValid, id_eq-same, Step, Line, Leads, Part, Spelled, Point}
-use Rattle.dm_movelaws.proofs.Names.{first_point, moved, group_of, Inbox, times, View, is_server, Both, both_start, both_group, Run, run_start, run_group, ListsAlways, some_is, by_outcome, by_group}
+use Rattle.dm_movelaws.proofs.Names.{first_point, moved, group_of, Inbox, times, View, is_server, Both, both_start, both_group, Run, run_start, run_group, ListsAlways, some_is, by_outcome, by_group, run_always}
 use Rattle.dm_rule.specs.Rule as rule
 use Rattle.dm_movelaws.proofs.At.RestQueues.{drops_always}
 use Rattle.dm_movelaws.proofs.Lists.Hears.{migrates_ok}
@@ -8,7 +8,6 @@ use Rattle.dm_movelaws.proofs.Lists.Parts.{ForProcess, NoQueues, AllOk, nets_ok,
 use Rattle.dm_movelaws.proofs.Lists.Hears.{hears_ok}
 use Rattle.dm_movelaws.proofs.Lists.Turns.{round_ok, handles_ok}
 use Rattle.dm_movelaws.proofs.After.{keeps_always}
-use Rattle.dm_movelaws.proofs.Names.{run_always}
 
 at_front : (xs is : List MsgId) (i : MsgId) → xs ≡ i ∷ is → 1 ≤ times i xs
 at_front xs is i e =

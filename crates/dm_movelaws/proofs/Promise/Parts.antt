@@ -2,12 +2,11 @@
 use Rattle.dm_movelaws.proofs.Names.{◌≡◌, ◌⊎◌, ℕ, ◌≤◌, ◌==◌, ◌&&◌, Bool, true, false, List, [], ◌∷◌, ◌++◌, length, refl, ap, ◌∙◌, sym, subst, inl, inr, arith, ⊤, if◌then◌else◌, Option, None, Some, cases_Bool, false≢true, Pid, MsgId}
 use Rattle.dm_movelaws.proofs.Names.{MessageKind, plain_kind, id_eq, bind, id_eq-is, id_eq-same, bind-is, Line, Stage, Load, View, Told, is_kernels, own_id, view_after, Receiver, Point, label_of, kernel_after, after, moved, Part, Says}
 use Rattle.dm_movelaws.proofs.Names.{Routes, Again, Owns, Transmits, Spelled, lines_of, puts, goes_out, packet_line, behind, spelled, times, sends_on, is_put, not_true, parts, one_of, touches, pair_same, fits_as, PairsFit, fits_put}
-use Rattle.dm_movelaws.proofs.Names.{fits_packet, Sane, Sayable, part_sane, Steps, said_by}
+use Rattle.dm_movelaws.proofs.Names.{fits_packet, Sane, Sayable, part_sane, Steps, said_by, OneKernel}
 use Rattle.dm_movelaws.proofs.Promise.Kept.{lines_told}
 use Rattle.dm_movelaws.proofs.Promise.Spots.{Stands, Spares, line_stands}
 use Rattle.dm_movelaws.proofs.Promise.Stands.{label_stands, put_this, put_stands, packet_stands}
 use Rattle.dm_movelaws.proofs.Leading.{Behind, whatever_put, part_leads}
-use Rattle.dm_onekernel.specs.Kernel.{OneKernel}
 
 -- a kernel's own message that was told of
 pub record Base (j : MsgId) (t : Told) (pt : Point) : Type 0 where

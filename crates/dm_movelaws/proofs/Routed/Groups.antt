@@ -3,14 +3,12 @@ use Rattle.dm_movelaws.proofs.Names.{◌≡◌, ◌⊎◌, ℕ, Bool, true, fals
 use Rattle.dm_movelaws.proofs.Names.{PlainMessage, Boot, Label, OneKernel, id_eq-is, Sound, bind-is, Step, Line, Receiver, Part, Says, Routes, Again, Owns, Transmits, Spelled, puts, packet_line, spelled, Point, label_of, kernel_after}
 use Rattle.dm_movelaws.proofs.Names.{moved, group_of, Inbox, Queue, StandsRight, standing, View, Told, view_after, own_id, BagStep, out_of, bag_sends, bag_ran, bag_call, bag_wait, bag_out, bag_end, bag_refuse, bag_receive, bag_dropped}
 use Rattle.dm_movelaws.proofs.Names.{bag_gone, bag_no_space, bag_created, bag_served, bag_took, group_is, stands_right, is_put, hushed, hidden, put_told_off, Sane, AllSayable, part_sane, outcome_sayable, Rides, Steps, said_by, again_rides}
-use Rattle.dm_movelaws.proofs.Names.{begun, begun_sane, Run, by_parts}
+use Rattle.dm_movelaws.proofs.Names.{begun, begun_sane, Run, by_parts, Sayable, nat_tests}
 use Rattle.dm_onekernel.specs.Step as kernel
 use Rattle.dm_rule.specs.View as view
 use Rattle.dm_movelaws.proofs.Routed.Outs.{LineOuts, PartOuts, AllOuts, outcome_outs}
 use Rattle.dm_movelaws.proofs.Routed.Steps.{is_sent, step_counts}
 use Rattle.dm_movelaws.proofs.Leading.{Behind, whatever_put, sane_lead}
-use Rattle.dm_movelaws.proofs.Names.{Sayable}
-use Rattle.dm_movelaws.proofs.Names.{nat_tests}
 
 -- a message that was told of
 abbrev pub IsTold : View → MsgId → Type 0

@@ -1,11 +1,10 @@
 -- Parts that leave the migration of a process as it is.
 use Rattle.dm_movelaws.proofs.Names.{◌≡◌, ℕ, ◌==◌, Bool, true, false, List, [], ◌∷◌, refl, ap, ◌∙◌, subst, length, if◌then◌else◌, Option, Some, Pid, MsgId, MessageKind, plain_kind, Line, Stage, Load, View, own_id, view_after, Receiver}
 use Rattle.dm_movelaws.proofs.Names.{Point, label_of, kernel_after, moved, after_line, after, Part, Says, Routes, Again, Owns, Transmits, Spelled, lines_of, puts, goes_out, packet_line, spelled, bind-is, is_put, fits_put, fits_packet}
-use Rattle.dm_movelaws.proofs.Names.{touches, pair_same, packet_calm, fits_as, PairsFit, Sane, Sayable, part_sane, by_parts}
+use Rattle.dm_movelaws.proofs.Names.{touches, pair_same, packet_calm, fits_as, PairsFit, Sane, Sayable, part_sane, by_parts, Steps, PacketsKeep}
 use Rattle.dm_movelaws.proofs.Stages.Spares.{Spares, spares_trans, spares_same, spares_calm, spares_put}
 use Rattle.dm_movelaws.proofs.Stages.Lines.{MildLine, Mild, AllMild, TameAt, line_spares}
 use Rattle.dm_movelaws.proofs.Leading.{whatever_put, part_leads}
-use Rattle.dm_movelaws.proofs.Names.{Steps, PacketsKeep}
 
 mild_put : (p : Pid) (o : Option MsgId) (l : Line) → MildLine p o l → is_put l ≡ false
 mild_put p o (Line.Put a b i k q) h = absurd h

@@ -1,12 +1,10 @@
 -- Wherever the rule leads, each address is on the trail of its process, and from there the forwards lead to it.
 use Rattle.dm_movelaws.proofs.Names.{◌≡◌, ℕ, ◌==◌, ◌&&◌, Bool, true, false, refl, ap, ◌∙◌, sym, subst, false≢true, if◌then◌else◌, Some, Boot, IsValid, Step, IsStep, Spelled, group_of, Trodden, first_trails, along, TrailsAlways, Unknown}
-use Rattle.dm_movelaws.proofs.Names.{Here, Forward, first_view, eq_is, starts, start_known, Carries, trails_always_by, Treads, Both, both_start, both_group, run_start, run_group}
+use Rattle.dm_movelaws.proofs.Names.{Here, Forward, first_view, eq_is, starts, start_known, Carries, trails_always_by, Treads, Both, both_start, both_group, run_start, run_group, nat_tests, arith}
 use Rattle.dm_movelaws.proofs.After.{group_after}
 use Rattle.dm_movelaws.proofs.Trail.Placed.{is_held, Places}
 use Rattle.dm_movelaws.proofs.Trail.Walks.{AllGood, good_fit, good_places, along_after}
 use Rattle.dm_movelaws.proofs.Trail.Turns.{group_good}
-use Rattle.dm_movelaws.proofs.Names.{nat_tests}
-use Rattle.dm_movelaws.proofs.Names.{arith}
 
 held_home : (b c : Bool) → is_held (if b && c then Here else Unknown) ≡ true → c ≡ true
 held_home true true e = refl

@@ -2,12 +2,12 @@
 use Rattle.dm_movelaws.proofs.Names.{◌≡◌, ◌≢◌, ℕ, ◌+◌, ◌==◌, not, Bool, true, false, List, [], ◌∷◌, length, refl, ap, ◌∙◌, sym, subst, inl, inr, arith, false≢true, if◌then◌else◌, slice_get, Option, Some, Pid, MsgId, MessageKind, Boot, bind}
 use Rattle.dm_movelaws.proofs.Names.{Step, bind-is, Line, Leads, Phase, Nowhere, Rests, Over, Moves, IsIn, is_away, is_here, is_over, is_unknown, is_restart, is_early, is_between, kind_comes, Point, first_point, after, after_line, Trails}
 use Rattle.dm_movelaws.proofs.Names.{Trodden, first_trodden, along, trails_after, View, Known, Unknown, Here, Frozen, Incoming, Forward, Ended, parts, along_treads, treads_start, Treads, is_moving, IsThere, eq_self, not_false, kind_leaves}
+use Rattle.dm_movelaws.proofs.Names.{nat_tests}
 use Rattle.dm_movelaws.proofs.After.{group_after}
 use Rattle.dm_movelaws.proofs.Promise.Trail.{TrailKnown}
 use Rattle.dm_movelaws.proofs.Stages.Spares.{restart_late}
 use Rattle.dm_movelaws.proofs.Trail.Always.{Holds, carries}
 use Rattle.dm_movelaws.proofs.Trail.Placed.{is_held, Placed}
-use Rattle.dm_movelaws.proofs.Names.{nat_tests}
 use Rattle.dm_movelaws.proofs.At.RestAlways.{is_here_is as here_is}
 use Rattle.dm_movelaws.proofs.At.RestAlways.{is_unknown_is as unknown_is}
 

@@ -3,15 +3,13 @@ use Rattle.dm_movelaws.proofs.Names.{◌≡◌, ℕ, ◌+◌, ◌==◌, not, Boo
 use Rattle.dm_movelaws.proofs.Names.{OneKernel, entry, reception, id_eq-same, after_step, bind-is, Line, Load, View, Told, About, NothingElse, own_id, view_after, handled, after_proto, follows_up, asks_on, taken_id, receiver_of, Receiver}
 use Rattle.dm_movelaws.proofs.Names.{Gets, given, unmoved, goes_between, own_gives, Point, moved, after, Part, Says, Routes, Owns, Transmits, puts, goes_out, packet_line, to_kernel, Trails, IsOn, trails_after, IsNet, IsNetLine, SaidOn}
 use Rattle.dm_movelaws.proofs.Names.{not_kernels, queued_known, held_known, dropped_known, proto_known, Sane, Outside, Treads, LineFits, LabelFits, KnownFits, PutFits, Rides, Steps, said_by, own_outside, own_fresh, queued_moves, held_moves}
-use Rattle.dm_movelaws.proofs.Names.{dropped_moves}
+use Rattle.dm_movelaws.proofs.Names.{dropped_moves, nat_tests, arith}
 use Rattle.dm_onekernel.specs.Step as kernel
 use Rattle.dm_rule.specs.View as view
 use Rattle.dm_rule.specs.Rule as rule
 use Rattle.dm_movelaws.proofs.Trail.Placed.{Places, placed_same}
 use Rattle.dm_movelaws.proofs.Trail.Walks.{Walks, Loose, AllLoose, first_walks, places_ride}
 use Rattle.dm_movelaws.proofs.Leading.{Behind, whatever_put, part_leads}
-use Rattle.dm_movelaws.proofs.Names.{nat_tests}
-use Rattle.dm_movelaws.proofs.Names.{arith}
 
 pub places_same : (v w : View) (t : Trails) → ((m : ℕ) (q : Pid) → w.known m q ≡ v.known m q) → ((q : Pid) → w.moves q ≡ v.moves q) → Places v t → Places w t
 places_same v w t known moves h p = placed_same v w t t p (λ m. known m p) (moves p) refl (h p)

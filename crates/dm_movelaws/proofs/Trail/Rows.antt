@@ -1,14 +1,12 @@
 -- What each row of a turn says fits the trails: processes that run, and messages of the bag.
 use Rattle.dm_movelaws.proofs.Names.{◌≡◌, ℕ, ◌+◌, Bool, true, false, List, [], ◌∷◌, refl, ap, ◌∙◌, sym, subst, arith, ◌||◌, if◌then◌else◌, slice_get, Option, None, Some, Pid, pid_of, MsgId, MessageKind, Label, Line, plain_kind}
 use Rattle.dm_movelaws.proofs.Names.{PlainMessage, Boot, Why, first_number, View, Told, Unknown, Here, Forward, Ended, handled, kills, served_told, view_after, Receiver, Point, moved, Part, Says, Routes, Nowhere, forwards_on, Trails, Trail}
-use Rattle.dm_movelaws.proofs.Names.{ReceivedAt, ended_on, is_fixed, Unborn, said_by, Stops, by_round, by_handles}
+use Rattle.dm_movelaws.proofs.Names.{ReceivedAt, ended_on, is_fixed, Unborn, said_by, Stops, by_round, by_handles, StoodOnTrail, nat_tests}
 use Rattle.dm_onekernel.specs.Pieces as pieces
 use Rattle.dm_rule.specs.Rule as rule
-use Rattle.dm_rule.specs.Trails.{StoodOnTrail}
 use Rattle.dm_movelaws.proofs.Trail.Placed.{is_held, Placed, Places, Learnt, placed_held, places_set, places_held}
 use Rattle.dm_movelaws.proofs.Trail.Walks.{Walks, AllLoose, loose_walks}
 use Rattle.dm_movelaws.proofs.Trail.Loose.{places_same, label_fits, label_walks, routes_loose, idle_loose, queued_loose, held_loose, dropped_loose, drops_loose}
-use Rattle.dm_movelaws.proofs.Names.{nat_tests}
 
 -- a process that runs
 end_walks : (pt : Point) (t : Trails) (p : Pid) (queue : List MsgId) (y : Why) → pt.view.known pt.view.acting p ≡ Here → Places pt.view t → Walks pt t (rule.says (Label.End p y) ∷ rule.drop_parts queue)

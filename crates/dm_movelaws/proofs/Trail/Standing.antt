@@ -3,11 +3,11 @@ use Rattle.dm_movelaws.proofs.Names.{◌≡◌, ◌≢◌, ◌⊎◌, ℕ, zero,
 use Rattle.dm_movelaws.proofs.Names.{slice_get, Option, None, Some, Pid, Place, Boot, IsValid, Life, OneKernel, bind, Step, bind-is, Line, Receiver, Sender, unmoved, Leads, Point, first_point, after, after_line, Trails, Trail, IsOn}
 use Rattle.dm_movelaws.proofs.Names.{Trodden, first_trodden, along, trails_after, View, Known, Unknown, Here, Forward, along_treads, treads_start, trail_leads, Treads, Within, trail_within, is_server, is_fixed, KnownStands, agrees}
 use Rattle.dm_movelaws.proofs.Names.{server_at, LeadsBy, made_free, server_fixed, is_made, has_it, ends_walk, IsNamed, ByHolder, ByOwn, ByRequest, ByUpdate, ByForward, Reaches, IsLast, TrailStands, TrailsStand, IsLed, AddressesLead}
+use Rattle.dm_movelaws.proofs.Names.{nat_tests}
 use Rattle.dm_movelaws.proofs.After.{group_after}
 use Rattle.dm_movelaws.proofs.Trail.Always.{Holds, carries}
 use Rattle.dm_movelaws.proofs.Trail.Placed.{is_held}
 use Rattle.dm_movelaws.proofs.Trail.Real.{named_made}
-use Rattle.dm_movelaws.proofs.Names.{nat_tests}
 use Rattle.dm_movelaws.proofs.Trail.Real.{none_is}
 
 abbrev trodden : Point → Trails → Trodden

@@ -1,11 +1,9 @@
 -- A walk over the parts of a group: their lines fit the trails, and behind the last each process is placed on its trail.
 use Rattle.dm_movelaws.proofs.Names.{◌≡◌, ℕ, ◌==◌, Bool, true, false, List, [], ◌∷◌, ◌++◌, length, refl, ap, ◌∙◌, sym, subst, ⊤, if◌then◌else◌, Option, None, Some, Pid, MsgId, MessageKind, plain_kind, Load, PlainMessage, bind, bind-is}
 use Rattle.dm_movelaws.proofs.Names.{Line, View, Told, own_id, Receiver, Point, moved, after_line, after, Part, Says, Routes, Again, Owns, Transmits, Spelled, lines_of, puts, goes_out, packet_line, spelled, Trails, Trodden, along}
-use Rattle.dm_movelaws.proofs.Names.{trails_after, not_kernels, Sane, AllSayable, part_sane, Treads, LineFits, PutFits, line_treads, Rides, Steps, Said, said_by, plain_own, by_parts}
+use Rattle.dm_movelaws.proofs.Names.{trails_after, not_kernels, Sane, AllSayable, part_sane, Treads, LineFits, PutFits, line_treads, Rides, Steps, Said, said_by, plain_own, by_parts, nat_tests, arith}
 use Rattle.dm_rule.proofs.Trails.Along.{AllFit}
 use Rattle.dm_movelaws.proofs.Trail.Placed.{Places, placed_same}
-use Rattle.dm_movelaws.proofs.Names.{nat_tests}
-use Rattle.dm_movelaws.proofs.Names.{arith}
 
 -- each of these lines fits where the ones before lead, and behind the last each process is placed
 abbrev pub AllGood : Point → Trails → List Line → Type 0
