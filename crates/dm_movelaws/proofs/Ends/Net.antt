@@ -5,11 +5,9 @@ use Rattle.dm_movelaws.proofs.Names.{Untaken, times, untaken, ids_at, standing, 
 use Rattle.dm_movelaws.proofs.Names.{turn_off, tick_off, deliver_off, migrate_off, asks, ends, PacketsKeep}
 use Rattle.dm_movelaws.proofs.Ends.Smooth.{Somewhere, Smooth, Still, smooth_same, smooth_trans, smooth_still, moves_none}
 use Rattle.dm_movelaws.proofs.Ends.Still.{still_trans}
-use Rattle.dm_movelaws.proofs.Ends.Parts.{packet_smooth, part_count, zero_if}
+use Rattle.dm_movelaws.proofs.Ends.Parts.{packet_smooth, part_count, zero_if, none_count}
+use Rattle.dm_movelaws.proofs.Leading.{Saying, net_says, net_lead}
 pub use Rattle.dm_rule.proofs.Moves.Lists.{zero_cases}
-use Rattle.dm_movelaws.proofs.Leading.{Saying, net_says}
-use Rattle.dm_movelaws.proofs.Ends.Parts.{none_count}
-use Rattle.dm_movelaws.proofs.Leading.{net_lead}
 
 pub head_smooth : (p : Pid) (v : View) (s : Step) → Smooth p v (after_head v s)
 head_smooth p v (Step.Turn m) = smooth_still p v (after_head v (Step.Turn m)) (λ i. refl) (λ i z. ap (times i) (turn_off v m z))

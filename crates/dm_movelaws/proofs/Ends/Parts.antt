@@ -3,13 +3,12 @@ use Rattle.dm_movelaws.proofs.Names.{◌≡◌, ℕ, ◌+◌, ◌==◌, ◌&&◌
 use Rattle.dm_movelaws.proofs.Names.{bind-is, Line, Stage, Load, View, Told, view_after, own_id, after_put, Receiver, Point, moved, after, Part, Says, Routes, Again, Owns, Transmits, Spelled, lines_of, puts, goes_out, packet_line, behind}
 use Rattle.dm_movelaws.proofs.Names.{spelled, is_put, touches, pair_same, PairsFit, put_told_off, fits_as, fits_put, fits_packet, Sane, Sayable, part_sane, put_spots, put_at, Needs, NeedsPart, Walks, Steps, Said, said_by, asks, ends, count}
 use Rattle.dm_movelaws.proofs.Names.{packet_off, by_parts, PacketsKeep, OneKernel, label_of, kernel_after, false≢true}
-use Rattle.dm_rule.specs.View as view
 use Rattle.dm_movelaws.proofs.Ends.Smooth.{asks_for, is_migrate, plain_not, Extends, Smooth, Still, Plain, smooth_same, smooth_trans, smooth_others, moves_none, plain_in_bag, own_untold}
 use Rattle.dm_movelaws.proofs.Ends.Lines.{Tame, QuietLine, Foreign, tame_plain, line_smooth}
 use Rattle.dm_movelaws.proofs.Ends.Still.{still_same, still_trans, line_still, quiet_ends}
+use Rattle.dm_movelaws.proofs.Leading.{All, Behind, part_leads, is_said, lines_are}
+use Rattle.dm_rule.specs.View as view
 pub use Rattle.dm_rule.proofs.Phases.Lines.{first_kept}
-use Rattle.dm_movelaws.proofs.Leading.{All, Behind, part_leads}
-use Rattle.dm_movelaws.proofs.Leading.{is_said, lines_are}
 
 -- a put of a message that is no request to move this process
 first_plain : (p : Pid) (o : Option Told) (k : MessageKind) (q : Pid) (a : view.About) (t : Told) → Some (view.first_told o (record { kind = k; receiver = q; about = a })) ≡ Some t → (is_migrate k && pid_eq p q) ≡ false → ((u : Told) → o ≡ Some u → asks_for p u ≡ false)

@@ -5,12 +5,11 @@ use Rattle.dm_movelaws.proofs.Names.{handled_first, rejoins, front_of, gone_to, 
 use Rattle.dm_movelaws.proofs.Names.{due, InPhases, sane_line, Walks, loose_walks, turned, is_moving, asks, ends, accepted_off, state_off, memory_off, lacks_off, left_off, leaves, label_of, is_put, touches}
 use Rattle.dm_movelaws.proofs.Ends.Smooth.{is_migrate, Smooth, Still, smooth_trans, smooth_still, moves_none}
 use Rattle.dm_movelaws.proofs.Ends.Lines.{Tame}
-use Rattle.dm_movelaws.proofs.Ends.Parts.{AllQuiet, Settled, one_if, zero_if}
+use Rattle.dm_movelaws.proofs.Ends.Parts.{AllQuiet, Settled, one_if, zero_if, first_off as first_off_and}
 use Rattle.dm_movelaws.proofs.Ends.Moving.{moving_in, not_false, target_waits, knows_target, waits_moves, here_stays, still_moves}
 use Rattle.dm_movelaws.proofs.Ends.Open.{level_balance, smooth_opens}
 use Rattle.dm_movelaws.proofs.Ends.Rows.{Turn, Comes, between_plain, first_smooth, line_then, line_alone, due_moves, other_still, set_here, level_row, level_still, quiet_row, about_same}
 use Rattle.dm_movelaws.proofs.Ends.Sends.{all_sent, sent_smooth, sends_count, sent_begins, handled_smooth, rejoins_smooth}
-use Rattle.dm_movelaws.proofs.Ends.Parts.{first_off as first_off_and}
 
 abbrev pub ComesOf : Pid → (pt : Point) → InPhases pt.view → Option (List Part) → Type 0
 ComesOf p pt h None = ⊤

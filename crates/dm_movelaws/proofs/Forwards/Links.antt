@@ -4,13 +4,12 @@ use Rattle.dm_movelaws.proofs.Names.{Place, MsgId, Boot, Life, Alive, OneKernel,
 use Rattle.dm_movelaws.proofs.Names.{KnownStands, agrees, group_replay, run_always, AtRest, IsThere, CountsPromise, update_of, IsUnderWay}
 use Rattle.dm_movelaws.proofs.At.RestAlways.{at_rest_always}
 use Rattle.dm_movelaws.proofs.Forwards.Told.{forwards_tell}
-use Rattle.dm_movelaws.proofs.Promise.Always.{promises_always}
+use Rattle.dm_movelaws.proofs.Promise.Always.{promises_always, same_some}
 use Rattle.dm_movelaws.proofs.Promise.Finds.{lines_by, leads_append}
 use Rattle.dm_movelaws.proofs.Promise.Kept.{lines_told}
 use Rattle.dm_movelaws.proofs.Promise.Trail.{OnTrail}
 use Rattle.dm_movelaws.proofs.Trail.Known.{trail_known}
 use Rattle.dm_movelaws.proofs.Real.Lines.{made_by as life_stays}
-use Rattle.dm_movelaws.proofs.Promise.Always.{same_some}
 
 -- a process that was made stays made
 

@@ -2,15 +2,13 @@
 use Rattle.dm_movelaws.proofs.Names.{◌≡◌, ◌⊎◌, ℕ, ◌≤◌, Bool, true, false, List, [], ◌∷◌, ◌==◌, ◌&&◌, length, refl, ap, ◌∙◌, sym, subst, inl, inr, Option, None, Some, cases_Bool, false≢true, Pid, Place, MsgId, MessageKind, id_eq, plain_kind}
 use Rattle.dm_movelaws.proofs.Names.{PlainMessage, PlainWhat, Boot, id_eq-is, Step, Line, View, Pair, marked, Told, is_kernels, after_head, Point, Part, Says, Transmits, Spelled, packet_line, spelled, standing, migrates, group_of, letters}
 use Rattle.dm_movelaws.proofs.Names.{not_kernels, eq_is, not_true, parts, IsNet, fits, under_way, kernels_by, Phased, set_is, set_other, PairsFit, Sane, begun, begun_sane, said_by, update_of, by_migrates, by_outcome, group_is}
-use Rattle.dm_rule.specs.Rule as rule
 use Rattle.dm_movelaws.proofs.Promise.Kept.{told_stays}
 use Rattle.dm_movelaws.proofs.Promise.Spots.{Stands}
 use Rattle.dm_movelaws.proofs.Promise.Stands.{packet_stands, head_stands, net_stands}
-use Rattle.dm_movelaws.proofs.Promise.Parts.{all_loose, GoesOf, next_of}
-use Rattle.dm_movelaws.proofs.Promise.Rows.{Waits, loose_row, round_goes, handles_goes}
+use Rattle.dm_movelaws.proofs.Promise.Parts.{all_loose, GoesOf, next_of, Waits, loose_row, round_goes, handles_goes, Goes}
 use Rattle.dm_movelaws.proofs.Promise.Told.{hears_goes, hears_this}
-use Rattle.dm_movelaws.proofs.Promise.Parts.{Goes}
 use Rattle.dm_movelaws.proofs.Leading.{net_lead}
+use Rattle.dm_rule.specs.Rule as rule
 
 -- no message of the bag is an update
 no_update : (k : PlainWhat) → plain_kind k ≡ MessageKind.Update → ⊥

@@ -5,10 +5,9 @@ use Rattle.dm_movelaws.proofs.Names.{Trodden, first_trodden, along, trails_after
 use Rattle.dm_movelaws.proofs.Names.{server_at, LeadsBy, made_free, server_fixed, is_made, has_it, ends_walk, IsNamed, ByHolder, ByOwn, ByRequest, ByUpdate, ByForward, Reaches, IsLast, TrailStands, TrailsStand, IsLed, AddressesLead}
 use Rattle.dm_movelaws.proofs.Names.{nat_tests}
 use Rattle.dm_movelaws.proofs.After.{group_after}
-use Rattle.dm_movelaws.proofs.Trail.Always.{Holds, carries}
+use Rattle.dm_movelaws.proofs.Trail.Known.{Holds, carries}
 use Rattle.dm_movelaws.proofs.Trail.Placed.{is_held}
-use Rattle.dm_movelaws.proofs.Trail.Real.{named_made}
-use Rattle.dm_movelaws.proofs.Trail.Real.{none_is}
+use Rattle.dm_movelaws.proofs.Trail.Real.{named_made, none_is}
 
 abbrev trodden : Point → Trails → Trodden
 trodden pt t = record { point = pt; trails = t }
