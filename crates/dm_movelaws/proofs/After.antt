@@ -1,6 +1,6 @@
 -- The lines of a group lead to where the group leads; and what each group keeps holds wherever the rule leads.
-use Rattle.dm_movelaws.proofs.Names.{◌≡◌, List, [], ◌∷◌, ◌++◌, refl, ap, ◌∙◌, Option, Some, Boot, bind, bind-is, Step, Line, Part, Spelled, spelled, Point, after_line, after, group_of, by_parts, by_group, moved}
-use Rattle.dm_movelaws.proofs.Names.{subst, IsStep, IsValid, Leads, first_point, Run, Both, both_start, both_group, run_start, run_group}
+use Rattle.dm_movelaws.proofs.Names.{◌≡◌, List, [], ◌∷◌, ◌++◌, refl, ap, ◌∙◌, Option, Some, Boot, bind, bind-is, Step, Line, Part, Spelled, spelled, Point, after_line, after, group_of, by_parts, by_group, moved, subst, IsStep, IsValid}
+use Rattle.dm_movelaws.proofs.Names.{Leads, first_point, Run, Both, both_start, both_group, run_start, run_group}
 
 pub after-append : (xs ys : List Line) (pt mid end : Point) → after pt xs ≡ Some mid → after mid ys ≡ Some end → after pt (xs ++ ys) ≡ Some end
 after-append [] ys pt mid end e f = let g : pt ≡ mid = cc in ap (λ (x : Point). after x ys) g ∙ f

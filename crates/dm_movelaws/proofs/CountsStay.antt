@@ -3,9 +3,10 @@ use Rattle.dm_movelaws.proofs.Names.{◌≡◌, ℕ, ◌<◌, ◌≤◌, ◌&&�
 use Rattle.dm_movelaws.proofs.Names.{OneKernel, bind-is, Line, Addresses, Holder, Receiver, Sender, Enclosed, Gets, gets, holder_eq, unmoved, given, gives, belongs_to, leads_to, is_pid, is_behind, told_back_gets, is_told_back, forwards}
 use Rattle.dm_movelaws.proofs.Names.{all_follow, child_number, place_of_child, own_gives, first_gives, place_told, updated, updated_to, addresses_after, Point, label_of, kernel_after, moved, after_line, after, View, Told, About, is_owned}
 use Rattle.dm_movelaws.proofs.Names.{gives_to, is_filled, in_next, refilled, CountsStay, CountsKept, Updated, Sort, sort_of, own_given}
-use Rattle.dm_rule.specs.View as view
 use Rattle.dm_movelaws.proofs.After.{group_after}
 use Rattle.dm_movelaws.proofs.Updates.Always.{updates_always}
+use Rattle.dm_movelaws.proofs.Promise.Before.{neither as either}
+use Rattle.dm_rule.specs.View as view
 
 abbrev count_of : Addresses → Holder → ℕ
 count_of a h = (a h).moves
@@ -14,9 +15,6 @@ same_count : (a c : Addresses) (h : Holder) → c h ≡ a h → count_of a h ≤
 same_count a c h e = let f : count_of c h ≡ count_of a h = ap (λ (p : Place). p.moves) e in omega (arith, f)
 
 -- what a label gives
-either : (b c : Bool) → (b || c) ≡ false → (b ≡ false) × (c ≡ false)
-either true c e = absurd (false≢true (sym e))
-either false c e = (refl, e)
 
 not_given : (a : Addresses) (gs : List Gets) (h : Holder) → gives_to h gs ≡ false → given a gs h ≡ a h
 not_given a [] h e = refl

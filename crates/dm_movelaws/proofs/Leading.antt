@@ -1,9 +1,7 @@
 -- Where parts lead: what holds behind the lines that they say, behind the puts of their messages, and still behind packets, holds where they lead.
-use Rattle.dm_movelaws.proofs.Names.{◌≡◌, ℕ, ◌==◌, Bool, true, false, List, [], ◌∷◌, length, refl, ap, ◌∙◌, subst, ⊤, if◌then◌else◌, Option, Some, Pid, MsgId, MessageKind, plain_kind, PlainMessage, OneKernel, bind-is, Line, Load, View, Told}
-use Rattle.dm_movelaws.proofs.Names.{own_id, Receiver, Point, label_of, kernel_after, moved, after, Part, Says, Routes, Again, Owns, Transmits, Spelled, puts, goes_out, packet_line, spelled, Steps, said_by, PacketsKeep, by_parts}
-use Rattle.dm_movelaws.proofs.Names.{AllSayable, Sayable, Sane, part_sane}
-use Rattle.dm_movelaws.proofs.Names.{lines_of}
-use Rattle.dm_movelaws.proofs.Names.{IsNetLine, IsNet, by_net, touches, Pair, AllFit, Boot, Step, turns_fit, resends_net, arrives_net, slice_get, migrates, migrates_fit}
+use Rattle.dm_movelaws.proofs.Names.{◌≡◌, ℕ, ◌==◌, Bool, true, false, List, [], ◌∷◌, length, refl, ap, ◌∙◌, subst, ⊤, if◌then◌else◌, Option, Some, Pid, MsgId, MessageKind, plain_kind, PlainMessage, OneKernel, bind-is, Line, Load, View}
+use Rattle.dm_movelaws.proofs.Names.{Told, own_id, Receiver, Point, label_of, kernel_after, moved, after, Part, Says, Routes, Again, Owns, Transmits, Spelled, puts, goes_out, packet_line, spelled, Steps, said_by, PacketsKeep, by_parts}
+use Rattle.dm_movelaws.proofs.Names.{AllSayable, Sayable, Sane, part_sane, lines_of, IsNetLine, IsNet, by_net, touches, Pair, AllFit, Boot, Step, turns_fit, resends_net, arrives_net, slice_get, migrates, migrates_fit}
 use Rattle.dm_rule.specs.Rule as rule
 
 -- a put and its packet
@@ -125,3 +123,17 @@ outcome_says Q fit net b pt (Step.Deliver a c k) ps is =
     let f : qs ≡ ps = cc in
     subst (All (Saying Q)) f (net_says Q net qs (arrives_net a c (pt.view.pair a c) (pt.view.pair c a) (slice_get (pt.view.pair a c).wire k)))
 outcome_says Q fit net b pt (Step.Migrate p m) ps is = let f : migrates pt p ≡ ps = cc in subst (All (Saying Q)) f (fit_says Q fit pt.view.pair (migrates pt p) (migrates_fit pt.view.pair pt p))
+
+-- deliveries and repeats say lines of the net and transmit, and route nothing
+abbrev NetPart : Part → Type 0
+NetPart (Says l) = IsNetLine l
+NetPart (Transmits a b l) = ⊤
+NetPart _ = ⊥
+
+net_behind : (P : Point → Type 0) → ((pt : Point) (s : OneKernel) (l : Line) → IsNetLine l → P pt → P (moved pt l s)) → (pt : Point) (p : Part) → NetPart p → P pt → Behind P pt p
+net_behind P one pt (Says l) net h = λ s step. one pt s l net h
+net_behind P one pt (Transmits a b l) net h = h
+net_behind P one pt _ net h = absurd net
+
+pub net_lead : (P : Point → Type 0) → PacketsKeep P → ((pt : Point) (s : OneKernel) (l : Line) → IsNetLine l → P pt → P (moved pt l s)) → (ps : List Part) (pt : Point) (w : Spelled) → IsNet ps → spelled pt ps ≡ Some w → P pt → P w.point
+net_lead P keeps one ps pt w net = parts_lead P keeps NetPart (net_behind P one) ps pt w (by_net (All NetPart) tt (λ l ps net h. (net, h)) (λ a b l ps h. (tt, h)) ps net)

@@ -18,5 +18,4 @@ pub mod Real
 pub mod Movers
 pub mod Routed
 pub mod ProtocolMoves
-pub mod LifePlaces
 pub mod LifeLines

@@ -39,17 +39,17 @@ pub use Rattle.dm_rule.proofs.Moves.Sent.{least_of as either, fits_packet, fits_
 pub use Rattle.dm_rule.proofs.Moves.States.{kernels_by, packet_off}
 pub use Rattle.dm_rule.proofs.Names.{About, Addresses, AddressesOn, Again, Answer, Child, Enclosed, Ended, Forward, Frozen, Gets, Held, Here, Holder, Inbox, Incoming, IsIn, IsOn, IsOthers, IsQuiet, IsStep, IsToken, Known, Leads, LifeGrows}
 pub use Rattle.dm_rule.proofs.Names.{Line, Load, MessageKind, Moves, Name, NamedLink, NothingElse, Nowhere, Of, Over, Owner, Owns, Pair, Part, Phase, Place, Point, Queue, Receiver, Rests, Routes, Says, Sender, ServerSends, Slot, Sort}
-pub use Rattle.dm_rule.proofs.Names.{Sound, Spares, Spelled, Spot, Stage, StandsNowhere, StandsOutside, StandsRight, Step, Told, Trail, Trails, TrailsAlways, Transmits, Trodden, Unknown, Untaken, View, accepts, acting_place, actor}
-pub use Rattle.dm_rule.proofs.Names.{addresses_after, after, after_head, after_line, after_proto, after_put, after_step, alive-is, all_follow, along, answer_link, ascends, asks_on, at_machine, at_pair, at_record, behind, behind_count}
-pub use Rattle.dm_rule.proofs.Names.{belongs_to, bind-is, board_finds, board_keeps, both_true, call_gets, child_links, child_number, chunks_of, counts, counts_process, destination, enclosed_from, encloses, ended_told, fills_by, filter}
-pub use Rattle.dm_rule.proofs.Names.{first_gives, first_point, first_trails, first_trodden, first_view, follows_up, forward_about, forwarded_for, forwards, forwards_on, free_room, front_of, front_told, gets, given, gives, gives_piece}
-pub use Rattle.dm_rule.proofs.Names.{goes_out, goes_round, gone_to, group_of, handled, handled_first, hears, held_for, here_told, holder_eq, id_eq-is, id_eq-same, ids_at, is_apart, is_away, is_behind, is_between, is_counted, is_dropped}
-pub use Rattle.dm_rule.proofs.Names.{is_due, is_early, is_here, is_kernels, is_over, is_pid, is_restart, is_told_back, kernel_after, kernel_hears, kernel_told, kills, kind_comes, knowing, known_at, knows, label_of, lands-is, leads_to}
-pub use Rattle.dm_rule.proofs.Names.{left_true, length-append, lines_of, link_target, manager_answers, manager_sends, manager_tells, marked, migrates, moved, name_link, names, not_server, outcome, own_given, own_gives, own_id, packet_line}
-pub use Rattle.dm_rule.proofs.Names.{pending_of, pid_eq-is, pid_eq-same, pieces_of, place_of_child, place_told, plain_kind, process_told, puts, receiver_in, receiver_of, receives_links, receives_what, released, right_true, sender_in}
-pub use Rattle.dm_rule.proofs.Names.{sender_of, sends_on, sends_what, sent_at, sent_off, served_told, server_told, serves_what, slice_get_cases, slice_get_within, slot_after, slot_of, sort_of, spelled, standing, stayed, taken_id}
-pub use Rattle.dm_rule.proofs.Names.{takes_block, takes_chunk, target_of, times, to_kernel, to_of, token_in, told_back_gets, told_between, trails_after, unmoved, untaken, updated, updated_to, updates, view_after, why_ended-is, with_pair}
-pub use Rattle.dm_rule.proofs.Names.{with_ring, without_front, without_id, ◌||◌}
+pub use Rattle.dm_rule.proofs.Names.{Sound, Spares, Spelled, Spot, Stage, StandsNowhere, StandsOutside, StandsRight, Step, StoodOnTrail, Told, Trail, Trails, TrailsAlways, Transmits, Trodden, Unknown, Untaken, View, accepts, acting_place}
+pub use Rattle.dm_rule.proofs.Names.{actor, addresses_after, after, after_head, after_line, after_proto, after_put, after_step, alive-is, all_follow, along, answer_link, ascends, asks_on, at_machine, at_pair, at_record, behind}
+pub use Rattle.dm_rule.proofs.Names.{behind_count, belongs_to, bind-is, board_finds, board_gets, board_keeps, both_true, call_gets, child_links, child_number, chunks_of, counts, counts_process, destination, enclosed_from, encloses}
+pub use Rattle.dm_rule.proofs.Names.{ended_told, fills_by, filter, first_gives, first_point, first_trails, first_trodden, first_view, follows_up, forward_about, forwarded_for, forwards, forwards_on, free_room, front_of, front_told, gets}
+pub use Rattle.dm_rule.proofs.Names.{given, gives, gives_piece, goes_out, goes_round, gone_to, group_of, handled, handled_first, hears, held_for, here_told, holder_eq, id_eq-is, id_eq-same, ids_at, is_apart, is_away, is_behind, is_between}
+pub use Rattle.dm_rule.proofs.Names.{is_counted, is_dropped, is_due, is_early, is_here, is_kernels, is_over, is_pid, is_restart, is_told_back, kernel_after, kernel_hears, kernel_told, kills, kind_comes, knowing, known_at, knows, label_of}
+pub use Rattle.dm_rule.proofs.Names.{landing_gets, lands-is, leads_to, leaves, left_true, length-append, lines_of, link_target, manager_answers, manager_gets, manager_sends, manager_tells, marked, migrates, moved, name_link, names}
+pub use Rattle.dm_rule.proofs.Names.{not_server, outcome, own_given, own_gives, own_id, packet_line, pending_of, pid_eq-is, pid_eq-same, pieces_of, place_of_child, place_told, plain_kind, process_told, puts, receiver_in, receiver_of}
+pub use Rattle.dm_rule.proofs.Names.{receives_links, receives_what, released, right_true, sender_in, sender_of, sends_on, sends_what, sent_at, sent_off, served_told, server_told, serves_what, slice_get_cases, slice_get_within, slot_after}
+pub use Rattle.dm_rule.proofs.Names.{slot_of, sort_of, spelled, standing, stayed, taken_id, takes_block, takes_chunk, target_of, times, to_kernel, to_of, token_in, told_back_gets, told_between, trails_after, unmoved, untaken, updated}
+pub use Rattle.dm_rule.proofs.Names.{updated_to, updates, view_after, why_ended-is, with_pair, with_ring, without_front, without_id, ◌||◌}
 pub use Rattle.dm_rule.proofs.Once.{one_of-same}
 pub use Rattle.dm_rule.proofs.Pairs.Lines.{AllFit, line_view, onward, pair_same, taken_pair, touches}
 pub use Rattle.dm_rule.proofs.Pairs.Migrating.{migrates_fit}

@@ -6,7 +6,6 @@ pub mod Kept
 pub mod Spots
 pub mod Stands
 pub mod Parts
-pub mod Rows
 pub mod Told
 pub mod Groups
 pub mod Finds

@@ -3,9 +3,10 @@ use Rattle.dm_movelaws.proofs.Names.{◌≡◌, ◌≢◌, ℕ, ◌+◌, ◌<◌
 use Rattle.dm_movelaws.proofs.Names.{false≢true, nat_tests, Option, None, Some, Pid, pid_eq, MsgId, MessageKind, PlainMessage, Boot, manager, Alive, PlainProcess, id_eq-same, not_server, Receiver, to_of, Phase, Nowhere, Rests, Over, Moves}
 use Rattle.dm_movelaws.proofs.Names.{is_unknown, is_here, is_over, is_away, is_due, IsToken, IsIn, Point, IsQuiet, Spot, Queue, Held, Inbox, Untaken, times, untaken, standing, View, Known, Unknown, Here, Frozen, Incoming, Ended, is_kernels}
 use Rattle.dm_movelaws.proofs.Names.{stands_right, kernels_fresh, phases_always, AtRestAlways, IsAt, IsWaiting, is_moving, is_server, has_no_queue, has_nothing_held, agrees, Run, run_always, told_of, eq_self, own_by, user_kind, machine_of}
-use Rattle.dm_rule.specs.Phases as phases
 use Rattle.dm_movelaws.proofs.At.RestPairs.{Routed, routed_always}
 use Rattle.dm_movelaws.proofs.At.RestQueues.{Dropped, dropped_always}
+use Rattle.dm_movelaws.proofs.Ends.Moving.{unknown_rests as unknown_still, here_rests as here_still, over_rests as over_still, away_rests as away_still, at_rests as rests_still, at_over as ends_still}
+use Rattle.dm_rule.specs.Phases as phases
 
 within_by : (b : Boot) (pt : Point) (i : MsgId) (z : Spot) (o : Option PlainMessage) → pt.kernel.bag i ≡ o → Run b pt → 1 ≤ standing pt.view i z → (pt.addresses (Receiver i)).at < pt.kernel.machines
 within_by b pt i z (Some x) there h least = h.found.within (Receiver i) x.to (ap to_of there)
@@ -48,33 +49,6 @@ calm b pt h routed quiet = record {
 }
 
 -- so no process moves
-unknown_still : (k : Known) → is_unknown k ≡ true → is_moving k ≡ false
-unknown_still (Frozen to) e = absurd (false≢true e)
-unknown_still (Incoming from) e = absurd (false≢true e)
-unknown_still _ e = refl
-
-here_still : (k : Known) → is_here k ≡ true → is_moving k ≡ false
-here_still (Frozen to) e = absurd (false≢true e)
-here_still (Incoming from) e = absurd (false≢true e)
-here_still _ e = refl
-
-over_still : (k : Known) → is_over k ≡ true → is_moving k ≡ false
-over_still (Frozen to) e = absurd (false≢true e)
-over_still (Incoming from) e = absurd (false≢true e)
-over_still _ e = refl
-
-away_still : (k : Known) → is_away k ≡ true → is_moving k ≡ false
-away_still (Frozen to) e = absurd (false≢true e)
-away_still (Incoming from) e = absurd (false≢true e)
-away_still _ e = refl
-
-rests_still : (c : Bool) (k : Known) → (if c then is_here k else is_away k) ≡ true → is_moving k ≡ false
-rests_still true k e = here_still k e
-rests_still false k e = away_still k e
-
-ends_still : (c : Bool) (k : Known) → (if c then is_over k else is_away k) ≡ true → is_moving k ≡ false
-ends_still true k e = over_still k e
-ends_still false k e = away_still k e
 
 no_token : (v : View) (p : Pid) (k : MessageKind) (s d : ℕ) (id : MsgId) → Calm v → IsToken v p k s d id → ⊥
 no_token v p k s d id h t =
@@ -92,7 +66,7 @@ phase_still v p (Moves k s d None) m h is due = absurd (false≢true (sym due))
 phase_still v p (Moves k s d (Some id)) m h is due =
     absurd (no_token v p k s d id h is.token)
 
-still_held : (k : Known) → is_moving k ≡ false → has_nothing_held k ≡ true
+pub still_held : (k : Known) → is_moving k ≡ false → has_nothing_held k ≡ true
 still_held (Frozen to) e = sym e
 still_held (Incoming from) e = sym e
 still_held _ e = refl
@@ -155,11 +129,11 @@ own_nowhere b pt i (Inbox m) h rest own = ap (times i) (rest.calm.inbox m)
 own_nowhere b pt i (Untaken c d) h rest own = ap (times i) (rest.calm.untaken c d)
 
 -- where a living process is
-is_here_is : (k : Known) → is_here k ≡ true → k ≡ Here
+pub is_here_is : (k : Known) → is_here k ≡ true → k ≡ Here
 is_here_is Here e = refl
 is_here_is _ e = absurd (false≢true e)
 
-is_unknown_is : (k : Known) → is_unknown k ≡ true → k ≡ Unknown
+pub is_unknown_is : (k : Known) → is_unknown k ≡ true → k ≡ Unknown
 is_unknown_is Unknown e = refl
 is_unknown_is _ e = absurd (false≢true e)
 

@@ -4,11 +4,10 @@ use Rattle.dm_movelaws.proofs.Names.{MessageKind, plain_kind, Boot, IsValid, bin
 use Rattle.dm_movelaws.proofs.Names.{spelled, Point, first_point, moved, after_line, after, group_of, at_pair, View, Pair, NothingElse, view_after, after_head, after_put, with_pair, handled, receiver_of, IsNetLine, IsNet, group_is}
 use Rattle.dm_movelaws.proofs.Names.{arrives_net, resends_net, acting_label, AllFit, touches, pair_same, taken_pair, line_view, migrates_fit, turns_fit, constant_group, acting_taken, proto_acting, queued_acting, held_acting}
 use Rattle.dm_movelaws.proofs.Names.{forwarded_acting, by_parts}
+use Rattle.dm_movelaws.proofs.Leading.{All, Behind, whatever_put, parts_lead, Saying, outcome_says}
+use Rattle.dm_movelaws.proofs.After.{keeps_always}
 use Rattle.dm_rule.specs.Rule as rule
 use Rattle.dm_rule.specs.View as view
-use Rattle.dm_movelaws.proofs.Leading.{All, Behind, whatever_put, parts_lead}
-use Rattle.dm_movelaws.proofs.After.{keeps_always}
-use Rattle.dm_movelaws.proofs.Leading.{Saying, outcome_says}
 
 pub record Routed (n : ℕ) (v : View) : Type 0 where
   pub acting : v.acting < n

@@ -3,14 +3,13 @@ use Rattle.dm_movelaws.proofs.Names.{◌≡◌, ◌⊎◌, ℕ, ◌≤◌, ◌==
 use Rattle.dm_movelaws.proofs.Names.{MsgId, MessageKind, Boot, Label, id_eq-same, pid_eq-same, Step, Line, migrates, Part, Says, Spelled, spelled, Point, moved, group_of, at_record, without_front, times, View, Told, Ended, view_after}
 use Rattle.dm_movelaws.proofs.Names.{handled, receiver_of, PlainMessage, IsValid, Leads, first_point, Spot, Queue, Inbox, standing, StandsNowhere, StandsOutside, StandsRight, is_kernels, group_is, arrives_net, resends_net, stands_right}
 use Rattle.dm_movelaws.proofs.Names.{kernels_fresh, not_true, is_kill, says_next, DropsAlways, killed_or, stands_first, Both, both_start, both_group, Run, run_start, run_group, times_self, told_of, more_front}
+use Rattle.dm_movelaws.proofs.At.RestBuried.{Knows, buried_group}
+use Rattle.dm_movelaws.proofs.At.RestOnly.{AllStay, LineEnds, LastEnds, Ends, Once, Runs, turns_ends, Only, only_as, parts_only, nets_stay, migrates_stay}
+use Rattle.dm_movelaws.proofs.After.{keeps_always}
 use Rattle.dm_laws.proofs.Equal as equal
 use Rattle.dm_rule.specs.Rule as rule
 use Rattle.dm_rule.specs.View as view
 use Rattle.dm_rule.proofs.Lines as lines
-use Rattle.dm_movelaws.proofs.At.RestBuried.{Knows, buried_group}
-use Rattle.dm_movelaws.proofs.At.RestEnds.{AllStay, LineEnds, LastEnds, Ends, Once, Runs, turns_ends}
-use Rattle.dm_movelaws.proofs.At.RestOnly.{Only, only_as, parts_only, nets_stay, migrates_stay}
-use Rattle.dm_movelaws.proofs.After.{keeps_always}
 
 -- what is left of the queue of a process that has ended
 record Left (a : ℕ) (p : Pid) (known : Knows) (v : View) (ids : List MsgId) : Type 0 where

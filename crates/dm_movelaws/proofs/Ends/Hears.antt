@@ -4,8 +4,6 @@ use Rattle.dm_movelaws.proofs.Names.{switchboard, manager, bind, pid_eq-is, bind
 use Rattle.dm_movelaws.proofs.Names.{Unknown, Here, Frozen, Forward, Ended, view_after, handled, handled_first, receiver_of, target_of, front_told, Point, moved, after, Part, Says, Again, Owns, Spelled, lines_of, puts, behind, spelled}
 use Rattle.dm_movelaws.proofs.Names.{free_room, kernel_hears, hears, Spot, Inbox, ids_at, first_off, line_next, fits_put, fits_packet, pair_same, handled_spots, held_known, forwarded_spots, forwarded_known, put_spots, put_there, put_spot}
 use Rattle.dm_movelaws.proofs.Names.{InPhases, fits_as, PairsFit, PacketsKeep, sane_line, part_sane, AllLoose, loose_walks, turned, is_moving, is_for, frozen_off}
-use Rattle.dm_onekernel.specs.Step as kernel
-use Rattle.dm_rule.specs.View as view
 use Rattle.dm_rule.specs.Rule.{fits}
 use Rattle.dm_movelaws.proofs.Ends.Smooth.{is_migrate, asks_for, kind_not, Smooth, Still, smooth_trans, told_by}
 use Rattle.dm_movelaws.proofs.Ends.Lines.{Tame, Foreign}
@@ -18,6 +16,8 @@ use Rattle.dm_movelaws.proofs.Ends.Rows.{Turn, plain_one, front_one, stands_fron
 use Rattle.dm_movelaws.proofs.Ends.Sends.{smooth_moves, held_smooth, again_told}
 use Rattle.dm_movelaws.proofs.Ends.Steps.{ComesOf, told_comes}
 use Rattle.dm_movelaws.proofs.Leading.{puts_lead}
+use Rattle.dm_onekernel.specs.Step as kernel
+use Rattle.dm_rule.specs.View as view
 
 -- a message is held
 held_comes : (p : Pid) (pt : Point) (i : MsgId) (is : List MsgId) (t : Told) (h : Turn pt i is t) → ComesOf p pt h.phases (Some (Says (Line.Held i) ∷ []))

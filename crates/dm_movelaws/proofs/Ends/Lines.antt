@@ -1,9 +1,9 @@
 -- Lines and parts that leave all requests to move a process where they stand, and end none.
 use Rattle.dm_movelaws.proofs.Names.{◌≡◌, false, refl, ap, ◌∙◌, sym, subst, ⊤, Option, Some, Pid, pid_eq, MsgId, MessageKind, Stage, Label, OneKernel, Line, View, About, Told, view_after, handled, receiver_of, Point, label_of, kernel_after}
 use Rattle.dm_movelaws.proofs.Names.{times, out_of, gone_in, served_keeps, ended_off, serving_off, created_off, Sane, handled_spots, queued_spots, held_spots, dropped_spots, forwarded_spots, received_spots, and_false}
+use Rattle.dm_movelaws.proofs.Ends.Smooth.{asks_for, is_migrate, Smooth, Plain, smooth_same, hushed_smooth, moves_none, plain_in_bag}
 use Rattle.dm_onekernel.specs.Step as kernel
 use Rattle.dm_rule.specs.View as view
-use Rattle.dm_movelaws.proofs.Ends.Smooth.{asks_for, is_migrate, Smooth, Plain, smooth_same, hushed_smooth, moves_none, plain_in_bag}
 pub use Rattle.dm_rule.proofs.Moves.Rows.{proto_off}
 
 -- a message that was told of, and is no request to move this process

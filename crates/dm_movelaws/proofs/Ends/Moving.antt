@@ -2,6 +2,7 @@
 use Rattle.dm_movelaws.proofs.Names.{◌≡◌, ◌⊎◌, ℕ, ◌==◌, ◌&&◌, Bool, true, false, not, refl, ap, ◌∙◌, sym, inl, inr, if◌then◌else◌, Option, false≢true, Pid, MsgId, MessageKind, View, Known, Here, Frozen, Incoming, Forward, Ended, Phase}
 use Rattle.dm_movelaws.proofs.Names.{Nowhere, Rests, Over, Moves, knows, kind_comes, is_away, is_unknown, is_here, is_over, is_restart, is_early, is_between, IsIn, parts, InPhases, rests_here, is_moving, source_knows, kind_leaves}
 use Rattle.dm_movelaws.proofs.Ends.Smooth.{Still}
+use Rattle.dm_movelaws.proofs.Stages.Spares.{restart_late}
 pub use Rattle.dm_rulelaws.proofs.Goes.Own.{destination_knows as knows_target}
 pub use Rattle.dm_rule.proofs.Phases.Pieces.{not_false}
 use Rattle.dm_movelaws.proofs.Names.{nat_tests}
@@ -18,11 +19,6 @@ source_waits k d (Incoming from) e h = refl
 source_waits k d (Forward at moves) e h = absurd (false≢true (sym (ap (λ (c : Bool). c && (d == at)) e) ∙ h))
 source_waits k d _ e h = absurd (false≢true h)
 
-restart_late : (k : MessageKind) → is_restart k ≡ true → is_early k ≡ false
-restart_late MessageKind.Ask e = absurd (false≢true e)
-restart_late MessageKind.Refuse e = absurd (false≢true e)
-restart_late k e = refl
-
 pub target_waits : (k : MessageKind) (s : ℕ) (x : Known) → is_early k ≡ false → kind_comes k s x ≡ true → is_moving x ≡ true
 target_waits k s Here e h = absurd (false≢true h)
 target_waits k s (Frozen to) e h = refl
@@ -35,31 +31,31 @@ some_waits k s d o f true e apart h = (d, target_waits k s (f d) (restart_late k
 some_waits k s d o f false e apart h = (s, source_waits k d (f s) e (source_knows k s d o (f s) (h s)))
 
 -- elsewhere none does
-unknown_rests : (x : Known) → is_unknown x ≡ true → is_moving x ≡ false
+pub unknown_rests : (x : Known) → is_unknown x ≡ true → is_moving x ≡ false
 unknown_rests (Frozen to) e = absurd (false≢true e)
 unknown_rests (Incoming from) e = absurd (false≢true e)
 unknown_rests _ e = refl
 
-away_rests : (x : Known) → is_away x ≡ true → is_moving x ≡ false
+pub away_rests : (x : Known) → is_away x ≡ true → is_moving x ≡ false
 away_rests (Frozen to) e = absurd (false≢true e)
 away_rests (Incoming from) e = absurd (false≢true e)
 away_rests _ e = refl
 
-here_rests : (x : Known) → is_here x ≡ true → is_moving x ≡ false
+pub here_rests : (x : Known) → is_here x ≡ true → is_moving x ≡ false
 here_rests (Frozen to) e = absurd (false≢true e)
 here_rests (Incoming from) e = absurd (false≢true e)
 here_rests _ e = refl
 
-over_rests : (x : Known) → is_over x ≡ true → is_moving x ≡ false
+pub over_rests : (x : Known) → is_over x ≡ true → is_moving x ≡ false
 over_rests (Frozen to) e = absurd (false≢true e)
 over_rests (Incoming from) e = absurd (false≢true e)
 over_rests _ e = refl
 
-at_rests : (c : Bool) (x : Known) → (if c then is_here x else is_away x) ≡ true → is_moving x ≡ false
+pub at_rests : (c : Bool) (x : Known) → (if c then is_here x else is_away x) ≡ true → is_moving x ≡ false
 at_rests true x e = here_rests x e
 at_rests false x e = away_rests x e
 
-at_over : (c : Bool) (x : Known) → (if c then is_over x else is_away x) ≡ true → is_moving x ≡ false
+pub at_over : (c : Bool) (x : Known) → (if c then is_over x else is_away x) ≡ true → is_moving x ≡ false
 at_over true x e = over_rests x e
 at_over false x e = away_rests x e
 

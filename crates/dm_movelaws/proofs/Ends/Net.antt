@@ -2,10 +2,11 @@
 use Rattle.dm_movelaws.proofs.Names.{◌≡◌, ℕ, suc, ◌+◌, ◌≤◌, ◌==◌, ◌&&◌, Bool, true, false, not, filter, List, [], ◌∷◌, ◌++◌, drop, length, refl, ap, ◌∙◌, sym, subst, inl, inr, arith, if◌then◌else◌, slice_get, Option, None, Some, cases_Bool}
 use Rattle.dm_movelaws.proofs.Names.{Pid, MsgId, Step, Line, at_machine, at_pair, View, Pair, Told, view_after, after_head, taken_id, with_pair, Point, moved, Part, Says, Transmits, Spelled, packet_line, spelled, Spot, Queue, Held, Inbox}
 use Rattle.dm_movelaws.proofs.Names.{Untaken, times, untaken, ids_at, standing, times-append, one_of, parts, eq_is, eq_self, at_place, past_place, pair_keeps, says_next, transmits_next, said, IsNetLine, IsNet, early_off, acked_off}
-use Rattle.dm_movelaws.proofs.Names.{turn_off, tick_off, deliver_off, migrate_off, asks, ends}
+use Rattle.dm_movelaws.proofs.Names.{turn_off, tick_off, deliver_off, migrate_off, asks, ends, PacketsKeep}
 use Rattle.dm_movelaws.proofs.Ends.Smooth.{Somewhere, Smooth, Still, smooth_same, smooth_trans, smooth_still, moves_none}
 use Rattle.dm_movelaws.proofs.Ends.Still.{still_trans}
-use Rattle.dm_movelaws.proofs.Ends.Parts.{packet_smooth, part_count, zero_if}
+use Rattle.dm_movelaws.proofs.Ends.Parts.{packet_smooth, part_count, zero_if, none_count}
+use Rattle.dm_movelaws.proofs.Leading.{Saying, net_says, net_lead}
 pub use Rattle.dm_rule.proofs.Moves.Lists.{zero_cases}
 use Rattle.dm_movelaws.proofs.Leading.{Saying, net_says}
 use Rattle.dm_movelaws.proofs.Ends.Parts.{none_count}
@@ -122,21 +123,13 @@ pub record Level (p : Pid) (v w : View) : Type 0 where
   pub smooth : Smooth p v w
   pub still : Still p v w
 
-pub level_trans : (p : Pid) (u v w : View) → Level p u v → Level p v w → Level p u w
-level_trans p u v w h k = record { smooth = smooth_trans p u v w h.smooth k.smooth; still = still_trans p u v w h.still k.still }
+level_packet : (p : Pid) (v : View) → PacketsKeep (λ q. Level p v q.view)
+level_packet p v q a b k l h = record { smooth = smooth_trans p v q.view (view_after q.view (Line.Packet a b k l)) h.smooth (packet_smooth p q.view a b k l); still = h.still }
 
 pub net_level : (p : Pid) (ps : List Part) (pt : Point) (w : Spelled) → IsNet ps → spelled pt ps ≡ Some w → Level p pt.view w.point.view
-net_level p [] pt w h e = subst (λ (q : Point). Level p pt.view q.view) (said pt w e) (record { smooth = smooth_same p pt.view; still = λ m. refl })
-net_level p (Says l ∷ ps) pt w h e =
-    let k = says_next pt l ps w e in
-    let first : Level p pt.view (view_after pt.view l) = record { smooth = net_smooth p pt.view l h.0; still = net_still p pt.view l h.0 } in
-    subst (λ (q : Point). Level p pt.view q.view) k.point (level_trans p pt.view (view_after pt.view l) k.rest.point.view first (net_level p ps (moved pt l k.s) k.rest h.1 k.more))
-net_level p (Transmits a b l ∷ ps) pt w h e =
-    let k = transmits_next pt a b l ps w e in
-    let x = packet_line pt.view a b l in
-    let first : Level p pt.view (view_after pt.view x) = record { smooth = packet_smooth p pt.view a b (length (pt.view.pair a b).wire) l; still = λ m. refl } in
-    subst (λ (q : Point). Level p pt.view q.view) k.point (level_trans p pt.view (view_after pt.view x) k.rest.point.view first (net_level p ps (moved pt x pt.kernel) k.rest h.1 k.more))
-net_level p _ pt w h e = absurd h.0
+net_level p ps pt w net is = net_lead (λ q. Level p pt.view q.view) (level_packet p pt.view)
+    (λ q s l line h. record { smooth = smooth_trans p pt.view q.view (view_after q.view l) h.smooth (net_smooth p q.view l line); still = still_trans p pt.view q.view (view_after q.view l) h.still (net_still p q.view l line) })
+    ps pt w net is (record { smooth = smooth_same p pt.view; still = λ m. refl })
 
 -- and their lines are no directives and end no request
 abbrev Neither : (f : Line → Bool) → Type 0

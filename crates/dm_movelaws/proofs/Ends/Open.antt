@@ -42,7 +42,7 @@ shorter_by : (i j : MsgId) (js : List MsgId) (c : Bool) → id_eq i j ≡ c → 
 shorter_by i j js true is least h = refl
 shorter_by i j js false is least h = grind (arith, nat_tests)
 
-shorter : (i : MsgId) (js : List MsgId) → 1 ≤ times i js → length js ≡ suc (length (without_id i js))
+pub shorter : (i : MsgId) (js : List MsgId) → 1 ≤ times i js → length js ≡ suc (length (without_id i js))
 shorter i [] least = absurd (omega arith)
 shorter i (j ∷ js) least = shorter_by i j js (id_eq i j) refl least (λ x. shorter i js x)
 

@@ -2,11 +2,12 @@
 use Rattle.dm_movelaws.proofs.Names.{◌≡◌, ℕ, ◌+◌, ◌==◌, ◌&&◌, Bool, true, false, List, [], ◌∷◌, ◌++◌, length, refl, ap, ◌∙◌, sym, subst, arith, ⊤, if◌then◌else◌, Option, None, Some, Pid, pid_eq, MsgId, MessageKind, plain_kind, bind}
 use Rattle.dm_movelaws.proofs.Names.{bind-is, Line, Stage, Load, View, Told, view_after, own_id, after_put, Receiver, Point, moved, after, Part, Says, Routes, Again, Owns, Transmits, Spelled, lines_of, puts, goes_out, packet_line, behind}
 use Rattle.dm_movelaws.proofs.Names.{spelled, is_put, touches, pair_same, PairsFit, put_told_off, fits_as, fits_put, fits_packet, Sane, Sayable, part_sane, put_spots, put_at, Needs, NeedsPart, Walks, Steps, Said, said_by, asks, ends, count}
-use Rattle.dm_movelaws.proofs.Names.{packet_off, by_parts}
-use Rattle.dm_rule.specs.View as view
+use Rattle.dm_movelaws.proofs.Names.{packet_off, by_parts, PacketsKeep, OneKernel, label_of, kernel_after, false≢true}
 use Rattle.dm_movelaws.proofs.Ends.Smooth.{asks_for, is_migrate, plain_not, Extends, Smooth, Still, Plain, smooth_same, smooth_trans, smooth_others, moves_none, plain_in_bag, own_untold}
 use Rattle.dm_movelaws.proofs.Ends.Lines.{Tame, QuietLine, Foreign, tame_plain, line_smooth}
 use Rattle.dm_movelaws.proofs.Ends.Still.{still_same, still_trans, line_still, quiet_ends}
+use Rattle.dm_movelaws.proofs.Leading.{All, Behind, part_leads, is_said, lines_are}
+use Rattle.dm_rule.specs.View as view
 pub use Rattle.dm_rule.proofs.Phases.Lines.{first_kept}
 use Rattle.dm_movelaws.proofs.Leading.{All, Behind, part_leads}
 use Rattle.dm_movelaws.proofs.Names.{PacketsKeep, OneKernel, label_of, kernel_after}
@@ -99,7 +100,7 @@ says_rest p pt s l h fits quiet need step = search (line_smooth, line_still, fit
 untold_plain : (p : Pid) (v : View) (i : MsgId) → v.told i ≡ None → Plain p v i
 untold_plain p v i none t told = absurd (let f : None ≡ Some t = sym none ∙ told in cc)
 
-first_off : (b c : Bool) → b ≡ false → (b && c) ≡ false
+pub first_off : (b c : Bool) → b ≡ false → (b && c) ≡ false
 first_off b c e = ap (λ (x : Bool). x && c) e
 
 rest_behind : (p : Pid) (pt : Point) (x : Part) → Sane pt → PairsFit pt.view → Quiet p pt.view x → NeedsPart pt x → Behind (λ q. Rest p pt.view q.view) pt x

@@ -6,6 +6,7 @@ use Rattle.dm_movelaws.proofs.Ends.Smooth.{plain_in_bag}
 use Rattle.dm_movelaws.proofs.Ends.Moving.{moving_in, waits_moves}
 use Rattle.dm_movelaws.proofs.Ends.Open.{IsOpen, Opens}
 use Rattle.dm_movelaws.proofs.Ends.Sources.{Sources}
+use Rattle.dm_movelaws.proofs.At.RestAlways.{still_held as rests_empty}
 
 abbrev is_listed : Spot → Bool
 is_listed (Inbox m) = false
@@ -58,10 +59,6 @@ quiet_stays b pt h n is quiet sources p =
     none_moves b pt h n is quiet sources p (phases.of p) (phases.each p) (not_true (is_due (phases.of p)) (λ e. let f : None ≡ Some p = phases.put p e in cc))
 
 -- and nothing is held
-rests_empty : (k : Known) → is_moving k ≡ false → has_nothing_held k ≡ true
-rests_empty (Frozen to) e = absurd (false≢true (sym e))
-rests_empty (Incoming from) e = absurd (false≢true (sym e))
-rests_empty _ e = refl
 
 quiet_rests : (b : Boot) (pt : Point) (h : Run b pt) (n : ℕ) → pt.kernel.machines ≡ n → IsQuiet n pt.view → Sources n pt.view → (m : ℕ) (p : Pid) → is_moving (pt.view.known m p) ≡ false
 quiet_rests b pt h n is quiet sources m p = not_true (is_moving (pt.view.known m p)) (λ e.

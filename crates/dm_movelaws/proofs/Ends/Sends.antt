@@ -3,14 +3,14 @@ use Rattle.dm_movelaws.proofs.Names.{◌≡◌, ◌⊎◌, ℕ, ◌≤◌, ◌==
 use Rattle.dm_movelaws.proofs.Names.{MessageKind, id_eq, bind, id_eq-is, id_eq-same, bind-is, Line, Load, at_machine, at_record, View, Told, Here, view_after, after_put, handled, handled_first, held_for, receiver_of, released, with_ring}
 use Rattle.dm_movelaws.proofs.Names.{knowing, Point, moved, after, Part, Again, Spelled, lines_of, puts, goes_out, packet_line, behind, spelled, sends_on, Spot, Queue, Held, Inbox, Untaken, times, ids_at, standing, at_record_at, parts}
 use Rattle.dm_movelaws.proofs.Names.{eq_is, eq_self, fits_put, fits_packet, one_of, handled_spots, held_spots, put_spots, put_there, put_spot, times-append, PairsFit, PacketsKeep, Sane, part_sane, pid_eq-is, last_there, fewer_record}
-use Rattle.dm_rule.specs.View as view
-use Rattle.dm_movelaws.proofs.Ends.Smooth.{asks_for, Somewhere, Smooth, Plain, smooth_trans, smooth_still, smooth_others, stands_as, stands_was, told_by}
+use Rattle.dm_movelaws.proofs.Ends.Smooth.{asks_for, Somewhere, Smooth, Plain, smooth_trans, smooth_still, smooth_others, stands_as, stands_was, told_by, other_than as other_front}
 use Rattle.dm_movelaws.proofs.Ends.Net.{zero_cases}
 use Rattle.dm_movelaws.proofs.Ends.Parts.{packet_smooth, part_count}
 use Rattle.dm_movelaws.proofs.Ends.Rows.{front_one, first_spots}
-pub use Rattle.dm_rule.proofs.Moves.States.{again_told}
 use Rattle.dm_movelaws.proofs.Leading.{puts_lead}
 use Rattle.dm_movelaws.proofs.Names.{nat_tests}
+use Rattle.dm_rule.specs.View as view
+pub use Rattle.dm_rule.proofs.Moves.States.{again_told}
 
 -- one message stands elsewhere, and the others where they stood
 pub smooth_moves : (p : Pid) (v w : View) (i : MsgId) → ((j : MsgId) → w.told j ≡ v.told j) → Somewhere v i → Somewhere w i → ((j : MsgId) → id_eq i j ≡ false → (z : Spot) → standing w j z ≡ standing v j z) → Smooth p v w
@@ -149,9 +149,6 @@ both_stand v q i least =
       | inl none ↦ (Held v.acting q, omega (arith, least, sum, none))
       | inr some ↦ (Queue v.acting q, some)
     ]
-
-other_front : (p : Pid) (v : View) (i j : MsgId) (t : Told) → Plain p v i → v.told j ≡ Some t → asks_for p t ≡ true → id_eq i j ≡ false
-other_front p v i j t plain told a = grind (arith, nat_tests, id_eq-is)
 
 pub sent_begins : (p : Pid) (v : View) (q : Pid) (n : ℕ) (i : MsgId) (is : List MsgId) → v.inbox v.acting ≡ i ∷ is → Plain p v i → PairsFit v → Sending p v (v.queue v.acting q ++ v.held v.acting q) (sent_view v q n)
 sent_begins p v q n i is front plain fits =

@@ -39,7 +39,7 @@ Still p v w = (m : ℕ) → is_moving (w.known m p) ≡ is_moving (v.known m p)
 abbrev pub Plain : Pid → View → MsgId → Type 0
 Plain p v i = (t : Told) → v.told i ≡ Some t → asks_for p t ≡ false
 
-other_than : (p : Pid) (v : View) (i j : MsgId) (t : Told) → Plain p v i → v.told j ≡ Some t → asks_for p t ≡ true → id_eq i j ≡ false
+pub other_than : (p : Pid) (v : View) (i j : MsgId) (t : Told) → Plain p v i → v.told j ≡ Some t → asks_for p t ≡ true → id_eq i j ≡ false
 other_than p v i j t plain told a = not_true (id_eq i j) (λ e. let is : i ≡ j = id_eq-is i j e in false≢true (sym (plain t (ap v.told is ∙ told)) ∙ a))
 
 -- only one message stands elsewhere

@@ -2,11 +2,10 @@
 use Rattle.dm_movelaws.proofs.Names.{◌≡◌, ℕ, ◌+◌, ◌==◌, ◌&&◌, Bool, true, false, not, List, [], ◌∷◌, ◌++◌, length, refl, ap, ◌∙◌, sym, subst, inl, inr, arith, ⊤, if◌then◌else◌, Option, None, Some, cases_Bool, Pid, pid_of, pid_eq, MsgId}
 use Rattle.dm_movelaws.proofs.Names.{MessageKind, Stage, PlainProcess, pid_eq-is, Line, to_kernel, accepts, takes_chunk, takes_block, sends_on, kernel_told, chunks_of, pieces_of, View, Told, Of, Known, Here, Frozen, Incoming, view_after}
 use Rattle.dm_movelaws.proofs.Names.{handled_first, rejoins, front_of, gone_to, Point, moved, Part, Says, Spelled, spelled, Phase, Moves, is_apart, is_between, knows, receiver_in, Spot, Queue, times, ids_at, parts, at_record_off, line_next}
-use Rattle.dm_movelaws.proofs.Names.{due, InPhases, sane_line, Walks, loose_walks, turned, is_moving, asks, ends, accepted_off, state_off, memory_off, lacks_off, left_off}
-use Rattle.dm_rule.proofs.Names.{leaves}
+use Rattle.dm_movelaws.proofs.Names.{due, InPhases, sane_line, Walks, loose_walks, turned, is_moving, asks, ends, accepted_off, state_off, memory_off, lacks_off, left_off, leaves, label_of, is_put, touches}
 use Rattle.dm_movelaws.proofs.Ends.Smooth.{is_migrate, Smooth, Still, smooth_trans, smooth_still, moves_none}
 use Rattle.dm_movelaws.proofs.Ends.Lines.{Tame}
-use Rattle.dm_movelaws.proofs.Ends.Parts.{AllQuiet, Settled, one_if, zero_if}
+use Rattle.dm_movelaws.proofs.Ends.Parts.{AllQuiet, Settled, one_if, zero_if, first_off as first_off_and}
 use Rattle.dm_movelaws.proofs.Ends.Moving.{moving_in, not_false, target_waits, knows_target, waits_moves, here_stays, still_moves}
 use Rattle.dm_movelaws.proofs.Ends.Open.{level_balance, smooth_opens}
 use Rattle.dm_movelaws.proofs.Ends.Rows.{Turn, Comes, between_plain, first_smooth, line_then, line_alone, due_moves, other_still, set_here, level_row, level_still, quiet_row, about_same}
@@ -119,9 +118,6 @@ target_expects p q pt i is t h all about same =
     let v = pt.view in
     let u = due pt i is t h.phases h.front h.told (ap is_between all) in
     grind (arith, nat_tests, about_same, pid_eq-is, not_false, parts, target_waits)
-
-first_off_and : (b c : Bool) → b ≡ false → (b && c) ≡ false
-first_off_and b c e = ap (λ (x : Bool). x && c) e
 
 left_comes : (p : Pid) (pt : Point) (i : MsgId) (is : List MsgId) (t : Told) (q : Pid) (to : ℕ) (h : Turn pt i is t) → t.kind ≡ MessageKind.AllTaken → t.about ≡ Of q → ComesOf p pt h.phases (Some (leaving to i q (pt.view.queue pt.view.acting q ++ pt.view.held pt.view.acting q)))
 left_comes p pt i is t q to h all about w e g listed opens =

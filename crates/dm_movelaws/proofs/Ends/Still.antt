@@ -2,11 +2,11 @@
 use Rattle.dm_movelaws.proofs.Names.{◌≡◌, ℕ, ◌==◌, ◌&&◌, Bool, false, refl, ap, ◌∙◌, sym, subst, inl, inr, if◌then◌else◌, Option, None, Some, cases_Bool, Pid, pid_eq, MsgId, Label, Stage, Line, at_record, View, About, NothingElse, Known}
 use Rattle.dm_movelaws.proofs.Names.{Here, Ended, Told, view_after, handled, receiver_of, Point, pid_eq-is, parts, eq_is, queued_known, held_known, dropped_known, forwarded_known, Needs, NeedsLabel, Serves, killed_or, is_moving, ends}
 use Rattle.dm_movelaws.proofs.Names.{is_for}
-use Rattle.dm_rule.specs.View as view
 use Rattle.dm_movelaws.proofs.Ends.Smooth.{Extends, Still}
 use Rattle.dm_movelaws.proofs.Ends.Lines.{QuietLine, Foreign, follows_or}
 use Rattle.dm_movelaws.proofs.Names.{nat_tests}
 use Rattle.dm_movelaws.proofs.Names.{arith}
+use Rattle.dm_rule.specs.View as view
 
 pub still_same : (p : Pid) (v : View) → Still p v v
 still_same p v m = refl

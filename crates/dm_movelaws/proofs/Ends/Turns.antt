@@ -1,9 +1,9 @@
 -- A turn that handles a message of the bag, or serves a process, leaves all requests to move a process where they stand.
 use Rattle.dm_movelaws.proofs.Names.{ℕ, Bool, true, false, List, [], ◌∷◌, refl, if◌then◌else◌, Option, Some, Pid, MsgId, MessageKind, plain_kind, PlainMessage, Boot, View, Point, Part, Owns, Loose, loose_round, loose_handles, by_forwards}
 use Rattle.dm_movelaws.proofs.Names.{◌≡◌, goes_round, handles}
-use Rattle.dm_rule.specs.Rule as rule
 use Rattle.dm_movelaws.proofs.Ends.Lines.{Tame}
 use Rattle.dm_movelaws.proofs.Ends.Parts.{AllQuiet}
+use Rattle.dm_rule.specs.Rule as rule
 
 quiet_loose : (p : Pid) (v : View) → Loose (AllQuiet p v)
 quiet_loose p v = record { none = tt; label = λ l ps h. (tt, h); routes = λ i ps h. (tt, h) }

@@ -4,18 +4,14 @@ use Rattle.dm_movelaws.proofs.Names.{Place, MsgId, Boot, Life, Alive, OneKernel,
 use Rattle.dm_movelaws.proofs.Names.{KnownStands, agrees, group_replay, run_always, AtRest, IsThere, CountsPromise, update_of, IsUnderWay}
 use Rattle.dm_movelaws.proofs.At.RestAlways.{at_rest_always}
 use Rattle.dm_movelaws.proofs.Forwards.Told.{forwards_tell}
-use Rattle.dm_movelaws.proofs.Promise.Always.{promises_always}
+use Rattle.dm_movelaws.proofs.Promise.Always.{promises_always, same_some}
 use Rattle.dm_movelaws.proofs.Promise.Finds.{lines_by, leads_append}
 use Rattle.dm_movelaws.proofs.Promise.Kept.{lines_told}
 use Rattle.dm_movelaws.proofs.Promise.Trail.{OnTrail}
 use Rattle.dm_movelaws.proofs.Trail.Known.{trail_known}
+use Rattle.dm_movelaws.proofs.Real.Lines.{made_by as life_stays}
 
 -- a process that was made stays made
-life_stays : (a b : Option Life) → LifeGrows a b → is_some a ≡ true → is_some b ≡ true
-life_stays None b g e = absurd (false≢true e)
-life_stays (Some (Life.Ended y)) b g e = ap is_some g
-life_stays (Some (Alive x)) None g e = absurd g
-life_stays (Some (Alive x)) (Some l) g e = refl
 
 made_on : (b : Boot) (es : List Step) (pt end : Point) (q : Pid) (r e : MsgId → ℕ) → Leads b pt es end → Sound r e pt.kernel → is_some (pt.kernel.processes q) ≡ true → is_some (end.kernel.processes q) ≡ true
 made_on b [] pt end q r e leads h there = ap (λ (x : Point). is_some (x.kernel.processes q)) (sym leads) ∙ there
@@ -39,9 +35,6 @@ made_there to moves (Some l) e = refl
 -- a machine has one forwarding address for it
 one_count : (to m n : ℕ) → Forward to m ≡ Forward to n → m ≡ n
 one_count to m n e = cc
-
-same_some : (m n : ℕ) → Some m ≡ Some n → m ≡ n
-same_some m n e = cc
 
 turn_fits : (n : ℕ) (d : Step) → d ≡ Step.Turn (actor d) → actor d < n → IsStep n d
 turn_fits n d e h = subst (IsStep n) (sym e) h

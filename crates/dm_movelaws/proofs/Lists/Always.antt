@@ -1,14 +1,11 @@
 -- Messages wait only where a machine has a list for them.
 use Rattle.dm_movelaws.proofs.Names.{◌≡◌, ℕ, ◌+◌, ◌≤◌, Bool, true, false, List, [], ◌∷◌, refl, ap, ◌∙◌, subst, arith, if◌then◌else◌, Some, Pid, MsgId, PlainMessage, Boot, IsValid, id_eq-same, Step, Line, Leads, Part, Spelled, Point}
-use Rattle.dm_movelaws.proofs.Names.{first_point, moved, group_of, Inbox, times, View, is_server, Both, both_start, both_group, Run, run_start, run_group, ListsAlways, some_is, by_outcome, by_group}
-use Rattle.dm_rule.specs.Rule as rule
+use Rattle.dm_movelaws.proofs.Names.{first_point, moved, group_of, Inbox, times, View, is_server, Both, both_start, both_group, Run, run_start, run_group, ListsAlways, some_is, by_outcome, by_group, run_always, sym, inl, inr, Option, None}
+use Rattle.dm_movelaws.proofs.Names.{cases_Bool, false≢true, Spot, Queue, Held, StandsOutside, StandsRight, standing, is_kernels, stands_right, kernels_fresh, IsQueued, IsUserFor, IsFor, ListsForTheirs, user_kind}
 use Rattle.dm_movelaws.proofs.At.RestQueues.{drops_always}
-use Rattle.dm_movelaws.proofs.Lists.Hears.{migrates_ok}
-use Rattle.dm_movelaws.proofs.Lists.Parts.{ForProcess, NoQueues, AllOk, nets_ok, line_queues, parts_queues}
-use Rattle.dm_movelaws.proofs.Lists.Hears.{hears_ok}
-use Rattle.dm_movelaws.proofs.Lists.Turns.{round_ok, handles_ok}
+use Rattle.dm_movelaws.proofs.Lists.Parts.{migrates_ok, ForProcess, NoQueues, AllOk, nets_ok, line_queues, parts_queues, hears_ok, round_ok, handles_ok}
 use Rattle.dm_movelaws.proofs.After.{keeps_always}
-use Rattle.dm_movelaws.proofs.Names.{run_always}
+use Rattle.dm_rule.specs.Rule as rule
 
 at_front : (xs is : List MsgId) (i : MsgId) → xs ≡ i ∷ is → 1 ≤ times i xs
 at_front xs is i e =
@@ -46,3 +43,31 @@ lists_always b es pt valid way =
     let none = keeps_always b (λ q. NoneQueued q.view) (λ q d w fit is run h. queues_group b q d w is run h) valid (λ m p e. refl) es pt way in
     record { stand = (run_always b es pt valid way).run.based.lists; ended = λ m p e. drops_always b es pt m p valid way e; server = none }
 
+-- a message that stands and has entered is in the bag
+queued_by : (b : Boot) (pt : Point) (p : Pid) (i : MsgId) (z : Spot) (o : Option PlainMessage) (h : Run b pt) → pt.kernel.bag i ≡ o → IsQueued (h.based.phased.state.e i) p o → 1 ≤ standing pt.view i z → IsUserFor pt p i
+queued_by b pt p i z (Some x) h is q least = record { message = x; there = is; user = user_kind x.what (q.is x refl).1; receiver = (q.is x refl).0 }
+queued_by b pt p i z None h is q least =
+    let state = h.based.phased.state in
+    let right : StandsRight {M = PlainMessage} i None (standing pt.view i) = stands_right pt i state None is in
+    absurd (elim (cases_Bool (is_kernels i)) [
+      | inl own ↦ (let none = kernels_fresh state.r state.e pt.kernel i state.sound own in let some = q.entered in omega (arith, none, some))
+      | inr other ↦ nowhere (is_kernels i) other right
+    ])
+  where
+    nowhere : (c : Bool) → c ≡ false → StandsOutside c (standing pt.view i) → ⊥
+    nowhere true e k = false≢true (sym e)
+    nowhere false e k = let none = k z in omega (arith, none, least)
+
+held_by : (b : Boot) (pt : Point) (m : ℕ) (p : Pid) (i : MsgId) → Run b pt → 1 ≤ standing pt.view i (Held m p) → IsFor pt p i
+held_by b pt m p i h least =
+    let (t, told, to) = h.based.held m p i least in
+    record { told = t; is = told; receiver = to; of_bag = λ x there. sym (h.based.phased.sane.tells.receiver i x t there told) ∙ to }
+
+-- wherever the rule leads
+pub lists_for_theirs : ListsForTheirs
+lists_for_theirs b es pt valid leads =
+    let h = (run_always b es pt valid leads).run in
+    record {
+      queue = λ m p i least. queued_by b pt p i (Queue m p) (pt.kernel.bag i) h refl (h.based.queued m p i least) least;
+      held = λ m p i least. held_by b pt m p i h least;
+    }

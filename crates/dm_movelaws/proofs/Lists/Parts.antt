@@ -1,10 +1,10 @@
 -- No message is queued for a server: each line keeps it, where what it queues is for a process.
 use Rattle.dm_movelaws.proofs.Names.{◌≡◌, ℕ, ◌+◌, ◌==◌, Bool, true, false, not, filter, List, [], ◌∷◌, ◌++◌, length, refl, ap, ◌∙◌, sym, subst, ⊤, if◌then◌else◌, false≢true, Option, None, Some, Pid, MsgId, MessageKind, plain_kind, Label}
 use Rattle.dm_movelaws.proofs.Names.{bind-is, Step, Line, Load, Stage, Receiver, Part, Says, Routes, Again, Owns, Transmits, Spelled, lines_of, puts, goes_out, packet_line, spelled, Point, after_line, after, at_record, without_id}
-use Rattle.dm_movelaws.proofs.Names.{without_front, View, Told, About, NothingElse, view_after, handled, receiver_of, IsNetLine, IsNet, is_put, hushed, line_view, is_server, set_all, killed_or, told_kept, by_parts}
+use Rattle.dm_movelaws.proofs.Names.{without_front, View, Told, About, NothingElse, view_after, handled, receiver_of, IsNetLine, IsNet, is_put, hushed, line_view, is_server, set_all, killed_or, told_kept, by_parts, Boot, Addresses}
+use Rattle.dm_movelaws.proofs.Names.{forwards_on, migrates, hears, by_migrates, IsHeardLine, Kept, kept_forward, hears_kept, PlainMessage, goes_round, handles, Loose, loose_round, loose_handles}
+use Rattle.dm_movelaws.proofs.Leading.{All, lines_are, Saying, net_says}
 use Rattle.dm_rule.specs.View as view
-use Rattle.dm_movelaws.proofs.Leading.{All, lines_are}
-use Rattle.dm_movelaws.proofs.Leading.{Saying, net_says}
 
 -- what is queued is so
 abbrev pub LineOk : (MsgId → Type 0) → Line → Type 0
@@ -143,3 +143,30 @@ part_ok ok pt p ls h is = lines_are (LinesOk ok) pt p ls
 pub parts_queues : (before : View) (ps : List Part) (pt : Point) (w : Spelled) → AllOk (ForProcess before) ps → spelled pt ps ≡ Some w → NoQueues before pt.view → NoQueues before w.point.view
 parts_queues before qs q w ok is h = by_parts (λ ps pt v. AllOk (ForProcess before) ps → NoQueues before pt.view → NoQueues before v.point.view) (λ pt ok h. h)
     (λ p ps pt next ls z lines leads rest ok h. rest ok.1 (lines_queues before ls pt next (part_ok (ForProcess before) pt p ls ok.0 lines) leads h)) qs q w is ok h
+
+ok_line : (ok : MsgId → Type 0) (l : Line) → IsHeardLine l → LineOk ok l
+ok_line ok (Line.Queued i) h = absurd h
+ok_line ok _ h = tt
+
+ok_kept : (ok : MsgId → Type 0) → Kept (AllOk ok)
+ok_kept ok = record { none = tt; says = λ l ps h k. (ok_line ok l h, k); again = λ i to ps k. (tt, k); owns = λ k q to ps h. (tt, h) }
+
+pub forwards_ok : (ok : MsgId → Type 0) (a : Addresses) (id : MsgId) (k : MessageKind) (sender : Pid) (to : ℕ) → AllOk ok (forwards_on a id k sender to)
+forwards_ok ok a id k sender to = kept_forward (AllOk ok) (ok_kept ok) a id k sender to
+
+pub hears_ok : (ok : MsgId → Type 0) (b : Boot) (pt : Point) (m : ℕ) (id : MsgId) (o : Option Told) (ps : List Part) → hears b pt m id o ≡ Some ps → AllOk ok ps
+hears_ok ok b pt m id o ps e = hears_kept (AllOk ok) (ok_kept ok) b pt m id o ps e
+
+pub migrates_ok : (ok : MsgId → Type 0) (pt : Point) (p : Pid) → AllOk ok (migrates pt p)
+migrates_ok ok pt p = by_migrates (AllOk ok) pt p (tt, tt) (tt, tt) (λ n off is. (tt, tt))
+
+ok_loose : (ok : MsgId → Type 0) → Loose (AllOk ok)
+ok_loose ok = record { none = tt; label = λ l ps h. (tt, h); routes = λ i ps h. (tt, h) }
+
+pub round_ok : (ok : MsgId → Type 0) (b : Boot) (pt : Point) (m : ℕ) (o : Option Pid) (ps : List Part) → goes_round b pt m o ≡ Some ps → AllOk ok ps
+round_ok ok b pt m o ps e = loose_round (AllOk ok) (ok_loose ok) b pt m o ps (tt, tt) e
+
+pub handles_ok : (ok : MsgId → Type 0) (b : Boot) (pt : Point) (m : ℕ) (id : MsgId) (msg : PlainMessage) (ps : List Part) → (is_server msg.to ≡ false → ok id) → handles b pt m id msg ≡ Some ps → AllOk ok ps
+handles_ok ok b pt m id msg ps need e =
+    loose_handles (AllOk ok) (AllOk ok) (ok_loose ok) (λ qs h. h) b pt m id msg ps (λ here. (need here.process, tt)) (tt, tt)
+    (λ to moves at_. forwards_ok ok pt.addresses id (plain_kind msg.what) msg.sender to) e

@@ -5,6 +5,8 @@ use Rattle.dm_movelaws.proofs.After.{after-append, group_after}
 use Rattle.dm_movelaws.proofs.Stages.Marks.{open_after, open-append, marks-append}
 use Rattle.dm_movelaws.proofs.Stages.Spares.{mark_of, mark_in}
 use Rattle.dm_movelaws.proofs.Stages.Always.{group_marked}
+pub use Rattle.dm_movelaws.proofs.Stages.Always.{not_due as none_due}
+pub use Rattle.dm_movelaws.proofs.Stages.Always.{start_mark}
 
 -- the lines of a run lead where the run leads
 pub leads_of : (b : Boot) (es : List Step) (ls : List Line) (pt end : Point) → LeadsBy b pt es ls end → Leads b pt es end
@@ -30,8 +32,6 @@ mark_is (Moves k s d id) = kind_is k
 mark_is _ = refl
 
 -- between groups no message is due
-pub none_due : (v : View) (h : InPhases v) (p : Pid) → is_due (h.of p) ≡ false
-none_due v h p = not_true (is_due (h.of p)) (λ e. let f : None ≡ Some p = h.put p e in cc)
 
 -- where a run has come, with this open mark
 pub record Opened (end : Point) (p : Pid) (o : Option Mark) : Type 0 where
@@ -54,10 +54,6 @@ run_open b (d ∷ ds) ls pt end p (w, rest, fit, is, split, more) h =
     }
 
 -- nothing is told of before the first line
-pub start_mark : (b : Boot) (p : Pid) (a : Phase) → IsIn (first_view b) p a → is_due a ≡ false → mark_in a ≡ None
-start_mark b p (Moves k s d None) h due = cc
-start_mark b p (Moves k s d (Some i)) h due = absurd (let e = h.token.told in cc)
-start_mark b p _ h due = refl
 
 -- wherever the rule leads
 pub open_moves : OpenMoves

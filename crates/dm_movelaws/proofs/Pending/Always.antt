@@ -2,16 +2,15 @@
 use Rattle.dm_movelaws.proofs.Names.{◌≡◌, ◌⊎◌, ℕ, ◌+◌, ◌*◌, ◌<◌, ◌≤◌, ◌==◌, ◌&&◌, Bool, true, false, List, [], ◌∷◌, ◌++◌, length, is_some, refl, ap, ◌∙◌, sym, subst, inl, inr, arith, if◌then◌else◌, nat_lt, Option, None, Some, cases_Bool}
 use Rattle.dm_movelaws.proofs.Names.{false≢true, nat_tests, Pid, pid_eq, PlainLink, MsgId, MessageKind, id_of, bool_eq, plain_kind, PlainMessage, PlainWhat, switchboard, manager, Boot, Label, Manager, Pending, OneKernel, with_sent}
 use Rattle.dm_movelaws.proofs.Names.{without_message, replay, entry, reception, in_bag, after_step, ServerSends, board_takes_lem, manager_takes_lem, Sound, bind-is, Step, ascends, Leads, Point, first_point, labels, View, still_pending}
-use Rattle.dm_movelaws.proofs.Names.{IsPending, WhatFits, KernelFits, based_start, based_group, based_always, fits_step, group_replay, Based, makes, is_pending, HasOne, IsOfPending, PendingHasOne}
-use Rattle.dm_onekernel.specs.Manager as manage
-use Rattle.dm_onekernel.specs.Service as service
-use Rattle.dm_onekernel.specs.Step as kernel
-use Rattle.dm_onekernel.specs.Switchboard as board
+use Rattle.dm_movelaws.proofs.Names.{IsPending, WhatFits, KernelFits, based_start, based_group, based_always, fits_step, group_replay, Based, makes, is_pending, HasOne, IsOfPending, PendingHasOne, Spelled, group_of, PendingAscends}
 use Rattle.dm_movelaws.proofs.Pending.Pairs.{is_create, is_answer, Neither, neither, Pair, answer_of, Ones, Off, off_both, out_ones, put_ones, from_other, and_false, took_pair, asked_pair}
 use Rattle.dm_movelaws.proofs.Pending.Steps.{label_ones}
 use Rattle.dm_movelaws.proofs.Promise.Before.{step_pending}
 use Rattle.dm_movelaws.proofs.After.{keeps_always}
-use Rattle.dm_movelaws.proofs.Names.{Spelled, group_of}
+use Rattle.dm_onekernel.specs.Manager as manage
+use Rattle.dm_onekernel.specs.Service as service
+use Rattle.dm_onekernel.specs.Step as kernel
+use Rattle.dm_onekernel.specs.Switchboard as board
 
 -- the switchboard takes user messages
 board_neither : (b : _) (m : PlainMessage) (w : PlainWhat) (k : board.BoardTook) → m.what ≡ w → board.board_takes b m w ≡ Some k → Neither m.what
@@ -247,3 +246,6 @@ pending_has_one b es pt valid leads =
     let based = based_always b es pt valid leads in
     let ones = keeps_always b (λ q. Ones q.kernel) (λ q d w fit is run h. ones_on b q d w is run.based h) valid (λ n p. absurd (false≢true p)) es pt leads in
     record { has = λ n p. has_one pt.kernel n (ones n p); only = λ i m there e. of_pending pt.kernel i m m.what (based.fits.messages i m there) e }
+
+pub pending_ascends : PendingAscends
+pending_ascends b es pt valid leads = (based_always b es pt valid leads).pending

@@ -15,7 +15,7 @@ use Rattle.dm_movelaws.proofs.Promise.Finds.{lines_by, leads_append, Handles, fi
 same_place : (a b : Place) → a.at ≡ b.at → a.moves ≡ b.moves → a ≡ b
 same_place a b e f = λ i. record { at = e i; moves = f i }
 
-same_some : (m n : ℕ) → Some m ≡ Some n → m ≡ n
+pub same_some : (m n : ℕ) → Some m ≡ Some n → m ≡ n
 same_some m n e = cc
 
 -- what the record of the update says is what was told

@@ -2,14 +2,13 @@
 use Rattle.dm_movelaws.proofs.Names.{◌≡◌, ◌⊎◌, ℕ, ◌≤◌, Bool, true, false, List, [], ◌∷◌, ◌==◌, ◌&&◌, length, refl, ap, ◌∙◌, sym, subst, inl, inr, Option, None, Some, cases_Bool, false≢true, Pid, Place, MsgId, MessageKind, id_eq, plain_kind}
 use Rattle.dm_movelaws.proofs.Names.{PlainMessage, PlainWhat, Boot, id_eq-is, Step, Line, View, Pair, marked, Told, is_kernels, after_head, Point, Part, Says, Transmits, Spelled, packet_line, spelled, standing, migrates, group_of, letters}
 use Rattle.dm_movelaws.proofs.Names.{not_kernels, eq_is, not_true, parts, IsNet, fits, under_way, kernels_by, Phased, set_is, set_other, PairsFit, Sane, begun, begun_sane, said_by, update_of, by_migrates, by_outcome, group_is}
-use Rattle.dm_rule.specs.Rule as rule
 use Rattle.dm_movelaws.proofs.Promise.Kept.{told_stays}
 use Rattle.dm_movelaws.proofs.Promise.Spots.{Stands}
 use Rattle.dm_movelaws.proofs.Promise.Stands.{packet_stands, head_stands, net_stands}
-use Rattle.dm_movelaws.proofs.Promise.Parts.{all_loose, GoesOf, next_of}
-use Rattle.dm_movelaws.proofs.Promise.Rows.{Waits, loose_row, round_goes, handles_goes}
+use Rattle.dm_movelaws.proofs.Promise.Parts.{all_loose, GoesOf, next_of, Waits, loose_row, round_goes, handles_goes, Goes}
 use Rattle.dm_movelaws.proofs.Promise.Told.{hears_goes, hears_this}
-use Rattle.dm_movelaws.proofs.Promise.Parts.{Goes}
+use Rattle.dm_movelaws.proofs.Leading.{net_lead}
+use Rattle.dm_rule.specs.Rule as rule
 
 -- no message of the bag is an update
 no_update : (k : PlainWhat) → plain_kind k ≡ MessageKind.Update → ⊥
@@ -38,16 +37,7 @@ bag_apart pt i j x h there own = not_true (id_eq i j) (λ f. false≢true (sym (
 
 -- packets and what they bring
 net_goes : (ps : List Part) (j : MsgId) (pt : Point) (w : Spelled) → IsNet ps → Stands pt.view j → spelled pt ps ≡ Some w → Stands w.point.view j
-net_goes [] j pt w net h is = let f : record { lines = []; point = pt } ≡ w = cc in subst (λ (x : Spelled). Stands x.point.view j) f h
-net_goes (Says l ∷ ps) j pt w net h is =
-    let n = next_of pt (Says l) ps w is in
-    let k = said_by pt n.next l n.steps in
-    subst (λ (x : Point). Stands x.view j) n.point (net_goes ps j n.next n.rest net.1 (subst (λ (x : Point). Stands x.view j) k.is (net_stands pt.view l j net.0 h)) n.more)
-net_goes (Transmits a b l ∷ ps) j pt w net h is =
-    let n = next_of pt (Transmits a b l) ps w is in
-    let k = said_by pt n.next (packet_line pt.view a b l) (record { lines = n.steps.lines; are = n.steps.are; leads = n.steps.leads }) in
-    subst (λ (x : Point). Stands x.view j) n.point (net_goes ps j n.next n.rest net.1 (subst (λ (x : Point). Stands x.view j) k.is (packet_stands pt.view a b (length (pt.view.pair a b).wire) l j h)) n.more)
-net_goes _ j pt w net h is = absurd net.0
+net_goes ps j pt w net h is = net_lead (λ x. Stands x.view j) (λ x a c n l f. packet_stands x.view a c n l j f) (λ q s l line there. net_stands q.view l j line there) ps pt w net is h
 
 -- a directive to move a process
 migrates_loose : (o : Point) (p : Pid) → all_loose (migrates o p) ≡ true

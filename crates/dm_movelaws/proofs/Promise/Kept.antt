@@ -3,8 +3,8 @@ use Rattle.dm_movelaws.proofs.Names.{◌≡◌, ℕ, ◌+◌, ◌≤◌, ◌&&�
 use Rattle.dm_movelaws.proofs.Names.{MessageKind, id_eq, Label, OneKernel, entry, reception, id_eq-is, after_step, Sound, bind-is, Line, View, Told, view_after, Addresses, Holder, Slot, Gets, given, gives, forwards, told_back_gets}
 use Rattle.dm_movelaws.proofs.Names.{all_follow, first_gives, own_gives, is_told_back, is_behind, is_pid, belongs_to, leads_to, updated, updated_to, place_told, addresses_after, ascends, Point, label_of, kernel_after, after_line, after}
 use Rattle.dm_movelaws.proofs.Names.{moved, parts, hushed, put_at, put_told_off, gives_to, fills, Unfilled, first_kept}
-use Rattle.dm_rule.specs.View as view
 use Rattle.dm_movelaws.proofs.Promise.Before.{not_given, step_pending, led_before}
+use Rattle.dm_rule.specs.View as view
 
 put_told : (v : View) (a b : ℕ) (i j : MsgId) (k : MessageKind) (q : Pid) (t : Told) → v.told j ≡ Some t → (view.after_put v a b i k q).told j ≡ Some t
 put_told v a b i j k q t e = elim (cases_Bool (id_eq i j)) [

@@ -2,12 +2,12 @@
 use Rattle.dm_movelaws.proofs.Names.{◌≡◌, ◌⊎◌, ℕ, ◌≤◌, ◌==◌, ◌&&◌, Bool, true, false, List, [], ◌∷◌, ◌++◌, length, refl, ap, ◌∙◌, sym, subst, inl, inr, arith, ⊤, if◌then◌else◌, Option, None, Some, cases_Bool, false≢true, Pid, MsgId}
 use Rattle.dm_movelaws.proofs.Names.{MessageKind, plain_kind, id_eq, bind, id_eq-is, id_eq-same, bind-is, Line, Stage, Load, View, Told, is_kernels, own_id, view_after, Receiver, Point, label_of, kernel_after, after, moved, Part, Says}
 use Rattle.dm_movelaws.proofs.Names.{Routes, Again, Owns, Transmits, Spelled, lines_of, puts, goes_out, packet_line, behind, spelled, times, sends_on, is_put, not_true, parts, one_of, touches, pair_same, fits_as, PairsFit, fits_put}
-use Rattle.dm_movelaws.proofs.Names.{fits_packet, Sane, Sayable, part_sane, Steps, said_by}
+use Rattle.dm_movelaws.proofs.Names.{fits_packet, Sane, Sayable, part_sane, Steps, said_by, OneKernel, PlainMessage, Boot, Addresses, Sender, forwards_on, Loose, loose_round, loose_handles, by_forwards}
 use Rattle.dm_movelaws.proofs.Promise.Kept.{lines_told}
 use Rattle.dm_movelaws.proofs.Promise.Spots.{Stands, Spares, line_stands}
 use Rattle.dm_movelaws.proofs.Promise.Stands.{label_stands, put_this, put_stands, packet_stands}
 use Rattle.dm_movelaws.proofs.Leading.{Behind, whatever_put, part_leads}
-use Rattle.dm_onekernel.specs.Kernel.{OneKernel}
+use Rattle.dm_rule.specs.Rule as rule
 
 -- a kernel's own message that was told of
 pub record Base (j : MsgId) (t : Told) (pt : Point) : Type 0 where
@@ -184,3 +184,32 @@ sends_stand (i ∷ is_) j t to ps pt w e base h is =
       ]
     ] in
     subst (λ (x : Point). Stands x.view j) n.point (sends_stand is_ j t to ps n.next n.rest e base_ there n.more)
+
+-- the message stands somewhere where a turn begins
+pub record Waits (j : MsgId) (t : Told) (pt : Point) : Type 0 where
+  pub base : Base j t pt
+  pub stands : Stands pt.view j
+
+pub first_row : (j : MsgId) (t : Told) (pt : Point) (p : Part) (ps : List Part) → Waits j t pt → NeedsPart j pt p → all_loose ps ≡ true → Goes j pt (p ∷ ps)
+first_row j t pt p ps h need e = first_goes j t pt p ps need e h.base h.stands
+
+pub loose_row : (j : MsgId) (t : Told) (pt : Point) (ps : List Part) → Waits j t pt → all_loose ps ≡ true → Goes j pt ps
+loose_row j t pt ps h e = loose_goes j t pt ps e h.base h.stands
+
+quiet_loose : Loose (λ ps. all_loose ps ≡ true)
+quiet_loose = record { none = refl; label = λ l ps h. h; routes = λ i ps h. h }
+
+-- a process is served
+pub round_goes : (j : MsgId) (t : Told) (pt : Point) (b : Boot) (o : Point) (m : ℕ) (q : Option Pid) (ps : List Part) → Waits j t pt → rule.goes_round b o m q ≡ Some ps → Goes j pt ps
+round_goes j t pt b o m q ps h e = loose_row j t pt ps h (loose_round (λ xs. all_loose xs ≡ true) quiet_loose b o m q ps refl e)
+
+-- another message is handled
+pub forwards_goes : (j : MsgId) (t : Told) (pt : Point) (a : Addresses) (id : MsgId) (k : MessageKind) (sender : Pid) (to : ℕ) → Waits j t pt → id_eq id j ≡ false → Goes j pt (forwards_on a id k sender to)
+forwards_goes j t pt a id k sender to h off =
+    let l = Says (Line.Forwarded id to) in
+    by_forwards (Goes j pt) a id k sender to (first_row j t pt l (Again id to ∷ []) h off refl) (first_row j t pt l (Again id to ∷ Owns MessageKind.Update sender (a (Sender id)).at ∷ []) h off refl)
+
+pub handles_goes : (j : MsgId) (t : Told) (pt : Point) (b : Boot) (o : Point) (m : ℕ) (id : MsgId) (msg : PlainMessage) (ps : List Part) → Waits j t pt → id_eq id j ≡ false → rule.handles b o m id msg ≡ Some ps → Goes j pt ps
+handles_goes j t pt b o m id msg ps h off e =
+    loose_handles (Goes j pt) (λ xs. all_loose xs ≡ true) quiet_loose (λ xs. loose_row j t pt xs h) b o m id msg ps (λ here. first_row j t pt (Says (Line.Queued id)) [] h off refl) (first_row j t pt (Says (Line.Held id)) [] h off refl)
+    (λ to moves at_. forwards_goes j t pt o.addresses id (plain_kind msg.what) msg.sender to h off) e

@@ -6,9 +6,9 @@ use Rattle.dm_movelaws.proofs.Names.{held_for, Point, Spot, Queue, Held, Inbox, 
 use Rattle.dm_movelaws.proofs.Names.{served_keeps, serving_off, created_off, IsNetLine, early_off, acked_off, turn_off, tick_off, deliver_off, migrate_off, emptied, both_lists, both_times, handled_spots, dropped_spots, put_spots}
 use Rattle.dm_movelaws.proofs.Names.{taken_calm, put_spot, put_there, Sane, packet_off, received_spots, ended_off}
 use Rattle.dm_rule.proofs.Moves.Sent.{sent_off}
+use Rattle.dm_movelaws.proofs.Promise.Spots.{Stands, stands_as, stands_off, Front, first_stands}
 use Rattle.dm_onekernel.specs.Step as kernel
 use Rattle.dm_rule.specs.View as view
-use Rattle.dm_movelaws.proofs.Promise.Spots.{Stands, stands_as, stands_off, Front, first_stands}
 
 -- a label takes a message of the bag, which is no kernel's own
 own_apart : (i j : MsgId) → is_kernels i ≡ false → is_kernels j ≡ true → id_eq i j ≡ false

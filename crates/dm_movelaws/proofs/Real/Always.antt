@@ -2,14 +2,12 @@
 use Rattle.dm_movelaws.proofs.Names.{◌≡◌, ◌≢◌, ℕ, ◌<◌, ◌≤◌, ◌==◌, ◌||◌, Bool, true, false, List, [], ◌∷◌, is_some, nat_lt, refl, ap, ◌∙◌, sym, subst, inl, inr, arith, if◌then◌else◌, Option, None, Some, cases_Bool, false≢true, nat_tests}
 use Rattle.dm_movelaws.proofs.Names.{Pid, pid_eq, MsgId, Line, PlainMessage, PlainWhat, Boot, IsValid, switchboard, manager, Life, OneKernel, is_counted, counts, Step, IsStep, Leads, Spelled, Point, first_point, group_of, Inbox, times}
 use Rattle.dm_movelaws.proofs.Names.{View, Told, Known, Unknown, Here, after_head, is_kernels, actor, group_is, outcome_sayable, line_within, has_bytes, is_server, WhatFits, agrees, begun, begun_sane, named_real, Both, both_start}
-use Rattle.dm_movelaws.proofs.Names.{both_group, times_self, Run, run_start, run_group, IsReal, Kernel, Server, Made, IsAboutReal, RealAlways, or_cases, from_kernel}
-use Rattle.dm_rulelaws.proofs.Found.Core as core
+use Rattle.dm_movelaws.proofs.Names.{both_group, times_self, Run, run_start, run_group, IsReal, Kernel, Server, Made, IsAboutReal, RealAlways, or_cases, from_kernel, run_always}
 use Rattle.dm_movelaws.proofs.Ends.Smooth.{told_by}
 use Rattle.dm_movelaws.proofs.NumbersAlways.{bag_counted, told_counted}
-use Rattle.dm_movelaws.proofs.Real.Rows.{HereReal, InboxTold, outcome_real}
-use Rattle.dm_movelaws.proofs.Real.Lines.{rises_same, Reals, Receivers, parts_reals}
+use Rattle.dm_movelaws.proofs.Real.Lines.{HereReal, InboxTold, outcome_real, rises_same, Reals, Receivers, parts_reals}
 use Rattle.dm_movelaws.proofs.After.{keeps_always}
-use Rattle.dm_movelaws.proofs.Names.{run_always}
+use Rattle.dm_rulelaws.proofs.Found.Core as core
 
 -- whom a machine knows
 agrees_made : (k : Known) (l : Option Life) → k ≢ Unknown → agrees k l ≡ true → is_some l ≡ true

@@ -7,6 +7,7 @@ use Rattle.dm_onekernel.specs.Start.{begun}
 use Rattle.dm_movelaws.proofs.After.{group_after}
 use Rattle.dm_movelaws.proofs.Routed.Groups.{IsTold, AllTold, told_group}
 use Rattle.dm_movelaws.proofs.Routed.Steps.{has_sent, is_sent}
+use Rattle.dm_movelaws.proofs.Ends.Open.{shorter as without_length}
 
 -- before the first line nobody has sent
 none_less : (n : ℕ) → nat_lt n 0 ≡ false
@@ -81,10 +82,6 @@ told_on b (d ∷ ds) ls pt end valid (w, rest, fit, is, are, more) both h =
 -- so many names are so many messages
 one_off : (p : Pid) (k n : ℕ) → k < n → one_of (id_of p k) (id_of p n) ≡ 0
 one_off p k n less = grind (arith, nat_tests, id_eq-is)
-
-without_length : (i : MsgId) (ids : List MsgId) → 1 ≤ times i ids → length ids ≡ suc (length (without_id i ids))
-without_length i [] least = absurd (omega (arith, least))
-without_length i (j ∷ js) least = grind (arith, nat_tests, without_length i js)
 
 few : (n : ℕ) (p : Pid) (ids : List MsgId) → ((k : ℕ) → k < n → 1 ≤ times (id_of p k) ids) → n ≤ length ids
 few zero p ids h = omega arith

@@ -3,10 +3,10 @@ use Rattle.dm_movelaws.proofs.Names.{◌≡◌, ◌⊎◌, ℕ, ◌+◌, Bool, t
 use Rattle.dm_movelaws.proofs.Names.{id_eq, id_of, PlainMessage, PlainWhat, Label, Why, switchboard, manager, PlainProcess, Life, Alive, OneKernel, with_process, with_sent, answer_to, without_message, pid_eq-is, id_eq-same, Sent, sent_at}
 use Rattle.dm_movelaws.proofs.Names.{ServerSends, board_takes_lem, manager_takes_lem, lands-is, Sent-from, name_is, by_step}
 use Rattle.dm_onekernel.specs.Kernel.{Ended}
+use Rattle.dm_onekernel.specs.Start.{begun}
 use Rattle.dm_onekernel.specs.Kernel as kernels
 use Rattle.dm_onekernel.specs.Pieces as pieces
 use Rattle.dm_onekernel.specs.Service as service
-use Rattle.dm_onekernel.specs.Start.{begun}
 use Rattle.dm_onekernel.specs.Step as step
 
 -- the sender of a message counts it: a living process, or a server

@@ -3,19 +3,17 @@ use Rattle.dm_movelaws.proofs.Names.{◌≡◌, ℕ, ◌==◌, Bool, true, false
 use Rattle.dm_movelaws.proofs.Names.{Told, About, Of, Known, first_view, target_of, is_between, Phase, Moves, is_due, IsIn, Point, first_point, Part, Spelled, spelled, kernel_told, server_told, process_told, migrates, group_of, bind-is}
 use Rattle.dm_movelaws.proofs.Names.{IsNet, not_true, front_way, Phased, phased_start, phased_group, due, Calm, calm_same, calm_in, told_some, head_calm, net_parts, migrates_quiet, Tame, plain_in_bag, parts_settle, InPhases, calm_phases}
 use Rattle.dm_movelaws.proofs.Names.{State, PairsFit, Sane, LeadsBy, begun, begun_sane, Mark, marks, in_order, StepsInOrder, plain_by, by_migrates, by_outcome}
+use Rattle.dm_movelaws.proofs.Stages.Marks.{order-append, marks-append, marks_of, group_says}
+use Rattle.dm_movelaws.proofs.Stages.Spares.{mark_in, spares_same, spares_calm, Marked, none_marked}
+use Rattle.dm_movelaws.proofs.Stages.Lines.{AllMild, mild_marks, net_marks, TameAt, parts_spare}
+use Rattle.dm_movelaws.proofs.Stages.Hears.{round_mild, handles_mild, Hears, Calms, Freezes, freezes, server_mild, process_hears}
+use Rattle.dm_movelaws.proofs.Stages.Rows.{about_others, plain_others, row_marked}
+use Rattle.dm_movelaws.proofs.Stages.Steps.{freezes_row}
+use Rattle.dm_movelaws.proofs.Stages.Told.{told_marked}
 use Rattle.dm_onekernel.specs.Step as kernel
 use Rattle.dm_rule.specs.View as view
 use Rattle.dm_rule.specs.Rule as rule
 use Rattle.dm_rule.proofs.Groups as groups
-use Rattle.dm_movelaws.proofs.Stages.Marks.{order-append, marks-append, marks_of, group_says}
-use Rattle.dm_movelaws.proofs.Stages.Spares.{mark_in, spares_same, spares_calm, Marked, none_marked}
-use Rattle.dm_movelaws.proofs.Stages.Lines.{AllMild, mild_marks, net_marks, TameAt}
-use Rattle.dm_movelaws.proofs.Stages.Parts.{parts_spare}
-use Rattle.dm_movelaws.proofs.Stages.Turns.{round_mild, handles_mild}
-use Rattle.dm_movelaws.proofs.Stages.Hears.{Hears, Calms, Freezes, freezes, server_mild, process_hears}
-use Rattle.dm_movelaws.proofs.Stages.Rows.{about_others, plain_others, row_marked}
-use Rattle.dm_movelaws.proofs.Stages.Steps.{freezes_row}
-use Rattle.dm_movelaws.proofs.Stages.Told.{told_marked}
 
 -- where the parts of a turn begin
 pub record Turning (o pt : Point) (m : ℕ) : Type 0 where
@@ -130,7 +128,7 @@ group_marked b pt d w e h p =
     (head_marked pt.view (begun pt d).view g.rest.point.view p (marks_of p g.parts) (head_calm pt.view d) (outcome_marked b pt d g.parts g.rest h g.is g.said p)))
 
 -- groups
-not_due : (v : View) (h : InPhases v) (p : Pid) → is_due (h.of p) ≡ false
+pub not_due : (v : View) (h : InPhases v) (p : Pid) → is_due (h.of p) ≡ false
 not_due v h p = not_true (is_due (h.of p)) (λ e. let f : None ≡ Some p = h.put p e in cc)
 
 pub run_marked : (b : Boot) (es : List Step) (ls : List Line) (pt end : Point) (p : Pid) → LeadsBy b pt es ls end → (h : Phased pt) → in_order (mark_in (h.phases.of p)) (marks p ls) ≡ true
@@ -144,7 +142,7 @@ run_marked b (d ∷ ds) ls pt end p (w, rest, fit, is, split, more) h =
     ∙ order-append o (marks p w.lines) (marks p rest) g.0 (ap (λ (x : Option Mark). in_order x (marks p rest)) g.1 ∙ later)
 
 -- nothing is told of before the first line
-start_mark : (b : Boot) (p : Pid) (a : Phase) → IsIn (first_view b) p a → is_due a ≡ false → mark_in a ≡ None
+pub start_mark : (b : Boot) (p : Pid) (a : Phase) → IsIn (first_view b) p a → is_due a ≡ false → mark_in a ≡ None
 start_mark b p (Moves k s d None) h due = cc
 start_mark b p (Moves k s d (Some i)) h due = absurd (let e = h.token.told in cc)
 start_mark b p _ h due = refl

@@ -1,8 +1,21 @@
 -- What a process or a server says of a kernel's own message leaves all migrations as they are, or freezes the process.
 use Rattle.dm_movelaws.proofs.Names.{◌≡◌, ℕ, ◌==◌, Bool, true, false, List, [], ◌∷◌, refl, subst, if◌then◌else◌, Some, Pid, MsgId, MessageKind, Line, Stage, manager, Told, Known, Unknown, Here, Forward, Ended, target_of, Point, Part, Says}
-use Rattle.dm_movelaws.proofs.Names.{to_kernel, forwards_on, updates, here_told, ended_told, process_told, server_told}
+use Rattle.dm_movelaws.proofs.Names.{to_kernel, forwards_on, updates, here_told, ended_told, process_told, server_told, Option, plain_kind, PlainMessage, Boot, goes_round, handles, Addresses, Loose, loose_round, loose_handles, by_forwards}
 use Rattle.dm_movelaws.proofs.Stages.Lines.{AllMild}
-use Rattle.dm_movelaws.proofs.Stages.Turns.{forwards_mild}
+
+mild_loose : (me : Pid) (front : Option MsgId) → Loose (AllMild me front)
+mild_loose me front = record { none = tt; label = λ l ps h. (tt, h); routes = λ i ps h. (tt, h) }
+
+pub round_mild : (me : Pid) (front : Option MsgId) (b : Boot) (pt : Point) (m : ℕ) (o : Option Pid) (ps : List Part) → goes_round b pt m o ≡ Some ps → AllMild me front ps
+round_mild me front b pt m o ps e = loose_round (AllMild me front) (mild_loose me front) b pt m o ps (tt, tt) e
+
+pub forwards_mild : (me : Pid) (a : Addresses) (id : MsgId) (k : MessageKind) (sender : Pid) (to : ℕ) → AllMild me (Some id) (forwards_on a id k sender to)
+forwards_mild me a id k sender to = by_forwards (AllMild me (Some id)) a id k sender to (refl, (tt, tt)) (refl, (tt, (tt, tt)))
+
+pub handles_mild : (me : Pid) (b : Boot) (pt : Point) (m : ℕ) (id : MsgId) (msg : PlainMessage) (ps : List Part) → handles b pt m id msg ≡ Some ps → AllMild me (Some id) ps
+handles_mild me b pt m id msg ps e =
+    loose_handles (AllMild me (Some id)) (AllMild me (Some id)) (mild_loose me (Some id)) (λ qs h. h) b pt m id msg ps (λ here. (refl, tt)) (refl, tt)
+    (λ to moves at_. forwards_mild me pt.addresses id (plain_kind msg.what) msg.sender to) e
 
 -- the parts that freeze a process
 abbrev pub freezes : Pid → ℕ → List Part

@@ -5,8 +5,7 @@ use Rattle.dm_movelaws.proofs.Names.{id_eq-same, pid_eq-is, pid_eq-same, is_put,
 use Rattle.dm_movelaws.proofs.Names.{sane_line, Mark, with_mark, in_order, first_none}
 use Rattle.dm_movelaws.proofs.Stages.Marks.{open_after}
 use Rattle.dm_movelaws.proofs.Stages.Spares.{is_settled, mark_of, Spares, TokenOf, HasMark, token_mark, Marked, none_marked, some_marked}
-use Rattle.dm_movelaws.proofs.Stages.Lines.{AllMild, spares_line, same_spot}
-use Rattle.dm_movelaws.proofs.Stages.Parts.{Kept, parts_spare}
+use Rattle.dm_movelaws.proofs.Stages.Lines.{AllMild, spares_line, same_spot, Kept, parts_spare}
 pub use Rattle.dm_rule.proofs.Phases.Put.{of_same}
 
 -- the message at the front, of no other process's migration

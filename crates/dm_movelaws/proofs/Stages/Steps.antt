@@ -5,8 +5,7 @@ use Rattle.dm_movelaws.proofs.Names.{ids_at, standing, pid_eq-swap, is_put, at_r
 use Rattle.dm_movelaws.proofs.Names.{mark_for, with_mark, in_order, released_on}
 use Rattle.dm_movelaws.proofs.Stages.Marks.{open_after, marks_of, mark_same, mark_other, marks_sent}
 use Rattle.dm_movelaws.proofs.Stages.Spares.{is_settled, Spares, spares_same, TokenOf, HasMark, token_mark, here_mark, some_marked}
-use Rattle.dm_movelaws.proofs.Stages.Lines.{AllMild, spares_line, same_spot}
-use Rattle.dm_movelaws.proofs.Stages.Parts.{Kept, parts_spare}
+use Rattle.dm_movelaws.proofs.Stages.Lines.{AllMild, spares_line, same_spot, Kept, parts_spare}
 use Rattle.dm_movelaws.proofs.Stages.Hears.{freezes}
 use Rattle.dm_movelaws.proofs.Stages.Rows.{Handling, first_spares, owns_token, line_sane, line_fits, line_and_parts, Row, split}
 

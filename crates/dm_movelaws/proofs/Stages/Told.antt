@@ -1,14 +1,12 @@
 -- A kernel hears of a process from another kernel: what that says of the marks of each process.
 use Rattle.dm_movelaws.proofs.Names.{◌≡◌, ℕ, ◌==◌, Bool, true, false, List, [], ◌∷◌, ◌++◌, refl, ap, ◌∙◌, subst, Option, None, Some, Pid, pid_of, pid_eq, MsgId, MessageKind, Line, Stage, PlainProcess, View, Told, after_proto, Of, Known}
 use Rattle.dm_movelaws.proofs.Names.{Frozen, Incoming, handled, front_of, view_after, accepts, gives_piece, takes_chunk, takes_block, kernel_told, chunks_of, pieces_of, is_between, Point, Part, Says, Owns, Spelled, spelled, pid_eq-swap}
-use Rattle.dm_movelaws.proofs.Names.{first_off, accepted_off, state_off, memory_off, lacks_off, proto_off, restarted_off, record_off, proto_known, InPhases, Mark, Reached, Lacking, Staying, mark_for}
-use Rattle.dm_rule.proofs.Names.{leaves}
-use Rattle.dm_movelaws.proofs.Stages.Marks.{mark_same, mark_other, marks_of}
+use Rattle.dm_movelaws.proofs.Names.{first_off, accepted_off, state_off, memory_off, lacks_off, proto_off, restarted_off, record_off, proto_known, InPhases, Mark, Reached, Lacking, Staying, mark_for, leaves, label_of, is_put, touches, Spot}
+use Rattle.dm_movelaws.proofs.Names.{ids_at, handled_first, with_mark, in_order, to_kernel}
+use Rattle.dm_movelaws.proofs.Stages.Marks.{mark_same, mark_other, marks_of, open_after}
 use Rattle.dm_movelaws.proofs.Stages.Spares.{mark_of, HasMark, token_mark, Marked}
 use Rattle.dm_movelaws.proofs.Stages.Rows.{Handling, front_token, row_marked, answer}
 use Rattle.dm_movelaws.proofs.Stages.Steps.{comes_home, departs, departs_row}
-use Rattle.dm_movelaws.proofs.Names.{label_of, is_put, touches, Spot, ids_at, handled_first, with_mark, in_order, to_kernel}
-use Rattle.dm_movelaws.proofs.Stages.Marks.{open_after}
 
 -- the message about a process at the front
 pub record Heard (pt : Point) (i : MsgId) (is : List MsgId) (t : Told) (q : Pid) : Type 0 where

@@ -2,12 +2,9 @@
 use Rattle.dm_movelaws.proofs.Names.{◌≡◌, ◌≢◌, ℕ, ◌+◌, ◌==◌, ◌≤◌, Bool, true, false, List, [], ◌∷◌, ◌++◌, length, refl, ap, ◌∙◌, sym, subst, arith, false≢true, length-append, if◌then◌else◌, slice_get, Option, None, Some, Pid, pid_eq, MsgId}
 use Rattle.dm_movelaws.proofs.Names.{MessageKind, Line, Stage, View, Told, Known, Frozen, Incoming, Forward, own_id, handled, forwarded_for, receiver_of, view_after, gone_to, Receiver, Sender, is_told_back, Point, moved, Says, Again, Owns}
 use Rattle.dm_movelaws.proofs.Names.{to_kernel, forwards_on, sends_on, Moves, IsIn, times, Trails, IsOn, destination, trails_after, both_lists, forwarded_known, Sane, get_at_end, forwarded_back, Named, source_holds, two_apart, sent_on_at}
-use Rattle.dm_movelaws.proofs.Names.{Treads, PutFits, Rides, said_by, again_rides, named_for, again_same, own_outside, own_fresh, eq_self, forwarded_own, other_id}
-use Rattle.dm_rule.proofs.Names.{leaves}
+use Rattle.dm_movelaws.proofs.Names.{Treads, PutFits, Rides, said_by, again_rides, named_for, again_same, own_outside, own_fresh, eq_self, forwarded_own, other_id, leaves, nat_tests}
 use Rattle.dm_movelaws.proofs.Trail.Placed.{is_held, Placed, Places, placed_same, placed_left, places_set, moves_held, moves_comes}
-use Rattle.dm_movelaws.proofs.Trail.Walks.{Walks, WalksOf, first_walks, places_ride}
-use Rattle.dm_movelaws.proofs.Trail.Loose.{places_same, owns_leave, to_restart}
-use Rattle.dm_movelaws.proofs.Names.{nat_tests}
+use Rattle.dm_movelaws.proofs.Trail.Loose.{Walks, WalksOf, first_walks, places_ride, places_same, owns_leave, to_restart}
 
 forwarded_moves : (v : View) (o : Option Pid) (q : Pid) → (forwarded_for v o).moves q ≡ v.moves q
 forwarded_moves v None q = refl

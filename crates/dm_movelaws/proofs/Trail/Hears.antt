@@ -1,16 +1,13 @@
 -- What a turn says of a kernel's own message fits the trails.
 use Rattle.dm_movelaws.proofs.Names.{◌≡◌, ℕ, ◌+◌, ◌≤◌, Bool, true, List, [], ◌∷◌, ◌++◌, refl, ap, ◌∙◌, sym, subst, false≢true, if◌then◌else◌, Option, Some, Pid, MsgId, MessageKind, Line, Stage, Boot, manager, pid_eq-same, Told, Of, Here}
 use Rattle.dm_movelaws.proofs.Names.{Frozen, Incoming, Forward, target_of, front_told, front_of, view_after, Receiver, Point, Part, Says, to_kernel, forwards_on, Moves, IsIn, is_between, receiver_in, sender_in, times, Trails, both_lists}
-use Rattle.dm_movelaws.proofs.Names.{Sane, Named, source_holds, destination_expects, by_hears, place_told, behind_count, left_parts}
-use Rattle.dm_rule.specs.Rule as rule
+use Rattle.dm_movelaws.proofs.Names.{Sane, Named, source_holds, destination_expects, by_hears, place_told, behind_count, left_parts, nat_tests, arith}
 use Rattle.dm_movelaws.proofs.Trail.Placed.{is_held, Places, placed_comes, placed_restarts, places_set, places_held, moves_held, moves_comes, moves_forward}
-use Rattle.dm_movelaws.proofs.Trail.Walks.{Walks, first_walks, loose_walks}
-use Rattle.dm_movelaws.proofs.Trail.Loose.{to_ask, to_refuse, to_pullstate, to_state, to_pullblock, to_memory, to_alltaken, updated_loose, here_loose, no_move_loose, held_loose, lacks_loose, proto_loose, asked_loose, state_loose, memory_loose}
+use Rattle.dm_movelaws.proofs.Trail.Loose.{Walks, first_walks, loose_walks, to_ask, to_refuse, to_pullstate, to_state, to_pullblock, to_memory, to_alltaken, updated_loose, here_loose, no_move_loose, held_loose, lacks_loose, proto_loose}
+use Rattle.dm_movelaws.proofs.Trail.Loose.{asked_loose, state_loose, memory_loose, Loose, AllLoose}
 use Rattle.dm_movelaws.proofs.Trail.Forwards.{leaves_walks}
+use Rattle.dm_rule.specs.Rule as rule
 use Rattle.dm_rule.proofs.Hearing as hearing
-use Rattle.dm_movelaws.proofs.Trail.Walks.{Loose, AllLoose}
-use Rattle.dm_movelaws.proofs.Names.{nat_tests}
-use Rattle.dm_movelaws.proofs.Names.{arith}
 
 -- a process moves, and a message of this kind is heard about it
 pub record Heard (pt : Point) (p : Pid) (k : MessageKind) : Type 0 where

@@ -2,12 +2,52 @@
 use Rattle.dm_movelaws.proofs.Names.{◌≡◌, ◌≢◌, ℕ, ◌+◌, ◌==◌, not, Bool, true, false, List, [], ◌∷◌, length, refl, ap, ◌∙◌, sym, subst, inl, inr, arith, false≢true, if◌then◌else◌, slice_get, Option, Some, Pid, MsgId, MessageKind, Boot, bind}
 use Rattle.dm_movelaws.proofs.Names.{Step, bind-is, Line, Leads, Phase, Nowhere, Rests, Over, Moves, IsIn, is_away, is_here, is_over, is_unknown, is_restart, is_early, is_between, kind_comes, Point, first_point, after, after_line, Trails}
 use Rattle.dm_movelaws.proofs.Names.{Trodden, first_trodden, along, trails_after, View, Known, Unknown, Here, Frozen, Incoming, Forward, Ended, parts, along_treads, treads_start, Treads, is_moving, IsThere, eq_self, not_false, kind_leaves}
+use Rattle.dm_movelaws.proofs.Names.{nat_tests, ◌&&◌, IsValid, IsStep, Spelled, group_of, first_trails, TrailsAlways, first_view, eq_is, starts, start_known, Carries, trails_always_by, Both, both_start, both_group, run_start, run_group}
 use Rattle.dm_movelaws.proofs.After.{group_after}
 use Rattle.dm_movelaws.proofs.Promise.Trail.{TrailKnown}
 use Rattle.dm_movelaws.proofs.Stages.Spares.{restart_late}
-use Rattle.dm_movelaws.proofs.Trail.Always.{Holds, carries}
-use Rattle.dm_movelaws.proofs.Trail.Placed.{is_held, Placed}
-use Rattle.dm_movelaws.proofs.Names.{nat_tests}
+use Rattle.dm_movelaws.proofs.Trail.Placed.{is_held, Placed, Places}
+use Rattle.dm_movelaws.proofs.At.RestAlways.{is_here_is as here_is, is_unknown_is as unknown_is}
+use Rattle.dm_movelaws.proofs.Trail.Loose.{AllGood, good_fit, good_places, along_after}
+use Rattle.dm_movelaws.proofs.Trail.Rows.{group_good}
+
+held_home : (b c : Bool) → is_held (if b && c then Here else Unknown) ≡ true → c ≡ true
+held_home true true e = refl
+held_home true false e = absurd (false≢true e)
+held_home false c e = absurd (false≢true e)
+
+no_forward : (b : Bool) (d c : ℕ) → (if b then Here else Unknown) ≡ Forward d c → ⊥
+no_forward true d c e = cc
+no_forward false d c e = cc
+
+places_start : (b : Boot) → Places (first_view b) first_trails
+places_start b p = grind (arith, nat_tests, eq_is, held_home, start_known, no_forward)
+
+-- what holds of all points that the rule leads to
+pub record Holds (b : Boot) (x : Trodden) : Type 0 where
+  pub valid : IsValid b
+  pub both : Both b x.point
+  pub places : Places x.point.view x.trails
+
+good : (b : Boot) (x : Trodden) (e : Step) (w : Spelled) → group_of b x.point e ≡ Some w → Holds b x → Treads x.point x.trails → AllGood x.point x.trails w.lines
+good b x e w is h on = let run = h.both.run in group_good b x.point x.trails e w is run.based.phased run.based.known run.kept h.places on
+
+behind_group : (b : Boot) (x y : Trodden) (e : Step) (w : Spelled) → IsStep x.point.kernel.machines e → group_of b x.point e ≡ Some w → along x w.lines ≡ Some y → Holds b x → Treads x.point x.trails → Holds b y
+behind_group b x y e w step is comes h on =
+    let f : Some w.point ≡ Some y.point = sym (group_after b x.point e w is) ∙ along_after w.lines x y comes in
+    let g : w.point ≡ y.point = cc in
+    record { valid = h.valid; both = subst (Both b) g (both_group run_group b x.point e w h.valid step is h.both); places = good_places w.lines x y comes (good b x e w is h on) }
+
+pub carries : Carries Holds
+carries = record {
+  start = λ b valid. record { valid = valid; both = both_start run_start b valid; places = places_start b };
+  fits = λ b x e w step is h on. good_fit w.lines x.point x.trails (good b x e w is h on);
+  keeps = λ b x y e w step is comes h on. behind_group b x y e w step is comes h on;
+  within = λ b x h. record { known = λ m q some. h.both.run.found.known_within m q some; acting = h.both.run.kept.acting };
+}
+
+pub trails_always : TrailsAlways
+trails_always = trails_always_by Holds carries
 
 abbrev trodden : Point → Trails → Trodden
 trodden pt t = record { point = pt; trails = t }
@@ -39,9 +79,6 @@ trod_on b (e ∷ es) pt end (w, fit, is, rest) h =
     })
 
 -- a process that doesn't move is where its trail ends
-unknown_is : (x : Known) → is_unknown x ≡ true → x ≡ Unknown
-unknown_is Unknown e = refl
-unknown_is _ e = absurd (false≢true e)
 
 here_held : (x : Known) → is_here x ≡ true → is_held x ≡ true
 here_held Here e = refl
@@ -81,11 +118,8 @@ long_in v t p (Over at) h on still = on.long at (over_held (v.known at p) (at_se
 long_in v t p (Moves k s d o) h on still = absurd (never_moves v p k s d o h still)
 
 -- and it is there
-here_is : (x : Known) → is_here x ≡ true → x ≡ Here
-here_is Here e = refl
-here_is _ e = absurd (false≢true e)
 
-over_is : (x : Known) → is_over x ≡ true → x ≡ Ended
+pub over_is : (x : Known) → is_over x ≡ true → x ≡ Ended
 over_is Ended e = refl
 over_is _ e = absurd (false≢true e)
 

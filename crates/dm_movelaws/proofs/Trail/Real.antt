@@ -3,14 +3,11 @@ use Rattle.dm_movelaws.proofs.Names.{◌≡◌, ℕ, ◌+◌, ◌==◌, ◌&&◌
 use Rattle.dm_movelaws.proofs.Names.{MessageKind, id_eq, Boot, Label, IsValid, Life, OneKernel, Step, after_step, Line, Stage, Leads, Spelled, Point, first_point, label_of, kernel_after, group_of, at_record, View, Told, About, NothingElse}
 use Rattle.dm_movelaws.proofs.Names.{Target, Of, Known, Unknown, Here, Frozen, Incoming, Forward, Ended, view_after, handled, receiver_of, first_told, target_of, front_told, front_of, gone_to, served_told, forward_about, hushed, grown_none}
 use Rattle.dm_movelaws.proofs.Names.{Phased, queued_known, held_known, dropped_known, starts, start_known, Sane, label_topic, is_server, is_fixed, KnownStands, agrees, group_keeps, Loud, keeps_by, set_all, killed_or, named_real, Both}
-use Rattle.dm_movelaws.proofs.Names.{both_start, both_group, run_start, run_group, is_made, IsNamed, ByHolder, ByOwn, ByRequest, ByUpdate, ByForward, queued_topic, held_topic, taken_topic, or_first}
-use Rattle.dm_onekernel.specs.Step as kernel
-use Rattle.dm_rule.specs.View as view
+use Rattle.dm_movelaws.proofs.Names.{both_start, both_group, run_start, run_group, is_made, IsNamed, ByHolder, ByOwn, ByRequest, ByUpdate, ByForward, queued_topic, held_topic, taken_topic, or_first, run_always, nat_tests, arith}
 use Rattle.dm_rulelaws.proofs.Found.Core.{IsReal}
 use Rattle.dm_movelaws.proofs.After.{keeps_always}
-use Rattle.dm_movelaws.proofs.Names.{run_always}
-use Rattle.dm_movelaws.proofs.Names.{nat_tests}
-use Rattle.dm_movelaws.proofs.Names.{arith}
+use Rattle.dm_onekernel.specs.Step as kernel
+use Rattle.dm_rule.specs.View as view
 
 -- a process that leaves a machine, or has left it
 abbrev passes : Known → Bool
@@ -31,7 +28,7 @@ record Passing (s : OneKernel) (v : View) : Type 0 where
 abbrev Goes : OneKernel → OneKernel → Type 0
 Goes s t = (p : Pid) → WasMade s p → WasMade t p
 
-none_is : (o : Option Life) → is_some o ≡ false → o ≡ None
+pub none_is : (o : Option Life) → is_some o ≡ false → o ≡ None
 none_is None e = refl
 none_is (Some x) e = absurd (false≢true (sym e))
 

@@ -3,11 +3,11 @@ use Rattle.dm_movelaws.proofs.Names.{◌≡◌, ◌≢◌, ◌⊎◌, ℕ, zero,
 use Rattle.dm_movelaws.proofs.Names.{slice_get, Option, None, Some, Pid, Place, Boot, IsValid, Life, OneKernel, bind, Step, bind-is, Line, Receiver, Sender, unmoved, Leads, Point, first_point, after, after_line, Trails, Trail, IsOn}
 use Rattle.dm_movelaws.proofs.Names.{Trodden, first_trodden, along, trails_after, View, Known, Unknown, Here, Forward, along_treads, treads_start, trail_leads, Treads, Within, trail_within, is_server, is_fixed, KnownStands, agrees}
 use Rattle.dm_movelaws.proofs.Names.{server_at, LeadsBy, made_free, server_fixed, is_made, has_it, ends_walk, IsNamed, ByHolder, ByOwn, ByRequest, ByUpdate, ByForward, Reaches, IsLast, TrailStands, TrailsStand, IsLed, AddressesLead}
-use Rattle.dm_movelaws.proofs.After.{group_after}
-use Rattle.dm_movelaws.proofs.Trail.Always.{Holds, carries}
-use Rattle.dm_movelaws.proofs.Trail.Placed.{is_held}
-use Rattle.dm_movelaws.proofs.Trail.Real.{named_made}
 use Rattle.dm_movelaws.proofs.Names.{nat_tests}
+use Rattle.dm_movelaws.proofs.After.{group_after}
+use Rattle.dm_movelaws.proofs.Trail.Known.{Holds, carries}
+use Rattle.dm_movelaws.proofs.Trail.Placed.{is_held}
+use Rattle.dm_movelaws.proofs.Trail.Real.{named_made, none_is}
 
 abbrev trodden : Point → Trails → Trodden
 trodden pt t = record { point = pt; trails = t }
@@ -66,9 +66,6 @@ place_is : (place : Place) (m : ℕ) → place.moves ≡ 0 → place.at ≡ m �
 place_is place m moves at = λ i. record { at = at i; moves = moves i }
 
 -- what was never made
-none_is : (o : Option Life) → is_some o ≡ false → o ≡ None
-none_is None e = refl
-none_is (Some x) e = absurd (false≢true (sym e))
 
 agrees_none : (k : Known) → agrees k None ≡ true → k ≡ Unknown
 agrees_none Unknown e = refl

@@ -3,11 +3,12 @@ use Rattle.dm_movelaws.proofs.Names.{◌≡◌, ◌⊎◌, ℕ, ◌<◌, ◌≤�
 use Rattle.dm_movelaws.proofs.Names.{pid_eq, MsgId, Boot, switchboard, manager, Life, Alive, OneKernel, pid_eq-same, Step, Addresses, Holder, belongs_to, leads_to, is_pid, is_behind, place_told, updated, updated_to, holders_of}
 use Rattle.dm_movelaws.proofs.Names.{behind_among, behind_count, holders_numbered, answers_in, slot_holders, Spelled, Point, View, Told, About, Ended, after_head, is_server, KnownStands, agrees, Updated, UpdatesAlways, front_own, Both}
 use Rattle.dm_movelaws.proofs.Names.{is_place, own_sort, run_always, pid_there, second}
+use Rattle.dm_movelaws.proofs.Updates.Groups.{Handled, handled_by}
+use Rattle.dm_movelaws.proofs.Updates.Listed.{listed}
+use Rattle.dm_movelaws.proofs.Promise.Before.{neither as either}
 use Rattle.dm_onekernel.specs.Step as kernel
 use Rattle.dm_rule.specs.Addresses as addresses
 use Rattle.dm_rule.specs.View as view
-use Rattle.dm_movelaws.proofs.Updates.Groups.{Handled, handled_by}
-use Rattle.dm_movelaws.proofs.Updates.Listed.{listed}
 
 -- what it tells
 record Tells (a : About) : Type 0 where
@@ -60,10 +61,6 @@ behind_is s a q p c h x mine leads e =
 ended_none : (o : Option Life) → agrees Ended o ≡ true → kernel.alive o ≡ None
 ended_none (Some (Alive x)) e = absurd (false≢true e)
 ended_none _ e = refl
-
-either : (b c : Bool) → (b || c) ≡ false → (b ≡ false) × (c ≡ false)
-either true c e = absurd (false≢true (sym e))
-either false c e = (refl, e)
 
 none_listed : (s : OneKernel) (q : Pid) → is_server q ≡ false → kernel.alive (s.processes q) ≡ None → holders_of s q ≡ []
 none_listed s q server none =

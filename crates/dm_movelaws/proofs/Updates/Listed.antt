@@ -2,9 +2,9 @@
 use Rattle.dm_movelaws.proofs.Names.{◌≡◌, ℕ, zero, suc, ◌+◌, ◌<◌, ◌≤◌, ◌==◌, ◌&&◌, Bool, true, false, List, [], ◌∷◌, ◌++◌, length, refl, ap, ◌∙◌, sym, inl, inr, arith, if◌then◌else◌, slice_get, cases_Bool, false≢true, nat_tests}
 use Rattle.dm_movelaws.proofs.Names.{slice_get_cases, Option, None, Some, Pid, pid_eq, PlainLink, link_at, switchboard, manager, NamedLink, Pending, OneKernel, PlainProcess, pid_eq-is, pid_eq-same, not_server, alive-is, Holder, Slot, Owner}
 use Rattle.dm_movelaws.proofs.Names.{Child, Name, Answer, holder_eq, belongs_to, leads_to, link_target, slot_of, name_link, answer_link, ascends, holders_of, slots_from, slot_holders, holders_numbered, answers_in, listings, is_owner}
+use Rattle.dm_laws.proofs.Entered.{Made}
 use Rattle.dm_onekernel.specs.Manager as manage
 use Rattle.dm_onekernel.specs.Step as kernel
-use Rattle.dm_laws.proofs.Entered.{Made}
 
 -- where a list has something
 got : {X : Type 0} (xs : List X) (k : ℕ) (x : X) → slice_get xs k ≡ Some x → k < length xs
