@@ -5,11 +5,8 @@ use Rattle.dm_movelaws.proofs.Names.{Unknown, Here, Frozen, Forward, Ended, view
 use Rattle.dm_movelaws.proofs.Names.{free_room, kernel_hears, hears, Spot, Inbox, ids_at, first_off, line_next, fits_put, fits_packet, pair_same, handled_spots, held_known, forwarded_spots, forwarded_known, put_spots, put_there, put_spot}
 use Rattle.dm_movelaws.proofs.Names.{InPhases, fits_as, PairsFit, PacketsKeep, sane_line, part_sane, AllLoose, loose_walks, turned, is_moving, is_for, frozen_off}
 use Rattle.dm_rule.specs.Rule.{fits}
-use Rattle.dm_movelaws.proofs.Ends.Smooth.{is_migrate, asks_for, kind_not, Smooth, Still, smooth_trans, told_by}
-use Rattle.dm_movelaws.proofs.Ends.Lines.{Tame, Foreign}
-use Rattle.dm_movelaws.proofs.Ends.Still.{still_by}
-use Rattle.dm_movelaws.proofs.Ends.Parts.{AllQuiet, Rest, rest_packet, Settled, parts_settle, packet_smooth, quiet_count, quiet_asks}
-use Rattle.dm_movelaws.proofs.Ends.Turns.{told_quiet}
+use Rattle.dm_movelaws.proofs.Ends.Lines.{is_migrate, asks_for, kind_not, Smooth, Still, smooth_trans, told_by, Tame, Foreign, still_by}
+use Rattle.dm_movelaws.proofs.Ends.Parts.{AllQuiet, Rest, rest_packet, Settled, parts_settle, packet_smooth, quiet_count, quiet_asks, told_quiet}
 use Rattle.dm_movelaws.proofs.Ends.Moving.{moving_in, waits_moves, here_stays, still_moves}
 use Rattle.dm_movelaws.proofs.Ends.Open.{IsOpen, level_balance, close_opens, smooth_opens}
 use Rattle.dm_movelaws.proofs.Ends.Rows.{Turn, plain_one, front_one, stands_front, first_smooth, first_closes, line_then, and_off, other_still, set_here, level_row, level_still, quiet_row, end_row}

@@ -1,12 +1,11 @@
 -- A process moves where some machine waits for it to leave or to come.
 use Rattle.dm_movelaws.proofs.Names.{◌≡◌, ◌⊎◌, ℕ, ◌==◌, ◌&&◌, Bool, true, false, not, refl, ap, ◌∙◌, sym, inl, inr, if◌then◌else◌, Option, false≢true, Pid, MsgId, MessageKind, View, Known, Here, Frozen, Incoming, Forward, Ended, Phase}
 use Rattle.dm_movelaws.proofs.Names.{Nowhere, Rests, Over, Moves, knows, kind_comes, is_away, is_unknown, is_here, is_over, is_restart, is_early, is_between, IsIn, parts, InPhases, rests_here, is_moving, source_knows, kind_leaves}
-use Rattle.dm_movelaws.proofs.Ends.Smooth.{Still}
+use Rattle.dm_movelaws.proofs.Names.{nat_tests, arith}
+use Rattle.dm_movelaws.proofs.Ends.Lines.{Still}
 use Rattle.dm_movelaws.proofs.Stages.Spares.{restart_late}
 pub use Rattle.dm_rulelaws.proofs.Goes.Own.{destination_knows as knows_target}
 pub use Rattle.dm_rule.proofs.Phases.Pieces.{not_false}
-use Rattle.dm_movelaws.proofs.Names.{nat_tests}
-use Rattle.dm_movelaws.proofs.Names.{arith}
 
 abbrev pub moving_in : Phase → ℕ
 moving_in (Moves k s d id) = 1

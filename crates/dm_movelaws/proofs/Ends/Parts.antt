@@ -2,18 +2,13 @@
 use Rattle.dm_movelaws.proofs.Names.{◌≡◌, ℕ, ◌+◌, ◌==◌, ◌&&◌, Bool, true, false, List, [], ◌∷◌, ◌++◌, length, refl, ap, ◌∙◌, sym, subst, arith, ⊤, if◌then◌else◌, Option, None, Some, Pid, pid_eq, MsgId, MessageKind, plain_kind, bind}
 use Rattle.dm_movelaws.proofs.Names.{bind-is, Line, Stage, Load, View, Told, view_after, own_id, after_put, Receiver, Point, moved, after, Part, Says, Routes, Again, Owns, Transmits, Spelled, lines_of, puts, goes_out, packet_line, behind}
 use Rattle.dm_movelaws.proofs.Names.{spelled, is_put, touches, pair_same, PairsFit, put_told_off, fits_as, fits_put, fits_packet, Sane, Sayable, part_sane, put_spots, put_at, Needs, NeedsPart, Walks, Steps, Said, said_by, asks, ends, count}
-use Rattle.dm_movelaws.proofs.Names.{packet_off, by_parts, PacketsKeep, OneKernel, label_of, kernel_after, false≢true}
-use Rattle.dm_movelaws.proofs.Ends.Smooth.{asks_for, is_migrate, plain_not, Extends, Smooth, Still, Plain, smooth_same, smooth_trans, smooth_others, moves_none, plain_in_bag, own_untold}
-use Rattle.dm_movelaws.proofs.Ends.Lines.{Tame, QuietLine, Foreign, tame_plain, line_smooth}
-use Rattle.dm_movelaws.proofs.Ends.Still.{still_same, still_trans, line_still, quiet_ends}
+use Rattle.dm_movelaws.proofs.Names.{packet_off, by_parts, PacketsKeep, OneKernel, label_of, kernel_after, false≢true, nat_tests, PlainMessage, Boot, Loose, loose_round, loose_handles, by_forwards, goes_round, handles}
+use Rattle.dm_movelaws.proofs.Ends.Lines.{asks_for, is_migrate, plain_not, Extends, Smooth, Still, Plain, smooth_same, smooth_trans, smooth_others, moves_none, plain_in_bag, own_untold, Tame, QuietLine, Foreign, tame_plain, line_smooth}
+use Rattle.dm_movelaws.proofs.Ends.Lines.{still_same, still_trans, line_still, quiet_ends}
 use Rattle.dm_movelaws.proofs.Leading.{All, Behind, part_leads, is_said, lines_are}
 use Rattle.dm_rule.specs.View as view
+use Rattle.dm_rule.specs.Rule as rule
 pub use Rattle.dm_rule.proofs.Phases.Lines.{first_kept}
-use Rattle.dm_movelaws.proofs.Leading.{All, Behind, part_leads}
-use Rattle.dm_movelaws.proofs.Names.{PacketsKeep, OneKernel, label_of, kernel_after}
-use Rattle.dm_movelaws.proofs.Leading.{is_said, lines_are}
-use Rattle.dm_movelaws.proofs.Names.{false≢true}
-use Rattle.dm_movelaws.proofs.Names.{nat_tests}
 
 -- a put of a message that is no request to move this process
 first_plain : (p : Pid) (o : Option Told) (k : MessageKind) (q : Pid) (a : view.About) (t : Told) → Some (view.first_told o (record { kind = k; receiver = q; about = a })) ≡ Some t → (is_migrate k && pid_eq p q) ≡ false → ((u : Told) → o ≡ Some u → asks_for p u ≡ false)
@@ -182,3 +177,18 @@ line_asks p v l h = refl
 pub quiet_asks : (p : Pid) (v : View) (ps : List Part) → AllQuiet p v ps → part_count (asks p) ps ≡ 0
 quiet_asks p v = none_count (asks p) (Quiet p v) (line_asks p v)
 
+quiet_loose : (p : Pid) (v : View) → Loose (AllQuiet p v)
+quiet_loose p v = record { none = tt; label = λ l ps h. (tt, h); routes = λ i ps h. (tt, h) }
+
+pub round_quiet : (p : Pid) (v : View) (b : Boot) (o : Point) (m : ℕ) (q : Option Pid) (ps : List Part) → rule.goes_round b o m q ≡ Some ps → AllQuiet p v ps
+round_quiet p v b o m q ps e = loose_round (AllQuiet p v) (quiet_loose p v) b o m q ps (tt, tt) e
+
+pub told_quiet : (p : Pid) (v : View) (c : Bool) (q : Pid) (to : ℕ) → AllQuiet p v (if c then Owns MessageKind.Update q to ∷ [] else [])
+told_quiet p v true q to = (refl, tt)
+told_quiet p v false q to = tt
+
+-- a message of the bag, at the front of the inbox
+pub handles_quiet : (p : Pid) (v : View) (b : Boot) (o : Point) (m : ℕ) (id : MsgId) (msg : PlainMessage) (ps : List Part) → Tame p v id → rule.handles b o m id msg ≡ Some ps → AllQuiet p v ps
+handles_quiet p v b o m id msg ps h e =
+    loose_handles (AllQuiet p v) (AllQuiet p v) (quiet_loose p v) (λ qs k. k) b o m id msg ps (λ here. (h, tt)) (h, tt)
+    (λ to moves at_. by_forwards (AllQuiet p v) o.addresses id (plain_kind msg.what) msg.sender to (h, (h, tt)) (h, (h, (refl, tt)))) e

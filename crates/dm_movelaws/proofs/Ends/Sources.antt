@@ -3,12 +3,9 @@ use Rattle.dm_movelaws.proofs.Names.{◌≡◌, ℕ, ◌<◌, ◌≤◌, ◌==�
 use Rattle.dm_movelaws.proofs.Names.{id_eq, plain_kind, Boot, bind, Step, Stage, id_eq-is, bind-is, Line, at_pair, Receiver, IsStep, migrates, View, Pair, Told, view_after, after_head, after_put, handled, receiver_of, own_id, Point, moved}
 use Rattle.dm_movelaws.proofs.Names.{after, Part, Says, Routes, Again, Owns, Transmits, Spelled, lines_of, puts, packet_line, behind, spelled, group_of, group_is, IsNetLine, IsNet, arrives_net, resends_net, acting_label, is_put, eq_is}
 use Rattle.dm_movelaws.proofs.Names.{touches, pair_same, taken_pair, AllFit, migrates_fit, turns_fit, put_at, PacketsKeep, put_told_off, says_next, transmits_next, said, begun, acting_taken, proto_acting, queued_acting, held_acting}
-use Rattle.dm_movelaws.proofs.Names.{forwarded_acting}
-use Rattle.dm_movelaws.proofs.Ends.Smooth.{Extends, told_by}
+use Rattle.dm_movelaws.proofs.Names.{forwarded_acting, nat_tests}
+use Rattle.dm_movelaws.proofs.Ends.Lines.{Extends, told_by}
 use Rattle.dm_movelaws.proofs.Ends.Parts.{first_kept}
-use Rattle.dm_movelaws.proofs.Leading.{All, Behind, whatever_put, parts_lead}
-use Rattle.dm_movelaws.proofs.Leading.{Saying, outcome_says}
-use Rattle.dm_movelaws.proofs.Names.{nat_tests}
 use Rattle.dm_movelaws.proofs.Leading.{All, Behind, whatever_put, parts_lead, Saying, outcome_says}
 use Rattle.dm_rule.specs.View as view
 use Rattle.dm_rule.specs.Rule as rule

@@ -2,16 +2,13 @@
 use Rattle.dm_movelaws.proofs.Names.{◌≡◌, ℕ, ◌+◌, ◌==◌, ◌&&◌, Bool, true, false, not, List, [], ◌∷◌, ◌++◌, length, refl, ap, ◌∙◌, sym, subst, inl, inr, arith, ⊤, if◌then◌else◌, Option, None, Some, cases_Bool, Pid, pid_of, pid_eq, MsgId}
 use Rattle.dm_movelaws.proofs.Names.{MessageKind, Stage, PlainProcess, pid_eq-is, Line, to_kernel, accepts, takes_chunk, takes_block, sends_on, kernel_told, chunks_of, pieces_of, View, Told, Of, Known, Here, Frozen, Incoming, view_after}
 use Rattle.dm_movelaws.proofs.Names.{handled_first, rejoins, front_of, gone_to, Point, moved, Part, Says, Spelled, spelled, Phase, Moves, is_apart, is_between, knows, receiver_in, Spot, Queue, times, ids_at, parts, at_record_off, line_next}
-use Rattle.dm_movelaws.proofs.Names.{due, InPhases, sane_line, Walks, loose_walks, turned, is_moving, asks, ends, accepted_off, state_off, memory_off, lacks_off, left_off, leaves, label_of, is_put, touches}
-use Rattle.dm_movelaws.proofs.Ends.Smooth.{is_migrate, Smooth, Still, smooth_trans, smooth_still, moves_none}
-use Rattle.dm_movelaws.proofs.Ends.Lines.{Tame}
+use Rattle.dm_movelaws.proofs.Names.{due, InPhases, sane_line, Walks, loose_walks, turned, is_moving, asks, ends, accepted_off, state_off, memory_off, lacks_off, left_off, leaves, label_of, is_put, touches, nat_tests}
+use Rattle.dm_movelaws.proofs.Ends.Lines.{is_migrate, Smooth, Still, smooth_trans, smooth_still, moves_none, Tame}
 use Rattle.dm_movelaws.proofs.Ends.Parts.{AllQuiet, Settled, one_if, zero_if, first_off as first_off_and}
 use Rattle.dm_movelaws.proofs.Ends.Moving.{moving_in, not_false, target_waits, knows_target, waits_moves, here_stays, still_moves}
 use Rattle.dm_movelaws.proofs.Ends.Open.{level_balance, smooth_opens}
 use Rattle.dm_movelaws.proofs.Ends.Rows.{Turn, Comes, between_plain, first_smooth, line_then, line_alone, due_moves, other_still, set_here, level_row, level_still, quiet_row, about_same}
 use Rattle.dm_movelaws.proofs.Ends.Sends.{all_sent, sent_smooth, sends_count, sent_begins, handled_smooth, rejoins_smooth}
-use Rattle.dm_movelaws.proofs.Names.{label_of, is_put, touches}
-use Rattle.dm_movelaws.proofs.Names.{nat_tests}
 
 abbrev pub ComesOf : Pid → (pt : Point) → InPhases pt.view → Option (List Part) → Type 0
 ComesOf p pt h None = ⊤

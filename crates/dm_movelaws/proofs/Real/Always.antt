@@ -3,7 +3,7 @@ use Rattle.dm_movelaws.proofs.Names.{◌≡◌, ◌≢◌, ℕ, ◌<◌, ◌≤�
 use Rattle.dm_movelaws.proofs.Names.{Pid, pid_eq, MsgId, Line, PlainMessage, PlainWhat, Boot, IsValid, switchboard, manager, Life, OneKernel, is_counted, counts, Step, IsStep, Leads, Spelled, Point, first_point, group_of, Inbox, times}
 use Rattle.dm_movelaws.proofs.Names.{View, Told, Known, Unknown, Here, after_head, is_kernels, actor, group_is, outcome_sayable, line_within, has_bytes, is_server, WhatFits, agrees, begun, begun_sane, named_real, Both, both_start}
 use Rattle.dm_movelaws.proofs.Names.{both_group, times_self, Run, run_start, run_group, IsReal, Kernel, Server, Made, IsAboutReal, RealAlways, or_cases, from_kernel, run_always}
-use Rattle.dm_movelaws.proofs.Ends.Smooth.{told_by}
+use Rattle.dm_movelaws.proofs.Ends.Lines.{told_by}
 use Rattle.dm_movelaws.proofs.NumbersAlways.{bag_counted, told_counted}
 use Rattle.dm_movelaws.proofs.Real.Lines.{HereReal, InboxTold, outcome_real, rises_same, Reals, Receivers, parts_reals}
 use Rattle.dm_movelaws.proofs.After.{keeps_always}

@@ -5,7 +5,7 @@ use Rattle.dm_movelaws.proofs.Names.{spelled, Point, label_of, kernel_after, mov
 use Rattle.dm_movelaws.proofs.Names.{PacketsKeep, put_told_off, Sane, AllSayable, part_sane, label_topic, Within, HeadIn, line_within, has_bytes, is_server, awaits, WhatFits, KernelFits, step_constant, said_by, fits_step, IsReal, Kernel}
 use Rattle.dm_movelaws.proofs.Names.{Server, Made, IsAboutReal, or_cases, queued_topic, held_topic, taken_topic, told_kept, by_parts, [], ◌∷◌, ◌++◌, ⊤, pid_eq, Boot, manager, pid_eq-same, alive-is, Step, to_kernel, sends_on, migrates, Here}
 use Rattle.dm_movelaws.proofs.Names.{IsNetLine, IsNet, by_migrates, by_net, by_outcome, by_forwards, by_hears}
-use Rattle.dm_movelaws.proofs.Ends.Smooth.{told_by}
+use Rattle.dm_movelaws.proofs.Ends.Lines.{told_by}
 use Rattle.dm_movelaws.proofs.Leading.{Behind, sane_lead, All, Saying, net_says}
 use Rattle.dm_movelaws.proofs.Stages.Lines.{MildLine, AllMild}
 use Rattle.dm_movelaws.proofs.Stages.Hears.{round_mild, handles_mild}
