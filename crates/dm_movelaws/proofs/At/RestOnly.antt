@@ -8,6 +8,7 @@ use Rattle.dm_movelaws.proofs.Leading.{Behind, whatever_put, parts_lead, net_say
 use Rattle.dm_rule.specs.View as view
 use Rattle.dm_rule.specs.Migrating as migrating
 use Rattle.dm_rule.specs.Rule as rule
+use Rattle.dm_movelaws.proofs.Names.{queued_known, held_known, forwarded_known, proto_known}
 
 -- no process ends by such a line
 abbrev pub is_ending : Line → Bool
@@ -131,8 +132,8 @@ turns_ends b o m (i ∷ is) ps sane told e = by_front (o.kernel.bag i) refl e
 pub record Only (before : Knows) (v : View) : Type 0 where
   pub only : (n : ℕ) (q : Pid) → v.known n q ≡ Ended → before n q ≡ Ended
 
-pub only_as : (before : Knows) (v w : View) → w.known ≡ v.known → Only before v → Only before w
-only_as before v w known h = record { only = λ n q e. h.only n q (sym (ap (λ (f : Knows). f n q) known) ∙ e) }
+pub only_as : (before : Knows) (v w : View) → ((n : ℕ) (q : Pid) → w.known n q ≡ v.known n q) → Only before v → Only before w
+only_as before v w known h = record { only = λ n q e. h.only n q (sym (known n q) ∙ e) }
 
 only_set : (before : Knows) (v w : View) (p : Pid) (k : Known) → w.known ≡ at_record v.known v.acting p k → (k ≡ Ended → v.known v.acting p ≡ Ended) → Only before v → Only before w
 only_set before v w p k known new h = record {
@@ -140,38 +141,13 @@ only_set before v w p k known new h = record {
 }
 
 -- lines that change nothing of what is known
-queued_known : (v : View) (i : MsgId) (o : Option Pid) → (view.queued_for v i o).known ≡ v.known
-queued_known v i None = refl
-queued_known v i (Some p) = refl
-
-held_known : (v : View) (i : MsgId) (o : Option Pid) → (view.held_for v i o).known ≡ v.known
-held_known v i None = refl
-held_known v i (Some p) = refl
-
 pub dropped_known : (v : View) (i : MsgId) (o : Option Pid) → (view.dropped_for v i o).known ≡ v.known
 dropped_known v i None = refl
 dropped_known v i (Some p) = refl
 
-forwarded_known : (v : View) (o : Option Pid) → (view.forwarded_for v o).known ≡ v.known
-forwarded_known v None = refl
-forwarded_known v (Some p) = refl
-
 taken_known : (v : View) (b : ℕ) (o : Option MsgId) → (view.taken_id v b o).known ≡ v.known
 taken_known v b None = refl
 taken_known v b (Some i) = refl
-
-asks_known : (v : View) (a : About) → (view.asks_on v a).known ≡ v.known
-asks_known v NothingElse = refl
-asks_known v _ = refl
-
-follows_known : (v : View) (a : About) (k : MessageKind) → (view.follows_up v a k).known ≡ v.known
-follows_known v a MessageKind.State = asks_known v a
-follows_known v a MessageKind.Memory = asks_known v a
-follows_known v a _ = refl
-
-proto_known : (v : View) (o : Option Told) → (view.after_proto v o).known ≡ v.known
-proto_known v None = refl
-proto_known v (Some t) = follows_known v t.about t.kind
 
 head_known : (v : View) (d : Step) → (view.after_head v d).known ≡ v.known
 head_known v (Step.Turn m) = refl
@@ -200,29 +176,29 @@ stage_only before v p Stage.Accepted h =
     only_set before v (view.after_stage v p Stage.Accepted) p (Incoming from) refl (incoming_not (v.known v.acting p ≡ Ended) from) h
 stage_only before v p Stage.Left h = only_set before v (view.after_stage v p Stage.Left) p (view.gone_to (v.known v.acting p) (v.moves p + 1)) refl (gone_ended (v.known v.acting p) (v.moves p + 1)) h
 stage_only before v p Stage.Restarted h = only_set before v (view.after_stage v p Stage.Restarted) p Here refl (here_not (v.known v.acting p ≡ Ended)) h
-stage_only before v p any_ h = only_as before v (view.after_stage v p any_) refl h
+stage_only before v p any_ h = only_as before v (view.after_stage v p any_) (λ n q. refl) h
 
 label_only : (before : Knows) (v : View) (l : Label) → is_ending (Line.Label l) ≡ false → Only before v → Only before (view_after v (Line.Label l))
 label_only before v (Label.End p y) e h = absurd (false≢true (sym e))
 label_only before v (Label.Served id) e h = absurd (false≢true (sym e))
-label_only before v (Label.Dropped id) e h = only_as before v (view_after v (Line.Label (Label.Dropped id))) (dropped_known (handled v id) id (receiver_of (v.told id))) h
+label_only before v (Label.Dropped id) e h = only_as before v (view_after v (Line.Label (Label.Dropped id))) (λ n q. ap (λ (f : Knows). f n q) (dropped_known (handled v id) id (receiver_of (v.told id)))) h
 label_only before v (Label.Created id p) e h = only_set before v (view_after v (Line.Label (Label.Created id p))) p Here refl (here_not (v.known v.acting p ≡ Ended)) h
-label_only before v any_ e h = only_as before v (view_after v (Line.Label any_)) refl h
+label_only before v any_ e h = only_as before v (view_after v (Line.Label any_)) (λ n q. refl) h
 
 line_only : (before : Knows) (v : View) (l : Line) → is_ending l ≡ false → Only before v → Only before (view_after v l)
 line_only before v (Line.Label l) e h = label_only before v l e h
-line_only before v (Line.Head d) e h = only_as before v (view_after v (Line.Head d)) (head_known v d) h
+line_only before v (Line.Head d) e h = only_as before v (view_after v (Line.Head d)) (λ n q. ap (λ (f : Knows). f n q) (head_known v d)) h
 line_only before v (Line.Taken a b k) e h =
     let p = v.pair a b in
     let w = view.with_pair v a b (record p { taken = p.taken + 1; kept = filter (λ j. not (j == k)) p.kept }) in
-    only_as before v (view_after v (Line.Taken a b k)) (taken_known w b (view.oldest p)) h
-line_only before v (Line.Queued id) e h = only_as before v (view_after v (Line.Queued id)) (queued_known (handled v id) id (receiver_of (v.told id))) h
-line_only before v (Line.Held id) e h = only_as before v (view_after v (Line.Held id)) (held_known (handled v id) id (receiver_of (v.told id))) h
-line_only before v (Line.Forwarded id m) e h = only_as before v (view_after v (Line.Forwarded id m)) (forwarded_known (handled v id) (receiver_of (v.told id))) h
-line_only before v (Line.Proto id) e h = only_as before v (view_after v (Line.Proto id)) (proto_known (handled v id) (v.told id)) h
+    only_as before v (view_after v (Line.Taken a b k)) (λ n q. ap (λ (f : Knows). f n q) (taken_known w b (view.oldest p))) h
+line_only before v (Line.Queued id) e h = only_as before v (view_after v (Line.Queued id)) (λ n q. queued_known (handled v id) id (receiver_of (v.told id)) n q) h
+line_only before v (Line.Held id) e h = only_as before v (view_after v (Line.Held id)) (λ n q. held_known (handled v id) id (receiver_of (v.told id)) n q) h
+line_only before v (Line.Forwarded id m) e h = only_as before v (view_after v (Line.Forwarded id m)) (λ n q. forwarded_known (handled v id) (receiver_of (v.told id)) n q) h
+line_only before v (Line.Proto id) e h = only_as before v (view_after v (Line.Proto id)) (λ n q. proto_known (handled v id) (v.told id) n q) h
 line_only before v (Line.Migration s p) e h = stage_only before v p s h
 line_only before v (Line.Stays p) e h = only_set before v (view_after v (Line.Stays p)) p Here refl (here_not (v.known v.acting p ≡ Ended)) h
-line_only before v any_ e h = only_as before v (view_after v any_) refl h
+line_only before v any_ e h = only_as before v (view_after v any_) (λ n q. refl) h
 
 -- parts that end nothing
 only_behind : (before : Knows) (pt : Point) (p : Part) → PartStays p → Only before pt.view → Behind (λ q. Only before q.view) pt p

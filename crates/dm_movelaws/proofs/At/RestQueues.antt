@@ -102,7 +102,7 @@ kills_not k v p off = killed_or (λ w. w ≡ v) k v p (λ e. absurd (false≢tru
 served_cleared : (o : Point) (a : ℕ) (id : MsgId) (ps : List Part) (pt mid : Point) (rest : Spelled) (x : Option Told) → Starts o a pt.view → pt.view.told id ≡ x → mid.view ≡ view.served_told (handled pt.view id) x → LineEnds o a (Line.Label (Label.Served id)) ps → spelled mid ps ≡ Some rest → Cleared o.view.known rest.point.view
 served_cleared o a id ps pt mid rest None h told now ends more =
     let none : (t : Told) → o.view.told id ≡ Some t → is_kill t.kind ≡ false = λ t is. absurd (let f : None ≡ Some t = sym told ∙ ap (λ (g : MsgId → Option Told). g id) h.told ∙ is in cc) in
-    let start : Only o.view.known mid.view = only_as o.view.known pt.view mid.view (ap (λ (v : View). v.known) now) (begins_only o a pt.view h) in
+    let start : Only o.view.known mid.view = only_as o.view.known pt.view mid.view (λ n q. ap (λ (v : View). v.known n q) now) (begins_only o a pt.view h) in
     cleared_only o.view.known rest.point.view (parts_only o.view.known ps mid rest (ends.1 none) more start)
 served_cleared o a id ps pt mid rest (Some t) h told now ends more =
     let here : o.view.told id ≡ Some t = sym (ap (λ (g : MsgId → Option Told). g id) h.told) ∙ told in
@@ -113,7 +113,7 @@ served_cleared o a id ps pt mid rest (Some t) h told now ends more =
       | inr off ↦
           let look : mid.view ≡ handled pt.view id = now ∙ kills_not t.kind (handled pt.view id) t.receiver off in
           let none : (u : Told) → o.view.told id ≡ Some u → is_kill u.kind ≡ false = λ u is. (let f : Some t ≡ Some u = sym here ∙ is in let g : t ≡ u = cc in sym (ap (λ (y : Told). is_kill y.kind) g) ∙ off) in
-          let start : Only o.view.known mid.view = only_as o.view.known pt.view mid.view (ap (λ (v : View). v.known) look) (begins_only o a pt.view h) in
+          let start : Only o.view.known mid.view = only_as o.view.known pt.view mid.view (λ n q. ap (λ (v : View). v.known n q) look) (begins_only o a pt.view h) in
           cleared_only o.view.known rest.point.view (parts_only o.view.known ps mid rest (ends.1 none) more start)
     ]
 
