@@ -5,7 +5,7 @@ use Rattle.dm_movelaws.proofs.Names.{all_follow, child_number, place_of_child, o
 use Rattle.dm_movelaws.proofs.Names.{gives_to, is_filled, in_next, refilled, CountsStay, CountsKept, Updated, Sort, sort_of, own_given}
 use Rattle.dm_movelaws.proofs.After.{group_after}
 use Rattle.dm_movelaws.proofs.Updates.Always.{updates_always}
-use Rattle.dm_movelaws.proofs.Promise.Before.{neither as either}
+use Rattle.dm_movelaws.proofs.Promise.Before.{neither as either, not_given}
 use Rattle.dm_rule.specs.View as view
 
 abbrev count_of : Addresses → Holder → ℕ
@@ -13,14 +13,6 @@ count_of a h = (a h).moves
 
 same_count : (a c : Addresses) (h : Holder) → c h ≡ a h → count_of a h ≤ count_of c h
 same_count a c h e = let f : count_of c h ≡ count_of a h = ap (λ (p : Place). p.moves) e in omega (arith, f)
-
--- what a label gives
-
-not_given : (a : Addresses) (gs : List Gets) (h : Holder) → gives_to h gs ≡ false → given a gs h ≡ a h
-not_given a [] h e = refl
-not_given a (g ∷ gs) h e =
-    let k = either (holder_eq g.holder h) (gives_to h gs) e in
-    ap (λ (c : Bool). if c then g.place else given a gs h) k.0 ∙ not_given a gs h k.1
 
 -- what goes on gives addresses to messages only
 no_receiver : (i : MsgId) (h : Holder) → is_owned h ≡ true → holder_eq (Receiver i) h ≡ false
@@ -82,18 +74,18 @@ update_raises s v a h (Some t) = told_raises s a t.receiver h (place_told t.abou
 
 -- each line
 by_line : (pt : Point) (l : Line) (h : Holder) → is_owned h ≡ true → is_filled pt (label_of l) h ≡ false → count_of pt.addresses h ≤ count_of (addresses_after pt.kernel pt.view pt.addresses l) h
-by_line pt (Line.Label l) h mine e = same_count pt.addresses (given pt.addresses (gives pt.kernel pt.view pt.addresses l)) h (not_given pt.addresses (gives pt.kernel pt.view pt.addresses l) h e)
+by_line pt (Line.Label l) h mine e = same_count pt.addresses (given pt.addresses (gives pt.kernel pt.view pt.addresses l)) h (not_given pt.addresses h (gives pt.kernel pt.view pt.addresses l) e)
 by_line pt (Line.Forwarded id m) h mine e =
     let gs = forwards pt.view pt.addresses id (pt.view.told id) in
-    same_count pt.addresses (given pt.addresses gs) h (not_given pt.addresses gs h (forwards_none pt.view pt.addresses id h (pt.view.told id) mine))
+    same_count pt.addresses (given pt.addresses gs) h (not_given pt.addresses h gs (forwards_none pt.view pt.addresses id h (pt.view.told id) mine))
 by_line pt (Line.SentOn p n) h mine e =
     let is = pt.view.queue pt.view.acting p ++ pt.view.held pt.view.acting p in
     let gs = all_follow pt.view pt.addresses p is in
-    same_count pt.addresses (given pt.addresses gs) h (not_given pt.addresses gs h (follows_none pt.view pt.addresses p h is mine))
+    same_count pt.addresses (given pt.addresses gs) h (not_given pt.addresses h gs (follows_none pt.view pt.addresses p h is mine))
 by_line pt (Line.Put from to id x r) h mine e =
     let own = own_gives pt.kernel pt.view pt.addresses id r x in
     let gs = first_gives (pt.view.told id) own in
-    same_count pt.addresses (given pt.addresses gs) h (not_given pt.addresses gs h (first_none h (pt.view.told id) own (own_none pt.kernel pt.view pt.addresses id r h x mine)))
+    same_count pt.addresses (given pt.addresses gs) h (not_given pt.addresses h gs (first_none h (pt.view.told id) own (own_none pt.kernel pt.view pt.addresses id r h x mine)))
 by_line pt (Line.Updated id n) h mine e = update_raises pt.kernel pt.view pt.addresses h (pt.view.told id)
 by_line pt _ h mine e = omega arith
 
