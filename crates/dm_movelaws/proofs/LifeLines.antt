@@ -148,7 +148,6 @@ moves_stands v p k s d id h =
     other false true e = absurd (false≢true e)
 
 -- a living process is in none of the other phases
-
 somewhere : (v : View) (p : Pid) (phase : Phase) (l : Option Life) (x : PlainProcess) → IsIn v p phase → l ≡ Some (Alive x) → ((m : ℕ) → agrees (v.known m p) l ≡ true) → v.known p.home p ≢ Unknown → Somewhere v p
 somewhere v p Nowhere l x h alive agree home = absurd (home (unknown_by (v.known p.home p) (h.known p.home)))
 somewhere v p (Rests at) l x h alive agree home = rests_stands v p at (h.known at)

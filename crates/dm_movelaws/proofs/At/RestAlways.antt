@@ -49,7 +49,6 @@ calm b pt h routed quiet = record {
 }
 
 -- so no process moves
-
 no_token : (v : View) (p : Pid) (k : MessageKind) (s d : ℕ) (id : MsgId) → Calm v → IsToken v p k s d id → ⊥
 no_token v p k s d id h t =
     let stands = t.stands in

@@ -59,7 +59,6 @@ quiet_stays b pt h n is quiet sources p =
     none_moves b pt h n is quiet sources p (phases.of p) (phases.each p) (not_true (is_due (phases.of p)) (λ e. let f : None ≡ Some p = phases.put p e in cc))
 
 -- and nothing is held
-
 quiet_rests : (b : Boot) (pt : Point) (h : Run b pt) (n : ℕ) → pt.kernel.machines ≡ n → IsQuiet n pt.view → Sources n pt.view → (m : ℕ) (p : Pid) → is_moving (pt.view.known m p) ≡ false
 quiet_rests b pt h n is quiet sources m p = not_true (is_moving (pt.view.known m p)) (λ e.
     let one = waits_moves pt.view h.based.phased.phases p m e in

@@ -12,7 +12,6 @@ use Rattle.dm_movelaws.proofs.Trail.Known.{trail_known}
 use Rattle.dm_movelaws.proofs.Real.Lines.{made_by as life_stays}
 
 -- a process that was made stays made
-
 made_on : (b : Boot) (es : List Step) (pt end : Point) (q : Pid) (r e : MsgId → ℕ) → Leads b pt es end → Sound r e pt.kernel → is_some (pt.kernel.processes q) ≡ true → is_some (end.kernel.processes q) ≡ true
 made_on b [] pt end q r e leads h there = ap (λ (x : Point). is_some (x.kernel.processes q)) (sym leads) ∙ there
 made_on b (d ∷ es) pt end q r e (w, fit, is, rest) h there =

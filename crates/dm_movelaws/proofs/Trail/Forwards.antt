@@ -4,7 +4,7 @@ use Rattle.dm_movelaws.proofs.Names.{MessageKind, Line, Stage, View, Told, Known
 use Rattle.dm_movelaws.proofs.Names.{to_kernel, forwards_on, sends_on, Moves, IsIn, times, Trails, IsOn, destination, trails_after, both_lists, forwarded_known, Sane, get_at_end, forwarded_back, Named, source_holds, two_apart, sent_on_at}
 use Rattle.dm_movelaws.proofs.Names.{Treads, PutFits, Rides, said_by, again_rides, named_for, again_same, own_outside, own_fresh, eq_self, forwarded_own, other_id, leaves, nat_tests}
 use Rattle.dm_movelaws.proofs.Trail.Placed.{is_held, Placed, Places, placed_same, placed_left, places_set, moves_held, moves_comes}
-use Rattle.dm_movelaws.proofs.Trail.Loose.{Walks, WalksOf, first_walks, places_ride, places_same, owns_leave, to_restart}
+use Rattle.dm_movelaws.proofs.Trail.Loose.{Walks, WalksOf, first_walks, places_ride, places_same, owns_leave, to_between}
 
 forwarded_moves : (v : View) (o : Option Pid) (q : Pid) → (forwarded_for v o).moves q ≡ v.moves q
 forwarded_moves v None q = refl
@@ -60,7 +60,7 @@ left_places q u p d h =
 left_walks : (q : Point) (u : Trails) (p : Pid) (d from : ℕ) → Sent q u p d → Walks q u (Says (Line.Migration Stage.Left p) ∷ to_kernel MessageKind.Restart from ∷ [])
 left_walks q u p d from h =
     first_walks (Line.Migration Stage.Left p) (to_kernel MessageKind.Restart from ∷ []) q u
-    (λ sane on. (record { d = d; holds = h.holds; at = h.at; long = h.long; apart = h.apart }, λ next s. subst (λ (z : Point). Places z.view u) s.is (left_places q u p d h))) (to_restart from)
+    (λ sane on. (record { d = d; holds = h.holds; at = h.at; long = h.long; apart = h.apart }, λ next s. subst (λ (z : Point). Places z.view u) s.is (left_places q u p d h))) (to_between MessageKind.Restart from refl)
 
 agains_walks : (u : Trails) (p : Pid) (d from to : ℕ) (ids : List MsgId) (q : Point) → Sent q u p d → Walks q u (sends_on to ids ++ Says (Line.Migration Stage.Left p) ∷ to_kernel MessageKind.Restart from ∷ [])
 agains_walks u p d from to [] q h = left_walks q u p d from h

@@ -79,7 +79,6 @@ trod_on b (e ∷ es) pt end (w, fit, is, rest) h =
     })
 
 -- a process that doesn't move is where its trail ends
-
 here_held : (x : Known) → is_here x ≡ true → is_held x ≡ true
 here_held Here e = refl
 here_held _ e = absurd (false≢true e)
@@ -118,7 +117,6 @@ long_in v t p (Over at) h on still = on.long at (over_held (v.known at p) (at_se
 long_in v t p (Moves k s d o) h on still = absurd (never_moves v p k s d o h still)
 
 -- and it is there
-
 pub over_is : (x : Known) → is_over x ≡ true → x ≡ Ended
 over_is Ended e = refl
 over_is _ e = absurd (false≢true e)

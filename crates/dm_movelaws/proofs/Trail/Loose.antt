@@ -10,6 +10,8 @@ use Rattle.dm_rule.proofs.Trails.Along.{AllFit}
 use Rattle.dm_onekernel.specs.Step as kernel
 use Rattle.dm_rule.specs.View as view
 use Rattle.dm_rule.specs.Rule as rule
+use Rattle.dm_movelaws.proofs.Names.{Addresses, Sort, own_given, is_between, sort_of, false≢true}
+use Rattle.dm_rule.specs.Phases.{tells_between}
 
 -- each of these lines fits where the ones before lead, and behind the last each process is placed
 abbrev pub AllGood : Point → Trails → List Line → Type 0
@@ -144,29 +146,12 @@ between_loose k m gives none = record {
   leaves = λ pt next t s h. owns_leave k (pid_of m 0) m pt next t s h;
 }
 
-pub to_ask : (m : ℕ) → AllLoose (to_kernel MessageKind.Ask m ∷ [])
-to_ask m = (between_loose MessageKind.Ask m (λ pt. refl) (λ e. cc), tt)
+gives_between : (s : OneKernel) (v : View) (a : Addresses) (id : MsgId) (m : ℕ) (w : Sort) → tells_between w ≡ true → own_given s v a id (pid_of m 0) w ≡ goes_between v id (pid_of m 0)
+gives_between s v a id m (Sort.Between passage) e = refl
+gives_between s v a id m _ e = absurd (false≢true e)
 
-pub to_refuse : (m : ℕ) → AllLoose (to_kernel MessageKind.Refuse m ∷ [])
-to_refuse m = (between_loose MessageKind.Refuse m (λ pt. refl) (λ e. cc), tt)
-
-pub to_pullstate : (m : ℕ) → AllLoose (to_kernel MessageKind.PullState m ∷ [])
-to_pullstate m = (between_loose MessageKind.PullState m (λ pt. refl) (λ e. cc), tt)
-
-pub to_state : (m : ℕ) → AllLoose (to_kernel MessageKind.State m ∷ [])
-to_state m = (between_loose MessageKind.State m (λ pt. refl) (λ e. cc), tt)
-
-pub to_pullblock : (m : ℕ) → AllLoose (to_kernel MessageKind.PullBlock m ∷ [])
-to_pullblock m = (between_loose MessageKind.PullBlock m (λ pt. refl) (λ e. cc), tt)
-
-pub to_memory : (m : ℕ) → AllLoose (to_kernel MessageKind.Memory m ∷ [])
-to_memory m = (between_loose MessageKind.Memory m (λ pt. refl) (λ e. cc), tt)
-
-pub to_alltaken : (m : ℕ) → AllLoose (to_kernel MessageKind.AllTaken m ∷ [])
-to_alltaken m = (between_loose MessageKind.AllTaken m (λ pt. refl) (λ e. cc), tt)
-
-pub to_restart : (m : ℕ) → AllLoose (to_kernel MessageKind.Restart m ∷ [])
-to_restart m = (between_loose MessageKind.Restart m (λ pt. refl) (λ e. cc), tt)
+pub to_between : (k : MessageKind) (m : ℕ) → is_between k ≡ true → AllLoose (to_kernel k m ∷ [])
+to_between k m b = (between_loose k m (λ pt. gives_between pt.kernel pt.view pt.addresses (own_id pt.view) m (sort_of k) b) (λ e. false≢true (sym (ap is_between e) ∙ b)), tt)
 
 -- lines that say nothing of where processes are
 pub line_loose : (l : Line) → ((pt : Point) (t : Trails) → Sane pt → Treads pt t → LineFits pt t l) → ((v : View) (t : Trails) → Places v t → Places (view_after v l) (trails_after v t l)) → Loose (Says l)

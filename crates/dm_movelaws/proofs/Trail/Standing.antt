@@ -66,7 +66,6 @@ place_is : (place : Place) (m : ℕ) → place.moves ≡ 0 → place.at ≡ m �
 place_is place m moves at = λ i. record { at = at i; moves = moves i }
 
 -- what was never made
-
 agrees_none : (k : Known) → agrees k None ≡ true → k ≡ Unknown
 agrees_none Unknown e = refl
 agrees_none _ e = absurd (false≢true e)
