@@ -6,12 +6,10 @@ use Rattle.dm_movelaws.proofs.At.RestQueues.{drops_always}
 use Rattle.dm_movelaws.proofs.Lists.Parts.{migrates_ok, ForProcess, NoQueues, AllOk, nets_ok, line_queues, parts_queues, hears_ok, round_ok, handles_ok}
 use Rattle.dm_movelaws.proofs.After.{keeps_always}
 use Rattle.dm_rule.specs.Rule as rule
+use Rattle.dm_movelaws.proofs.Names.{nat_tests}
 
 at_front : (xs is : List MsgId) (i : MsgId) → xs ≡ i ∷ is → 1 ≤ times i xs
-at_front xs is i e =
-    let one : times i (i ∷ is) ≡ 1 + times i is = ap (λ (c : Bool). (if c then 1 else 0) + times i is) (id_eq-same i) in
-    let all : times i xs ≡ times i (i ∷ is) = ap (times i) e in
-    omega (arith, one, all)
+at_front xs is i e = grind (arith, nat_tests, id_eq-same)
 
 front_process : (b : Boot) (pt : Point) (m : ℕ) (i : MsgId) (is : List MsgId) (msg : PlainMessage) → Run b pt → pt.view.inbox m ≡ i ∷ is → pt.kernel.bag i ≡ Some msg → is_server msg.to ≡ false → ForProcess pt.view i
 front_process b pt m i is msg h box there process =
@@ -19,14 +17,7 @@ front_process b pt m i is msg h box there process =
     record { what = t; told = told; process = ap is_server (h.based.phased.sane.tells.receiver i msg t there told) ∙ process }
 
 outcome_ok : (b : Boot) (pt : Point) (d : Step) (ps : List Part) → Run b pt → rule.outcome b pt d ≡ Some ps → AllOk (ForProcess pt.view) ps
-outcome_ok b pt d ps h is = by_outcome (λ x. AllOk (ForProcess pt.view)) b pt d ps (record {
-  round = λ m qs box e. round_ok (ForProcess pt.view) b pt m (rule.first_runnable pt.kernel (pt.view.queue m) (pt.view.ring m)) qs e;
-  handles = λ m i is msg qs box there e. handles_ok (ForProcess pt.view) b pt m i msg qs (front_process b pt m i is msg h box there) e;
-  hears = λ m i is qs box none e. hears_ok (ForProcess pt.view) b pt m i (pt.view.told i) qs e;
-  ticks = λ m. nets_ok (ForProcess pt.view);
-  delivers = λ a c k. nets_ok (ForProcess pt.view);
-  asks = λ p m. migrates_ok (ForProcess pt.view) pt p;
-}) is
+outcome_ok b pt d ps h is = by_outcome (λ x. AllOk (ForProcess pt.view)) b pt d ps (search (by_outcome, round_ok, handles_ok, front_process, hears_ok, nets_ok, migrates_ok)) is
 
 abbrev NoneQueued : View → Type 0
 NoneQueued v = (m : ℕ) (p : Pid) → is_server p ≡ true → v.queue m p ≡ []

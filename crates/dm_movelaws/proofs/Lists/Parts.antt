@@ -5,6 +5,8 @@ use Rattle.dm_movelaws.proofs.Names.{without_front, View, Told, About, NothingEl
 use Rattle.dm_movelaws.proofs.Names.{forwards_on, migrates, hears, by_migrates, IsHeardLine, Kept, kept_forward, hears_kept, PlainMessage, goes_round, handles, Loose, loose_round, loose_handles}
 use Rattle.dm_movelaws.proofs.Leading.{All, lines_are, Saying, net_says}
 use Rattle.dm_rule.specs.View as view
+use Rattle.dm_movelaws.proofs.Names.{nat_tests}
+use Rattle.dm_movelaws.proofs.Names.{arith}
 
 -- what is queued is so
 abbrev pub LineOk : (MsgId → Type 0) → Line → Type 0
@@ -37,10 +39,7 @@ pub record NoQueues (before v : View) : Type 0 where
   pub none : (m : ℕ) (p : Pid) → is_server p ≡ true → v.queue m p ≡ []
 
 same_queues : (before v w : View) → w.told ≡ v.told → w.queue ≡ v.queue → NoQueues before v → NoQueues before w
-same_queues before v w told queue h = record {
-  told = λ i t e. ap (λ (f : MsgId → Option Told). f i) told ∙ h.told i t e;
-  none = λ m p e. ap (λ (f : ℕ → Pid → List MsgId). f m p) queue ∙ h.none m p e;
-}
+same_queues before v w told queue h = grind (arith, nat_tests)
 
 set_queue : (before v w : View) (q : Pid) (xs : List MsgId) → w.told ≡ v.told → w.queue ≡ at_record v.queue v.acting q xs → (is_server q ≡ true → xs ≡ []) → NoQueues before v → NoQueues before w
 set_queue before v w q xs told queue new h = record {
@@ -50,58 +49,43 @@ set_queue before v w q xs told queue new h = record {
 
 -- lines that change no queue
 held_queue : (v : View) (i : MsgId) (o : Option Pid) → (view.held_for v i o).queue ≡ v.queue
-held_queue v i None = refl
-held_queue v i (Some p) = refl
+held_queue v i o = grind (arith, nat_tests)
 
 forwarded_queue : (v : View) (o : Option Pid) → (view.forwarded_for v o).queue ≡ v.queue
-forwarded_queue v None = refl
-forwarded_queue v (Some p) = refl
+forwarded_queue v o = grind (arith, nat_tests)
 
 taken_queue : (v : View) (b : ℕ) (o : Option MsgId) → (view.taken_id v b o).queue ≡ v.queue
-taken_queue v b None = refl
-taken_queue v b (Some i) = refl
+taken_queue v b o = grind (arith, nat_tests)
 
 asks_queue : (v : View) (a : About) → (view.asks_on v a).queue ≡ v.queue
-asks_queue v NothingElse = refl
-asks_queue v _ = refl
+asks_queue v a = grind (arith, nat_tests)
 
 follows_queue : (v : View) (a : About) (k : MessageKind) → (view.follows_up v a k).queue ≡ v.queue
-follows_queue v a MessageKind.State = asks_queue v a
-follows_queue v a MessageKind.Memory = asks_queue v a
-follows_queue v a _ = refl
+follows_queue v a k = grind (arith, nat_tests, asks_queue)
 
 proto_queue : (v : View) (o : Option Told) → (view.after_proto v o).queue ≡ v.queue
-proto_queue v None = refl
-proto_queue v (Some t) = follows_queue v t.about t.kind
+proto_queue v o = grind (arith, nat_tests, follows_queue)
 
 head_queue : (v : View) (d : Step) → (view.after_head v d).queue ≡ v.queue
-head_queue v (Step.Turn m) = refl
-head_queue v _ = refl
+head_queue v d = grind (arith, nat_tests)
 
 stage_queue : (v : View) (p : Pid) (s : Stage) → (view.after_stage v p s).queue ≡ v.queue
-stage_queue v p Stage.Frozen = refl
-stage_queue v p _ = refl
+stage_queue v p s = grind (arith, nat_tests)
 
 served_queue : (v : View) (o : Option Told) → (view.served_told v o).queue ≡ v.queue
-served_queue v None = refl
-served_queue v (Some t) = killed_or (λ (w : View). w.queue ≡ v.queue) t.kind v t.receiver (λ k. refl) (λ k. refl)
+served_queue v o = grind (arith, nat_tests, killed_or)
 
 -- and lines that do
 dropped_queues : (before v : View) (i : MsgId) (o : Option Pid) → (view.dropped_for (handled v i) i o).told ≡ v.told → NoQueues before v → NoQueues before (view.dropped_for (handled v i) i o)
 dropped_queues before v i None told h = same_queues before v (handled v i) told refl h
-dropped_queues before v i (Some p) told h =
-    set_queue before v (view.dropped_for (handled v i) i (Some p)) p (without_front i (v.queue v.acting p)) told refl (λ e. ap (without_front i) (h.none v.acting p e)) h
+dropped_queues before v i (Some p) told h = grind (arith, nat_tests, set_queue)
 
 queued_queues : (before v : View) (i : MsgId) (o : Option Told) (t : Told) → o ≡ Some t → is_server t.receiver ≡ false → (view.queued_for (handled v i) i (receiver_of o)).told ≡ v.told → NoQueues before v → NoQueues before (view.queued_for (handled v i) i (receiver_of o))
 queued_queues before v i None t is process told h = absurd (let f : None ≡ Some t = is in cc)
-queued_queues before v i (Some u) t is process told h =
-    let f : u ≡ t = cc in
-    set_queue before v (view.queued_for (handled v i) i (Some u.receiver)) u.receiver (v.queue v.acting u.receiver ++ i ∷ []) told refl
-    (λ e. absurd (false≢true (sym process ∙ sym (ap (λ (x : Told). is_server x.receiver) f) ∙ e))) h
+queued_queues before v i (Some u) t is process told h = grind (arith, nat_tests, set_queue)
 
 label_queues : (before v : View) (l : Label) → NoQueues before v → NoQueues before (view_after v (Line.Label l))
-label_queues before v (Label.Receive p id) h =
-    set_queue before v (view_after v (Line.Label (Label.Receive p id))) p (without_id id (v.queue v.acting p)) refl refl (λ e. ap (without_id id) (h.none v.acting p e)) h
+label_queues before v (Label.Receive p id) h = grind (arith, nat_tests, set_queue)
 label_queues before v (Label.Dropped id) h = dropped_queues before v id (receiver_of (v.told id)) (hushed v (Line.Label (Label.Dropped id)) refl).told h
 label_queues before v (Label.Served id) h = same_queues before v (view_after v (Line.Label (Label.Served id))) (hushed v (Line.Label (Label.Served id)) refl).told (served_queue (handled v id) (v.told id)) h
 label_queues before v any_ h = same_queues before v (view_after v (Line.Label any_)) refl refl h
@@ -115,9 +99,7 @@ line_queues before v (Line.Queued id) e h = queued_queues before v id (v.told id
 line_queues before v (Line.Put a b id k q) e h = record { told = λ j t f. told_kept v a b id k q j t (h.told j t f); none = h.none }
 line_queues before v (Line.SentOn p k) e h = set_queue before v (view_after v (Line.SentOn p k)) p [] refl refl (λ f. refl) h
 line_queues before v (Line.Head d) e h = quiet_queues before v (Line.Head d) refl (head_queue v d) h
-line_queues before v (Line.Taken a b k) e h =
-    let p = v.pair a b in
-    quiet_queues before v (Line.Taken a b k) refl (taken_queue (view.with_pair v a b (record p { taken = p.taken + 1; kept = filter (λ j. not (j == k)) p.kept })) b (view.oldest p)) h
+line_queues before v (Line.Taken a b k) e h = search (quiet_queues, taken_queue)
 line_queues before v (Line.Held id) e h = quiet_queues before v (Line.Held id) refl (held_queue (handled v id) id (receiver_of (v.told id))) h
 line_queues before v (Line.Forwarded id m) e h = quiet_queues before v (Line.Forwarded id m) refl (forwarded_queue (handled v id) (receiver_of (v.told id))) h
 line_queues before v (Line.Proto id) e h = quiet_queues before v (Line.Proto id) refl (proto_queue (handled v id) (v.told id)) h

@@ -11,6 +11,7 @@ use Rattle.dm_movelaws.proofs.Promise.Spots.{Stands}
 use Rattle.dm_movelaws.proofs.Promise.Groups.{update_own}
 use Rattle.dm_movelaws.proofs.After.{group_after}
 use Rattle.dm_movelaws.proofs.Promise.Finds.{lines_by, leads_append, Handles, find_handled}
+use Rattle.dm_movelaws.proofs.Names.{nat_tests}
 
 same_place : (a b : Place) → a.at ≡ b.at → a.moves ≡ b.moves → a ≡ b
 same_place a b e f = λ i. record { at = e i; moves = f i }
@@ -30,15 +31,7 @@ about_moves p q a b m n e = cc
 
 -- where the group that handles it leads, each link of its receiver's to the process knows as many moves
 raised_at : (at next : Point) (id : MsgId) (n : ℕ) (p q : Pid) (place : Place) (k : ℕ) → Updated at next id n → at.view.told id ≡ Some (update_of p q place) → leads_to next.kernel (Slot p k) ≡ Some q → place.moves ≤ (next.addresses (Slot p k)).moves
-raised_at at next id n p q place k u told leads =
-    let same : u.told ≡ update_of p q place = same_told u.told (update_of p q place) (at.view.told id) u.is told in
-    let about : About.Place u.process u.place.at u.place.moves ≡ About.Place q place.at place.moves = sym u.about ∙ ap (λ (t : Told). t.about) same in
-    let process : u.process ≡ q = about_process u.process q u.place.at place.at u.place.moves place.moves about in
-    let moves : u.place.moves ≡ place.moves = about_moves u.process q u.place.at place.at u.place.moves place.moves about in
-    let mine : belongs_to u.told.receiver (Slot p k) ≡ true = ap (λ (t : Told). belongs_to t.receiver (Slot p k)) same ∙ pid_eq-same p in
-    let led : leads_to at.kernel (Slot p k) ≡ Some u.process = ap (λ (s : OneKernel). leads_to s (Slot p k)) (sym u.kernel) ∙ leads ∙ ap Some (sym process) in
-    let least = u.raised (Slot p k) mine led in
-    omega (arith, moves, least)
+raised_at at next id n p q place k u told leads = grind (arith, nat_tests, same_told, about_process, about_moves, pid_eq-same)
 
 -- and where all is at rest, it names the place that the update told
 kept_place : (pt : Point) (t : Trails) (id : MsgId) (p q : Pid) (place : Place) (k : ℕ) → OnTrail pt t → AtRest pt → pt.view.told id ≡ Some (update_of p q place) → pt.view.moves q ≡ place.moves → leads_to pt.kernel (Slot p k) ≡ Some q → place.moves ≤ (pt.addresses (Slot p k)).moves

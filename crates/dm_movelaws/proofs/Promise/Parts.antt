@@ -8,6 +8,7 @@ use Rattle.dm_movelaws.proofs.Promise.Spots.{Stands, Spares, line_stands}
 use Rattle.dm_movelaws.proofs.Promise.Stands.{label_stands, put_this, put_stands, packet_stands}
 use Rattle.dm_movelaws.proofs.Leading.{Behind, whatever_put, part_leads}
 use Rattle.dm_rule.specs.Rule as rule
+use Rattle.dm_movelaws.proofs.Names.{nat_tests}
 
 -- a kernel's own message that was told of
 pub record Base (j : MsgId) (t : Told) (pt : Point) : Type 0 where
@@ -42,29 +43,13 @@ all_loose [] = true
 all_loose (p ∷ ps) = is_loose p && all_loose ps
 
 line_loose : (j : MsgId) (v : View) (l : Line) → is_loose_line l ≡ true → Spares j v l
-line_loose j v (Line.Label l) e = tt
-line_loose j v (Line.Idle m) e = tt
-line_loose j v (Line.Old a b n) e = tt
-line_loose j v Line.Nothing e = tt
-line_loose j v (Line.Resent m n) e = tt
-line_loose j v (Line.NoChild p) e = tt
-line_loose j v (Line.Pinned p) e = tt
-line_loose j v (Line.Migration Stage.Asked p) e = tt
-line_loose j v (Line.Migration Stage.Left p) e = tt
-line_loose j v _ e = absurd (false≢true e)
+line_loose j v l e = grind (arith, nat_tests)
 
 part_loose : (j : MsgId) (pt : Point) (p : Part) → is_loose p ≡ true → NeedsPart j pt p
-part_loose j pt (Says l) e = line_loose j pt.view l e
-part_loose j pt _ e = tt
+part_loose j pt p e = grind (arith, nat_tests, line_loose)
 
 spares_quiet : (j : MsgId) (v : View) (l : Line) → Spares j v l → (touches l ≡ false) × (is_put l ≡ false)
-spares_quiet j v (Line.Early a b n) e = absurd e
-spares_quiet j v (Line.Acked a b n) e = absurd e
-spares_quiet j v (Line.Head s) e = absurd e
-spares_quiet j v (Line.Put a b i k q) e = absurd e
-spares_quiet j v (Line.Packet a b k l) e = absurd e
-spares_quiet j v (Line.Taken a b n) e = absurd e
-spares_quiet j v _ e = (refl, refl)
+spares_quiet j v l e = grind (arith, nat_tests)
 
 -- pairs that fit
 says_fit : (pt next : Point) (l : Line) → touches l ≡ false → PairsFit pt.view → Steps pt (Says l) next → PairsFit next.view
@@ -73,24 +58,16 @@ says_fit pt next l quiet h s =
     subst (λ (x : Point). PairsFit x.view) k.is (fits_as pt.view (view_after pt.view l) (pair_same pt.view l quiet) h)
 
 fits_behind : (j : MsgId) (pt : Point) (p : Part) → NeedsPart j pt p → PairsFit pt.view → Behind (λ x. PairsFit x.view) pt p
-fits_behind j pt p need h =
-    whatever_put (λ x. PairsFit x.view) pt p (λ l is s step. fits_as pt.view (view_after pt.view l) (pair_same pt.view l (spares_quiet j pt.view l (subst (NeedsPart j pt) is need)).0) h)
-    (λ b i k q. fits_put pt.view pt.view.acting b i k q h) h
+fits_behind j pt p need h = grind (arith, nat_tests, whatever_put, fits_as, pair_same, spares_quiet, fits_put)
 
 part_fits : (j : MsgId) (pt next : Point) (p : Part) → NeedsPart j pt p → PairsFit pt.view → Steps pt p next → PairsFit next.view
 part_fits j pt next p need h s = part_leads (λ x. PairsFit x.view) (λ x a c n l f. fits_packet x.view a c n l f) pt next p (fits_behind j pt p need h) s
 
 part_says : (j : MsgId) (pt : Point) (p : Part) → NeedsPart j pt p → Sayable p
-part_says j pt (Says l) need = (spares_quiet j pt.view l need).1
-part_says j pt _ need = tt
+part_says j pt p need = grind (arith, nat_tests, spares_quiet)
 
 base_on : (j : MsgId) (t : Told) (pt next : Point) (p : Part) → Sayable p → PairsFit next.view → Base j t pt → Steps pt p next → Base j t next
-base_on j t pt next p ok fits h s = record {
-  sane = part_sane pt next p s.lines ok s.are s.leads h.sane;
-  fits = fits;
-  own = h.own;
-  told = lines_told s.lines pt next j t s.leads h.told;
-}
+base_on j t pt next p ok fits h s = search (part_sane, lines_told)
 
 -- a line that touches no pair
 pub base_says : (j : MsgId) (t : Told) (pt next : Point) (l : Line) → touches l ≡ false → is_put l ≡ false → Base j t pt → Steps pt (Says l) next → Base j t next
@@ -160,10 +137,7 @@ loose_goes j t pt ps e base h w is = inl (loose_stands ps j t pt w e base h is)
 
 -- messages that go on: it stands somewhere, or is one of those that still go
 apart_rest : (j i : MsgId) (is : List MsgId) → id_eq i j ≡ false → 1 ≤ times j (i ∷ is) → 1 ≤ times j is
-apart_rest j i is e least =
-    let f : id_eq j i ≡ false = not_true (id_eq j i) (λ g. false≢true (sym e ∙ ap (λ (x : MsgId). id_eq x j) (sym (id_eq-is j i g)) ∙ id_eq-same j)) in
-    let z : one_of j i ≡ 0 = ap (λ (c : Bool). if c then 1 else 0) f in
-    omega (arith, least, z)
+apart_rest j i is e least = grind (arith, nat_tests, not_true, id_eq-is, id_eq-same)
 
 again_as : (i j : MsgId) (t : Told) (pt next : Point) (b : ℕ) → i ≡ j → Base j t pt → Steps pt (Again i b) next → Stands next.view j
 again_as i j t pt next b e base s = again_this j t pt next b base (subst (λ (x : MsgId). Steps pt (Again x b) next) e s)

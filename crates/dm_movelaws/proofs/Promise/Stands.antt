@@ -9,6 +9,7 @@ use Rattle.dm_rule.proofs.Moves.Sent.{sent_off}
 use Rattle.dm_movelaws.proofs.Promise.Spots.{Stands, stands_as, stands_off, Front, first_stands}
 use Rattle.dm_onekernel.specs.Step as kernel
 use Rattle.dm_rule.specs.View as view
+use Rattle.dm_movelaws.proofs.Names.{nat_tests}
 
 -- a label takes a message of the bag, which is no kernel's own
 own_apart : (i j : MsgId) → is_kernels i ≡ false → is_kernels j ≡ true → id_eq i j ≡ false
@@ -22,9 +23,7 @@ label_spots pt t (Label.Ran p k) j h is own z = ap (times j) (serving_off pt.vie
 label_spots pt t (Label.End p y) j h is own z = ap (times j) (ended_off pt.view p z)
 label_spots pt t (Label.Receive p id) j h is own z = received_spots pt.view p id j (bag_apart pt t (Label.Receive p id) id j h is refl own) z
 label_spots pt t (Label.Refuse p id c) j h is own z = ap (times j) (serving_off pt.view p z)
-label_spots pt t (Label.Dropped id) j h is own z =
-    let e = bag_apart pt t (Label.Dropped id) id j h is refl own in
-    dropped_spots (handled pt.view id) id j (receiver_of (pt.view.told id)) e z ∙ handled_spots pt.view id j e z
+label_spots pt t (Label.Dropped id) j h is own z = search (bag_apart, dropped_spots, handled_spots)
 label_spots pt t (Label.Served id) j h is own z =
     ap (times j) ((served_keeps (handled pt.view id) (pt.view.told id)).0 z) ∙ handled_spots pt.view id j (bag_apart pt t (Label.Served id) id j h is refl own) z
 label_spots pt t (Label.Gone id) j h is own z = handled_spots pt.view id j (bag_apart pt t (Label.Gone id) id j h is refl own) z
@@ -54,10 +53,7 @@ either_list : (v : View) (p : Pid) (j : MsgId) → 1 ≤ standing v j (Queue v.a
 either_list v p j e = let f = both_times v p j in omega (arith, e, f)
 
 list_at : (v : View) (f : ℕ → Pid → List MsgId) (p : Pid) (j : MsgId) (m : ℕ) (q : Pid) → ((v.acting == m) && pid_eq p q) ≡ true → 1 ≤ times j (f m q) → 1 ≤ times j (f v.acting p)
-list_at v f p j m q same e =
-    let both = parts (v.acting == m) (pid_eq p q) same in
-    let g : times j (f m q) ≡ times j (f v.acting p) = ap (λ (n : ℕ). times j (f n q)) (sym (eq_is v.acting m both.0)) ∙ ap (λ (r : Pid). times j (f v.acting r)) (sym (pid_eq-is p q both.1)) in
-    omega (arith, e, g)
+list_at v f p j m q same e = grind (arith, nat_tests, parts, eq_is, pid_eq-is)
 
 emptied_at : (v : View) (p : Pid) (j : MsgId) (z : Spot) → 1 ≤ standing v j z → Stands (emptied v p) j ⊎ (1 ≤ times j (both_lists v p))
 emptied_at v p j (Queue m q) e = elim (cases_Bool ((v.acting == m) && pid_eq p q)) [
@@ -93,23 +89,17 @@ held_this v i t e = held_by (handled v i) i (receiver_of (v.told i)) t.receiver 
 
 -- heads
 pub head_stands : (v : View) (d : Step) (j : MsgId) → Stands v j → Stands (after_head v d) j
-head_stands v (Step.Turn m) j h = stands_off v (after_head v (Step.Turn m)) j (λ z. turn_off v m z) h
-head_stands v (Step.Tick m) j h = stands_off v (after_head v (Step.Tick m)) j (λ z. tick_off v m z) h
-head_stands v (Step.Deliver a b k) j h = stands_off v (after_head v (Step.Deliver a b k)) j (λ z. deliver_off v a b k z) h
-head_stands v (Step.Migrate p m) j h = stands_off v (after_head v (Step.Migrate p m)) j (λ z. migrate_off v p m z) h
+head_stands v d j h = grind (arith, nat_tests, stands_off, turn_off, tick_off, deliver_off, migrate_off)
 
 -- what a packet brings: where messages come to doesn't rest on what is told of them
 abbrev all_asks : View → View
 all_asks v = record v { told = λ i. Some (record { kind = MessageKind.Ask; receiver = record { home = 0; num = 0 }; about = NothingElse }) }
 
 taken_same : (v : View) (b : ℕ) (o : Option MsgId) (z : Spot) → ids_at (taken_id v b o) z ≡ ids_at (taken_id (all_asks v) b o) z
-taken_same v b None (Queue m p) = refl
-taken_same v b (Some i) (Queue m p) = refl
-taken_same v b _ _ = refl
+taken_same v b o z = grind (arith, nat_tests)
 
 same_at : (v : View) (j : MsgId) (z : Spot) → 1 ≤ standing v j z → 1 ≤ standing (all_asks v) j z
-same_at v j (Queue m p) e = e
-same_at v j _ e = e
+same_at v j z e = grind (arith, nat_tests)
 
 abbrev taking : View → ℕ → ℕ → ℕ → View
 taking v a b n = let p = v.pair a b in view.with_pair v a b (record p { taken = p.taken + 1; kept = filter (λ k. not (k == n)) p.kept })

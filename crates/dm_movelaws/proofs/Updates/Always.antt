@@ -22,8 +22,7 @@ tells _ e = absurd (false≢true e)
 
 -- the head changes nothing that it reads
 head_told : (v : View) (d : Step) → (after_head v d).told ≡ v.told
-head_told v (Step.Turn m) = refl
-head_told v _ = refl
+head_told v d = grind (arith, nat_tests)
 
 record Kept (v w : View) : Type 0 where
   known : w.known ≡ v.known
@@ -32,55 +31,33 @@ record Kept (v w : View) : Type 0 where
   ring : w.ring ≡ v.ring
 
 head_kept : (v : View) (d : Step) → Kept v (after_head v d)
-head_kept v (Step.Turn m) = record { known = refl; queue = refl; held = refl; ring = refl }
-head_kept v _ = record { known = refl; queue = refl; held = refl; ring = refl }
+head_kept v d = grind (arith, nat_tests)
 
 address : (s : OneKernel) (v w : View) (a : Addresses) (id : MsgId) (t : Told) (p : Pid) (at_ : Place) (h : Holder) → w.told ≡ v.told → v.told id ≡ Some t → t.about ≡ view.Place p at_.at at_.moves
     → updated s w a (w.told id) h ≡ (if is_behind s a t.receiver p at_.moves h then at_ else a h)
-address s v w a id t p at_ h same told about =
-    ap (λ (f : MsgId → Option Told). updated s w a (f id) h) same
-    ∙ ap (λ (o : Option Told). updated s w a o h) told
-    ∙ ap (λ (x : About). updated_to s a (Some t.receiver) (place_told x) h) about
+address s v w a id t p at_ h same told about = search
 
 -- whether an address is behind
 pid_true : (p : Pid) (o : Option Pid) → o ≡ Some p → is_pid p o ≡ true
 pid_true p o e = ap (is_pid p) e ∙ pid_eq-same p
 
 three : (a b c : Bool) → (a && (b && c)) ≡ true → (a ≡ true) × (b ≡ true) × (c ≡ true)
-three true true c e = (refl, refl, e)
-three true false c e = absurd (false≢true e)
-three false b c e = absurd (false≢true e)
+three a b c e = grind (arith, nat_tests)
 
 behind_is : (s : OneKernel) (a : Addresses) (q p : Pid) (c : ℕ) (h : Holder) (x : Bool) → belongs_to q h ≡ true → leads_to s h ≡ Some p → nat_lt (a h).moves c ≡ x → is_behind s a q p c h ≡ x
-behind_is s a q p c h x mine leads e =
-    ap (λ (b : Bool). b && (is_pid p (leads_to s h) && nat_lt (a h).moves c)) mine
-    ∙ ap (λ (b : Bool). b && nat_lt (a h).moves c) (pid_true p (leads_to s h) leads)
-    ∙ e
+behind_is s a q p c h x mine leads e = grind (arith, nat_tests, pid_true)
 
 -- an ended process has no links
 ended_none : (o : Option Life) → agrees Ended o ≡ true → kernel.alive o ≡ None
-ended_none (Some (Alive x)) e = absurd (false≢true e)
-ended_none _ e = refl
+ended_none o e = grind (arith, nat_tests)
 
 none_listed : (s : OneKernel) (q : Pid) → is_server q ≡ false → kernel.alive (s.processes q) ≡ None → holders_of s q ≡ []
-none_listed s q server none =
-    let k = either (pid_eq q switchboard) (pid_eq q manager) server in
-    let names = holders_numbered addresses.Name 0 s.switchboard.names in
-    let children = holders_numbered addresses.Child 1 s.manager.children ++ answers_in s.manager.pending in
-    let slots = slot_holders q (kernel.alive (s.processes q)) in
-    ap (λ (c : Bool). if c then names else if pid_eq q manager then children else slots) k.0
-    ∙ ap (λ (c : Bool). if c then children else slots) k.1
-    ∙ ap (slot_holders q) none
+none_listed s q server none = grind (arith, nat_tests)
 
 count_is : (s : OneKernel) (v : View) (a : Addresses) (t : Told) (p : Pid) (at_ : Place) (m n : ℕ) → t.about ≡ view.Place p at_.at at_.moves → KnownStands s v
     → (n ≡ behind_count s a t.receiver (place_told t.about)) ⊎ ((n ≡ 0) × (is_server t.receiver ≡ false) × (v.known m t.receiver ≡ Ended))
     → behind_among (is_behind s a t.receiver p at_.moves) (holders_of s t.receiver) ≡ n
-count_is s v a t p at_ m n about known counts = elim counts [
-  | inl e ↦ sym (e ∙ ap (λ (x : About). behind_count s a t.receiver (place_told x)) about)
-  | inr e ↦
-      let none = ended_none (s.processes t.receiver) (sym (ap (λ (k : view.Known). agrees k (s.processes t.receiver)) e.2) ∙ known.agree m t.receiver e.1) in
-      ap (behind_among (is_behind s a t.receiver p at_.moves)) (none_listed s t.receiver e.1 none) ∙ sym e.0
-]
+count_is s v a t p at_ m n about known counts = grind (arith, nat_tests, ended_none, none_listed)
 
 updated_by : (b : Boot) (pt : Point) (d : Step) (w : Spelled) (id : MsgId) (n : ℕ) → Both b pt → Handled b pt d w id n → Updated pt w.point id n
 updated_by b pt d w id n both h =

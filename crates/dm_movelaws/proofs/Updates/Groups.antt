@@ -7,6 +7,8 @@ use Rattle.dm_movelaws.proofs.Leading.{lines_are}
 use Rattle.dm_rule.specs.View as view
 use Rattle.dm_rule.specs.Migrating as migrating
 use Rattle.dm_rule.specs.Rule as rule
+use Rattle.dm_movelaws.proofs.Names.{nat_tests}
+use Rattle.dm_movelaws.proofs.Names.{arith}
 
 -- the update is at the front of an inbox and not in the bag: its receiver is a server or here and the line counts the addresses
 -- that are behind, or its receiver has ended
@@ -74,19 +76,7 @@ hears_shape : (b : Boot) (o : Point) (m : ℕ) (id : MsgId) (is : List MsgId) (q
 hears_shape b o m id is q ps told box none = by_hears (Shape o) b o m id q ps (λ t there. (
     let f : Front o m id t = record { is = told ∙ there; rest = is; box = box; none = none } in
     record {
-      told = λ p x about alive. record {
-        accepted = λ ask. Quiet (refl, (tt, tt));
-        lacks = λ slots blocks. Quiet (refl, (tt, tt));
-        stays = λ kind. Quiet (refl, tt);
-        state = Quiet (refl, (tt, tt));
-        next_chunk = Quiet (refl, (tt, tt));
-        last_chunk = Quiet (refl, (tt, tt));
-        memory = Quiet (refl, (tt, tt));
-        next_block = Quiet (refl, (tt, tt));
-        last_block = Quiet (refl, (tt, tt));
-        left = λ ids to frozen. Quiet (refl, sends_quiet to ids (Says (Line.Migration Stage.Left p) ∷ migrating.to_kernel MessageKind.Restart id.from.home ∷ []) (refl, (tt, tt)));
-        restarted = λ kind. Quiet (refl, tt);
-      };
+      told = λ p x about alive. grind (arith, nat_tests, sends_quiet);
       updated = λ kind. updates_shape o m id t f kind;
       updated_none = λ kind at_. Updates m id 0 refl (record { told = t; is = f.is; update = kind; counts = inr (refl, at_.server, at_.known); rest = f.rest; box = f.box; none = f.none });
       no_move = λ at_. Quiet (refl, tt);
@@ -100,8 +90,7 @@ hears_shape b o m id is q ps told box none = by_hears (Shape o) b o m id q ps (�
 
 -- the other directives
 net_line : (l : Line) → IsNetLine l → is_updated l ≡ false
-net_line (Line.Updated i n) h = absurd h
-net_line _ h = refl
+net_line l h = grind (arith, nat_tests)
 
 nets_quiet : (ps : List Part) → IsNet ps → AllQuiet ps
 nets_quiet = by_net AllQuiet tt (λ l ps net h. (net_line l net, h)) (λ a b l ps h. (tt, h))
@@ -128,24 +117,21 @@ has [] = false
 has (l ∷ ls) = is_updated l || has ls
 
 or_true : (c : Bool) → (c || true) ≡ true
-or_true true = refl
-or_true false = refl
+or_true c = grind (arith, nat_tests)
 
 has_in : (xs ys : List Line) (id : MsgId) (n : ℕ) → has (xs ++ Line.Updated id n ∷ ys) ≡ true
 has_in [] ys id n = refl
 has_in (x ∷ xs) ys id n = ap (λ (c : Bool). is_updated x || c) (has_in xs ys id n) ∙ or_true (is_updated x)
 
 neither_if : (c : Bool) (xs ys zs : List Line) → (has xs ≡ false → has zs ≡ false) → (c || has xs) ≡ false → (c || has zs) ≡ false
-neither_if true xs ys zs rest e = absurd (false≢true (sym e))
-neither_if false xs ys zs rest e = rest e
+neither_if c xs ys zs rest e = grind (arith, nat_tests)
 
 neither : (xs ys : List Line) → has xs ≡ false → has ys ≡ false → has (xs ++ ys) ≡ false
 neither [] ys e f = f
 neither (x ∷ xs) ys e f = neither_if (is_updated x) xs ys (xs ++ ys) (λ g. neither xs ys g f) e
 
 part_has : (pt : Point) (p : Part) (ls : List Line) → PartQuiet p → lines_of pt p ≡ Some ls → has ls ≡ false
-part_has pt p ls quiet is = lines_are (λ xs. has xs ≡ false) pt p ls
-    (record { says = λ l e. ap (λ (c : Bool). c || false) (subst PartQuiet e quiet); put = λ none a b i k q. refl; goes = λ none a b n i k q l. refl; packet = λ none a b n l. refl }) is
+part_has pt p ls quiet is = grind (arith, nat_tests, lines_are)
 
 parts_have : (ps : List Part) (pt : Point) (w : Spelled) → AllQuiet ps → spelled pt ps ≡ Some w → has w.lines ≡ false
 parts_have ps pt w quiet is = by_parts (λ qs q v. AllQuiet qs → has v.lines ≡ false) (λ q h. refl) (λ x qs q next ls z lines leads rest h. neither ls z.lines (part_has q x ls h.0 lines) (rest h.1)) ps pt w is quiet
@@ -174,11 +160,7 @@ spelled_or z None = z
 spelled_or z (Some w) = w
 
 handled_line : (b : Boot) (pt : Point) (d : Step) (w : Spelled) (m k n : ℕ) (i id : MsgId) → Handles pt m i k → w.lines ≡ Line.Head d ∷ Line.Updated i k ∷ [] → moved (begun pt d) (Line.Updated i k) pt.kernel ≡ w.point → Line.Updated i k ≡ Line.Updated id n → Handled b pt d w id n
-handled_line b pt d w m k n i id handles lines point same =
-    let names : i ≡ id = cc in
-    let counts : k ≡ n = cc in
-    let first : Handled b pt d w i k = record { machine = m; handles = handles; lines = lines; point = point } in
-    subst (λ (j : MsgId). Handled b pt d w j n) names (subst (λ (c : ℕ). Handled b pt d w i c) counts first)
+handled_line b pt d w m k n i id handles lines point same = grind (arith, nat_tests)
 
 by_shape : (b : Boot) (pt : Point) (d : Step) (w : Spelled) (id : MsgId) (n : ℕ) (xs ys : List Line) (g : GroupIs b pt d w) → w.lines ≡ xs ++ Line.Updated id n ∷ ys → Shape pt g.parts → Handled b pt d w id n
 by_shape b pt d w id n xs ys g there (Quiet quiet) =

@@ -16,29 +16,11 @@ got xs k x e = elim (slice_get_cases xs k).1 [
 -- slots
 slots_below : (p q : Pid) (k n : ℕ) (ls : List (Option PlainLink)) → k < n → listings (Slot p k) (slots_from q n ls) ≡ 0
 slots_below p q k n [] le = refl
-slots_below p q k n (l ∷ ls) le =
-    let off : (pid_eq q p && (n == k)) ≡ false = grind (arith, nat_tests) in
-    let rest = slots_below p q k (n + 1) ls (omega (arith, le)) in
-    let first : listings (Slot p k) (slots_from q n (l ∷ ls)) ≡ 0 + listings (Slot p k) (slots_from q (n + 1) ls) = ap (λ (c : Bool). (if c then 1 else 0) + listings (Slot p k) (slots_from q (n + 1) ls)) off in
-    omega (arith, first, rest)
+slots_below p q k n (l ∷ ls) le = grind (arith, nat_tests, slots_below p q k (n + 1) ls)
 
 slots_once : (p q : Pid) (k n : ℕ) (ls : List (Option PlainLink)) → pid_eq q p ≡ true → n ≤ k → k < n + length ls → listings (Slot p k) (slots_from q n ls) ≡ 1
 slots_once p q k n [] same least most = absurd (omega (arith, least, most))
-slots_once p q k n (l ∷ ls) same least most = elim (cases_Bool (n == k)) [
-  | inl e ↦
-      let on : (pid_eq q p && (n == k)) ≡ true = ap (λ (c : Bool). c && (n == k)) same ∙ e in
-      let f : n ≡ k = grind (arith, nat_tests) in
-      let rest = slots_below p q k (n + 1) ls (omega (arith, f)) in
-      let first : listings (Slot p k) (slots_from q n (l ∷ ls)) ≡ 1 + listings (Slot p k) (slots_from q (n + 1) ls) = ap (λ (c : Bool). (if c then 1 else 0) + listings (Slot p k) (slots_from q (n + 1) ls)) on in
-      omega (arith, first, rest)
-  | inr e ↦
-      let off : (pid_eq q p && (n == k)) ≡ false = ap (λ (c : Bool). c && (n == k)) same ∙ e in
-      let more : n < k = grind (arith, nat_tests) in
-      let long : length (l ∷ ls) ≡ length ls + 1 = omega arith in
-      let rest = slots_once p q k (n + 1) ls same (omega (arith, more)) (omega (arith, most, long)) in
-      let first : listings (Slot p k) (slots_from q n (l ∷ ls)) ≡ 0 + listings (Slot p k) (slots_from q (n + 1) ls) = ap (λ (c : Bool). (if c then 1 else 0) + listings (Slot p k) (slots_from q (n + 1) ls)) off in
-      omega (arith, first, rest)
-]
+slots_once p q k n (l ∷ ls) same least most = grind (arith, nat_tests, slots_below, slots_once p q k (n + 1) ls same)
 
 -- names and children, by number
 pub record Counts (f : ℕ → Holder) : Type 0 where
@@ -46,29 +28,11 @@ pub record Counts (f : ℕ → Holder) : Type 0 where
 
 numbered_below : {X : Type 0} (f : ℕ → Holder) (k n : ℕ) (xs : List X) → Counts f → k < n → listings (f k) (holders_numbered f n xs) ≡ 0
 numbered_below f k n [] c le = refl
-numbered_below f k n (x ∷ xs) c le =
-    let off : holder_eq (f n) (f k) ≡ false = c.eq n k ∙ (let g : (n == k) ≡ false = grind (arith, nat_tests) in g) in
-    let rest = numbered_below f k (n + 1) xs c (omega (arith, le)) in
-    let first : listings (f k) (holders_numbered f n (x ∷ xs)) ≡ 0 + listings (f k) (holders_numbered f (n + 1) xs) = ap (λ (b : Bool). (if b then 1 else 0) + listings (f k) (holders_numbered f (n + 1) xs)) off in
-    omega (arith, first, rest)
+numbered_below f k n (x ∷ xs) c le = grind (arith, nat_tests, numbered_below f k (n + 1) xs c)
 
 numbered_once : {X : Type 0} (f : ℕ → Holder) (k n : ℕ) (xs : List X) → Counts f → n ≤ k → k < n + length xs → listings (f k) (holders_numbered f n xs) ≡ 1
 numbered_once f k n [] c least most = absurd (omega (arith, least, most))
-numbered_once f k n (x ∷ xs) c least most = elim (cases_Bool (n == k)) [
-  | inl e ↦
-      let on : holder_eq (f n) (f k) ≡ true = c.eq n k ∙ e in
-      let g : n ≡ k = grind (arith, nat_tests) in
-      let rest = numbered_below f k (n + 1) xs c (omega (arith, g)) in
-      let first : listings (f k) (holders_numbered f n (x ∷ xs)) ≡ 1 + listings (f k) (holders_numbered f (n + 1) xs) = ap (λ (b : Bool). (if b then 1 else 0) + listings (f k) (holders_numbered f (n + 1) xs)) on in
-      omega (arith, first, rest)
-  | inr e ↦
-      let off : holder_eq (f n) (f k) ≡ false = c.eq n k ∙ e in
-      let more : n < k = grind (arith, nat_tests) in
-      let long : length (x ∷ xs) ≡ length xs + 1 = omega arith in
-      let rest = numbered_once f k (n + 1) xs c (omega (arith, more)) (omega (arith, most, long)) in
-      let first : listings (f k) (holders_numbered f n (x ∷ xs)) ≡ 0 + listings (f k) (holders_numbered f (n + 1) xs) = ap (λ (b : Bool). (if b then 1 else 0) + listings (f k) (holders_numbered f (n + 1) xs)) off in
-      omega (arith, first, rest)
-]
+numbered_once f k n (x ∷ xs) c least most = grind (arith, nat_tests, numbered_below, numbered_once f k (n + 1) xs c)
 
 -- requests, whose numbers ascend
 answers_below : (k from to : ℕ) (rs : List Pending) → ascends from rs to ≡ true → k < from → listings (Answer k) (answers_in rs) ≡ 0
@@ -124,12 +88,10 @@ abbrev listed_as : OneKernel → Pid → Bool → Bool → List Holder
 listed_as s q c d = if c then holders_numbered Name 0 s.switchboard.names else if d then holders_numbered Child 1 s.manager.children ++ answers_in s.manager.pending else slot_holders q (kernel.alive (s.processes q))
 
 named_link : (o : Option NamedLink) (q : Pid) → link_target (name_link o) ≡ Some q → (k : NamedLink) × (o ≡ Some k)
-named_link None q e = absurd (let f : None ≡ Some q = e in cc)
-named_link (Some k) q e = (k, refl)
+named_link o q e = grind (arith, nat_tests)
 
 pending_link : (o : Option Pending) (q : Pid) → link_target (answer_link o) ≡ Some q → (r : Pending) × (o ≡ Some r)
-pending_link None q e = absurd (let f : None ≡ Some q = e in cc)
-pending_link (Some r) q e = (r, refl)
+pending_link o q e = grind (arith, nat_tests)
 
 not_board : (q : Pid) → pid_eq q manager ≡ true → pid_eq q switchboard ≡ false
 not_board q e = grind (arith, nat_tests)
@@ -161,12 +123,5 @@ listed s q (Name n) r made up mine other leads =
     let (k, there) = named_link (slice_get s.switchboard.names n) r leads in
     ap (λ (c : Bool). listings (Name n) (listed_as s q c (pid_eq q manager))) mine
     ∙ numbered_once Name n 0 s.switchboard.names (record { eq = λ i j. refl }) (omega arith) (let f = got s.switchboard.names n k there in omega (arith, f))
-listed s q (Answer n) r made up mine other leads =
-    let (x, there) = pending_link (manage.pending_numbered n s.manager.pending) r leads in
-    let once = answers_once n 0 s.manager.sent s.manager.pending x up there in
-    let none = no_child n 1 s.manager.children in
-    let sum = listings-append (Answer n) (holders_numbered Child 1 s.manager.children) (answers_in s.manager.pending) in
-    ap (λ (c : Bool). listings (Answer n) (listed_as s q c (pid_eq q manager))) (not_board q mine)
-    ∙ ap (λ (c : Bool). listings (Answer n) (listed_as s q false c)) mine
-    ∙ (let f : listings (Answer n) (holders_numbered Child 1 s.manager.children ++ answers_in s.manager.pending) ≡ 1 = omega (arith, once, none, sum) in f)
+listed s q (Answer n) r made up mine other leads = grind (arith, nat_tests, pending_link, answers_once, no_child, listings-append, not_board)
 listed s q _ r made up mine other leads = absurd (false≢true mine)
