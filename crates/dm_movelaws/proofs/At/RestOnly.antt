@@ -9,6 +9,8 @@ use Rattle.dm_rule.specs.View as view
 use Rattle.dm_rule.specs.Migrating as migrating
 use Rattle.dm_rule.specs.Rule as rule
 use Rattle.dm_movelaws.proofs.Names.{queued_known, held_known, forwarded_known, proto_known}
+use Rattle.dm_movelaws.proofs.Names.{nat_tests}
+use Rattle.dm_movelaws.proofs.Names.{arith}
 
 -- no process ends by such a line
 abbrev pub is_ending : Line → Bool
@@ -41,14 +43,7 @@ pub data Ends (o : Point) (a : ℕ) (ps : List Part) : Type 0 where
 -- a process is served
 round_ends : (b : Boot) (o : Point) (m : ℕ) (q : Option Pid) (ps : List Part) → rule.goes_round b o m q ≡ Some ps → Ends o m ps
 round_ends b o m q ps = by_round (Ends o m) b o m q ps (Once tt) (λ p x is alive. record {
-  runs = λ k rest f. Runs p k rest refl (f (LastEnds o m) (record {
-    over = tt;
-    replies = λ n r. tt;
-    sends = λ id. (tt, tt);
-    waits = tt;
-    outputs = λ word. tt;
-    ends = λ y. refl;
-  }));
+  runs = λ k rest f. Runs p k rest refl (f (LastEnds o m) (search));
   takes = λ mask id first. Once tt;
   refuses = λ id r. Once tt;
 })
@@ -70,8 +65,7 @@ forwards_ends : (o : Point) (a : ℕ) (c : Addresses) (id : MsgId) (k : MessageK
 forwards_ends o a c id k sender to = by_forwards (Ends o a) c id k sender to (Once (tt, tt)) (Once (tt, (tt, tt)))
 
 routes_stay : (m : Option PlainMessage) → AllStay (rule.routes m)
-routes_stay None = tt
-routes_stay (Some m) = (tt, tt)
+routes_stay m = grind (arith, nat_tests)
 
 handles_ends : (b : Boot) (o : Point) (m : ℕ) (id : MsgId) (msg : PlainMessage) (ps : List Part) → Sane o → o.kernel.bag id ≡ Some msg → (t : Told) → o.view.told id ≡ Some t → rule.handles b o m id msg ≡ Some ps → Ends o m ps
 handles_ends b o m id msg ps sane there t told = by_handles (Ends o m) b o m id msg ps (record {
@@ -96,19 +90,7 @@ sends_stay to (i ∷ is) ps h = (tt, sends_stay to is ps h)
 
 hears_ends : (b : Boot) (o : Point) (m : ℕ) (id : MsgId) (q : Option Told) (ps : List Part) → rule.hears b o m id q ≡ Some ps → Ends o m ps
 hears_ends b o m id q ps = by_hears (Ends o m) b o m id q ps (λ t is. record {
-  told = λ p x about alive. record {
-    accepted = λ ask. Once (tt, tt);
-    lacks = λ slots blocks. Once (tt, tt);
-    stays = λ kind. Once tt;
-    state = Once (tt, tt);
-    next_chunk = Once (tt, tt);
-    last_chunk = Once (tt, tt);
-    memory = Once (tt, tt);
-    next_block = Once (tt, tt);
-    last_block = Once (tt, tt);
-    left = λ ids to frozen. Once (sends_stay to ids (Says (Line.Migration Stage.Left p) ∷ migrating.to_kernel MessageKind.Restart id.from.home ∷ []) (refl, (tt, tt)));
-    restarted = λ kind. Once tt;
-  };
+  told = λ p x about alive. grind (arith, nat_tests, sends_stay);
   updated = λ kind. Once tt;
   updated_none = λ kind at_. Once tt;
   no_move = λ at_. Once tt;
@@ -142,20 +124,16 @@ only_set before v w p k known new h = record {
 
 -- lines that change nothing of what is known
 pub dropped_known : (v : View) (i : MsgId) (o : Option Pid) → (view.dropped_for v i o).known ≡ v.known
-dropped_known v i None = refl
-dropped_known v i (Some p) = refl
+dropped_known v i o = grind (arith, nat_tests)
 
 taken_known : (v : View) (b : ℕ) (o : Option MsgId) → (view.taken_id v b o).known ≡ v.known
-taken_known v b None = refl
-taken_known v b (Some i) = refl
+taken_known v b o = grind (arith, nat_tests)
 
 head_known : (v : View) (d : Step) → (view.after_head v d).known ≡ v.known
-head_known v (Step.Turn m) = refl
-head_known v _ = refl
+head_known v d = grind (arith, nat_tests)
 
 gone_ended : (k : Known) (n : ℕ) → view.gone_to k n ≡ Ended → k ≡ Ended
-gone_ended (Frozen to) n e = cc
-gone_ended _ n e = e
+gone_ended k n e = grind (arith, nat_tests)
 
 here_not : (T : Type 0) → Here ≡ Ended → T
 here_not T e = cc
@@ -167,31 +145,20 @@ incoming_not : (T : Type 0) (from : ℕ) → Incoming from ≡ Ended → T
 incoming_not T from e = cc
 
 stage_only : (before : Knows) (v : View) (p : Pid) (s : Stage) → Only before v → Only before (view.after_stage v p s)
-stage_only before v p Stage.Frozen h =
-    let to = view.target_of (view.front_told v (v.inbox v.acting)) in
-    only_set before v (view.after_stage v p Stage.Frozen) p (Frozen to) refl (frozen_not (v.known v.acting p ≡ Ended) to) h
+stage_only before v p Stage.Frozen h = grind (arith, nat_tests, only_set, frozen_not)
 stage_only before v p Stage.Asked h = h
-stage_only before v p Stage.Accepted h =
-    let from = view.front_of (v.inbox v.acting) in
-    only_set before v (view.after_stage v p Stage.Accepted) p (Incoming from) refl (incoming_not (v.known v.acting p ≡ Ended) from) h
+stage_only before v p Stage.Accepted h = grind (arith, nat_tests, only_set, incoming_not)
 stage_only before v p Stage.Left h = only_set before v (view.after_stage v p Stage.Left) p (view.gone_to (v.known v.acting p) (v.moves p + 1)) refl (gone_ended (v.known v.acting p) (v.moves p + 1)) h
 stage_only before v p Stage.Restarted h = only_set before v (view.after_stage v p Stage.Restarted) p Here refl (here_not (v.known v.acting p ≡ Ended)) h
 stage_only before v p any_ h = only_as before v (view.after_stage v p any_) (λ n q. refl) h
 
 label_only : (before : Knows) (v : View) (l : Label) → is_ending (Line.Label l) ≡ false → Only before v → Only before (view_after v (Line.Label l))
-label_only before v (Label.End p y) e h = absurd (false≢true (sym e))
-label_only before v (Label.Served id) e h = absurd (false≢true (sym e))
-label_only before v (Label.Dropped id) e h = only_as before v (view_after v (Line.Label (Label.Dropped id))) (λ n q. ap (λ (f : Knows). f n q) (dropped_known (handled v id) id (receiver_of (v.told id)))) h
-label_only before v (Label.Created id p) e h = only_set before v (view_after v (Line.Label (Label.Created id p))) p Here refl (here_not (v.known v.acting p ≡ Ended)) h
-label_only before v any_ e h = only_as before v (view_after v (Line.Label any_)) (λ n q. refl) h
+label_only before v l e h = grind (arith, nat_tests, only_as, dropped_known, only_set, here_not)
 
 line_only : (before : Knows) (v : View) (l : Line) → is_ending l ≡ false → Only before v → Only before (view_after v l)
 line_only before v (Line.Label l) e h = label_only before v l e h
 line_only before v (Line.Head d) e h = only_as before v (view_after v (Line.Head d)) (λ n q. ap (λ (f : Knows). f n q) (head_known v d)) h
-line_only before v (Line.Taken a b k) e h =
-    let p = v.pair a b in
-    let w = view.with_pair v a b (record p { taken = p.taken + 1; kept = filter (λ j. not (j == k)) p.kept }) in
-    only_as before v (view_after v (Line.Taken a b k)) (λ n q. ap (λ (f : Knows). f n q) (taken_known w b (view.oldest p))) h
+line_only before v (Line.Taken a b k) e h = grind (arith, nat_tests, only_as, taken_known)
 line_only before v (Line.Queued id) e h = only_as before v (view_after v (Line.Queued id)) (λ n q. queued_known (handled v id) id (receiver_of (v.told id)) n q) h
 line_only before v (Line.Held id) e h = only_as before v (view_after v (Line.Held id)) (λ n q. held_known (handled v id) id (receiver_of (v.told id)) n q) h
 line_only before v (Line.Forwarded id m) e h = only_as before v (view_after v (Line.Forwarded id m)) (λ n q. forwarded_known (handled v id) (receiver_of (v.told id)) n q) h
@@ -202,16 +169,14 @@ line_only before v any_ e h = only_as before v (view_after v any_) (λ n q. refl
 
 -- parts that end nothing
 only_behind : (before : Knows) (pt : Point) (p : Part) → PartStays p → Only before pt.view → Behind (λ q. Only before q.view) pt p
-only_behind before pt p stays h =
-    whatever_put (λ q. Only before q.view) pt p (λ l is s step. line_only before pt.view l (subst PartStays is stays) h) (λ b i k q. line_only before pt.view (Line.Put pt.view.acting b i k q) refl h) h
+only_behind before pt p stays h = grind (arith, nat_tests, whatever_put, line_only)
 
 pub parts_only : (before : Knows) (ps : List Part) (pt : Point) (w : Spelled) → AllStay ps → spelled pt ps ≡ Some w → Only before pt.view → Only before w.point.view
 parts_only before = parts_lead (λ q. Only before q.view) (λ q a b k l h. line_only before q.view (Line.Packet a b k l) refl h) PartStays (only_behind before)
 
 -- all directives but turns are so
 net_stays : (l : Line) → IsNetLine l → is_ending l ≡ false
-net_stays (Line.Label l) h = absurd h
-net_stays _ h = refl
+net_stays l h = grind (arith, nat_tests)
 
 pub nets_stay : (ps : List Part) → IsNet ps → AllStay ps
 nets_stay = net_says (λ l. is_ending l ≡ false) net_stays

@@ -14,32 +14,18 @@ pub record Routed (n : ℕ) (v : View) : Type 0 where
   pub none : (a b : ℕ) → n ≤ a → (v.pair a b).ids ≡ []
 
 alike : (n : ℕ) (v w : View) → w.acting ≡ v.acting → w.pair ≡ v.pair → Routed n v → Routed n w
-alike n v w acting pair h = record {
-  acting = subst (λ (k : ℕ). k < n) (sym acting) h.acting;
-  none = λ a b most. ap (λ (f : ℕ → ℕ → Pair). (f a b).ids) pair ∙ h.none a b most;
-}
+alike n v w acting pair h = grind (arith, nat_tests)
 
 -- a pair changes, and its messages stay
 ids_if : (c : Bool) (p q : Pair) → p.ids ≡ [] → (c ≡ true → q.ids ≡ []) → (if c then q else p).ids ≡ []
-ids_if true p q h k = k refl
-ids_if false p q h k = h
+ids_if c p q h k = grind (arith, nat_tests)
 
 kept : (n : ℕ) (v w : View) (a b : ℕ) (p : Pair) → w.acting ≡ v.acting → w.pair ≡ at_pair v.pair a b p → p.ids ≡ (v.pair a b).ids → Routed n v → Routed n w
-kept n v w a b p acting pair ids h = record {
-  acting = subst (λ (k : ℕ). k < n) (sym acting) h.acting;
-  none = λ c d most.
-      ap (λ (f : ℕ → ℕ → Pair). (f c d).ids) pair
-      ∙ ids_if ((a == c) && (b == d)) (v.pair c d) p (h.none c d most) (λ e. let f : a ≡ c = grind (arith, nat_tests) in ids ∙ h.none a b (omega (arith, most, f)));
-}
+kept n v w a b p acting pair ids h = grind (arith, nat_tests, ids_if)
 
 -- a message goes from the acting machine
 put_routed : (n : ℕ) (v : View) (b : ℕ) (i : MsgId) (k : MessageKind) (q : Pid) → Routed n v → Routed n (after_put v v.acting b i k q)
-put_routed n v b i k q h = record {
-  acting = h.acting;
-  none = λ c d most.
-      let less = h.acting in
-      ids_if ((v.acting == c) && (b == d)) (v.pair c d) (view.routed_on v.acting b (v.pair v.acting b) i) (h.none c d most) (λ e. absurd (let f : v.acting ≡ c = grind (arith, nat_tests) in omega (arith, f, less, most)));
-}
+put_routed n v b i k q h = grind (arith, nat_tests, ids_if)
 
 packet_routed : (n : ℕ) (v : View) (a b k : ℕ) (l : Load) → Routed n v → Routed n (view_after v (Line.Packet a b k l))
 packet_routed n v a b k l h = kept n v (view_after v (Line.Packet a b k l)) a b (record (v.pair a b) { gone = view.gone_after l (v.pair a b).gone; wire = (v.pair a b).wire ++ record { load = l; delivered = false } ∷ [] }) refl refl refl h
@@ -51,40 +37,21 @@ is_calm (Line.Put a b id k q) = false
 is_calm l = true
 
 stage_acting : (v : View) (p : Pid) (s : Stage) → (view.after_stage v p s).acting ≡ v.acting
-stage_acting v p Stage.Frozen = refl
-stage_acting v p _ = refl
+stage_acting v p s = grind (arith, nat_tests)
 
 calm_line : (n : ℕ) (v : View) (l : Line) → is_calm l ≡ true → Routed n v → Routed n (view_after v l)
-calm_line n v (Line.Head d) calm h = absurd (false≢true calm)
-calm_line n v (Line.Put a b id k q) calm h = absurd (false≢true calm)
-calm_line n v (Line.Packet a b k l) calm h = packet_routed n v a b k l h
-calm_line n v (Line.Taken a b k) calm h =
-    let p = v.pair a b in
-    let q : Pair = record p { taken = p.taken + 1; kept = filter (λ j. not (j == k)) p.kept } in
-    kept n v (view_after v (Line.Taken a b k)) a b q (acting_taken (with_pair v a b q) b (view.oldest p)) (taken_pair (with_pair v a b q) b (view.oldest p)) refl h
-calm_line n v (Line.Early a b k) calm h = kept n v (view_after v (Line.Early a b k)) a b (record (v.pair a b) { kept = k ∷ filter (λ j. not (j == k)) (v.pair a b).kept }) refl refl refl h
-calm_line n v (Line.Acked a b k) calm h = kept n v (view_after v (Line.Acked a b k)) b a (record (v.pair b a) { acked = view.at_least (v.pair b a).acked k }) refl refl refl h
-calm_line n v (Line.Label l) calm h = alike n v (view_after v (Line.Label l)) (acting_label v l) (pair_same v (Line.Label l) refl) h
-calm_line n v (Line.Queued id) calm h = alike n v (view_after v (Line.Queued id)) (queued_acting (handled v id) id (receiver_of (v.told id))) (pair_same v (Line.Queued id) refl) h
-calm_line n v (Line.Held id) calm h = alike n v (view_after v (Line.Held id)) (held_acting (handled v id) id (receiver_of (v.told id))) (pair_same v (Line.Held id) refl) h
-calm_line n v (Line.Forwarded id m) calm h = alike n v (view_after v (Line.Forwarded id m)) (forwarded_acting (handled v id) (receiver_of (v.told id))) (pair_same v (Line.Forwarded id m) refl) h
-calm_line n v (Line.Migration s p) calm h = alike n v (view_after v (Line.Migration s p)) (stage_acting v p s) (pair_same v (Line.Migration s p) refl) h
-calm_line n v (Line.Proto id) calm h = alike n v (view_after v (Line.Proto id)) (proto_acting (handled v id) (v.told id)) (pair_same v (Line.Proto id) refl) h
-calm_line n v any_ calm h = alike n v (view_after v any_) refl refl h
+calm_line n v l calm h =
+    grind (arith, nat_tests, packet_routed, kept, acting_taken, taken_pair, alike, acting_label, pair_same, queued_acting, held_acting, forwarded_acting, stage_acting, proto_acting)
 
 -- all parts are such lines, puts by the acting machine, and packets
 abbrev PartCalm : Part → Type 0
 PartCalm = Saying (λ l. is_calm l ≡ true)
 
 calm_of : (l : Line) → touches l ≡ false → is_calm l ≡ true
-calm_of (Line.Head d) e = absurd (false≢true (sym e))
-calm_of (Line.Put a b id k q) e = absurd (false≢true (sym e))
-calm_of _ e = refl
+calm_of l e = grind (arith, nat_tests)
 
 net_calm : (l : Line) → IsNetLine l → is_calm l ≡ true
-net_calm (Line.Head d) h = absurd h
-net_calm (Line.Put a b id k q) h = absurd h
-net_calm _ h = refl
+net_calm l h = grind (arith, nat_tests)
 
 -- each part keeps it
 routed_behind : (n : ℕ) (pt : Point) (p : Part) → PartCalm p → Routed n pt.view → Behind (λ q. Routed n q.view) pt p
@@ -95,11 +62,7 @@ parts_routed n = parts_lead (λ q. Routed n q.view) (λ q a b k l h. packet_rout
 
 -- a group
 head_routed : (n : ℕ) (v : View) (d : Step) → IsStep n d → Routed n v → Routed n (after_head v d)
-head_routed n v (Step.Deliver a b k) fit h =
-    let w = view.begins v b NothingElse in
-    kept n w (after_head v (Step.Deliver a b k)) a b (view.marked (v.pair a b) k) refl refl refl (record { acting = fit.1; none = h.none })
-head_routed n v (Step.Migrate p m) fit h = record { acting = omega (arith, fit); none = h.none }
-head_routed n v _ fit h = record { acting = fit; none = h.none }
+head_routed n v d fit h = grind (arith, nat_tests, kept)
 
 routed_group : (n : ℕ) (b : Boot) (pt : Point) (d : Step) (w : Spelled) → IsStep n d → group_of b pt d ≡ Some w → Routed n pt.view → Routed n w.point.view
 routed_group n b pt d w fit is h =

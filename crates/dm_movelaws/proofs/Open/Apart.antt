@@ -14,18 +14,15 @@ use Rattle.dm_onekernel.specs.Step as kernel
 use Rattle.dm_rule.specs.Rule as rule
 pub use Rattle.dm_rule.proofs.Apart.Groups.{kernel_same}
 pub use Rattle.dm_rulelaws.proofs.Goes.Own.{source_knows}
+use Rattle.dm_movelaws.proofs.Names.{nat_tests}
+use Rattle.dm_movelaws.proofs.Names.{arith}
 
 -- what moves hasn't ended
 leaving_not : (k : MessageKind) (d : ℕ) (n : Known) (y : Why) → kind_leaves k d n ≡ true → is_restart k ≡ false → agrees n (Some (Ended y)) ≡ true → ⊥
-leaving_not k d (Frozen to) y e r a = false≢true a
-leaving_not k d (Forward m moves) y e r a = false≢true (sym (ap (λ (c : Bool). c && (d == m)) r) ∙ e)
-leaving_not k d _ y e r a = false≢true e
+leaving_not k d n y e r a = grind (arith, nat_tests)
 
 coming_not : (k : MessageKind) (s : ℕ) (n : Known) (y : Why) → kind_comes k s n ≡ true → is_early k ≡ false → agrees n (Some (Ended y)) ≡ true → ⊥
-coming_not k s (Incoming from) y e r a = false≢true a
-coming_not k s Unknown y e r a = false≢true (sym r ∙ e)
-coming_not k s (Forward m moves) y e r a = false≢true (sym r ∙ e)
-coming_not k s _ y e r a = false≢true e
+coming_not k s n y e r a = grind (arith, nat_tests)
 
 by_server : (c r : Bool) (b : Boot) (pt : Point) (p : Pid) (k : MessageKind) (s d : ℕ) (y : Why) → is_server p ≡ c → is_restart k ≡ r → Run b pt → kind_leaves k d (pt.view.known s p) ≡ true → kind_comes k s (pt.view.known d p) ≡ true → pt.kernel.processes p ≡ Some (Ended y) → ⊥
 by_server true r b pt p k s d y server restart run leave come over = false≢true (sym (server_leaves k d (s == 0)) ∙ sym (ap (kind_leaves k d) (run.based.known.server s p server)) ∙ leave)
@@ -47,11 +44,7 @@ after-rest (x ∷ xs) ys pt mid end e f =
     after-rest xs ys next mid end rest (sym (ap (λ (o : Option Point). bind o (λ (q : Point). after q (xs ++ ys))) first) ∙ f)
 
 pub dropped_over : (s t : OneKernel) (id : MsgId) (m : PlainMessage) → kernel.step s (Label.Dropped id) ≡ Some t → s.bag id ≡ Some m → (y : Why) × (s.processes m.to ≡ Some (Ended y))
-dropped_over s t id m is there =
-    let (n, at, rest) = bind-is (s.bag id) (λ n. bind (kernel.why_ended (s.processes n.to)) (kernel.drops s id n)) t is in
-    let (y, over, last) = bind-is (kernel.why_ended (s.processes n.to)) (kernel.drops s id n) t rest in
-    let same : n ≡ m = let f : Some n ≡ Some m = sym at ∙ there in cc in
-    (y, ap (λ (x : PlainMessage). s.processes x.to) (sym same) ∙ why_ended-is (s.processes n.to) y over)
+dropped_over s t id m is there = grind (arith, nat_tests, bind-is, why_ended-is)
 
 -- a group that keeps the process drops no message for it
 dropped_for_other : (b : Boot) (ls earlier later : List Line) (pt before end : Point) (p : Pid) (id : MsgId) (m : PlainMessage) → IsValid b → ((y : Why) → pt.kernel.processes p ≡ Some (Ended y) → ⊥) → end.kernel.processes p ≡ pt.kernel.processes p
@@ -97,12 +90,7 @@ alone_append y (x ∷ xs) ys pt h k = (h.0, λ next e. alone_append y xs ys next
 
 -- the lines of a part
 part_alone : (y : Pid) (pt : Point) (p : Part) (ls : List Line) → SparesPart pt.kernel y p → lines_of pt p ≡ Some ls → AllAlone y pt ls
-part_alone y pt p ls h is = lines_are (AllAlone y pt) pt p ls (record {
-  says = λ l e. (subst (SparesPart pt.kernel y) e h, λ next f. tt);
-  put = λ none a b i k q. (tt, λ next e. tt);
-  goes = λ none a b n i k q l. (tt, λ next e. (tt, λ end f. tt));
-  packet = λ none a b n l. (tt, λ next e. tt);
-}) is
+part_alone y pt p ls h is = grind (arith, nat_tests, lines_are)
 
 parts_alone : (y : Pid) (ps : List Part) (pt : Point) (w : Spelled) → FirstApart pt.kernel y ps → spelled pt ps ≡ Some w → AllAlone y pt w.lines
 parts_alone y qs p w h is = by_parts (λ ps pt v. FirstApart pt.kernel y ps → AllAlone y pt v.lines) (λ pt h. tt) (λ x ps pt next ls z lines leads rest h. (
@@ -124,10 +112,7 @@ group_alone b pt d w y h = by_group (λ v. AllAlone y pt v.lines) b pt d w (λ p
 outcome_apart : (b : Boot) (pt : Point) (d : Step) (y : Pid) → Rooted pt → ((m : ℕ) → pid_of m (first_number + pt.kernel.made m) ≢ y) → ((m : ℕ) (p : Pid) → pt.view.known m p ≡ Here → p ≢ y) → ApartOf pt.kernel y (rule.outcome b pt d)
 outcome_apart b pt (Step.Turn m) y h child off = turns_apart y b pt m (pt.view.inbox m) (child m) (off m) (h.served m)
 outcome_apart b pt (Step.Tick m) y h child off = (tt, net_apart y (rule.resends pt.view m pt.kernel.machines) (resends_net pt.view m pt.kernel.machines))
-outcome_apart b pt (Step.Deliver a c k) y h child off =
-    let s = slice_get (pt.view.pair a c).wire k in
-    let qs = rule.arrives a c (pt.view.pair a c) (pt.view.pair c a) s in
-    apart_first pt.kernel y qs (net_apart y qs (arrives_net a c (pt.view.pair a c) (pt.view.pair c a) s))
+outcome_apart b pt (Step.Deliver a c k) y h child off = search (apart_first, net_apart, arrives_net)
 outcome_apart b pt (Step.Migrate p m) y h child off = apart_first pt.kernel y (migrates pt p) (migrates_apart y pt p)
 
 pub moving_alone : (b : Boot) (pt : Point) (d : Step) (w : Spelled) (y : Pid) (k : MessageKind) (s t : ℕ) (o : Option MsgId) → Rooted pt → IsIn pt.view y (Moves k s t o) → group_of b pt d ≡ Some w → AllAlone y pt w.lines
@@ -157,26 +142,13 @@ message_is : (s : OneKernel) (id : MsgId) (n m : PlainMessage) → s.bag id ≡ 
 message_is s id n m e f = let g : Some n ≡ Some m = sym e ∙ f in cc
 
 gone_over : (s t : OneKernel) (id : MsgId) (m : PlainMessage) → kernel.step s (Label.Gone id) ≡ Some t → s.bag id ≡ Some m → (y : Why) × (s.processes m.to ≡ Some (Ended y))
-gone_over s t id m is there =
-    let (n, at, rest) = bind-is (s.bag id) (λ n. bind (kernel.why_ended (s.processes n.to)) (kernel.says_gone s id n)) t is in
-    let (y, over, last) = bind-is (kernel.why_ended (s.processes n.to)) (kernel.says_gone s id n) t rest in
-    (y, ap (λ (x : PlainMessage). s.processes x.to) (sym (message_is s id n m at there)) ∙ ended_is (s.processes n.to) y over)
-  where
-    ended_is : (o : Option Life) (y : Why) → kernel.why_ended o ≡ Some y → o ≡ Some (Ended y)
-    ended_is (Some (Ended z)) y e = let f : z ≡ y = cc in ap (λ (v : Why). Some (Ended v)) f
-    ended_is _ y e = cc
+gone_over s t id m is there = grind (arith, nat_tests, bind-is, message_is)
 
 fixed_off : (y q : Pid) → is_fixed y ≡ false → is_fixed q ≡ true → q ≢ y
 fixed_off y q free fixed e = false≢true (sym free ∙ ap is_fixed (sym e) ∙ fixed)
 
 pub anothers_is : (s t : OneKernel) (y : Pid) (l : Label) → is_fixed y ≡ false → ((z : Why) → s.processes y ≡ Some (Ended z) → ⊥) → IsOthers s y l → kernel.step s l ≡ Some t → IsAnothers s y l
-anothers_is s t y (Label.Dropped id) free lives h e = λ m there to. let (z, over) = dropped_over s t id m e there in lives z (ap s.processes (sym to) ∙ over)
-anothers_is s t y (Label.Gone id) free lives h e = λ m there to. let (z, over) = gone_over s t id m e there in lives z (ap s.processes (sym to) ∙ over)
-anothers_is s t y (Label.Took id) free lives h e = λ m there. fixed_off y m.to free (took_for s t id e m there)
-anothers_is s t y (Label.Created id q) free lives h e = (h, λ m there. fixed_off y m.to free (created_for s t id q e m there))
-anothers_is s t y (Label.NoSpace id a b) free lives h e = λ m there. fixed_off y m.to free (no_space_for s t id a b e m there)
-anothers_is s t y _ free lives h e = h
+anothers_is s t y l free lives h e = grind (arith, nat_tests, dropped_over, gone_over, fixed_off, took_for, created_for, no_space_for)
 
 pub anothers_if : (s t : OneKernel) (y : Pid) (o : Option Label) → is_fixed y ≡ false → ((z : Why) → s.processes y ≡ Some (Ended z) → ⊥) → Spares s y o → kernel_after s o ≡ Some t → IsAnothersIf s y o
-anothers_if s t y None free lives h e = tt
-anothers_if s t y (Some l) free lives h e = anothers_is s t y l free lives h e
+anothers_if s t y o free lives h e = grind (arith, nat_tests, anothers_is)

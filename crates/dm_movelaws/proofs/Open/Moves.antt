@@ -7,6 +7,8 @@ use Rattle.dm_movelaws.proofs.Stages.Spares.{mark_of, mark_in}
 use Rattle.dm_movelaws.proofs.Stages.Always.{group_marked}
 pub use Rattle.dm_movelaws.proofs.Stages.Always.{not_due as none_due}
 pub use Rattle.dm_movelaws.proofs.Stages.Always.{start_mark}
+use Rattle.dm_movelaws.proofs.Names.{nat_tests}
+use Rattle.dm_movelaws.proofs.Names.{arith}
 
 -- the lines of a run lead where the run leads
 pub leads_of : (b : Boot) (es : List Step) (ls : List Line) (pt end : Point) → LeadsBy b pt es ls end → Leads b pt es end
@@ -24,12 +26,10 @@ open_is o [] = refl
 open_is o (m ∷ ms) = open_is (left_open m) ms
 
 kind_is : (k : MessageKind) → mark_of k ≡ mark_by k
-kind_is MessageKind.Ask = refl
-kind_is _ = refl
+kind_is k = grind (arith, nat_tests)
 
 pub mark_is : (phase : Phase) → mark_in phase ≡ mark_while phase
-mark_is (Moves k s d id) = kind_is k
-mark_is _ = refl
+mark_is phase = grind (arith, nat_tests, kind_is)
 
 -- between groups no message is due
 
@@ -49,8 +49,7 @@ run_open b (d ∷ ds) ls pt end p (w, rest, fit, is, split, more) h =
     let later = run_open b ds rest w.point end p more k in
     record {
       phased = later.phased;
-      is = ap (λ (xs : List Line). open_after o (marks p xs)) split ∙ ap (open_after o) (marks-append p w.lines rest) ∙ open-append o (marks p w.lines) (marks p rest)
-          ∙ ap (λ (x : Option Mark). open_after x (marks p rest)) g.1 ∙ later.is;
+      is = grind (arith, nat_tests, marks-append, open-append);
     }
 
 -- nothing is told of before the first line

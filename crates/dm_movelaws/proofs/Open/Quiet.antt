@@ -7,6 +7,8 @@ use Rattle.dm_movelaws.proofs.Stages.Lines.{AllMild, mild_marks, net_marks}
 use Rattle.dm_movelaws.proofs.Stages.Hears.{round_mild, handles_mild, Hears, Calms, Freezes, server_mild, process_hears}
 use Rattle.dm_movelaws.proofs.Leading.{All, lines_are, Saying}
 use Rattle.dm_rule.specs.Rule as rule
+use Rattle.dm_movelaws.proofs.Names.{nat_tests}
+use Rattle.dm_movelaws.proofs.Names.{arith}
 
 -- lines that are no steps of the kernel without machines
 abbrev pub AllQuiet : List Line → Type 0
@@ -22,8 +24,7 @@ QuietParts = All QuietPart
 
 -- what kernels tell each other of a process
 quiet_line : (l : Line) → IsHeardLine l → label_of l ≡ None
-quiet_line (Line.Label l) h = absurd h
-quiet_line _ h = refl
+quiet_line l h = grind (arith, nat_tests)
 
 kernel_quiet : (b : Boot) (o : Point) (m : ℕ) (i : MsgId) (k : MessageKind) (a : About) (ps : List Part) → rule.kernel_hears b o m i k a ≡ Some ps → QuietParts ps
 kernel_quiet b o m i k a ps e =
@@ -42,14 +43,10 @@ process_or p i t k ps (Freezes here are) = inr (subst QuietParts (sym are) (refl
 
 hears_by : (p : Pid) (b : Boot) (o : Point) (m : ℕ) (i : MsgId) (t : Told) (c d g : Bool) (ps : List Part)
     → (if c then rule.kernel_hears b o m i t.kind t.about else if d then server_told o i t t.kind else if g then server_told o i t t.kind else process_told o m i t (o.view.known m t.receiver)) ≡ Some ps → OrQuiet p ps
-hears_by p b o m i t true d g ps e = inr (kernel_quiet b o m i t.kind t.about ps e)
-hears_by p b o m i t false true g ps e = mild_or p (Some i) ps (server_mild o i t t.kind ps e p)
-hears_by p b o m i t false false true ps e = mild_or p (Some i) ps (server_mild o i t t.kind ps e p)
-hears_by p b o m i t false false false ps e = process_or p i t (o.view.known m t.receiver) ps (process_hears o m i t (o.view.known m t.receiver) ps e)
+hears_by p b o m i t c d g ps e = grind (arith, nat_tests, kernel_quiet, mild_or, server_mild, process_or, process_hears)
 
 hears_or : (p : Pid) (b : Boot) (o : Point) (m : ℕ) (i : MsgId) (q : Option Told) (ps : List Part) → rule.hears b o m i q ≡ Some ps → OrQuiet p ps
-hears_or p b o m i None ps e = cc
-hears_or p b o m i (Some t) ps e = hears_by p b o m i t (t.receiver.num == 0) (pid_eq t.receiver switchboard) (pid_eq t.receiver manager) ps e
+hears_or p b o m i q ps e = grind (arith, nat_tests, hears_by)
 
 migrates_quiet : (o : Point) (q : Pid) → QuietParts (migrates o q)
 migrates_quiet o q = by_migrates QuietParts o q (refl, tt) (refl, tt) (λ n off is. (tt, tt))
@@ -70,8 +67,7 @@ quiet_append [] ys h k = k
 quiet_append (x ∷ xs) ys h k = (h.0, quiet_append xs ys h.1 k)
 
 part_quiet : (pt : Point) (p : Part) (ls : List Line) → QuietPart p → lines_of pt p ≡ Some ls → AllQuiet ls
-part_quiet pt p ls h is = lines_are AllQuiet pt p ls
-    (record { says = λ l e. (subst QuietPart e h, tt); put = λ none a b i k q. (refl, tt); goes = λ none a b n i k q l. (refl, (refl, tt)); packet = λ none a b n l. (refl, tt) }) is
+part_quiet pt p ls h is = grind (arith, nat_tests, lines_are)
 
 parts_quiet : (ps : List Part) (pt : Point) (w : Spelled) → QuietParts ps → spelled pt ps ≡ Some w → AllQuiet w.lines
 parts_quiet qs q w h is = by_parts (λ ps pt v. QuietParts ps → AllQuiet v.lines) (λ pt h. tt) (λ p ps pt next ls z lines leads rest h. quiet_append ls z.lines (part_quiet pt p ls h.0 lines) (rest h.1)) qs q w is h

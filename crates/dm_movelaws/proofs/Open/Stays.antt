@@ -11,6 +11,8 @@ use Rattle.dm_movelaws.proofs.Stages.Always.{group_marked}
 use Rattle.dm_movelaws.proofs.Stages.Marks.{open_after, open-append, marks-append}
 use Rattle.dm_movelaws.proofs.Stages.Spares.{mark_in}
 use Rattle.dm_onekernel.specs.Step as kernel
+use Rattle.dm_movelaws.proofs.Names.{nat_tests}
+use Rattle.dm_movelaws.proofs.Names.{arith}
 
 -- a line behind others, from some point on
 record At (pt : Point) (earlier : List Line) (l : Line) (p : Pid) : Type 0 where
@@ -40,9 +42,7 @@ meets (x ∷ xs) ys l pt end e =
 
 -- a group of a process that moves
 leaves_free : (n : ℕ) (v : View) (m : ℕ) (p : Pid) (k : MessageKind) (d : ℕ) (x : Known) → kind_leaves k d x ≡ true → KnownIs n v m p x → is_fixed p ≡ false
-leaves_free n v m p k d (Frozen to) e h = h.2
-leaves_free n v m p k d (Forward at moves) e h = h.2
-leaves_free n v m p k d _ e h = absurd (false≢true e)
+leaves_free n v m p k d x e h = grind (arith, nat_tests)
 
 moving_at : (b : Boot) (pt : Point) (d : Step) (w : Spelled) (p : Pid) (k : MessageKind) (s t : ℕ) (id : Option MsgId) (earlier g : List Line) (l : Line) → Run b pt → IsIn pt.view p (Moves k s t id) → group_of b pt d ≡ Some w → w.lines ≡ earlier ++ l ∷ g → At pt earlier l p
 moving_at b pt d w p k s t id earlier g l run phase e split =
@@ -70,8 +70,7 @@ left_none [] ys e = refl
 left_none (x ∷ xs) ys e = cc
 
 kernel_none : (s t : OneKernel) (o : Option Label) (p : Pid) → o ≡ None → kernel_after s o ≡ Some t → t.processes p ≡ s.processes p
-kernel_none s t None p none e = ap (λ (k : OneKernel). k.processes p) (let f : t ≡ s = cc in f)
-kernel_none s t (Some l) p none e = cc
+kernel_none s t o p none e = grind (arith, nat_tests)
 
 resting_at : (b : Boot) (pt : Point) (d : Step) (w : Spelled) (p : Pid) (earlier g : List Line) (l : Line) → group_of b pt d ≡ Some w → w.lines ≡ earlier ++ l ∷ g → is_some (open_after None (marks p earlier)) ≡ true → At pt earlier l p
 resting_at b pt d w p earlier g l e split begun = elim (group_or p b pt d w e) [
@@ -154,15 +153,10 @@ open_stays b es ls earlier later l pt p valid leads split begun =
 
 -- one line
 rest_of : (o : Option Label) (ls : List Label) (s u t : OneKernel) → kernel_after s o ≡ Some u → replay s (with_label o ls) ≡ Some t → replay u ls ≡ Some t
-rest_of None ls s u t e f = let g : u ≡ s = cc in ap (λ (k : OneKernel). replay k ls) g ∙ f
-rest_of (Some l) ls s u t e f =
-    let (v, first, rest) = bind-is (kernel.step s l) (λ (k : OneKernel). replay k ls) t f in
-    let g : u ≡ v = (let k : Some u ≡ Some v = sym e ∙ first in cc) in
-    ap (λ (k : OneKernel). replay k ls) g ∙ rest
+rest_of o ls s u t e f = grind (arith, nat_tests, bind-is)
 
 one_label : (o : Option Label) (s u : OneKernel) → kernel_after s o ≡ Some u → replay s (with_label o []) ≡ Some u
-one_label None s u e = e
-one_label (Some l) s u e = ap (λ (x : Option OneKernel). bind x (λ (k : OneKernel). replay k [])) e
+one_label o s u e = grind (arith, nat_tests)
 
 keeps : (b : Boot) (es : List Step) (ls earlier between later : List Line) (pt : Point) (p : Pid) (s t : OneKernel) → IsValid b → LeadsBy b (first_point b) es ls pt → ls ≡ earlier ++ (between ++ later) → AllOpen p earlier between → replay (start b) (labels earlier) ≡ Some s
     → replay s (labels between) ≡ Some t → t.processes p ≡ s.processes p

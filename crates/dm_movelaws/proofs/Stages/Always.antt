@@ -14,6 +14,8 @@ use Rattle.dm_onekernel.specs.Step as kernel
 use Rattle.dm_rule.specs.View as view
 use Rattle.dm_rule.specs.Rule as rule
 use Rattle.dm_rule.proofs.Groups as groups
+use Rattle.dm_movelaws.proofs.Names.{nat_tests}
+use Rattle.dm_movelaws.proofs.Names.{arith}
 
 -- where the parts of a turn begin
 pub record Turning (o pt : Point) (m : ℕ) : Type 0 where
@@ -61,8 +63,7 @@ hears_by b o pt m i is t false true g ps w h c front told e n =
 hears_by b o pt m i is t false false true ps w h c front told e n =
     let plain = plain_by pt i is t h.phases (is_between t.kind) refl front told c in
     mild_marked pt (Some i) ps w h.sane h.fits (tame_front pt.view i (record { what = t; told = told; plain = plain })) (server_mild o i t t.kind ps e) n
-hears_by b o pt m i is t false false false ps w h c front told e n =
-    process_marked o pt m i is t (o.view.known m t.receiver) ps w h front told (plain_by pt i is t h.phases (is_between t.kind) refl front told c) refl (process_hears o m i t (o.view.known m t.receiver) ps e) n
+hears_by b o pt m i is t false false false ps w h c front told e n = search (process_marked, plain_by, process_hears)
 
 hears_marked : (b : Boot) (o pt : Point) (m : ℕ) (i : MsgId) (is : List MsgId) (q : Option Told) (ps : List Part) (w : Spelled) → Turning o pt m → pt.view.inbox pt.view.acting ≡ i ∷ is → pt.view.told i ≡ q → rule.hears b o m i q ≡ Some ps → spelled pt ps ≡ Some w → MarkedBy pt w ps
 hears_marked b o pt m i is None ps w h front told e n = cc
@@ -76,15 +77,7 @@ front_tame pt i is msg sane state front there =
     record { what = t; told = told; plain = plain_in_bag pt i msg sane there t told }
 
 turning : (o : Point) (m : ℕ) → Phased o → Turning o (begun o (Step.Turn m)) m
-turning o m h =
-    let fits = groups.fits o.view h.pairs in
-    record {
-      sane = begun_sane o (Step.Turn m) h.sane;
-      fits = record { within = fits.within; home = fits.home };
-      state = groups.begun o (Step.Turn m) h.state (λ z. groups.turn_off o.view m z) (λ i. refl);
-      phases = calm_phases o.view (view.after_head o.view (Step.Turn m)) (head_calm o.view (Step.Turn m)) h.phases;
-      same = λ q. refl;
-    }
+turning o m h = grind (arith, nat_tests, groups.fits, begun_sane, groups.begun, groups.turn_off, head_calm)
 
 -- the directive to migrate
 migrates_marks : (p : Pid) (o : Point) (q : Pid) → marks_of p (migrates o q) ≡ []
@@ -143,9 +136,7 @@ run_marked b (d ∷ ds) ls pt end p (w, rest, fit, is, split, more) h =
 
 -- nothing is told of before the first line
 pub start_mark : (b : Boot) (p : Pid) (a : Phase) → IsIn (first_view b) p a → is_due a ≡ false → mark_in a ≡ None
-start_mark b p (Moves k s d None) h due = cc
-start_mark b p (Moves k s d (Some i)) h due = absurd (let e = h.token.told in cc)
-start_mark b p _ h due = refl
+start_mark b p a h due = grind (arith, nat_tests)
 
 -- wherever the rule leads
 pub steps_in_order : StepsInOrder

@@ -2,6 +2,8 @@
 use Rattle.dm_movelaws.proofs.Names.{◌≡◌, ℕ, ◌==◌, Bool, true, false, List, [], ◌∷◌, refl, subst, if◌then◌else◌, Some, Pid, MsgId, MessageKind, Line, Stage, manager, Told, Known, Unknown, Here, Forward, Ended, target_of, Point, Part, Says}
 use Rattle.dm_movelaws.proofs.Names.{to_kernel, forwards_on, updates, here_told, ended_told, process_told, server_told, Option, plain_kind, PlainMessage, Boot, goes_round, handles, Addresses, Loose, loose_round, loose_handles, by_forwards}
 use Rattle.dm_movelaws.proofs.Stages.Lines.{AllMild}
+use Rattle.dm_movelaws.proofs.Names.{nat_tests}
+use Rattle.dm_movelaws.proofs.Names.{arith}
 
 mild_loose : (me : Pid) (front : Option MsgId) → Loose (AllMild me front)
 mild_loose me front = record { none = tt; label = λ l ps h. (tt, h); routes = λ i ps h. (tt, h) }
@@ -29,26 +31,16 @@ rests : (k : Known) (id : MsgId) (t : Told) (qs ps : List Part) → ((me : Pid) 
 rests k id t qs ps h e = let f : qs ≡ ps = cc in Calms (λ me. subst (AllMild me (Some id)) f (h me))
 
 moves_hears : (m : ℕ) (id : MsgId) (t : Told) (same : Bool) (ps : List Part) → Some (if same then Says (Line.Here id) ∷ [] else freezes t.receiver (target_of (Some t))) ≡ Some ps → Hears Here id t ps
-moves_hears m id t true ps e = rests Here id t (Says (Line.Here id) ∷ []) ps (λ me. (refl, tt)) e
-moves_hears m id t false ps e = let f : ps ≡ freezes t.receiver (target_of (Some t)) = cc in Freezes refl f
+moves_hears m id t same ps e = grind (arith, nat_tests, rests)
 
 here_hears : (o : Point) (m : ℕ) (id : MsgId) (t : Told) (k : MessageKind) (ps : List Part) → here_told o m id t k ≡ Some ps → Hears Here id t ps
-here_hears o m id t MessageKind.Migrate ps e = moves_hears m id t (m == target_of (Some t)) ps e
-here_hears o m id t MessageKind.Update ps e = rests Here id t (updates o id t) ps (λ me. (refl, tt)) e
-here_hears o m id t _ ps e = cc
+here_hears o m id t k ps e = grind (arith, nat_tests, moves_hears, rests)
 
 ended_hears : (id : MsgId) (t : Told) (k : MessageKind) (ps : List Part) → ended_told id k ≡ Some ps → Hears Ended id t ps
-ended_hears id t MessageKind.Migrate ps e = rests Ended id t (Says (Line.NoMove id) ∷ []) ps (λ me. (refl, tt)) e
-ended_hears id t MessageKind.Update ps e = rests Ended id t (Says (Line.Updated id 0) ∷ []) ps (λ me. (refl, tt)) e
-ended_hears id t _ ps e = cc
+ended_hears id t k ps e = grind (arith, nat_tests, rests)
 
 pub server_mild : (o : Point) (id : MsgId) (t : Told) (k : MessageKind) (ps : List Part) → server_told o id t k ≡ Some ps → (me : Pid) → AllMild me (Some id) ps
-server_mild o id t MessageKind.Update ps e me = let f : updates o id t ≡ ps = cc in subst (AllMild me (Some id)) f (refl, tt)
-server_mild o id t _ ps e me = cc
+server_mild o id t k ps e me = grind (arith, nat_tests)
 
 pub process_hears : (o : Point) (m : ℕ) (id : MsgId) (t : Told) (k : Known) (ps : List Part) → process_told o m id t k ≡ Some ps → Hears k id t ps
-process_hears o m id t Unknown ps e = cc
-process_hears o m id t Here ps e = here_hears o m id t t.kind ps e
-process_hears o m id t (Forward at moves) ps e = rests (Forward at moves) id t (forwards_on o.addresses id t.kind manager at) ps (λ me. forwards_mild me o.addresses id t.kind manager at) e
-process_hears o m id t Ended ps e = ended_hears id t t.kind ps e
-process_hears o m id t any_ ps e = rests any_ id t (Says (Line.Held id) ∷ []) ps (λ me. (refl, tt)) e
+process_hears o m id t k ps e = grind (arith, nat_tests, here_hears, rests, forwards_mild, ended_hears)

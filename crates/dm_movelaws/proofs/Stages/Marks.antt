@@ -3,6 +3,8 @@ use Rattle.dm_movelaws.proofs.Names.{◌≡◌, ℕ, ◌==◌, Bool, true, false
 use Rattle.dm_movelaws.proofs.Names.{own_id, Receiver, Point, moved, Part, Says, Routes, Again, Owns, Transmits, Spelled, lines_of, puts, goes_out, packet_line, spelled, sends_on, group_of, outcome, Mark, mark_for, with_mark, marks}
 use Rattle.dm_movelaws.proofs.Names.{follows, left_open, in_order, left_true, right_true, both_true, by_parts, group_is, false≢true}
 use Rattle.dm_movelaws.proofs.Leading.{is_said, lines_are}
+use Rattle.dm_movelaws.proofs.Names.{nat_tests}
+use Rattle.dm_movelaws.proofs.Names.{arith}
 
 -- the mark that is last behind these marks, if its migration isn't over
 abbrev pub open_after : Option Mark → List Mark → Option Mark
@@ -11,8 +13,7 @@ open_after last (m ∷ ms) = open_after (left_open m) ms
 
 pub order-append : (o : Option Mark) (xs ys : List Mark) → in_order o xs ≡ true → in_order (open_after o xs) ys ≡ true → in_order o (xs ++ ys) ≡ true
 order-append o [] ys e f = f
-order-append o (x ∷ xs) ys e f =
-    both_true (follows o x) (in_order (left_open x) (xs ++ ys)) (left_true (follows o x) (in_order (left_open x) xs) e) (order-append (left_open x) xs ys (right_true (follows o x) (in_order (left_open x) xs) e) f)
+order-append o (x ∷ xs) ys e f = search (both_true, left_true, right_true, order-append (left_open x) xs ys)
 
 pub open-append : (o : Option Mark) (xs ys : List Mark) → open_after o (xs ++ ys) ≡ open_after (open_after o xs) ys
 open-append o [] ys = refl
@@ -20,15 +21,10 @@ open-append o (x ∷ xs) ys = open-append (left_open x) xs ys
 
 -- marks of lists
 if-append : (c : Bool) (m : Mark) (xs ys : List Mark) → (if c then m ∷ (xs ++ ys) else xs ++ ys) ≡ (if c then m ∷ xs else xs) ++ ys
-if-append true m xs ys = refl
-if-append false m xs ys = refl
+if-append c m xs ys = grind (arith, nat_tests)
 
 with-append : (p : Pid) (l : Line) (xs ys : List Mark) → with_mark p l (xs ++ ys) ≡ with_mark p l xs ++ ys
-with-append p (Line.Migration s q) xs ys = if-append (pid_eq p q) _ xs ys
-with-append p (Line.SentOn q n) xs ys = if-append (pid_eq p q) _ xs ys
-with-append p (Line.Lacks q s b) xs ys = if-append (pid_eq p q) _ xs ys
-with-append p (Line.Stays q) xs ys = if-append (pid_eq p q) _ xs ys
-with-append p _ xs ys = refl
+with-append p l xs ys = grind (arith, nat_tests, if-append)
 
 pub marks-append : (p : Pid) (xs ys : List Line) → marks p (xs ++ ys) ≡ marks p xs ++ marks p ys
 marks-append p [] ys = refl
@@ -44,14 +40,10 @@ marks_of p [] = []
 marks_of p (q ∷ ps) = mark_part p q (marks_of p ps)
 
 unsaid_marks : (p : Pid) (q : Part) (ms : List Mark) → is_said q ≡ false → ms ≡ mark_part p q ms
-unsaid_marks p (Says l) ms e = absurd (false≢true (sym e))
-unsaid_marks p _ ms e = refl
+unsaid_marks p q ms e = grind (arith, nat_tests)
 
 part_marks : (p : Pid) (pt : Point) (q : Part) (ls zs : List Line) → lines_of pt q ≡ Some ls → marks p (ls ++ zs) ≡ mark_part p q (marks p zs)
-part_marks p pt q ls zs is =
-    let none = unsaid_marks p q (marks p zs) in
-    lines_are (λ xs. marks p (xs ++ zs) ≡ mark_part p q (marks p zs)) pt q ls
-    (record { says = λ l e. sym (ap (λ (x : Part). mark_part p x (marks p zs)) e); put = λ off a b i k r. none off; goes = λ off a b n i k r l. none off; packet = λ off a b n l. none off }) is
+part_marks p pt q ls zs is = grind (arith, nat_tests, unsaid_marks, lines_are)
 
 pub spelled_marks : (p : Pid) (ps : List Part) (pt : Point) (w : Spelled) → spelled pt ps ≡ Some w → marks p w.lines ≡ marks_of p ps
 spelled_marks p = by_parts (λ ps pt w. marks p w.lines ≡ marks_of p ps) (λ pt. refl) (λ q ps pt next ls z lines leads rest. part_marks p pt q ls z.lines lines ∙ ap (mark_part p q) rest)

@@ -8,6 +8,8 @@ use Rattle.dm_movelaws.proofs.Stages.Spares.{is_settled, Spares, spares_same, To
 use Rattle.dm_movelaws.proofs.Stages.Lines.{AllMild, spares_line, same_spot, Kept, parts_spare}
 use Rattle.dm_movelaws.proofs.Stages.Hears.{freezes}
 use Rattle.dm_movelaws.proofs.Stages.Rows.{Handling, first_spares, owns_token, line_sane, line_fits, line_and_parts, Row, split}
+use Rattle.dm_movelaws.proofs.Names.{nat_tests}
+use Rattle.dm_movelaws.proofs.Names.{arith}
 
 -- a process is home again
 home_spares : (pt : Point) (i : MsgId) (is : List MsgId) (q p : Pid) (l : Line) → Handling pt i is q → pid_eq q p ≡ false → is_put l ≡ false → ((z : Spot) → ids_at (view_after pt.view l) z ≡ ids_at (released (home_again (handled_first pt.view) q) q) z)
@@ -23,10 +25,7 @@ home_spares pt i is q p l h apart quiet off known =
     (λ m e. ap is_settled (ap (λ (f : ℕ → Pid → Known). f m p) known ∙ record_off v.known v.acting q Here m p apart) ∙ e)
 
 home_known : (pt : Point) (l : Line) (w : Spelled) (q : Pid) → label_of l ≡ None → (view_after pt.view l).known ≡ at_record pt.view.known pt.view.acting q Here → spelled pt (Says l ∷ []) ≡ Some w → w.point.view.known pt.view.acting q ≡ Here
-home_known pt l w q none known e =
-    let n = line_next pt l [] w none e in
-    let last : moved pt l pt.kernel ≡ w.point = said (moved pt l pt.kernel) n.rest n.more ∙ n.point in
-    ap (λ (x : Point). x.view.known pt.view.acting q) (sym last) ∙ ap (λ (f : ℕ → Pid → Known). f pt.view.acting q) known ∙ at_record_at pt.view.known pt.view.acting q Here
+home_known pt l w q none known e = grind (arith, nat_tests, line_next, said, at_record_at)
 
 pub comes_home : (pt : Point) (i : MsgId) (is : List MsgId) (q : Pid) (l : Line) (ns : List Mark) (x : Option Mark) (w : Spelled) → Handling pt i is q → label_of l ≡ None → is_put l ≡ false → touches l ≡ false → ((z : Spot) → ids_at (view_after pt.view l) z ≡ ids_at (released (home_again (handled_first pt.view) q) q) z)
     → (view_after pt.view l).known ≡ at_record pt.view.known pt.view.acting q Here → ((p : Pid) → pid_eq q p ≡ false → with_mark p l [] ≡ []) → with_mark q l [] ≡ ns → HasMark pt.view q x → in_order x ns ≡ true → open_after x ns ≡ None
@@ -38,9 +37,7 @@ comes_home pt i is q l ns x w h none quiet calm off known unmarked marked before
 
 -- a process is frozen
 frozen_unmarked : (p q : Pid) (to : ℕ) → pid_eq q p ≡ false → marks_of p (freezes q to) ≡ []
-frozen_unmarked p q to e =
-    let off : pid_eq p q ≡ false = pid_eq-swap p q ∙ e in
-    mark_other p q (Reached 1) (mark_for p q (Reached 2) []) off ∙ mark_other p q (Reached 2) [] off
+frozen_unmarked p q to e = grind (arith, nat_tests, pid_eq-swap, mark_other)
 
 frozen_marked : (q : Pid) (to : ℕ) → marks_of q (freezes q to) ≡ Reached 1 ∷ Reached 2 ∷ []
 frozen_marked q to = mark_same q (Reached 1) (mark_for q q (Reached 2) []) ∙ ap (λ (ms : List Mark). Reached 1 ∷ ms) (mark_same q (Reached 2) [])
@@ -74,9 +71,7 @@ departs_marks : (p q : Pid) (to : ℕ) (ids : List MsgId) (from : ℕ) → marks
 departs_marks p q to ids from = ap (mark_for p q (Reached 6)) (marks_sent p to ids (Says (Line.Migration Stage.Left q) ∷ to_kernel MessageKind.Restart from ∷ []))
 
 departs_unmarked : (p q : Pid) (to : ℕ) (ids : List MsgId) (from : ℕ) → pid_eq q p ≡ false → marks_of p (departs q to ids from) ≡ []
-departs_unmarked p q to ids from e =
-    let off : pid_eq p q ≡ false = pid_eq-swap p q ∙ e in
-    departs_marks p q to ids from ∙ mark_other p q (Reached 6) (mark_for p q (Reached 7) []) off ∙ mark_other p q (Reached 7) [] off
+departs_unmarked p q to ids from e = grind (arith, nat_tests, pid_eq-swap, departs_marks, mark_other)
 
 departs_marked : (q : Pid) (to : ℕ) (ids : List MsgId) (from : ℕ) → marks_of q (departs q to ids from) ≡ Reached 6 ∷ Reached 7 ∷ []
 departs_marked q to ids from = departs_marks q q to ids from ∙ mark_same q (Reached 6) (mark_for q q (Reached 7) []) ∙ ap (λ (ms : List Mark). Reached 6 ∷ ms) (mark_same q (Reached 7) [])

@@ -48,11 +48,7 @@ asked_row pt i is t q false slots blocks w h e =
 
 -- a piece goes or comes, and says no more than that
 proto_topic : (pt : Point) (i : MsgId) (is : List MsgId) (t : Told) (q : Pid) → Heard pt i is t q → (view_after pt.view (Line.Proto i)).topic ≡ Of q
-proto_topic pt i is t q h = topic_of (handled pt.view i) (pt.view.told i) t h.told ∙ h.about
-  where
-    topic_of : (v : View) (o : Option Told) (t : Told) → o ≡ Some t → (after_proto v o).topic ≡ t.about
-    topic_of v None t e = cc
-    topic_of v (Some s) t e = let f : s ≡ t = cc in ap (λ (x : Told). x.about) f
+proto_topic pt i is t q h = search
 
 proto_row : (pt : Point) (i : MsgId) (is : List MsgId) (t : Told) (q : Pid) (j k : MessageKind) (w : Spelled) → Heard pt i is t q → t.kind ≡ j → is_between j ≡ true → is_between k ≡ true → mark_of j ≡ mark_of k
     → spelled pt (Says (Line.Proto i) ∷ Owns k (pid_of i.from.home 0) i.from.home ∷ []) ≡ Some w → MarkedBy pt w (Says (Line.Proto i) ∷ Owns k (pid_of i.from.home 0) i.from.home ∷ [])
