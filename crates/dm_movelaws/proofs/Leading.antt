@@ -3,6 +3,7 @@ use Rattle.dm_movelaws.proofs.Names.{◌≡◌, ℕ, ◌==◌, Bool, true, false
 use Rattle.dm_movelaws.proofs.Names.{Told, own_id, Receiver, Point, label_of, kernel_after, moved, after, Part, Says, Routes, Again, Owns, Transmits, Spelled, puts, goes_out, packet_line, spelled, Steps, said_by, PacketsKeep, by_parts}
 use Rattle.dm_movelaws.proofs.Names.{AllSayable, Sayable, Sane, part_sane, lines_of, IsNetLine, IsNet, by_net, touches, Pair, AllFit, Boot, Step, turns_fit, resends_net, arrives_net, slice_get, migrates, migrates_fit}
 use Rattle.dm_rule.specs.Rule as rule
+use Rattle.dm_movelaws.proofs.Names.{bind, behind, ◌++◌}
 
 -- a put and its packet
 puts_by : (P : Point → Type 0) (keeps : PacketsKeep P) (pt next : Point) (b : ℕ) (i : MsgId) (k : MessageKind) (q : Pid) (c d : Bool) → P (moved pt (Line.Put pt.view.acting b i k q) pt.kernel)
@@ -137,3 +138,20 @@ net_behind P one pt _ net h = absurd net
 
 pub net_lead : (P : Point → Type 0) → PacketsKeep P → ((pt : Point) (s : OneKernel) (l : Line) → IsNetLine l → P pt → P (moved pt l s)) → (ps : List Part) (pt : Point) (w : Spelled) → IsNet ps → spelled pt ps ≡ Some w → P pt → P w.point
 net_lead P keeps one ps pt w net = parts_lead P keeps NetPart (net_behind P one) ps pt w (by_net (All NetPart) tt (λ l ps net h. (net, h)) (λ a b l ps h. (tt, h)) ps net)
+
+-- the first part, and what is spelled behind it
+pub record Next (pt : Point) (p : Part) (ps : List Part) (w : Spelled) : Type 0 where
+  pub next : Point
+  pub steps : Steps pt p next
+  pub rest : Spelled
+  pub more : spelled next ps ≡ Some rest
+  pub lines : steps.lines ++ rest.lines ≡ w.lines
+  pub point : rest.point ≡ w.point
+
+pub next_of : (pt : Point) (p : Part) (ps : List Part) (w : Spelled) → spelled pt (p ∷ ps) ≡ Some w → Next pt p ps w
+next_of pt p ps w is =
+    let (ls, are, rest) = bind-is (lines_of pt p) (λ (xs : List Line). bind (after pt xs) (λ (q : Point). bind (spelled q ps) (λ (z : Spelled). Some (behind xs z)))) w is in
+    let (next, leads, last) = bind-is (after pt ls) (λ (q : Point). bind (spelled q ps) (λ (z : Spelled). Some (behind ls z))) w rest in
+    let (z, more, end) = bind-is (spelled next ps) (λ (y : Spelled). Some (behind ls y)) w last in
+    let f : behind ls z ≡ w = cc in
+    record { next = next; steps = record { lines = ls; are = are; leads = leads }; rest = z; more = more; lines = ap (λ (x : Spelled). x.lines) f; point = ap (λ (x : Spelled). x.point) f }

@@ -13,6 +13,7 @@ use Rattle.dm_movelaws.proofs.Ends.Steps.{ComesOf}
 use Rattle.dm_movelaws.proofs.Ends.Hears.{hears_comes}
 use Rattle.dm_movelaws.proofs.Leading.{puts_lead}
 use Rattle.dm_rule.specs.Rule as rule
+use Rattle.dm_movelaws.proofs.Leading.{next_of, part_leads}
 
 abbrev begun_phases : (pt : Point) (d : Step) → InPhases pt.view → InPhases (begun pt d).view
 begun_phases pt d h = calm_phases pt.view (after_head pt.view d) (head_calm pt.view d) h
@@ -70,14 +71,11 @@ request_comes : (p q : Pid) (m b : ℕ) (pt : Point) (h : InPhases pt.view) (w :
 request_comes p q m b pt h w sane fits same e g ids opens =
     let v = pt.view in
     let i = own_id v in
-    let (ls, lines, rest) = bind-is (lines_of pt (Owns MessageKind.Migrate q b)) (λ (xs : List Line). bind (after pt xs) (λ (x : Point). bind (spelled x []) (λ (z : Spelled). Some (behind xs z)))) w e in
-    let (next, leads, last) = bind-is (after pt ls) (λ (x : Point). bind (spelled x []) (λ (z : Spelled). Some (behind ls z))) w rest in
-    let (z, more, end) = bind-is (spelled next []) (λ (y : Spelled). Some (behind ls y)) w last in
-    let f : behind ls z ≡ w = cc in
-    let at : next ≡ w.point = said next z more ∙ ap (λ (x : Spelled). x.point) f in
+    let n = next_of pt (Owns MessageKind.Migrate q b) [] w e in
+    let at : n.next ≡ w.point = said n.next n.rest n.more ∙ n.point in
     let first : Added p v (i ∷ ids) (after_put v v.acting b i MessageKind.Migrate q) = record { opens = add_opens p v (after_put v v.acting b i MessageKind.Migrate q) ids i (request_adds p q pt b sane fits same) opens; still = λ n. refl } in
-    let put : Added p v (i ∷ ids) next.view = puts_lead (λ (x : Point). Added p v (i ∷ ids) x.view) (added_packet p v (i ∷ ids)) pt next b i MessageKind.Migrate q ls first lines leads in
-    let there : Added p v (i ∷ ids) w.point.view = subst (λ (x : Point). Added p v (i ∷ ids) x.view) at put in
+    let to : Point → Type 0 = λ x. Added p v (i ∷ ids) x.view in
+    let there : Added p v (i ∷ ids) w.point.view = subst to at (part_leads to (added_packet p v (i ∷ ids)) pt n.next (Owns MessageKind.Migrate q b) first n.steps) in
     let mv = still_moves p v w.point.view h g there.still in
     let one : asked_by p (Step.Migrate q m) ≡ 1 = ap (λ (c : Bool). if c then 1 else 0) same in
     record { left = i ∷ ids; opens = there.opens; quiet = refl; sum = λ f ext. omega (arith, one, mv) }

@@ -15,6 +15,7 @@ use Rattle.dm_movelaws.proofs.Ends.Steps.{ComesOf, told_comes}
 use Rattle.dm_movelaws.proofs.Leading.{puts_lead}
 use Rattle.dm_onekernel.specs.Step as kernel
 use Rattle.dm_rule.specs.View as view
+use Rattle.dm_movelaws.proofs.Leading.{next_of, part_leads}
 
 -- a message is held
 held_comes : (p : Pid) (pt : Point) (i : MsgId) (is : List MsgId) (t : Told) (h : Turn pt i is t) → ComesOf p pt h.phases (Some (Says (Line.Held i) ∷ []))
@@ -48,18 +49,14 @@ forwards_settle p pt i is t to b ps w h quiet loose e =
     let u = mid.view in
     let pairs = fits_as v u (pair_same v l refl) h.fits in
     let sane = sane_line pt mid l refl refl h.sane in
-    let (ls, lines, rest) = bind-is (lines_of mid (Again i b)) (λ (xs : List Line). bind (after mid xs) (λ (q : Point). bind (spelled q ps) (λ (z : Spelled). Some (behind xs z)))) n.rest n.more in
-    let (next, leads, last) = bind-is (after mid ls) (λ (q : Point). bind (spelled q ps) (λ (z : Spelled). Some (behind ls z))) n.rest rest in
-    let (z, more, end) = bind-is (spelled next ps) (λ (y : Spelled). Some (behind ls y)) n.rest last in
-    let f : behind ls z ≡ n.rest = cc in
+    let k = next_of mid (Again i b) ps n.rest n.more in
     let told : u.told i ≡ Some t = told_by v l refl i ∙ h.told in
-    let whole : lines_of mid (Again i b) ≡ Some (puts u b i t.kind t.receiver) = ap (λ (o : Option Told). bind o (λ (x : Told). Some (puts u b i x.kind x.receiver))) told in
     let still : Still p v u = still_by p v u (λ m q. forwarded_known (handled v i) (receiver_of (v.told i)) m q) in
     let put : Rest p v (view.after_put u u.acting b i t.kind t.receiver) = record { smooth = forwarded_put p v i is t to b h.front h.told pairs; still = still; fits = fits_put u u.acting b i t.kind t.receiver pairs } in
-    let r : Rest p v next.view = puts_lead (λ (q : Point). Rest p v q.view) (rest_packet p v) mid next b i t.kind t.receiver ls put (sym whole ∙ lines) leads in
-    let s : Settled p v next = record { smooth = r.smooth; still = r.still; sane = part_sane mid next (Again i b) ls tt lines leads sane; fits = r.fits } in
-    let at : z.point ≡ n.rest.point = ap (λ (x : Spelled). x.point) f in
-    subst (λ (x : Point). Settled p v x) (at ∙ n.point) (parts_settle p ps v next z (quiet v) (loose_walks ps next loose) s more)
+    let r : Rest p v k.next.view = part_leads (λ (q : Point). Rest p v q.view) (rest_packet p v) mid k.next (Again i b)
+    (λ x is. (let f : Some t ≡ Some x = sym told ∙ is in let same : t ≡ x = cc in subst (λ (y : Told). Rest p v (view.after_put u u.acting b i y.kind y.receiver)) same put)) k.steps in
+    let s : Settled p v k.next = record { smooth = r.smooth; still = r.still; sane = part_sane mid k.next (Again i b) k.steps.lines tt k.steps.are k.steps.leads sane; fits = r.fits } in
+    subst (λ (x : Point). Settled p v x) (k.point ∙ n.point) (parts_settle p ps v k.next k.rest (quiet v) (loose_walks ps k.next loose) s k.more)
 
 forwards_comes : (p : Pid) (pt : Point) (i : MsgId) (is : List MsgId) (t : Told) (a : Addresses) (k : MessageKind) (sender : Pid) (to : ℕ) (h : Turn pt i is t) → ComesOf p pt h.phases (Some (forwards_on a i k sender to))
 forwards_comes p pt i is t a k sender to h w e g ids opens =

@@ -11,6 +11,7 @@ use Rattle.dm_movelaws.proofs.Ends.Rows.{front_one, first_spots}
 use Rattle.dm_movelaws.proofs.Leading.{puts_lead}
 use Rattle.dm_rule.specs.View as view
 pub use Rattle.dm_rule.proofs.Moves.States.{again_told}
+use Rattle.dm_movelaws.proofs.Leading.{next_of, part_leads}
 
 -- one message stands elsewhere, and the others where they stood
 pub smooth_moves : (p : Pid) (v w : View) (i : MsgId) → ((j : MsgId) → w.told j ≡ v.told j) → Somewhere v i → Somewhere w i → ((j : MsgId) → id_eq i j ≡ false → (z : Spot) → standing w j z ≡ standing v j z) → Smooth p v w
@@ -94,15 +95,10 @@ pub record Sent (p : Pid) (v : View) (ps : List Part) (w : Spelled) : Type 0 whe
 pub all_sent : (p : Pid) (v : View) (js : List MsgId) (b : ℕ) (ps : List Part) (pt : Point) (w : Spelled) → Sending p v js pt.view → Sane pt → spelled pt (sends_on b js ++ ps) ≡ Some w → Sent p v ps w
 all_sent p v [] b ps pt w h sane e = record { next = pt; sending = h; sane = sane; rest = w; more = e; point = refl }
 all_sent p v (j ∷ js) b ps pt w h sane e =
-    let qs = sends_on b js ++ ps in
-    let (ls, lines, rest) = bind-is (lines_of pt (Again j b)) (λ (xs : List Line). bind (after pt xs) (λ (q : Point). bind (spelled q qs) (λ (z : Spelled). Some (behind xs z)))) w e in
-    let (next, leads, last) = bind-is (after pt ls) (λ (q : Point). bind (spelled q qs) (λ (z : Spelled). Some (behind ls z))) w rest in
-    let (z, more, end) = bind-is (spelled next qs) (λ (y : Spelled). Some (behind ls y)) w last in
-    let f : behind ls z ≡ w = cc in
-    let (t, there, is) = bind-is (pt.view.told j) (λ (t : Told). Some (puts pt.view b j t.kind t.receiver)) ls lines in
-    let step : Sending p v js next.view = puts_lead (λ (q : Point). Sending p v js q.view) (sending_packet p v js) pt next b j t.kind t.receiver ls (sending_put p v j js pt.view b t there h) is leads in
-    let r = all_sent p v js b ps next z step (part_sane pt next (Again j b) ls tt lines leads sane) more in
-    record { next = r.next; sending = r.sending; sane = r.sane; rest = r.rest; more = r.more; point = ◌∙◌ {a = r.rest.point} r.point (ap (λ (x : Spelled). x.point) f) }
+    let n = next_of pt (Again j b) (sends_on b js ++ ps) w e in
+    let step = part_leads (λ (q : Point). Sending p v js q.view) (sending_packet p v js) pt n.next (Again j b) (λ t there. sending_put p v j js pt.view b t there h) n.steps in
+    let r = all_sent p v js b ps n.next n.rest step (part_sane pt n.next (Again j b) n.steps.lines tt n.steps.are n.steps.leads sane) n.more in
+    record { next = r.next; sending = r.sending; sane = r.sane; rest = r.rest; more = r.more; point = ◌∙◌ {a = r.rest.point} r.point n.point }
 
 pub sent_smooth : (p : Pid) (v w : View) → Sending p v [] w → Smooth p v w
 sent_smooth p v w h = grind (arith, nat_tests)

@@ -4,7 +4,7 @@ use Rattle.dm_movelaws.proofs.Names.{Boot, manager, bind-is, Step, Line, Receive
 use Rattle.dm_movelaws.proofs.Names.{Forward, own_id, handled, receiver_of, actor, view_after, fits, fits_put, fits_packet, pair_same, put_at, fits_as, PairsFit, Sane, part_sane, Steps, begun, begun_sane, said_by, again_rides, again_same}
 use Rattle.dm_movelaws.proofs.Names.{own_fresh, front, Run, Tells, ForwardsTell, RequestsTell, update_of, IsUnderWay, run_always, last_point, first_none, forwarded_own, GroupIs, group_is, by_parts, false≢true, Stage, Addresses, forwards_on}
 use Rattle.dm_movelaws.proofs.Names.{sends_on, migrates, IsNetLine, IsNet, by_migrates, Loose, loose_round, loose_handles, by_forwards, by_net, by_outcome, by_hears, to_kernel}
-use Rattle.dm_movelaws.proofs.Promise.Parts.{next_of}
+use Rattle.dm_movelaws.proofs.Leading.{next_of}
 use Rattle.dm_movelaws.proofs.Promise.Spots.{Stands}
 use Rattle.dm_movelaws.proofs.Promise.Stands.{put_this, packet_stands}
 use Rattle.dm_movelaws.proofs.Leading.{puts_lead, is_said, lines_are}

@@ -5,7 +5,8 @@ use Rattle.dm_movelaws.proofs.Names.{not_kernels, eq_is, not_true, parts, IsNet,
 use Rattle.dm_movelaws.proofs.Promise.Kept.{told_stays}
 use Rattle.dm_movelaws.proofs.Promise.Spots.{Stands}
 use Rattle.dm_movelaws.proofs.Promise.Stands.{packet_stands, head_stands, net_stands}
-use Rattle.dm_movelaws.proofs.Promise.Parts.{all_loose, GoesOf, next_of, Waits, loose_row, round_goes, handles_goes, Goes}
+use Rattle.dm_movelaws.proofs.Promise.Parts.{all_loose, GoesOf, Waits, loose_row, round_goes, handles_goes, Goes}
+use Rattle.dm_movelaws.proofs.Leading.{next_of}
 use Rattle.dm_movelaws.proofs.Promise.Told.{hears_goes, hears_this}
 use Rattle.dm_movelaws.proofs.Leading.{net_lead}
 use Rattle.dm_rule.specs.Rule as rule

@@ -9,6 +9,7 @@ use Rattle.dm_movelaws.proofs.Promise.Stands.{label_stands, put_this, put_stands
 use Rattle.dm_movelaws.proofs.Leading.{Behind, whatever_put, part_leads}
 use Rattle.dm_rule.specs.Rule as rule
 use Rattle.dm_movelaws.proofs.Names.{nat_tests}
+use Rattle.dm_movelaws.proofs.Leading.{next_of}
 
 -- a kernel's own message that was told of
 pub record Base (j : MsgId) (t : Told) (pt : Point) : Type 0 where
@@ -90,23 +91,6 @@ part_stands j t pt next p need base h s =
 -- the message itself is put again
 pub again_this : (j : MsgId) (t : Told) (pt next : Point) (b : ℕ) → Base j t pt → Steps pt (Again j b) next → Stands next.view j
 again_this j t pt next b base s = part_leads (λ x. Stands x.view j) (λ x a c n l f. packet_stands x.view a c n l j f) pt next (Again j b) (λ u told. put_this pt.view pt.view.acting b j u.kind u.receiver base.fits) s
-
--- the first part, and what is spelled behind it
-pub record Next (pt : Point) (p : Part) (ps : List Part) (w : Spelled) : Type 0 where
-  pub next : Point
-  pub steps : Steps pt p next
-  pub rest : Spelled
-  pub more : spelled next ps ≡ Some rest
-  pub lines : steps.lines ++ rest.lines ≡ w.lines
-  pub point : rest.point ≡ w.point
-
-pub next_of : (pt : Point) (p : Part) (ps : List Part) (w : Spelled) → spelled pt (p ∷ ps) ≡ Some w → Next pt p ps w
-next_of pt p ps w is =
-    let (ls, are, rest) = bind-is (lines_of pt p) (λ (xs : List Line). bind (after pt xs) (λ (q : Point). bind (spelled q ps) (λ (z : Spelled). Some (behind xs z)))) w is in
-    let (next, leads, last) = bind-is (after pt ls) (λ (q : Point). bind (spelled q ps) (λ (z : Spelled). Some (behind ls z))) w rest in
-    let (z, more, end) = bind-is (spelled next ps) (λ (y : Spelled). Some (behind ls y)) w last in
-    let f : behind ls z ≡ w = cc in
-    record { next = next; steps = record { lines = ls; are = are; leads = leads }; rest = z; more = more; lines = ap (λ (x : Spelled). x.lines) f; point = ap (λ (x : Spelled). x.point) f }
 
 -- it stands somewhere behind the parts, or they say that it was handled, and nothing else
 abbrev pub Ends : MsgId → Spelled → Type 0

@@ -4,7 +4,8 @@ use Rattle.dm_movelaws.proofs.Names.{switchboard, manager, Line, Told, Known, Un
 use Rattle.dm_movelaws.proofs.Names.{last_point, by_hears, behind_count, place_told}
 use Rattle.dm_movelaws.proofs.Promise.Spots.{Stands, Front, Spares}
 use Rattle.dm_movelaws.proofs.Promise.Stands.{sent_stands, held_this}
-use Rattle.dm_movelaws.proofs.Promise.Parts.{Goes, GoesOf, base_says, again_this, next_of, loose_stands, sends_stand, Waits, first_row, forwards_goes}
+use Rattle.dm_movelaws.proofs.Promise.Parts.{Goes, GoesOf, base_says, again_this, loose_stands, sends_stand, Waits, first_row, forwards_goes}
+use Rattle.dm_movelaws.proofs.Leading.{next_of}
 use Rattle.dm_rule.specs.Rule as rule
 use Rattle.dm_movelaws.proofs.Names.{nat_tests}
 use Rattle.dm_movelaws.proofs.Names.{arith}

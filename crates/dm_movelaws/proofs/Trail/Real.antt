@@ -8,6 +8,7 @@ use Rattle.dm_rulelaws.proofs.Found.Core.{IsReal}
 use Rattle.dm_movelaws.proofs.After.{keeps_always}
 use Rattle.dm_onekernel.specs.Step as kernel
 use Rattle.dm_rule.specs.View as view
+use Rattle.dm_movelaws.proofs.Trail.Rows.{or_first as or_left}
 
 -- a process that leaves a machine, or has left it
 abbrev passes : Known → Bool
@@ -174,10 +175,6 @@ passed_always b es pt valid way = record {
   both = run_always b es pt valid way;
   passing = keeps_always b (λ q. Passing q.kernel q.view) (λ q d w fit is run h. passing_group b q d w is run.based.phased run.based.known h) valid (passing_start b) es pt way;
 }
-
-or_left : (c d : Bool) → c ≡ true → (c || d) ≡ true
-or_left true d e = refl
-or_left false d e = absurd (false≢true e)
 
 agrees_some : (k : Known) (o : Option Life) → agrees k o ≡ true → (k ≡ Unknown → ⊥) → is_some o ≡ true
 agrees_some Unknown o e some = absurd (some refl)
