@@ -4,14 +4,14 @@ use Rattle.dm_movelaws.proofs.Names.{Told, own_id, Receiver, Point, label_of, ke
 use Rattle.dm_movelaws.proofs.Names.{AllSayable, Sayable, Sane, part_sane, lines_of, IsNetLine, IsNet, by_net, touches, Pair, AllFit, Boot, Step, turns_fit, resends_net, arrives_net, slice_get, migrates, migrates_fit}
 use Rattle.dm_rule.specs.Rule as rule
 use Rattle.dm_movelaws.proofs.Names.{bind, behind, ◌++◌}
+use Rattle.dm_movelaws.proofs.Names.{nat_tests}
+use Rattle.dm_movelaws.proofs.Names.{arith}
 
 -- a put and its packet
 puts_by : (P : Point → Type 0) (keeps : PacketsKeep P) (pt next : Point) (b : ℕ) (i : MsgId) (k : MessageKind) (q : Pid) (c d : Bool) → P (moved pt (Line.Put pt.view.acting b i k q) pt.kernel)
     → after pt (Line.Put pt.view.acting b i k q ∷ (if c then [] else if d then packet_line pt.view pt.view.acting b (Load.Data (length (pt.view.pair pt.view.acting b).ids)) ∷ [] else [])) ≡ Some next → P next
-puts_by P keeps pt next b i k q true d h is =
-    let f : moved pt (Line.Put pt.view.acting b i k q) pt.kernel ≡ next = cc in subst P f h
-puts_by P keeps pt next b i k q false false h is =
-    let f : moved pt (Line.Put pt.view.acting b i k q) pt.kernel ≡ next = cc in subst P f h
+puts_by P keeps pt next b i k q true d h is = grind (arith, nat_tests)
+puts_by P keeps pt next b i k q false false h is = grind (arith, nat_tests)
 puts_by P keeps pt next b i k q false true h is =
     let n = length (pt.view.pair pt.view.acting b).wire in
     let l = Load.Data (length (pt.view.pair pt.view.acting b).ids) in
@@ -82,23 +82,13 @@ pub record LinesOf (S : List Line → Type 0) (p : Part) : Type 0 where
 
 put_lines : (S : List Line → Type 0) (p : Part) (v : View) (b : ℕ) (i : MsgId) (k : MessageKind) (q : Pid) (c d : Bool) → LinesOf S p → is_said p ≡ false
     → S (Line.Put v.acting b i k q ∷ (if c then [] else if d then packet_line v v.acting b (Load.Data (length (v.pair v.acting b).ids)) ∷ [] else []))
-put_lines S p v b i k q true d h none = h.put none v.acting b i k q
-put_lines S p v b i k q false false h none = h.put none v.acting b i k q
-put_lines S p v b i k q false true h none = h.goes none v.acting b (length (v.pair v.acting b).wire) i k q (Load.Data (length (v.pair v.acting b).ids))
+put_lines S p v b i k q c d h none = grind (arith, nat_tests)
 
 puts_lines : (S : List Line → Type 0) (p : Part) (v : View) (b : ℕ) (i : MsgId) (k : MessageKind) (q : Pid) (ls : List Line) → LinesOf S p → is_said p ≡ false → Some (puts v b i k q) ≡ Some ls → S ls
 puts_lines S p v b i k q ls h none is = let f : puts v b i k q ≡ ls = cc in subst S f (put_lines S p v b i k q (v.acting == b) (goes_out (v.pair v.acting b)) h none)
 
 pub lines_are : (S : List Line → Type 0) (pt : Point) (p : Part) (ls : List Line) → LinesOf S p → lines_of pt p ≡ Some ls → S ls
-lines_are S pt (Says l) ls h is = let f : l ∷ [] ≡ ls = cc in subst S f (h.says l refl)
-lines_are S pt (Routes i) ls h is =
-    let (m, there, last) = bind-is (pt.kernel.bag i) (λ m. Some (puts pt.view (pt.addresses (Receiver i)).at i (plain_kind m.what) m.to)) ls is in
-    puts_lines S (Routes i) pt.view (pt.addresses (Receiver i)).at i (plain_kind m.what) m.to ls h refl last
-lines_are S pt (Again i b) ls h is =
-    let (t, there, last) = bind-is (pt.view.told i) (λ t. Some (puts pt.view b i t.kind t.receiver)) ls is in
-    puts_lines S (Again i b) pt.view b i t.kind t.receiver ls h refl last
-lines_are S pt (Owns k q b) ls h is = puts_lines S (Owns k q b) pt.view b (own_id pt.view) k q ls h refl is
-lines_are S pt (Transmits a b l) ls h is = let f : packet_line pt.view a b l ∷ [] ≡ ls = cc in subst S f (h.packet refl a b (length (pt.view.pair a b).wire) l)
+lines_are S pt p ls h is = grind (arith, nat_tests, bind-is, puts_lines)
 
 -- what a part says is so
 abbrev pub Saying : (Line → Type 0) → Part → Type 0
@@ -132,9 +122,7 @@ NetPart (Transmits a b l) = ⊤
 NetPart _ = ⊥
 
 net_behind : (P : Point → Type 0) → ((pt : Point) (s : OneKernel) (l : Line) → IsNetLine l → P pt → P (moved pt l s)) → (pt : Point) (p : Part) → NetPart p → P pt → Behind P pt p
-net_behind P one pt (Says l) net h = λ s step. one pt s l net h
-net_behind P one pt (Transmits a b l) net h = h
-net_behind P one pt _ net h = absurd net
+net_behind P one pt e net h = grind (arith, nat_tests)
 
 pub net_lead : (P : Point → Type 0) → PacketsKeep P → ((pt : Point) (s : OneKernel) (l : Line) → IsNetLine l → P pt → P (moved pt l s)) → (ps : List Part) (pt : Point) (w : Spelled) → IsNet ps → spelled pt ps ≡ Some w → P pt → P w.point
 net_lead P keeps one ps pt w net = parts_lead P keeps NetPart (net_behind P one) ps pt w (by_net (All NetPart) tt (λ l ps net h. (net, h)) (λ a b l ps h. (tt, h)) ps net)

@@ -25,50 +25,21 @@ record FindsNone (f : Known → Option Standing) (v : View) (p : Pid) (n : ℕ) 
   none : (m : ℕ) → m < n → f (v.known m p) ≡ None
 
 last_finds : (f : Known → Option Standing) (v : View) (p : Pid) (n : ℕ) (s : Option Standing) → f (v.known n p) ≡ s → FindsNone f v p n → Finds f v p (suc n) ⊎ FindsNone f v p (suc n)
-last_finds f v p n (Some x) e h =
-    inl (record {
-      at = record { at = n; standing = x };
-      is = ap (λ (y : Option Stood). or y (stood_at n (f (v.known n p)))) h.is ∙ ap (stood_at n) e;
-      within = omega arith;
-      stands = e;
-    })
-last_finds f v p n None e h =
-    inr (record {
-      is = ap (λ (y : Option Stood). or y (stood_at n (f (v.known n p)))) h.is ∙ ap (stood_at n) e;
-      none = λ m less. elim (cases_Bool (m == n)) [
-        | inl last ↦ (let is : m ≡ n = grind (arith, nat_tests) in ap (λ (k : ℕ). f (v.known k p)) is ∙ e)
-        | inr other ↦ h.none m (grind (arith, nat_tests))
-      ];
-    })
+last_finds f v p n s e h = grind (arith, nat_tests)
 
 first_or : (f : Known → Option Standing) (v : View) (p : Pid) (n : ℕ) → Finds f v p n ⊎ FindsNone f v p n
 first_or f v p zero = inr (record { is = refl; none = λ m less. absurd (omega (arith, less)) })
-first_or f v p (suc n) = elim (first_or f v p n) [
-  | inl found ↦
-      inl (record {
-        at = found.at;
-        is = ap (λ (y : Option Stood). or y (stood_at n (f (v.known n p)))) found.is;
-        within = (let w = found.within in omega (arith, w));
-        stands = found.stands;
-      })
-  | inr none ↦ last_finds f v p n (f (v.known n p)) refl none
-]
+first_or f v p (suc n) = grind (arith, nat_tests, last_finds, first_or f v p n)
 
 -- a process is where it is found
 has_stands : (k : Known) (x : Standing) → standing_of k ≡ Some x → stands_by k ≡ Some x
-has_stands Here x e = e
-has_stands (Frozen to) x e = e
-has_stands _ x e = cc
+has_stands k x e = grind (arith, nat_tests)
 
 awaits_stands : (k : Known) (x : Standing) → awaits k ≡ Some x → stands_by k ≡ Some x
-awaits_stands (Incoming from) x e = e
-awaits_stands _ x e = cc
+awaits_stands k x e = grind (arith, nat_tests)
 
 neither : (k : Known) (x : Standing) → standing_of k ≡ None → awaits k ≡ None → stands_by k ≡ Some x → ⊥
-neither Here x a b e = cc
-neither (Frozen to) x a b e = cc
-neither (Incoming from) x a b e = cc
-neither _ x a b e = let f : None ≡ Some x = e in cc
+neither k x a b e = grind (arith, nat_tests)
 
 -- a process that stands on some machine is found
 pub record Placed (pt : Point) (p : Pid) : Type 0 where
@@ -102,8 +73,7 @@ record Somewhere (v : View) (p : Pid) : Type 0 where
   stands : stands_by (v.known machine p) ≡ Some standing
 
 here_stands : (k : Known) → is_here k ≡ true → stands_by k ≡ Some Standing.Here
-here_stands Here e = refl
-here_stands _ e = absurd (false≢true e)
+here_stands k e = grind (arith, nat_tests)
 
 rests_stands : (v : View) (p : Pid) (at : ℕ) → knows (Rests at) at (v.known at p) ≡ true → Somewhere v p
 rests_stands v p at e =
@@ -121,10 +91,7 @@ leaves_or k d (Forward m moves) e = inr (first (is_restart k) (d == m) e)
 leaves_or k d _ e = absurd (false≢true e)
 
 comes_stands : (k : MessageKind) (s : ℕ) (x : Known) → is_early k ≡ false → phases.kind_comes k s x ≡ true → stands_by x ≡ Some Standing.Arriving
-comes_stands k s (Incoming m) late e = refl
-comes_stands k s Unknown late e = absurd (false≢true (sym late ∙ e))
-comes_stands k s (Forward m moves) late e = absurd (false≢true (sym late ∙ e))
-comes_stands k s _ late e = absurd (false≢true e)
+comes_stands k s x late e = grind (arith, nat_tests)
 
 moves_stands : (v : View) (p : Pid) (k : MessageKind) (s d : ℕ) (id : Option MsgId) → IsIn v p (Moves k s d id) → Somewhere v p
 moves_stands v p k s d id h =
@@ -153,8 +120,7 @@ somewhere v p Nowhere l x h alive agree home = absurd (home (unknown_by (v.known
 somewhere v p (Rests at) l x h alive agree home = rests_stands v p at (h.known at)
 somewhere v p (Over at) l x h alive agree home =
     let same : (at == at) ≡ true = grind (arith, nat_tests) in
-    let over : v.known at p ≡ Known.Ended = over_by (v.known at p) (sym (ap (λ (c : Bool). if c then is_over (v.known at p) else phases.is_away (v.known at p)) same) ∙ h.known at) in
-    absurd (false≢true (sym (ap (λ (k : Known). agrees k (Some (Alive x))) over) ∙ ap (agrees (v.known at p)) (sym alive) ∙ agree at))
+    grind (arith, nat_tests)
 somewhere v p (Moves k s d id) l x h alive agree home = moves_stands v p k s d id h
 
 pub alive_placed : (b : Boot) (pt : Point) (p : Pid) (x : PlainProcess) → Run b pt → pt.kernel.processes p ≡ Some (Alive x) → Placed pt p
@@ -191,8 +157,7 @@ mute_machines p f (suc m) h = mute_both p (each_machine f m) (f m) (mute_machine
 
 -- all but the lines of processes
 mute_list : (p : Pid) (f : List MsgId → EndLine) (ids : List MsgId) → ((is : List MsgId) → tells_life p (f is) ≡ false) → Mute p (list_line f ids)
-mute_list p f [] h = refl
-mute_list p f (i ∷ is) h = ap (λ (c : Bool). if c then f (i ∷ is) ∷ [] else []) (h (i ∷ is))
+mute_list p f ids h = grind (arith, nat_tests)
 
 mute_names : (p : Pid) (a : Addresses) (n : ℕ) (ks : List NamedLink) → Mute p (name_lines a n ks)
 mute_names p a n [] = refl
@@ -207,60 +172,40 @@ mute_pending p [] = refl
 mute_pending p (r ∷ rs) = mute_pending p rs
 
 mute_servers : (p : Pid) (pt : Point) → Mute p (server_lines pt)
-mute_servers p pt =
-    let s = pt.kernel in
-    let names = EndLine.Server switchboard s.switchboard.sent ∷ EndLine.Server manager s.manager.sent ∷ name_lines pt.addresses 0 s.switchboard.names in
-    let children = child_lines pt.addresses 1 s.manager.children in
-    let pending = pending_lines s.manager.pending in
-    mute_both p (names ++ children) pending (mute_both p names children (mute_names p pt.addresses 0 s.switchboard.names) (mute_children p pt.addresses 1 s.manager.children)) (mute_pending p s.manager.pending)
+mute_servers p pt = search (mute_both, mute_names, mute_children, mute_pending)
 
 mute_queue : (p : Pid) (v : View) (q : Pid) (o : Option Stood) → Mute p (queue_at v q o)
-mute_queue p v q None = refl
-mute_queue p v q (Some s) = mute_list p (EndLine.Queue q) (v.queue s.at q) (λ is. refl)
+mute_queue p v q o = grind (arith, nat_tests, mute_list)
 
 mute_queues : (p : Pid) (pt : Point) → Mute p (queue_lines pt)
-mute_queues p pt =
-    let n = pt.kernel.machines in
-    mute_homes p pt (λ q. queue_at pt.view q (first_with standing_of pt.view q n)) n (λ q. mute_queue p pt.view q (first_with standing_of pt.view q n))
+mute_queues p pt = search (mute_homes, mute_queue)
 
 mute_holding : (p : Pid) (pt : Point) → Mute p (holding_lines pt)
-mute_holding p pt =
-    let n = pt.kernel.machines in
-    mute_machines p (λ m. each_process pt (λ q. list_line (EndLine.Holding m q) (pt.view.held m q))) n
-    (λ m. mute_homes p pt (λ q. list_line (EndLine.Holding m q) (pt.view.held m q)) n (λ q. mute_list p (EndLine.Holding m q) (pt.view.held m q) (λ is. refl)))
+mute_holding p pt = search (mute_machines, mute_homes, mute_list)
 
 mute_inboxes : (p : Pid) (pt : Point) → Mute p (inbox_lines pt)
 mute_inboxes p pt = mute_machines p (λ m. list_line (EndLine.Inbox m) (pt.view.inbox m)) pt.kernel.machines (λ m. mute_list p (EndLine.Inbox m) (pt.view.inbox m) (λ is. refl))
 
 mute_streams : (p : Pid) (pt : Point) → Mute p (stream_lines pt)
-mute_streams p pt =
-    let n = pt.kernel.machines in
-    mute_machines p (λ a. each_machine (λ c. list_line (EndLine.Stream a c) (untaken (pt.view.pair a c))) n) n
-    (λ a. mute_machines p (λ c. list_line (EndLine.Stream a c) (untaken (pt.view.pair a c))) n (λ c. mute_list p (EndLine.Stream a c) (untaken (pt.view.pair a c)) (λ is. refl)))
+mute_streams p pt = search (mute_machines, mute_list)
 
 -- the lines of a process, but for the first
 mute_block : (p q : Pid) (k : ℕ) (bytes : List ℕ) → Mute p (block_line q k bytes)
-mute_block p q k [] = refl
-mute_block p q k (x ∷ xs) = refl
+mute_block p q k bytes = grind (arith, nat_tests)
 
 mute_memory : (p q : Pid) (bytes : List ℕ) (k : ℕ) → Mute p (memory_lines q bytes k)
 mute_memory p q bytes zero = refl
-mute_memory p q bytes (suc k) =
-    let block = trimmed (take 256 (drop (256 * k) bytes)) in
-    mute_both p (memory_lines q bytes k) (block_line q k block) (mute_memory p q bytes k) (mute_block p q k block)
+mute_memory p q bytes (suc k) = search (mute_both, mute_block, mute_memory p q bytes k)
 
 mute_slot : (p : Pid) (a : Addresses) (q : Pid) (k : ℕ) (o : Option PlainLink) → Mute p (slot_line a q k o)
-mute_slot p a q k None = refl
-mute_slot p a q k (Some l) = refl
+mute_slot p a q k o = grind (arith, nat_tests)
 
 mute_links : (p : Pid) (a : Addresses) (q : Pid) (k : ℕ) (ls : List (Option PlainLink)) → Mute p (link_lines a q k ls)
 mute_links p a q k [] = refl
 mute_links p a q k (l ∷ ls) = mute_both p (slot_line a q k l) (link_lines a q (k + 1) ls) (mute_slot p a q k l) (mute_links p a q (k + 1) ls)
 
 mute_state : (p : Pid) (a : Addresses) (q : Pid) (x : PlainProcess) → Mute p (state_lines a q x)
-mute_state p a q x =
-    let memory = memory_lines q x.memory (length x.memory / 256) in
-    mute_both p (EndLine.Registers q x.regs.r x.regs.pc ∷ memory) (link_lines a q 0 x.links) (mute_memory p q x.memory (length x.memory / 256)) (mute_links p a q 0 x.links)
+mute_state p a q x = search (mute_both, mute_memory, mute_links)
 
 -- another process's lines say nothing of this one
 other_alive : (p : Pid) (a : Addresses) (q : Pid) (x : PlainProcess) (o : Option Stood) → pid_eq p q ≡ false → Mute p (alive_lines a q x o)
@@ -270,9 +215,7 @@ other_alive p a q x (Some s) off =
     ap (λ (c : Bool). if c then l ∷ life_lines p (state_lines a q x) else life_lines p (state_lines a q x)) off ∙ mute_state p a q x
 
 other_life : (p : Pid) (pt : Point) (q : Pid) (l : Option Life) → pid_eq p q ≡ false → Mute p (process_lines pt q l)
-other_life p pt q None off = refl
-other_life p pt q (Some (Alive x)) off = other_alive p pt.addresses q x (stood pt.view q pt.kernel.machines) off
-other_life p pt q (Some (Life.Ended because)) off = ap (λ (c : Bool). if c then EndLine.Ended q because ∷ [] else []) off
+other_life p pt q l off = grind (arith, nat_tests, other_alive)
 
 -- this process's own lines
 own_life : (b : Boot) (pt : Point) (p : Pid) (l : Option Life) → Run b pt → pt.kernel.processes p ≡ l → IsSaid pt p l (life_lines p (process_lines pt p l))
@@ -280,19 +223,11 @@ own_life b pt p None run is = refl
 own_life b pt p (Some (Life.Ended because)) run is = ap (λ (c : Bool). if c then EndLine.Ended p because ∷ [] else []) (pid_eq-same p)
 own_life b pt p (Some (Alive x)) run is =
     let at = alive_placed b pt p x run is in
-    let l = EndLine.Process p at.at.at at.at.standing (doing_of x.status) x.stopped x.sent in
-    let rest = state_lines pt.addresses p x in
-    let said : life_lines p (alive_lines pt.addresses p x (stood pt.view p pt.kernel.machines)) ≡ l ∷ [] =
-    ap (λ (o : Option Stood). life_lines p (alive_lines pt.addresses p x o)) at.is ∙ ap (λ (c : Bool). if c then l ∷ life_lines p rest else life_lines p rest) (pid_eq-same p)
-    ∙ ap (λ (ls : List EndLine). l ∷ ls) (mute_state p pt.addresses p x) in
-    (at.at, at.place, said)
+    grind (arith, nat_tests, pid_eq-same, mute_state)
 
 -- a process among those of a home, and of all homes
 not_same : (p q : Pid) → (p ≡ q → ⊥) → pid_eq p q ≡ false
-not_same p q h = elim (cases_Bool (pid_eq p q)) [
-  | inl same ↦ absurd (h (pid_eq-is p q same))
-  | inr off ↦ off
-]
+not_same p q h = grind (arith, nat_tests, pid_eq-is)
 
 abbrev Others : Pid → (Pid → List EndLine) → Type 0
 Others p f = (q : Pid) → pid_eq p q ≡ false → Mute p (f q)

@@ -10,6 +10,7 @@ use Rattle.dm_movelaws.proofs.Promise.Kept.{lines_told}
 use Rattle.dm_movelaws.proofs.Promise.Trail.{OnTrail}
 use Rattle.dm_movelaws.proofs.Trail.Known.{trail_known}
 use Rattle.dm_movelaws.proofs.Real.Lines.{made_by as life_stays}
+use Rattle.dm_movelaws.proofs.Names.{nat_tests}
 
 -- a process that was made stays made
 made_on : (b : Boot) (es : List Step) (pt end : Point) (q : Pid) (r e : MsgId → ℕ) → Leads b pt es end → Sound r e pt.kernel → is_some (pt.kernel.processes q) ≡ true → is_some (end.kernel.processes q) ≡ true
@@ -20,16 +21,13 @@ made_on b (d ∷ es) pt end q r e (w, fit, is, rest) h there =
 
 -- what a machine forwards for is a process that was made
 server_stays : (m : ℕ) (c : Bool) (to moves : ℕ) → (if c then Here else Unknown) ≡ Forward to moves → ⊥
-server_stays m true to moves e = cc
-server_stays m false to moves e = cc
+server_stays m c to moves e = grind (arith, nat_tests)
 
 no_server : (s : OneKernel) (v : View) (m : ℕ) (q : Pid) (to moves : ℕ) (c : Bool) → is_server q ≡ c → KnownStands s v → v.known m q ≡ Forward to moves → c ≡ false
-no_server s v m q to moves true is h e = absurd (server_stays m (m == 0) to moves (sym (h.server m q is) ∙ e))
-no_server s v m q to moves false is h e = refl
+no_server s v m q to moves c is h e = grind (arith, nat_tests, server_stays)
 
 made_there : (to moves : ℕ) (o : Option Life) → agrees (Forward to moves) o ≡ true → is_some o ≡ true
-made_there to moves None e = absurd (false≢true e)
-made_there to moves (Some l) e = refl
+made_there to moves o e = grind (arith, nat_tests)
 
 -- a machine has one forwarding address for it
 one_count : (to m n : ℕ) → Forward to m ≡ Forward to n → m ≡ n
@@ -39,9 +37,7 @@ turn_fits : (n : ℕ) (d : Step) → d ≡ Step.Turn (actor d) → actor d < n �
 turn_fits n d e h = subst (IsStep n) (sym e) h
 
 forwarded_made : (s : OneKernel) (v : View) (m : ℕ) (q : Pid) (to moves : ℕ) → KnownStands s v → v.known m q ≡ Forward to moves → (is_server q ≡ false) × (is_some (s.processes q) ≡ true)
-forwarded_made s v m q to moves h known =
-    let server = no_server s v m q to moves (is_server q) refl h known in
-    (server, made_there to moves (s.processes q) (sym (ap (λ (k : Known). agrees k (s.processes q)) known) ∙ h.agree m q server))
+forwarded_made s v m q to moves h known = grind (arith, nat_tests, no_server, made_there)
 
 forwarded_some : (v : View) (m : ℕ) (q : Pid) (to moves : ℕ) → v.known m q ≡ Forward to moves → v.known m q ≢ Unknown
 forwarded_some v m q to moves known e = let f : Forward to moves ≡ Unknown = sym known ∙ e in cc

@@ -10,6 +10,8 @@ use Rattle.dm_movelaws.proofs.Promise.Stands.{put_this, packet_stands}
 use Rattle.dm_movelaws.proofs.Leading.{puts_lead, is_said, lines_are}
 use Rattle.dm_rule.specs.View as view
 use Rattle.dm_rule.specs.Rule as rule
+use Rattle.dm_movelaws.proofs.Names.{nat_tests}
+use Rattle.dm_movelaws.proofs.Names.{arith}
 
 -- a message that is sent on, and the machine that it goes to
 abbrev pub Onward : Type 0
@@ -38,8 +40,7 @@ sends_none to (i ∷ is) ps = sends_none to is ps
 
 -- the other directives
 net_none : (l : Line) (fs : List Onward) → IsNetLine l → with_forward l fs ≡ fs
-net_none (Line.Forwarded i m) fs h = absurd h
-net_none l fs h = refl
+net_none l fs h = grind (arith, nat_tests)
 
 nets_none : (ps : List Part) → IsNet ps → forwards_of ps ≡ []
 nets_none = by_net (λ ps. forwards_of ps ≡ []) refl (λ l ps net h. net_none l (forwards_of ps) net ∙ h) (λ a b l ps h. h)
@@ -93,19 +94,7 @@ handles_form b o m id is msg ps box there = loose_handles (Form o (Step.Turn m))
 
 hears_form : (b : Boot) (o : Point) (m : ℕ) (id : MsgId) (ps : List Part) → o.kernel.bag id ≡ None → rule.hears b o m id (o.view.told id) ≡ Some ps → Form o (Step.Turn m) ps
 hears_form b o m id ps none = by_hears (Form o (Step.Turn m)) b o m id (o.view.told id) ps (λ t told. record {
-  told = λ p x about alive. record {
-    accepted = λ ask. Nothing refl;
-    lacks = λ slots blocks. Nothing refl;
-    stays = λ kind. Nothing refl;
-    state = Nothing refl;
-    next_chunk = Nothing refl;
-    last_chunk = Nothing refl;
-    memory = Nothing refl;
-    next_block = Nothing refl;
-    last_block = Nothing refl;
-    left = λ ids to leaves. Nothing (sends_none to ids (Says (Line.Migration Stage.Left p) ∷ to_kernel MessageKind.Restart id.from.home ∷ []));
-    restarted = λ kind. Nothing refl;
-  };
+  told = λ p x about alive. grind (arith, nat_tests, sends_none);
   updated = λ kind. Nothing refl;
   updated_none = λ kind at_. Nothing refl;
   no_move = λ at_. Nothing refl;
@@ -132,8 +121,7 @@ sent_on [] = []
 sent_on (l ∷ ls) = with_forward l (sent_on ls)
 
 with_append : (l : Line) (xs ys : List Onward) → with_forward l (xs ++ ys) ≡ with_forward l xs ++ ys
-with_append (Line.Forwarded i m) xs ys = refl
-with_append l xs ys = refl
+with_append l xs ys = grind (arith, nat_tests)
 
 sent_append : (xs ys : List Line) → sent_on (xs ++ ys) ≡ sent_on xs ++ sent_on ys
 sent_append [] ys = refl
@@ -141,14 +129,10 @@ sent_append (x ∷ xs) ys = ap (with_forward x) (sent_append xs ys) ∙ with_app
 
 -- those of a group's lines are those of its parts
 unsaid_none : (p : Part) (fs : List Onward) → is_said p ≡ false → fs ≡ part_forwards p fs
-unsaid_none (Says l) fs e = absurd (false≢true (sym e))
-unsaid_none _ fs e = refl
+unsaid_none p fs e = grind (arith, nat_tests)
 
 part_sends : (pt : Point) (p : Part) (ls : List Line) (fs : List Onward) → lines_of pt p ≡ Some ls → sent_on ls ++ fs ≡ part_forwards p fs
-part_sends pt p ls fs is =
-    let none = unsaid_none p fs in
-    lines_are (λ xs. sent_on xs ++ fs ≡ part_forwards p fs) pt p ls
-    (record { says = λ l e. sym (with_append l [] fs) ∙ sym (ap (λ (x : Part). part_forwards x fs) e); put = λ off a b i k q. none off; goes = λ off a b n i k q l. none off; packet = λ off a b n l. none off }) is
+part_sends pt p ls fs is = grind (arith, nat_tests, unsaid_none, lines_are, with_append)
 
 parts_send : (ps : List Part) (pt : Point) (w : Spelled) → spelled pt ps ≡ Some w → sent_on w.lines ≡ forwards_of ps
 parts_send = by_parts (λ ps pt w. sent_on w.lines ≡ forwards_of ps) (λ pt. refl) (λ p ps pt next ls z lines leads rest. sent_append ls z.lines ∙ ap (λ (fs : List Onward). sent_on ls ++ fs) rest ∙ part_sends pt p ls (forwards_of ps) lines)
@@ -183,8 +167,7 @@ sent_by : (b : Boot) (o : Point) (d : Step) (w : Spelled) (g : GroupIs b o d w) 
 sent_by b o d w g id message to xs ys there says (Nothing none) = absurd (none_there (sent_on xs) (sent_on ys) (id, to) (there_in b o d w g id to xs ys says ∙ none))
 sent_by b o d w g id message to xs ys there says (Own h) =
     let same = one_there (sent_on xs) (sent_on ys) (id, to) (h.id, h.to) (there_in b o d w g id to xs ys says ∙ ap forwards_of h.are ∙ goes_on o.addresses h.id h.told.kind manager h.to) in
-    let f : Some message ≡ None = sym there ∙ ap o.kernel.bag (same_id (id, to) (h.id, h.to) same) ∙ h.outside in
-    cc
+    grind (arith, nat_tests, same_id)
 sent_by b o d w g id message to xs ys there says (Plain h) =
     let same = one_there (sent_on xs) (sent_on ys) (id, to) (h.id, h.to) (there_in b o d w g id to xs ys says ∙ ap forwards_of h.are ∙ goes_on o.addresses h.id (plain_kind h.message.what) h.message.sender h.to) in
     record { group = g; goes = h; id_is = sym (same_id (id, to) (h.id, h.to) same); to_is = sym (same_to (id, to) (h.id, h.to) same) }
@@ -197,8 +180,7 @@ record SentOwn (b : Boot) (o : Point) (d : Step) (w : Spelled) (id : MsgId) (to 
   to_is : goes.to ≡ to
 
 no_request : (w : PlainWhat) → plain_kind w ≡ MessageKind.Migrate → ⊥
-no_request (PlainWhat.User code channel body links) e = cc
-no_request w e = cc
+no_request w e = grind (arith, nat_tests)
 
 own_by : (b : Boot) (o : Point) (d : Step) (w : Spelled) (g : GroupIs b o d w) (id : MsgId) (t : Told) (to : ℕ) (xs ys : List Line) → Sane o → o.view.told id ≡ Some t → t.kind ≡ MessageKind.Migrate → w.lines ≡ xs ++ Line.Forwarded id to ∷ ys → Form o d g.parts → SentOwn b o d w id to
 own_by b o d w g id t to xs ys sane told request says (Nothing none) = absurd (none_there (sent_on xs) (sent_on ys) (id, to) (there_in b o d w g id to xs ys says ∙ none))
@@ -212,10 +194,7 @@ own_by b o d w g id t to xs ys sane told request says (Own h) =
 
 -- what the update is about
 topic_at : (v : View) (i : MsgId) (m : ℕ) (t : Told) (p : Pid) (to moves : ℕ) → v.told i ≡ Some t → t.receiver ≡ p → v.known v.acting p ≡ Forward to moves → (view_after v (Line.Forwarded i m)).topic ≡ view.Place p to moves
-topic_at v i m t p to moves told receiver known =
-    ap (λ (o : Option Told). (view.forwarded_for (handled v i) (receiver_of o)).topic) told
-    ∙ ap (λ (q : Pid). view.forward_about q (v.known v.acting q)) receiver
-    ∙ ap (λ (k : Known). view.forward_about p k) known
+topic_at v i m t p to moves told receiver known = search
 
 -- between the parts of such a group: what its own message will be about, and its name
 record Ready (v : View) (a : About) (pt : Point) : Type 0 where
@@ -283,8 +262,7 @@ tells pt w id sender place back t q sane fit told receiver known is =
 -- it goes on, and its sender is told
 told_parts : (o : Point) (d : Step) (ps : List Part) (h : GoesOn o d ps) → is_told_back (plain_kind h.message.what) ≡ true
     → ps ≡ Says (Line.Forwarded h.id h.to) ∷ Again h.id h.to ∷ Owns MessageKind.Update h.message.sender (o.addresses (Sender h.id)).at ∷ []
-told_parts o d ps h back =
-    h.are ∙ ap (λ (c : Bool). Says (Line.Forwarded h.id h.to) ∷ Again h.id h.to ∷ (if c then Owns MessageKind.Update h.message.sender (o.addresses (Sender h.id)).at ∷ [] else [])) back
+told_parts o d ps h back = search
 
 -- where the group begins
 turn_fits : (v : View) (m : ℕ) → PairsFit v → PairsFit (view.after_head v (Step.Turn m))

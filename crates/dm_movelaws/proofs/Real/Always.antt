@@ -11,9 +11,7 @@ use Rattle.dm_rulelaws.proofs.Found.Core as core
 
 -- whom a machine knows
 agrees_made : (k : Known) (l : Option Life) → k ≢ Unknown → agrees k l ≡ true → is_some l ≡ true
-agrees_made k (Some l) some e = refl
-agrees_made Unknown None some e = absurd (some refl)
-agrees_made _ None some e = absurd (false≢true e)
+agrees_made k l some e = grind (arith, nat_tests)
 
 known_real : (b : Boot) (pt : Point) (n : ℕ) (p : Pid) → Run b pt → pt.view.known n p ≢ Unknown → IsReal pt.kernel p
 known_real b pt n p run some = elim (cases_Bool (is_server p)) [
@@ -26,22 +24,16 @@ zero_num n e = grind (arith, nat_tests)
 
 core_real : (b : Boot) (pt : Point) (q : Pid) → Run b pt → core.IsReal pt.kernel.machines pt.view q → IsReal pt.kernel q
 core_real b pt q run h = elim h [
-  | inl fixed ↦ elim (or_cases (q.num == 0) (is_server q) fixed.0) [
-    | inl num ↦ Kernel (zero_num q.num num) fixed.1
-    | inr server ↦ Server server
-  ]
+  | inl fixed ↦ grind (arith, nat_tests, or_cases, zero_num)
   | inr some ↦ known_real b pt q.home q run some
 ]
 
 -- whose number a sender counts
 counted_made : (s : OneKernel) (q : Pid) (n : ℕ) (l : Option Life) → s.processes q ≡ l → is_counted n l ≡ true → IsReal s q
-counted_made s q n None is e = absurd (false≢true e)
-counted_made s q n (Some l) is e = Made (ap is_some is)
+counted_made s q n l is e = grind (arith, nat_tests)
 
 counted_by : (s : OneKernel) (i : MsgId) (c d : Bool) → pid_eq i.from switchboard ≡ c → pid_eq i.from manager ≡ d → (if c then nat_lt i.n s.switchboard.sent else if d then nat_lt i.n s.manager.sent else is_counted i.n (s.processes i.from)) ≡ true → IsReal s i.from
-counted_by s i true d x y e = Server (ap (λ (t : Bool). t || pid_eq i.from manager) x)
-counted_by s i false true x y e = Server (ap (λ (t : Bool). t || pid_eq i.from manager) x ∙ y)
-counted_by s i false false x y e = counted_made s i.from i.n (s.processes i.from) refl e
+counted_by s i c d x y e = grind (arith, nat_tests, counted_made)
 
 counted_real : (s : OneKernel) (i : MsgId) → counts s i ≡ true → IsReal s i.from
 counted_real s i e = counted_by s i (pid_eq i.from switchboard) (pid_eq i.from manager) refl refl e
@@ -67,13 +59,10 @@ inbox_told b pt run m i is at =
     run.found.told i (Inbox m) (let a : times i (pt.view.inbox m) ≡ times i (i ∷ is) = ap (times i) at in let c = times_self i is in subst (λ (n : ℕ). 1 ≤ n) (sym a) c)
 
 pub head_less : (n : ℕ) (d : Step) → IsStep n d → actor d < n
-head_less n (Step.Deliver a b k) h = h.1
-head_less n (Step.Migrate p m) h = omega (arith, h)
-head_less n _ h = h
+head_less n d h = grind (arith, nat_tests)
 
 head_topic : (s : OneKernel) (v : View) (d : Step) → IsAboutReal s (after_head v d).topic
-head_topic s v (Step.Turn m) = tt
-head_topic s v _ = tt
+head_topic s v d = grind (arith, nat_tests)
 
 begins_real : (b : Boot) (pt : Point) (d : Step) → IsStep pt.kernel.machines d → Run b pt → RealAt pt → Reals pt (begun pt d)
 begins_real b pt d fit run h =
@@ -97,19 +86,11 @@ real_group b pt d w fit e run h =
 
 -- a run
 start_real : (b : Boot) → RealAt (first_point b)
-start_real b = record {
-  own = λ i t e mine. absurd (let f : None ≡ Some t = e in cc);
-  receiver = λ i t e other. absurd (let f : None ≡ Some t = e in cc);
-  about = λ i t e. absurd (let f : None ≡ Some t = e in cc);
-}
+start_real b = grind (arith, nat_tests)
 
 -- a child that is named was made
 child_made : (s : OneKernel) (i : MsgId) (m : PlainMessage) (w : PlainWhat) (p : Pid) → w ≡ PlainWhat.Created p → WhatFits s i m w → IsReal s p
-child_made s i m w p is fits = made (s.processes p) refl (subst (WhatFits s i m) is fits).3
-  where
-    made : (l : Option Life) → s.processes p ≡ l → has_bytes 0 l ≡ true → IsReal s p
-    made (Some l) at e = Made (ap is_some at)
-    made None at e = absurd (false≢true e)
+child_made s i m w p is fits = grind (arith, nat_tests)
 
 -- wherever the rule leads
 pub real_always : RealAlways

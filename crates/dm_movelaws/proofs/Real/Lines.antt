@@ -134,18 +134,13 @@ rises_on : (s t u : OneKernel) → Rises s t → Rises t u → Rises s u
 rises_on s t u h k = record { machines = k.machines ∙ h.machines; made = λ q e. k.made q (h.made q e) }
 
 real_rises : (s t : OneKernel) (q : Pid) → Rises s t → IsReal s q → IsReal t q
-real_rises s t q h (Kernel num home) = Kernel num (subst (λ (k : ℕ). q.home < k) (sym h.machines) home)
-real_rises s t q h (Server e) = Server e
-real_rises s t q h (Made e) = Made (h.made q e)
+real_rises s t q h e = grind (arith, nat_tests)
 
 about_rises : (s t : OneKernel) (a : About) → Rises s t → IsAboutReal s a → IsAboutReal t a
-about_rises s t (Of p) h e = real_rises s t p h e
-about_rises s t (view.Place p at moves) h e = real_rises s t p h e
-about_rises s t _ h e = tt
+about_rises s t a h e = grind (arith, nat_tests, real_rises)
 
 pub made_by : (a b : Option Life) → LifeGrows a b → is_some a ≡ true → is_some b ≡ true
-made_by a (Some l) g e = refl
-made_by a None g e = absurd (false≢true (sym (ap is_some (grown_none a None g refl)) ∙ e))
+made_by a b g e = grind (arith, nat_tests, grown_none)
 
 step_rises : (r e : MsgId → ℕ) (s t : OneKernel) (o : Option Label) → kernel_after s o ≡ Some t → Sound r e s → KernelFits s → Rises s t × KernelFits t
 step_rises r e s t None is h fits = let f : s ≡ t = cc in subst (λ (u : OneKernel). Rises s u × KernelFits u) f (rises_same s, fits)
@@ -153,18 +148,13 @@ step_rises r e s t (Some l) is h fits =
     (record { machines = (step_constant s t l is).machines; made = λ q some. made_by (s.processes q) (t.processes q) ((after_step r e s t l is h).grown.lives q) some }, fits_step r e s t l is h fits)
 
 has_made : (s : OneKernel) (q : Pid) (n : ℕ) (l : Option Life) → s.processes q ≡ l → has_bytes n l ≡ true → IsReal s q
-has_made s q n (Some l) is e = Made (ap is_some is)
-has_made s q n None is e = absurd (false≢true e)
+has_made s q n l is e = grind (arith, nat_tests)
 
 waits_made : (s : OneKernel) (q : Pid) (n : ℕ) (w : PlainWhat) (l : Option Life) → s.processes q ≡ l → awaits l n w ≡ true → IsReal s q
-waits_made s q n w (Some l) is e = Made (ap is_some is)
-waits_made s q n w None is e = absurd (false≢true e)
+waits_made s q n w l is e = grind (arith, nat_tests)
 
 pub receiver_real : (s : OneKernel) (i : MsgId) (m : PlainMessage) (w : PlainWhat) → WhatFits s i m w → IsReal s m.to
-receiver_real s i m (PlainWhat.User z1 z2 z3 z4) e = elim (or_cases (is_server m.to) (has_bytes 0 (s.processes m.to)) e.0) [
-  | inl server ↦ Server server
-  | inr has ↦ has_made s m.to 0 (s.processes m.to) refl has
-]
+receiver_real s i m (PlainWhat.User z1 z2 z3 z4) e = grind (arith, nat_tests, or_cases, has_made)
 receiver_real s i m (PlainWhat.Read base len) e = has_made s m.to _ (s.processes m.to) refl e.0
 receiver_real s i m (PlainWhat.Write base bytes) e = has_made s m.to _ (s.processes m.to) refl e.0
 receiver_real s i m (PlainWhat.Block bytes) e = subst (IsReal s) (sym e.0) (waits_made s i.from i.n (PlainWhat.Block bytes) (s.processes i.from) refl e.1)
@@ -193,20 +183,17 @@ abbrev pub Receivers : Point → Type 0
 Receivers o = (i : MsgId) (t : Told) → o.view.told i ≡ Some t → IsReal o.kernel t.receiver
 
 forward_real : (s : OneKernel) (p : Pid) (k : Known) → IsReal s p → IsAboutReal s (view.forward_about p k)
-forward_real s p (Forward at moves) h = h
-forward_real s p _ h = tt
+forward_real s p k h = grind (arith, nat_tests)
 
 forwarded_real : (s : OneKernel) (v : View) (q : Option Told) → ((t : Told) → q ≡ Some t → IsReal s t.receiver) → IsAboutReal s v.topic → IsAboutReal s (view.forwarded_for v (receiver_of q)).topic
 forwarded_real s v None h e = e
 forwarded_real s v (Some t) h e = forward_real s t.receiver (v.known v.acting t.receiver) (h t refl)
 
 proto_real : (s : OneKernel) (v : View) (q : Option Told) → ((t : Told) → q ≡ Some t → IsAboutReal s t.about) → IsAboutReal s (view.after_proto v q).topic
-proto_real s v None h = tt
-proto_real s v (Some t) h = h t refl
+proto_real s v q h = grind (arith, nat_tests)
 
 told_at : (o pt : Point) (i : MsgId) (q : Option Told) (t : Told) → o.view.told i ≡ q → is_some q ≡ true → Reals o pt → pt.view.told i ≡ Some t → o.view.told i ≡ Some t
-told_at o pt i None t is some h e = absurd (false≢true some)
-told_at o pt i (Some u) t is some h e = let f : Some u ≡ Some t = sym (h.kept i u is) ∙ e in is ∙ f
+told_at o pt i q t is some h e = grind (arith, nat_tests)
 
 line_topic : (o pt : Point) (l : Line) → Receivers o → LineReal o l → Reals o pt → IsAboutReal pt.kernel (view_after pt.view l).topic
 line_topic o pt (Line.Migration Stage.Frozen p) known need h = real_rises o.kernel pt.kernel p h.rises need
@@ -228,12 +215,10 @@ line_topic o pt (Line.Put a b i k q) known need h = absurd need
 line_topic o pt _ known need h = h.topic
 
 no_put : (o : Point) (l : Line) → LineReal o l → is_put l ≡ false
-no_put o (Line.Put a b i k q) h = absurd h
-no_put o l h = refl
+no_put o l h = grind (arith, nat_tests)
 
 no_head : (o : Point) (n : ℕ) (l : Line) → LineReal o l → HeadIn n l
-no_head o n (Line.Head d) h = absurd h
-no_head o n l h = tt
+no_head o n l h = grind (arith, nat_tests)
 
 line_reals : (o pt : Point) (t : OneKernel) (l : Line) → Receivers o → LineReal o l → kernel_after pt.kernel (label_of l) ≡ Some t → Sane pt → Reals o pt → Reals o (moved pt l t)
 line_reals o pt t l known need is sane h =
@@ -254,22 +239,13 @@ line_reals o pt t l known need is sane h =
 
 -- a put
 first_or : (q : Option Told) (u t : Told) → Some (view.first_told q u) ≡ Some t → (q ≡ Some t) ⊎ ((q ≡ None) × (u ≡ t))
-first_or None u t e = inr (refl, (let f : u ≡ t = cc in f))
-first_or (Some s) u t e = inl e
+first_or q u t e = grind (arith, nat_tests)
 
 abbrev put_of : View → MessageKind → Pid → Told
 put_of v k q = record { kind = k; receiver = q; about = v.topic }
 
 put_or : (v : View) (a b : ℕ) (i : MsgId) (k : MessageKind) (q : Pid) (j : MsgId) (t : Told) → (after_put v a b i k q).told j ≡ Some t → (v.told j ≡ Some t) ⊎ ((i ≡ j) × (v.told i ≡ None) × (put_of v k q ≡ t))
-put_or v a b i k q j t e = elim (cases_Bool (id_eq i j)) [
-  | inl same ↦
-      let ij : i ≡ j = id_eq-is i j same in
-      elim (first_or (v.told i) (put_of v k q) t (sym (put_at v a b i k q) ∙ ap (after_put v a b i k q).told ij ∙ e)) [
-        | inl old ↦ inl (ap v.told (sym ij) ∙ old)
-        | inr new ↦ inr (ij, new.0, new.1)
-      ]
-  | inr apart ↦ inl (sym (put_told_off v a b i j k q apart) ∙ e)
-]
+put_or v a b i k q j t e = grind (arith, nat_tests, id_eq-is, first_or, put_at, put_told_off)
 
 -- what is put for the first time is a kernel's own, or for somebody
 record Puts (pt : Point) (i : MsgId) (q : Pid) : Type 0 where
@@ -301,16 +277,7 @@ put_reals o pt b i k q new h =
     }
 
 packet_reals : (o : Point) → PacketsKeep (Reals o)
-packet_reals o pt a b k l h = record {
-  within = line_within pt.kernel.machines pt.view (Line.Packet a b k l) tt h.within;
-  fits = h.fits;
-  rises = h.rises;
-  kept = h.kept;
-  own = h.own;
-  receiver = h.receiver;
-  about = h.about;
-  topic = h.topic;
-}
+packet_reals o pt a b k l h = search line_within
 
 -- a part
 reals_behind : (o pt : Point) (p : Part) → Receivers o → PartReal o p → Sane pt → Reals o pt → Behind (Reals o) pt p
