@@ -6,7 +6,6 @@ pub mod Moving
 pub mod Open
 pub mod Rows
 pub mod Sends
-pub mod Steps
 pub mod Hears
 pub mod Groups
 pub mod Sources

@@ -1,13 +1,12 @@
 -- The end lines say of each process once whether it lives.
-use Rattle.dm_movelaws.proofs.Names.{◌≡◌, ◌≢◌, ◌⊎◌, ℕ, zero, suc, ◌+◌, ◌<◌, ◌≤◌, ◌==◌, ◌||◌, Bool, true, false, is_some, nat_le, List, [], ◌∷◌, ◌++◌, length, refl, ap, ◌∙◌, sym, subst, inl, inr, arith, ◌*◌, ◌/◌, if◌then◌else◌, take, drop}
-use Rattle.dm_movelaws.proofs.Names.{Option, None, Some, cases_Bool, nat_tests, append-nil, filter-append, Pid, pid_of, pid_eq, PlainLink, MsgId, Boot, first_number, switchboard, manager, PlainProcess, Life, Alive, NamedLink, Pending}
-use Rattle.dm_movelaws.proofs.Names.{pid_eq-is, pid_eq-same, EndLine, trimmed, block_line, memory_lines, home_with, each_machine, list_line, Addresses, Stood, standing_of, first_with, stood, doing_of, slot_line, link_lines, state_lines}
-use Rattle.dm_movelaws.proofs.Names.{alive_lines, process_lines, homes_with, each_process, name_lines, child_lines, pending_lines, queue_at, queue_lines, holding_lines, inbox_lines, stream_lines, server_lines, end_lines, Point, untaken}
-use Rattle.dm_movelaws.proofs.Names.{View, is_server, Run, run_always, tells_life, life_lines, IsSaid, LivesAreSaid, not, ◌&&◌, false≢true, MessageKind, Standing, or, stood_at, Phase, Nowhere, Rests, Over, Moves, IsIn, knows, is_unknown}
-use Rattle.dm_movelaws.proofs.Names.{is_here, is_over, is_restart, is_early, Known, Unknown, Here, Frozen, Incoming, Forward, agrees, living, stands_by, IsPlace}
+use Rattle.dm_movelaws.proofs.Names.{◌≡◌, ◌≢◌, ◌⊎◌, ℕ, zero, suc, ◌+◌, ◌<◌, ◌≤◌, ◌==◌, ◌||◌, Bool, true, false, is_some, nat_le, List, [], ◌∷◌, ◌++◌, refl, ap, ◌∙◌, sym, subst, inl, inr, arith, if◌then◌else◌, Option, None, Some, cases_Bool}
+use Rattle.dm_movelaws.proofs.Names.{nat_tests, append-nil, filter-append, Pid, pid_of, pid_eq, PlainLink, MsgId, Boot, first_number, switchboard, manager, PlainProcess, Life, Alive, NamedLink, Pending, pid_eq-is, pid_eq-same, EndLine}
+use Rattle.dm_movelaws.proofs.Names.{block_line, memory_lines, home_with, each_machine, list_line, Addresses, Stood, standing_of, first_with, stood, doing_of, slot_line, link_lines, state_lines, alive_lines, process_lines, homes_with}
+use Rattle.dm_movelaws.proofs.Names.{each_process, name_lines, child_lines, pending_lines, queue_at, queue_lines, holding_lines, inbox_lines, stream_lines, server_lines, end_lines, Point, View, is_server, Run, run_always, tells_life}
+use Rattle.dm_movelaws.proofs.Names.{life_lines, IsSaid, LivesAreSaid, not, ◌&&◌, false≢true, MessageKind, Standing, or, Phase, Nowhere, Rests, Over, Moves, IsIn, knows, is_here, is_restart, is_early, Known, Unknown, Here, Frozen, Forward}
+use Rattle.dm_movelaws.proofs.Names.{agrees, living, stands_by, IsPlace}
 use Rattle.dm_rule.specs.Ends.{awaits}
 use Rattle.dm_movelaws.proofs.At.RestAlways.{is_unknown_is as unknown_by}
-use Rattle.dm_movelaws.proofs.Trail.Known.{over_is as over_by}
 use Rattle.dm_movelaws.proofs.Stages.Spares.{restart_late}
 use Rattle.dm_onekernel.specs.Step as kernel
 use Rattle.dm_rule.specs.Phases as phases

@@ -1,6 +1,6 @@
 -- The numbers in names of messages are below the counts of their senders.
-use Rattle.dm_movelaws.proofs.Names.{◌≡◌, ℕ, ◌<◌, ◌≤◌, Bool, true, false, nat_lt, refl, ap, ◌∙◌, sym, inl, inr, arith, if◌then◌else◌, None, Some, cases_Bool, nat_tests, Pid, pid_of, pid_eq, MsgId, id_of, PlainMessage, switchboard, manager}
-use Rattle.dm_movelaws.proofs.Names.{OneKernel, in_bag, is_counted, counts, pid_eq-same, Sound, not_server, counts_process, Point, Told, is_kernels, Sane, run_always, IsBelow, NumbersAlways, cases_zero}
+use Rattle.dm_movelaws.proofs.Names.{◌≡◌, ℕ, ◌<◌, true, false, nat_lt, refl, ap, ◌∙◌, sym, inl, inr, arith, None, Some, nat_tests, pid_of, MsgId, id_of, PlainMessage, OneKernel, in_bag, is_counted, counts, pid_eq-same, Sound, not_server}
+use Rattle.dm_movelaws.proofs.Names.{counts_process, Point, Told, is_kernels, Sane, run_always, IsBelow, NumbersAlways, cases_zero}
 
 -- what has entered is counted
 below : (r e : MsgId → ℕ) (s : OneKernel) (i : MsgId) → Sound r e s → counts s i ≡ true → IsBelow s i

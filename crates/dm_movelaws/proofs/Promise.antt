@@ -4,7 +4,6 @@ pub mod Slots
 pub mod Before
 pub mod Kept
 pub mod Spots
-pub mod Stands
 pub mod Parts
 pub mod Told
 pub mod Groups

@@ -1,5 +1,5 @@
 -- Each message of a migration that stands anywhere is the one that is under way of a process that moves.
-use Rattle.dm_movelaws.proofs.Names.{◌≡◌, ℕ, ap, ◌∙◌, sym, subst, Some, Pid, MsgId, MessageKind, Moves, IsIn, told_between, View, Told, token_is, run_always, ProtocolMoves}
+use Rattle.dm_movelaws.proofs.Names.{◌≡◌, ℕ, subst, Some, Pid, MsgId, MessageKind, Moves, IsIn, View, Told, token_is, run_always, ProtocolMoves}
 
 -- what was told of the message says its kind
 kind_is : (v : View) (p : Pid) (i : MsgId) (t : Told) (k : MessageKind) (s d : ℕ) → v.told i ≡ Some t → IsIn v p (Moves k s d (Some i)) → k ≡ t.kind

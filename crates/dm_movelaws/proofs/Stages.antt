@@ -5,5 +5,4 @@ pub mod Lines
 pub mod Hears
 pub mod Rows
 pub mod Steps
-pub mod Told
 pub mod Always

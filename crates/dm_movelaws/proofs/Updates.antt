@@ -1,4 +1,3 @@
 -- Lemmas of the family Updates, by file.
 pub mod Groups
-pub mod Listed
 pub mod Always

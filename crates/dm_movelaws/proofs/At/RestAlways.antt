@@ -1,12 +1,10 @@
 -- Where nothing is on its way between machines all is at rest.
-use Rattle.dm_movelaws.proofs.Names.{◌≡◌, ◌≢◌, ℕ, ◌+◌, ◌<◌, ◌≤◌, ◌==◌, ◌||◌, Bool, true, false, is_some, List, [], ◌∷◌, drop, refl, ap, ◌∙◌, sym, subst, inl, inr, nat_lt, nat_le, arith, if◌then◌else◌, drop-length, drop-nil, cases_Bool}
-use Rattle.dm_movelaws.proofs.Names.{false≢true, nat_tests, Option, None, Some, Pid, pid_eq, MsgId, MessageKind, PlainMessage, Boot, manager, Alive, PlainProcess, id_eq-same, not_server, Receiver, to_of, Phase, Nowhere, Rests, Over, Moves}
-use Rattle.dm_movelaws.proofs.Names.{is_unknown, is_here, is_over, is_away, is_due, IsToken, IsIn, Point, IsQuiet, Spot, Queue, Held, Inbox, Untaken, times, untaken, standing, View, Known, Unknown, Here, Frozen, Incoming, Ended, is_kernels}
-use Rattle.dm_movelaws.proofs.Names.{stands_right, kernels_fresh, phases_always, AtRestAlways, IsAt, IsWaiting, is_moving, is_server, has_no_queue, has_nothing_held, agrees, Run, run_always, told_of, eq_self, own_by, user_kind, machine_of}
+use Rattle.dm_movelaws.proofs.Names.{◌≡◌, ◌≢◌, ℕ, ◌<◌, ◌≤◌, ◌||◌, Bool, true, false, is_some, List, [], ◌∷◌, drop, refl, ap, ◌∙◌, sym, subst, inl, inr, nat_lt, arith, if◌then◌else◌, drop-length, drop-nil, cases_Bool, false≢true, nat_tests}
+use Rattle.dm_movelaws.proofs.Names.{Option, None, Some, Pid, pid_eq, MsgId, MessageKind, PlainMessage, Boot, manager, Alive, PlainProcess, id_eq-same, not_server, Receiver, to_of, Phase, Nowhere, Rests, Over, Moves, is_unknown, is_here}
+use Rattle.dm_movelaws.proofs.Names.{is_over, is_away, is_due, IsToken, IsIn, Point, IsQuiet, Spot, Queue, Held, Inbox, Untaken, times, untaken, standing, View, Known, Unknown, Here, Ended, is_kernels, stands_right, kernels_fresh}
+use Rattle.dm_movelaws.proofs.Names.{phases_always, AtRestAlways, IsAt, IsWaiting, is_moving, is_server, has_no_queue, has_nothing_held, agrees, Run, run_always, told_of, eq_self, own_by, user_kind, machine_of}
 use Rattle.dm_movelaws.proofs.At.RestPairs.{Routed, routed_always}
 use Rattle.dm_movelaws.proofs.At.RestQueues.{Dropped, dropped_always}
-use Rattle.dm_movelaws.proofs.Ends.Moving.{unknown_rests as unknown_still, here_rests as here_still, over_rests as over_still, away_rests as away_still, at_rests as rests_still, at_over as ends_still}
-use Rattle.dm_rule.specs.Phases as phases
 
 within_by : (b : Boot) (pt : Point) (i : MsgId) (z : Spot) (o : Option PlainMessage) → pt.kernel.bag i ≡ o → Run b pt → 1 ≤ standing pt.view i z → (pt.addresses (Receiver i)).at < pt.kernel.machines
 within_by b pt i z (Some x) there h least = h.found.within (Receiver i) x.to (ap to_of there)

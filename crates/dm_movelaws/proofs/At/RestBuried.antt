@@ -1,12 +1,9 @@
 -- Where a process has ended nothing comes to its queue: each group keeps it.
-use Rattle.dm_movelaws.proofs.Names.{◌≡◌, ℕ, ◌+◌, ◌==◌, Bool, true, false, List, [], ◌∷◌, ◌++◌, refl, ap, ◌∙◌, sym, subst, inl, inr, if◌then◌else◌, cases_Bool, false≢true, Option, None, Some, Pid, MsgId, Boot, Label, Line, Stage}
-use Rattle.dm_movelaws.proofs.Names.{PlainProcess, Life, Alive, OneKernel, Step, LifeGrows, after_step, Spelled, is_away, Point, kernel_after, label_of, group_of, at_record, without_id, without_front, View, Told, Known, Unknown, Here}
-use Rattle.dm_movelaws.proofs.Names.{Frozen, Incoming, Ended, handled, receiver_of, served_told, view_after, target_of, front_told, front_of, gone_to, Phased, Sane, is_server, KnownStands, agrees, group_keeps, Loud, keeps_by, set_all}
-use Rattle.dm_movelaws.proofs.Names.{killed_or}
+use Rattle.dm_movelaws.proofs.Names.{◌≡◌, ℕ, ◌+◌, Bool, true, false, List, [], ◌∷◌, ◌++◌, refl, ap, ◌∙◌, sym, subst, if◌then◌else◌, false≢true, Option, None, Some, Pid, MsgId, Boot, Label, Line, Stage, PlainProcess, Life, Alive, OneKernel}
+use Rattle.dm_movelaws.proofs.Names.{Step, LifeGrows, after_step, Spelled, is_away, Point, kernel_after, label_of, group_of, at_record, without_id, without_front, View, Told, Known, Unknown, Here, Frozen, Incoming, Ended, handled}
+use Rattle.dm_movelaws.proofs.Names.{receiver_of, served_told, view_after, target_of, front_told, front_of, gone_to, Phased, Sane, KnownStands, agrees, group_keeps, Loud, keeps_by, set_all, killed_or, nat_tests, arith}
 use Rattle.dm_onekernel.specs.Step as kernel
 use Rattle.dm_rule.specs.View as view
-use Rattle.dm_movelaws.proofs.Names.{nat_tests}
-use Rattle.dm_movelaws.proofs.Names.{arith}
 
 abbrev pub Knows : Type 0
 Knows = ℕ → Pid → Known

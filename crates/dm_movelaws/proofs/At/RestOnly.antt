@@ -1,16 +1,11 @@
 -- A process ends only where a group says so.
-use Rattle.dm_movelaws.proofs.Names.{◌≡◌, ℕ, ◌+◌, ◌==◌, Bool, true, false, not, filter, List, [], ◌∷◌, length, refl, ap, ◌∙◌, sym, subst, if◌then◌else◌, false≢true, Option, None, Some, Pid, MsgId, MessageKind, Load, plain_kind, Label}
-use Rattle.dm_movelaws.proofs.Names.{bind-is, Step, Line, Stage, Receiver, migrates, Part, Says, Routes, Again, Owns, Transmits, Spelled, lines_of, puts, goes_out, packet_line, spelled, Point, after_line, after, at_record, View, Told}
-use Rattle.dm_movelaws.proofs.Names.{About, NothingElse, Known, Here, Frozen, Incoming, Ended, view_after, handled, receiver_of, IsNetLine, IsNet, line_view, set_all, by_migrates, by_parts, ◌++◌, ⊤, PlainMessage, Boot, manager, Addresses}
-use Rattle.dm_movelaws.proofs.Names.{forwards_on, sends_on, is_kill, Sane, by_hears, by_round, by_handles, by_forwards}
+use Rattle.dm_movelaws.proofs.Names.{◌≡◌, ℕ, ◌+◌, Bool, true, false, List, [], ◌∷◌, refl, ap, ◌∙◌, sym, false≢true, Option, None, Some, Pid, MsgId, MessageKind, plain_kind, Label, Step, Line, Stage, migrates, Part, Says, Routes, Spelled}
+use Rattle.dm_movelaws.proofs.Names.{spelled, Point, at_record, View, Told, Known, Here, Frozen, Incoming, Ended, view_after, handled, receiver_of, IsNetLine, IsNet, set_all, by_migrates, ◌++◌, ⊤, PlainMessage, Boot, manager, Addresses}
+use Rattle.dm_movelaws.proofs.Names.{forwards_on, sends_on, is_kill, Sane, by_hears, by_round, by_handles, by_forwards, queued_known, held_known, forwarded_known, proto_known, nat_tests, arith}
 use Rattle.dm_movelaws.proofs.At.RestBuried.{Knows}
 use Rattle.dm_movelaws.proofs.Leading.{Behind, whatever_put, parts_lead, net_says, All, Saying}
 use Rattle.dm_rule.specs.View as view
-use Rattle.dm_rule.specs.Migrating as migrating
 use Rattle.dm_rule.specs.Rule as rule
-use Rattle.dm_movelaws.proofs.Names.{queued_known, held_known, forwarded_known, proto_known}
-use Rattle.dm_movelaws.proofs.Names.{nat_tests}
-use Rattle.dm_movelaws.proofs.Names.{arith}
 
 -- no process ends by such a line
 abbrev pub is_ending : Line → Bool

@@ -1,12 +1,9 @@
 -- No message goes from a machine that there isn't.
-use Rattle.dm_movelaws.proofs.Names.{◌≡◌, ℕ, ◌+◌, ◌<◌, ◌≤◌, ◌==◌, ◌&&◌, Bool, true, false, not, filter, List, [], ◌∷◌, ◌++◌, length, refl, ap, ◌∙◌, sym, subst, arith, ⊤, if◌then◌else◌, slice_get, false≢true, nat_tests, Some, Pid, MsgId}
-use Rattle.dm_movelaws.proofs.Names.{MessageKind, plain_kind, Boot, IsValid, bind-is, Step, Line, Load, Stage, Receiver, IsStep, Leads, migrates, Part, Says, Routes, Again, Owns, Transmits, Spelled, lines_of, puts, goes_out, packet_line}
-use Rattle.dm_movelaws.proofs.Names.{spelled, Point, first_point, moved, after_line, after, group_of, at_pair, View, Pair, NothingElse, view_after, after_head, after_put, with_pair, handled, receiver_of, IsNetLine, IsNet, group_is}
-use Rattle.dm_movelaws.proofs.Names.{arrives_net, resends_net, acting_label, AllFit, touches, pair_same, taken_pair, line_view, migrates_fit, turns_fit, constant_group, acting_taken, proto_acting, queued_acting, held_acting}
-use Rattle.dm_movelaws.proofs.Names.{forwarded_acting, by_parts}
+use Rattle.dm_movelaws.proofs.Names.{◌≡◌, ℕ, ◌+◌, ◌<◌, ◌≤◌, Bool, true, false, List, [], ◌∷◌, ◌++◌, length, refl, subst, arith, if◌then◌else◌, nat_tests, Some, Pid, MsgId, MessageKind, Boot, IsValid, Step, Line, Load, Stage, IsStep, Leads}
+use Rattle.dm_movelaws.proofs.Names.{Part, Spelled, spelled, Point, first_point, moved, group_of, at_pair, View, Pair, view_after, after_head, after_put, IsNetLine, group_is, acting_label, touches, pair_same, taken_pair, acting_taken}
+use Rattle.dm_movelaws.proofs.Names.{proto_acting, queued_acting, held_acting, forwarded_acting}
 use Rattle.dm_movelaws.proofs.Leading.{All, Behind, whatever_put, parts_lead, Saying, outcome_says}
 use Rattle.dm_movelaws.proofs.After.{keeps_always}
-use Rattle.dm_rule.specs.Rule as rule
 use Rattle.dm_rule.specs.View as view
 
 pub record Routed (n : ℕ) (v : View) : Type 0 where

@@ -1,8 +1,8 @@
 -- Where a process has ended no message is queued for it.
-use Rattle.dm_movelaws.proofs.Names.{◌≡◌, ◌⊎◌, ℕ, ◌≤◌, ◌==◌, ◌&&◌, Bool, true, false, List, [], ◌∷◌, refl, ap, ◌∙◌, sym, subst, inl, inr, arith, if◌then◌else◌, slice_get, cases_Bool, false≢true, nat_tests, Option, None, Some, Pid, pid_eq}
-use Rattle.dm_movelaws.proofs.Names.{MsgId, MessageKind, Boot, Label, id_eq-same, pid_eq-same, Step, Line, migrates, Part, Says, Spelled, spelled, Point, moved, group_of, at_record, without_front, times, View, Told, Ended, view_after}
-use Rattle.dm_movelaws.proofs.Names.{handled, receiver_of, PlainMessage, IsValid, Leads, first_point, Spot, Queue, Inbox, standing, StandsNowhere, StandsOutside, StandsRight, is_kernels, group_is, arrives_net, resends_net, stands_right}
-use Rattle.dm_movelaws.proofs.Names.{kernels_fresh, not_true, is_kill, says_next, DropsAlways, killed_or, stands_first, Both, both_start, both_group, Run, run_start, run_group, times_self, told_of, more_front}
+use Rattle.dm_movelaws.proofs.Names.{◌≡◌, ◌⊎◌, ℕ, ◌≤◌, ◌==◌, ◌&&◌, true, false, List, [], ◌∷◌, refl, ap, ◌∙◌, sym, subst, inl, inr, arith, cases_Bool, false≢true, nat_tests, Option, None, Some, Pid, pid_eq, MsgId, MessageKind, Boot, Label}
+use Rattle.dm_movelaws.proofs.Names.{id_eq-same, pid_eq-same, Step, Line, Part, Says, Spelled, spelled, Point, moved, group_of, at_record, times, View, Told, Ended, view_after, handled, PlainMessage, IsValid, Leads, first_point, Spot}
+use Rattle.dm_movelaws.proofs.Names.{Queue, Inbox, standing, StandsRight, is_kernels, group_is, arrives_net, resends_net, stands_right, kernels_fresh, not_true, is_kill, says_next, DropsAlways, killed_or, stands_first, Run, told_of}
+use Rattle.dm_movelaws.proofs.Names.{more_front}
 use Rattle.dm_movelaws.proofs.At.RestBuried.{Knows, buried_group}
 use Rattle.dm_movelaws.proofs.At.RestOnly.{AllStay, LineEnds, LastEnds, Ends, Once, Runs, turns_ends, Only, only_as, parts_only, nets_stay, migrates_stay}
 use Rattle.dm_movelaws.proofs.After.{keeps_always}

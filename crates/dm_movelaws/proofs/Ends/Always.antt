@@ -1,7 +1,7 @@
 -- Wherever the rule leads, each directive to move a process has at most one end, and one where nothing is on its way.
-use Rattle.dm_movelaws.proofs.Names.{◌≡◌, ℕ, ◌+◌, ◌==◌, ◌&&◌, ◌||◌, Bool, true, false, List, [], ◌∷◌, length, refl, ap, ◌∙◌, sym, subst, inl, inr, arith, if◌then◌else◌, None, Some, false≢true, Pid, pid_eq, MsgId, Boot, BootProcess, IsValid}
-use Rattle.dm_movelaws.proofs.Names.{switchboard, manager, Step, Line, IsStep, Point, first_point, IsQuiet, Known, Unknown, Here, known_at, first_view, fits, LeadsBy, Both, both_start, both_group, run_start, run_group, is_moving, asks}
-use Rattle.dm_movelaws.proofs.Names.{ends, count, EndsAlways, nat_tests}
+use Rattle.dm_movelaws.proofs.Names.{◌≡◌, ℕ, ◌+◌, ◌==◌, ◌&&◌, ◌||◌, Bool, true, false, List, [], ◌∷◌, length, refl, ap, subst, arith, if◌then◌else◌, None, Some, Pid, pid_eq, MsgId, Boot, BootProcess, IsValid, switchboard, manager, Step}
+use Rattle.dm_movelaws.proofs.Names.{Line, IsStep, Point, first_point, IsQuiet, Known, Unknown, Here, known_at, first_view, fits, LeadsBy, Both, both_start, both_group, run_start, run_group, is_moving, asks, ends, count, EndsAlways}
+use Rattle.dm_movelaws.proofs.Names.{nat_tests}
 use Rattle.dm_movelaws.proofs.Ends.Lines.{Extends}
 use Rattle.dm_movelaws.proofs.Ends.Moving.{moving_in, waits_or}
 use Rattle.dm_movelaws.proofs.Ends.Open.{Opens}

@@ -1,19 +1,17 @@
 -- What each group does with requests to move a process: directives and ends are counted against those that are under way.
-use Rattle.dm_movelaws.proofs.Names.{◌≡◌, ℕ, ◌+◌, Bool, true, List, [], ◌∷◌, length, refl, ap, ◌∙◌, sym, subst, inl, inr, arith, if◌then◌else◌, Option, Some, cases_Bool, Pid, pid_eq, MsgId, MessageKind, Boot, bind, Step, bind-is, Line}
-use Rattle.dm_movelaws.proofs.Names.{Child, migrates, View, Told, after_head, after_put, view_after, own_id, Point, moved, after, Part, Says, Owns, Spelled, lines_of, behind, spelled, group_of, IsNet, front_way, Phased, told_some}
-use Rattle.dm_movelaws.proofs.Names.{put_spots, put_at, head_calm, put_there, put_spot, InPhases, calm_phases, PairsFit, PacketsKeep, put_told_off, said, Sane, KnownStands, Begins, begins, WalksOf, loose_walks, begun, begun_sane, turned}
-use Rattle.dm_movelaws.proofs.Names.{resting, round_walks, handles_walks, asks, ends, count, first_none, by_migrates, by_outcome, group_is, None, false, label_of, nat_tests}
-use Rattle.dm_movelaws.proofs.Ends.Lines.{is_migrate, Extends, Smooth, Still, plain_in_bag, own_untold, smooth_same, Tame, still_same}
+use Rattle.dm_movelaws.proofs.Names.{◌≡◌, ℕ, ◌+◌, Bool, true, List, [], ◌∷◌, length, refl, ap, ◌∙◌, sym, subst, inl, inr, arith, if◌then◌else◌, Option, Some, cases_Bool, Pid, pid_eq, MsgId, MessageKind, Boot, Step, Line, Child, migrates}
+use Rattle.dm_movelaws.proofs.Names.{View, Told, after_head, after_put, view_after, own_id, Point, Part, Says, Owns, Spelled, behind, spelled, group_of, IsNet, front_way, Phased, told_some, put_spots, put_at, head_calm, put_there, put_spot}
+use Rattle.dm_movelaws.proofs.Names.{InPhases, calm_phases, PairsFit, PacketsKeep, put_told_off, said, Sane, KnownStands, Begins, begins, WalksOf, loose_walks, begun, begun_sane, turned, resting, round_walks, handles_walks, asks, ends}
+use Rattle.dm_movelaws.proofs.Names.{count, first_none, by_migrates, by_outcome, group_is, None, false, label_of, nat_tests}
+use Rattle.dm_movelaws.proofs.Ends.Lines.{is_migrate, Extends, Still, plain_in_bag, own_untold, smooth_same, Tame, still_same}
 use Rattle.dm_movelaws.proofs.Ends.Net.{head_smooth, net_level, net_asks, net_ends}
-use Rattle.dm_movelaws.proofs.Ends.Parts.{packet_smooth, one_if, unit_if, zero_if, parts_count, asks_silent, ends_silent, round_quiet, handles_quiet}
+use Rattle.dm_movelaws.proofs.Ends.Parts.{packet_smooth, one_if, zero_if, parts_count, asks_silent, ends_silent, round_quiet, handles_quiet}
 use Rattle.dm_movelaws.proofs.Ends.Moving.{moving_in, still_moves}
 use Rattle.dm_movelaws.proofs.Ends.Open.{Opens, Adds, Balance, level_balance, smooth_opens, add_opens}
 use Rattle.dm_movelaws.proofs.Ends.Rows.{Turn, Comes, line_alone, quiet_row, and_off}
-use Rattle.dm_movelaws.proofs.Ends.Steps.{ComesOf}
-use Rattle.dm_movelaws.proofs.Ends.Hears.{hears_comes}
-use Rattle.dm_movelaws.proofs.Leading.{puts_lead}
-use Rattle.dm_rule.specs.Rule as rule
+use Rattle.dm_movelaws.proofs.Ends.Hears.{ComesOf, hears_comes}
 use Rattle.dm_movelaws.proofs.Leading.{next_of, part_leads}
+use Rattle.dm_rule.specs.Rule as rule
 
 abbrev begun_phases : (pt : Point) (d : Step) → InPhases pt.view → InPhases (begun pt d).view
 begun_phases pt d h = calm_phases pt.view (after_head pt.view d) (head_calm pt.view d) h

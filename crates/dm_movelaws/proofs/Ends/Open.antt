@@ -1,6 +1,6 @@
 -- The requests to move a process that are under way, listed.
-use Rattle.dm_movelaws.proofs.Names.{◌≡◌, ℕ, suc, ◌+◌, ◌≤◌, Bool, true, false, List, [], ◌∷◌, length, refl, ap, ◌∙◌, sym, subst, inl, inr, arith, if◌then◌else◌, Option, None, Some, cases_Bool, Pid, MsgId, id_eq, id_eq-is, Part, without_id}
-use Rattle.dm_movelaws.proofs.Names.{Spot, times, standing, View, Told, not_true, without_counts, one_of, asks, ends, one_of-same, off_zero, nat_tests}
+use Rattle.dm_movelaws.proofs.Names.{◌≡◌, ℕ, suc, ◌+◌, ◌≤◌, Bool, true, false, List, [], ◌∷◌, length, refl, ◌∙◌, sym, subst, inl, inr, arith, if◌then◌else◌, Option, None, Some, cases_Bool, Pid, MsgId, id_eq, id_eq-is, Part, without_id}
+use Rattle.dm_movelaws.proofs.Names.{Spot, times, standing, View, Told, not_true, without_counts, asks, ends, one_of-same, off_zero, nat_tests}
 use Rattle.dm_movelaws.proofs.Ends.Lines.{asks_for, Somewhere, Extends, Smooth, stands_as, stands_was}
 use Rattle.dm_movelaws.proofs.Ends.Net.{zero_cases}
 use Rattle.dm_movelaws.proofs.Ends.Parts.{part_count}

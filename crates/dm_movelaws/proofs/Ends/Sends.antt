@@ -1,17 +1,15 @@
 -- Messages that go on, those that are held, and those that come back from a held list: all stand somewhere again.
-use Rattle.dm_movelaws.proofs.Names.{◌≡◌, ◌⊎◌, ℕ, ◌≤◌, ◌==◌, ◌&&◌, Bool, true, false, List, [], ◌∷◌, ◌++◌, length, refl, ap, ◌∙◌, sym, subst, inl, inr, arith, if◌then◌else◌, Option, None, Some, cases_Bool, false≢true, Pid, pid_eq, MsgId}
-use Rattle.dm_movelaws.proofs.Names.{MessageKind, id_eq, bind, id_eq-is, id_eq-same, bind-is, Line, Load, at_machine, at_record, View, Told, Here, view_after, after_put, handled, handled_first, held_for, receiver_of, released, with_ring}
-use Rattle.dm_movelaws.proofs.Names.{knowing, Point, moved, after, Part, Again, Spelled, lines_of, puts, goes_out, packet_line, behind, spelled, sends_on, Spot, Queue, Held, Inbox, Untaken, times, ids_at, standing, at_record_at, parts}
-use Rattle.dm_movelaws.proofs.Names.{eq_is, eq_self, fits_put, fits_packet, one_of, handled_spots, held_spots, put_spots, put_there, put_spot, times-append, PairsFit, PacketsKeep, Sane, part_sane, pid_eq-is, last_there, fewer_record}
-use Rattle.dm_movelaws.proofs.Names.{nat_tests}
+use Rattle.dm_movelaws.proofs.Names.{◌≡◌, ◌⊎◌, ℕ, ◌≤◌, ◌==◌, Bool, true, false, List, [], ◌∷◌, ◌++◌, refl, ap, ◌∙◌, sym, subst, inl, inr, arith, if◌then◌else◌, Option, None, Some, cases_Bool, Pid, MsgId, id_eq, id_eq-is, id_eq-same, Line}
+use Rattle.dm_movelaws.proofs.Names.{at_machine, at_record, View, Told, Here, view_after, after_put, handled, handled_first, held_for, receiver_of, released, with_ring, knowing, Point, Part, Again, Spelled, spelled, sends_on, Spot, Queue}
+use Rattle.dm_movelaws.proofs.Names.{Held, Inbox, Untaken, times, ids_at, standing, at_record_at, parts, eq_is, eq_self, fits_put, fits_packet, one_of, handled_spots, held_spots, put_spots, put_there, put_spot, times-append, PairsFit}
+use Rattle.dm_movelaws.proofs.Names.{PacketsKeep, Sane, part_sane, pid_eq-is, last_there, fewer_record, nat_tests}
 use Rattle.dm_movelaws.proofs.Ends.Lines.{asks_for, Somewhere, Smooth, Plain, smooth_trans, smooth_still, smooth_others, stands_as, stands_was, told_by, other_than as other_front}
 use Rattle.dm_movelaws.proofs.Ends.Net.{zero_cases}
 use Rattle.dm_movelaws.proofs.Ends.Parts.{packet_smooth, part_count}
 use Rattle.dm_movelaws.proofs.Ends.Rows.{front_one, first_spots}
-use Rattle.dm_movelaws.proofs.Leading.{puts_lead}
+use Rattle.dm_movelaws.proofs.Leading.{next_of, part_leads}
 use Rattle.dm_rule.specs.View as view
 pub use Rattle.dm_rule.proofs.Moves.States.{again_told}
-use Rattle.dm_movelaws.proofs.Leading.{next_of, part_leads}
 
 -- one message stands elsewhere, and the others where they stood
 pub smooth_moves : (p : Pid) (v w : View) (i : MsgId) → ((j : MsgId) → w.told j ≡ v.told j) → Somewhere v i → Somewhere w i → ((j : MsgId) → id_eq i j ≡ false → (z : Spot) → standing w j z ≡ standing v j z) → Smooth p v w

@@ -1,14 +1,11 @@
 -- Messages come only from machines that there are; and what was told stays.
-use Rattle.dm_movelaws.proofs.Names.{◌≡◌, ℕ, ◌<◌, ◌≤◌, ◌==◌, ◌&&◌, Bool, true, false, List, [], ◌∷◌, refl, ap, ◌∙◌, sym, subst, inl, inr, arith, ⊤, if◌then◌else◌, slice_get, Option, Some, cases_Bool, false≢true, Pid, MsgId, MessageKind}
-use Rattle.dm_movelaws.proofs.Names.{id_eq, plain_kind, Boot, bind, Step, Stage, id_eq-is, bind-is, Line, at_pair, Receiver, IsStep, migrates, View, Pair, Told, view_after, after_head, after_put, handled, receiver_of, own_id, Point, moved}
-use Rattle.dm_movelaws.proofs.Names.{after, Part, Says, Routes, Again, Owns, Transmits, Spelled, lines_of, puts, packet_line, behind, spelled, group_of, group_is, IsNetLine, IsNet, arrives_net, resends_net, acting_label, is_put, eq_is}
-use Rattle.dm_movelaws.proofs.Names.{touches, pair_same, taken_pair, AllFit, migrates_fit, turns_fit, put_at, PacketsKeep, put_told_off, says_next, transmits_next, said, begun, acting_taken, proto_acting, queued_acting, held_acting}
-use Rattle.dm_movelaws.proofs.Names.{forwarded_acting, nat_tests}
+use Rattle.dm_movelaws.proofs.Names.{◌≡◌, ℕ, ◌<◌, ◌≤◌, ◌==◌, ◌&&◌, Bool, true, false, List, [], refl, ap, ◌∙◌, sym, subst, inl, inr, arith, if◌then◌else◌, Option, Some, cases_Bool, false≢true, Pid, MsgId, MessageKind, Boot, Step, Stage}
+use Rattle.dm_movelaws.proofs.Names.{id_eq-is, Line, at_pair, IsStep, View, Pair, Told, view_after, after_head, after_put, handled, receiver_of, Point, Part, Spelled, spelled, group_of, group_is, IsNetLine, acting_label, is_put, eq_is}
+use Rattle.dm_movelaws.proofs.Names.{touches, pair_same, taken_pair, put_at, PacketsKeep, put_told_off, said, begun, acting_taken, proto_acting, queued_acting, held_acting, forwarded_acting, nat_tests}
 use Rattle.dm_movelaws.proofs.Ends.Lines.{Extends, told_by}
 use Rattle.dm_movelaws.proofs.Ends.Parts.{first_kept}
 use Rattle.dm_movelaws.proofs.Leading.{All, Behind, whatever_put, parts_lead, Saying, outcome_says}
 use Rattle.dm_rule.specs.View as view
-use Rattle.dm_rule.specs.Rule as rule
 
 -- nothing was routed from another machine
 abbrev pub Sources : ℕ → View → Type 0

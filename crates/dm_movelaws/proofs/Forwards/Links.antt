@@ -1,7 +1,7 @@
 -- Where all is at rest, a process that was told of a forward has links that lead to where the other is.
-use Rattle.dm_movelaws.proofs.Names.{◌≡◌, ◌≢◌, ℕ, ◌+◌, ◌<◌, ◌≤◌, ◌==◌, Bool, true, false, List, [], ◌∷◌, ◌++◌, is_some, refl, ap, ◌∙◌, sym, subst, arith, if◌then◌else◌, slice_get, false≢true, slice_get_within, Option, None, Some, Pid}
-use Rattle.dm_movelaws.proofs.Names.{Place, MsgId, Boot, Life, Alive, OneKernel, receptions, LifeGrows, reached, Sound, Step, IsStep, Leads, Point, first_point, labels, Trails, View, Known, Unknown, Here, Forward, actor, is_server}
-use Rattle.dm_movelaws.proofs.Names.{KnownStands, agrees, group_replay, run_always, AtRest, IsThere, CountsPromise, update_of, IsUnderWay}
+use Rattle.dm_movelaws.proofs.Names.{◌≡◌, ◌≢◌, ℕ, ◌+◌, ◌<◌, ◌≤◌, Bool, true, false, List, [], ◌∷◌, ◌++◌, is_some, refl, ap, ◌∙◌, sym, subst, arith, if◌then◌else◌, slice_get, slice_get_within, Option, Some, Pid, Place, MsgId, Boot, Life}
+use Rattle.dm_movelaws.proofs.Names.{OneKernel, receptions, reached, Sound, Step, IsStep, Leads, Point, first_point, labels, Trails, View, Unknown, Here, Forward, actor, is_server, KnownStands, agrees, group_replay, run_always, AtRest}
+use Rattle.dm_movelaws.proofs.Names.{IsThere, CountsPromise, update_of, IsUnderWay, nat_tests}
 use Rattle.dm_movelaws.proofs.At.RestAlways.{at_rest_always}
 use Rattle.dm_movelaws.proofs.Forwards.Told.{forwards_tell}
 use Rattle.dm_movelaws.proofs.Promise.Always.{promises_always, same_some}
@@ -10,7 +10,6 @@ use Rattle.dm_movelaws.proofs.Promise.Kept.{lines_told}
 use Rattle.dm_movelaws.proofs.Promise.Trail.{OnTrail}
 use Rattle.dm_movelaws.proofs.Trail.Known.{trail_known}
 use Rattle.dm_movelaws.proofs.Real.Lines.{made_by as life_stays}
-use Rattle.dm_movelaws.proofs.Names.{nat_tests}
 
 -- a process that was made stays made
 made_on : (b : Boot) (es : List Step) (pt end : Point) (q : Pid) (r e : MsgId → ℕ) → Leads b pt es end → Sound r e pt.kernel → is_some (pt.kernel.processes q) ≡ true → is_some (end.kernel.processes q) ≡ true

@@ -1,17 +1,13 @@
 -- Where a group that sends a message on leads: the update for its sender is under way.
-use Rattle.dm_movelaws.proofs.Names.{◌≡◌, ℕ, ◌==◌, Bool, true, false, List, [], ◌∷◌, ◌++◌, length, refl, ap, ◌∙◌, sym, subst, if◌then◌else◌, Option, None, Some, Pid, Place, MsgId, MessageKind, Load, plain_kind, PlainMessage, PlainWhat}
-use Rattle.dm_movelaws.proofs.Names.{Boot, manager, bind-is, Step, Line, Receiver, Sender, is_told_back, Part, Says, Routes, Again, Owns, Transmits, Spelled, lines_of, puts, goes_out, packet_line, spelled, Point, View, Told, About, Known}
-use Rattle.dm_movelaws.proofs.Names.{Forward, own_id, handled, receiver_of, actor, view_after, fits, fits_put, fits_packet, pair_same, put_at, fits_as, PairsFit, Sane, part_sane, Steps, begun, begun_sane, said_by, again_rides, again_same}
-use Rattle.dm_movelaws.proofs.Names.{own_fresh, front, Run, Tells, ForwardsTell, RequestsTell, update_of, IsUnderWay, run_always, last_point, first_none, forwarded_own, GroupIs, group_is, by_parts, false≢true, Stage, Addresses, forwards_on}
-use Rattle.dm_movelaws.proofs.Names.{sends_on, migrates, IsNetLine, IsNet, by_migrates, Loose, loose_round, loose_handles, by_forwards, by_net, by_outcome, by_hears, to_kernel}
-use Rattle.dm_movelaws.proofs.Leading.{next_of}
-use Rattle.dm_movelaws.proofs.Promise.Spots.{Stands}
-use Rattle.dm_movelaws.proofs.Promise.Stands.{put_this, packet_stands}
-use Rattle.dm_movelaws.proofs.Leading.{puts_lead, is_said, lines_are}
+use Rattle.dm_movelaws.proofs.Names.{◌≡◌, ℕ, Bool, true, false, List, [], ◌∷◌, ◌++◌, refl, ap, ◌∙◌, sym, subst, if◌then◌else◌, None, Some, Pid, Place, MsgId, MessageKind, plain_kind, PlainMessage, PlainWhat, Boot, manager, Step, Line}
+use Rattle.dm_movelaws.proofs.Names.{Sender, is_told_back, Part, Says, Again, Owns, Spelled, lines_of, spelled, Point, View, Told, About, Forward, own_id, handled, receiver_of, actor, view_after, fits, fits_put, fits_packet, pair_same}
+use Rattle.dm_movelaws.proofs.Names.{put_at, fits_as, PairsFit, Sane, part_sane, Steps, begun, begun_sane, said_by, again_rides, again_same, own_fresh, front, Run, Tells, ForwardsTell, RequestsTell, update_of, IsUnderWay, run_always}
+use Rattle.dm_movelaws.proofs.Names.{last_point, first_none, forwarded_own, GroupIs, group_is, by_parts, Addresses, forwards_on, sends_on, migrates, IsNetLine, IsNet, by_migrates, Loose, loose_round, loose_handles, by_forwards, by_net}
+use Rattle.dm_movelaws.proofs.Names.{by_outcome, by_hears, nat_tests, arith}
+use Rattle.dm_movelaws.proofs.Leading.{next_of, puts_lead, is_said, lines_are}
+use Rattle.dm_movelaws.proofs.Promise.Spots.{Stands, put_this, packet_stands}
 use Rattle.dm_rule.specs.View as view
 use Rattle.dm_rule.specs.Rule as rule
-use Rattle.dm_movelaws.proofs.Names.{nat_tests}
-use Rattle.dm_movelaws.proofs.Names.{arith}
 
 -- a message that is sent on, and the machine that it goes to
 abbrev pub Onward : Type 0

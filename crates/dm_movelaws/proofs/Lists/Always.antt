@@ -1,12 +1,11 @@
 -- Messages wait only where a machine has a list for them.
-use Rattle.dm_movelaws.proofs.Names.{◌≡◌, ℕ, ◌+◌, ◌≤◌, Bool, true, false, List, [], ◌∷◌, refl, ap, ◌∙◌, subst, arith, if◌then◌else◌, Some, Pid, MsgId, PlainMessage, Boot, IsValid, id_eq-same, Step, Line, Leads, Part, Spelled, Point}
-use Rattle.dm_movelaws.proofs.Names.{first_point, moved, group_of, Inbox, times, View, is_server, Both, both_start, both_group, Run, run_start, run_group, ListsAlways, some_is, by_outcome, by_group, run_always, sym, inl, inr, Option, None}
-use Rattle.dm_movelaws.proofs.Names.{cases_Bool, false≢true, Spot, Queue, Held, StandsOutside, StandsRight, standing, is_kernels, stands_right, kernels_fresh, IsQueued, IsUserFor, IsFor, ListsForTheirs, user_kind}
+use Rattle.dm_movelaws.proofs.Names.{◌≡◌, ℕ, ◌≤◌, Bool, true, false, List, [], ◌∷◌, refl, ap, ◌∙◌, arith, Some, Pid, MsgId, PlainMessage, Boot, id_eq-same, Step, Line, Part, Spelled, Point, moved, group_of, Inbox, times, View, is_server}
+use Rattle.dm_movelaws.proofs.Names.{Run, ListsAlways, some_is, by_outcome, by_group, run_always, sym, inl, inr, Option, None, cases_Bool, false≢true, Spot, Queue, Held, StandsOutside, StandsRight, standing, is_kernels, stands_right}
+use Rattle.dm_movelaws.proofs.Names.{kernels_fresh, IsQueued, IsUserFor, IsFor, ListsForTheirs, user_kind, nat_tests}
 use Rattle.dm_movelaws.proofs.At.RestQueues.{drops_always}
 use Rattle.dm_movelaws.proofs.Lists.Parts.{migrates_ok, ForProcess, NoQueues, AllOk, nets_ok, line_queues, parts_queues, hears_ok, round_ok, handles_ok}
 use Rattle.dm_movelaws.proofs.After.{keeps_always}
 use Rattle.dm_rule.specs.Rule as rule
-use Rattle.dm_movelaws.proofs.Names.{nat_tests}
 
 at_front : (xs is : List MsgId) (i : MsgId) → xs ≡ i ∷ is → 1 ≤ times i xs
 at_front xs is i e = grind (arith, nat_tests, id_eq-same)

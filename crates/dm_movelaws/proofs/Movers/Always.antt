@@ -1,8 +1,8 @@
 -- Wherever the rule leads, each living process that moves data has the message that its status says.
-use Rattle.dm_movelaws.proofs.Names.{◌≡◌, ℕ, ◌+◌, ◌==◌, true, false, List, [], ◌∷◌, length, refl, ap, ◌∙◌, sym, subst, inl, inr, arith, Option, None, Some, nat_tests, Pid, MsgId, id_of, plain_kind, PlainMessage, PlainWhat, Direction, Boot}
-use Rattle.dm_movelaws.proofs.Names.{Label, PlainProcess, PlainStatus, Moving, Life, Alive, OneKernel, piece_of, answer_id, is_of_memory, replay, Step, Leads, Point, first_point, labels, entry, reception, in_bag, is_piece, pending_of, One}
-use Rattle.dm_movelaws.proofs.Names.{after_step, Sound, bind-is, piece_fits, status_awaits, awaits, WhatFits, KernelFits, based_start, based_group, based_always, both, fits_step, group_replay, Based, asks_piece, answers_piece, AsksFor}
-use Rattle.dm_movelaws.proofs.Names.{AnswersFor, HasEnded, HasPiece, MoversHavePieces, Spelled, group_of}
+use Rattle.dm_movelaws.proofs.Names.{◌≡◌, ℕ, ◌+◌, ◌==◌, true, false, List, [], ◌∷◌, refl, ap, ◌∙◌, sym, subst, arith, Option, None, Some, nat_tests, Pid, MsgId, id_of, plain_kind, PlainMessage, PlainWhat, Direction, Boot, Label}
+use Rattle.dm_movelaws.proofs.Names.{PlainProcess, PlainStatus, Moving, Life, Alive, OneKernel, answer_id, is_of_memory, replay, Step, Point, labels, entry, reception, in_bag, is_piece, pending_of, One, after_step, Sound, bind-is}
+use Rattle.dm_movelaws.proofs.Names.{piece_fits, status_awaits, awaits, WhatFits, KernelFits, based_always, both, fits_step, group_replay, Based, asks_piece, answers_piece, AsksFor, AnswersFor, HasEnded, HasPiece, MoversHavePieces, Spelled}
+use Rattle.dm_movelaws.proofs.Names.{group_of}
 use Rattle.dm_movelaws.specs.Movers.{Moves}
 use Rattle.dm_movelaws.proofs.Movers.Says.{other_end, Begins, StatusSays, Says, AllSay}
 use Rattle.dm_movelaws.proofs.Movers.Rows.{GoneEnded, step_gone, memory_end, step_says}

@@ -1,8 +1,8 @@
 -- Each step keeps what the messages of data moves say.
-use Rattle.dm_movelaws.proofs.Names.{◌≡◌, ◌⊎◌, ℕ, ◌+◌, ◌-◌, ◌==◌, ◌&&◌, Bool, true, false, length, take, drop, refl, ap, ◌∙◌, sym, subst, inl, inr, nat_le, ⊤, if◌then◌else◌, Option, None, Some, Pid, PlainLink, first_empty, link_at, MsgId}
-use Rattle.dm_movelaws.proofs.Names.{PlainMessage, PlainWhat, direction_numbered, Direction, Row, instruction, switchboard, manager, Label, Reply, Why, reg, PlainProcess, PlainStatus, Waiting, Moving, Alive, OneKernel, with_process}
-use Rattle.dm_movelaws.proofs.Names.{with_sent, Called, Sends, Waits, CallNumber, Make, Copy, Drop, Send, Receive, Move, call_number, answer_to, first_failed, without_message, is_of_memory, pending_of, ServerSends, board_takes_lem}
-use Rattle.dm_movelaws.proofs.Names.{manager_takes_lem, lands-is, Sound, bind-is, KernelFits, by_step, Lives, Life, is_piece, Grown, LifeGrows, stayed, came, HasEnded}
+use Rattle.dm_movelaws.proofs.Names.{◌≡◌, ◌⊎◌, ℕ, ◌-◌, Bool, true, false, length, take, drop, refl, ap, ◌∙◌, sym, subst, inl, inr, ⊤, if◌then◌else◌, Option, None, Some, Pid, PlainLink, MsgId, PlainMessage, PlainWhat, Direction, Row}
+use Rattle.dm_movelaws.proofs.Names.{instruction, switchboard, manager, Label, Reply, Why, PlainProcess, PlainStatus, Alive, OneKernel, with_process, with_sent, Called, Sends, CallNumber, answer_to, first_failed, without_message}
+use Rattle.dm_movelaws.proofs.Names.{is_of_memory, pending_of, ServerSends, board_takes_lem, manager_takes_lem, lands-is, Sound, bind-is, KernelFits, by_step, Lives, Life, is_piece, Grown, LifeGrows, stayed, came, HasEnded, nat_tests}
+use Rattle.dm_movelaws.proofs.Names.{arith}
 use Rattle.dm_movelaws.proofs.Movers.Says.{other_end, AllSay, same_says, still_says, fresh_says, ended_says, out_says, other_says, no_end, answer_says, Requests, request_says, Begins}
 use Rattle.dm_rule.proofs.Names.{begun}
 use Rattle.dm_onekernel.specs.Kernel.{Ended}
@@ -10,8 +10,6 @@ use Rattle.dm_onekernel.specs.Calls as calls
 use Rattle.dm_onekernel.specs.Pieces as pieces
 use Rattle.dm_onekernel.specs.Service as service
 use Rattle.dm_onekernel.specs.Step as kernel
-use Rattle.dm_movelaws.proofs.Names.{nat_tests}
-use Rattle.dm_movelaws.proofs.Names.{arith}
 
 -- what a call sends: no message of a data move, or the request for its first piece
 abbrev CallSends : Pid → Called → Type 0

@@ -1,10 +1,9 @@
 -- Each line of a group leaves a process that moves alone, where it stands.
-use Rattle.dm_movelaws.proofs.Names.{◌≡◌, ◌≢◌, ℕ, ◌+◌, ◌==◌, Bool, true, false, List, [], ◌∷◌, ◌++◌, length, refl, ap, ◌∙◌, sym, subst, ⊤, if◌then◌else◌, slice_get, Option, None, Some, false≢true, Pid, pid_of, MsgId, MessageKind}
-use Rattle.dm_movelaws.proofs.Names.{plain_kind, Load, PlainMessage, Boot, Label, Why, first_number, Life, OneKernel, bind, bind-is, Step, Line, Receiver, IsOthers, Spares, migrates, Part, Says, Routes, Again, Owns, Transmits, Spelled}
-use Rattle.dm_movelaws.proofs.Names.{lines_of, puts, goes_out, packet_line, spelled, Moves, knows, IsIn, Point, label_of, kernel_after, moved, after_line, after, group_of, Here, own_id, SparesPart, FirstApart, ApartOf, apart_first}
-use Rattle.dm_movelaws.proofs.Names.{turns_apart, net_apart, migrates_apart, arrives_net, resends_net, Rooted, nowhere_known, moves_away, is_fixed, IsAnothers, IsAnothersIf, moves_known, took_for, created_for, no_space_for, by_parts}
-use Rattle.dm_movelaws.proofs.Names.{by_group, ◌&&◌, is_some, IsValid, start, replay, ended_stays, Phase, is_between, is_restart, is_early, kind_comes, first_point, labels, Known, Unknown, Frozen, Incoming, Forward, moving_stays_always}
-use Rattle.dm_movelaws.proofs.Names.{is_server, agrees, LeadsBy, after_replay, Run, run_always, mark_while, IsSpared, OpenSpares, apart_is, destination_knows, server_leaves, why_ended-is, kind_leaves}
+use Rattle.dm_movelaws.proofs.Names.{◌≡◌, ◌≢◌, ℕ, ◌+◌, ◌==◌, Bool, true, false, List, [], ◌∷◌, ◌++◌, refl, ap, ◌∙◌, sym, subst, ⊤, Option, Some, false≢true, Pid, pid_of, MsgId, MessageKind, PlainMessage, Boot, Label, Why, first_number}
+use Rattle.dm_movelaws.proofs.Names.{OneKernel, bind, bind-is, Step, Line, IsOthers, Spares, migrates, Part, Spelled, lines_of, spelled, Moves, knows, IsIn, Point, label_of, kernel_after, moved, after_line, after, group_of, Here}
+use Rattle.dm_movelaws.proofs.Names.{SparesPart, FirstApart, ApartOf, apart_first, turns_apart, net_apart, migrates_apart, arrives_net, resends_net, Rooted, nowhere_known, moves_away, is_fixed, IsAnothers, IsAnothersIf, moves_known}
+use Rattle.dm_movelaws.proofs.Names.{took_for, created_for, no_space_for, by_parts, by_group, is_some, IsValid, start, replay, ended_stays, Phase, is_between, is_restart, is_early, kind_comes, first_point, labels, Known}
+use Rattle.dm_movelaws.proofs.Names.{moving_stays_always, is_server, agrees, LeadsBy, after_replay, Run, run_always, mark_while, IsSpared, OpenSpares, apart_is, destination_knows, server_leaves, why_ended-is, kind_leaves, nat_tests, arith}
 use Rattle.dm_onekernel.specs.Kernel.{Ended}
 use Rattle.dm_movelaws.proofs.Leading.{lines_are}
 use Rattle.dm_movelaws.proofs.After.{after-append, group_after}
@@ -14,8 +13,6 @@ use Rattle.dm_onekernel.specs.Step as kernel
 use Rattle.dm_rule.specs.Rule as rule
 pub use Rattle.dm_rule.proofs.Apart.Groups.{kernel_same}
 pub use Rattle.dm_rulelaws.proofs.Goes.Own.{source_knows}
-use Rattle.dm_movelaws.proofs.Names.{nat_tests}
-use Rattle.dm_movelaws.proofs.Names.{arith}
 
 -- what moves hasn't ended
 leaving_not : (k : MessageKind) (d : ℕ) (n : Known) (y : Why) → kind_leaves k d n ≡ true → is_restart k ≡ false → agrees n (Some (Ended y)) ≡ true → ⊥

@@ -1,14 +1,12 @@
 -- The open mark among the lines of a run says in what phase a process is.
-use Rattle.dm_movelaws.proofs.Names.{◌≡◌, false, List, [], ◌∷◌, refl, ap, ◌∙◌, sym, subst, Option, None, Some, Pid, MessageKind, Boot, Step, Line, Leads, Phase, Moves, is_due, IsIn, Point, first_point, after, View, first_view, not_true}
-use Rattle.dm_movelaws.proofs.Names.{Phased, phased_start, phased_group, InPhases, LeadsBy, Mark, marks, left_open, open_mark, mark_by, mark_while, OpenMoves}
+use Rattle.dm_movelaws.proofs.Names.{◌≡◌, List, [], ◌∷◌, refl, ap, ◌∙◌, sym, subst, Option, None, Some, Pid, MessageKind, Boot, Step, Line, Leads, Phase, Point, first_point, after, first_view, Phased, phased_start, phased_group, LeadsBy}
+use Rattle.dm_movelaws.proofs.Names.{Mark, marks, left_open, open_mark, mark_by, mark_while, OpenMoves, nat_tests, arith}
 use Rattle.dm_movelaws.proofs.After.{after-append, group_after}
 use Rattle.dm_movelaws.proofs.Stages.Marks.{open_after, open-append, marks-append}
 use Rattle.dm_movelaws.proofs.Stages.Spares.{mark_of, mark_in}
 use Rattle.dm_movelaws.proofs.Stages.Always.{group_marked}
 pub use Rattle.dm_movelaws.proofs.Stages.Always.{not_due as none_due}
 pub use Rattle.dm_movelaws.proofs.Stages.Always.{start_mark}
-use Rattle.dm_movelaws.proofs.Names.{nat_tests}
-use Rattle.dm_movelaws.proofs.Names.{arith}
 
 -- the lines of a run lead where the run leads
 pub leads_of : (b : Boot) (es : List Step) (ls : List Line) (pt end : Point) → LeadsBy b pt es ls end → Leads b pt es end

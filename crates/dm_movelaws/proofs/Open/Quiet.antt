@@ -1,14 +1,11 @@
 -- A group that marks a process says no label.
-use Rattle.dm_movelaws.proofs.Names.{◌≡◌, ◌⊎◌, ℕ, ◌==◌, Bool, true, false, List, [], ◌∷◌, ◌++◌, refl, ◌∙◌, sym, subst, inl, inr, ⊤, if◌then◌else◌, Option, None, Some, Pid, pid_eq, MsgId, MessageKind, plain_kind, Boot, switchboard, manager}
-use Rattle.dm_movelaws.proofs.Names.{bind-is, Step, Line, Receiver, process_told, server_told, migrates, Part, Says, Routes, Again, Owns, Transmits, Spelled, lines_of, puts, goes_out, packet_line, spelled, Point, label_of, group_of, Told}
-use Rattle.dm_movelaws.proofs.Names.{About, Known, own_id, marks, by_migrates, IsHeardLine, kernel_kept, by_parts, by_group, by_outcome, moved}
+use Rattle.dm_movelaws.proofs.Names.{◌≡◌, ◌⊎◌, ℕ, Bool, List, [], ◌∷◌, ◌++◌, refl, ◌∙◌, sym, subst, inl, inr, ⊤, if◌then◌else◌, Option, None, Some, Pid, MsgId, MessageKind, Boot, Step, Line, process_told, server_told, migrates, Part}
+use Rattle.dm_movelaws.proofs.Names.{Spelled, lines_of, spelled, Point, label_of, group_of, Told, About, Known, marks, by_migrates, IsHeardLine, kernel_kept, by_parts, by_group, by_outcome, moved, nat_tests, arith}
 use Rattle.dm_movelaws.proofs.Stages.Marks.{marks_of, spelled_marks}
 use Rattle.dm_movelaws.proofs.Stages.Lines.{AllMild, mild_marks, net_marks}
 use Rattle.dm_movelaws.proofs.Stages.Hears.{round_mild, handles_mild, Hears, Calms, Freezes, server_mild, process_hears}
 use Rattle.dm_movelaws.proofs.Leading.{All, lines_are, Saying}
 use Rattle.dm_rule.specs.Rule as rule
-use Rattle.dm_movelaws.proofs.Names.{nat_tests}
-use Rattle.dm_movelaws.proofs.Names.{arith}
 
 -- lines that are no steps of the kernel without machines
 abbrev pub AllQuiet : List Line → Type 0

@@ -1,8 +1,8 @@
 -- Each line between a process's step 1 and its step 8 or `stays` is another's, and leaves its plain value.
 use Rattle.dm_movelaws.proofs.Names.{◌≡◌, ℕ, true, false, List, [], ◌∷◌, ◌++◌, is_some, refl, ap, ◌∙◌, sym, subst, inl, inr, Option, None, Some, false≢true, Pid, MsgId, MessageKind, Boot, Label, IsValid, OneKernel, bind, bind-is, Step}
-use Rattle.dm_movelaws.proofs.Names.{Line, Spelled, Phase, Moves, IsIn, Point, label_of, kernel_after, moved, after_line, after, first_point, group_of, View, Known, Frozen, Forward, first_view, rooted, is_fixed, LeadsBy, KnownIs, Both}
-use Rattle.dm_movelaws.proofs.Names.{both_start, both_group, after_replay, Run, run_start, run_group, IsAnothersIf, OpenStays, Mark, marks, kind_leaves, append_assoc, start, replay, with_label, labels, labels-append, replay-append, AllOpen}
-use Rattle.dm_movelaws.proofs.Names.{OpenKeeps}
+use Rattle.dm_movelaws.proofs.Names.{Line, Spelled, Phase, Moves, IsIn, Point, label_of, kernel_after, moved, after_line, after, first_point, group_of, View, Known, first_view, rooted, is_fixed, LeadsBy, KnownIs, Both, both_start}
+use Rattle.dm_movelaws.proofs.Names.{both_group, after_replay, Run, run_start, run_group, IsAnothersIf, OpenStays, Mark, marks, kind_leaves, append_assoc, start, replay, with_label, labels, labels-append, replay-append, AllOpen, OpenKeeps}
+use Rattle.dm_movelaws.proofs.Names.{nat_tests, arith}
 use Rattle.dm_movelaws.proofs.After.{after-append, group_after}
 use Rattle.dm_movelaws.proofs.Open.Apart.{AllAlone, moving_alone, kernel_same, alone_rest, anothers_if, source_knows, moving_lives}
 use Rattle.dm_movelaws.proofs.Open.Moves.{open_is, none_due, start_mark}
@@ -11,8 +11,6 @@ use Rattle.dm_movelaws.proofs.Stages.Always.{group_marked}
 use Rattle.dm_movelaws.proofs.Stages.Marks.{open_after, open-append, marks-append}
 use Rattle.dm_movelaws.proofs.Stages.Spares.{mark_in}
 use Rattle.dm_onekernel.specs.Step as kernel
-use Rattle.dm_movelaws.proofs.Names.{nat_tests}
-use Rattle.dm_movelaws.proofs.Names.{arith}
 
 -- a line behind others, from some point on
 record At (pt : Point) (earlier : List Line) (l : Line) (p : Pid) : Type 0 where

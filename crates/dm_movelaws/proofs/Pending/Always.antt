@@ -1,9 +1,9 @@
 -- Wherever the rule leads, each pending request of the manager's has one message under its number.
-use Rattle.dm_movelaws.proofs.Names.{◌≡◌, ◌⊎◌, ℕ, ◌+◌, ◌*◌, ◌<◌, ◌≤◌, ◌==◌, ◌&&◌, Bool, true, false, List, [], ◌∷◌, ◌++◌, length, is_some, refl, ap, ◌∙◌, sym, subst, inl, inr, arith, if◌then◌else◌, nat_lt, Option, None, Some, cases_Bool}
-use Rattle.dm_movelaws.proofs.Names.{false≢true, nat_tests, Pid, pid_eq, PlainLink, MsgId, MessageKind, id_of, bool_eq, plain_kind, PlainMessage, PlainWhat, switchboard, manager, Boot, Label, Manager, Pending, OneKernel, with_sent}
-use Rattle.dm_movelaws.proofs.Names.{without_message, replay, entry, reception, in_bag, after_step, ServerSends, board_takes_lem, manager_takes_lem, Sound, bind-is, Step, ascends, Leads, Point, first_point, labels, View, still_pending}
-use Rattle.dm_movelaws.proofs.Names.{IsPending, WhatFits, KernelFits, based_start, based_group, based_always, fits_step, group_replay, Based, makes, is_pending, HasOne, IsOfPending, PendingHasOne, Spelled, group_of, PendingAscends}
-use Rattle.dm_movelaws.proofs.Pending.Pairs.{is_create, is_answer, Neither, neither, Pair, answer_of, Ones, Off, off_both, out_ones, put_ones, from_other, and_false, took_pair, asked_pair}
+use Rattle.dm_movelaws.proofs.Names.{◌≡◌, ◌⊎◌, ℕ, ◌+◌, ◌<◌, ◌≤◌, ◌==◌, Bool, true, false, List, [], ◌∷◌, ◌++◌, length, is_some, refl, ap, ◌∙◌, subst, inl, inr, arith, if◌then◌else◌, Option, None, Some, cases_Bool, false≢true, nat_tests}
+use Rattle.dm_movelaws.proofs.Names.{Pid, PlainLink, MsgId, MessageKind, id_of, plain_kind, PlainMessage, PlainWhat, switchboard, manager, Boot, Label, Manager, Pending, OneKernel, with_sent, without_message, replay, entry, reception}
+use Rattle.dm_movelaws.proofs.Names.{in_bag, after_step, ServerSends, board_takes_lem, manager_takes_lem, Sound, bind-is, Step, ascends, Point, View, still_pending, IsPending, WhatFits, KernelFits, based_always, fits_step, group_replay}
+use Rattle.dm_movelaws.proofs.Names.{Based, makes, is_pending, HasOne, IsOfPending, PendingHasOne, Spelled, group_of, PendingAscends}
+use Rattle.dm_movelaws.proofs.Pending.Pairs.{is_create, is_answer, Neither, neither, Pair, answer_of, Ones, Off, off_both, out_ones, put_ones, from_other, took_pair, asked_pair}
 use Rattle.dm_movelaws.proofs.Pending.Steps.{label_ones}
 use Rattle.dm_movelaws.proofs.Promise.Before.{step_pending}
 use Rattle.dm_movelaws.proofs.After.{keeps_always}

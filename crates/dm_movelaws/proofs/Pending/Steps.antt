@@ -1,6 +1,6 @@
 -- Each step of a process or of its kernel keeps one message under each pending request's number.
-use Rattle.dm_movelaws.proofs.Names.{◌≡◌, ℕ, Bool, true, false, refl, ap, ◌∙◌, take, drop, if◌then◌else◌, None, Some, Pid, pid_eq, MsgId, PlainMessage, PlainWhat, manager, Label, bind, PlainProcess, PlainStatus, Waiting, Alive, OneKernel}
-use Rattle.dm_movelaws.proofs.Names.{with_sent, answer_to, without_message, is_dropped, is_of_memory, lands-is, Sound, not_server, bind-is, length, id_of, by_step, is_served}
+use Rattle.dm_movelaws.proofs.Names.{◌≡◌, ℕ, Bool, true, false, refl, ap, ◌∙◌, take, drop, if◌then◌else◌, None, Some, Pid, pid_eq, MsgId, PlainMessage, PlainWhat, manager, Label, bind, PlainProcess, PlainStatus, Alive, OneKernel, with_sent}
+use Rattle.dm_movelaws.proofs.Names.{answer_to, without_message, is_dropped, is_of_memory, lands-is, Sound, not_server, bind-is, length, id_of, by_step, is_served, nat_tests, arith}
 use Rattle.dm_laws.proofs.Entered.{asks}
 use Rattle.dm_movelaws.proofs.Pending.Pairs.{is_create, Neither, neither, Ones, out_ones, put_ones, from_other, answered_ones, made_ones, Off}
 use Rattle.dm_onekernel.specs.Pieces as pieces
@@ -9,8 +9,6 @@ use Rattle.dm_onekernel.specs.Service as service
 use Rattle.dm_onekernel.specs.Step as kernel
 use Rattle.dm_onekernel.specs.Manager as manage
 use Rattle.dm_onekernel.specs.Switchboard as board
-use Rattle.dm_movelaws.proofs.Names.{nat_tests}
-use Rattle.dm_movelaws.proofs.Names.{arith}
 
 -- what a process receives is a user message
 completes_user : (p : Pid) (x : PlainProcess) (m : PlainMessage) (mask base size : ℕ) (w : PlainWhat) (c : receiving.Completed) → m.what ≡ w → receiving.completes_what p x m mask base size w ≡ Some c → Neither m.what

@@ -1,7 +1,7 @@
 -- Each update that is under way keeps its promise: where all is at rest, the links that its receiver hasn't filled since lead to
 -- where the process is that it is about.
-use Rattle.dm_movelaws.proofs.Names.{◌≡◌, ℕ, ◌+◌, ◌<◌, ◌≤◌, true, List, [], ◌∷◌, ◌++◌, length, refl, ap, ◌∙◌, sym, arith, slice_get, Option, Some, slice_get_within, Pid, Place, MsgId, Boot, IsValid, OneKernel, pid_eq-same, Step, Line, Slot}
-use Rattle.dm_movelaws.proofs.Names.{belongs_to, leads_to, Leads, Point, first_point, Trails, Told, About, based_group, based_always, Based, AtRest, AtRestAlways, update_of, Promised, PromisesAlways, Updated, UpdatesAlways}
+use Rattle.dm_movelaws.proofs.Names.{◌≡◌, ℕ, ◌+◌, ◌<◌, ◌≤◌, List, [], ◌∷◌, ◌++◌, length, refl, ap, ◌∙◌, sym, arith, slice_get, Option, Some, slice_get_within, Pid, Place, MsgId, Boot, IsValid, pid_eq-same, Step, Line, Slot, leads_to, Leads}
+use Rattle.dm_movelaws.proofs.Names.{Point, first_point, Trails, Told, About, based_group, based_always, Based, AtRest, AtRestAlways, update_of, Promised, PromisesAlways, Updated, UpdatesAlways, nat_tests}
 use Rattle.dm_movelaws.proofs.At.RestAlways.{at_rest_always}
 use Rattle.dm_movelaws.proofs.Updates.Always.{updates_always}
 use Rattle.dm_movelaws.proofs.Promise.Trail.{OnTrail, TrailKnown}
@@ -11,7 +11,6 @@ use Rattle.dm_movelaws.proofs.Promise.Spots.{Stands}
 use Rattle.dm_movelaws.proofs.Promise.Groups.{update_own}
 use Rattle.dm_movelaws.proofs.After.{group_after}
 use Rattle.dm_movelaws.proofs.Promise.Finds.{lines_by, leads_append, Handles, find_handled}
-use Rattle.dm_movelaws.proofs.Names.{nat_tests}
 
 same_place : (a b : Place) → a.at ≡ b.at → a.moves ≡ b.moves → a ≡ b
 same_place a b e f = λ i. record { at = e i; moves = f i }

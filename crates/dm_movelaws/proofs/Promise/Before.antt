@@ -1,11 +1,9 @@
 -- Where no line gives a slot an address, a link in it was there before.
-use Rattle.dm_movelaws.proofs.Names.{◌≡◌, ℕ, ◌==◌, ◌&&◌, ◌||◌, Bool, true, false, List, [], ◌∷◌, refl, ap, ◌∙◌, sym, subst, inl, inr, arith, if◌then◌else◌, Option, None, Some, cases_Bool, false≢true, Pid, Place, pid_eq, PlainMessage, Label}
-use Rattle.dm_movelaws.proofs.Names.{OneKernel, pid_eq-is, pid_eq-same, View, Addresses, Holder, Slot, Gets, gives, given, holder_eq, leads_to, unmoved, ascends, names, eq_is, eq_self, parts, AtHome, HomesAre, homes_are, at_home, SaidOn}
-use Rattle.dm_movelaws.proofs.Names.{label_on, gives_to}
+use Rattle.dm_movelaws.proofs.Names.{◌≡◌, ℕ, ◌==◌, ◌&&◌, ◌||◌, Bool, true, false, List, [], ◌∷◌, refl, ap, ◌∙◌, arith, if◌then◌else◌, Option, None, Some, Pid, Place, PlainMessage, Label, OneKernel, pid_eq-is, pid_eq-same, View, Addresses}
+use Rattle.dm_movelaws.proofs.Names.{Holder, Slot, Gets, gives, given, holder_eq, leads_to, unmoved, ascends, eq_is, eq_self, parts, AtHome, HomesAre, homes_are, at_home, SaidOn, label_on, gives_to, nat_tests}
 use Rattle.dm_rule.proofs.Homes.Serves.{Named}
 use Rattle.dm_movelaws.proofs.Promise.Slots.{same_given, gives_same}
 use Rattle.dm_onekernel.specs.Step as kernel
-use Rattle.dm_movelaws.proofs.Names.{nat_tests}
 
 pub neither : (c d : Bool) → (c || d) ≡ false → (c ≡ false) × (d ≡ false)
 neither c d e = grind (arith, nat_tests)

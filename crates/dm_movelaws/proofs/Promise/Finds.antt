@@ -1,11 +1,10 @@
 -- Where nothing is on its way any more, an update that was under way was handled by the first group that says so.
-use Rattle.dm_movelaws.proofs.Names.{◌≡◌, ℕ, ◌≤◌, List, [], ◌∷◌, ◌++◌, refl, ap, sym, subst, inl, inr, arith, Some, Pid, Place, MsgId, Boot, Step, Line, Leads, IsStep, Spelled, Point, after, group_of, Spot, standing, Phased, phased_group}
-use Rattle.dm_movelaws.proofs.Names.{LeadsBy, update_of}
+use Rattle.dm_movelaws.proofs.Names.{◌≡◌, ℕ, List, [], ◌∷◌, ◌++◌, refl, ap, sym, subst, inl, inr, arith, Some, Pid, Place, MsgId, Boot, Step, Line, Leads, IsStep, Spelled, Point, after, group_of, Spot, standing, Phased, phased_group}
+use Rattle.dm_movelaws.proofs.Names.{LeadsBy, update_of, nat_tests}
 use Rattle.dm_movelaws.proofs.After.{after-append, group_after}
 use Rattle.dm_movelaws.proofs.Promise.Kept.{lines_told}
 use Rattle.dm_movelaws.proofs.Promise.Spots.{Stands}
 use Rattle.dm_movelaws.proofs.Promise.Groups.{group_ends}
-use Rattle.dm_movelaws.proofs.Names.{nat_tests}
 
 -- the lines of a run
 pub record Lines (b : Boot) (pt : Point) (es : List Step) (end : Point) : Type 0 where

@@ -1,17 +1,13 @@
 -- Each group leaves an update that is under way standing somewhere, or says that it was handled, and nothing else.
-use Rattle.dm_movelaws.proofs.Names.{◌≡◌, ◌⊎◌, ℕ, ◌≤◌, Bool, true, false, List, [], ◌∷◌, ◌==◌, ◌&&◌, length, refl, ap, ◌∙◌, sym, subst, inl, inr, Option, None, Some, cases_Bool, false≢true, Pid, Place, MsgId, MessageKind, id_eq, plain_kind}
-use Rattle.dm_movelaws.proofs.Names.{PlainMessage, PlainWhat, Boot, id_eq-is, Step, Line, View, Pair, marked, Told, is_kernels, after_head, Point, Part, Says, Transmits, Spelled, packet_line, spelled, standing, migrates, group_of, letters}
-use Rattle.dm_movelaws.proofs.Names.{not_kernels, eq_is, not_true, parts, IsNet, fits, under_way, kernels_by, Phased, set_is, set_other, PairsFit, Sane, begun, begun_sane, said_by, update_of, by_migrates, by_outcome, group_is}
+use Rattle.dm_movelaws.proofs.Names.{◌≡◌, ◌⊎◌, ℕ, Bool, true, false, List, [], ◌∷◌, refl, ap, ◌∙◌, sym, subst, inl, inr, Option, None, Some, false≢true, Pid, Place, MsgId, MessageKind, id_eq, plain_kind, PlainMessage, PlainWhat, Boot}
+use Rattle.dm_movelaws.proofs.Names.{id_eq-is, Step, Line, View, Told, is_kernels, after_head, Point, Part, Spelled, spelled, migrates, group_of, not_kernels, eq_is, not_true, parts, IsNet, fits, under_way, kernels_by, Phased, set_is}
+use Rattle.dm_movelaws.proofs.Names.{set_other, PairsFit, Sane, begun, begun_sane, update_of, by_migrates, by_outcome, group_is, nat_tests, arith}
 use Rattle.dm_movelaws.proofs.Promise.Kept.{told_stays}
-use Rattle.dm_movelaws.proofs.Promise.Spots.{Stands}
-use Rattle.dm_movelaws.proofs.Promise.Stands.{packet_stands, head_stands, net_stands}
+use Rattle.dm_movelaws.proofs.Promise.Spots.{Stands, packet_stands, head_stands, net_stands}
 use Rattle.dm_movelaws.proofs.Promise.Parts.{all_loose, GoesOf, Waits, loose_row, round_goes, handles_goes, Goes}
-use Rattle.dm_movelaws.proofs.Leading.{next_of}
-use Rattle.dm_movelaws.proofs.Promise.Told.{hears_goes, hears_this}
 use Rattle.dm_movelaws.proofs.Leading.{net_lead}
+use Rattle.dm_movelaws.proofs.Promise.Told.{hears_goes, hears_this}
 use Rattle.dm_rule.specs.Rule as rule
-use Rattle.dm_movelaws.proofs.Names.{nat_tests}
-use Rattle.dm_movelaws.proofs.Names.{arith}
 
 -- no message of the bag is an update
 no_update : (k : PlainWhat) → plain_kind k ≡ MessageKind.Update → ⊥

@@ -1,8 +1,7 @@
 -- As long as no line gives a slot an address, its address doesn't come to know fewer moves; and what was told stays.
-use Rattle.dm_movelaws.proofs.Names.{◌≡◌, ℕ, ◌+◌, ◌≤◌, ◌&&◌, nat_lt, Bool, true, false, List, [], ◌∷◌, ◌++◌, refl, ap, ◌∙◌, sym, subst, inl, inr, arith, if◌then◌else◌, Option, None, Some, cases_Bool, nat_tests, Pid, Place, MsgId}
-use Rattle.dm_movelaws.proofs.Names.{MessageKind, id_eq, Label, OneKernel, entry, reception, id_eq-is, after_step, Sound, bind-is, Line, View, Told, view_after, Addresses, Holder, Slot, Gets, given, gives, forwards, told_back_gets}
-use Rattle.dm_movelaws.proofs.Names.{all_follow, first_gives, own_gives, is_told_back, is_behind, is_pid, belongs_to, leads_to, updated, updated_to, place_told, addresses_after, ascends, Point, label_of, kernel_after, after_line, after}
-use Rattle.dm_movelaws.proofs.Names.{moved, parts, hushed, put_at, put_told_off, gives_to, fills, Unfilled, first_kept}
+use Rattle.dm_movelaws.proofs.Names.{◌≡◌, ℕ, ◌+◌, ◌≤◌, nat_lt, Bool, true, false, List, [], ◌∷◌, refl, ap, ◌∙◌, sym, subst, arith, if◌then◌else◌, Option, None, Some, nat_tests, Pid, Place, MsgId, MessageKind, Label, OneKernel, entry}
+use Rattle.dm_movelaws.proofs.Names.{reception, id_eq-is, after_step, Sound, bind-is, Line, View, Told, view_after, Addresses, Holder, Slot, Gets, given, gives, forwards, told_back_gets, all_follow, first_gives, own_gives, leads_to}
+use Rattle.dm_movelaws.proofs.Names.{updated, updated_to, addresses_after, ascends, Point, label_of, kernel_after, after_line, after, moved, parts, hushed, put_at, put_told_off, gives_to, fills, Unfilled, first_kept}
 use Rattle.dm_movelaws.proofs.Promise.Before.{not_given, step_pending, led_before}
 use Rattle.dm_rule.specs.View as view
 

@@ -1,15 +1,12 @@
 -- A walk over the parts of a turn that leaves a kernel's own message standing somewhere.
-use Rattle.dm_movelaws.proofs.Names.{◌≡◌, ◌⊎◌, ℕ, ◌≤◌, ◌==◌, ◌&&◌, Bool, true, false, List, [], ◌∷◌, ◌++◌, length, refl, ap, ◌∙◌, sym, subst, inl, inr, arith, ⊤, if◌then◌else◌, Option, None, Some, cases_Bool, false≢true, Pid, MsgId}
-use Rattle.dm_movelaws.proofs.Names.{MessageKind, plain_kind, id_eq, bind, id_eq-is, id_eq-same, bind-is, Line, Stage, Load, View, Told, is_kernels, own_id, view_after, Receiver, Point, label_of, kernel_after, after, moved, Part, Says}
-use Rattle.dm_movelaws.proofs.Names.{Routes, Again, Owns, Transmits, Spelled, lines_of, puts, goes_out, packet_line, behind, spelled, times, sends_on, is_put, not_true, parts, one_of, touches, pair_same, fits_as, PairsFit, fits_put}
-use Rattle.dm_movelaws.proofs.Names.{fits_packet, Sane, Sayable, part_sane, Steps, said_by, OneKernel, PlainMessage, Boot, Addresses, Sender, forwards_on, Loose, loose_round, loose_handles, by_forwards}
-use Rattle.dm_movelaws.proofs.Promise.Kept.{lines_told}
-use Rattle.dm_movelaws.proofs.Promise.Spots.{Stands, Spares, line_stands}
-use Rattle.dm_movelaws.proofs.Promise.Stands.{label_stands, put_this, put_stands, packet_stands}
-use Rattle.dm_movelaws.proofs.Leading.{Behind, whatever_put, part_leads}
-use Rattle.dm_rule.specs.Rule as rule
+use Rattle.dm_movelaws.proofs.Names.{◌≡◌, ◌⊎◌, ℕ, ◌≤◌, ◌&&◌, Bool, true, false, List, [], ◌∷◌, ◌++◌, refl, ap, ◌∙◌, sym, subst, inl, inr, arith, ⊤, Option, None, Some, cases_Bool, Pid, MsgId, MessageKind, plain_kind, id_eq, id_eq-is}
+use Rattle.dm_movelaws.proofs.Names.{id_eq-same, Line, Stage, View, Told, is_kernels, view_after, Point, label_of, kernel_after, Part, Says, Again, Owns, Spelled, spelled, times, sends_on, is_put, not_true, parts, touches, pair_same}
+use Rattle.dm_movelaws.proofs.Names.{fits_as, PairsFit, fits_put, fits_packet, Sane, Sayable, part_sane, Steps, said_by, OneKernel, PlainMessage, Boot, Addresses, Sender, forwards_on, Loose, loose_round, loose_handles, by_forwards}
 use Rattle.dm_movelaws.proofs.Names.{nat_tests}
-use Rattle.dm_movelaws.proofs.Leading.{next_of}
+use Rattle.dm_movelaws.proofs.Promise.Kept.{lines_told}
+use Rattle.dm_movelaws.proofs.Promise.Spots.{Stands, Spares, line_stands, label_stands, put_this, put_stands, packet_stands}
+use Rattle.dm_movelaws.proofs.Leading.{Behind, whatever_put, part_leads, next_of}
+use Rattle.dm_rule.specs.Rule as rule
 
 -- a kernel's own message that was told of
 pub record Base (j : MsgId) (t : Told) (pt : Point) : Type 0 where

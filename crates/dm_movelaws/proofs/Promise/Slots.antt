@@ -1,16 +1,13 @@
 -- Which holders a label gives an address to doesn't rest on the addresses that there are.
-use Rattle.dm_movelaws.proofs.Names.{◌≡◌, ℕ, ◌+◌, Bool, true, false, List, [], ◌∷◌, ◌++◌, length, map, refl, ap, ◌∙◌, sym, ◌||◌, if◌then◌else◌, Option, None, Some, Pid, Place, pid_eq, PlainLink, first_empty, MsgId, id_of, PlainMessage}
-use Rattle.dm_movelaws.proofs.Names.{PlainWhat, Label, Reply, switchboard, PlainProcess, reg, NamedLink, OneKernel, answer_id, View, Addresses, Holder, Slot, Receiver, Sender, Enclosed, Child, Answer, Gets, gives, holder_eq, acting_place}
-use Rattle.dm_movelaws.proofs.Names.{encloses, enclosed_from, sends_what, fills_by, call_gets, receives_links, receives_what, slot_after, serves_what, child_links, creates_what, board_finds, board_keeps, manager_tells, manager_sends}
-use Rattle.dm_movelaws.proofs.Names.{manager_answers, gives_to, landing_gets, board_gets, manager_gets}
+use Rattle.dm_movelaws.proofs.Names.{◌≡◌, ℕ, ◌+◌, Bool, List, [], ◌∷◌, ◌++◌, map, refl, ap, ◌∙◌, sym, ◌||◌, if◌then◌else◌, Option, Pid, Place, PlainLink, first_empty, MsgId, PlainMessage, PlainWhat, Label, Reply, PlainProcess, NamedLink}
+use Rattle.dm_movelaws.proofs.Names.{OneKernel, View, Addresses, Holder, Slot, Enclosed, Answer, Gets, gives, holder_eq, encloses, enclosed_from, sends_what, fills_by, call_gets, receives_links, receives_what, slot_after, serves_what}
+use Rattle.dm_movelaws.proofs.Names.{child_links, creates_what, board_finds, board_keeps, manager_tells, manager_sends, manager_answers, gives_to, landing_gets, board_gets, manager_gets, nat_tests, arith}
 use Rattle.dm_onekernel.specs.Calls as calls
 use Rattle.dm_onekernel.specs.Pieces as pieces
 use Rattle.dm_onekernel.specs.Switchboard as board
 use Rattle.dm_onekernel.specs.Manager as manage
 use Rattle.dm_onekernel.specs.Step as kernel
 use Rattle.dm_rule.specs.Addresses as addresses
-use Rattle.dm_movelaws.proofs.Names.{nat_tests}
-use Rattle.dm_movelaws.proofs.Names.{arith}
 
 abbrev pub holders : List Gets → List Holder
 holders [] = []

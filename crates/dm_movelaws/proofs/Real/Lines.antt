@@ -1,10 +1,9 @@
 -- Each line keeps that whoever is told of is somebody.
-use Rattle.dm_movelaws.proofs.Names.{◌≡◌, ◌⊎◌, ℕ, ◌<◌, true, false, List, is_some, refl, ap, ◌∙◌, sym, subst, inl, inr, arith, Option, None, Some, cases_Bool, false≢true, nat_tests, Pid, MsgId, MessageKind, id_eq, plain_kind, Stage}
-use Rattle.dm_movelaws.proofs.Names.{PlainMessage, PlainWhat, Label, Life, OneKernel, id_eq-is, LifeGrows, after_step, Sound, bind-is, Line, Receiver, Part, Says, Routes, Again, Owns, Transmits, Spelled, lines_of, puts, packet_line}
-use Rattle.dm_movelaws.proofs.Names.{spelled, Point, label_of, kernel_after, moved, after, View, Told, About, Of, Known, Forward, view_after, after_put, handled, receiver_of, own_id, is_kernels, is_put, not_kernels, grown_none, put_at}
-use Rattle.dm_movelaws.proofs.Names.{PacketsKeep, put_told_off, Sane, AllSayable, part_sane, label_topic, Within, HeadIn, line_within, has_bytes, is_server, awaits, WhatFits, KernelFits, step_constant, said_by, fits_step, IsReal, Kernel}
-use Rattle.dm_movelaws.proofs.Names.{Server, Made, IsAboutReal, or_cases, queued_topic, held_topic, taken_topic, told_kept, by_parts, [], ◌∷◌, ◌++◌, ⊤, pid_eq, Boot, manager, pid_eq-same, alive-is, Step, to_kernel, sends_on, migrates, Here}
-use Rattle.dm_movelaws.proofs.Names.{IsNetLine, IsNet, by_migrates, by_net, by_outcome, by_forwards, by_hears}
+use Rattle.dm_movelaws.proofs.Names.{◌≡◌, ◌⊎◌, ℕ, ◌<◌, true, false, List, is_some, refl, ap, ◌∙◌, sym, subst, inl, inr, arith, Option, None, Some, false≢true, nat_tests, Pid, MsgId, MessageKind, plain_kind, Stage, PlainMessage, PlainWhat}
+use Rattle.dm_movelaws.proofs.Names.{Label, Life, OneKernel, id_eq-is, LifeGrows, after_step, Sound, Line, Receiver, Part, Says, Routes, Again, Owns, Transmits, Spelled, spelled, Point, label_of, kernel_after, moved, View, Told, About}
+use Rattle.dm_movelaws.proofs.Names.{Known, view_after, after_put, handled, receiver_of, own_id, is_kernels, is_put, not_kernels, grown_none, put_at, PacketsKeep, put_told_off, Sane, AllSayable, label_topic, Within, HeadIn, line_within}
+use Rattle.dm_movelaws.proofs.Names.{has_bytes, awaits, WhatFits, KernelFits, step_constant, fits_step, IsReal, Kernel, Server, Made, IsAboutReal, or_cases, queued_topic, held_topic, taken_topic, told_kept, [], ◌∷◌, ◌++◌, ⊤, pid_eq, Boot}
+use Rattle.dm_movelaws.proofs.Names.{manager, pid_eq-same, alive-is, Step, to_kernel, sends_on, migrates, Here, IsNetLine, IsNet, by_migrates, by_outcome, by_forwards, by_hears}
 use Rattle.dm_movelaws.proofs.Ends.Lines.{told_by}
 use Rattle.dm_movelaws.proofs.Leading.{Behind, sane_lead, All, Saying, net_says}
 use Rattle.dm_movelaws.proofs.Stages.Lines.{MildLine, AllMild}

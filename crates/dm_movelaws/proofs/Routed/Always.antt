@@ -1,8 +1,8 @@
 -- Wherever the rule leads, each message that its sender counts was routed.
-use Rattle.dm_movelaws.proofs.Names.{◌≡◌, ◌⊎◌, ℕ, zero, suc, ◌<◌, ◌≤◌, Bool, true, false, is_some, nat_lt, List, [], ◌∷◌, ◌++◌, length, refl, ap, ◌∙◌, sym, subst, inl, inr, arith, if◌then◌else◌, slice_get, option_map, map, Option, None}
-use Rattle.dm_movelaws.proofs.Names.{Some, cases_Bool, false≢true, nat_tests, Pid, pid_eq, PlainLink, plain_link, MsgId, id_eq, id_of, BootImage, BootProcess, Boot, IsValid, switchboard, manager, Alive, OneKernel, PlainProcess, first_life}
-use Rattle.dm_movelaws.proofs.Names.{life_at, id_eq-is, not_server, bind-is, Step, Line, without_id, Point, first_point, after, after_line, times, View, Told, view_after, hushed, without_counts, one_of, line_view, put_told_off, LeadsBy}
-use Rattle.dm_movelaws.proofs.Names.{Both, both_start, both_group, times_self, times_more, run_start, run_group, with_put, routed, AreRouted, RoutedAlways, less_test}
+use Rattle.dm_movelaws.proofs.Names.{◌≡◌, ◌⊎◌, ℕ, zero, suc, ◌<◌, ◌≤◌, Bool, true, false, is_some, nat_lt, List, [], ◌∷◌, ◌++◌, length, refl, ap, ◌∙◌, sym, subst, inl, inr, arith, if◌then◌else◌, option_map, Option, None, Some, false≢true}
+use Rattle.dm_movelaws.proofs.Names.{nat_tests, Pid, pid_eq, PlainLink, MsgId, id_of, BootImage, BootProcess, Boot, IsValid, switchboard, manager, Alive, OneKernel, PlainProcess, life_at, id_eq-is, not_server, bind-is, Step, Line}
+use Rattle.dm_movelaws.proofs.Names.{without_id, Point, first_point, after, after_line, times, View, Told, view_after, hushed, without_counts, one_of, line_view, put_told_off, LeadsBy, Both, both_start, both_group, times_more, run_start}
+use Rattle.dm_movelaws.proofs.Names.{run_group, with_put, routed, AreRouted, RoutedAlways, less_test}
 use Rattle.dm_onekernel.specs.Start.{begun}
 use Rattle.dm_movelaws.proofs.After.{group_after}
 use Rattle.dm_movelaws.proofs.Routed.Groups.{IsTold, AllTold, told_group}

@@ -1,10 +1,9 @@
 -- Wherever the rule leads, each message that its sender counts was put.
-use Rattle.dm_movelaws.proofs.Names.{◌≡◌, ◌⊎◌, ℕ, Bool, true, false, is_some, List, [], ◌∷◌, refl, ap, ◌∙◌, sym, subst, inl, inr, arith, if◌then◌else◌, Option, None, Some, cases_Bool, false≢true, Pid, MsgId, MessageKind, id_eq, plain_kind}
-use Rattle.dm_movelaws.proofs.Names.{PlainMessage, Boot, Label, OneKernel, id_eq-is, Sound, bind-is, Step, Line, Receiver, Part, Says, Routes, Again, Owns, Transmits, Spelled, puts, packet_line, spelled, Point, label_of, kernel_after}
-use Rattle.dm_movelaws.proofs.Names.{moved, group_of, Inbox, Queue, StandsRight, standing, View, Told, view_after, own_id, BagStep, out_of, bag_sends, bag_ran, bag_call, bag_wait, bag_out, bag_end, bag_refuse, bag_receive, bag_dropped}
-use Rattle.dm_movelaws.proofs.Names.{bag_gone, bag_no_space, bag_created, bag_served, bag_took, group_is, stands_right, is_put, hushed, hidden, put_told_off, Sane, AllSayable, part_sane, outcome_sayable, Rides, Steps, said_by, again_rides}
-use Rattle.dm_movelaws.proofs.Names.{begun, begun_sane, Run, by_parts, Sayable, nat_tests, ◌≤◌, ⊤, migrates, times, IsNetLine, IsNet, first_is, times_self, times_more, by_migrates, IsHeardLine, hears_kept, by_round, by_handles, by_forwards}
-use Rattle.dm_movelaws.proofs.Names.{by_net, by_outcome}
+use Rattle.dm_movelaws.proofs.Names.{◌≡◌, ◌⊎◌, ℕ, true, false, is_some, List, [], ◌∷◌, refl, ap, ◌∙◌, subst, inl, inr, arith, Option, None, Some, false≢true, Pid, MsgId, MessageKind, plain_kind, PlainMessage, Boot, Label, OneKernel}
+use Rattle.dm_movelaws.proofs.Names.{id_eq-is, Sound, Step, Line, Part, Spelled, Point, label_of, kernel_after, moved, group_of, Inbox, Queue, View, Told, view_after, BagStep, out_of, bag_sends, bag_ran, bag_call, bag_wait, bag_out}
+use Rattle.dm_movelaws.proofs.Names.{bag_end, bag_refuse, bag_receive, bag_dropped, bag_gone, bag_no_space, bag_created, bag_served, bag_took, group_is, stands_right, is_put, hushed, hidden, put_told_off, Sane, outcome_sayable, Rides}
+use Rattle.dm_movelaws.proofs.Names.{begun, begun_sane, Run, Sayable, nat_tests, ◌≤◌, ⊤, migrates, times, IsNetLine, IsNet, first_is, times_self, times_more, by_migrates, IsHeardLine, hears_kept, by_round, by_handles, by_forwards}
+use Rattle.dm_movelaws.proofs.Names.{by_outcome}
 use Rattle.dm_movelaws.proofs.Routed.Steps.{is_sent, step_counts}
 use Rattle.dm_movelaws.proofs.Leading.{Behind, whatever_put, sane_lead, All, Saying, net_says}
 use Rattle.dm_onekernel.specs.Step as kernel

@@ -1,9 +1,7 @@
 -- What a process or a server says of a kernel's own message leaves all migrations as they are, or freezes the process.
-use Rattle.dm_movelaws.proofs.Names.{◌≡◌, ℕ, ◌==◌, Bool, true, false, List, [], ◌∷◌, refl, subst, if◌then◌else◌, Some, Pid, MsgId, MessageKind, Line, Stage, manager, Told, Known, Unknown, Here, Forward, Ended, target_of, Point, Part, Says}
-use Rattle.dm_movelaws.proofs.Names.{to_kernel, forwards_on, updates, here_told, ended_told, process_told, server_told, Option, plain_kind, PlainMessage, Boot, goes_round, handles, Addresses, Loose, loose_round, loose_handles, by_forwards}
+use Rattle.dm_movelaws.proofs.Names.{◌≡◌, ℕ, Bool, List, [], ◌∷◌, refl, subst, if◌then◌else◌, Some, Pid, MsgId, MessageKind, Line, Stage, Told, Known, Here, Ended, target_of, Point, Part, Says, to_kernel, forwards_on, here_told, ended_told}
+use Rattle.dm_movelaws.proofs.Names.{process_told, server_told, Option, plain_kind, PlainMessage, Boot, goes_round, handles, Addresses, Loose, loose_round, loose_handles, by_forwards, nat_tests, arith}
 use Rattle.dm_movelaws.proofs.Stages.Lines.{AllMild}
-use Rattle.dm_movelaws.proofs.Names.{nat_tests}
-use Rattle.dm_movelaws.proofs.Names.{arith}
 
 mild_loose : (me : Pid) (front : Option MsgId) → Loose (AllMild me front)
 mild_loose me front = record { none = tt; label = λ l ps h. (tt, h); routes = λ i ps h. (tt, h) }

@@ -1,15 +1,12 @@
 -- Lines that leave the migration of a process as it is.
-use Rattle.dm_movelaws.proofs.Names.{◌≡◌, ℕ, ◌+◌, ◌≤◌, ◌==◌, ◌&&◌, Bool, true, false, List, [], ◌∷◌, refl, ap, ◌∙◌, sym, subst, inl, inr, ⊤, if◌then◌else◌, Option, None, Some, cases_Bool, Pid, pid_eq, MsgId, MessageKind, Stage, Label}
-use Rattle.dm_movelaws.proofs.Names.{OneKernel, Line, at_record, View, Told, Known, Here, Ended, Of, view_after, handled, served_told, kills, gone_to, is_between, Point, label_of, kernel_after, Part, Says, Routes, Again, Owns, Transmits}
-use Rattle.dm_movelaws.proofs.Names.{Spot, times, standing, pid_eq-swap, out_of, IsNetLine, IsNet, is_put, hushed, gone_in, left_off, Plain, handled_spots, record_off, Tame, line_calm, plain_in_bag, Sane, ended_off, created_off}
-use Rattle.dm_movelaws.proofs.Names.{served_keeps, Mark, with_mark, other_than, length, plain_kind, Load, own_id, Receiver, moved, after_line, after, Spelled, lines_of, puts, goes_out, packet_line, spelled, bind-is, fits_put, fits_packet}
-use Rattle.dm_movelaws.proofs.Names.{touches, pair_same, packet_calm, fits_as, PairsFit, Sayable, part_sane, by_parts, Steps, PacketsKeep}
+use Rattle.dm_movelaws.proofs.Names.{◌≡◌, ℕ, ◌≤◌, true, false, List, [], ◌∷◌, refl, ap, ◌∙◌, sym, subst, ⊤, Option, Some, Pid, pid_eq, MsgId, MessageKind, Stage, Label, OneKernel, Line, at_record, View, Told, Known, Here, Of, view_after}
+use Rattle.dm_movelaws.proofs.Names.{handled, served_told, kills, is_between, Point, label_of, kernel_after, Part, Says, Transmits, Spot, times, standing, pid_eq-swap, out_of, IsNetLine, IsNet, is_put, hushed, gone_in, left_off, Plain}
+use Rattle.dm_movelaws.proofs.Names.{handled_spots, record_off, Tame, line_calm, plain_in_bag, Sane, ended_off, created_off, served_keeps, Mark, with_mark, other_than, Spelled, spelled, fits_put, fits_packet, touches, pair_same}
+use Rattle.dm_movelaws.proofs.Names.{packet_calm, fits_as, PairsFit, Sayable, part_sane, by_parts, Steps, PacketsKeep, nat_tests, arith}
 use Rattle.dm_movelaws.proofs.Stages.Marks.{mark_other, marks_of}
 use Rattle.dm_movelaws.proofs.Stages.Spares.{is_settled, Spares, spares_same, spares_calm, spares_trans, spares_put}
 use Rattle.dm_movelaws.proofs.Leading.{whatever_put, part_leads}
 use Rattle.dm_onekernel.specs.Step as kernel
-use Rattle.dm_movelaws.proofs.Names.{nat_tests}
-use Rattle.dm_movelaws.proofs.Names.{arith}
 
 -- what is said of the message at the front, and steps of another process that handle no message
 abbrev pub MildLine : Pid → Option MsgId → Line → Type 0

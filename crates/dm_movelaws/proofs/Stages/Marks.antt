@@ -1,10 +1,7 @@
 -- The marks of lines: of one list after another, and of the lines that parts say.
-use Rattle.dm_movelaws.proofs.Names.{◌≡◌, ℕ, ◌==◌, Bool, true, false, List, [], ◌∷◌, ◌++◌, refl, ap, ◌∙◌, sym, length, if◌then◌else◌, Option, Some, Pid, pid_eq, MsgId, MessageKind, plain_kind, Boot, pid_eq-same, bind-is, Step, Line, Load}
-use Rattle.dm_movelaws.proofs.Names.{own_id, Receiver, Point, moved, Part, Says, Routes, Again, Owns, Transmits, Spelled, lines_of, puts, goes_out, packet_line, spelled, sends_on, group_of, outcome, Mark, mark_for, with_mark, marks}
-use Rattle.dm_movelaws.proofs.Names.{follows, left_open, in_order, left_true, right_true, both_true, by_parts, group_is, false≢true}
+use Rattle.dm_movelaws.proofs.Names.{◌≡◌, ℕ, Bool, true, false, List, [], ◌∷◌, ◌++◌, refl, ap, ◌∙◌, sym, if◌then◌else◌, Option, Some, Pid, pid_eq, MsgId, Boot, pid_eq-same, Step, Line, Point, moved, Part, Says, Spelled, lines_of, spelled}
+use Rattle.dm_movelaws.proofs.Names.{sends_on, group_of, outcome, Mark, mark_for, with_mark, marks, left_open, in_order, left_true, right_true, both_true, by_parts, group_is, nat_tests, arith}
 use Rattle.dm_movelaws.proofs.Leading.{is_said, lines_are}
-use Rattle.dm_movelaws.proofs.Names.{nat_tests}
-use Rattle.dm_movelaws.proofs.Names.{arith}
 
 -- the mark that is last behind these marks, if its migration isn't over
 abbrev pub open_after : Option Mark → List Mark → Option Mark

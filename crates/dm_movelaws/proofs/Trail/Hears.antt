@@ -3,8 +3,7 @@ use Rattle.dm_movelaws.proofs.Names.{◌≡◌, ℕ, ◌+◌, ◌≤◌, Bool, t
 use Rattle.dm_movelaws.proofs.Names.{Frozen, Incoming, Forward, target_of, front_told, front_of, view_after, Receiver, Point, Part, Says, to_kernel, forwards_on, Moves, IsIn, is_between, receiver_in, sender_in, times, Trails, both_lists}
 use Rattle.dm_movelaws.proofs.Names.{Sane, Named, source_holds, destination_expects, by_hears, place_told, behind_count, left_parts, nat_tests, arith}
 use Rattle.dm_movelaws.proofs.Trail.Placed.{is_held, Places, placed_comes, placed_restarts, places_set, places_held, moves_held, moves_comes, moves_forward}
-use Rattle.dm_movelaws.proofs.Trail.Loose.{Walks, first_walks, loose_walks, updated_loose, here_loose, no_move_loose, held_loose, lacks_loose, proto_loose, to_between}
-use Rattle.dm_movelaws.proofs.Trail.Loose.{asked_loose, state_loose, memory_loose, Loose, AllLoose}
+use Rattle.dm_movelaws.proofs.Trail.Loose.{Walks, first_walks, loose_walks, updated_loose, here_loose, no_move_loose, held_loose, lacks_loose, proto_loose, to_between, asked_loose, state_loose, memory_loose, Loose, AllLoose}
 use Rattle.dm_movelaws.proofs.Trail.Forwards.{leaves_walks}
 use Rattle.dm_rule.specs.Rule as rule
 use Rattle.dm_rule.proofs.Hearing as hearing

@@ -1,14 +1,14 @@
 -- Whom a place is named for is a kernel, a server or a process that was made.
-use Rattle.dm_movelaws.proofs.Names.{◌≡◌, ℕ, ◌+◌, ◌==◌, ◌&&◌, ◌||◌, Bool, true, false, not, filter, is_some, List, [], ◌∷◌, refl, ap, ◌∙◌, sym, subst, inl, inr, cases_Bool, false≢true, if◌then◌else◌, Option, None, Some, Pid, Place, MsgId}
-use Rattle.dm_movelaws.proofs.Names.{MessageKind, id_eq, Boot, Label, IsValid, Life, OneKernel, Step, after_step, Line, Stage, Leads, Spelled, Point, first_point, label_of, kernel_after, group_of, at_record, View, Told, About, NothingElse}
-use Rattle.dm_movelaws.proofs.Names.{Target, Of, Known, Unknown, Here, Frozen, Incoming, Forward, Ended, view_after, handled, receiver_of, first_told, target_of, front_told, front_of, gone_to, served_told, forward_about, hushed, grown_none}
-use Rattle.dm_movelaws.proofs.Names.{Phased, queued_known, held_known, dropped_known, starts, start_known, Sane, label_topic, is_server, is_fixed, KnownStands, agrees, group_keeps, Loud, keeps_by, set_all, killed_or, named_real, Both}
-use Rattle.dm_movelaws.proofs.Names.{both_start, both_group, run_start, run_group, is_made, IsNamed, ByHolder, ByOwn, ByRequest, ByUpdate, ByForward, queued_topic, held_topic, taken_topic, or_first, run_always, nat_tests, arith}
+use Rattle.dm_movelaws.proofs.Names.{◌≡◌, ℕ, ◌+◌, ◌==◌, ◌&&◌, ◌||◌, Bool, true, false, not, filter, is_some, List, refl, ap, ◌∙◌, sym, subst, inl, inr, cases_Bool, false≢true, if◌then◌else◌, Option, None, Some, Pid, Place, MsgId}
+use Rattle.dm_movelaws.proofs.Names.{MessageKind, id_eq, Boot, Label, IsValid, Life, OneKernel, Step, after_step, Line, Stage, Leads, Spelled, Point, first_point, kernel_after, group_of, at_record, View, Told, About, NothingElse, Target}
+use Rattle.dm_movelaws.proofs.Names.{Of, Known, Unknown, Here, Frozen, Forward, Ended, view_after, handled, receiver_of, first_told, served_told, forward_about, hushed, grown_none, Phased, queued_known, held_known, dropped_known}
+use Rattle.dm_movelaws.proofs.Names.{start_known, Sane, label_topic, is_server, is_fixed, KnownStands, agrees, group_keeps, Loud, keeps_by, set_all, killed_or, named_real, Both, is_made, IsNamed, ByHolder, ByOwn, ByRequest, ByUpdate}
+use Rattle.dm_movelaws.proofs.Names.{ByForward, queued_topic, held_topic, taken_topic, or_first, run_always, nat_tests, arith}
 use Rattle.dm_rulelaws.proofs.Found.Core.{IsReal}
 use Rattle.dm_movelaws.proofs.After.{keeps_always}
+use Rattle.dm_movelaws.proofs.Trail.Rows.{or_first as or_left}
 use Rattle.dm_onekernel.specs.Step as kernel
 use Rattle.dm_rule.specs.View as view
-use Rattle.dm_movelaws.proofs.Trail.Rows.{or_first as or_left}
 
 -- a process that leaves a machine, or has left it
 abbrev passes : Known → Bool

@@ -1,9 +1,8 @@
 -- The trails that printed lines lay stand, and from each place that is named for a process the forwarding addresses lead to it.
 use Rattle.dm_movelaws.proofs.Names.{◌≡◌, ◌≢◌, ◌⊎◌, ℕ, zero, suc, ◌-◌, ◌<◌, ◌==◌, ◌||◌, Bool, true, false, is_some, List, [], ◌∷◌, ◌++◌, length, refl, ap, ◌∙◌, sym, subst, inl, inr, arith, cases_Bool, false≢true, slice_get_within}
-use Rattle.dm_movelaws.proofs.Names.{slice_get, Option, None, Some, Pid, Place, Boot, IsValid, Life, OneKernel, bind, Step, bind-is, Line, Receiver, Sender, unmoved, Leads, Point, first_point, after, after_line, Trails, Trail, IsOn}
-use Rattle.dm_movelaws.proofs.Names.{Trodden, first_trodden, along, trails_after, View, Known, Unknown, Here, Forward, along_treads, treads_start, trail_leads, Treads, Within, trail_within, is_server, is_fixed, KnownStands, agrees}
-use Rattle.dm_movelaws.proofs.Names.{server_at, LeadsBy, made_free, server_fixed, is_made, has_it, ends_walk, IsNamed, ByHolder, ByOwn, ByRequest, ByUpdate, ByForward, Reaches, IsLast, TrailStands, TrailsStand, IsLed, AddressesLead}
-use Rattle.dm_movelaws.proofs.Names.{nat_tests}
+use Rattle.dm_movelaws.proofs.Names.{slice_get, Option, None, Some, Pid, Place, Boot, IsValid, OneKernel, bind, Step, bind-is, Line, Receiver, Sender, unmoved, Leads, Point, first_point, after, after_line, Trails, Trail, IsOn, Trodden}
+use Rattle.dm_movelaws.proofs.Names.{first_trodden, along, trails_after, View, Known, Unknown, Here, Forward, along_treads, treads_start, trail_leads, Treads, Within, trail_within, is_server, is_fixed, KnownStands, agrees, LeadsBy}
+use Rattle.dm_movelaws.proofs.Names.{made_free, server_fixed, is_made, has_it, ends_walk, IsNamed, ByHolder, ByOwn, ByRequest, ByUpdate, ByForward, Reaches, IsLast, TrailStands, TrailsStand, IsLed, AddressesLead, nat_tests}
 use Rattle.dm_movelaws.proofs.After.{group_after}
 use Rattle.dm_movelaws.proofs.Trail.Known.{Holds, carries}
 use Rattle.dm_movelaws.proofs.Trail.Placed.{is_held}

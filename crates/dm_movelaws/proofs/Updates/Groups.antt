@@ -1,14 +1,11 @@
 -- A group that says that an update was handled says nothing else, and where it leads.
-use Rattle.dm_movelaws.proofs.Names.{◌≡◌, ℕ, ◌==◌, ◌||◌, Bool, true, false, List, [], ◌∷◌, ◌++◌, length, refl, ap, ◌∙◌, sym, subst, if◌then◌else◌, false≢true, Option, None, Some, Pid, MsgId, MessageKind, plain_kind, Boot, bind-is, Step}
-use Rattle.dm_movelaws.proofs.Names.{Line, Load, Receiver, Part, Says, Routes, Again, Owns, Transmits, Spelled, lines_of, puts, goes_out, packet_line, spelled, Point, moved, group_of, View, GroupIs, group_is, by_parts, inl, inr, Stage}
-use Rattle.dm_movelaws.proofs.Names.{manager, place_told, behind_count, sends_on, Told, IsNetLine, IsNet, by_migrates, by_hears, migrates, by_net, by_outcome, ◌⊎◌, ⊤, PlainMessage, Addresses, forwards_on, Ended, is_server, Loose}
-use Rattle.dm_movelaws.proofs.Names.{loose_round, loose_handles, by_forwards}
+use Rattle.dm_movelaws.proofs.Names.{◌≡◌, ℕ, ◌||◌, Bool, true, false, List, [], ◌∷◌, ◌++◌, refl, ap, ◌∙◌, sym, false≢true, Option, None, Some, Pid, MsgId, MessageKind, plain_kind, Boot, Step, Line, Part, Says, Spelled, lines_of, spelled}
+use Rattle.dm_movelaws.proofs.Names.{Point, moved, group_of, GroupIs, group_is, by_parts, inl, inr, manager, place_told, behind_count, sends_on, Told, IsNetLine, IsNet, by_migrates, by_hears, migrates, by_net, by_outcome, ◌⊎◌, ⊤}
+use Rattle.dm_movelaws.proofs.Names.{PlainMessage, Addresses, forwards_on, Ended, is_server, Loose, loose_round, loose_handles, by_forwards, nat_tests, arith}
 use Rattle.dm_movelaws.proofs.Leading.{lines_are}
 use Rattle.dm_rule.specs.View as view
 use Rattle.dm_rule.specs.Migrating as migrating
 use Rattle.dm_rule.specs.Rule as rule
-use Rattle.dm_movelaws.proofs.Names.{nat_tests}
-use Rattle.dm_movelaws.proofs.Names.{arith}
 
 -- the update is at the front of an inbox and not in the bag: its receiver is a server or here and the line counts the addresses
 -- that are behind, or its receiver has ended
