@@ -55,8 +55,7 @@ ran p b (d ∷ ds) pt end ls ids valid h sources opens (w, rest, fit, is, split,
 
 -- where a run begins nothing moves
 here_or : (c : Bool) (k : Known) → is_moving k ≡ false → is_moving (if c then Here else k) ≡ false
-here_or true k e = refl
-here_or false k e = e
+here_or c k e = grind (arith, nat_tests)
 
 known_rests : (ps : List BootProcess) (m : ℕ) (q : Pid) → is_moving (known_at ps m q) ≡ false
 known_rests [] m q = here_or ((m == 0) && (pid_eq q switchboard || pid_eq q manager)) Unknown refl
@@ -66,10 +65,7 @@ start_stays : (b : Boot) (p : Pid) (h : Both b (first_point b)) → moving_at b 
 start_stays b p h = grind (arith, nat_tests, waits_or, known_rests)
 
 start_opens : (b : Boot) (p : Pid) → Opens p (first_view b) []
-start_opens b p = record { each = λ i least. absurd (omega (arith, least)); all = λ i is. absurd (let e = is.is in none_some is.told e) }
-  where
-    none_some : {X : Type 0} (x : X) → None ≡ Some x → ⊥
-    none_some x e = cc
+start_opens b p = grind (arith, nat_tests)
 
 pub ends_always : EndsAlways
 ends_always b es ls pt p valid leads =

@@ -101,8 +101,7 @@ stays_comes p pt i is t q h between about w e =
     comes_back p pt i is t q l w h between about first (λ m r. refl) (line_then p pt l [] w refl refl refl h.sane h.fits tt tt e) (line_alone pt l w refl e) (λ f. refl) refl
 
 restarted_off : (v : View) (q : Pid) (z : Spot) → ids_at (view_after v (Line.Migration Stage.Restarted q)) z ≡ ids_at (rejoins (handled_first v) q) z
-restarted_off v q (Queue m r) = refl
-restarted_off v q _ = refl
+restarted_off v q z = grind (arith, nat_tests)
 
 restarted_comes : (p : Pid) (pt : Point) (i : MsgId) (is : List MsgId) (t : Told) (q : Pid) (h : Turn pt i is t) → is_between t.kind ≡ true → t.about ≡ Of q → ComesOf p pt h.phases (Some (Says (Line.Migration Stage.Restarted q) ∷ []))
 restarted_comes p pt i is t q h between about w e =
@@ -190,8 +189,7 @@ forwarded_put p v i is t to b front told pairs =
     (λ j e z. put_spots u u.acting b i j t.kind t.receiver pairs e z ∙ forwarded_spots (handled v i) j o z ∙ handled_spots v i j e z)
 
 told_loose : (c : Bool) (q : Pid) (to : ℕ) → AllLoose (if c then Owns MessageKind.Update q to ∷ [] else [])
-told_loose true q to = (λ pt. tt, tt)
-told_loose false q to = tt
+told_loose c q to = grind (arith, nat_tests)
 
 forwards_settle : (p : Pid) (pt : Point) (i : MsgId) (is : List MsgId) (t : Told) (to b : ℕ) (ps : List Part) (w : Spelled) → Turn pt i is t → ((v : View) → AllQuiet p v ps) → AllLoose ps → spelled pt (Says (Line.Forwarded i to) ∷ Again i b ∷ ps) ≡ Some w → Settled p pt.view w.point
 forwards_settle p pt i is t to b ps w h quiet loose e =
@@ -310,12 +308,10 @@ process_comes p o m i is t Ended h known = over_comes p (turned o m) i is t t.ki
 process_comes p o m i is t _ h known = held_comes p (turned o m) i is t h
 
 of_bind : {X : Type 0} (p : Pid) (pt : Point) (h : InPhases pt.view) (x : Option X) (f : X → Option (List Part)) → ((y : X) → ComesOf p pt h (f y)) → ComesOf p pt h (bind x f)
-of_bind p pt h None f k = tt
-of_bind p pt h (Some y) f k = k y
+of_bind p pt h x f k = grind (arith, nat_tests)
 
 of_if : (p : Pid) (pt : Point) (h : InPhases pt.view) (c : Bool) (x y : Option (List Part)) → ComesOf p pt h x → ComesOf p pt h y → ComesOf p pt h (if c then x else y)
-of_if p pt h true x y k l = k
-of_if p pt h false x y k l = l
+of_if p pt h c x y k l = grind (arith, nat_tests)
 
 kernel_comes : (p : Pid) (b : Boot) (o : Point) (m : ℕ) (i : MsgId) (is : List MsgId) (t : Told) (a : About) (h : Turn (turned o m) i is t) → t.about ≡ a → ComesOf p (turned o m) h.phases (kernel_hears b o m i t.kind a)
 kernel_comes p b o m i is t (Of q) h about = search (of_bind, told_comes)

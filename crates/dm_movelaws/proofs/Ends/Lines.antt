@@ -76,8 +76,7 @@ moves_none p v l quiet off = smooth_still p v (view_after v l) (told_by v l quie
 
 -- a message of the bag is none
 pub plain_not : (w : PlainWhat) → is_migrate (plain_kind w) ≡ false
-plain_not (PlainWhat.User a b c d) = refl
-plain_not _ = refl
+plain_not w = grind (arith, nat_tests)
 
 pub kind_not : (p : Pid) (t : Told) → is_migrate t.kind ≡ false → asks_for p t ≡ false
 kind_not p t e = ap (λ (c : Bool). c && pid_eq p t.receiver) e
@@ -154,9 +153,7 @@ label_smooth p pt s _ h is = smooth_same p pt.view
 
 -- a message of a migration that is no step of it
 pub follows_or : (P : View → Type 0) (v : View) (a : About) (k : MessageKind) → P v → P (view.asks_on v a) → P (view.follows_up v a k)
-follows_or P v a MessageKind.State x y = y
-follows_or P v a MessageKind.Memory x y = y
-follows_or P v a k x y = x
+follows_or P v a k x y = grind (arith, nat_tests)
 
 pub line_smooth : (p : Pid) (pt : Point) (s : OneKernel) (l : Line) → Sane pt → QuietLine p pt.view l → kernel_after pt.kernel (label_of l) ≡ Some s → Smooth p pt.view (view_after pt.view l)
 line_smooth p pt s (Line.Idle m) h quiet is = smooth_same p pt.view
@@ -207,12 +204,10 @@ label_still p pt (Label.Created id q) need = λ m. set_still pt.view.known pt.vi
 label_still p pt _ need = λ m. refl
 
 asks_still : (p : Pid) (v : View) (a : About) → Still p v (view.asks_on v a)
-asks_still p v NothingElse m = refl
-asks_still p v _ m = refl
+asks_still p v a m = grind (arith, nat_tests)
 
 pub proto_still : (p : Pid) (v : View) (o : Option Told) → Still p v (view.after_proto v o)
-proto_still p v None m = refl
-proto_still p v (Some t) m = follows_or (λ (w : View). is_moving (w.known m p) ≡ is_moving (v.known m p)) v t.about t.kind refl (asks_still p v t.about m)
+proto_still p v o m = grind (arith, nat_tests, follows_or, asks_still)
 
 pub line_still : (p : Pid) (pt : Point) (l : Line) → QuietLine p pt.view l → Needs pt l → Still p pt.view (view_after pt.view l)
 line_still p pt (Line.Idle m) quiet need = λ n. refl
@@ -237,10 +232,4 @@ for_other : (p : Pid) (v : View) (i : MsgId) (f : MsgId → Option Told) → For
 for_other p v i f h ext = ap (is_for p) (ext i h.what h.told) ∙ h.other
 
 pub quiet_ends : (p : Pid) (v : View) (l : Line) (f : MsgId → Option Told) → QuietLine p v l → Extends v.told f → ends f p l ≡ false
-quiet_ends p v (Line.Here i) f quiet ext = for_other p v i f quiet ext
-quiet_ends p v (Line.NoMove i) f quiet ext = for_other p v i f quiet ext
-quiet_ends p v (Line.NoChild q) f quiet ext = quiet
-quiet_ends p v (Line.Pinned q) f quiet ext = quiet
-quiet_ends p v (Line.Stays q) f quiet ext = absurd quiet
-quiet_ends p v (Line.Migration Stage.Restarted q) f quiet ext = absurd quiet
-quiet_ends p v _ f quiet ext = refl
+quiet_ends p v l f quiet ext = grind (arith, nat_tests, for_other)

@@ -13,17 +13,10 @@ moving_in _ = 0
 
 -- the source or the destination waits
 source_waits : (k : MessageKind) (d : ℕ) (x : Known) → is_restart k ≡ false → kind_leaves k d x ≡ true → is_moving x ≡ true
-source_waits k d (Frozen to) e h = refl
-source_waits k d (Incoming from) e h = refl
-source_waits k d (Forward at moves) e h = absurd (false≢true (sym (ap (λ (c : Bool). c && (d == at)) e) ∙ h))
-source_waits k d _ e h = absurd (false≢true h)
+source_waits k d x e h = grind (arith, nat_tests)
 
 pub target_waits : (k : MessageKind) (s : ℕ) (x : Known) → is_early k ≡ false → kind_comes k s x ≡ true → is_moving x ≡ true
-target_waits k s Here e h = absurd (false≢true h)
-target_waits k s (Frozen to) e h = refl
-target_waits k s (Incoming from) e h = refl
-target_waits k s Ended e h = absurd (false≢true h)
-target_waits k s _ e h = absurd (false≢true (sym e ∙ h))
+target_waits k s x e h = grind (arith, nat_tests)
 
 some_waits : (k : MessageKind) (s d : ℕ) (o : Option MsgId) (f : ℕ → Known) (c : Bool) → is_restart k ≡ c → (is_between k && not (s == d)) ≡ true → ((m : ℕ) → knows (Moves k s d o) m (f m) ≡ true) → (m : ℕ) × (is_moving (f m) ≡ true)
 some_waits k s d o f true e apart h = (d, target_waits k s (f d) (restart_late k e) (knows_target k s d o (f d) (not_false (s == d) (parts (is_between k) (not (s == d)) apart).1) (h d)))
@@ -31,32 +24,22 @@ some_waits k s d o f false e apart h = (s, source_waits k d (f s) e (source_know
 
 -- elsewhere none does
 pub unknown_rests : (x : Known) → is_unknown x ≡ true → is_moving x ≡ false
-unknown_rests (Frozen to) e = absurd (false≢true e)
-unknown_rests (Incoming from) e = absurd (false≢true e)
-unknown_rests _ e = refl
+unknown_rests x e = grind (arith, nat_tests)
 
 pub away_rests : (x : Known) → is_away x ≡ true → is_moving x ≡ false
-away_rests (Frozen to) e = absurd (false≢true e)
-away_rests (Incoming from) e = absurd (false≢true e)
-away_rests _ e = refl
+away_rests x e = grind (arith, nat_tests)
 
 pub here_rests : (x : Known) → is_here x ≡ true → is_moving x ≡ false
-here_rests (Frozen to) e = absurd (false≢true e)
-here_rests (Incoming from) e = absurd (false≢true e)
-here_rests _ e = refl
+here_rests x e = grind (arith, nat_tests)
 
 pub over_rests : (x : Known) → is_over x ≡ true → is_moving x ≡ false
-over_rests (Frozen to) e = absurd (false≢true e)
-over_rests (Incoming from) e = absurd (false≢true e)
-over_rests _ e = refl
+over_rests x e = grind (arith, nat_tests)
 
 pub at_rests : (c : Bool) (x : Known) → (if c then is_here x else is_away x) ≡ true → is_moving x ≡ false
-at_rests true x e = here_rests x e
-at_rests false x e = away_rests x e
+at_rests c x e = grind (arith, nat_tests, here_rests, away_rests)
 
 pub at_over : (c : Bool) (x : Known) → (if c then is_over x else is_away x) ≡ true → is_moving x ≡ false
-at_over true x e = over_rests x e
-at_over false x e = away_rests x e
+at_over c x e = grind (arith, nat_tests, over_rests, away_rests)
 
 -- a phase, and who waits
 pub record Waiting (v : View) (p : Pid) (n : ℕ) : Type 0 where

@@ -8,10 +8,7 @@ use Rattle.dm_movelaws.proofs.Leading.{Saying, net_says, net_lead}
 pub use Rattle.dm_rule.proofs.Moves.Lists.{zero_cases}
 
 pub head_smooth : (p : Pid) (v : View) (s : Step) → Smooth p v (after_head v s)
-head_smooth p v (Step.Turn m) = smooth_still p v (after_head v (Step.Turn m)) (λ i. refl) (λ i z. ap (times i) (turn_off v m z))
-head_smooth p v (Step.Tick m) = smooth_still p v (after_head v (Step.Tick m)) (λ i. refl) (λ i z. ap (times i) (tick_off v m z))
-head_smooth p v (Step.Deliver a b k) = smooth_still p v (after_head v (Step.Deliver a b k)) (λ i. refl) (λ i z. ap (times i) (deliver_off v a b k z))
-head_smooth p v (Step.Migrate q m) = smooth_still p v (after_head v (Step.Migrate q m)) (λ i. refl) (λ i z. ap (times i) (migrate_off v q m z))
+head_smooth p v s = grind (arith, nat_tests, smooth_still, turn_off, tick_off, deliver_off, migrate_off)
 
 -- a message is taken: it comes from the stream to the inbox
 abbrev one_taken : Pair → ℕ → Pair
@@ -29,8 +26,7 @@ taken_front : (p : Pair) (n : ℕ) (i : MsgId) → slice_get p.ids p.taken ≡ S
 taken_front p n i is = grind (arith, nat_tests, at_place)
 
 none_off : (v : View) (a b n : ℕ) (z : Spot) → untaken (one_taken (v.pair a b) n) ≡ untaken (v.pair a b) → ids_at (taken_view v a b n) z ≡ ids_at v z
-none_off v a b n (Untaken c d) same = pair_keeps v.pair a b (one_taken (v.pair a b) n) same c d
-none_off v a b n _ same = refl
+none_off v a b n z same = grind (arith, nat_tests, pair_keeps)
 
 -- the stream has one less, and the inbox one more
 stream_back : (v : View) (a b n : ℕ) (i j : MsgId) (c d : ℕ) → untaken (v.pair a b) ≡ i ∷ untaken (one_taken (v.pair a b) n) → 1 ≤ times j (untaken (at_pair v.pair a b (one_taken (v.pair a b) n) c d)) → 1 ≤ times j (untaken (v.pair c d))
@@ -92,8 +88,7 @@ taken_by p v a b n (Some i) is =
     record { kept = λ j t e. e; fresh = λ j t e c. e; on = λ j t e c s. taken_on v a b n i j front s.0 s.1; back = λ j t e c s. taken_back v a b n i j front s.0 s.1 }
 
 taken_still : (p : Pid) (v : View) (b : ℕ) (o : Option MsgId) → Still p v (taken_id v b o)
-taken_still p v b None m = refl
-taken_still p v b (Some i) m = refl
+taken_still p v b o m = grind (arith, nat_tests)
 
 net_smooth : (p : Pid) (v : View) (l : Line) → IsNetLine l → Smooth p v (view_after v l)
 net_smooth p v (Line.Taken a b n) h = taken_by p v a b n (slice_get (v.pair a b).ids (v.pair a b).taken) refl
@@ -105,13 +100,7 @@ net_smooth p v (Line.Resent m n) h = smooth_same p v
 net_smooth p v _ h = absurd h
 
 net_still : (p : Pid) (v : View) (l : Line) → IsNetLine l → Still p v (view_after v l)
-net_still p v (Line.Taken a b n) h = λ m. taken_still p (taken_view v a b n) b (slice_get (v.pair a b).ids (v.pair a b).taken) m
-net_still p v (Line.Old a b n) h = λ m. refl
-net_still p v (Line.Early a b n) h = λ m. refl
-net_still p v (Line.Acked a b n) h = λ m. refl
-net_still p v Line.Nothing h = λ m. refl
-net_still p v (Line.Resent m n) h = λ k. refl
-net_still p v _ h = absurd h
+net_still p v l h = grind (arith, nat_tests, taken_still)
 
 -- what a group keeps
 pub record Level (p : Pid) (v w : View) : Type 0 where
@@ -137,17 +126,10 @@ net_none : (f : Line → Bool) → Neither f → (ps : List Part) → IsNet ps �
 net_none f n ps h = none_count f NetPart n ps (net_says IsNetLine (λ l net. net) ps h)
 
 net_line_asks : (p : Pid) → Neither (asks p)
-net_line_asks p (Line.Head d) h = absurd h
-net_line_asks p l h = refl
+net_line_asks p l h = grind (arith, nat_tests)
 
 net_line_ends : (g : MsgId → Option Told) (p : Pid) → Neither (ends g p)
-net_line_ends g p (Line.Taken a b n) h = refl
-net_line_ends g p (Line.Old a b n) h = refl
-net_line_ends g p (Line.Early a b n) h = refl
-net_line_ends g p (Line.Acked a b n) h = refl
-net_line_ends g p Line.Nothing h = refl
-net_line_ends g p (Line.Resent m n) h = refl
-net_line_ends g p l h = absurd h
+net_line_ends g p l h = grind (arith, nat_tests)
 
 pub net_asks : (p : Pid) (ps : List Part) → IsNet ps → part_count (asks p) ps ≡ 0
 net_asks p ps h = net_none (asks p) (net_line_asks p) ps h

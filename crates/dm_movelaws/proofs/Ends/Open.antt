@@ -38,8 +38,7 @@ pub record Closes (p : Pid) (v w : View) (i : MsgId) : Type 0 where
   pub gone : Somewhere w i → ⊥
 
 shorter_by : (i j : MsgId) (js : List MsgId) (c : Bool) → id_eq i j ≡ c → 1 ≤ times i (j ∷ js) → (1 ≤ times i js → length js ≡ suc (length (without_id i js))) → length (j ∷ js) ≡ suc (length (if c then js else j ∷ without_id i js))
-shorter_by i j js true is least h = refl
-shorter_by i j js false is least h = grind (arith, nat_tests)
+shorter_by i j js c is least h = grind (arith, nat_tests)
 
 pub shorter : (i : MsgId) (js : List MsgId) → 1 ≤ times i js → length js ≡ suc (length (without_id i js))
 shorter i [] least = absurd (omega arith)

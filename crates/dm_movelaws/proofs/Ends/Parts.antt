@@ -43,33 +43,16 @@ foreign_on : (p : Pid) (v w : View) (i : MsgId) → Smooth p v w → Foreign p v
 foreign_on p v w i c h = record { what = h.what; told = c.kept i h.what h.told; other = h.other }
 
 line_on : (p : Pid) (v w : View) (l : Line) → Smooth p v w → QuietLine p v l → QuietLine p w l
-line_on p v w (Line.Queued i) c h = tame_on p v w i c h
-line_on p v w (Line.Held i) c h = tame_on p v w i c h
-line_on p v w (Line.Forwarded i m) c h = tame_on p v w i c h
-line_on p v w (Line.Updated i n) c h = tame_on p v w i c h
-line_on p v w (Line.Proto i) c h = tame_on p v w i c h
-line_on p v w (Line.Here i) c h = foreign_on p v w i c h
-line_on p v w (Line.NoMove i) c h = foreign_on p v w i c h
-line_on p v w (Line.Migration Stage.Asked q) c h = h
-line_on p v w l c h = h
+line_on p v w l c h = grind (arith, nat_tests, tame_on, foreign_on)
 
 quiet_on : (p : Pid) (v w : View) (x : Part) → Smooth p v w → Quiet p v x → Quiet p w x
-quiet_on p v w (Says l) c h = line_on p v w l c h
-quiet_on p v w (Again i b) c h = tame_on p v w i c h
-quiet_on p v w _ c h = h
+quiet_on p v w x c h = grind (arith, nat_tests, line_on, tame_on)
 
 quiet_touches : (p : Pid) (v : View) (l : Line) → QuietLine p v l → touches l ≡ false
-quiet_touches p v (Line.Head s) h = absurd h
-quiet_touches p v (Line.Put a b i k q) h = absurd h
-quiet_touches p v (Line.Packet a b k l) h = absurd h
-quiet_touches p v (Line.Taken a b n) h = absurd h
-quiet_touches p v (Line.Early a b n) h = absurd h
-quiet_touches p v (Line.Acked a b n) h = absurd h
-quiet_touches p v l h = refl
+quiet_touches p v l h = grind (arith, nat_tests)
 
 quiet_put : (p : Pid) (v : View) (l : Line) → QuietLine p v l → is_put l ≡ false
-quiet_put p v (Line.Put a b i k q) h = absurd h
-quiet_put p v l h = refl
+quiet_put p v l h = grind (arith, nat_tests)
 
 -- what is kept through parts
 pub record Settled (p : Pid) (v : View) (pt : Point) : Type 0 where
@@ -106,8 +89,7 @@ rest_behind p pt (Owns k q b) h fits quiet need = put_rest p pt.view b (own_id p
 rest_behind p pt (Transmits a b l) h fits quiet need = record { smooth = smooth_same p pt.view; still = λ m. refl; fits = fits }
 
 sayable_of : (p : Pid) (v : View) (x : Part) → Quiet p v x → Sayable x
-sayable_of p v (Says l) h = quiet_put p v l h
-sayable_of p v _ h = tt
+sayable_of p v x h = grind (arith, nat_tests, quiet_put)
 
 pub settled_same : (p : Pid) (pt : Point) → Sane pt → PairsFit pt.view → Settled p pt.view pt
 settled_same p pt sane fits = record { smooth = smooth_same p pt.view; still = still_same p pt.view; sane = sane; fits = fits }
@@ -151,8 +133,7 @@ pub zero_if : (c : Bool) → c ≡ false → unit_if c ≡ 0
 zero_if c e = ap unit_if e
 
 unsaid_count : (f : Line → Bool) (x : Part) (ps : List Part) → is_said x ≡ false → part_count f (x ∷ ps) ≡ part_count f ps
-unsaid_count f (Says l) ps e = absurd (false≢true (sym e))
-unsaid_count f x ps e = refl
+unsaid_count f x ps e = grind (arith, nat_tests)
 
 lines_count : (f : Line → Bool) (pt : Point) (x : Part) (ps : List Part) (ls : List Line) → Silent f → lines_of pt x ≡ Some ls → count f ls + part_count f ps ≡ part_count f (x ∷ ps)
 lines_count f pt x ps ls h is = grind (arith, nat_tests, unsaid_count, lines_are, zero_if)
@@ -171,8 +152,7 @@ pub quiet_count : (p : Pid) (v : View) (ps : List Part) (f : MsgId → Option To
 quiet_count p v ps f quiet ext = none_count (ends f p) (Quiet p v) (λ l q. quiet_ends p v l f q ext) ps quiet
 
 line_asks : (p : Pid) (v : View) (l : Line) → QuietLine p v l → asks p l ≡ false
-line_asks p v (Line.Head d) h = absurd h
-line_asks p v l h = refl
+line_asks p v l h = grind (arith, nat_tests)
 
 pub quiet_asks : (p : Pid) (v : View) (ps : List Part) → AllQuiet p v ps → part_count (asks p) ps ≡ 0
 quiet_asks p v = none_count (asks p) (Quiet p v) (line_asks p v)
@@ -184,8 +164,7 @@ pub round_quiet : (p : Pid) (v : View) (b : Boot) (o : Point) (m : ℕ) (q : Opt
 round_quiet p v b o m q ps e = loose_round (AllQuiet p v) (quiet_loose p v) b o m q ps (tt, tt) e
 
 pub told_quiet : (p : Pid) (v : View) (c : Bool) (q : Pid) (to : ℕ) → AllQuiet p v (if c then Owns MessageKind.Update q to ∷ [] else [])
-told_quiet p v true q to = (refl, tt)
-told_quiet p v false q to = tt
+told_quiet p v c q to = grind (arith, nat_tests)
 
 -- a message of the bag, at the front of the inbox
 pub handles_quiet : (p : Pid) (v : View) (b : Boot) (o : Point) (m : ℕ) (id : MsgId) (msg : PlainMessage) (ps : List Part) → Tame p v id → rule.handles b o m id msg ≡ Some ps → AllQuiet p v ps

@@ -20,8 +20,7 @@ less_or : (x y : ℕ) → (x < y) ⊎ (y ≤ x)
 less_or x y = grind (arith, nat_tests)
 
 drop_nothing : (k : ℕ) → drop {A = MsgId} k [] ≡ []
-drop_nothing zero = refl
-drop_nothing (suc k) = refl
+drop_nothing k = grind (arith, nat_tests)
 
 -- streams are empty: all was taken, or nothing was routed
 stream_empty : (n : ℕ) (v : View) → IsQuiet n v → Sources n v → (a b : ℕ) → b < n → untaken (v.pair a b) ≡ []

@@ -25,8 +25,7 @@ abbrev pub Comes : Pid → (pt : Point) → InPhases pt.view → List Part → S
 Comes p pt h parts w = (g : InPhases w.point.view) (ids : List MsgId) → Opens p pt.view ids → Balance p w.point.view ids 0 (moving_in (h.of p)) (moving_in (g.of p)) parts
 
 between_not : (k : MessageKind) → is_between k ≡ true → is_migrate k ≡ false
-between_not MessageKind.Migrate e = absurd (false≢true e)
-between_not k e = refl
+between_not k e = grind (arith, nat_tests)
 
 pub plain_one : (p : Pid) (v : View) (i : MsgId) (t : Told) → v.told i ≡ Some t → asks_for p t ≡ false → Plain p v i
 plain_one p v i t told e u is = subst (λ (x : Told). asks_for p x ≡ false) (told_one (v.told i) t u told is) e

@@ -197,8 +197,7 @@ pub handled_smooth : (p : Pid) (v : View) (i : MsgId) (is : List MsgId) → v.in
 handled_smooth p v i is front plain = smooth_others p v (handled_first v) i plain plain (λ t e. e) (record { told = λ j a. refl; spots = first_spots v (handled_first v) i is front (λ z. refl) })
 
 here_off : (v : View) (q : Pid) (ring : List Pid) (z : Spot) → ids_at (with_ring (knowing v q Here) ring) z ≡ ids_at v z
-here_off v q ring (Queue m r) = refl
-here_off v q ring _ = refl
+here_off v q ring z = grind (arith, nat_tests)
 
 pub rejoins_smooth : (p : Pid) (v : View) (q : Pid) → Smooth p v (view.rejoins v q)
 rejoins_smooth p v q =

@@ -13,38 +13,13 @@ Sources n v = (a b : ℕ) → n ≤ a → (v.pair a b).ids ≡ []
 
 -- a pair that keeps what was routed
 pair_ids : (f : ℕ → ℕ → Pair) (a b : ℕ) (p : Pair) → p.ids ≡ (f a b).ids → (c d : ℕ) → (at_pair f a b p c d).ids ≡ (f c d).ids
-pair_ids f a b p e c d = elim (cases_Bool ((a == c) && (b == d))) [
-  | inl same ↦ ap (λ (t : Bool). (if t then p else f c d).ids) same ∙ e ∙ ap (λ (n : ℕ). (f n b).ids) (eq_is a c (left_of (a == c) (b == d) same)) ∙ ap (λ (n : ℕ). (f c n).ids) (eq_is b d (right_of (a == c) (b == d) same))
-  | inr apart ↦ ap (λ (t : Bool). (if t then p else f c d).ids) apart
-]
-  where
-    left_of : (x y : Bool) → (x && y) ≡ true → x ≡ true
-    left_of true y h = refl
-    left_of false y h = absurd (false≢true h)
-
-    right_of : (x y : Bool) → (x && y) ≡ true → y ≡ true
-    right_of true y h = h
-    right_of false y h = absurd (false≢true h)
+pair_ids f a b p e c d = grind (arith, nat_tests, eq_is)
 
 pub head_ids : (v : View) (d : Step) (a b : ℕ) → ((after_head v d).pair a b).ids ≡ (v.pair a b).ids
-head_ids v (Step.Deliver x y k) a b = pair_ids v.pair x y (view.marked (v.pair x y) k) refl a b
-head_ids v _ a b = refl
+head_ids v d a b = grind (arith, nat_tests, pair_ids)
 
 pub line_ids : (v : View) (l : Line) → is_put l ≡ false → (a b : ℕ) → ((view_after v l).pair a b).ids ≡ (v.pair a b).ids
-line_ids v (Line.Head d) e a b = head_ids v d a b
-line_ids v (Line.Put x y i k q) e a b = absurd (false≢true (sym e))
-line_ids v (Line.Packet x y k l) e a b = pair_ids v.pair x y _ refl a b
-line_ids v (Line.Taken x y n) e a b = ap (λ (f : ℕ → ℕ → Pair). (f a b).ids) (taken_pair (view.with_pair v x y _) y (view.oldest (v.pair x y))) ∙ pair_ids v.pair x y _ refl a b
-line_ids v (Line.Early x y n) e a b = pair_ids v.pair x y _ refl a b
-line_ids v (Line.Acked x y n) e a b = pair_ids v.pair y x _ refl a b
-line_ids v (Line.Idle m) e a b = ap (λ (f : ℕ → ℕ → Pair). (f a b).ids) (pair_same v (Line.Idle m) refl)
-line_ids v (Line.Label l) e a b = ap (λ (f : ℕ → ℕ → Pair). (f a b).ids) (pair_same v (Line.Label l) refl)
-line_ids v (Line.Queued i) e a b = ap (λ (f : ℕ → ℕ → Pair). (f a b).ids) (pair_same v (Line.Queued i) refl)
-line_ids v (Line.Held i) e a b = ap (λ (f : ℕ → ℕ → Pair). (f a b).ids) (pair_same v (Line.Held i) refl)
-line_ids v (Line.Forwarded i m) e a b = ap (λ (f : ℕ → ℕ → Pair). (f a b).ids) (pair_same v (Line.Forwarded i m) refl)
-line_ids v (Line.Migration s p) e a b = ap (λ (f : ℕ → ℕ → Pair). (f a b).ids) (pair_same v (Line.Migration s p) refl)
-line_ids v (Line.Proto i) e a b = ap (λ (f : ℕ → ℕ → Pair). (f a b).ids) (pair_same v (Line.Proto i) refl)
-line_ids v _ e a b = refl
+line_ids v l e a b = grind (arith, nat_tests, head_ids, pair_ids, taken_pair, pair_same)
 
 -- no line but a head sets the machine that acts
 abbrev is_head : Line → Bool
@@ -52,15 +27,7 @@ is_head (Line.Head d) = true
 is_head l = false
 
 line_acting : (v : View) (l : Line) → is_head l ≡ false → (view_after v l).acting ≡ v.acting
-line_acting v (Line.Head d) e = absurd (false≢true (sym e))
-line_acting v (Line.Taken x y n) e = acting_taken (view.with_pair v x y _) y (view.oldest (v.pair x y))
-line_acting v (Line.Label l) e = acting_label v l
-line_acting v (Line.Queued i) e = queued_acting (handled v i) i (receiver_of (v.told i))
-line_acting v (Line.Held i) e = held_acting (handled v i) i (receiver_of (v.told i))
-line_acting v (Line.Forwarded i m) e = forwarded_acting (handled v i) (receiver_of (v.told i))
-line_acting v (Line.Migration Stage.Frozen p) e = refl
-line_acting v (Line.Proto i) e = proto_acting (handled v i) (v.told i)
-line_acting v _ e = refl
+line_acting v l e = grind (arith, nat_tests, acting_taken, acting_label, queued_acting, held_acting, forwarded_acting, proto_acting)
 
 -- what stands between the lines of a group
 pub record Acts (n : ℕ) (f : MsgId → Option Told) (v : View) : Type 0 where
@@ -99,20 +66,14 @@ parts_act n f = parts_lead (λ q. Acts n f q.view) (acts_packet n f) Goes (acts_
 
 -- what the parts of a group are
 fit_goes : (l : Line) → touches l ≡ false → (is_head l ≡ false) × (is_put l ≡ false)
-fit_goes (Line.Head d) e = absurd (false≢true (sym e))
-fit_goes (Line.Put a b i k q) e = absurd (false≢true (sym e))
-fit_goes l e = (refl, refl)
+fit_goes l e = grind (arith, nat_tests)
 
 net_goes : (l : Line) → IsNetLine l → (is_head l ≡ false) × (is_put l ≡ false)
-net_goes (Line.Head d) e = absurd e
-net_goes (Line.Put a b i k q) e = absurd e
-net_goes l e = (refl, refl)
+net_goes l e = grind (arith, nat_tests)
 
 -- a directive acts on a machine that there is
 actor_less : (n : ℕ) (v : View) (d : Step) → IsStep n d → (after_head v d).acting < n
-actor_less n v (Step.Deliver a b k) h = h.1
-actor_less n v (Step.Migrate p m) h = omega (arith, h)
-actor_less n v _ h = h
+actor_less n v d h = grind (arith, nat_tests)
 
 -- each group
 pub group_acts : (n : ℕ) (b : Boot) (pt : Point) (d : Step) (w : Spelled) → IsStep n d → group_of b pt d ≡ Some w → Sources n pt.view → Acts n pt.view.told w.point.view

@@ -14,17 +14,14 @@ none_less : (n : ℕ) → nat_lt n 0 ≡ false
 none_less n = grind (arith, nat_tests)
 
 image_sent : (b : Boot) (links : List PlainLink) (n : ℕ) (o : Option BootImage) → has_sent n (option_map (λ image. Alive (begun b.format image links)) o) ≡ false
-image_sent b links n None = refl
-image_sent b links n (Some image) = none_less n
+image_sent b links n o = grind (arith, nat_tests, none_less)
 
 life_sent : (b : Boot) (ps : List BootProcess) (q : Pid) (n : ℕ) → has_sent n (life_at b ps q) ≡ false
 life_sent b [] q n = refl
 life_sent b (p ∷ ps) q n = grind (arith, nat_tests, image_sent, life_sent b ps q n)
 
 none_chosen : (c d : Bool) (x y z : Bool) → x ≡ false → y ≡ false → z ≡ false → (if c then x else if d then y else z) ≡ true → ⊥
-none_chosen true d x y z f g h e = false≢true (sym f ∙ e)
-none_chosen false true x y z f g h e = false≢true (sym g ∙ e)
-none_chosen false false x y z f g h e = false≢true (sym h ∙ e)
+none_chosen c d x y z f g h e = grind (arith, nat_tests)
 
 start_told : (b : Boot) → AllTold (first_point b)
 start_told b i ask sent = grind (arith, nat_tests, none_chosen, none_less, life_sent)
@@ -35,12 +32,10 @@ put_at v (Line.Put a b id k q) i ids h = grind (arith, nat_tests, id_eq-is, put_
 put_at v l i ids h = inl (ap (λ (f : MsgId → Option Told). is_some (f i)) (sym (hushed v l refl).told) ∙ h)
 
 put_more : (l : Line) (i : MsgId) (ids : List MsgId) → times i ids ≤ times i (with_put l ids)
-put_more (Line.Put a b id k q) i ids = times_more i id ids
-put_more l i ids = omega arith
+put_more l i ids = grind (arith, nat_tests, times_more)
 
 put_on : (l : Line) (i : MsgId) (xs ys : List MsgId) → times i xs ≤ times i ys → times i (with_put l xs) ≤ times i (with_put l ys)
-put_on (Line.Put a b id k q) i xs ys h = omega (arith, h)
-put_on l i xs ys h = h
+put_on l i xs ys h = grind (arith, nat_tests)
 
 put_among : (ls : List Line) (pt q : Point) (i : MsgId) → after pt ls ≡ Some q → IsTold q.view i → IsTold pt.view i ⊎ (1 ≤ times i (routed ls))
 put_among [] pt q i e h = let f : pt ≡ q = cc in inl (subst (λ (x : Point). IsTold x.view i) (sym f) h)
@@ -69,8 +64,7 @@ record ToldBy (pt end : Point) (ls : List Line) : Type 0 where
   put : (i : MsgId) → IsTold end.view i → IsTold pt.view i ⊎ (1 ≤ times i (routed ls))
 
 put_behind : (ls earlier later : List Line) (pt mid : Point) (i : MsgId) → ls ≡ earlier ++ later → after pt earlier ≡ Some mid → IsTold mid.view i ⊎ (1 ≤ times i (routed later)) → IsTold pt.view i ⊎ (1 ≤ times i (routed ls))
-put_behind ls earlier later pt mid i are leads (inr behind_) = inr (subst (λ (xs : List Line). 1 ≤ times i (routed xs)) (sym are) (let m = more_last earlier later i in omega (arith, behind_, m)))
-put_behind ls earlier later pt mid i are leads (inl here) = grind (arith, nat_tests, put_among, more_first)
+put_behind ls earlier later pt mid i are leads e = grind (arith, nat_tests, more_last, put_among, more_first)
 
 told_on : (b : Boot) (es : List Step) (ls : List Line) (pt end : Point) → IsValid b → LeadsBy b pt es ls end → Both b pt → AllTold pt → ToldBy pt end ls
 told_on b [] ls pt end valid (none, same) both h = record { all = subst AllTold same h; put = λ i t. inl (subst (λ (x : Point). IsTold x.view i) (sym same) t) }

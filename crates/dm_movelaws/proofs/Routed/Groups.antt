@@ -59,8 +59,7 @@ round_outs P b o m q ps h = by_round (AllOuts P) b o m q ps (tt, tt) (λ p x is 
 
 -- a message of the bag
 routes_outs : (P : MsgId → Type 0) (o : Option PlainMessage) → AllOuts P (rule.routes o)
-routes_outs P None = tt
-routes_outs P (Some m) = (tt, tt)
+routes_outs P o = grind (arith, nat_tests)
 
 handles_outs : (P : MsgId → Type 0) (b : Boot) (o : Point) (m : ℕ) (id : MsgId) (msg : PlainMessage) (ps : List Part) → P id → Queues P o m → rule.handles b o m id msg ≡ Some ps → AllOuts P ps
 handles_outs P b o m id msg ps h q = by_handles (AllOuts P) b o m id msg ps (record {
@@ -118,12 +117,10 @@ pub record Counted (v : View) (pt : Point) : Type 0 where
 
 -- a message stays in the bag, or it is the one that goes
 hidden_some : (out : Option MsgId) (bag : MsgId → Option PlainMessage) (i : MsgId) → is_some (bag i) ≡ true → (is_some (hidden out bag i) ≡ true) ⊎ (out ≡ Some i)
-hidden_some None bag i e = inl e
-hidden_some (Some j) bag i e = grind (arith, nat_tests, id_eq-is)
+hidden_some out bag i e = grind (arith, nat_tests, id_eq-is)
 
 some_hidden : (put : Option MsgId) (bag : MsgId → Option PlainMessage) (i : MsgId) → is_some (hidden put bag i) ≡ true → is_some (bag i) ≡ true
-some_hidden None bag i e = e
-some_hidden (Some j) bag i e = grind (arith, nat_tests)
+some_hidden put bag i e = grind (arith, nat_tests)
 
 stays_by : (e : MsgId → ℕ) (s t : OneKernel) (out put : Option MsgId) (i : MsgId) → BagStep e s t out put → is_some (s.bag i) ≡ true → (is_some (t.bag i) ≡ true) ⊎ (out ≡ Some i)
 stays_by e s t out put i b there = elim (hidden_some out s.bag i there) [

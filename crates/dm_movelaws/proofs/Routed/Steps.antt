@@ -28,9 +28,7 @@ Was x m = (x ≡ true) ⊎ (is_some m ≡ true)
 
 -- by whose name it is
 chosen : (m : Option PlainMessage) (c d : Bool) (x y z k l n : Bool) → (c ≡ true → k ≡ true → Was x m) → (d ≡ true → l ≡ true → Was y m) → (n ≡ true → Was z m) → (if c then k else if d then l else n) ≡ true → Was (if c then x else if d then y else z) m
-chosen m true d x y z k l n f g h e = f refl e
-chosen m false true x y z k l n f g h e = g refl e
-chosen m false false x y z k l n f g h e = h e
+chosen m c d x y z k l n f g h e = grind (arith, nat_tests)
 
 counts_by : (s t : OneKernel) (i : MsgId) → (pid_eq i.from switchboard ≡ true → nat_lt i.n t.switchboard.sent ≡ true → Was (nat_lt i.n s.switchboard.sent) (t.bag i))
     → (pid_eq i.from manager ≡ true → nat_lt i.n t.manager.sent ≡ true → Was (nat_lt i.n s.manager.sent) (t.bag i))

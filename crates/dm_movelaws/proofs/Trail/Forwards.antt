@@ -7,8 +7,7 @@ use Rattle.dm_movelaws.proofs.Trail.Placed.{is_held, Placed, Places, placed_same
 use Rattle.dm_movelaws.proofs.Trail.Loose.{Walks, WalksOf, first_walks, places_ride, places_same, owns_leave, to_between}
 
 forwarded_moves : (v : View) (o : Option Pid) (q : Pid) → (forwarded_for v o).moves q ≡ v.moves q
-forwarded_moves v None q = refl
-forwarded_moves v (Some p) q = refl
+forwarded_moves v o q = grind (arith, nat_tests)
 
 back_walks : (pt : Point) (t : Trails) (sender : Pid) (m : ℕ) (c : Bool) → Places pt.view t → (c ≡ true → Sane pt → PutFits pt t (own_id pt.view) MessageKind.Update sender) → Walks pt t (if c then Owns MessageKind.Update sender m ∷ [] else [])
 back_walks pt t sender m true h fits = λ sane on. (fits refl sane, λ next s. owns_leave MessageKind.Update sender m pt next t s h)

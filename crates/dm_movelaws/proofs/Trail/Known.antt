@@ -12,13 +12,10 @@ use Rattle.dm_movelaws.proofs.Trail.Loose.{AllGood, good_fit, good_places, along
 use Rattle.dm_movelaws.proofs.Trail.Rows.{group_good}
 
 held_home : (b c : Bool) → is_held (if b && c then Here else Unknown) ≡ true → c ≡ true
-held_home true true e = refl
-held_home true false e = absurd (false≢true e)
-held_home false c e = absurd (false≢true e)
+held_home b c e = grind (arith, nat_tests)
 
 no_forward : (b : Bool) (d c : ℕ) → (if b then Here else Unknown) ≡ Forward d c → ⊥
-no_forward true d c e = cc
-no_forward false d c e = cc
+no_forward b d c e = grind (arith, nat_tests)
 
 places_start : (b : Boot) → Places (first_view b) first_trails
 places_start b p = grind (arith, nat_tests, eq_is, held_home, start_known, no_forward)
@@ -80,24 +77,17 @@ trod_on b (e ∷ es) pt end (w, fit, is, rest) h =
 
 -- a process that doesn't move is where its trail ends
 here_held : (x : Known) → is_here x ≡ true → is_held x ≡ true
-here_held Here e = refl
-here_held _ e = absurd (false≢true e)
+here_held x e = grind (arith, nat_tests)
 
 over_held : (x : Known) → is_over x ≡ true → is_held x ≡ true
-over_held Ended e = refl
-over_held _ e = absurd (false≢true e)
+over_held x e = grind (arith, nat_tests)
 
 -- one that moves is leaving, or its destination waits for it
 still_leaves : (k : MessageKind) (d : ℕ) (x : Known) → is_moving x ≡ false → kind_leaves k d x ≡ true → is_restart k ≡ true
-still_leaves k d (Forward to moves) still e = (parts (is_restart k) (d == to) e).0
-still_leaves k d (Frozen to) still e = absurd (false≢true (sym still))
-still_leaves k d _ still e = absurd (false≢true e)
+still_leaves k d x still e = grind (arith, nat_tests, parts)
 
 still_comes : (k : MessageKind) (s : ℕ) (x : Known) → is_moving x ≡ false → kind_comes k s x ≡ true → is_early k ≡ true
-still_comes k s Unknown still e = e
-still_comes k s (Forward at moves) still e = e
-still_comes k s (Incoming from) still e = absurd (false≢true (sym still))
-still_comes k s _ still e = absurd (false≢true e)
+still_comes k s x still e = grind (arith, nat_tests)
 
 at_self : (m : ℕ) (x y : Bool) → (if m == m then x else y) ≡ true → x ≡ true
 at_self m x y e = sym (ap (λ (c : Bool). if c then x else y) (eq_self m)) ∙ e
@@ -118,8 +108,7 @@ long_in v t p (Moves k s d o) h on still = absurd (never_moves v p k s d o h sti
 
 -- and it is there
 pub over_is : (x : Known) → is_over x ≡ true → x ≡ Ended
-over_is Ended e = refl
-over_is _ e = absurd (false≢true e)
+over_is x e = grind (arith, nat_tests)
 
 away_at : (x y c : Bool) → c ≡ false → (if c then x else y) ≡ true → y ≡ true
 away_at x y c off e = sym (ap (λ (d : Bool). if d then x else y) off) ∙ e

@@ -146,8 +146,7 @@ between_loose k m gives none = record {
 }
 
 gives_between : (s : OneKernel) (v : View) (a : Addresses) (id : MsgId) (m : ℕ) (w : Sort) → tells_between w ≡ true → own_given s v a id (pid_of m 0) w ≡ goes_between v id (pid_of m 0)
-gives_between s v a id m (Sort.Between passage) e = refl
-gives_between s v a id m _ e = absurd (false≢true e)
+gives_between s v a id m w e = grind (arith, nat_tests)
 
 pub to_between : (k : MessageKind) (m : ℕ) → is_between k ≡ true → AllLoose (to_kernel k m ∷ [])
 to_between k m b = (between_loose k m (λ pt. gives_between pt.kernel pt.view pt.addresses (own_id pt.view) m (sort_of k) b) (λ e. false≢true (sym (ap is_between e) ∙ b)), tt)
@@ -157,21 +156,16 @@ pub line_loose : (l : Line) → ((pt : Point) (t : Trails) → Sane pt → Tread
 line_loose l fits leaves = grind (arith, nat_tests, said_by)
 
 asks_moves : (v : View) (a : About) → (asks_on v a).moves ≡ v.moves
-asks_moves v NothingElse = refl
-asks_moves v _ = refl
+asks_moves v a = grind (arith, nat_tests)
 
 follows_moves : (v : View) (a : About) (k : MessageKind) → (follows_up v a k).moves ≡ v.moves
-follows_moves v a MessageKind.State = asks_moves v a
-follows_moves v a MessageKind.Memory = asks_moves v a
-follows_moves v a _ = refl
+follows_moves v a k = grind (arith, nat_tests, asks_moves)
 
 proto_moves : (v : View) (o : Option Told) → (after_proto v o).moves ≡ v.moves
-proto_moves v None = refl
-proto_moves v (Some t) = follows_moves v t.about t.kind
+proto_moves v o = grind (arith, nat_tests, follows_moves)
 
 taken_same : (v : View) (b : ℕ) (o : Option MsgId) → ((taken_id v b o).known ≡ v.known) × ((taken_id v b o).moves ≡ v.moves)
-taken_same v b None = (refl, refl)
-taken_same v b (Some i) = (refl, refl)
+taken_same v b o = grind (arith, nat_tests)
 
 at_pid : (f g : Pid → ℕ) (q : Pid) → f ≡ g → f q ≡ g q
 at_pid f g q e = ap (λ (h : Pid → ℕ). h q) e

@@ -145,39 +145,27 @@ leaves_held k d Ended e h = absurd (false≢true e)
 leaves_held k d _ e h = absurd (false≢true h)
 
 comes_held : (k : MessageKind) (s : ℕ) (x : Known) → kind_comes k s x ≡ true → is_held x ≡ true → ⊥
-comes_held k s Here e h = false≢true e
-comes_held k s (Frozen to) e h = false≢true e
-comes_held k s Ended e h = false≢true e
-comes_held k s _ e h = false≢true h
+comes_held k s x e h = grind (arith, nat_tests)
 
 away_held : (x : Known) → is_away x ≡ true → is_held x ≡ true → ⊥
-away_held Here e h = false≢true e
-away_held (Frozen to) e h = false≢true e
-away_held Ended e h = false≢true e
-away_held _ e h = false≢true h
+away_held x e h = grind (arith, nat_tests)
 
 held_by : (k : MessageKind) (s d m : ℕ) (x : Known) (b c : Bool) → (s == m) ≡ b → (if b then kind_leaves k d x else if c then kind_comes k s x else is_away x) ≡ true → is_held x ≡ true → (s ≡ m) × (is_restart k ≡ false)
-held_by k s d m x true c is e h = (eq_is s m is, leaves_held k d x e h)
-held_by k s d m x false true is e h = absurd (comes_held k s x e h)
-held_by k s d m x false false is e h = absurd (away_held x e h)
+held_by k s d m x b c is e h = grind (arith, nat_tests, eq_is, leaves_held, comes_held, away_held)
 
 -- its source has it, until the message is under way that restarts it
 pub moves_held : (v : View) (p : Pid) (k : MessageKind) (s d m : ℕ) (o : Option MsgId) → IsIn v p (Moves k s d o) → is_held (v.known m p) ≡ true → (s ≡ m) × (is_restart k ≡ false)
 moves_held v p k s d m o h held = held_by k s d m (v.known m p) (s == m) (d == m) refl (h.known m) held
 
 incoming_by : (k : MessageKind) (s d m from : ℕ) (b c : Bool) → (d == m) ≡ c → (if b then kind_leaves k d (Incoming from) else if c then kind_comes k s (Incoming from) else is_away (Incoming from)) ≡ true → m ≡ d
-incoming_by k s d m from true c is e = absurd (false≢true e)
-incoming_by k s d m from false true is e = sym (eq_is d m is)
-incoming_by k s d m from false false is e = absurd (false≢true e)
+incoming_by k s d m from b c is e = grind (arith, nat_tests, eq_is)
 
 -- and its destination alone expects it
 pub moves_comes : (v : View) (p : Pid) (k : MessageKind) (s d m from : ℕ) (o : Option MsgId) → IsIn v p (Moves k s d o) → v.known m p ≡ Incoming from → m ≡ d
 moves_comes v p k s d m from o h at = incoming_by k s d m from (s == m) (d == m) refl (sym (ap (λ (x : Known). knows (Moves k s d o) m x) at) ∙ h.known m)
 
 forward_by : (k : MessageKind) (d : ℕ) (x : Known) → is_restart k ≡ true → kind_leaves k d x ≡ true → (c : ℕ) × (x ≡ Forward d c)
-forward_by k d (Forward to c) on e = let both = parts (is_restart k) (d == to) e in (c, ap (λ (n : ℕ). Forward n c) (sym (eq_is d to both.1)))
-forward_by k d (Frozen to) on e = absurd (let both = parts (not (is_restart k)) (d == to) e in false≢true (sym (ap not on) ∙ both.0))
-forward_by k d _ on e = absurd (false≢true e)
+forward_by k d x on e = grind (arith, nat_tests, parts, eq_is)
 
 -- then its source forwards
 pub moves_forward : (v : View) (p : Pid) (k : MessageKind) (s d : ℕ) (o : Option MsgId) → IsIn v p (Moves k s d o) → is_restart k ≡ true → (c : ℕ) × (v.known s p ≡ Forward d c)

@@ -30,8 +30,7 @@ abbrev Goes : OneKernel → OneKernel → Type 0
 Goes s t = (p : Pid) → WasMade s p → WasMade t p
 
 pub none_is : (o : Option Life) → is_some o ≡ false → o ≡ None
-none_is None e = refl
-none_is (Some x) e = absurd (false≢true (sym e))
+none_is o e = grind (arith, nat_tests)
 
 goes_label : (pt : Point) (t : OneKernel) (l : Label) → Sane pt → kernel.step pt.kernel l ≡ Some t → Goes pt.kernel t
 goes_label pt t l h e p some = elim (cases_Bool (is_some (t.processes p))) [
@@ -57,25 +56,19 @@ no_of : (T : Type 0) (q p : Pid) (m c : ℕ) → Of q ≡ view.Place p m c → T
 no_of T q p m c e = cc
 
 forward_made : (s : OneKernel) (q : Pid) (x : Known) (p : Pid) (m c : ℕ) → (passes x ≡ true → WasMade s q) → forward_about q x ≡ view.Place p m c → WasMade s p
-forward_made s q (Forward at_ moves) p m c made e = let f : q ≡ p = cc in subst (WasMade s) f (made refl)
-forward_made s q _ p m c made e = no_place (WasMade s p) NothingElse p m c refl e
+forward_made s q x p m c made e = grind (arith, nat_tests, no_place)
 
 forwarded_made : (s : OneKernel) (v : View) (o : Option Pid) (p : Pid) (m c : ℕ) → Passing s v → (view.forwarded_for v o).topic ≡ view.Place p m c → WasMade s p
-forwarded_made s v None p m c h e = h.topic p m c e
-forwarded_made s v (Some q) p m c h e = forward_made s q (v.known v.acting q) p m c (h.known v.acting q) e
+forwarded_made s v o p m c h e = grind (arith, nat_tests, forward_made)
 
 proto_made : (s : OneKernel) (v : View) (i : MsgId) (o : Option Told) (p : Pid) (m c : ℕ) → v.told i ≡ o → Passing s v → (view.after_proto (handled v i) o).topic ≡ view.Place p m c → WasMade s p
-proto_made s v i None p m c is h e = no_place (WasMade s p) NothingElse p m c refl e
-proto_made s v i (Some u) p m c is h e = h.told i u p m c is e
+proto_made s v i o p m c is h e = grind (arith, nat_tests, no_place)
 
 head_made : (s : OneKernel) (v : View) (d : Step) (p : Pid) (m c : ℕ) → (view.after_head v d).topic ≡ view.Place p m c → WasMade s p
-head_made s v (Step.Migrate q n) p m c e = no_target (WasMade s p) p n m c e
-head_made s v _ p m c e = no_place (WasMade s p) NothingElse p m c refl e
+head_made s v d p m c e = grind (arith, nat_tests, no_target, no_place)
 
 stage_made : (s : OneKernel) (v : View) (q : Pid) (k : Stage) (p : Pid) (m c : ℕ) → Passing s v → (view.after_stage v q k).topic ≡ view.Place p m c → WasMade s p
-stage_made s v q Stage.Asked p m c h e = h.topic p m c e
-stage_made s v q Stage.Restarted p m c h e = h.topic p m c e
-stage_made s v q _ p m c h e = no_of (WasMade s p) q p m c e
+stage_made s v q k p m c h e = grind (arith, nat_tests, no_of)
 
 line_made : (s : OneKernel) (v : View) (l : Line) → Passing s v → (p : Pid) (m c : ℕ) → (view_after v l).topic ≡ view.Place p m c → WasMade s p
 line_made s v (Line.Head d) h p m c e = head_made s v d p m c e
@@ -108,21 +101,11 @@ set_known : (s : OneKernel) (v w : View) (q : Pid) (k : Known) → w.known ≡ a
 set_known s v w q k known new h m p e = grind (arith, nat_tests, set_all)
 
 served_known : (s : OneKernel) (v : View) (i : MsgId) (o : Option Told) → Passing s v → (m : ℕ) (p : Pid) → passes ((served_told (handled v i) o).known m p) ≡ true → WasMade s p
-served_known s v i None h m p e = h.known m p e
-served_known s v i (Some u) h m p e = grind (arith, nat_tests, killed_or, set_known)
+served_known s v i o h m p e = grind (arith, nat_tests, killed_or, set_known)
 
 -- a put tells of what the group is about
 put_told : (v : View) (a b : ℕ) (i : MsgId) (k : MessageKind) (q : Pid) (s : OneKernel) (j : MsgId) (u : Told) (p : Pid) (m c : ℕ) → Passing s v → (view.after_put v a b i k q).told j ≡ Some u → u.about ≡ view.Place p m c → WasMade s p
-put_told v a b i k q s j u p m c h e f =
-    let new : Told = record { kind = k; receiver = q; about = v.topic } in
-    elim (cases_Bool (id_eq i j)) [
-      | inl same ↦ first (v.told i) refl (sym (ap (λ (d : Bool). if d then Some (first_told (v.told i) new) else v.told j) same) ∙ e)
-      | inr apart ↦ h.told j u p m c (sym (ap (λ (d : Bool). if d then Some (first_told (v.told i) new) else v.told j) apart) ∙ e) f
-    ]
-  where
-    first : (o : Option Told) → v.told i ≡ o → Some (first_told o (record { kind = k; receiver = q; about = v.topic })) ≡ Some u → WasMade s p
-    first None is g = h.topic p m c (let x : record { kind = k; receiver = q; about = v.topic } ≡ u = cc in ap (λ (y : Told). y.about) x ∙ f)
-    first (Some y) is g = h.told i y p m c is (let x : y ≡ u = cc in ap (λ (z : Told). z.about) x ∙ f)
+put_told v a b i k q s j u p m c h e f = grind (arith, nat_tests)
 
 passing_loud : Loud (λ pt. Passing pt.kernel pt.view)
 passing_loud = record {
@@ -155,9 +138,7 @@ passing_loud = record {
 
 -- at the start no process leaves
 first_stays : (b c : Bool) → passes (if b && c then Here else Unknown) ≡ true → ⊥
-first_stays true true e = false≢true e
-first_stays true false e = false≢true e
-first_stays false c e = false≢true e
+first_stays b c e = grind (arith, nat_tests)
 
 passing_start : (b : Boot) → Passing (first_point b).kernel (first_point b).view
 passing_start b = grind (arith, nat_tests, first_stays, start_known, no_place)
@@ -177,9 +158,7 @@ passed_always b es pt valid way = record {
 }
 
 agrees_some : (k : Known) (o : Option Life) → agrees k o ≡ true → (k ≡ Unknown → ⊥) → is_some o ≡ true
-agrees_some Unknown o e some = absurd (some refl)
-agrees_some _ (Some x) e some = refl
-agrees_some _ None e some = absurd (false≢true e)
+agrees_some k o e some = grind (arith, nat_tests)
 
 known_made : (s : OneKernel) (v : View) (m : ℕ) (q : Pid) → KnownStands s v → (v.known m q ≡ Unknown → ⊥) → is_made s q ≡ true
 known_made s v m q h some = grind (arith, nat_tests, or_left, or_first, agrees_some)

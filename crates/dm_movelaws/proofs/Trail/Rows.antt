@@ -68,8 +68,7 @@ kills_places v t MessageKind.Kill p here h = places_held v (kills MessageKind.Ki
 kills_places v t _ p here h = h
 
 served_places : (v : View) (t : Trails) (o : Option Told) → ((u : Told) → o ≡ Some u → u.kind ≡ MessageKind.Kill → v.known v.acting u.receiver ≡ Here) → Places v t → Places (served_told v o) t
-served_places v t None here h = h
-served_places v t (Some u) here h = kills_places v t u.kind u.receiver (here u refl) h
+served_places v t o here h = grind (arith, nat_tests, kills_places)
 
 served_walks : (pt : Point) (t : Trails) (id : MsgId) (k : PlainMessage) (ps : List Part) → Front pt t id k → pt.view.known pt.view.acting k.to ≡ Here → AllLoose ps → Walks pt t (rule.says (Label.Served id) ∷ ps)
 served_walks pt t id k ps f here loose =
@@ -102,15 +101,13 @@ creates_walks pt o t m id k r true f fixed born =
 creates_walks pt o t m id k r false f fixed born = search (label_walks, received, places_same, routes_loose)
 
 sent_loose : (o : Option PlainMessage) → AllLoose (rule.routes o)
-sent_loose None = tt
-sent_loose (Some k) = (routes_loose k.id, tt)
+sent_loose o = grind (arith, nat_tests, routes_loose)
 
 drop_walks : (pt : Point) (t : Trails) (id : MsgId) → Places pt.view t → Walks pt t (rule.says (Label.Dropped id) ∷ [])
 drop_walks pt t id h = loose_walks (rule.says (Label.Dropped id) ∷ []) pt t (dropped_loose id, tt) h
 
 pub or_first : (a b : Bool) → a ≡ true → (a || b) ≡ true
-or_first true b e = refl
-or_first false b e = cc
+or_first a b e = grind (arith, nat_tests)
 
 pub handles_walks : (pt : Point) (b : Boot) (o : Point) (t : Trails) (m : ℕ) (id : MsgId) (k : PlainMessage) (ps : List Part) → Front pt t id k → Unborn pt.view (pid_of m (first_number + o.kernel.made m)) → pt.view.known pt.view.acting k.to ≡ o.view.known m k.to
     → ((to c : ℕ) → o.view.known m k.to ≡ Forward to c → Walks pt t (forwards_on o.addresses id (plain_kind k.what) k.sender to)) → rule.handles b o m id k ≡ Some ps → Walks pt t ps

@@ -58,33 +58,27 @@ one_place (x ∷ []) m long e = let f : x ≡ m = cc in ap (λ (y : ℕ). y ∷ 
 one_place _ m long e = absurd (omega (arith, long))
 
 only_place : (m c k : ℕ) → slice_get (m ∷ []) c ≡ Some k → (c ≡ 0) × (k ≡ m)
-only_place m zero k e = (refl, (let f : m ≡ k = cc in sym f))
-only_place m (suc c) k e = cc
+only_place m c k e = grind (arith, nat_tests)
 
 place_is : (place : Place) (m : ℕ) → place.moves ≡ 0 → place.at ≡ m → place ≡ unmoved m
 place_is place m moves at = λ i. record { at = at i; moves = moves i }
 
 -- what was never made
 agrees_none : (k : Known) → agrees k None ≡ true → k ≡ Unknown
-agrees_none Unknown e = refl
-agrees_none _ e = absurd (false≢true e)
+agrees_none k e = grind (arith, nat_tests)
 
 held_it : (k : Known) → has_it k ≡ true → is_held k ≡ true
-held_it Unknown e = e
-held_it _ e = e
+held_it k e = grind (arith, nat_tests)
 
 or_made : (s : OneKernel) (p : Pid) (c : Bool) → is_server p ≡ c → (c || is_some (s.processes p)) ≡ true → (is_server p ≡ true) ⊎ ((is_server p ≡ false) × (is_some (s.processes p) ≡ true))
-or_made s p true is e = inl is
-or_made s p false is e = inr (is, e)
+or_made s p c is e = grind (arith, nat_tests)
 
 here_known : (k : Known) → k ≡ Here → k ≢ Unknown
 here_known k e f = let g : Here ≡ Unknown = sym e ∙ f in cc
 
 -- the last machine of a trail doesn't forward
 walk_ends : (k : Known) → k ≢ Unknown → ((m c : ℕ) → k ≡ Forward m c → ⊥) → ends_walk k ≡ true
-walk_ends Unknown some off = absurd (some refl)
-walk_ends (Forward m c) some off = absurd (off m c refl)
-walk_ends _ some off = refl
+walk_ends k some off = grind (arith, nat_tests)
 
 -- what was never made has only been at home
 never_made : (b : Boot) (pt : Point) (t : Trails) (p : Pid) → Holds b (trodden pt t) → is_fixed p ≡ true → pt.kernel.processes p ≡ None
@@ -109,11 +103,7 @@ at_home s v p h made = grind (arith, nat_tests, or_made, here_known, server_fixe
 
 -- each place that is named is on the trail
 named_on : (pt : Point) (t : Trails) (q : Pid) (place : Place) → Treads pt t → IsNamed pt q place → IsOn t q place
-named_on pt t q place on (ByHolder h is at) = subst (IsOn t q) at (on.links h q is)
-named_on pt t q place on (ByOwn i u own told to at) = subst (IsOn t q) at (subst (λ (p : Pid). IsOn t p (pt.addresses (Receiver i))) to (on.own.receiver i u own told))
-named_on pt t q place on (ByRequest i u own told asks to at) = subst (IsOn t q) at (subst (λ (p : Pid). IsOn t p (pt.addresses (Sender i))) to (on.own.sender i u own told asks))
-named_on pt t q place on (ByUpdate i u told about) = on.own.about i u q place.at place.moves told about
-named_on pt t q place on (ByForward m e) = (on.trail q).named m place.at place.moves e
+named_on pt t q place on e = grind (arith, nat_tests)
 
 -- a forward leads further along the trail
 no_further : (v : View) (t : Trails) (p : Pid) (place : Place) (m c : ℕ) → Trail v t p → IsLast t p place → v.known place.at p ≡ Forward m c → ⊥
