@@ -1,7 +1,7 @@
 -- The count of an address that a process or a server has doesn't fall until a step gives it a new one.
-use Rattle.dm_movelaws.proofs.Names.{◌≡◌, ℕ, ◌≤◌, ◌&&◌, ◌||◌, Bool, true, false, List, [], ◌∷◌, refl, ap, ◌∙◌, sym, subst, arith, if◌then◌else◌, nat_tests, Option, Some, Pid, Place, MsgId, MessageKind, OneKernel, bind-is, Line, Addresses}
-use Rattle.dm_movelaws.proofs.Names.{Holder, Receiver, Sender, Gets, gets, holder_eq, given, gives, belongs_to, leads_to, told_back_gets, forwards, all_follow, own_gives, first_gives, updated, updated_to, addresses_after, Point, label_of}
-use Rattle.dm_movelaws.proofs.Names.{kernel_after, moved, after_line, after, View, Told, About, is_owned, gives_to, is_filled, in_next, refilled, CountsStay, CountsKept, Updated, Sort, sort_of, own_given}
+use Rattle.dm_movelaws.proofs.Names.{◌≡◌, ℕ, ◌≤◌, ◌||◌, Bool, true, false, List, [], ◌∷◌, refl, ap, ◌∙◌, sym, subst, arith, nat_tests, Option, Some, Pid, Place, MsgId, MessageKind, OneKernel, bind-is, Line, Addresses}
+use Rattle.dm_movelaws.proofs.Names.{Holder, Receiver, Sender, Gets, gets, holder_eq, given, gives, belongs_to, leads_to, forwards, all_follow, own_gives, first_gives, updated, addresses_after, Point, label_of}
+use Rattle.dm_movelaws.proofs.Names.{kernel_after, moved, after_line, after, View, Told, is_owned, gives_to, is_filled, in_next, refilled, CountsStay, CountsKept, Updated, Sort, sort_of, own_given}
 use Rattle.dm_movelaws.proofs.After.{group_after}
 use Rattle.dm_movelaws.proofs.Updates.Always.{updates_always}
 use Rattle.dm_movelaws.proofs.Promise.Before.{neither as either, not_given}
@@ -23,11 +23,8 @@ no_sender i h e = grind (arith, nat_tests)
 both_none : (i : MsgId) (p r : Place) (h : Holder) → is_owned h ≡ true → gives_to h (gets (Receiver i) p ∷ gets (Sender i) r ∷ []) ≡ false
 both_none i p r h e = ap (λ (c : Bool). c || (holder_eq (Sender i) h || false)) (no_receiver i h e) ∙ ap (λ (c : Bool). c || false) (no_sender i h e)
 
-tells_none : (v : View) (a : Addresses) (id : MsgId) (h : Holder) (c : Bool) → is_owned h ≡ true → gives_to h (told_back_gets v a id c) ≡ false
-tells_none v a id h c e = grind (arith, nat_tests, both_none)
-
 forwards_none : (v : View) (a : Addresses) (id : MsgId) (h : Holder) (o : Option Told) → is_owned h ≡ true → gives_to h (forwards v a id o) ≡ false
-forwards_none v a id h o e = grind (arith, nat_tests, no_receiver, tells_none)
+forwards_none v a id h o e = grind (arith, nat_tests, no_receiver)
 
 follows_none : (v : View) (a : Addresses) (p : Pid) (h : Holder) (is : List MsgId) → is_owned h ≡ true → gives_to h (all_follow v a p is) ≡ false
 follows_none v a p h [] e = refl
@@ -43,17 +40,9 @@ first_none : (h : Holder) (o : Option Told) (gs : List Gets) → gives_to h gs �
 first_none h o gs e = grind (arith, nat_tests)
 
 -- an update only raises
-raised_if : (c : Bool) (p at_ : Place) → (c ≡ true → p.moves ≤ at_.moves) → p.moves ≤ (if c then at_ else p).moves
-raised_if c p at_ h = grind (arith, nat_tests)
-
-third : (a b c : Bool) → (a && (b && c)) ≡ true → c ≡ true
-third a b c e = grind (arith, nat_tests)
-
-told_raises : (s : OneKernel) (a : Addresses) (r : Pid) (h : Holder) (o : Option (Pid × Place)) → count_of a h ≤ (updated_to s a (Some r) o h).moves
-told_raises s a r h o = grind (arith, nat_tests, raised_if, third)
 
 update_raises : (s : OneKernel) (v : View) (a : Addresses) (h : Holder) (o : Option Told) → count_of a h ≤ (updated s v a o h).moves
-update_raises s v a h o = grind (arith, nat_tests, told_raises)
+update_raises s v a h o = grind (arith, nat_tests)
 
 -- each line
 by_line : (pt : Point) (l : Line) (h : Holder) → is_owned h ≡ true → is_filled pt (label_of l) h ≡ false → count_of pt.addresses h ≤ count_of (addresses_after pt.kernel pt.view pt.addresses l) h
@@ -90,12 +79,10 @@ owned_by : (q : Pid) (h : Holder) → belongs_to q h ≡ true → is_owned h ≡
 owned_by q h e = grind (arith, nat_tests)
 
 -- what an update told stays
-count_in : (x y : About) (p : Pid) (c at_ : Place) (r : Pid) → x ≡ view.Place p c.at c.moves → x ≡ view.Place r at_.at at_.moves → (r ≡ p) × (c.moves ≡ at_.moves)
-count_in x y p c at_ r e f = search
 
 kept_by : (pt next end : Point) (id : MsgId) (n : ℕ) (t : Told) (p : Pid) (c : Place) (h : Holder) → Updated pt next id n → pt.view.told id ≡ Some t → t.about ≡ view.Place p c.at c.moves → belongs_to t.receiver h ≡ true → leads_to pt.kernel h ≡ Some p
     → count_of next.addresses h ≤ count_of end.addresses h → c.moves ≤ count_of end.addresses h
-kept_by pt next end id n t p c h u told about mine leads stay = grind (arith, nat_tests, count_in)
+kept_by pt next end id n t p c h u told about mine leads stay = grind (arith, nat_tests)
 
 pub counts_kept : CountsKept
 counts_kept b es more pt end d w id n t p c h earlier later valid leads is lines told about mine slot unfilled =

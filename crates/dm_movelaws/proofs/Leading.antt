@@ -82,11 +82,8 @@ put_lines : (S : List Line → Type 0) (p : Part) (v : View) (b : ℕ) (i : MsgI
     → S (Line.Put v.acting b i k q ∷ (if c then [] else if d then packet_line v v.acting b (Load.Data (length (v.pair v.acting b).ids)) ∷ [] else []))
 put_lines S p v b i k q c d h none = grind (arith, nat_tests)
 
-puts_lines : (S : List Line → Type 0) (p : Part) (v : View) (b : ℕ) (i : MsgId) (k : MessageKind) (q : Pid) (ls : List Line) → LinesOf S p → is_said p ≡ false → Some (puts v b i k q) ≡ Some ls → S ls
-puts_lines S p v b i k q ls h none is = let f : puts v b i k q ≡ ls = cc in subst S f (put_lines S p v b i k q (v.acting == b) (goes_out (v.pair v.acting b)) h none)
-
 pub lines_are : (S : List Line → Type 0) (pt : Point) (p : Part) (ls : List Line) → LinesOf S p → lines_of pt p ≡ Some ls → S ls
-lines_are S pt p ls h is = grind (arith, nat_tests, bind-is, puts_lines)
+lines_are S pt p ls h is = grind (arith, nat_tests, bind-is)
 
 -- what a part says is so
 abbrev pub Saying : (Line → Type 0) → Part → Type 0

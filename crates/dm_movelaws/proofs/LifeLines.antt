@@ -23,12 +23,9 @@ record FindsNone (f : Known → Option Standing) (v : View) (p : Pid) (n : ℕ) 
   is : first_with f v p n ≡ None
   none : (m : ℕ) → m < n → f (v.known m p) ≡ None
 
-last_finds : (f : Known → Option Standing) (v : View) (p : Pid) (n : ℕ) (s : Option Standing) → f (v.known n p) ≡ s → FindsNone f v p n → Finds f v p (suc n) ⊎ FindsNone f v p (suc n)
-last_finds f v p n s e h = grind (arith, nat_tests)
-
 first_or : (f : Known → Option Standing) (v : View) (p : Pid) (n : ℕ) → Finds f v p n ⊎ FindsNone f v p n
 first_or f v p zero = inr (record { is = refl; none = λ m less. absurd (omega (arith, less)) })
-first_or f v p (suc n) = grind (arith, nat_tests, last_finds, first_or f v p n)
+first_or f v p (suc n) = grind (arith, nat_tests, first_or f v p n)
 
 -- a process is where it is found
 has_stands : (k : Known) (x : Standing) → standing_of k ≡ Some x → stands_by k ≡ Some x

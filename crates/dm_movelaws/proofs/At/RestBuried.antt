@@ -1,7 +1,7 @@
 -- Where a process has ended nothing comes to its queue: each group keeps it.
-use Rattle.dm_movelaws.proofs.Names.{◌≡◌, ℕ, ◌+◌, Bool, true, false, List, [], ◌∷◌, ◌++◌, refl, ap, ◌∙◌, sym, subst, if◌then◌else◌, false≢true, Option, None, Some, Pid, MsgId, Boot, Label, Line, Stage, PlainProcess, Life, Alive, OneKernel}
+use Rattle.dm_movelaws.proofs.Names.{◌≡◌, ℕ, ◌+◌, Bool, true, false, List, [], ◌∷◌, ◌++◌, refl, ap, ◌∙◌, sym, subst, false≢true, Option, None, Some, Pid, MsgId, Boot, Label, Line, Stage, PlainProcess, Life, Alive, OneKernel}
 use Rattle.dm_movelaws.proofs.Names.{Step, LifeGrows, after_step, Spelled, is_away, Point, kernel_after, label_of, group_of, at_record, without_id, without_front, View, Told, Known, Unknown, Here, Frozen, Incoming, Ended, handled}
-use Rattle.dm_movelaws.proofs.Names.{receiver_of, served_told, view_after, target_of, front_told, front_of, gone_to, Phased, Sane, KnownStands, agrees, group_keeps, Loud, keeps_by, set_all, killed_or, nat_tests, arith}
+use Rattle.dm_movelaws.proofs.Names.{receiver_of, served_told, view_after, target_of, front_told, front_of, gone_to, Phased, Sane, KnownStands, group_keeps, Loud, keeps_by, set_all, killed_or, nat_tests, arith}
 use Rattle.dm_onekernel.specs.Step as kernel
 use Rattle.dm_rule.specs.View as view
 
@@ -113,14 +113,9 @@ loud before = record {
 }
 
 -- where a group begins
-server_lives : (m : ℕ) (c : Bool) → (if c then Here else Unknown) ≡ Ended → ⊥
-server_lives m c e = grind (arith, nat_tests, here_off, unknown_off)
-
-agrees_dead : (o : Option Life) → agrees Ended o ≡ true → is_dead o ≡ true
-agrees_dead o e = grind (arith, nat_tests)
 
 pub dead_by : (s : OneKernel) (v : View) (n : ℕ) (q : Pid) → KnownStands s v → v.known n q ≡ Ended → is_dead (s.processes q) ≡ true
-dead_by s v n q h e = grind (arith, nat_tests, server_lives, agrees_dead)
+dead_by s v n q h e = grind (arith, nat_tests)
 
 pub buried_group : (b : Boot) (pt : Point) (d : Step) (w : Spelled) → group_of b pt d ≡ Some w → Phased pt → KnownStands pt.kernel pt.view → ((n : ℕ) (q : Pid) → pt.view.known n q ≡ Ended → pt.view.queue n q ≡ []) → Buried pt.view.known w.point.kernel w.point.view
 buried_group b pt d w is phased known h =

@@ -1,6 +1,6 @@
 -- A process ends only where a group says so.
 use Rattle.dm_movelaws.proofs.Names.{◌≡◌, ℕ, ◌+◌, Bool, true, false, List, [], ◌∷◌, refl, ap, ◌∙◌, sym, false≢true, Option, None, Some, Pid, MsgId, MessageKind, plain_kind, Label, Step, Line, Stage, migrates, Part, Says, Routes, Spelled}
-use Rattle.dm_movelaws.proofs.Names.{spelled, Point, at_record, View, Told, Known, Here, Frozen, Incoming, Ended, view_after, handled, receiver_of, IsNetLine, IsNet, set_all, by_migrates, ◌++◌, ⊤, PlainMessage, Boot, manager, Addresses}
+use Rattle.dm_movelaws.proofs.Names.{spelled, Point, at_record, View, Told, Known, Here, Frozen, Ended, view_after, handled, receiver_of, IsNetLine, IsNet, set_all, by_migrates, ◌++◌, ⊤, PlainMessage, Boot, manager, Addresses}
 use Rattle.dm_movelaws.proofs.Names.{forwards_on, sends_on, is_kill, Sane, by_hears, by_round, by_handles, by_forwards, queued_known, held_known, forwarded_known, proto_known, nat_tests, arith}
 use Rattle.dm_movelaws.proofs.At.RestBuried.{Knows}
 use Rattle.dm_movelaws.proofs.Leading.{Behind, whatever_put, parts_lead, net_says, All, Saying}
@@ -121,9 +121,6 @@ only_set before v w p k known new h = record {
 pub dropped_known : (v : View) (i : MsgId) (o : Option Pid) → (view.dropped_for v i o).known ≡ v.known
 dropped_known v i o = grind (arith, nat_tests)
 
-taken_known : (v : View) (b : ℕ) (o : Option MsgId) → (view.taken_id v b o).known ≡ v.known
-taken_known v b o = grind (arith, nat_tests)
-
 head_known : (v : View) (d : Step) → (view.after_head v d).known ≡ v.known
 head_known v d = grind (arith, nat_tests)
 
@@ -133,16 +130,10 @@ gone_ended k n e = grind (arith, nat_tests)
 here_not : (T : Type 0) → Here ≡ Ended → T
 here_not T e = cc
 
-frozen_not : (T : Type 0) (to : ℕ) → Frozen to ≡ Ended → T
-frozen_not T to e = cc
-
-incoming_not : (T : Type 0) (from : ℕ) → Incoming from ≡ Ended → T
-incoming_not T from e = cc
-
 stage_only : (before : Knows) (v : View) (p : Pid) (s : Stage) → Only before v → Only before (view.after_stage v p s)
-stage_only before v p Stage.Frozen h = grind (arith, nat_tests, only_set, frozen_not)
+stage_only before v p Stage.Frozen h = grind (arith, nat_tests, only_set)
 stage_only before v p Stage.Asked h = h
-stage_only before v p Stage.Accepted h = grind (arith, nat_tests, only_set, incoming_not)
+stage_only before v p Stage.Accepted h = grind (arith, nat_tests, only_set)
 stage_only before v p Stage.Left h = only_set before v (view.after_stage v p Stage.Left) p (view.gone_to (v.known v.acting p) (v.moves p + 1)) refl (gone_ended (v.known v.acting p) (v.moves p + 1)) h
 stage_only before v p Stage.Restarted h = only_set before v (view.after_stage v p Stage.Restarted) p Here refl (here_not (v.known v.acting p ≡ Ended)) h
 stage_only before v p any_ h = only_as before v (view.after_stage v p any_) (λ n q. refl) h
@@ -153,7 +144,7 @@ label_only before v l e h = grind (arith, nat_tests, only_as, dropped_known, onl
 line_only : (before : Knows) (v : View) (l : Line) → is_ending l ≡ false → Only before v → Only before (view_after v l)
 line_only before v (Line.Label l) e h = label_only before v l e h
 line_only before v (Line.Head d) e h = only_as before v (view_after v (Line.Head d)) (λ n q. ap (λ (f : Knows). f n q) (head_known v d)) h
-line_only before v (Line.Taken a b k) e h = grind (arith, nat_tests, only_as, taken_known)
+line_only before v (Line.Taken a b k) e h = grind (arith, nat_tests, only_as)
 line_only before v (Line.Queued id) e h = only_as before v (view_after v (Line.Queued id)) (λ n q. queued_known (handled v id) id (receiver_of (v.told id)) n q) h
 line_only before v (Line.Held id) e h = only_as before v (view_after v (Line.Held id)) (λ n q. held_known (handled v id) id (receiver_of (v.told id)) n q) h
 line_only before v (Line.Forwarded id m) e h = only_as before v (view_after v (Line.Forwarded id m)) (λ n q. forwarded_known (handled v id) (receiver_of (v.told id)) n q) h

@@ -1,5 +1,5 @@
 -- No message goes from a machine that there isn't.
-use Rattle.dm_movelaws.proofs.Names.{◌≡◌, ℕ, ◌+◌, ◌<◌, ◌≤◌, Bool, true, false, List, [], ◌∷◌, ◌++◌, length, refl, subst, arith, if◌then◌else◌, nat_tests, Some, Pid, MsgId, MessageKind, Boot, IsValid, Step, Line, Load, Stage, IsStep, Leads}
+use Rattle.dm_movelaws.proofs.Names.{◌≡◌, ℕ, ◌+◌, ◌<◌, ◌≤◌, Bool, true, false, List, [], ◌∷◌, ◌++◌, length, refl, subst, arith, if◌then◌else◌, nat_tests, Some, Pid, MsgId, MessageKind, Boot, IsValid, Step, Line, Load, IsStep, Leads}
 use Rattle.dm_movelaws.proofs.Names.{Part, Spelled, spelled, Point, first_point, moved, group_of, at_pair, View, Pair, view_after, after_head, after_put, IsNetLine, group_is, acting_label, touches, pair_same, taken_pair, acting_taken}
 use Rattle.dm_movelaws.proofs.Names.{proto_acting, queued_acting, held_acting, forwarded_acting}
 use Rattle.dm_movelaws.proofs.Leading.{All, Behind, whatever_put, parts_lead, Saying, outcome_says}
@@ -9,9 +9,6 @@ use Rattle.dm_rule.specs.View as view
 pub record Routed (n : ℕ) (v : View) : Type 0 where
   pub acting : v.acting < n
   pub none : (a b : ℕ) → n ≤ a → (v.pair a b).ids ≡ []
-
-alike : (n : ℕ) (v w : View) → w.acting ≡ v.acting → w.pair ≡ v.pair → Routed n v → Routed n w
-alike n v w acting pair h = grind (arith, nat_tests)
 
 -- a pair changes, and its messages stay
 ids_if : (c : Bool) (p q : Pair) → p.ids ≡ [] → (c ≡ true → q.ids ≡ []) → (if c then q else p).ids ≡ []
@@ -33,12 +30,9 @@ is_calm (Line.Head d) = false
 is_calm (Line.Put a b id k q) = false
 is_calm l = true
 
-stage_acting : (v : View) (p : Pid) (s : Stage) → (view.after_stage v p s).acting ≡ v.acting
-stage_acting v p s = grind (arith, nat_tests)
-
 calm_line : (n : ℕ) (v : View) (l : Line) → is_calm l ≡ true → Routed n v → Routed n (view_after v l)
 calm_line n v l calm h =
-    grind (arith, nat_tests, packet_routed, kept, acting_taken, taken_pair, alike, acting_label, pair_same, queued_acting, held_acting, forwarded_acting, stage_acting, proto_acting)
+    grind (arith, nat_tests, packet_routed, kept, acting_taken, taken_pair, acting_label, pair_same, queued_acting, held_acting, forwarded_acting, proto_acting)
 
 -- all parts are such lines, puts by the acting machine, and packets
 abbrev PartCalm : Part → Type 0

@@ -1,6 +1,6 @@
 -- Where a process has ended no message is queued for it.
-use Rattle.dm_movelaws.proofs.Names.{◌≡◌, ◌⊎◌, ℕ, ◌≤◌, ◌==◌, ◌&&◌, true, false, List, [], ◌∷◌, refl, ap, ◌∙◌, sym, subst, inl, inr, arith, cases_Bool, false≢true, nat_tests, Option, None, Some, Pid, pid_eq, MsgId, MessageKind, Boot, Label}
-use Rattle.dm_movelaws.proofs.Names.{id_eq-same, pid_eq-same, Step, Line, Part, Says, Spelled, spelled, Point, moved, group_of, at_record, times, View, Told, Ended, view_after, handled, PlainMessage, IsValid, Leads, first_point, Spot}
+use Rattle.dm_movelaws.proofs.Names.{◌≡◌, ◌⊎◌, ℕ, ◌≤◌, true, false, List, [], ◌∷◌, refl, ap, ◌∙◌, sym, subst, inl, inr, arith, cases_Bool, false≢true, nat_tests, Option, None, Some, Pid, MsgId, MessageKind, Boot, Label}
+use Rattle.dm_movelaws.proofs.Names.{id_eq-same, Step, Line, Part, Says, Spelled, spelled, Point, moved, group_of, at_record, times, View, Told, Ended, view_after, handled, PlainMessage, IsValid, Leads, first_point, Spot}
 use Rattle.dm_movelaws.proofs.Names.{Queue, Inbox, standing, StandsRight, is_kernels, group_is, arrives_net, resends_net, stands_right, kernels_fresh, not_true, is_kill, says_next, DropsAlways, killed_or, stands_first, Run, told_of}
 use Rattle.dm_movelaws.proofs.Names.{more_front}
 use Rattle.dm_movelaws.proofs.At.RestBuried.{Knows, buried_group}
@@ -18,11 +18,8 @@ record Left (a : ℕ) (p : Pid) (known : Knows) (v : View) (ids : List MsgId) : 
   queue : v.queue a p ≡ ids
   told : (i : MsgId) → 1 ≤ times i ids → (t : Told) × (v.told i ≡ Some t) × (t.receiver ≡ p)
 
-at_self : (f : ℕ → Pid → List MsgId) (m a : ℕ) (p : Pid) (xs : List MsgId) → m ≡ a → at_record f m p xs a p ≡ xs
-at_self f m a p xs e = grind (arith, nat_tests, pid_eq-same)
-
 drop_left : (a : ℕ) (p : Pid) (known : Knows) (v : View) (i : MsgId) (is : List MsgId) → Left a p known v (i ∷ is) → Left a p known (view_after v (Line.Label (Label.Dropped i))) is
-drop_left a p known v i is h = grind (arith, nat_tests, id_eq-same, at_self, more_front)
+drop_left a p known v i is h = grind (arith, nat_tests, id_eq-same, more_front)
 
 drops_left : (a : ℕ) (p : Pid) (known : Knows) (ids : List MsgId) (pt : Point) (w : Spelled) → spelled pt (rule.drop_parts ids) ≡ Some w → Left a p known pt.view ids → Left a p known w.point.view []
 drops_left a p known [] pt w is h = let f : record { lines = []; point = pt } ≡ w = cc in subst (λ (x : Spelled). Left a p known x.point.view []) f h
@@ -37,11 +34,8 @@ record Cleared (before : Knows) (v : View) : Type 0 where
 cleared_only : (before : Knows) (v : View) → Only before v → Cleared before v
 cleared_only before v h = record { each = λ n q e. inl (h.only n q e) }
 
-set_known : (f : Knows) (a : ℕ) (p : Pid) (n : ℕ) (q : Pid) (T : Type 0) → at_record f a p Ended n q ≡ Ended → (f n q ≡ Ended → T) → (((a == n) && pid_eq p q) ≡ true → T) → T
-set_known f a p n q T e old new = grind (arith, nat_tests)
-
 cleared_left : (a : ℕ) (p : Pid) (before : Knows) (v : View) → Left a p (at_record before a p Ended) v [] → Cleared before v
-cleared_left a p before v h = grind (arith, nat_tests, set_known, lines.parts, lines.eq_is, equal.pid_eq-is)
+cleared_left a p before v h = grind (arith, nat_tests, lines.parts, lines.eq_is, equal.pid_eq-is)
 
 -- where a turn begins
 record Starts (o : Point) (a : ℕ) (v : View) : Type 0 where

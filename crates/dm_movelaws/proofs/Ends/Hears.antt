@@ -4,7 +4,7 @@ use Rattle.dm_movelaws.proofs.Names.{manager, bind, pid_eq-is, Line, Addresses, 
 use Rattle.dm_movelaws.proofs.Names.{Frozen, Forward, Ended, view_after, handled, handled_first, receiver_of, target_of, front_told, Point, moved, Part, Says, Again, Owns, Spelled, behind, spelled, kernel_hears, hears, Spot, Inbox, ids_at}
 use Rattle.dm_movelaws.proofs.Names.{first_off, line_next, fits_put, pair_same, handled_spots, held_known, forwarded_spots, forwarded_known, put_spots, put_there, put_spot, InPhases, fits_as, PairsFit, sane_line, part_sane, AllLoose}
 use Rattle.dm_movelaws.proofs.Names.{loose_walks, turned, is_moving, is_for, frozen_off, ◌+◌, ◌++◌, ⊤, pid_of, PlainProcess, accepts, takes_chunk, takes_block, sends_on, chunks_of, pieces_of, Incoming, rejoins, front_of, gone_to}
-use Rattle.dm_movelaws.proofs.Names.{is_between, Queue, parts, at_record_off, due, Walks, asks, ends, accepted_off, state_off, memory_off, lacks_off, left_off, leaves, label_of, is_put, touches, nat_tests}
+use Rattle.dm_movelaws.proofs.Names.{is_between, parts, at_record_off, due, Walks, asks, ends, accepted_off, state_off, memory_off, lacks_off, left_off, leaves, label_of, is_put, touches, nat_tests}
 use Rattle.dm_rule.specs.Rule.{fits}
 use Rattle.dm_movelaws.proofs.Ends.Lines.{is_migrate, asks_for, kind_not, Smooth, Still, smooth_trans, told_by, Tame, Foreign, still_by, smooth_still, moves_none}
 use Rattle.dm_movelaws.proofs.Ends.Parts.{AllQuiet, Rest, rest_packet, Settled, parts_settle, quiet_count, quiet_asks, told_quiet, one_if, zero_if, first_off as first_off_and}
@@ -100,16 +100,13 @@ stays_comes p pt i is t q h between about w e =
     let first : Smooth p v (view_after v l) = smooth_trans p v (handled_first v) (view_after v l) (handled_smooth p v i is h.front (between_plain p v i t h.told between)) (rejoins_smooth p (handled_first v) q) in
     comes_back p pt i is t q l w h between about first (λ m r. refl) (line_then p pt l [] w refl refl refl h.sane h.fits tt tt e) (line_alone pt l w refl e) (λ f. refl) refl
 
-restarted_off : (v : View) (q : Pid) (z : Spot) → ids_at (view_after v (Line.Migration Stage.Restarted q)) z ≡ ids_at (rejoins (handled_first v) q) z
-restarted_off v q z = grind (arith, nat_tests)
-
 restarted_comes : (p : Pid) (pt : Point) (i : MsgId) (is : List MsgId) (t : Told) (q : Pid) (h : Turn pt i is t) → is_between t.kind ≡ true → t.about ≡ Of q → ComesOf p pt h.phases (Some (Says (Line.Migration Stage.Restarted q) ∷ []))
 restarted_comes p pt i is t q h between about w e =
     let v = pt.view in
     let l = Line.Migration Stage.Restarted q in
     let u = rejoins (handled_first v) q in
     let back : Smooth p v u = smooth_trans p v (handled_first v) u (handled_smooth p v i is h.front (between_plain p v i t h.told between)) (rejoins_smooth p (handled_first v) q) in
-    search (smooth_trans, smooth_still, restarted_off, comes_back, line_then, line_alone)
+    search (smooth_trans, smooth_still, comes_back, line_then, line_alone)
 
 -- a process has left: what waited for it goes on, and the destination waits for it still
 abbrev leaving : ℕ → MsgId → Pid → List MsgId → List Part

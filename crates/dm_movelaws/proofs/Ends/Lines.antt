@@ -1,7 +1,7 @@
 -- Lines and parts that leave all requests to move a process where they stand, and end none.
-use Rattle.dm_movelaws.proofs.Names.{◌≡◌, false, refl, ap, ◌∙◌, sym, subst, ⊤, Option, Some, Pid, pid_eq, MsgId, MessageKind, Stage, Label, OneKernel, Line, View, About, Told, view_after, handled, receiver_of, Point, label_of, kernel_after}
-use Rattle.dm_movelaws.proofs.Names.{times, out_of, gone_in, served_keeps, ended_off, serving_off, created_off, Sane, handled_spots, queued_spots, held_spots, dropped_spots, forwarded_spots, received_spots, and_false, ℕ, ◌&&◌, Bool, None}
-use Rattle.dm_movelaws.proofs.Names.{at_record, NothingElse, Known, Here, Ended, pid_eq-is, parts, eq_is, queued_known, held_known, dropped_known, forwarded_known, Needs, NeedsLabel, Serves, killed_or, is_moving, ends, is_for, nat_tests}
+use Rattle.dm_movelaws.proofs.Names.{◌≡◌, false, refl, ap, ◌∙◌, sym, subst, ⊤, Option, Some, Pid, pid_eq, MsgId, MessageKind, Stage, Label, OneKernel, Line, View, Told, view_after, handled, receiver_of, Point, label_of, kernel_after}
+use Rattle.dm_movelaws.proofs.Names.{times, out_of, gone_in, served_keeps, ended_off, serving_off, created_off, Sane, handled_spots, queued_spots, held_spots, dropped_spots, forwarded_spots, received_spots, and_false, ℕ, ◌&&◌, Bool}
+use Rattle.dm_movelaws.proofs.Names.{at_record, Known, Here, Ended, pid_eq-is, parts, eq_is, queued_known, held_known, dropped_known, forwarded_known, Needs, NeedsLabel, Serves, killed_or, is_moving, ends, nat_tests}
 use Rattle.dm_movelaws.proofs.Names.{arith, ◌≤◌, true, false≢true, id_eq, plain_kind, PlainMessage, PlainWhat, id_eq-is, Spot, ids_at, standing, is_put, hushed, not_true}
 use Rattle.dm_onekernel.specs.Step as kernel
 use Rattle.dm_rule.specs.View as view
@@ -152,8 +152,6 @@ label_smooth p pt s (Label.NoSpace id a b) h is = hushed_smooth p pt.view (Line.
 label_smooth p pt s _ h is = smooth_same p pt.view
 
 -- a message of a migration that is no step of it
-pub follows_or : (P : View → Type 0) (v : View) (a : About) (k : MessageKind) → P v → P (view.asks_on v a) → P (view.follows_up v a k)
-follows_or P v a k x y = grind (arith, nat_tests)
 
 pub line_smooth : (p : Pid) (pt : Point) (s : OneKernel) (l : Line) → Sane pt → QuietLine p pt.view l → kernel_after pt.kernel (label_of l) ≡ Some s → Smooth p pt.view (view_after pt.view l)
 line_smooth p pt s (Line.Idle m) h quiet is = smooth_same p pt.view
@@ -190,11 +188,8 @@ set_still f a q x e m p = grind (arith, nat_tests, parts, eq_is, pid_eq-is)
 ended_still : (p : Pid) (v : View) (q : Pid) → v.known v.acting q ≡ Here → Still p v (view.ended v q)
 ended_still p v q here m = set_still v.known v.acting q Ended (sym (ap is_moving here)) m p
 
-served_by : (p : Pid) (v : View) (o : Option Told) (t : Told) → o ≡ Some t → Still p v (view.kills t.kind v (Some t.receiver)) → Still p v (view.served_told v o)
-served_by p v o t e h = subst (λ (x : Option Told). Still p v (view.served_told v x)) (sym e) h
-
 served_still : (p : Pid) (v : View) (id : MsgId) → Serves v id → Still p v (view_after v (Line.Label (Label.Served id)))
-served_still p v id h = grind (arith, nat_tests, served_by, killed_or, ended_still, still_same)
+served_still p v id h = grind (arith, nat_tests, killed_or, ended_still, still_same)
 
 label_still : (p : Pid) (pt : Point) (l : Label) → NeedsLabel pt l → Still p pt.view (view_after pt.view (Line.Label l))
 label_still p pt (Label.End q y) need = ended_still p pt.view q need.here
@@ -203,11 +198,8 @@ label_still p pt (Label.Served id) need = served_still p pt.view id need
 label_still p pt (Label.Created id q) need = λ m. set_still pt.view.known pt.view.acting q Here (sym (ap is_moving (need.unknown pt.view.acting))) m p
 label_still p pt _ need = λ m. refl
 
-asks_still : (p : Pid) (v : View) (a : About) → Still p v (view.asks_on v a)
-asks_still p v a m = grind (arith, nat_tests)
-
 pub proto_still : (p : Pid) (v : View) (o : Option Told) → Still p v (view.after_proto v o)
-proto_still p v o m = grind (arith, nat_tests, follows_or, asks_still)
+proto_still p v o m = grind (arith, nat_tests)
 
 pub line_still : (p : Pid) (pt : Point) (l : Line) → QuietLine p pt.view l → Needs pt l → Still p pt.view (view_after pt.view l)
 line_still p pt (Line.Idle m) quiet need = λ n. refl
@@ -228,8 +220,6 @@ line_still p pt (Line.Migration Stage.Asked q) quiet need = λ m. refl
 line_still p pt _ quiet need = absurd quiet
 
 -- a line for another process ends no request
-for_other : (p : Pid) (v : View) (i : MsgId) (f : MsgId → Option Told) → Foreign p v i → Extends v.told f → is_for p (f i) ≡ false
-for_other p v i f h ext = ap (is_for p) (ext i h.what h.told) ∙ h.other
 
 pub quiet_ends : (p : Pid) (v : View) (l : Line) (f : MsgId → Option Told) → QuietLine p v l → Extends v.told f → ends f p l ≡ false
-quiet_ends p v l f quiet ext = grind (arith, nat_tests, for_other)
+quiet_ends p v l f quiet ext = grind (arith, nat_tests)

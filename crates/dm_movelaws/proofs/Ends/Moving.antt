@@ -1,5 +1,5 @@
 -- A process moves where some machine waits for it to leave or to come.
-use Rattle.dm_movelaws.proofs.Names.{◌≡◌, ◌⊎◌, ℕ, ◌==◌, ◌&&◌, Bool, true, false, not, refl, ap, ◌∙◌, sym, inl, inr, if◌then◌else◌, Option, false≢true, Pid, MsgId, MessageKind, View, Known, Here, Frozen, Incoming, Forward, Ended, Phase}
+use Rattle.dm_movelaws.proofs.Names.{◌≡◌, ◌⊎◌, ℕ, ◌==◌, ◌&&◌, Bool, true, false, not, refl, ap, ◌∙◌, sym, inl, inr, if◌then◌else◌, Option, false≢true, Pid, MsgId, MessageKind, View, Known, Here, Phase}
 use Rattle.dm_movelaws.proofs.Names.{Nowhere, Rests, Over, Moves, knows, kind_comes, is_away, is_unknown, is_here, is_over, is_restart, is_early, is_between, IsIn, parts, InPhases, rests_here, is_moving, source_knows, kind_leaves}
 use Rattle.dm_movelaws.proofs.Names.{nat_tests, arith}
 use Rattle.dm_movelaws.proofs.Ends.Lines.{Still}
@@ -29,17 +29,11 @@ unknown_rests x e = grind (arith, nat_tests)
 pub away_rests : (x : Known) → is_away x ≡ true → is_moving x ≡ false
 away_rests x e = grind (arith, nat_tests)
 
-pub here_rests : (x : Known) → is_here x ≡ true → is_moving x ≡ false
-here_rests x e = grind (arith, nat_tests)
-
-pub over_rests : (x : Known) → is_over x ≡ true → is_moving x ≡ false
-over_rests x e = grind (arith, nat_tests)
-
 pub at_rests : (c : Bool) (x : Known) → (if c then is_here x else is_away x) ≡ true → is_moving x ≡ false
-at_rests c x e = grind (arith, nat_tests, here_rests, away_rests)
+at_rests c x e = grind (arith, nat_tests, away_rests)
 
 pub at_over : (c : Bool) (x : Known) → (if c then is_over x else is_away x) ≡ true → is_moving x ≡ false
-at_over c x e = grind (arith, nat_tests, over_rests, away_rests)
+at_over c x e = grind (arith, nat_tests, away_rests)
 
 -- a phase, and who waits
 pub record Waiting (v : View) (p : Pid) (n : ℕ) : Type 0 where

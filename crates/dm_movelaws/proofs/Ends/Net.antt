@@ -87,9 +87,6 @@ taken_by p v a b n (Some i) is =
     let front = taken_front (v.pair a b) n i is in
     record { kept = λ j t e. e; fresh = λ j t e c. e; on = λ j t e c s. taken_on v a b n i j front s.0 s.1; back = λ j t e c s. taken_back v a b n i j front s.0 s.1 }
 
-taken_still : (p : Pid) (v : View) (b : ℕ) (o : Option MsgId) → Still p v (taken_id v b o)
-taken_still p v b o m = grind (arith, nat_tests)
-
 net_smooth : (p : Pid) (v : View) (l : Line) → IsNetLine l → Smooth p v (view_after v l)
 net_smooth p v (Line.Taken a b n) h = taken_by p v a b n (slice_get (v.pair a b).ids (v.pair a b).taken) refl
 net_smooth p v (Line.Old a b n) h = smooth_same p v
@@ -100,7 +97,7 @@ net_smooth p v (Line.Resent m n) h = smooth_same p v
 net_smooth p v _ h = absurd h
 
 net_still : (p : Pid) (v : View) (l : Line) → IsNetLine l → Still p v (view_after v l)
-net_still p v l h = grind (arith, nat_tests, taken_still)
+net_still p v l h = grind (arith, nat_tests)
 
 -- what a group keeps
 pub record Level (p : Pid) (v w : View) : Type 0 where

@@ -1,11 +1,11 @@
 -- Parts that leave all requests to move a process where they stand, and end none; and the lines of parts, counted.
-use Rattle.dm_movelaws.proofs.Names.{◌≡◌, ℕ, ◌+◌, ◌&&◌, Bool, true, false, List, [], ◌∷◌, ◌++◌, refl, ap, ◌∙◌, sym, subst, arith, ⊤, if◌then◌else◌, Option, None, Some, Pid, pid_eq, MsgId, MessageKind, plain_kind, Line, Stage, Load, View}
-use Rattle.dm_movelaws.proofs.Names.{Told, view_after, own_id, after_put, Point, Part, Says, Routes, Again, Owns, Transmits, Spelled, lines_of, spelled, is_put, touches, pair_same, PairsFit, put_told_off, fits_as, fits_put, fits_packet}
-use Rattle.dm_movelaws.proofs.Names.{Sane, Sayable, part_sane, put_spots, put_at, Needs, NeedsPart, Walks, Steps, asks, ends, count, packet_off, by_parts, PacketsKeep, OneKernel, label_of, kernel_after, false≢true, nat_tests, PlainMessage}
+use Rattle.dm_movelaws.proofs.Names.{◌≡◌, ℕ, ◌+◌, ◌&&◌, Bool, false, List, [], ◌∷◌, ◌++◌, refl, ap, ◌∙◌, sym, subst, arith, ⊤, if◌then◌else◌, Option, None, Some, Pid, pid_eq, MsgId, MessageKind, plain_kind, Line, Load, View}
+use Rattle.dm_movelaws.proofs.Names.{Told, view_after, own_id, after_put, Point, Part, Says, Routes, Again, Owns, Transmits, Spelled, lines_of, spelled, touches, pair_same, PairsFit, put_told_off, fits_as, fits_put, fits_packet}
+use Rattle.dm_movelaws.proofs.Names.{Sane, Sayable, part_sane, put_spots, put_at, Needs, NeedsPart, Walks, Steps, asks, ends, count, packet_off, by_parts, PacketsKeep, OneKernel, label_of, kernel_after, nat_tests, PlainMessage}
 use Rattle.dm_movelaws.proofs.Names.{Boot, Loose, loose_round, loose_handles, by_forwards, goes_round, handles}
-use Rattle.dm_movelaws.proofs.Ends.Lines.{asks_for, is_migrate, plain_not, Extends, Smooth, Still, Plain, smooth_same, smooth_trans, smooth_others, moves_none, plain_in_bag, own_untold, Tame, QuietLine, Foreign, tame_plain, line_smooth}
+use Rattle.dm_movelaws.proofs.Ends.Lines.{asks_for, is_migrate, plain_not, Extends, Smooth, Still, Plain, smooth_same, smooth_trans, smooth_others, moves_none, plain_in_bag, own_untold, Tame, QuietLine, tame_plain, line_smooth}
 use Rattle.dm_movelaws.proofs.Ends.Lines.{still_same, still_trans, line_still, quiet_ends}
-use Rattle.dm_movelaws.proofs.Leading.{All, Behind, part_leads, is_said, lines_are}
+use Rattle.dm_movelaws.proofs.Leading.{All, Behind, part_leads, lines_are}
 use Rattle.dm_rule.specs.View as view
 use Rattle.dm_rule.specs.Rule as rule
 pub use Rattle.dm_rule.proofs.Phases.Lines.{first_kept}
@@ -39,20 +39,11 @@ AllQuiet p v = All (Quiet p v)
 tame_on : (p : Pid) (v w : View) (i : MsgId) → Smooth p v w → Tame p v i → Tame p w i
 tame_on p v w i c h = record { what = h.what; told = c.kept i h.what h.told; plain = h.plain }
 
-foreign_on : (p : Pid) (v w : View) (i : MsgId) → Smooth p v w → Foreign p v i → Foreign p w i
-foreign_on p v w i c h = record { what = h.what; told = c.kept i h.what h.told; other = h.other }
-
-line_on : (p : Pid) (v w : View) (l : Line) → Smooth p v w → QuietLine p v l → QuietLine p w l
-line_on p v w l c h = grind (arith, nat_tests, tame_on, foreign_on)
-
 quiet_on : (p : Pid) (v w : View) (x : Part) → Smooth p v w → Quiet p v x → Quiet p w x
-quiet_on p v w x c h = grind (arith, nat_tests, line_on, tame_on)
+quiet_on p v w x c h = grind (arith, nat_tests, tame_on)
 
 quiet_touches : (p : Pid) (v : View) (l : Line) → QuietLine p v l → touches l ≡ false
 quiet_touches p v l h = grind (arith, nat_tests)
-
-quiet_put : (p : Pid) (v : View) (l : Line) → QuietLine p v l → is_put l ≡ false
-quiet_put p v l h = grind (arith, nat_tests)
 
 -- what is kept through parts
 pub record Settled (p : Pid) (v : View) (pt : Point) : Type 0 where
@@ -89,7 +80,7 @@ rest_behind p pt (Owns k q b) h fits quiet need = put_rest p pt.view b (own_id p
 rest_behind p pt (Transmits a b l) h fits quiet need = record { smooth = smooth_same p pt.view; still = λ m. refl; fits = fits }
 
 sayable_of : (p : Pid) (v : View) (x : Part) → Quiet p v x → Sayable x
-sayable_of p v x h = grind (arith, nat_tests, quiet_put)
+sayable_of p v x h = grind (arith, nat_tests)
 
 pub settled_same : (p : Pid) (pt : Point) → Sane pt → PairsFit pt.view → Settled p pt.view pt
 settled_same p pt sane fits = record { smooth = smooth_same p pt.view; still = still_same p pt.view; sane = sane; fits = fits }
@@ -116,9 +107,6 @@ pub record Silent (f : Line → Bool) : Type 0 where
   pub put : (a b : ℕ) (i : MsgId) (k : MessageKind) (q : Pid) → f (Line.Put a b i k q) ≡ false
   pub packet : (a b k : ℕ) (l : Load) → f (Line.Packet a b k l) ≡ false
 
-pub asks_silent : (p : Pid) → Silent (asks p)
-asks_silent p = record { put = λ a b i k q. refl; packet = λ a b k l. refl }
-
 pub ends_silent : (g : MsgId → Option Told) (p : Pid) → Silent (ends g p)
 ends_silent g p = record { put = λ a b i k q. refl; packet = λ a b k l. refl }
 
@@ -132,11 +120,8 @@ unit_if c = if c then 1 else 0
 pub zero_if : (c : Bool) → c ≡ false → unit_if c ≡ 0
 zero_if c e = ap unit_if e
 
-unsaid_count : (f : Line → Bool) (x : Part) (ps : List Part) → is_said x ≡ false → part_count f (x ∷ ps) ≡ part_count f ps
-unsaid_count f x ps e = grind (arith, nat_tests)
-
 lines_count : (f : Line → Bool) (pt : Point) (x : Part) (ps : List Part) (ls : List Line) → Silent f → lines_of pt x ≡ Some ls → count f ls + part_count f ps ≡ part_count f (x ∷ ps)
-lines_count f pt x ps ls h is = grind (arith, nat_tests, unsaid_count, lines_are, zero_if)
+lines_count f pt x ps ls h is = grind (arith, nat_tests, lines_are, zero_if)
 
 pub parts_count : (f : Line → Bool) → Silent f → (ps : List Part) (pt : Point) (w : Spelled) → spelled pt ps ≡ Some w → count f w.lines ≡ part_count f ps
 parts_count f h = by_parts (λ ps pt w. count f w.lines ≡ part_count f ps) (λ pt. refl) (λ x ps pt next ls z lines leads rest. count-append f ls z.lines ∙ ap (λ n. count f ls + n) rest ∙ lines_count f pt x ps ls h lines)

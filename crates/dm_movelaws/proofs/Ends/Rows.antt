@@ -1,5 +1,5 @@
 -- What a turn does with a kernel's own message: what comes of it, line by line.
-use Rattle.dm_movelaws.proofs.Names.{◌≡◌, ℕ, ◌==◌, Bool, true, false, List, [], ◌∷◌, refl, ap, ◌∙◌, sym, subst, arith, if◌then◌else◌, Option, None, Some, false≢true, Pid, pid_eq, MsgId, MessageKind, id_eq, Label, OneKernel, bind, pid_eq-is}
+use Rattle.dm_movelaws.proofs.Names.{◌≡◌, ℕ, ◌==◌, Bool, true, false, List, [], ◌∷◌, ap, ◌∙◌, sym, subst, arith, if◌then◌else◌, Option, None, Some, false≢true, Pid, pid_eq, MsgId, MessageKind, id_eq, Label, OneKernel, bind, pid_eq-is}
 use Rattle.dm_movelaws.proofs.Names.{pid_eq-same, Line, View, Told, Of, Known, view_after, handled_first, Point, label_of, kernel_after, moved, after_line, Part, Says, Spelled, spelled, is_between, at_record, Spot, Inbox, times, ids_at}
 use Rattle.dm_movelaws.proofs.Names.{standing, is_put, not_true, at_record_at, at_record_off, first_off, line_next, touches, pair_same, due, front_gone, handled_spots, InPhases, fits_as, State, PairsFit, said, Sane, sane_line, Walks}
 use Rattle.dm_movelaws.proofs.Names.{is_moving, asks, ends, nat_tests}

@@ -1,7 +1,7 @@
 -- Messages come only from machines that there are; and what was told stays.
-use Rattle.dm_movelaws.proofs.Names.{◌≡◌, ℕ, ◌<◌, ◌≤◌, ◌==◌, ◌&&◌, Bool, true, false, List, [], refl, ap, ◌∙◌, sym, subst, inl, inr, arith, if◌then◌else◌, Option, Some, cases_Bool, false≢true, Pid, MsgId, MessageKind, Boot, Step, Stage}
-use Rattle.dm_movelaws.proofs.Names.{id_eq-is, Line, at_pair, IsStep, View, Pair, Told, view_after, after_head, after_put, handled, receiver_of, Point, Part, Spelled, spelled, group_of, group_is, IsNetLine, acting_label, is_put, eq_is}
-use Rattle.dm_movelaws.proofs.Names.{touches, pair_same, taken_pair, put_at, PacketsKeep, put_told_off, said, begun, acting_taken, proto_acting, queued_acting, held_acting, forwarded_acting, nat_tests}
+use Rattle.dm_movelaws.proofs.Names.{◌≡◌, ℕ, ◌<◌, ◌≤◌, ◌==◌, Bool, true, false, List, [], refl, ◌∙◌, subst, arith, Option, Some, Pid, MsgId, MessageKind, Boot, Step}
+use Rattle.dm_movelaws.proofs.Names.{id_eq-is, Line, at_pair, IsStep, View, Pair, Told, view_after, after_head, after_put, Point, Part, Spelled, spelled, group_of, group_is, IsNetLine, is_put, eq_is}
+use Rattle.dm_movelaws.proofs.Names.{touches, pair_same, taken_pair, put_at, PacketsKeep, put_told_off, said, begun, nat_tests}
 use Rattle.dm_movelaws.proofs.Ends.Lines.{Extends, told_by}
 use Rattle.dm_movelaws.proofs.Ends.Parts.{first_kept}
 use Rattle.dm_movelaws.proofs.Leading.{All, Behind, whatever_put, parts_lead, Saying, outcome_says}
@@ -26,9 +26,6 @@ abbrev is_head : Line → Bool
 is_head (Line.Head d) = true
 is_head l = false
 
-line_acting : (v : View) (l : Line) → is_head l ≡ false → (view_after v l).acting ≡ v.acting
-line_acting v l e = grind (arith, nat_tests, acting_taken, acting_label, queued_acting, held_acting, forwarded_acting, proto_acting)
-
 -- what stands between the lines of a group
 pub record Acts (n : ℕ) (f : MsgId → Option Told) (v : View) : Type 0 where
   pub acting : v.acting < n
@@ -36,7 +33,7 @@ pub record Acts (n : ℕ) (f : MsgId → Option Told) (v : View) : Type 0 where
   pub grows : Extends f v.told
 
 line_acts : (n : ℕ) (f : MsgId → Option Told) (v : View) (l : Line) → is_head l ≡ false → is_put l ≡ false → Acts n f v → Acts n f (view_after v l)
-line_acts n f v l head quiet h = grind (arith, nat_tests, line_acting, line_ids, told_by)
+line_acts n f v l head quiet h = grind (arith, nat_tests, line_ids, told_by)
 
 other_source : (a c n : ℕ) → a < n → n ≤ c → (a == c) ≡ false
 other_source a c n less le = grind (arith, nat_tests, eq_is)

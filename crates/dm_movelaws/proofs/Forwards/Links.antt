@@ -1,6 +1,6 @@
 -- Where all is at rest, a process that was told of a forward has links that lead to where the other is.
-use Rattle.dm_movelaws.proofs.Names.{◌≡◌, ◌≢◌, ℕ, ◌+◌, ◌<◌, ◌≤◌, Bool, true, false, List, [], ◌∷◌, ◌++◌, is_some, refl, ap, ◌∙◌, sym, subst, arith, if◌then◌else◌, slice_get, slice_get_within, Option, Some, Pid, Place, MsgId, Boot, Life}
-use Rattle.dm_movelaws.proofs.Names.{OneKernel, receptions, reached, Sound, Step, IsStep, Leads, Point, first_point, labels, Trails, View, Unknown, Here, Forward, actor, is_server, KnownStands, agrees, group_replay, run_always, AtRest}
+use Rattle.dm_movelaws.proofs.Names.{◌≡◌, ◌≢◌, ℕ, ◌+◌, ◌<◌, ◌≤◌, true, false, List, [], ◌∷◌, ◌++◌, is_some, refl, ap, ◌∙◌, sym, subst, arith, slice_get, slice_get_within, Some, Pid, Place, MsgId, Boot}
+use Rattle.dm_movelaws.proofs.Names.{OneKernel, receptions, reached, Sound, Step, IsStep, Leads, Point, first_point, labels, Trails, View, Unknown, Forward, actor, is_server, KnownStands, group_replay, run_always, AtRest}
 use Rattle.dm_movelaws.proofs.Names.{IsThere, CountsPromise, update_of, IsUnderWay, nat_tests}
 use Rattle.dm_movelaws.proofs.At.RestAlways.{at_rest_always}
 use Rattle.dm_movelaws.proofs.Forwards.Told.{forwards_tell}
@@ -19,14 +19,6 @@ made_on b (d ∷ es) pt end q r e (w, fit, is, rest) h there =
     made_on b es w.point end q (λ i. r i + receptions i (labels w.lines)) k.e' rest k.sound (life_stays (pt.kernel.processes q) (w.point.kernel.processes q) (k.grown.lives q) there)
 
 -- what a machine forwards for is a process that was made
-server_stays : (m : ℕ) (c : Bool) (to moves : ℕ) → (if c then Here else Unknown) ≡ Forward to moves → ⊥
-server_stays m c to moves e = grind (arith, nat_tests)
-
-no_server : (s : OneKernel) (v : View) (m : ℕ) (q : Pid) (to moves : ℕ) (c : Bool) → is_server q ≡ c → KnownStands s v → v.known m q ≡ Forward to moves → c ≡ false
-no_server s v m q to moves c is h e = grind (arith, nat_tests, server_stays)
-
-made_there : (to moves : ℕ) (o : Option Life) → agrees (Forward to moves) o ≡ true → is_some o ≡ true
-made_there to moves o e = grind (arith, nat_tests)
 
 -- a machine has one forwarding address for it
 one_count : (to m n : ℕ) → Forward to m ≡ Forward to n → m ≡ n
@@ -36,7 +28,7 @@ turn_fits : (n : ℕ) (d : Step) → d ≡ Step.Turn (actor d) → actor d < n �
 turn_fits n d e h = subst (IsStep n) (sym e) h
 
 forwarded_made : (s : OneKernel) (v : View) (m : ℕ) (q : Pid) (to moves : ℕ) → KnownStands s v → v.known m q ≡ Forward to moves → (is_server q ≡ false) × (is_some (s.processes q) ≡ true)
-forwarded_made s v m q to moves h known = grind (arith, nat_tests, no_server, made_there)
+forwarded_made s v m q to moves h known = grind (arith, nat_tests)
 
 forwarded_some : (v : View) (m : ℕ) (q : Pid) (to moves : ℕ) → v.known m q ≡ Forward to moves → v.known m q ≢ Unknown
 forwarded_some v m q to moves known e = let f : Forward to moves ≡ Unknown = sym known ∙ e in cc

@@ -1,6 +1,6 @@
 -- No message is queued for a server: each line keeps it, where what it queues is for a process.
 use Rattle.dm_movelaws.proofs.Names.{◌≡◌, ℕ, true, false, List, [], ◌∷◌, refl, ap, ◌∙◌, sym, subst, ⊤, Option, None, Some, Pid, MsgId, MessageKind, plain_kind, Label, bind-is, Step, Line, Stage, Part, Spelled, lines_of, spelled, Point}
-use Rattle.dm_movelaws.proofs.Names.{after_line, after, at_record, View, Told, About, view_after, handled, receiver_of, IsNetLine, IsNet, is_put, hushed, line_view, is_server, set_all, killed_or, told_kept, by_parts, Boot, Addresses}
+use Rattle.dm_movelaws.proofs.Names.{after_line, after, at_record, View, Told, view_after, handled, receiver_of, IsNetLine, IsNet, is_put, hushed, line_view, is_server, set_all, killed_or, told_kept, by_parts, Boot, Addresses}
 use Rattle.dm_movelaws.proofs.Names.{forwards_on, migrates, hears, by_migrates, IsHeardLine, Kept, kept_forward, hears_kept, PlainMessage, goes_round, handles, Loose, loose_round, loose_handles, nat_tests, arith}
 use Rattle.dm_movelaws.proofs.Leading.{All, lines_are, Saying, net_says}
 use Rattle.dm_rule.specs.View as view
@@ -54,14 +54,8 @@ forwarded_queue v o = grind (arith, nat_tests)
 taken_queue : (v : View) (b : ℕ) (o : Option MsgId) → (view.taken_id v b o).queue ≡ v.queue
 taken_queue v b o = grind (arith, nat_tests)
 
-asks_queue : (v : View) (a : About) → (view.asks_on v a).queue ≡ v.queue
-asks_queue v a = grind (arith, nat_tests)
-
-follows_queue : (v : View) (a : About) (k : MessageKind) → (view.follows_up v a k).queue ≡ v.queue
-follows_queue v a k = grind (arith, nat_tests, asks_queue)
-
 proto_queue : (v : View) (o : Option Told) → (view.after_proto v o).queue ≡ v.queue
-proto_queue v o = grind (arith, nat_tests, follows_queue)
+proto_queue v o = grind (arith, nat_tests)
 
 head_queue : (v : View) (d : Step) → (view.after_head v d).queue ≡ v.queue
 head_queue v d = grind (arith, nat_tests)

@@ -3,7 +3,7 @@ use Rattle.dm_movelaws.proofs.Names.{◌≡◌, ◌⊎◌, ℕ, ◌-◌, Bool, t
 use Rattle.dm_movelaws.proofs.Names.{instruction, switchboard, manager, Label, Reply, Why, PlainProcess, PlainStatus, Alive, OneKernel, with_process, with_sent, Called, Sends, CallNumber, answer_to, first_failed, without_message}
 use Rattle.dm_movelaws.proofs.Names.{is_of_memory, pending_of, ServerSends, board_takes_lem, manager_takes_lem, lands-is, Sound, bind-is, KernelFits, by_step, Lives, Life, is_piece, Grown, LifeGrows, stayed, came, HasEnded, nat_tests}
 use Rattle.dm_movelaws.proofs.Names.{arith}
-use Rattle.dm_movelaws.proofs.Movers.Says.{other_end, AllSay, same_says, still_says, fresh_says, ended_says, out_says, other_says, no_end, answer_says, Requests, request_says, Begins}
+use Rattle.dm_movelaws.proofs.Movers.Says.{other_end, AllSay, same_says, still_says, fresh_says, ended_says, out_says, other_says, answer_says, Requests, request_says, Begins}
 use Rattle.dm_rule.proofs.Names.{begun}
 use Rattle.dm_onekernel.specs.Kernel.{Ended}
 use Rattle.dm_onekernel.specs.Calls as calls
@@ -25,9 +25,6 @@ puts_link_sends p x l o = grind (arith, nat_tests)
 if_sends : (p : Pid) (b : Bool) (c d : Called) → CallSends p c → CallSends p d → CallSends p (if b then c else d)
 if_sends p b c d h k = grind (arith, nat_tests)
 
-copies_sends : (p : Pid) (x : PlainProcess) (o : Option PlainLink) → CallSends p (calls.copies x o)
-copies_sends p x o = grind (arith, nat_tests, if_sends, puts_link_sends)
-
 drops_sends : (p : Pid) (x : PlainProcess) (o : Option PlainLink) → CallSends p (calls.drop_call x o)
 drops_sends p x o = grind (arith, nat_tests)
 
@@ -35,17 +32,14 @@ sends_sends : (p : Pid) (x : PlainProcess) (o : Option PlainLink) → CallSends 
 sends_sends p x None = tt
 sends_sends p x (Some l) = unless_sends p x (first_failed (calls.send_refusals x)) (Sends (calls.message_over p x l) (calls.after_send x)) (inl refl)
 
-moves_bytes_sends : (p : Pid) (x : PlainProcess) (l : PlainLink) (dir : Direction) → CallSends p (calls.moves_bytes p x l dir)
-moves_bytes_sends p x l dir = grind (arith, nat_tests, if_sends)
-
 moves_over_sends : (p : Pid) (x : PlainProcess) (l : PlainLink) (o : Option Direction) → CallSends p (calls.moves_over p x l o)
-moves_over_sends p x l o = grind (arith, nat_tests, unless_sends, moves_bytes_sends)
+moves_over_sends p x l o = grind (arith, nat_tests, unless_sends)
 
 moves_sends : (p : Pid) (x : PlainProcess) (o : Option PlainLink) → CallSends p (calls.move_call p x o)
 moves_sends p x o = grind (arith, nat_tests, moves_over_sends)
 
 does_call_sends : (p : Pid) (x : PlainProcess) (c : CallNumber) → CallSends p (calls.does_call p x c)
-does_call_sends p x c = grind (arith, nat_tests, unless_sends, puts_link_sends, copies_sends, drops_sends, sends_sends, if_sends, moves_sends)
+does_call_sends p x c = grind (arith, nat_tests, unless_sends, puts_link_sends, drops_sends, sends_sends, if_sends, moves_sends)
 
 -- and the next instruction
 abbrev NextSends : Pid → kernel.Trap → Type 0
@@ -92,7 +86,7 @@ memory_end m w e = grind (arith, nat_tests)
 
 -- what a server sends
 server_says : (u : OneKernel) (p : Pid) (o : Option PlainMessage) (n after : ℕ) → ServerSends p n o after → AllSay u → AllSay (with_sent u o)
-server_says u p o n after sends h = grind (arith, nat_tests, other_says, no_end)
+server_says u p o n after sends h = grind (arith, nat_tests, other_says)
 
 -- every step
 pub step_says : (r e : MsgId → ℕ) (s t : OneKernel) (l : Label) → kernel.step s l ≡ Some t → Sound r e s → KernelFits t → AllSay s → AllSay t

@@ -1,6 +1,6 @@
 -- What a message of a data move says of the mover's status: the ways in which that stays.
 use Rattle.dm_movelaws.proofs.Names.{◌≡◌, ℕ, ◌+◌, ◌≤◌, true, false, length, take, drop, refl, ap, ◌∙◌, sym, subst, nat_le, nat_lt, arith, ⊤, Option, None, Some, nat_tests, length-take, length-drop, Pid, MsgId, PlainMessage, PlainWhat}
-use Rattle.dm_movelaws.proofs.Names.{Direction, Why, PlainProcess, PlainStatus, Ready, Waiting, Moving, Life, Alive, OneKernel, with_process, with_sent, piece_of, answer_to, without_message, is_of_memory, is_piece, pending_of, counts}
+use Rattle.dm_movelaws.proofs.Names.{Direction, Why, PlainProcess, PlainStatus, Ready, Waiting, Moving, Life, Alive, OneKernel, with_process, with_sent, piece_of, answer_to, without_message, pending_of, counts}
 use Rattle.dm_movelaws.proofs.Names.{is_counted, stayed, came, Sound, not_server, counts_process, not_counted, has_bytes, move_fits, KernelFits, both, set_if, set_at}
 use Rattle.dm_rulelaws.proofs.Names.{Lives}
 use Rattle.dm_onekernel.specs.Kernel.{Ended}
@@ -77,15 +77,10 @@ put_says u x f h i m q there e = grind (arith, nat_tests, came)
 pub other_says : (u : OneKernel) (x : PlainMessage) → other_end x x.what ≡ None → AllSay u → AllSay (with_sent u (Some x))
 other_says u x none h = put_says u x (λ q e. absurd (let f : None ≡ Some q = sym none ∙ e in cc)) h
 
-pub no_end : (m : PlainMessage) (w : PlainWhat) → is_of_memory w ≡ false → is_piece w ≡ false → other_end m w ≡ None
-no_end m w a b = grind (arith, nat_tests)
-
 -- an answer says what its request said
-status_turns : (st : PlainStatus) (n : ℕ) (q : Pid) (v w : PlainWhat) → ((base left : ℕ) → Begins base left w) → StatusSays st n q v → StatusSays st n q w
-status_turns st n q v w f h = grind (arith, nat_tests)
 
 turns : (o : Option Life) (n : ℕ) (q : Pid) (v w : PlainWhat) → ((base left : ℕ) → Begins base left w) → Says o n q v → Says o n q w
-turns o n q v w f h = grind (arith, nat_tests, status_turns)
+turns o n q v w f h = grind (arith, nat_tests)
 
 pub answer_says : (u : OneKernel) (id : MsgId) (m : PlainMessage) (w : PlainWhat) → m.id ≡ id → Says (u.processes id.from) id.n m.to m.what → other_end (answer_to m w) w ≡ Some m.to → ((base left : ℕ) → Begins base left w) → AllSay u → AllSay (with_sent u (Some (answer_to m w)))
 answer_says u id m w name says end f h =

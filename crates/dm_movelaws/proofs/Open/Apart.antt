@@ -1,8 +1,8 @@
 -- Each line of a group leaves a process that moves alone, where it stands.
 use Rattle.dm_movelaws.proofs.Names.{◌≡◌, ◌≢◌, ℕ, ◌+◌, ◌==◌, Bool, true, false, List, [], ◌∷◌, ◌++◌, refl, ap, ◌∙◌, sym, subst, ⊤, Option, Some, false≢true, Pid, pid_of, MsgId, MessageKind, PlainMessage, Boot, Label, Why, first_number}
-use Rattle.dm_movelaws.proofs.Names.{OneKernel, bind, bind-is, Step, Line, IsOthers, Spares, migrates, Part, Spelled, lines_of, spelled, Moves, knows, IsIn, Point, label_of, kernel_after, moved, after_line, after, group_of, Here}
-use Rattle.dm_movelaws.proofs.Names.{SparesPart, FirstApart, ApartOf, apart_first, turns_apart, net_apart, migrates_apart, arrives_net, resends_net, Rooted, nowhere_known, moves_away, is_fixed, IsAnothers, IsAnothersIf, moves_known}
-use Rattle.dm_movelaws.proofs.Names.{took_for, created_for, no_space_for, by_parts, by_group, is_some, IsValid, start, replay, ended_stays, Phase, is_between, is_restart, is_early, kind_comes, first_point, labels, Known}
+use Rattle.dm_movelaws.proofs.Names.{OneKernel, bind, bind-is, Step, Line, Spares, migrates, Part, Spelled, lines_of, spelled, Moves, knows, IsIn, Point, label_of, kernel_after, moved, after_line, after, group_of, Here}
+use Rattle.dm_movelaws.proofs.Names.{SparesPart, FirstApart, ApartOf, apart_first, turns_apart, net_apart, migrates_apart, arrives_net, resends_net, Rooted, nowhere_known, moves_away, is_fixed, IsAnothersIf, moves_known}
+use Rattle.dm_movelaws.proofs.Names.{by_parts, by_group, is_some, IsValid, start, replay, ended_stays, Phase, is_between, is_restart, is_early, kind_comes, first_point, labels, Known}
 use Rattle.dm_movelaws.proofs.Names.{moving_stays_always, is_server, agrees, LeadsBy, after_replay, Run, run_always, mark_while, IsSpared, OpenSpares, apart_is, destination_knows, server_leaves, why_ended-is, kind_leaves, nat_tests, arith}
 use Rattle.dm_onekernel.specs.Kernel.{Ended}
 use Rattle.dm_movelaws.proofs.Leading.{lines_are}
@@ -135,17 +135,6 @@ alone_rest y (x ∷ xs) ys pt mid h e =
     record { rest = k.rest; same = k.same ∙ sym (ap (λ (q : Point). q.kernel.processes y) f) ∙ kernel_same pt.kernel s y (label_of x) h.0 is }
 
 -- a step that spares a living process takes no message for it
-message_is : (s : OneKernel) (id : MsgId) (n m : PlainMessage) → s.bag id ≡ Some n → s.bag id ≡ Some m → n ≡ m
-message_is s id n m e f = let g : Some n ≡ Some m = sym e ∙ f in cc
-
-gone_over : (s t : OneKernel) (id : MsgId) (m : PlainMessage) → kernel.step s (Label.Gone id) ≡ Some t → s.bag id ≡ Some m → (y : Why) × (s.processes m.to ≡ Some (Ended y))
-gone_over s t id m is there = grind (arith, nat_tests, bind-is, message_is)
-
-fixed_off : (y q : Pid) → is_fixed y ≡ false → is_fixed q ≡ true → q ≢ y
-fixed_off y q free fixed e = false≢true (sym free ∙ ap is_fixed (sym e) ∙ fixed)
-
-pub anothers_is : (s t : OneKernel) (y : Pid) (l : Label) → is_fixed y ≡ false → ((z : Why) → s.processes y ≡ Some (Ended z) → ⊥) → IsOthers s y l → kernel.step s l ≡ Some t → IsAnothers s y l
-anothers_is s t y l free lives h e = grind (arith, nat_tests, dropped_over, gone_over, fixed_off, took_for, created_for, no_space_for)
 
 pub anothers_if : (s t : OneKernel) (y : Pid) (o : Option Label) → is_fixed y ≡ false → ((z : Why) → s.processes y ≡ Some (Ended z) → ⊥) → Spares s y o → kernel_after s o ≡ Some t → IsAnothersIf s y o
-anothers_if s t y o free lives h e = grind (arith, nat_tests, anothers_is)
+anothers_if s t y o free lives h e = grind (arith, nat_tests)

@@ -1,9 +1,9 @@
 -- The open mark among the lines of a run says in what phase a process is.
-use Rattle.dm_movelaws.proofs.Names.{◌≡◌, List, [], ◌∷◌, refl, ap, ◌∙◌, sym, subst, Option, None, Some, Pid, MessageKind, Boot, Step, Line, Leads, Phase, Point, first_point, after, first_view, Phased, phased_start, phased_group, LeadsBy}
-use Rattle.dm_movelaws.proofs.Names.{Mark, marks, left_open, open_mark, mark_by, mark_while, OpenMoves, nat_tests, arith}
+use Rattle.dm_movelaws.proofs.Names.{◌≡◌, List, [], ◌∷◌, refl, ap, ◌∙◌, sym, subst, Option, None, Some, Pid, Boot, Step, Line, Leads, Phase, Point, first_point, after, first_view, Phased, phased_start, phased_group, LeadsBy}
+use Rattle.dm_movelaws.proofs.Names.{Mark, marks, left_open, open_mark, mark_while, OpenMoves, nat_tests, arith}
 use Rattle.dm_movelaws.proofs.After.{after-append, group_after}
 use Rattle.dm_movelaws.proofs.Stages.Marks.{open_after, open-append, marks-append}
-use Rattle.dm_movelaws.proofs.Stages.Spares.{mark_of, mark_in}
+use Rattle.dm_movelaws.proofs.Stages.Spares.{mark_in}
 use Rattle.dm_movelaws.proofs.Stages.Always.{group_marked}
 pub use Rattle.dm_movelaws.proofs.Stages.Always.{not_due as none_due}
 pub use Rattle.dm_movelaws.proofs.Stages.Always.{start_mark}
@@ -23,11 +23,8 @@ pub open_is : (o : Option Mark) (ms : List Mark) → open_mark o ms ≡ open_aft
 open_is o [] = refl
 open_is o (m ∷ ms) = open_is (left_open m) ms
 
-kind_is : (k : MessageKind) → mark_of k ≡ mark_by k
-kind_is k = grind (arith, nat_tests)
-
 pub mark_is : (phase : Phase) → mark_in phase ≡ mark_while phase
-mark_is phase = grind (arith, nat_tests, kind_is)
+mark_is phase = grind (arith, nat_tests)
 
 -- between groups no message is due
 

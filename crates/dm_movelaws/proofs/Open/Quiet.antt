@@ -1,9 +1,9 @@
 -- A group that marks a process says no label.
-use Rattle.dm_movelaws.proofs.Names.{◌≡◌, ◌⊎◌, ℕ, Bool, List, [], ◌∷◌, ◌++◌, refl, ◌∙◌, sym, subst, inl, inr, ⊤, if◌then◌else◌, Option, None, Some, Pid, MsgId, MessageKind, Boot, Step, Line, process_told, server_told, migrates, Part}
-use Rattle.dm_movelaws.proofs.Names.{Spelled, lines_of, spelled, Point, label_of, group_of, Told, About, Known, marks, by_migrates, IsHeardLine, kernel_kept, by_parts, by_group, by_outcome, moved, nat_tests, arith}
+use Rattle.dm_movelaws.proofs.Names.{◌≡◌, ◌⊎◌, ℕ, Bool, List, [], ◌∷◌, ◌++◌, refl, ◌∙◌, inl, inr, ⊤, if◌then◌else◌, Option, None, Some, Pid, MsgId, MessageKind, Boot, Step, Line, process_told, server_told, migrates, Part}
+use Rattle.dm_movelaws.proofs.Names.{Spelled, lines_of, spelled, Point, label_of, group_of, Told, About, marks, by_migrates, IsHeardLine, kernel_kept, by_parts, by_group, by_outcome, moved, nat_tests, arith}
 use Rattle.dm_movelaws.proofs.Stages.Marks.{marks_of, spelled_marks}
 use Rattle.dm_movelaws.proofs.Stages.Lines.{AllMild, mild_marks, net_marks}
-use Rattle.dm_movelaws.proofs.Stages.Hears.{round_mild, handles_mild, Hears, Calms, Freezes, server_mild, process_hears}
+use Rattle.dm_movelaws.proofs.Stages.Hears.{round_mild, handles_mild, server_mild, process_hears}
 use Rattle.dm_movelaws.proofs.Leading.{All, lines_are, Saying}
 use Rattle.dm_rule.specs.Rule as rule
 
@@ -34,13 +34,9 @@ OrQuiet p ps = (marks_of p ps ≡ []) ⊎ QuietParts ps
 mild_or : (p : Pid) (front : Option MsgId) (ps : List Part) → AllMild p front ps → OrQuiet p ps
 mild_or p front ps h = inl (mild_marks p front ps h)
 
-process_or : (p : Pid) (i : MsgId) (t : Told) (k : Known) (ps : List Part) → Hears k i t ps → OrQuiet p ps
-process_or p i t k ps (Calms mild) = mild_or p (Some i) ps (mild p)
-process_or p i t k ps (Freezes here are) = inr (subst QuietParts (sym are) (refl, (refl, (tt, tt))))
-
 hears_by : (p : Pid) (b : Boot) (o : Point) (m : ℕ) (i : MsgId) (t : Told) (c d g : Bool) (ps : List Part)
     → (if c then rule.kernel_hears b o m i t.kind t.about else if d then server_told o i t t.kind else if g then server_told o i t t.kind else process_told o m i t (o.view.known m t.receiver)) ≡ Some ps → OrQuiet p ps
-hears_by p b o m i t c d g ps e = grind (arith, nat_tests, kernel_quiet, mild_or, server_mild, process_or, process_hears)
+hears_by p b o m i t c d g ps e = grind (arith, nat_tests, kernel_quiet, mild_or, server_mild, process_hears)
 
 hears_or : (p : Pid) (b : Boot) (o : Point) (m : ℕ) (i : MsgId) (q : Option Told) (ps : List Part) → rule.hears b o m i q ≡ Some ps → OrQuiet p ps
 hears_or p b o m i q ps e = grind (arith, nat_tests, hears_by)

@@ -1,9 +1,9 @@
 -- Wherever the rule leads, each pending request of the manager's has one message under its number.
 use Rattle.dm_movelaws.proofs.Names.{◌≡◌, ◌⊎◌, ℕ, ◌+◌, ◌<◌, ◌≤◌, ◌==◌, Bool, true, false, List, [], ◌∷◌, ◌++◌, length, is_some, refl, ap, ◌∙◌, subst, inl, inr, arith, if◌then◌else◌, Option, None, Some, cases_Bool, false≢true, nat_tests}
-use Rattle.dm_movelaws.proofs.Names.{Pid, PlainLink, MsgId, MessageKind, id_of, plain_kind, PlainMessage, PlainWhat, switchboard, manager, Boot, Label, Manager, Pending, OneKernel, with_sent, without_message, replay, entry, reception}
-use Rattle.dm_movelaws.proofs.Names.{in_bag, after_step, ServerSends, board_takes_lem, manager_takes_lem, Sound, bind-is, Step, ascends, Point, View, still_pending, IsPending, WhatFits, KernelFits, based_always, fits_step, group_replay}
+use Rattle.dm_movelaws.proofs.Names.{Pid, PlainLink, MsgId, id_of, plain_kind, PlainMessage, PlainWhat, switchboard, manager, Boot, Label, Manager, Pending, OneKernel, with_sent, without_message, replay, entry, reception}
+use Rattle.dm_movelaws.proofs.Names.{after_step, ServerSends, board_takes_lem, manager_takes_lem, Sound, bind-is, Step, ascends, Point, View, still_pending, WhatFits, KernelFits, based_always, fits_step, group_replay}
 use Rattle.dm_movelaws.proofs.Names.{Based, makes, is_pending, HasOne, IsOfPending, PendingHasOne, Spelled, group_of, PendingAscends}
-use Rattle.dm_movelaws.proofs.Pending.Pairs.{is_create, is_answer, Neither, neither, Pair, answer_of, Ones, Off, off_both, out_ones, put_ones, from_other, took_pair, asked_pair}
+use Rattle.dm_movelaws.proofs.Pending.Pairs.{is_create, Neither, neither, Pair, answer_of, Ones, off_both, out_ones, put_ones, from_other, took_pair, asked_pair}
 use Rattle.dm_movelaws.proofs.Pending.Steps.{label_ones}
 use Rattle.dm_movelaws.proofs.Promise.Before.{step_pending}
 use Rattle.dm_movelaws.proofs.After.{keeps_always}
@@ -47,11 +47,8 @@ wants_took g machines images machine image links = grind (arith, nat_tests, bad_
 requests_took : (g : Manager) (machines images : ℕ) (body : List ℕ) (links : List PlainLink) → UserTook g (manage.requests_child g machines images body links)
 requests_took g machines images body links = grind (arith, nat_tests, if_took, wants_took, bad_took)
 
-child_took : (g : Manager) (child : Pid) (o : Option PlainWhat) (links : List PlainLink) → UserTook g (manage.tells_child g child o links)
-child_took g child o links = grind (arith, nat_tests, bad_took)
-
 controls_took : (g : Manager) (child : Option Pid) (body : List ℕ) (links : List PlainLink) → UserTook g (manage.controls g child body links)
-controls_took g child body links = grind (arith, nat_tests, child_took, bad_took)
+controls_took g child body links = grind (arith, nat_tests, bad_took)
 
 user_took : (g : Manager) (machines images code : ℕ) (body : List ℕ) (links : List PlainLink) → UserTook g (manage.takes_user g machines images code body links)
 user_took g machines images code body links = search (if_took, requests_took, controls_took)
@@ -93,9 +90,6 @@ still_some n k s o is p up = grind (arith, nat_tests, still_pending)
 other_than : (n k : ℕ) (s : OneKernel) → is_some (manage.pending_numbered k (manage.without_pending n s.manager.pending)) ≡ true → ascends 0 s.manager.pending s.manager.sent ≡ true → (n == k) ≡ false
 other_than n k s p up = grind (arith, nat_tests, without_gone)
 
-answer_apart : (id : MsgId) (k : ℕ) → id.answer ≡ true → (id.n == k) ≡ false → Off id k
-answer_apart id k answer off = grind (arith, nat_tests)
-
 -- what is pending once the manager has taken a message
 pending_by : (s : OneKernel) (id : MsgId) (k : manage.ManagerTook) (n : ℕ) (o : Option PlainMessage) → is_pending (with_sent (record (without_message s id) { manager = k.manager }) o) n ≡ true → is_some (manage.pending_numbered n k.manager.pending) ≡ true
 pending_by s id k n o p = grind (arith, nat_tests)
@@ -106,7 +100,7 @@ pending_in s id k n p = pending_by s id k n k.message p
 -- an answer to a request
 answered_took : (s : OneKernel) (id : MsgId) (m : PlainMessage) (k : manage.ManagerTook) → m.id ≡ id → id.answer ≡ true → k.manager.pending ≡ manage.without_pending m.id.n s.manager.pending → ServerSends manager s.manager.sent k.message k.manager.sent → ascends 0 s.manager.pending s.manager.sent ≡ true → Ones s
     → Ones (service.manager_took s id k)
-answered_took s id m k name answer pending sends up h n p = grind (arith, nat_tests, pending_in, still_some, other_than, took_pair, answer_apart)
+answered_took s id m k name answer pending sends up h n p = grind (arith, nat_tests, pending_in, still_some, other_than, took_pair)
 
 -- a user message
 user_ones : (r e : MsgId → ℕ) (s : OneKernel) (id : MsgId) (m : PlainMessage) (k : manage.ManagerTook) → s.bag id ≡ Some m → Neither m.what → UserTook s.manager k → ServerSends manager s.manager.sent k.message k.manager.sent → ascends 0 s.manager.pending s.manager.sent ≡ true → Sound r e s → Ones s
@@ -150,32 +144,12 @@ ones_on : (b : Boot) (pt : Point) (d : Step) (w : Spelled) → group_of b pt d �
 ones_on b pt d w is based h = search (replay_ones, group_replay)
 
 -- what that comes to
-pair_one : (a b : Option PlainMessage) → Pair a b → in_bag a + in_bag b ≡ 1
-pair_one a b h = grind (arith, nat_tests)
-
-create_kind : (w : PlainWhat) → is_create w ≡ true → plain_kind w ≡ MessageKind.Create
-create_kind w e = grind (arith, nat_tests)
-
-answer_kind : (w : PlainWhat) → is_answer w ≡ true → (plain_kind w ≡ MessageKind.Created) ⊎ (plain_kind w ≡ MessageKind.NoRoom)
-answer_kind w e = grind (arith, nat_tests)
-
-pair_request : (a b : Option PlainMessage) (m : PlainMessage) → Pair a b → a ≡ Some m → plain_kind m.what ≡ MessageKind.Create
-pair_request a b m h e = grind (arith, nat_tests, create_kind)
-
-pair_answer : (a b : Option PlainMessage) (m : PlainMessage) → Pair a b → b ≡ Some m → (plain_kind m.what ≡ MessageKind.Created) ⊎ (plain_kind m.what ≡ MessageKind.NoRoom)
-pair_answer a b m h e = grind (arith, nat_tests, answer_kind)
 
 has_one : (s : OneKernel) (n : ℕ) → Pair (s.bag (id_of manager n)) (s.bag (answer_of n)) → HasOne s n
-has_one s n h = grind (arith, nat_tests, pair_one, pair_request, pair_answer)
-
-asked_name : (s : OneKernel) (i : MsgId) → i.answer ≡ false → IsPending s i → IsOfPending s i
-asked_name s i answer p = record { name = inl (λ j. record { from = p.from j; n = i.n; answer = answer j }); pending = p.pending }
-
-answered_name : (s : OneKernel) (i : MsgId) → i.answer ≡ true → IsPending s i → IsOfPending s i
-answered_name s i answer p = record { name = inr (λ j. record { from = p.from j; n = i.n; answer = answer j }); pending = p.pending }
+has_one s n h = grind (arith, nat_tests)
 
 of_pending : (s : OneKernel) (i : MsgId) (m : PlainMessage) (w : PlainWhat) → WhatFits s i m w → makes (plain_kind w) ≡ true → IsOfPending s i
-of_pending s i m w fits e = grind (arith, nat_tests, asked_name, answered_name)
+of_pending s i m w fits e = grind (arith, nat_tests)
 
 -- wherever the rule leads
 pub pending_has_one : PendingHasOne

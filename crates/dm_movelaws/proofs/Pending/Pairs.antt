@@ -115,8 +115,6 @@ made_ones r e s u t id m w is same up there asked answers h ones =
     subst Ones is of
 
 -- what the manager sends is under its next number
-sent_name : (o : Option PlainMessage) (n after : ℕ) (x : PlainMessage) → ServerSends manager n o after → o ≡ Some x → x.id ≡ id_of manager n
-sent_name o n after x h e = grind (arith, nat_tests)
 
 own_off : (sent n : ℕ) → n < sent → Off (id_of manager sent) n
 own_off sent n less = grind (arith, nat_tests)
@@ -134,7 +132,7 @@ took_at s u id i o same off put = grind (arith, nat_tests, out_off, sent_off)
 -- the manager takes a message: a request that was pending has what it had
 pub took_pair : (s : OneKernel) (id : MsgId) (k : manage.ManagerTook) (n : ℕ) → ServerSends manager s.manager.sent k.message k.manager.sent → ascends 0 s.manager.pending s.manager.sent ≡ true → is_pending s n ≡ true → Off id n → Ones s
     → Pair ((manager_took s id k).bag (id_of manager n)) ((manager_took s id k).bag (answer_of n))
-took_pair s id k n sends up p off h = grind (arith, nat_tests, pending_less, own_off, off_by, sent_name, by_same, took_at)
+took_pair s id k n sends up p off h = grind (arith, nat_tests, pending_less, own_off, off_by, by_same, took_at)
 
 -- it asks for a process: the request is the new one's
 none_out : (s : OneKernel) (id i : MsgId) (c : Bool) → s.bag i ≡ None → (if c then None else s.bag i) ≡ None

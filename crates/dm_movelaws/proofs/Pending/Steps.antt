@@ -1,5 +1,5 @@
 -- Each step of a process or of its kernel keeps one message under each pending request's number.
-use Rattle.dm_movelaws.proofs.Names.{◌≡◌, ℕ, Bool, true, false, refl, ap, ◌∙◌, take, drop, if◌then◌else◌, None, Some, Pid, pid_eq, MsgId, PlainMessage, PlainWhat, manager, Label, bind, PlainProcess, PlainStatus, Alive, OneKernel, with_sent}
+use Rattle.dm_movelaws.proofs.Names.{◌≡◌, ℕ, Bool, true, false, refl, ap, ◌∙◌, take, drop, if◌then◌else◌, None, Some, Pid, pid_eq, MsgId, PlainMessage, PlainWhat, manager, Label, bind, PlainProcess, Alive, OneKernel, with_sent}
 use Rattle.dm_movelaws.proofs.Names.{answer_to, without_message, is_dropped, is_of_memory, lands-is, Sound, not_server, bind-is, length, id_of, by_step, is_served, nat_tests, arith}
 use Rattle.dm_laws.proofs.Entered.{asks}
 use Rattle.dm_movelaws.proofs.Pending.Pairs.{is_create, Neither, neither, Ones, out_ones, put_ones, from_other, answered_ones, made_ones, Off}
@@ -11,14 +11,9 @@ use Rattle.dm_onekernel.specs.Manager as manage
 use Rattle.dm_onekernel.specs.Switchboard as board
 
 -- what a process receives is a user message
-completes_user : (p : Pid) (x : PlainProcess) (m : PlainMessage) (mask base size : ℕ) (w : PlainWhat) (c : receiving.Completed) → m.what ≡ w → receiving.completes_what p x m mask base size w ≡ Some c → Neither m.what
-completes_user p x m mask base size w c e is = grind (arith, nat_tests, neither)
-
-completes_status : (p : Pid) (x : PlainProcess) (m : PlainMessage) (st : PlainStatus) (c : receiving.Completed) → receiving.completes_status p x m st ≡ Some c → Neither m.what
-completes_status p x m st c is = grind (arith, nat_tests, completes_user)
 
 completes_if : (p : Pid) (x : PlainProcess) (m : PlainMessage) (stopped : Bool) (c : receiving.Completed) → (if stopped then None else receiving.completes_status p x m x.status) ≡ Some c → Neither m.what
-completes_if p x m stopped c is = grind (arith, nat_tests, completes_status)
+completes_if p x m stopped c is = grind (arith, nat_tests)
 
 -- dropped, or its receiver has ended
 dropped_neither : (v w : PlainWhat) → v ≡ w → is_dropped w ≡ true → Neither v

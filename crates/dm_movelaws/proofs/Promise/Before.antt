@@ -1,6 +1,6 @@
 -- Where no line gives a slot an address, a link in it was there before.
-use Rattle.dm_movelaws.proofs.Names.{◌≡◌, ℕ, ◌==◌, ◌&&◌, ◌||◌, Bool, true, false, List, [], ◌∷◌, refl, ap, ◌∙◌, arith, if◌then◌else◌, Option, None, Some, Pid, Place, PlainMessage, Label, OneKernel, pid_eq-is, pid_eq-same, View, Addresses}
-use Rattle.dm_movelaws.proofs.Names.{Holder, Slot, Gets, gives, given, holder_eq, leads_to, unmoved, ascends, eq_is, eq_self, parts, AtHome, HomesAre, homes_are, at_home, SaidOn, label_on, gives_to, nat_tests}
+use Rattle.dm_movelaws.proofs.Names.{◌≡◌, ℕ, ◌==◌, ◌&&◌, ◌||◌, Bool, true, false, List, [], ◌∷◌, refl, ap, ◌∙◌, arith, if◌then◌else◌, Option, None, Some, Pid, Place, PlainMessage, Label, OneKernel, pid_eq-same, View, Addresses}
+use Rattle.dm_movelaws.proofs.Names.{Holder, Slot, Gets, gives, given, holder_eq, leads_to, unmoved, ascends, eq_self, AtHome, HomesAre, homes_are, at_home, SaidOn, label_on, gives_to, nat_tests}
 use Rattle.dm_rule.proofs.Homes.Serves.{Named}
 use Rattle.dm_movelaws.proofs.Promise.Slots.{same_given, gives_same}
 use Rattle.dm_onekernel.specs.Step as kernel
@@ -38,14 +38,11 @@ Was s p k q place = place.moves ≡ 1 → leads_to s (Slot p k) ≡ Some q
 none_was : (s : OneKernel) (p : Pid) (k : ℕ) (q : Pid) (place : Place) → place.moves ≡ 0 → Was s p k q place
 none_was s p k q place zero_ one = absurd (omega (arith, zero_, one))
 
-slot_is : (p : Pid) (k : ℕ) (h : Holder) → holder_eq h (Slot p k) ≡ true → h ≡ Slot p k
-slot_is p k h e = grind (arith, nat_tests, parts, pid_eq-is, eq_is)
-
 slot_same : (p : Pid) (k : ℕ) → holder_eq (Slot p k) (Slot p k) ≡ true
 slot_same p k = ap (λ (c : Bool). c && (k == k)) (pid_eq-same p) ∙ eq_self k
 
 marks_are : (s : OneKernel) (p : Pid) (k : ℕ) → HomesAre (Was s p k) s (marked p k)
-marks_are s p k h q e = grind (arith, nat_tests, slot_is, none_was)
+marks_are s p k h q e = grind (arith, nat_tests, none_was)
 
 said_marked : (s : OneKernel) (v : View) (p : Pid) (k : ℕ) (l : Label) → SaidOn (Was s p k) s (still_view s v l) (marked p k) l
 said_marked s v p k l = grind (arith, nat_tests)

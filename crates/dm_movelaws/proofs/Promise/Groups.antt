@@ -1,7 +1,7 @@
 -- Each group leaves an update that is under way standing somewhere, or says that it was handled, and nothing else.
 use Rattle.dm_movelaws.proofs.Names.{◌≡◌, ◌⊎◌, ℕ, Bool, true, false, List, [], ◌∷◌, refl, ap, ◌∙◌, sym, subst, inl, inr, Option, None, Some, false≢true, Pid, Place, MsgId, MessageKind, id_eq, plain_kind, PlainMessage, PlainWhat, Boot}
-use Rattle.dm_movelaws.proofs.Names.{id_eq-is, Step, Line, View, Told, is_kernels, after_head, Point, Part, Spelled, spelled, migrates, group_of, not_kernels, eq_is, not_true, parts, IsNet, fits, under_way, kernels_by, Phased, set_is}
-use Rattle.dm_movelaws.proofs.Names.{set_other, PairsFit, Sane, begun, begun_sane, update_of, by_migrates, by_outcome, group_is, nat_tests, arith}
+use Rattle.dm_movelaws.proofs.Names.{id_eq-is, Step, Line, Told, is_kernels, Point, Part, Spelled, spelled, migrates, group_of, not_kernels, not_true, parts, IsNet, fits, under_way, kernels_by, Phased}
+use Rattle.dm_movelaws.proofs.Names.{PairsFit, Sane, begun, begun_sane, update_of, by_migrates, by_outcome, group_is, nat_tests, arith}
 use Rattle.dm_movelaws.proofs.Promise.Kept.{told_stays}
 use Rattle.dm_movelaws.proofs.Promise.Spots.{Stands, packet_stands, head_stands, net_stands}
 use Rattle.dm_movelaws.proofs.Promise.Parts.{all_loose, GoesOf, Waits, loose_row, round_goes, handles_goes, Goes}
@@ -50,11 +50,9 @@ outcome_goes b o d ps j p q place h = by_outcome (λ e. Goes j (begun o e)) b o 
 })
 
 -- a head leaves the streams as they are
-delivered_fits : (v : View) (a b k : ℕ) → PairsFit v → PairsFit (after_head v (Step.Deliver a b k))
-delivered_fits v a b k h = grind (arith, nat_tests, set_is, set_other, parts, eq_is)
 
 head_fits : (o : Point) (d : Step) → PairsFit o.view → PairsFit (begun o d).view
-head_fits o d h = grind (arith, nat_tests, delivered_fits)
+head_fits o d h = grind (arith, nat_tests)
 
 waits_begun : (o : Point) (d : Step) (j : MsgId) (t : Told) → t.kind ≡ MessageKind.Update → o.view.told j ≡ Some t → Stands o.view j → Phased o → Waits j t (begun o d)
 waits_begun o d j t update told h phased = record {

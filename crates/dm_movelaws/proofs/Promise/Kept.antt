@@ -1,7 +1,7 @@
 -- As long as no line gives a slot an address, its address doesn't come to know fewer moves; and what was told stays.
-use Rattle.dm_movelaws.proofs.Names.{◌≡◌, ℕ, ◌+◌, ◌≤◌, nat_lt, Bool, true, false, List, [], ◌∷◌, refl, ap, ◌∙◌, sym, subst, arith, if◌then◌else◌, Option, None, Some, nat_tests, Pid, Place, MsgId, MessageKind, Label, OneKernel, entry}
-use Rattle.dm_movelaws.proofs.Names.{reception, id_eq-is, after_step, Sound, bind-is, Line, View, Told, view_after, Addresses, Holder, Slot, Gets, given, gives, forwards, told_back_gets, all_follow, first_gives, own_gives, leads_to}
-use Rattle.dm_movelaws.proofs.Names.{updated, updated_to, addresses_after, ascends, Point, label_of, kernel_after, after_line, after, moved, parts, hushed, put_at, put_told_off, gives_to, fills, Unfilled, first_kept}
+use Rattle.dm_movelaws.proofs.Names.{◌≡◌, ℕ, ◌+◌, ◌≤◌, true, false, List, [], ◌∷◌, refl, ap, ◌∙◌, sym, subst, arith, Option, None, Some, nat_tests, Pid, Place, MsgId, MessageKind, Label, OneKernel, entry}
+use Rattle.dm_movelaws.proofs.Names.{reception, id_eq-is, after_step, Sound, bind-is, Line, View, Told, view_after, Addresses, Holder, Slot, Gets, given, gives, all_follow, first_gives, own_gives, leads_to}
+use Rattle.dm_movelaws.proofs.Names.{updated, addresses_after, ascends, Point, label_of, kernel_after, after_line, after, moved, hushed, put_at, put_told_off, gives_to, fills, Unfilled, first_kept}
 use Rattle.dm_movelaws.proofs.Promise.Before.{not_given, step_pending, led_before}
 use Rattle.dm_rule.specs.View as view
 
@@ -17,12 +17,6 @@ told_stays v any_ j t e = ap (λ (f : MsgId → Option Told). f j) (hushed v any
 same_address : (a : Addresses) (p : Pid) (k : ℕ) (gs : List Gets) → gives_to (Slot p k) gs ≡ false → (a (Slot p k)).moves ≤ (given a gs (Slot p k)).moves
 same_address a p k gs e = let f : (given a gs (Slot p k)).moves ≡ (a (Slot p k)).moves = ap (λ (x : Place). x.moves) (not_given a (Slot p k) gs e) in omega (arith, f)
 
-back_spares : (v : View) (a : Addresses) (id : MsgId) (c : Bool) (p : Pid) (k : ℕ) → gives_to (Slot p k) (told_back_gets v a id c) ≡ false
-back_spares v a id c p k = grind (arith, nat_tests)
-
-forwards_spare : (v : View) (a : Addresses) (id : MsgId) (o : Option Told) (p : Pid) (k : ℕ) → gives_to (Slot p k) (forwards v a id o) ≡ false
-forwards_spare v a id o p k = grind (arith, nat_tests, back_spares)
-
 follow_spares : (v : View) (a : Addresses) (r : Pid) (ids : List MsgId) (p : Pid) (k : ℕ) → gives_to (Slot p k) (all_follow v a r ids) ≡ false
 follow_spares v a r [] p k = refl
 follow_spares v a r (i ∷ is) p k = follow_spares v a r is p k
@@ -33,20 +27,11 @@ own_spares s v a id q c p k = grind (arith, nat_tests)
 first_spares : (o : Option Told) (gs : List Gets) (p : Pid) (k : ℕ) → gives_to (Slot p k) gs ≡ false → gives_to (Slot p k) (first_gives o gs) ≡ false
 first_spares o gs p k e = grind (arith, nat_tests)
 
-less_than : (m n : ℕ) → nat_lt m n ≡ true → m ≤ n
-less_than m n e = grind (arith, nat_tests)
-
-raised_by : (a : Place) (b : Place) (c : Bool) → (c ≡ true → nat_lt a.moves b.moves ≡ true) → a.moves ≤ (if c then b else a).moves
-raised_by a b c h = grind (arith, nat_tests, less_than)
-
-updated_grows : (s : OneKernel) (a : Addresses) (q : Pid) (o : Option (Pid × Place)) (h : Holder) → (a h).moves ≤ (updated_to s a (Some q) o h).moves
-updated_grows s a q o h = grind (arith, nat_tests, raised_by, parts)
-
 told_grows : (s : OneKernel) (v : View) (a : Addresses) (o : Option Told) (h : Holder) → (a h).moves ≤ (updated s v a o h).moves
-told_grows s v a o h = grind (arith, nat_tests, updated_grows)
+told_grows s v a o h = grind (arith, nat_tests)
 
 moves_grow : (pt : Point) (l : Line) (p : Pid) (k : ℕ) → fills pt (Slot p k) l ≡ false → (pt.addresses (Slot p k)).moves ≤ (addresses_after pt.kernel pt.view pt.addresses l (Slot p k)).moves
-moves_grow pt l p k e = grind (arith, nat_tests, same_address, forwards_spare, follow_spares, told_grows, first_spares, own_spares)
+moves_grow pt l p k e = grind (arith, nat_tests, same_address, follow_spares, told_grows, first_spares, own_spares)
 
 -- what each line needs of the kernel, and keeps
 pub record Grounds (s : OneKernel) : Type 0 where

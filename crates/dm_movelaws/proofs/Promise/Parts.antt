@@ -40,11 +40,8 @@ abbrev pub all_loose : List Part → Bool
 all_loose [] = true
 all_loose (p ∷ ps) = is_loose p && all_loose ps
 
-line_loose : (j : MsgId) (v : View) (l : Line) → is_loose_line l ≡ true → Spares j v l
-line_loose j v l e = grind (arith, nat_tests)
-
 part_loose : (j : MsgId) (pt : Point) (p : Part) → is_loose p ≡ true → NeedsPart j pt p
-part_loose j pt p e = grind (arith, nat_tests, line_loose)
+part_loose j pt p e = grind (arith, nat_tests)
 
 spares_quiet : (j : MsgId) (v : View) (l : Line) → Spares j v l → (touches l ≡ false) × (is_put l ≡ false)
 spares_quiet j v l e = grind (arith, nat_tests)

@@ -1,10 +1,8 @@
 -- Which holders a label gives an address to doesn't rest on the addresses that there are.
-use Rattle.dm_movelaws.proofs.Names.{◌≡◌, ℕ, ◌+◌, Bool, List, [], ◌∷◌, ◌++◌, map, refl, ap, ◌∙◌, sym, ◌||◌, if◌then◌else◌, Option, Pid, Place, PlainLink, first_empty, MsgId, PlainMessage, PlainWhat, Label, Reply, PlainProcess, NamedLink}
-use Rattle.dm_movelaws.proofs.Names.{OneKernel, View, Addresses, Holder, Slot, Enclosed, Answer, Gets, gives, holder_eq, encloses, enclosed_from, sends_what, fills_by, call_gets, receives_links, receives_what, slot_after, serves_what}
-use Rattle.dm_movelaws.proofs.Names.{child_links, creates_what, board_finds, board_keeps, manager_tells, manager_sends, manager_answers, gives_to, landing_gets, board_gets, manager_gets, nat_tests, arith}
-use Rattle.dm_onekernel.specs.Calls as calls
+use Rattle.dm_movelaws.proofs.Names.{◌≡◌, ℕ, ◌+◌, Bool, List, [], ◌∷◌, ◌++◌, map, refl, ap, ◌∙◌, sym, ◌||◌, if◌then◌else◌, Option, Pid, Place, PlainLink, first_empty, MsgId, PlainMessage, PlainWhat, Label, PlainProcess}
+use Rattle.dm_movelaws.proofs.Names.{OneKernel, View, Addresses, Holder, Slot, Enclosed, Gets, gives, holder_eq, encloses, enclosed_from, sends_what, receives_links, receives_what, slot_after}
+use Rattle.dm_movelaws.proofs.Names.{child_links, creates_what, manager_tells, manager_sends, gives_to, landing_gets, manager_gets, nat_tests, arith}
 use Rattle.dm_onekernel.specs.Pieces as pieces
-use Rattle.dm_onekernel.specs.Switchboard as board
 use Rattle.dm_onekernel.specs.Manager as manage
 use Rattle.dm_onekernel.specs.Step as kernel
 use Rattle.dm_rule.specs.Addresses as addresses
@@ -51,12 +49,6 @@ sends_same s v w a b p id o = grind (arith, nat_tests, sends_next_same)
 fills_same : (p : Pid) (o : Option ℕ) (x y : Place) → holders (addresses.fills p o x) ≡ holders (addresses.fills p o y)
 fills_same p o x y = grind (arith, nat_tests)
 
-fills_by_same : (v w : View) (a b : Addresses) (p : Pid) (x : PlainProcess) (n : calls.CallNumber) → holders (fills_by v a p x n) ≡ holders (fills_by w b p x n)
-fills_by_same v w a b p x n = grind (arith, nat_tests, fills_same)
-
-made_same : (v w : View) (a b : Addresses) (p : Pid) (n : ℕ) (c : Reply) (o : Option PlainProcess) → holders (call_gets v a p n c o) ≡ holders (call_gets w b p n c o)
-made_same v w a b p n c o = grind (arith, nat_tests, fills_by_same)
-
 -- links that are received
 links_same : (a b : Addresses) (p : Pid) (id : MsgId) (n : ℕ) (slots : List (Option PlainLink)) (ls : List PlainLink) → holders (receives_links a p id n slots ls) ≡ holders (receives_links b p id n slots ls)
 links_same a b p id n slots [] = refl
@@ -75,14 +67,8 @@ receives_same a b p id o m = grind (arith, nat_tests, receives_what_same)
 lands_same : (v w : View) (a b : Addresses) (p : Pid) (o : Option pieces.Landed) → holders (landing_gets v a p o) ≡ holders (landing_gets w b p o)
 lands_same v w a b p o = grind (arith, nat_tests)
 
-serves_what_same : (v w : View) (a b : Addresses) (id : MsgId) (m : PlainMessage) (x : PlainProcess) (u : PlainWhat) → holders (serves_what v a id m x u) ≡ holders (serves_what w b id m x u)
-serves_what_same v w a b id m x u = grind (arith, nat_tests, lands_same)
-
-serves_alive_same : (v w : View) (a b : Addresses) (id : MsgId) (m : PlainMessage) (o : Option PlainProcess) → holders (addresses.serves_alive v a id m o) ≡ holders (addresses.serves_alive w b id m o)
-serves_alive_same v w a b id m o = grind (arith, nat_tests, serves_what_same)
-
 serves_same : (s : OneKernel) (v w : View) (a b : Addresses) (id : MsgId) (o : Option PlainMessage) → holders (addresses.service_gets s v a id o) ≡ holders (addresses.service_gets s w b id o)
-serves_same s v w a b id o = grind (arith, nat_tests, serves_alive_same)
+serves_same s v w a b id o = grind (arith, nat_tests)
 
 -- a process that is made
 child_same : (a b : Addresses) (child : Pid) (id : MsgId) (n : ℕ) (ls : List PlainLink) → holders (child_links a child id n ls) ≡ holders (child_links b child id n ls)
@@ -96,14 +82,6 @@ creates_same : (v w : View) (a b : Addresses) (id : MsgId) (child : Pid) (o : Op
 creates_same v w a b id child o = grind (arith, nat_tests, creates_what_same)
 
 -- servers
-finds_same : (a b : Addresses) (sent : MsgId) (names : List NamedLink) (body : List ℕ) (k : board.Answer) → holders (board_finds a sent names body k) ≡ holders (board_finds b sent names body k)
-finds_same a b sent names body k = grind (arith, nat_tests)
-
-keeps_same : (a b : Addresses) (id : MsgId) (names : List NamedLink) (k : board.Answer) → holders (board_keeps a id names k) ≡ holders (board_keeps b id names k)
-keeps_same a b id names k = grind (arith, nat_tests)
-
-board_takes_same : (s : OneKernel) (v w : View) (a b : Addresses) (id : MsgId) (u : PlainWhat) → holders (board_gets s v a id u) ≡ holders (board_gets s w b id u)
-board_takes_same s v w a b id u = grind (arith, nat_tests, both_same, finds_same, keeps_same)
 
 tells_same : (v w : View) (a b : Addresses) (id : MsgId) (code : ℕ) (sent : PlainMessage) (u : PlainWhat) → holders (manager_tells v a id code sent u) ≡ holders (manager_tells w b id code sent u)
 tells_same v w a b id code sent u = grind (arith, nat_tests, enclosed_same)
@@ -111,18 +89,15 @@ tells_same v w a b id code sent u = grind (arith, nat_tests, enclosed_same)
 manager_sends_same : (v w : View) (a b : Addresses) (id : MsgId) (code : ℕ) (o : Option PlainMessage) → holders (manager_sends v a id code o) ≡ holders (manager_sends w b id code o)
 manager_sends_same v w a b id code o = grind (arith, nat_tests, tells_same)
 
-manager_answers_same : (v w : View) (a b : Addresses) (n : ℕ) (o : Option PlainMessage) → holders (manager_answers v a n o) ≡ holders (manager_answers w b n o)
-manager_answers_same v w a b n o = grind (arith, nat_tests)
-
 manager_takes_same : (s : OneKernel) (v w : View) (a b : Addresses) (m : PlainMessage) (u : PlainWhat) (o : Option manage.ManagerTook) → holders (manager_gets s v a m u o) ≡ holders (manager_gets s w b m u o)
-manager_takes_same s v w a b m u o = grind (arith, nat_tests, manager_sends_same, manager_answers_same)
+manager_takes_same s v w a b m u o = grind (arith, nat_tests, manager_sends_same)
 
 either_same : (c : Bool) (xs ys zs ws : List Gets) → holders xs ≡ holders ys → holders zs ≡ holders ws → holders (if c then xs else zs) ≡ holders (if c then ys else ws)
 either_same c xs ys zs ws e f = grind (arith, nat_tests)
 
 takes_same : (s : OneKernel) (v w : View) (a b : Addresses) (id : MsgId) (o : Option PlainMessage) → holders (addresses.taking_gets s v a id o) ≡ holders (addresses.taking_gets s w b id o)
-takes_same s v w a b id o = grind (arith, nat_tests, either_same, board_takes_same, manager_takes_same)
+takes_same s v w a b id o = grind (arith, nat_tests, either_same, manager_takes_same)
 
 -- a row a label
 pub gives_same : (s : OneKernel) (v w : View) (a b : Addresses) (l : Label) → holders (gives s v a l) ≡ holders (gives s w b l)
-gives_same s v w a b l = grind (arith, nat_tests, made_same, sends_same, receives_same, serves_same, takes_same, creates_same)
+gives_same s v w a b l = grind (arith, nat_tests, sends_same, receives_same, serves_same, takes_same, creates_same)

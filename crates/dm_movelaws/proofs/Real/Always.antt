@@ -1,5 +1,5 @@
 -- Wherever the rule leads, whoever is named is a kernel of a machine that there is, a server, or a process that was made.
-use Rattle.dm_movelaws.proofs.Names.{◌≡◌, ◌≢◌, ℕ, ◌<◌, ◌≤◌, ◌==◌, Bool, true, false, ◌∷◌, is_some, nat_lt, refl, ap, ◌∙◌, sym, subst, inl, inr, arith, if◌then◌else◌, Option, Some, cases_Bool, nat_tests, Pid, pid_eq, MsgId, Line}
+use Rattle.dm_movelaws.proofs.Names.{◌≡◌, ◌≢◌, ℕ, ◌<◌, ◌≤◌, Bool, true, false, ◌∷◌, is_some, nat_lt, refl, ap, ◌∙◌, sym, subst, inl, inr, arith, if◌then◌else◌, Option, Some, cases_Bool, nat_tests, Pid, pid_eq, MsgId, Line}
 use Rattle.dm_movelaws.proofs.Names.{PlainMessage, PlainWhat, Boot, switchboard, manager, Life, OneKernel, is_counted, counts, Step, IsStep, Spelled, Point, first_point, group_of, Inbox, times, View, Told, Known, Unknown, Here, after_head}
 use Rattle.dm_movelaws.proofs.Names.{is_kernels, actor, group_is, outcome_sayable, line_within, is_server, WhatFits, agrees, begun, begun_sane, named_real, times_self, Run, IsReal, Kernel, Server, Made, IsAboutReal, RealAlways, or_cases}
 use Rattle.dm_movelaws.proofs.Names.{from_kernel, run_always}
@@ -19,21 +19,16 @@ known_real b pt n p run some = elim (cases_Bool (is_server p)) [
   | inr other ↦ Made (agrees_made (pt.view.known n p) (pt.kernel.processes p) some (run.based.known.agree n p other))
 ]
 
-zero_num : (n : ℕ) → (n == 0) ≡ true → n ≡ 0
-zero_num n e = grind (arith, nat_tests)
-
 core_real : (b : Boot) (pt : Point) (q : Pid) → Run b pt → core.IsReal pt.kernel.machines pt.view q → IsReal pt.kernel q
 core_real b pt q run h = elim h [
-  | inl fixed ↦ grind (arith, nat_tests, or_cases, zero_num)
+  | inl fixed ↦ grind (arith, nat_tests, or_cases)
   | inr some ↦ known_real b pt q.home q run some
 ]
 
 -- whose number a sender counts
-counted_made : (s : OneKernel) (q : Pid) (n : ℕ) (l : Option Life) → s.processes q ≡ l → is_counted n l ≡ true → IsReal s q
-counted_made s q n l is e = grind (arith, nat_tests)
 
 counted_by : (s : OneKernel) (i : MsgId) (c d : Bool) → pid_eq i.from switchboard ≡ c → pid_eq i.from manager ≡ d → (if c then nat_lt i.n s.switchboard.sent else if d then nat_lt i.n s.manager.sent else is_counted i.n (s.processes i.from)) ≡ true → IsReal s i.from
-counted_by s i c d x y e = grind (arith, nat_tests, counted_made)
+counted_by s i c d x y e = grind (arith, nat_tests)
 
 counted_real : (s : OneKernel) (i : MsgId) → counts s i ≡ true → IsReal s i.from
 counted_real s i e = counted_by s i (pid_eq i.from switchboard) (pid_eq i.from manager) refl refl e

@@ -237,14 +237,12 @@ line_reals o pt t l known need is sane h =
     }
 
 -- a put
-first_or : (q : Option Told) (u t : Told) → Some (view.first_told q u) ≡ Some t → (q ≡ Some t) ⊎ ((q ≡ None) × (u ≡ t))
-first_or q u t e = grind (arith, nat_tests)
 
 abbrev put_of : View → MessageKind → Pid → Told
 put_of v k q = record { kind = k; receiver = q; about = v.topic }
 
 put_or : (v : View) (a b : ℕ) (i : MsgId) (k : MessageKind) (q : Pid) (j : MsgId) (t : Told) → (after_put v a b i k q).told j ≡ Some t → (v.told j ≡ Some t) ⊎ ((i ≡ j) × (v.told i ≡ None) × (put_of v k q ≡ t))
-put_or v a b i k q j t e = grind (arith, nat_tests, id_eq-is, first_or, put_at, put_told_off)
+put_or v a b i k q j t e = grind (arith, nat_tests, id_eq-is, put_at, put_told_off)
 
 -- what is put for the first time is a kernel's own, or for somebody
 record Puts (pt : Point) (i : MsgId) (q : Pid) : Type 0 where

@@ -1,9 +1,8 @@
 -- Wherever the rule leads, each message that its sender counts was routed.
-use Rattle.dm_movelaws.proofs.Names.{◌≡◌, ◌⊎◌, ℕ, zero, suc, ◌<◌, ◌≤◌, Bool, true, false, is_some, nat_lt, List, [], ◌∷◌, ◌++◌, length, refl, ap, ◌∙◌, sym, subst, inl, inr, arith, if◌then◌else◌, option_map, Option, None, Some, false≢true}
-use Rattle.dm_movelaws.proofs.Names.{nat_tests, Pid, pid_eq, PlainLink, MsgId, id_of, BootImage, BootProcess, Boot, IsValid, switchboard, manager, Alive, OneKernel, PlainProcess, life_at, id_eq-is, not_server, bind-is, Step, Line}
+use Rattle.dm_movelaws.proofs.Names.{◌≡◌, ◌⊎◌, ℕ, zero, suc, ◌<◌, ◌≤◌, true, false, is_some, nat_lt, List, [], ◌∷◌, ◌++◌, length, refl, ap, ◌∙◌, sym, subst, inl, inr, arith, Option, Some, false≢true}
+use Rattle.dm_movelaws.proofs.Names.{nat_tests, Pid, pid_eq, MsgId, id_of, BootProcess, Boot, IsValid, switchboard, manager, Alive, OneKernel, PlainProcess, life_at, id_eq-is, not_server, bind-is, Step, Line}
 use Rattle.dm_movelaws.proofs.Names.{without_id, Point, first_point, after, after_line, times, View, Told, view_after, hushed, without_counts, one_of, line_view, put_told_off, LeadsBy, Both, both_start, both_group, times_more, run_start}
 use Rattle.dm_movelaws.proofs.Names.{run_group, with_put, routed, AreRouted, RoutedAlways, less_test}
-use Rattle.dm_onekernel.specs.Start.{begun}
 use Rattle.dm_movelaws.proofs.After.{group_after}
 use Rattle.dm_movelaws.proofs.Routed.Groups.{IsTold, AllTold, told_group}
 use Rattle.dm_movelaws.proofs.Routed.Steps.{has_sent, is_sent}
@@ -13,18 +12,12 @@ use Rattle.dm_movelaws.proofs.Ends.Open.{shorter as without_length}
 none_less : (n : ℕ) → nat_lt n 0 ≡ false
 none_less n = grind (arith, nat_tests)
 
-image_sent : (b : Boot) (links : List PlainLink) (n : ℕ) (o : Option BootImage) → has_sent n (option_map (λ image. Alive (begun b.format image links)) o) ≡ false
-image_sent b links n o = grind (arith, nat_tests, none_less)
-
 life_sent : (b : Boot) (ps : List BootProcess) (q : Pid) (n : ℕ) → has_sent n (life_at b ps q) ≡ false
 life_sent b [] q n = refl
-life_sent b (p ∷ ps) q n = grind (arith, nat_tests, image_sent, life_sent b ps q n)
-
-none_chosen : (c d : Bool) (x y z : Bool) → x ≡ false → y ≡ false → z ≡ false → (if c then x else if d then y else z) ≡ true → ⊥
-none_chosen c d x y z f g h e = grind (arith, nat_tests)
+life_sent b (p ∷ ps) q n = grind (arith, nat_tests, life_sent b ps q n)
 
 start_told : (b : Boot) → AllTold (first_point b)
-start_told b i ask sent = grind (arith, nat_tests, none_chosen, none_less, life_sent)
+start_told b i ask sent = grind (arith, nat_tests, none_less, life_sent)
 
 -- what was told of was put
 put_at : (v : View) (l : Line) (i : MsgId) (ids : List MsgId) → IsTold (view_after v l) i → IsTold v i ⊎ (1 ≤ times i (with_put l ids))

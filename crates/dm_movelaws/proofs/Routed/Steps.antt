@@ -61,11 +61,8 @@ alive_fewer x y e n h = less n x.sent y.sent (sym e) h
 ended_fewer : (x : PlainProcess) (y : Why) (n : ℕ) → has_sent n (Some (Ended y)) ≡ true → nat_lt n x.sent ≡ true
 ended_fewer x y n h = absurd (false≢true h)
 
-next_or : (i n after : ℕ) → after ≡ n + 1 → nat_lt i after ≡ true → (nat_lt i n ≡ true) ⊎ (i ≡ n)
-next_or i n after e h = grind (arith, nat_tests)
-
 next_sent : (u : OneKernel) (m : PlainMessage) (p : Pid) (n after : ℕ) (i : MsgId) → m.id ≡ id_of p n → after ≡ n + 1 → i.answer ≡ false → i.from ≡ p → nat_lt i.n after ≡ true → Was (nat_lt i.n n) ((with_sent u (Some m)).bag i)
-next_sent u m p n after i id count ask from h = grind (arith, nat_tests, next_or, name_is, sent_at, id_eq-same)
+next_sent u m p n after i id count ask from h = grind (arith, nat_tests, name_is, sent_at, id_eq-same)
 
 -- a process sends
 counts_sends : (s u : OneKernel) (p : Pid) (x y : PlainProcess) (m : PlainMessage) → s.processes p ≡ Some (Alive x) → Sent p x m y → u.switchboard ≡ s.switchboard → u.manager ≡ s.manager → u.processes ≡ (with_process s p (Alive y)).processes

@@ -1,5 +1,5 @@
 -- What a process or a server says of a kernel's own message leaves all migrations as they are, or freezes the process.
-use Rattle.dm_movelaws.proofs.Names.{◌≡◌, ℕ, Bool, List, [], ◌∷◌, refl, subst, if◌then◌else◌, Some, Pid, MsgId, MessageKind, Line, Stage, Told, Known, Here, Ended, target_of, Point, Part, Says, to_kernel, forwards_on, here_told, ended_told}
+use Rattle.dm_movelaws.proofs.Names.{◌≡◌, ℕ, List, [], ◌∷◌, refl, subst, Some, Pid, MsgId, MessageKind, Line, Stage, Told, Known, Here, target_of, Point, Part, Says, to_kernel, forwards_on}
 use Rattle.dm_movelaws.proofs.Names.{process_told, server_told, Option, plain_kind, PlainMessage, Boot, goes_round, handles, Addresses, Loose, loose_round, loose_handles, by_forwards, nat_tests, arith}
 use Rattle.dm_movelaws.proofs.Stages.Lines.{AllMild}
 
@@ -28,17 +28,8 @@ pub data Hears (k : Known) (id : MsgId) (t : Told) (ps : List Part) : Type 0 whe
 rests : (k : Known) (id : MsgId) (t : Told) (qs ps : List Part) → ((me : Pid) → AllMild me (Some id) qs) → Some qs ≡ Some ps → Hears k id t ps
 rests k id t qs ps h e = let f : qs ≡ ps = cc in Calms (λ me. subst (AllMild me (Some id)) f (h me))
 
-moves_hears : (m : ℕ) (id : MsgId) (t : Told) (same : Bool) (ps : List Part) → Some (if same then Says (Line.Here id) ∷ [] else freezes t.receiver (target_of (Some t))) ≡ Some ps → Hears Here id t ps
-moves_hears m id t same ps e = grind (arith, nat_tests, rests)
-
-here_hears : (o : Point) (m : ℕ) (id : MsgId) (t : Told) (k : MessageKind) (ps : List Part) → here_told o m id t k ≡ Some ps → Hears Here id t ps
-here_hears o m id t k ps e = grind (arith, nat_tests, moves_hears, rests)
-
-ended_hears : (id : MsgId) (t : Told) (k : MessageKind) (ps : List Part) → ended_told id k ≡ Some ps → Hears Ended id t ps
-ended_hears id t k ps e = grind (arith, nat_tests, rests)
-
 pub server_mild : (o : Point) (id : MsgId) (t : Told) (k : MessageKind) (ps : List Part) → server_told o id t k ≡ Some ps → (me : Pid) → AllMild me (Some id) ps
 server_mild o id t k ps e me = grind (arith, nat_tests)
 
 pub process_hears : (o : Point) (m : ℕ) (id : MsgId) (t : Told) (k : Known) (ps : List Part) → process_told o m id t k ≡ Some ps → Hears k id t ps
-process_hears o m id t k ps e = grind (arith, nat_tests, here_hears, rests, forwards_mild, ended_hears)
+process_hears o m id t k ps e = grind (arith, nat_tests, rests, forwards_mild)

@@ -1,6 +1,6 @@
 -- Lines that leave the migration of a process as it is.
-use Rattle.dm_movelaws.proofs.Names.{◌≡◌, ℕ, ◌≤◌, true, false, List, [], ◌∷◌, refl, ap, ◌∙◌, sym, subst, ⊤, Option, Some, Pid, pid_eq, MsgId, MessageKind, Stage, Label, OneKernel, Line, at_record, View, Told, Known, Here, Of, view_after}
-use Rattle.dm_movelaws.proofs.Names.{handled, served_told, kills, is_between, Point, label_of, kernel_after, Part, Says, Transmits, Spot, times, standing, pid_eq-swap, out_of, IsNetLine, IsNet, is_put, hushed, gone_in, left_off, Plain}
+use Rattle.dm_movelaws.proofs.Names.{◌≡◌, ℕ, ◌≤◌, true, false, List, [], ◌∷◌, refl, ap, ◌∙◌, sym, subst, ⊤, Option, Some, Pid, pid_eq, MsgId, Stage, Label, OneKernel, Line, at_record, View, Told, Known, Here, Of, view_after}
+use Rattle.dm_movelaws.proofs.Names.{handled, served_told, is_between, Point, label_of, kernel_after, Part, Says, Transmits, Spot, times, standing, pid_eq-swap, out_of, IsNetLine, IsNet, is_put, hushed, gone_in, left_off, Plain}
 use Rattle.dm_movelaws.proofs.Names.{handled_spots, record_off, Tame, line_calm, plain_in_bag, Sane, ended_off, created_off, served_keeps, Mark, with_mark, other_than, Spelled, spelled, fits_put, fits_packet, touches, pair_same}
 use Rattle.dm_movelaws.proofs.Names.{packet_calm, fits_as, PairsFit, Sayable, part_sane, by_parts, Steps, PacketsKeep, nat_tests, arith}
 use Rattle.dm_movelaws.proofs.Stages.Marks.{mark_other, marks_of}
@@ -53,11 +53,8 @@ net_marks p _ h = absurd h.0
 settled_at : (f : ℕ → Pid → Known) (a : ℕ) (q : Pid) (x : Known) (m : ℕ) (p : Pid) → is_settled x ≡ true → is_settled (f m p) ≡ true → is_settled (at_record f a q x m p) ≡ true
 settled_at f a q x m p e h = grind (arith, nat_tests)
 
-kills_still : (k : MessageKind) (v : View) (q : Pid) (m : ℕ) (p : Pid) → is_settled (v.known m p) ≡ true → is_settled ((kills k v (Some q)).known m p) ≡ true
-kills_still k v q m p h = grind (arith, nat_tests, settled_at)
-
 served_still : (v : View) (o : Option Told) (m : ℕ) (p : Pid) → is_settled (v.known m p) ≡ true → is_settled ((served_told v o).known m p) ≡ true
-served_still v o m p h = grind (arith, nat_tests, kills_still)
+served_still v o m p h = grind (arith, nat_tests)
 
 gone_plain : (pt : Point) (s : OneKernel) (l : Label) (i : MsgId) → Sane pt → kernel.step pt.kernel l ≡ Some s → out_of l ≡ Some i → Plain pt.view i
 gone_plain pt s l i h is goes = let g = gone_in pt.kernel s l i is goes in plain_in_bag pt i g.message h g.there
@@ -102,9 +99,6 @@ line_spares pt s (Line.Migration Stage.Asked q) p o h tame mild is = spares_same
 line_spares pt s (Line.Migration Stage.Left q) p o h tame mild is = left_spares pt.view q p mild
 line_spares pt s _ p o h tame mild is = absurd mild
 
-mild_put : (p : Pid) (o : Option MsgId) (l : Line) → MildLine p o l → is_put l ≡ false
-mild_put p o l h = grind (arith, nat_tests)
-
 mild_touches : (p : Pid) (o : Option MsgId) (l : Line) → MildLine p o l → touches l ≡ false
 mild_touches p o l h = grind (arith, nat_tests)
 
@@ -133,7 +127,7 @@ part_spares p o pt next q h fits tame mild =
     (λ b i k r. (spares_put pt.view b i k r p fits, fits_put pt.view pt.view.acting b i k r fits)) (spares_same pt.view p, fits))
 
 sayable_of : (p : Pid) (o : Option MsgId) (q : Part) → Mild p o q → Sayable q
-sayable_of p o q h = grind (arith, nat_tests, mild_put)
+sayable_of p o q h = grind (arith, nat_tests)
 
 pub parts_spare : (p : Pid) (o : Option MsgId) (ps : List Part) (v : View) (pt : Point) (w : Spelled) → AllMild p o ps → Kept v p o pt → spelled pt ps ≡ Some w → Kept v p o w.point
 parts_spare p o qs v x w mild h is = by_parts (λ ps pt u. AllMild p o ps → Kept v p o pt → Kept v p o u.point) (λ pt mild h. h) (λ q ps pt next ls z lines leads rest mild h. (

@@ -1,7 +1,7 @@
 -- The marks of lines: of one list after another, and of the lines that parts say.
 use Rattle.dm_movelaws.proofs.Names.{◌≡◌, ℕ, Bool, true, false, List, [], ◌∷◌, ◌++◌, refl, ap, ◌∙◌, sym, if◌then◌else◌, Option, Some, Pid, pid_eq, MsgId, Boot, pid_eq-same, Step, Line, Point, moved, Part, Says, Spelled, lines_of, spelled}
 use Rattle.dm_movelaws.proofs.Names.{sends_on, group_of, outcome, Mark, mark_for, with_mark, marks, left_open, in_order, left_true, right_true, both_true, by_parts, group_is, nat_tests, arith}
-use Rattle.dm_movelaws.proofs.Leading.{is_said, lines_are}
+use Rattle.dm_movelaws.proofs.Leading.{lines_are}
 
 -- the mark that is last behind these marks, if its migration isn't over
 abbrev pub open_after : Option Mark → List Mark → Option Mark
@@ -17,11 +17,9 @@ open-append o [] ys = refl
 open-append o (x ∷ xs) ys = open-append (left_open x) xs ys
 
 -- marks of lists
-if-append : (c : Bool) (m : Mark) (xs ys : List Mark) → (if c then m ∷ (xs ++ ys) else xs ++ ys) ≡ (if c then m ∷ xs else xs) ++ ys
-if-append c m xs ys = grind (arith, nat_tests)
 
 with-append : (p : Pid) (l : Line) (xs ys : List Mark) → with_mark p l (xs ++ ys) ≡ with_mark p l xs ++ ys
-with-append p l xs ys = grind (arith, nat_tests, if-append)
+with-append p l xs ys = grind (arith, nat_tests)
 
 pub marks-append : (p : Pid) (xs ys : List Line) → marks p (xs ++ ys) ≡ marks p xs ++ marks p ys
 marks-append p [] ys = refl
@@ -36,11 +34,8 @@ abbrev pub marks_of : Pid → List Part → List Mark
 marks_of p [] = []
 marks_of p (q ∷ ps) = mark_part p q (marks_of p ps)
 
-unsaid_marks : (p : Pid) (q : Part) (ms : List Mark) → is_said q ≡ false → ms ≡ mark_part p q ms
-unsaid_marks p q ms e = grind (arith, nat_tests)
-
 part_marks : (p : Pid) (pt : Point) (q : Part) (ls zs : List Line) → lines_of pt q ≡ Some ls → marks p (ls ++ zs) ≡ mark_part p q (marks p zs)
-part_marks p pt q ls zs is = grind (arith, nat_tests, unsaid_marks, lines_are)
+part_marks p pt q ls zs is = grind (arith, nat_tests, lines_are)
 
 pub spelled_marks : (p : Pid) (ps : List Part) (pt : Point) (w : Spelled) → spelled pt ps ≡ Some w → marks p w.lines ≡ marks_of p ps
 spelled_marks p = by_parts (λ ps pt w. marks p w.lines ≡ marks_of p ps) (λ pt. refl) (λ q ps pt next ls z lines leads rest. part_marks p pt q ls z.lines lines ∙ ap (mark_part p q) rest)

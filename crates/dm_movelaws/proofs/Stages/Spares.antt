@@ -118,18 +118,13 @@ pub record TokenOf (v : View) (p : Pid) (k : MessageKind) : Type 0 where
   pub stands : 1 ≤ standing v id spot
 
 -- it is the phase's
-told_kind : (k : MessageKind) (s d : ℕ) (p : Pid) (i : MsgId) (v : View) (t : Told) → IsIn v p (Moves k s d (Some i)) → v.told i ≡ Some t → t.kind ≡ k
-told_kind k s d p i v t h told = let f : Some t ≡ Some (told_between p k s d) = sym told ∙ h.token.told in let g : t ≡ told_between p k s d = cc in ap (λ (x : Told). x.kind) g
-
-phase_kind : (v : View) (p : Pid) (a : Phase) (i : MsgId) (t : Told) → IsIn v p a → token_in a ≡ Some i → v.told i ≡ Some t → mark_in a ≡ mark_of t.kind
-phase_kind v p a i t h e told = grind (arith, nat_tests, told_kind)
 
 -- all phases of a process have this mark
 abbrev pub HasMark : View → Pid → Option Mark → Type 0
 HasMark v p o = (a : Phase) → IsIn v p a → is_due a ≡ false → mark_in a ≡ o
 
 pub token_mark : (v : View) (p : Pid) (k : MessageKind) → TokenOf v p k → HasMark v p (mark_of k)
-token_mark v p k t a h due = grind (arith, nat_tests, phase_kind)
+token_mark v p k t a h due = grind (arith, nat_tests)
 
 pub here_mark : (v : View) (p : Pid) (m : ℕ) → v.known m p ≡ Here → HasMark v p None
 here_mark v p m here a h due = ap mark_in (rests_here a m (sym (ap (knows a m) here) ∙ h.known m))

@@ -1,5 +1,5 @@
 -- Where a message goes on, its address is on the trail; and where all is taken of a process that leaves, those of its messages are.
-use Rattle.dm_movelaws.proofs.Names.{◌≡◌, ◌≢◌, ℕ, ◌+◌, ◌==◌, ◌≤◌, Bool, true, false, List, [], ◌∷◌, ◌++◌, length, refl, ap, ◌∙◌, sym, subst, arith, false≢true, length-append, if◌then◌else◌, slice_get, Option, None, Some, Pid, pid_eq, MsgId}
+use Rattle.dm_movelaws.proofs.Names.{◌≡◌, ◌≢◌, ℕ, ◌+◌, ◌==◌, ◌≤◌, Bool, true, false, List, [], ◌∷◌, ◌++◌, length, refl, ap, ◌∙◌, sym, subst, arith, false≢true, length-append, if◌then◌else◌, slice_get, Option, Some, Pid, pid_eq, MsgId}
 use Rattle.dm_movelaws.proofs.Names.{MessageKind, Line, Stage, View, Told, Known, Frozen, Incoming, Forward, own_id, handled, forwarded_for, receiver_of, view_after, gone_to, Receiver, Sender, is_told_back, Point, moved, Says, Again, Owns}
 use Rattle.dm_movelaws.proofs.Names.{to_kernel, forwards_on, sends_on, Moves, IsIn, times, Trails, IsOn, destination, trails_after, both_lists, forwarded_known, Sane, get_at_end, forwarded_back, Named, source_holds, two_apart, sent_on_at}
 use Rattle.dm_movelaws.proofs.Names.{Treads, PutFits, Rides, said_by, again_rides, named_for, again_same, own_outside, own_fresh, eq_self, forwarded_own, other_id, leaves, nat_tests}

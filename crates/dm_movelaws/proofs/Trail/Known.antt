@@ -1,7 +1,7 @@
 -- Wherever the rule leads there are trails that all addresses are on; where a process doesn't move, its trail ends where it is.
-use Rattle.dm_movelaws.proofs.Names.{◌≡◌, ◌≢◌, ℕ, ◌+◌, ◌==◌, Bool, true, false, List, [], ◌∷◌, length, refl, ap, ◌∙◌, sym, subst, inl, inr, arith, false≢true, if◌then◌else◌, slice_get, Option, Some, Pid, MsgId, MessageKind, Boot, bind}
-use Rattle.dm_movelaws.proofs.Names.{Step, bind-is, Line, Leads, Phase, Nowhere, Rests, Over, Moves, IsIn, is_away, is_here, is_over, is_restart, is_early, kind_comes, Point, first_point, after, after_line, Trails, Trodden, first_trodden}
-use Rattle.dm_movelaws.proofs.Names.{along, trails_after, View, Known, Unknown, Here, Frozen, Incoming, Forward, Ended, parts, along_treads, treads_start, Treads, is_moving, IsThere, eq_self, not_false, kind_leaves, nat_tests, ◌&&◌}
+use Rattle.dm_movelaws.proofs.Names.{◌≡◌, ◌≢◌, ℕ, ◌+◌, ◌==◌, Bool, true, false, List, [], ◌∷◌, length, ap, ◌∙◌, sym, subst, inl, inr, arith, if◌then◌else◌, slice_get, Option, Some, Pid, MsgId, MessageKind, Boot, bind}
+use Rattle.dm_movelaws.proofs.Names.{Step, bind-is, Line, Leads, Phase, Nowhere, Rests, Over, Moves, IsIn, is_away, is_here, is_over, is_restart, kind_comes, Point, first_point, after, after_line, Trails, Trodden, first_trodden}
+use Rattle.dm_movelaws.proofs.Names.{along, trails_after, View, Known, Unknown, Ended, parts, along_treads, treads_start, Treads, is_moving, IsThere, eq_self, not_false, kind_leaves, nat_tests}
 use Rattle.dm_movelaws.proofs.Names.{IsValid, IsStep, Spelled, group_of, first_trails, TrailsAlways, first_view, eq_is, start_known, Carries, trails_always_by, Both, both_start, both_group, run_start, run_group}
 use Rattle.dm_movelaws.proofs.After.{group_after}
 use Rattle.dm_movelaws.proofs.Promise.Trail.{TrailKnown}
@@ -11,14 +11,8 @@ use Rattle.dm_movelaws.proofs.At.RestAlways.{is_here_is as here_is, is_unknown_i
 use Rattle.dm_movelaws.proofs.Trail.Loose.{AllGood, good_fit, good_places, along_after}
 use Rattle.dm_movelaws.proofs.Trail.Rows.{group_good}
 
-held_home : (b c : Bool) → is_held (if b && c then Here else Unknown) ≡ true → c ≡ true
-held_home b c e = grind (arith, nat_tests)
-
-no_forward : (b : Bool) (d c : ℕ) → (if b then Here else Unknown) ≡ Forward d c → ⊥
-no_forward b d c e = grind (arith, nat_tests)
-
 places_start : (b : Boot) → Places (first_view b) first_trails
-places_start b p = grind (arith, nat_tests, eq_is, held_home, start_known, no_forward)
+places_start b p = grind (arith, nat_tests, eq_is, start_known)
 
 -- what holds of all points that the rule leads to
 pub record Holds (b : Boot) (x : Trodden) : Type 0 where
@@ -86,19 +80,13 @@ over_held x e = grind (arith, nat_tests)
 still_leaves : (k : MessageKind) (d : ℕ) (x : Known) → is_moving x ≡ false → kind_leaves k d x ≡ true → is_restart k ≡ true
 still_leaves k d x still e = grind (arith, nat_tests, parts)
 
-still_comes : (k : MessageKind) (s : ℕ) (x : Known) → is_moving x ≡ false → kind_comes k s x ≡ true → is_early k ≡ true
-still_comes k s x still e = grind (arith, nat_tests)
-
 at_self : (m : ℕ) (x y : Bool) → (if m == m then x else y) ≡ true → x ≡ true
 at_self m x y e = sym (ap (λ (c : Bool). if c then x else y) (eq_self m)) ∙ e
-
-at_other : (s d : ℕ) (x y z : Bool) → (s == d) ≡ false → (if s == d then x else if d == d then y else z) ≡ true → y ≡ true
-at_other s d x y z apart e = at_self d y z (sym (ap (λ (c : Bool). if c then x else if d == d then y else z) apart) ∙ e)
 
 never_moves : (v : View) (p : Pid) (k : MessageKind) (s d : ℕ) (o : Option MsgId) → IsIn v p (Moves k s d o) → ((m : ℕ) → is_moving (v.known m p) ≡ false) → ⊥
 never_moves v p k s d o h still =
     let restart = still_leaves k d (v.known s p) (still s) (at_self s (kind_leaves k d (v.known s p)) (if d == s then kind_comes k s (v.known s p) else is_away (v.known s p)) (h.known s)) in
-    grind (arith, nat_tests, still_comes, at_other, not_false, parts, restart_late)
+    grind (arith, nat_tests, not_false, parts, restart_late)
 
 long_in : (v : View) (t : Trails) (p : Pid) (phase : Phase) → IsIn v p phase → Placed v t p → ((m : ℕ) → is_moving (v.known m p) ≡ false) → length (t p) ≡ v.moves p + 1
 long_in v t p Nowhere h on still = let k = on.unmade (λ m. unknown_is (v.known m p) (h.known m)) in let none = k.0 in let one = k.1 in omega (arith, none, one)

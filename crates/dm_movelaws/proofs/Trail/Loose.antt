@@ -1,6 +1,6 @@
 -- Lines, puts and packets that fit the trails anywhere, and leave each process where it is.
 use Rattle.dm_movelaws.proofs.Names.{◌≡◌, ℕ, ◌+◌, ◌==◌, Bool, true, false, List, [], ◌∷◌, length, refl, ap, ◌∙◌, sym, subst, if◌then◌else◌, Option, None, Some, Pid, pid_of, MsgId, MessageKind, Stage, plain_kind, Label, OneKernel, entry}
-use Rattle.dm_movelaws.proofs.Names.{reception, id_eq-same, after_step, bind-is, Line, Load, View, Told, About, NothingElse, own_id, view_after, handled, after_proto, follows_up, asks_on, taken_id, receiver_of, Receiver, goes_between}
+use Rattle.dm_movelaws.proofs.Names.{reception, id_eq-same, after_step, bind-is, Line, Load, View, Told, own_id, view_after, handled, after_proto, receiver_of, Receiver, goes_between}
 use Rattle.dm_movelaws.proofs.Names.{own_gives, Point, moved, after, Part, Says, Routes, Owns, Transmits, puts, goes_out, packet_line, to_kernel, Trails, IsOn, trails_after, IsNet, IsNetLine, SaidOn, not_kernels, queued_known, held_known}
 use Rattle.dm_movelaws.proofs.Names.{dropped_known, proto_known, Sane, Outside, Treads, LineFits, LabelFits, KnownFits, PutFits, Rides, Steps, said_by, own_outside, own_fresh, queued_moves, held_moves, dropped_moves, nat_tests, arith, ◌++◌}
 use Rattle.dm_movelaws.proofs.Names.{⊤, PlainMessage, bind, after_line, Again, Spelled, lines_of, spelled, Trodden, along, AllSayable, part_sane, line_treads, Said, plain_own, by_parts, Addresses, Sort, own_given, is_between, sort_of}
@@ -155,17 +155,8 @@ to_between k m b = (between_loose k m (λ pt. gives_between pt.kernel pt.view pt
 pub line_loose : (l : Line) → ((pt : Point) (t : Trails) → Sane pt → Treads pt t → LineFits pt t l) → ((v : View) (t : Trails) → Places v t → Places (view_after v l) (trails_after v t l)) → Loose (Says l)
 line_loose l fits leaves = grind (arith, nat_tests, said_by)
 
-asks_moves : (v : View) (a : About) → (asks_on v a).moves ≡ v.moves
-asks_moves v a = grind (arith, nat_tests)
-
-follows_moves : (v : View) (a : About) (k : MessageKind) → (follows_up v a k).moves ≡ v.moves
-follows_moves v a k = grind (arith, nat_tests, asks_moves)
-
 proto_moves : (v : View) (o : Option Told) → (after_proto v o).moves ≡ v.moves
-proto_moves v o = grind (arith, nat_tests, follows_moves)
-
-taken_same : (v : View) (b : ℕ) (o : Option MsgId) → ((taken_id v b o).known ≡ v.known) × ((taken_id v b o).moves ≡ v.moves)
-taken_same v b o = grind (arith, nat_tests)
+proto_moves v o = grind (arith, nat_tests)
 
 at_pid : (f g : Pid → ℕ) (q : Pid) → f ≡ g → f q ≡ g q
 at_pid f g q e = ap (λ (h : Pid → ℕ). h q) e
@@ -214,7 +205,7 @@ pinned_loose p = quiet (Line.Pinned p) (λ pt t. tt) (λ v t. refl) (λ v n q. r
 
 -- what the net says
 net_line : (l : Line) → IsNetLine l → Loose (Says l)
-net_line (Line.Taken a b n) h = grind (arith, nat_tests, quiet, taken_same, at_pid)
+net_line (Line.Taken a b n) h = grind (arith, nat_tests, quiet, at_pid)
 net_line (Line.Old a b n) h = quiet (Line.Old a b n) (λ pt t. tt) (λ v t. refl) (λ v m q. refl) (λ v q. refl)
 net_line (Line.Early a b n) h = quiet (Line.Early a b n) (λ pt t. tt) (λ v t. refl) (λ v m q. refl) (λ v q. refl)
 net_line (Line.Acked a b n) h = quiet (Line.Acked a b n) (λ pt t. tt) (λ v t. refl) (λ v m q. refl) (λ v q. refl)

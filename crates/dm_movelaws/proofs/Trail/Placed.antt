@@ -1,5 +1,5 @@
 -- Where a process is on its trail: at the end, or one machine before it while the message that restarts it is under way.
-use Rattle.dm_movelaws.proofs.Names.{◌≡◌, ◌≢◌, ◌⊎◌, ℕ, ◌+◌, ◌==◌, not, Bool, true, false, length, refl, ap, ◌∙◌, sym, subst, inl, inr, arith, cases_Bool, false≢true, if◌then◌else◌, slice_get, Option, Some, Pid, pid_eq, MsgId, MessageKind}
+use Rattle.dm_movelaws.proofs.Names.{◌≡◌, ◌≢◌, ◌⊎◌, ℕ, ◌+◌, ◌==◌, Bool, true, false, length, refl, ap, ◌∙◌, sym, subst, inl, inr, arith, cases_Bool, false≢true, if◌then◌else◌, slice_get, Option, Some, Pid, pid_eq, MsgId, MessageKind}
 use Rattle.dm_movelaws.proofs.Names.{pid_eq-is, at_record, View, Known, Unknown, Here, Frozen, Incoming, Forward, Ended, Moves, IsIn, knows, kind_comes, is_restart, is_away, Trails, eq_is, parts, eq_self, set_off, kind_leaves, nat_tests}
 use Rattle.dm_rule.proofs.Trails.Steps.{set_at}
 
@@ -38,18 +38,9 @@ pub record Off (v w : View) (p : Pid) (m : ℕ) : Type 0 where
 learnt_either : (v w : View) (p : Pid) (x : Known) (m : ℕ) → Learnt v w p x → ((v.acting ≡ m) × (w.known m p ≡ x)) ⊎ Off v w p m
 learnt_either v w p x m known = grind (arith, nat_tests, eq_is)
 
-held_incoming : (x : Known) (s : ℕ) → is_held x ≡ true → x ≢ Incoming s
-held_incoming x s held e = false≢true (sym (ap is_held e) ∙ held)
-
-held_forward : (x : Known) (d c : ℕ) → is_held x ≡ true → x ≢ Forward d c
-held_forward x d c held e = false≢true (sym (ap is_held e) ∙ held)
-
-held_unknown : (x : Known) → is_held x ≡ true → x ≢ Unknown
-held_unknown x held e = false≢true (sym (ap is_held e) ∙ held)
-
 -- it has it, where it is at the end of the trail
 pub placed_held : (v w : View) (t : Trails) (p : Pid) (x : Known) → Learnt v w p x → w.moves p ≡ v.moves p → is_held x ≡ true → slice_get (t p) (v.moves p) ≡ Some v.acting → length (t p) ≡ v.moves p + 1 → Placed v t p → Placed w t p
-placed_held v w t p x known moves held at long h = grind (arith, nat_tests, learnt_either, held_forward, held_incoming, held_unknown, learnt_here)
+placed_held v w t p x known moves held at long h = grind (arith, nat_tests, learnt_either, learnt_here)
 
 -- it expects it from a machine that doesn't forward
 pub placed_comes : (v w : View) (t : Trails) (p : Pid) (from : ℕ) → Learnt v w p (Incoming from) → w.moves p ≡ v.moves p → ((d c : ℕ) → v.known from p ≢ Forward d c) → Placed v t p → Placed w t p
@@ -134,24 +125,9 @@ places_held v w t p x known moves held had h =
     (λ learnt. placed_held v w t p x learnt (same p) held ((h p).now v.acting had) ((h p).long v.acting had) (h p))
 
 -- what the phase of a process that moves says
-leaves_held : (k : MessageKind) (d : ℕ) (x : Known) → kind_leaves k d x ≡ true → is_held x ≡ true → is_restart k ≡ false
-leaves_held k d (Frozen to) e h = turned (is_restart k) (parts (not (is_restart k)) (d == to) e).0
-  where
-    turned : (b : Bool) → not b ≡ true → b ≡ false
-    turned true f = absurd (false≢true f)
-    turned false f = refl
-leaves_held k d Here e h = absurd (false≢true e)
-leaves_held k d Ended e h = absurd (false≢true e)
-leaves_held k d _ e h = absurd (false≢true h)
-
-comes_held : (k : MessageKind) (s : ℕ) (x : Known) → kind_comes k s x ≡ true → is_held x ≡ true → ⊥
-comes_held k s x e h = grind (arith, nat_tests)
-
-away_held : (x : Known) → is_away x ≡ true → is_held x ≡ true → ⊥
-away_held x e h = grind (arith, nat_tests)
 
 held_by : (k : MessageKind) (s d m : ℕ) (x : Known) (b c : Bool) → (s == m) ≡ b → (if b then kind_leaves k d x else if c then kind_comes k s x else is_away x) ≡ true → is_held x ≡ true → (s ≡ m) × (is_restart k ≡ false)
-held_by k s d m x b c is e h = grind (arith, nat_tests, eq_is, leaves_held, comes_held, away_held)
+held_by k s d m x b c is e h = grind (arith, nat_tests, eq_is)
 
 -- its source has it, until the message is under way that restarts it
 pub moves_held : (v : View) (p : Pid) (k : MessageKind) (s d m : ℕ) (o : Option MsgId) → IsIn v p (Moves k s d o) → is_held (v.known m p) ≡ true → (s ≡ m) × (is_restart k ≡ false)

@@ -1,12 +1,11 @@
 -- Whom a place is named for is a kernel, a server or a process that was made.
-use Rattle.dm_movelaws.proofs.Names.{◌≡◌, ℕ, ◌+◌, ◌==◌, ◌&&◌, ◌||◌, Bool, true, false, not, filter, is_some, List, refl, ap, ◌∙◌, sym, subst, inl, inr, cases_Bool, false≢true, if◌then◌else◌, Option, None, Some, Pid, Place, MsgId}
-use Rattle.dm_movelaws.proofs.Names.{MessageKind, id_eq, Boot, Label, IsValid, Life, OneKernel, Step, after_step, Line, Stage, Leads, Spelled, Point, first_point, kernel_after, group_of, at_record, View, Told, About, NothingElse, Target}
-use Rattle.dm_movelaws.proofs.Names.{Of, Known, Unknown, Here, Frozen, Forward, Ended, view_after, handled, receiver_of, first_told, served_told, forward_about, hushed, grown_none, Phased, queued_known, held_known, dropped_known}
-use Rattle.dm_movelaws.proofs.Names.{start_known, Sane, label_topic, is_server, is_fixed, KnownStands, agrees, group_keeps, Loud, keeps_by, set_all, killed_or, named_real, Both, is_made, IsNamed, ByHolder, ByOwn, ByRequest, ByUpdate}
+use Rattle.dm_movelaws.proofs.Names.{◌≡◌, ℕ, ◌+◌, ◌==◌, Bool, true, false, not, filter, is_some, List, refl, ap, ◌∙◌, sym, subst, inl, inr, cases_Bool, false≢true, Option, None, Some, Pid, Place, MsgId}
+use Rattle.dm_movelaws.proofs.Names.{MessageKind, Boot, Label, IsValid, Life, OneKernel, Step, after_step, Line, Stage, Leads, Spelled, Point, first_point, kernel_after, group_of, at_record, View, Told, About, NothingElse}
+use Rattle.dm_movelaws.proofs.Names.{Of, Known, Here, Frozen, Forward, Ended, view_after, handled, receiver_of, served_told, hushed, grown_none, Phased, queued_known, held_known, dropped_known}
+use Rattle.dm_movelaws.proofs.Names.{start_known, Sane, label_topic, is_server, KnownStands, group_keeps, Loud, keeps_by, set_all, killed_or, named_real, Both, is_made, IsNamed, ByHolder, ByOwn, ByRequest, ByUpdate}
 use Rattle.dm_movelaws.proofs.Names.{ByForward, queued_topic, held_topic, taken_topic, or_first, run_always, nat_tests, arith}
 use Rattle.dm_rulelaws.proofs.Found.Core.{IsReal}
 use Rattle.dm_movelaws.proofs.After.{keeps_always}
-use Rattle.dm_movelaws.proofs.Trail.Rows.{or_first as or_left}
 use Rattle.dm_onekernel.specs.Step as kernel
 use Rattle.dm_rule.specs.View as view
 
@@ -49,23 +48,17 @@ goes_by pt t (Some l) h e p some = goes_label pt t l h e p some
 no_place : (T : Type 0) (a : About) (p : Pid) (m c : ℕ) → a ≡ NothingElse → a ≡ view.Place p m c → T
 no_place T a p m c e f = absurd (let g : NothingElse ≡ view.Place p m c = sym e ∙ f in cc)
 
-no_target : (T : Type 0) (p : Pid) (n m c : ℕ) → Target n ≡ view.Place p m c → T
-no_target T p n m c e = cc
-
 no_of : (T : Type 0) (q p : Pid) (m c : ℕ) → Of q ≡ view.Place p m c → T
 no_of T q p m c e = cc
 
-forward_made : (s : OneKernel) (q : Pid) (x : Known) (p : Pid) (m c : ℕ) → (passes x ≡ true → WasMade s q) → forward_about q x ≡ view.Place p m c → WasMade s p
-forward_made s q x p m c made e = grind (arith, nat_tests, no_place)
-
 forwarded_made : (s : OneKernel) (v : View) (o : Option Pid) (p : Pid) (m c : ℕ) → Passing s v → (view.forwarded_for v o).topic ≡ view.Place p m c → WasMade s p
-forwarded_made s v o p m c h e = grind (arith, nat_tests, forward_made)
+forwarded_made s v o p m c h e = grind (arith, nat_tests)
 
 proto_made : (s : OneKernel) (v : View) (i : MsgId) (o : Option Told) (p : Pid) (m c : ℕ) → v.told i ≡ o → Passing s v → (view.after_proto (handled v i) o).topic ≡ view.Place p m c → WasMade s p
 proto_made s v i o p m c is h e = grind (arith, nat_tests, no_place)
 
 head_made : (s : OneKernel) (v : View) (d : Step) (p : Pid) (m c : ℕ) → (view.after_head v d).topic ≡ view.Place p m c → WasMade s p
-head_made s v d p m c e = grind (arith, nat_tests, no_target, no_place)
+head_made s v d p m c e = grind (arith, nat_tests, no_place)
 
 stage_made : (s : OneKernel) (v : View) (q : Pid) (k : Stage) (p : Pid) (m c : ℕ) → Passing s v → (view.after_stage v q k).topic ≡ view.Place p m c → WasMade s p
 stage_made s v q k p m c h e = grind (arith, nat_tests, no_of)
@@ -137,11 +130,9 @@ passing_loud = record {
 }
 
 -- at the start no process leaves
-first_stays : (b c : Bool) → passes (if b && c then Here else Unknown) ≡ true → ⊥
-first_stays b c e = grind (arith, nat_tests)
 
 passing_start : (b : Boot) → Passing (first_point b).kernel (first_point b).view
-passing_start b = grind (arith, nat_tests, first_stays, start_known, no_place)
+passing_start b = grind (arith, nat_tests, start_known, no_place)
 
 passing_group : (b : Boot) (pt : Point) (d : Step) (w : Spelled) → group_of b pt d ≡ Some w → Phased pt → KnownStands pt.kernel pt.view → Passing pt.kernel pt.view → Passing w.point.kernel w.point.view
 passing_group b pt d w is phased known h = group_keeps (λ q. Passing q.kernel q.view) (keeps_by (λ q. Passing q.kernel q.view) passing_loud) b pt d w is phased known h
@@ -157,17 +148,8 @@ passed_always b es pt valid way = record {
   passing = keeps_always b (λ q. Passing q.kernel q.view) (λ q d w fit is run h. passing_group b q d w is run.based.phased run.based.known h) valid (passing_start b) es pt way;
 }
 
-agrees_some : (k : Known) (o : Option Life) → agrees k o ≡ true → (k ≡ Unknown → ⊥) → is_some o ≡ true
-agrees_some k o e some = grind (arith, nat_tests)
-
-known_made : (s : OneKernel) (v : View) (m : ℕ) (q : Pid) → KnownStands s v → (v.known m q ≡ Unknown → ⊥) → is_made s q ≡ true
-known_made s v m q h some = grind (arith, nat_tests, or_left, or_first, agrees_some)
-
-fixed_made : (s : OneKernel) (q : Pid) → (q.num == 0) ≡ false → is_fixed q ≡ true → is_made s q ≡ true
-fixed_made s q other fixed = or_left (is_server q) (is_some (s.processes q)) (sym (ap (λ (c : Bool). c || is_server q) other) ∙ fixed)
-
 real_made : (s : OneKernel) (v : View) (n : ℕ) (q : Pid) → KnownStands s v → (q.num == 0) ≡ false → IsReal n v q → is_made s q ≡ true
-real_made s v n q h other real = grind (arith, nat_tests, fixed_made, known_made)
+real_made s v n q h other real = grind (arith, nat_tests)
 
 made_by : (b : Boot) (pt : Point) (q : Pid) (place : Place) → Passed b pt → (q.num == 0) ≡ false → IsNamed pt q place → is_made pt.kernel q ≡ true
 made_by b pt q place h other (ByHolder g is at_) = real_made pt.kernel pt.view pt.kernel.machines q h.both.run.based.known other (named_real pt pt.kernel.machines g q h.both.run.kept is)

@@ -1,8 +1,8 @@
 -- The trails that printed lines lay stand, and from each place that is named for a process the forwarding addresses lead to it.
-use Rattle.dm_movelaws.proofs.Names.{◌≡◌, ◌≢◌, ◌⊎◌, ℕ, zero, suc, ◌-◌, ◌<◌, ◌==◌, ◌||◌, Bool, true, false, is_some, List, [], ◌∷◌, ◌++◌, length, refl, ap, ◌∙◌, sym, subst, inl, inr, arith, cases_Bool, false≢true, slice_get_within}
-use Rattle.dm_movelaws.proofs.Names.{slice_get, Option, None, Some, Pid, Place, Boot, IsValid, OneKernel, bind, Step, bind-is, Line, Receiver, Sender, unmoved, Leads, Point, first_point, after, after_line, Trails, Trail, IsOn, Trodden}
+use Rattle.dm_movelaws.proofs.Names.{◌≡◌, ◌≢◌, ℕ, suc, ◌-◌, ◌<◌, ◌==◌, true, false, List, [], ◌∷◌, ◌++◌, length, refl, ap, ◌∙◌, sym, subst, inl, inr, arith, cases_Bool, slice_get_within}
+use Rattle.dm_movelaws.proofs.Names.{slice_get, Option, None, Some, Pid, Place, Boot, IsValid, OneKernel, bind, Step, bind-is, Line, unmoved, Leads, Point, first_point, after, after_line, Trails, Trail, IsOn, Trodden}
 use Rattle.dm_movelaws.proofs.Names.{first_trodden, along, trails_after, View, Known, Unknown, Here, Forward, along_treads, treads_start, trail_leads, Treads, Within, trail_within, is_server, is_fixed, KnownStands, agrees, LeadsBy}
-use Rattle.dm_movelaws.proofs.Names.{made_free, server_fixed, is_made, has_it, ends_walk, IsNamed, ByHolder, ByOwn, ByRequest, ByUpdate, ByForward, Reaches, IsLast, TrailStands, TrailsStand, IsLed, AddressesLead, nat_tests}
+use Rattle.dm_movelaws.proofs.Names.{made_free, server_fixed, is_made, has_it, ends_walk, IsNamed, Reaches, IsLast, TrailStands, TrailsStand, IsLed, AddressesLead, nat_tests}
 use Rattle.dm_movelaws.proofs.After.{group_after}
 use Rattle.dm_movelaws.proofs.Trail.Known.{Holds, carries}
 use Rattle.dm_movelaws.proofs.Trail.Placed.{is_held}
@@ -70,12 +70,6 @@ agrees_none k e = grind (arith, nat_tests)
 held_it : (k : Known) → has_it k ≡ true → is_held k ≡ true
 held_it k e = grind (arith, nat_tests)
 
-or_made : (s : OneKernel) (p : Pid) (c : Bool) → is_server p ≡ c → (c || is_some (s.processes p)) ≡ true → (is_server p ≡ true) ⊎ ((is_server p ≡ false) × (is_some (s.processes p) ≡ true))
-or_made s p c is e = grind (arith, nat_tests)
-
-here_known : (k : Known) → k ≡ Here → k ≢ Unknown
-here_known k e f = let g : Here ≡ Unknown = sym e ∙ f in cc
-
 -- the last machine of a trail doesn't forward
 walk_ends : (k : Known) → k ≢ Unknown → ((m c : ℕ) → k ≡ Forward m c → ⊥) → ends_walk k ≡ true
 walk_ends k some off = grind (arith, nat_tests)
@@ -99,7 +93,7 @@ alone b pt t p h on none = one_place (t p) p.home (alone_long b pt t p h none) (
 
 -- what was made is known at home
 at_home : (s : OneKernel) (v : View) (p : Pid) → KnownStands s v → is_made s p ≡ true → v.known p.home p ≢ Unknown
-at_home s v p h made = grind (arith, nat_tests, or_made, here_known, server_fixed)
+at_home s v p h made = grind (arith, nat_tests, server_fixed)
 
 -- each place that is named is on the trail
 named_on : (pt : Point) (t : Trails) (q : Pid) (place : Place) → Treads pt t → IsNamed pt q place → IsOn t q place

@@ -1,9 +1,9 @@
 -- What an update does wherever the rule leads.
 use Rattle.dm_movelaws.proofs.Names.{◌≡◌, ◌⊎◌, ℕ, ◌<◌, ◌≤◌, ◌==◌, ◌&&◌, Bool, true, false, not, [], ◌++◌, refl, ap, ◌∙◌, sym, inl, inr, nat_lt, arith, if◌then◌else◌, cases_Bool, false≢true, nat_tests, Option, None, Some, Pid, Place, pid_eq}
-use Rattle.dm_movelaws.proofs.Names.{MsgId, Boot, switchboard, manager, Life, OneKernel, pid_eq-same, Step, Addresses, Holder, belongs_to, leads_to, is_pid, is_behind, place_told, updated, holders_of, behind_among, behind_count}
-use Rattle.dm_movelaws.proofs.Names.{holders_numbered, answers_in, slot_holders, Spelled, Point, View, Told, About, Ended, after_head, is_server, KnownStands, agrees, Updated, UpdatesAlways, front_own, Both, is_place, own_sort, run_always}
+use Rattle.dm_movelaws.proofs.Names.{MsgId, Boot, switchboard, manager, OneKernel, pid_eq-same, Step, Addresses, Holder, belongs_to, leads_to, is_pid, is_behind, place_told, updated, holders_of, behind_among, behind_count}
+use Rattle.dm_movelaws.proofs.Names.{holders_numbered, answers_in, slot_holders, Spelled, Point, View, Told, About, Ended, after_head, is_server, KnownStands, Updated, UpdatesAlways, front_own, Both, is_place, own_sort, run_always}
 use Rattle.dm_movelaws.proofs.Names.{pid_there, second, zero, suc, ◌+◌, List, ◌∷◌, length, slice_get, slice_get_cases, PlainLink, link_at, NamedLink, Pending, PlainProcess, pid_eq-is, not_server, alive-is, Slot, Owner, Child, Name, Answer}
-use Rattle.dm_movelaws.proofs.Names.{holder_eq, link_target, slot_of, name_link, answer_link, ascends, slots_from, listings, is_owner}
+use Rattle.dm_movelaws.proofs.Names.{holder_eq, link_target, slot_of, name_link, ascends, slots_from, listings, is_owner}
 use Rattle.dm_movelaws.proofs.Updates.Groups.{Handled, handled_by}
 use Rattle.dm_laws.proofs.Entered.{Made}
 use Rattle.dm_onekernel.specs.Step as kernel
@@ -95,9 +95,6 @@ listed_as s q c d = if c then holders_numbered Name 0 s.switchboard.names else i
 named_link : (o : Option NamedLink) (q : Pid) → link_target (name_link o) ≡ Some q → (k : NamedLink) × (o ≡ Some k)
 named_link o q e = grind (arith, nat_tests)
 
-pending_link : (o : Option Pending) (q : Pid) → link_target (answer_link o) ≡ Some q → (r : Pending) × (o ≡ Some r)
-pending_link o q e = grind (arith, nat_tests)
-
 not_board : (q : Pid) → pid_eq q manager ≡ true → pid_eq q switchboard ≡ false
 not_board q e = grind (arith, nat_tests)
 
@@ -128,7 +125,7 @@ listed s q (Name n) r made up mine other leads =
     let (k, there) = named_link (slice_get s.switchboard.names n) r leads in
     ap (λ (c : Bool). listings (Name n) (listed_as s q c (pid_eq q manager))) mine
     ∙ numbered_once Name n 0 s.switchboard.names (record { eq = λ i j. refl }) (omega arith) (let f = got s.switchboard.names n k there in omega (arith, f))
-listed s q (Answer n) r made up mine other leads = grind (arith, nat_tests, pending_link, answers_once, no_child, listings-append, not_board)
+listed s q (Answer n) r made up mine other leads = grind (arith, nat_tests, answers_once, no_child, listings-append, not_board)
 listed s q _ r made up mine other leads = absurd (false≢true mine)
 
 -- what it tells
@@ -159,26 +156,19 @@ address : (s : OneKernel) (v w : View) (a : Addresses) (id : MsgId) (t : Told) (
 address s v w a id t p at_ h same told about = search
 
 -- whether an address is behind
-pid_true : (p : Pid) (o : Option Pid) → o ≡ Some p → is_pid p o ≡ true
-pid_true p o e = ap (is_pid p) e ∙ pid_eq-same p
 
 three : (a b c : Bool) → (a && (b && c)) ≡ true → (a ≡ true) × (b ≡ true) × (c ≡ true)
 three a b c e = grind (arith, nat_tests)
 
 behind_is : (s : OneKernel) (a : Addresses) (q p : Pid) (c : ℕ) (h : Holder) (x : Bool) → belongs_to q h ≡ true → leads_to s h ≡ Some p → nat_lt (a h).moves c ≡ x → is_behind s a q p c h ≡ x
-behind_is s a q p c h x mine leads e = grind (arith, nat_tests, pid_true)
+behind_is s a q p c h x mine leads e = grind (arith, nat_tests)
 
 -- an ended process has no links
-ended_none : (o : Option Life) → agrees Ended o ≡ true → kernel.alive o ≡ None
-ended_none o e = grind (arith, nat_tests)
-
-none_listed : (s : OneKernel) (q : Pid) → is_server q ≡ false → kernel.alive (s.processes q) ≡ None → holders_of s q ≡ []
-none_listed s q server none = grind (arith, nat_tests)
 
 count_is : (s : OneKernel) (v : View) (a : Addresses) (t : Told) (p : Pid) (at_ : Place) (m n : ℕ) → t.about ≡ view.Place p at_.at at_.moves → KnownStands s v
     → (n ≡ behind_count s a t.receiver (place_told t.about)) ⊎ ((n ≡ 0) × (is_server t.receiver ≡ false) × (v.known m t.receiver ≡ Ended))
     → behind_among (is_behind s a t.receiver p at_.moves) (holders_of s t.receiver) ≡ n
-count_is s v a t p at_ m n about known counts = grind (arith, nat_tests, ended_none, none_listed)
+count_is s v a t p at_ m n about known counts = grind (arith, nat_tests)
 
 updated_by : (b : Boot) (pt : Point) (d : Step) (w : Spelled) (id : MsgId) (n : ℕ) → Both b pt → Handled b pt d w id n → Updated pt w.point id n
 updated_by b pt d w id n both h =
