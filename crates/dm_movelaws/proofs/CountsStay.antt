@@ -1,6 +1,6 @@
 -- The count of an address that a process or a server has doesn't fall until a step gives it a new one.
 use Rattle.dm_movelaws.proofs.Names.{◌≡◌, ℕ, ◌≤◌, ◌||◌, Bool, true, false, List, [], ◌∷◌, refl, ap, ◌∙◌, sym, subst, arith, nat_tests, Option, Some, Pid, Place, MsgId, MessageKind, OneKernel, bind-is, Line, Addresses}
-use Rattle.dm_movelaws.proofs.Names.{Holder, Receiver, Sender, Gets, gets, holder_eq, given, gives, belongs_to, leads_to, forwards, all_follow, own_gives, first_gives, updated, addresses_after, Point, label_of}
+use Rattle.dm_movelaws.proofs.Names.{Holder, Receiver, Sender, Gets, holder_eq, given, gives, belongs_to, leads_to, forwards, all_follow, own_gives, first_gives, updated, addresses_after, Point, label_of}
 use Rattle.dm_movelaws.proofs.Names.{kernel_after, moved, after_line, after, View, Told, is_owned, gives_to, is_filled, in_next, refilled, CountsStay, CountsKept, Updated, Sort, sort_of, own_given}
 use Rattle.dm_movelaws.proofs.After.{group_after}
 use Rattle.dm_movelaws.proofs.Updates.Always.{updates_always}
@@ -20,9 +20,6 @@ no_receiver i h e = grind (arith, nat_tests)
 no_sender : (i : MsgId) (h : Holder) → is_owned h ≡ true → holder_eq (Sender i) h ≡ false
 no_sender i h e = grind (arith, nat_tests)
 
-both_none : (i : MsgId) (p r : Place) (h : Holder) → is_owned h ≡ true → gives_to h (gets (Receiver i) p ∷ gets (Sender i) r ∷ []) ≡ false
-both_none i p r h e = ap (λ (c : Bool). c || (holder_eq (Sender i) h || false)) (no_receiver i h e) ∙ ap (λ (c : Bool). c || false) (no_sender i h e)
-
 forwards_none : (v : View) (a : Addresses) (id : MsgId) (h : Holder) (o : Option Told) → is_owned h ≡ true → gives_to h (forwards v a id o) ≡ false
 forwards_none v a id h o e = grind (arith, nat_tests, no_receiver)
 
@@ -31,7 +28,7 @@ follows_none v a p h [] e = refl
 follows_none v a p h (i ∷ is) e = ap (λ (c : Bool). c || gives_to h (all_follow v a p is)) (no_receiver i h e) ∙ follows_none v a p h is e
 
 own_none_by : (s : OneKernel) (v : View) (a : Addresses) (id : MsgId) (r : Pid) (h : Holder) (w : Sort) → is_owned h ≡ true → gives_to h (own_given s v a id r w) ≡ false
-own_none_by s v a id r h w e = grind (arith, nat_tests, both_none)
+own_none_by s v a id r h w e = grind (arith, nat_tests)
 
 own_none : (s : OneKernel) (v : View) (a : Addresses) (id : MsgId) (r : Pid) (h : Holder) (x : MessageKind) → is_owned h ≡ true → gives_to h (own_gives s v a id r x) ≡ false
 own_none s v a id r h x e = own_none_by s v a id r h (sort_of x) e
@@ -40,7 +37,6 @@ first_none : (h : Holder) (o : Option Told) (gs : List Gets) → gives_to h gs �
 first_none h o gs e = grind (arith, nat_tests)
 
 -- an update only raises
-
 update_raises : (s : OneKernel) (v : View) (a : Addresses) (h : Holder) (o : Option Told) → count_of a h ≤ (updated s v a o h).moves
 update_raises s v a h o = grind (arith, nat_tests)
 
@@ -79,7 +75,6 @@ owned_by : (q : Pid) (h : Holder) → belongs_to q h ≡ true → is_owned h ≡
 owned_by q h e = grind (arith, nat_tests)
 
 -- what an update told stays
-
 kept_by : (pt next end : Point) (id : MsgId) (n : ℕ) (t : Told) (p : Pid) (c : Place) (h : Holder) → Updated pt next id n → pt.view.told id ≡ Some t → t.about ≡ view.Place p c.at c.moves → belongs_to t.receiver h ≡ true → leads_to pt.kernel h ≡ Some p
     → count_of next.addresses h ≤ count_of end.addresses h → c.moves ≤ count_of end.addresses h
 kept_by pt next end id n t p c h u told about mine leads stay = grind (arith, nat_tests)

@@ -1,5 +1,5 @@
 -- Where parts lead: what holds behind the lines that they say, behind the puts of their messages, and still behind packets, holds where they lead.
-use Rattle.dm_movelaws.proofs.Names.{◌≡◌, ℕ, ◌==◌, Bool, true, false, List, [], ◌∷◌, length, refl, ap, ◌∙◌, subst, ⊤, if◌then◌else◌, Some, Pid, MsgId, MessageKind, plain_kind, PlainMessage, OneKernel, bind-is, Line, Load, View, Told}
+use Rattle.dm_movelaws.proofs.Names.{◌≡◌, ℕ, ◌==◌, Bool, true, false, List, [], ◌∷◌, length, refl, ap, ◌∙◌, subst, ⊤, if◌then◌else◌, Some, Pid, MsgId, MessageKind, plain_kind, PlainMessage, OneKernel, bind-is, Line, Load, Told}
 use Rattle.dm_movelaws.proofs.Names.{own_id, Receiver, Point, label_of, kernel_after, moved, after, Part, Says, Routes, Again, Owns, Transmits, Spelled, puts, goes_out, packet_line, spelled, Steps, said_by, PacketsKeep, by_parts}
 use Rattle.dm_movelaws.proofs.Names.{AllSayable, Sayable, Sane, part_sane, lines_of, IsNetLine, IsNet, by_net, touches, Pair, AllFit, Boot, Step, turns_fit, resends_net, arrives_net, slice_get, migrates, migrates_fit, bind, behind, ◌++◌}
 use Rattle.dm_movelaws.proofs.Names.{nat_tests, arith}
@@ -77,10 +77,6 @@ pub record LinesOf (S : List Line → Type 0) (p : Part) : Type 0 where
   pub put : is_said p ≡ false → (a b : ℕ) (i : MsgId) (k : MessageKind) (q : Pid) → S (Line.Put a b i k q ∷ [])
   pub goes : is_said p ≡ false → (a b n : ℕ) (i : MsgId) (k : MessageKind) (q : Pid) (l : Load) → S (Line.Put a b i k q ∷ Line.Packet a b n l ∷ [])
   pub packet : is_said p ≡ false → (a b n : ℕ) (l : Load) → S (Line.Packet a b n l ∷ [])
-
-put_lines : (S : List Line → Type 0) (p : Part) (v : View) (b : ℕ) (i : MsgId) (k : MessageKind) (q : Pid) (c d : Bool) → LinesOf S p → is_said p ≡ false
-    → S (Line.Put v.acting b i k q ∷ (if c then [] else if d then packet_line v v.acting b (Load.Data (length (v.pair v.acting b).ids)) ∷ [] else []))
-put_lines S p v b i k q c d h none = grind (arith, nat_tests)
 
 pub lines_are : (S : List Line → Type 0) (pt : Point) (p : Part) (ls : List Line) → LinesOf S p → lines_of pt p ≡ Some ls → S ls
 lines_are S pt p ls h is = grind (arith, nat_tests, bind-is)

@@ -1,6 +1,6 @@
 -- Wherever the rule leads, each directive to move a process has at most one end, and one where nothing is on its way.
-use Rattle.dm_movelaws.proofs.Names.{◌≡◌, ℕ, ◌+◌, Bool, false, List, [], ◌∷◌, length, refl, ap, subst, arith, if◌then◌else◌, Pid, MsgId, Boot, IsValid, Step}
-use Rattle.dm_movelaws.proofs.Names.{Line, IsStep, Point, first_point, IsQuiet, Known, Here, first_view, fits, LeadsBy, Both, both_start, both_group, run_start, run_group, is_moving, asks, ends, count, EndsAlways}
+use Rattle.dm_movelaws.proofs.Names.{◌≡◌, ℕ, ◌+◌, List, [], ◌∷◌, length, refl, ap, subst, arith, Pid, MsgId, Boot, IsValid, Step}
+use Rattle.dm_movelaws.proofs.Names.{Line, IsStep, Point, first_point, IsQuiet, first_view, fits, LeadsBy, Both, both_start, both_group, run_start, run_group, asks, ends, count, EndsAlways}
 use Rattle.dm_movelaws.proofs.Names.{nat_tests}
 use Rattle.dm_movelaws.proofs.Ends.Lines.{Extends}
 use Rattle.dm_movelaws.proofs.Ends.Moving.{moving_in, waits_or}
@@ -54,9 +54,6 @@ ran p b (d ∷ ds) pt end ls ids valid h sources opens (w, rest, fit, is, split,
     }
 
 -- where a run begins nothing moves
-here_or : (c : Bool) (k : Known) → is_moving k ≡ false → is_moving (if c then Here else k) ≡ false
-here_or c k e = grind (arith, nat_tests)
-
 start_stays : (b : Boot) (p : Pid) (h : Both b (first_point b)) → moving_at b (first_point b) h p ≡ 0
 start_stays b p h = grind (arith, nat_tests, waits_or)
 

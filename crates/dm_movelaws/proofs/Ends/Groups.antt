@@ -5,7 +5,7 @@ use Rattle.dm_movelaws.proofs.Names.{InPhases, calm_phases, PairsFit, PacketsKee
 use Rattle.dm_movelaws.proofs.Names.{count, first_none, by_migrates, by_outcome, group_is, None, false, label_of, nat_tests}
 use Rattle.dm_movelaws.proofs.Ends.Lines.{is_migrate, Extends, Still, plain_in_bag, own_untold, smooth_same, Tame, still_same}
 use Rattle.dm_movelaws.proofs.Ends.Net.{head_smooth, net_level, net_asks, net_ends}
-use Rattle.dm_movelaws.proofs.Ends.Parts.{packet_smooth, one_if, zero_if, parts_count, ends_silent, round_quiet, handles_quiet}
+use Rattle.dm_movelaws.proofs.Ends.Parts.{packet_smooth, one_if, zero_if, parts_count, round_quiet, handles_quiet}
 use Rattle.dm_movelaws.proofs.Ends.Moving.{moving_in, still_moves}
 use Rattle.dm_movelaws.proofs.Ends.Open.{Opens, Adds, Balance, level_balance, smooth_opens, add_opens}
 use Rattle.dm_movelaws.proofs.Ends.Rows.{Turn, Comes, line_alone, quiet_row, and_off}
@@ -124,7 +124,7 @@ pub record GroupBalance (p : Pid) (w : Spelled) (ids : List MsgId) (before behin
 
 whole_balance : (p : Pid) (d : Step) (parts : List Part) (ids : List MsgId) (before behind : ℕ) (start : Point) (rest : Spelled) → spelled start parts ≡ Some rest → Balance p rest.point.view ids (asked_by p d) before behind parts
     → GroupBalance p (rule.headed (Line.Head d) rest) ids before behind
-whole_balance p d parts ids before behind start rest e h = grind (arith, nat_tests, parts_count, ends_silent)
+whole_balance p d parts ids before behind start rest e h = grind (arith, nat_tests, parts_count)
 
 pub group_balance : (p : Pid) (b : Boot) (pt : Point) (d : Step) (w : Spelled) (h : InPhases pt.view) (g : InPhases w.point.view) (ids : List MsgId) → Phased pt → KnownStands pt.kernel pt.view → PairsFit pt.view → group_of b pt d ≡ Some w → Opens p pt.view ids
     → GroupBalance p w ids (moving_in (h.of p)) (moving_in (g.of p))

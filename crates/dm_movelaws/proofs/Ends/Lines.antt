@@ -152,7 +152,6 @@ label_smooth p pt s (Label.NoSpace id a b) h is = hushed_smooth p pt.view (Line.
 label_smooth p pt s _ h is = smooth_same p pt.view
 
 -- a message of a migration that is no step of it
-
 pub line_smooth : (p : Pid) (pt : Point) (s : OneKernel) (l : Line) → Sane pt → QuietLine p pt.view l → kernel_after pt.kernel (label_of l) ≡ Some s → Smooth p pt.view (view_after pt.view l)
 line_smooth p pt s (Line.Idle m) h quiet is = smooth_same p pt.view
 line_smooth p pt s (Line.Label l) h quiet is = label_smooth p pt s l h is
@@ -220,6 +219,5 @@ line_still p pt (Line.Migration Stage.Asked q) quiet need = λ m. refl
 line_still p pt _ quiet need = absurd quiet
 
 -- a line for another process ends no request
-
 pub quiet_ends : (p : Pid) (v : View) (l : Line) (f : MsgId → Option Told) → QuietLine p v l → Extends v.told f → ends f p l ≡ false
 quiet_ends p v l f quiet ext = grind (arith, nat_tests)

@@ -107,9 +107,6 @@ pub record Silent (f : Line → Bool) : Type 0 where
   pub put : (a b : ℕ) (i : MsgId) (k : MessageKind) (q : Pid) → f (Line.Put a b i k q) ≡ false
   pub packet : (a b k : ℕ) (l : Load) → f (Line.Packet a b k l) ≡ false
 
-pub ends_silent : (g : MsgId → Option Told) (p : Pid) → Silent (ends g p)
-ends_silent g p = record { put = λ a b i k q. refl; packet = λ a b k l. refl }
-
 pub count-append : (f : Line → Bool) (xs ys : List Line) → count f (xs ++ ys) ≡ count f xs + count f ys
 count-append f [] ys = omega arith
 count-append f (x ∷ xs) ys = let h = count-append f xs ys in omega (arith, h)

@@ -19,9 +19,6 @@ CallSends p _ = ⊤
 unless_sends : (p : Pid) (x : PlainProcess) (o : Option Reply) (c : Called) → CallSends p c → CallSends p (calls.unless_refused o x c)
 unless_sends p x o c h = grind (arith, nat_tests)
 
-puts_link_sends : (p : Pid) (x : PlainProcess) (l : PlainLink) (o : Option ℕ) → CallSends p (calls.puts_link x l o)
-puts_link_sends p x l o = grind (arith, nat_tests)
-
 if_sends : (p : Pid) (b : Bool) (c d : Called) → CallSends p c → CallSends p d → CallSends p (if b then c else d)
 if_sends p b c d h k = grind (arith, nat_tests)
 
@@ -39,7 +36,7 @@ moves_sends : (p : Pid) (x : PlainProcess) (o : Option PlainLink) → CallSends 
 moves_sends p x o = grind (arith, nat_tests, moves_over_sends)
 
 does_call_sends : (p : Pid) (x : PlainProcess) (c : CallNumber) → CallSends p (calls.does_call p x c)
-does_call_sends p x c = grind (arith, nat_tests, unless_sends, puts_link_sends, drops_sends, sends_sends, if_sends, moves_sends)
+does_call_sends p x c = grind (arith, nat_tests, unless_sends, drops_sends, sends_sends, if_sends, moves_sends)
 
 -- and the next instruction
 abbrev NextSends : Pid → kernel.Trap → Type 0

@@ -78,7 +78,6 @@ pub other_says : (u : OneKernel) (x : PlainMessage) → other_end x x.what ≡ N
 other_says u x none h = put_says u x (λ q e. absurd (let f : None ≡ Some q = sym none ∙ e in cc)) h
 
 -- an answer says what its request said
-
 turns : (o : Option Life) (n : ℕ) (q : Pid) (v w : PlainWhat) → ((base left : ℕ) → Begins base left w) → Says o n q v → Says o n q w
 turns o n q v w f h = grind (arith, nat_tests)
 

@@ -116,9 +116,6 @@ made_ones r e s u t id m w is same up there asked answers h ones =
 
 -- what the manager sends is under its next number
 
-own_off : (sent n : ℕ) → n < sent → Off (id_of manager sent) n
-own_off sent n less = grind (arith, nat_tests)
-
 pending_some : (s : OneKernel) (n : ℕ) (o : Option Pending) → manage.pending_numbered n s.manager.pending ≡ o → is_some o ≡ true → ascends 0 s.manager.pending s.manager.sent ≡ true → n < s.manager.sent
 pending_some s n None is p up = absurd (false≢true p)
 pending_some s n (Some r) is p up = let k = (numbered_from s.manager.pending 0 s.manager.sent n r up is).1 in grind (arith, nat_tests)
@@ -132,7 +129,7 @@ took_at s u id i o same off put = grind (arith, nat_tests, out_off, sent_off)
 -- the manager takes a message: a request that was pending has what it had
 pub took_pair : (s : OneKernel) (id : MsgId) (k : manage.ManagerTook) (n : ℕ) → ServerSends manager s.manager.sent k.message k.manager.sent → ascends 0 s.manager.pending s.manager.sent ≡ true → is_pending s n ≡ true → Off id n → Ones s
     → Pair ((manager_took s id k).bag (id_of manager n)) ((manager_took s id k).bag (answer_of n))
-took_pair s id k n sends up p off h = grind (arith, nat_tests, pending_less, own_off, off_by, by_same, took_at)
+took_pair s id k n sends up p off h = grind (arith, nat_tests, pending_less, off_by, by_same, took_at)
 
 -- it asks for a process: the request is the new one's
 none_out : (s : OneKernel) (id i : MsgId) (c : Bool) → s.bag i ≡ None → (if c then None else s.bag i) ≡ None

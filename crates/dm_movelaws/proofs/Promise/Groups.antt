@@ -50,7 +50,6 @@ outcome_goes b o d ps j p q place h = by_outcome (λ e. Goes j (begun o e)) b o 
 })
 
 -- a head leaves the streams as they are
-
 head_fits : (o : Point) (d : Step) → PairsFit o.view → PairsFit (begun o d).view
 head_fits o d h = grind (arith, nat_tests)
 

@@ -1,6 +1,6 @@
 -- As long as no line gives a slot an address, its address doesn't come to know fewer moves; and what was told stays.
 use Rattle.dm_movelaws.proofs.Names.{◌≡◌, ℕ, ◌+◌, ◌≤◌, true, false, List, [], ◌∷◌, refl, ap, ◌∙◌, sym, subst, arith, Option, None, Some, nat_tests, Pid, Place, MsgId, MessageKind, Label, OneKernel, entry}
-use Rattle.dm_movelaws.proofs.Names.{reception, id_eq-is, after_step, Sound, bind-is, Line, View, Told, view_after, Addresses, Holder, Slot, Gets, given, gives, all_follow, first_gives, own_gives, leads_to}
+use Rattle.dm_movelaws.proofs.Names.{reception, id_eq-is, after_step, Sound, bind-is, Line, View, Told, view_after, Addresses, Holder, Slot, Gets, given, gives, all_follow, first_gives, leads_to}
 use Rattle.dm_movelaws.proofs.Names.{updated, addresses_after, ascends, Point, label_of, kernel_after, after_line, after, moved, hushed, put_at, put_told_off, gives_to, fills, Unfilled, first_kept}
 use Rattle.dm_movelaws.proofs.Promise.Before.{not_given, step_pending, led_before}
 use Rattle.dm_rule.specs.View as view
@@ -21,9 +21,6 @@ follow_spares : (v : View) (a : Addresses) (r : Pid) (ids : List MsgId) (p : Pid
 follow_spares v a r [] p k = refl
 follow_spares v a r (i ∷ is) p k = follow_spares v a r is p k
 
-own_spares : (s : OneKernel) (v : View) (a : Addresses) (id : MsgId) (q : Pid) (c : MessageKind) (p : Pid) (k : ℕ) → gives_to (Slot p k) (own_gives s v a id q c) ≡ false
-own_spares s v a id q c p k = grind (arith, nat_tests)
-
 first_spares : (o : Option Told) (gs : List Gets) (p : Pid) (k : ℕ) → gives_to (Slot p k) gs ≡ false → gives_to (Slot p k) (first_gives o gs) ≡ false
 first_spares o gs p k e = grind (arith, nat_tests)
 
@@ -31,7 +28,7 @@ told_grows : (s : OneKernel) (v : View) (a : Addresses) (o : Option Told) (h : H
 told_grows s v a o h = grind (arith, nat_tests)
 
 moves_grow : (pt : Point) (l : Line) (p : Pid) (k : ℕ) → fills pt (Slot p k) l ≡ false → (pt.addresses (Slot p k)).moves ≤ (addresses_after pt.kernel pt.view pt.addresses l (Slot p k)).moves
-moves_grow pt l p k e = grind (arith, nat_tests, same_address, follow_spares, told_grows, first_spares, own_spares)
+moves_grow pt l p k e = grind (arith, nat_tests, same_address, follow_spares, told_grows, first_spares)
 
 -- what each line needs of the kernel, and keeps
 pub record Grounds (s : OneKernel) : Type 0 where

@@ -1,8 +1,7 @@
 -- Which holders a label gives an address to doesn't rest on the addresses that there are.
-use Rattle.dm_movelaws.proofs.Names.{◌≡◌, ℕ, ◌+◌, Bool, List, [], ◌∷◌, ◌++◌, map, refl, ap, ◌∙◌, sym, ◌||◌, if◌then◌else◌, Option, Pid, Place, PlainLink, first_empty, MsgId, PlainMessage, PlainWhat, Label, PlainProcess}
+use Rattle.dm_movelaws.proofs.Names.{◌≡◌, ℕ, ◌+◌, Bool, List, [], ◌∷◌, ◌++◌, map, refl, ap, ◌∙◌, sym, ◌||◌, Option, Pid, Place, PlainLink, first_empty, MsgId, PlainMessage, PlainWhat, Label, PlainProcess}
 use Rattle.dm_movelaws.proofs.Names.{OneKernel, View, Addresses, Holder, Slot, Enclosed, Gets, gives, holder_eq, encloses, enclosed_from, sends_what, receives_links, receives_what, slot_after}
-use Rattle.dm_movelaws.proofs.Names.{child_links, creates_what, manager_tells, manager_sends, gives_to, landing_gets, manager_gets, nat_tests, arith}
-use Rattle.dm_onekernel.specs.Pieces as pieces
+use Rattle.dm_movelaws.proofs.Names.{child_links, creates_what, manager_tells, manager_sends, gives_to, manager_gets, nat_tests, arith}
 use Rattle.dm_onekernel.specs.Manager as manage
 use Rattle.dm_onekernel.specs.Step as kernel
 use Rattle.dm_rule.specs.Addresses as addresses
@@ -64,9 +63,6 @@ receives_same : (a b : Addresses) (p : Pid) (id : MsgId) (o : Option PlainProces
 receives_same a b p id o m = grind (arith, nat_tests, receives_what_same)
 
 -- messages that are served
-lands_same : (v w : View) (a b : Addresses) (p : Pid) (o : Option pieces.Landed) → holders (landing_gets v a p o) ≡ holders (landing_gets w b p o)
-lands_same v w a b p o = grind (arith, nat_tests)
-
 serves_same : (s : OneKernel) (v w : View) (a b : Addresses) (id : MsgId) (o : Option PlainMessage) → holders (addresses.service_gets s v a id o) ≡ holders (addresses.service_gets s w b id o)
 serves_same s v w a b id o = grind (arith, nat_tests)
 
@@ -82,7 +78,6 @@ creates_same : (v w : View) (a b : Addresses) (id : MsgId) (child : Pid) (o : Op
 creates_same v w a b id child o = grind (arith, nat_tests, creates_what_same)
 
 -- servers
-
 tells_same : (v w : View) (a b : Addresses) (id : MsgId) (code : ℕ) (sent : PlainMessage) (u : PlainWhat) → holders (manager_tells v a id code sent u) ≡ holders (manager_tells w b id code sent u)
 tells_same v w a b id code sent u = grind (arith, nat_tests, enclosed_same)
 
@@ -92,11 +87,8 @@ manager_sends_same v w a b id code o = grind (arith, nat_tests, tells_same)
 manager_takes_same : (s : OneKernel) (v w : View) (a b : Addresses) (m : PlainMessage) (u : PlainWhat) (o : Option manage.ManagerTook) → holders (manager_gets s v a m u o) ≡ holders (manager_gets s w b m u o)
 manager_takes_same s v w a b m u o = grind (arith, nat_tests, manager_sends_same)
 
-either_same : (c : Bool) (xs ys zs ws : List Gets) → holders xs ≡ holders ys → holders zs ≡ holders ws → holders (if c then xs else zs) ≡ holders (if c then ys else ws)
-either_same c xs ys zs ws e f = grind (arith, nat_tests)
-
 takes_same : (s : OneKernel) (v w : View) (a b : Addresses) (id : MsgId) (o : Option PlainMessage) → holders (addresses.taking_gets s v a id o) ≡ holders (addresses.taking_gets s w b id o)
-takes_same s v w a b id o = grind (arith, nat_tests, either_same, manager_takes_same)
+takes_same s v w a b id o = grind (arith, nat_tests, manager_takes_same)
 
 -- a row a label
 pub gives_same : (s : OneKernel) (v w : View) (a b : Addresses) (l : Label) → holders (gives s v a l) ≡ holders (gives s w b l)

@@ -26,7 +26,6 @@ core_real b pt q run h = elim h [
 ]
 
 -- whose number a sender counts
-
 counted_by : (s : OneKernel) (i : MsgId) (c d : Bool) → pid_eq i.from switchboard ≡ c → pid_eq i.from manager ≡ d → (if c then nat_lt i.n s.switchboard.sent else if d then nat_lt i.n s.manager.sent else is_counted i.n (s.processes i.from)) ≡ true → IsReal s i.from
 counted_by s i c d x y e = grind (arith, nat_tests)
 

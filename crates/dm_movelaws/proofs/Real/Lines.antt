@@ -237,7 +237,6 @@ line_reals o pt t l known need is sane h =
     }
 
 -- a put
-
 abbrev put_of : View → MessageKind → Pid → Told
 put_of v k q = record { kind = k; receiver = q; about = v.topic }
 

@@ -9,15 +9,13 @@ use Rattle.dm_movelaws.proofs.Routed.Steps.{has_sent, is_sent}
 use Rattle.dm_movelaws.proofs.Ends.Open.{shorter as without_length}
 
 -- before the first line nobody has sent
-none_less : (n : ℕ) → nat_lt n 0 ≡ false
-none_less n = grind (arith, nat_tests)
 
 life_sent : (b : Boot) (ps : List BootProcess) (q : Pid) (n : ℕ) → has_sent n (life_at b ps q) ≡ false
 life_sent b [] q n = refl
 life_sent b (p ∷ ps) q n = grind (arith, nat_tests, life_sent b ps q n)
 
 start_told : (b : Boot) → AllTold (first_point b)
-start_told b i ask sent = grind (arith, nat_tests, none_less, life_sent)
+start_told b i ask sent = grind (arith, nat_tests, life_sent)
 
 -- what was told of was put
 put_at : (v : View) (l : Line) (i : MsgId) (ids : List MsgId) → IsTold (view_after v l) i → IsTold v i ⊎ (1 ≤ times i (with_put l ids))

@@ -1,5 +1,5 @@
 -- What a process or a server says of a kernel's own message leaves all migrations as they are, or freezes the process.
-use Rattle.dm_movelaws.proofs.Names.{◌≡◌, ℕ, List, [], ◌∷◌, refl, subst, Some, Pid, MsgId, MessageKind, Line, Stage, Told, Known, Here, target_of, Point, Part, Says, to_kernel, forwards_on}
+use Rattle.dm_movelaws.proofs.Names.{◌≡◌, ℕ, List, [], ◌∷◌, refl, Some, Pid, MsgId, MessageKind, Line, Stage, Told, Known, Here, target_of, Point, Part, Says, to_kernel, forwards_on}
 use Rattle.dm_movelaws.proofs.Names.{process_told, server_told, Option, plain_kind, PlainMessage, Boot, goes_round, handles, Addresses, Loose, loose_round, loose_handles, by_forwards, nat_tests, arith}
 use Rattle.dm_movelaws.proofs.Stages.Lines.{AllMild}
 
@@ -25,11 +25,8 @@ pub data Hears (k : Known) (id : MsgId) (t : Told) (ps : List Part) : Type 0 whe
   Calms : ((me : Pid) → AllMild me (Some id) ps) → Hears k id t ps
   Freezes : k ≡ Here → ps ≡ freezes t.receiver (target_of (Some t)) → Hears k id t ps
 
-rests : (k : Known) (id : MsgId) (t : Told) (qs ps : List Part) → ((me : Pid) → AllMild me (Some id) qs) → Some qs ≡ Some ps → Hears k id t ps
-rests k id t qs ps h e = let f : qs ≡ ps = cc in Calms (λ me. subst (AllMild me (Some id)) f (h me))
-
 pub server_mild : (o : Point) (id : MsgId) (t : Told) (k : MessageKind) (ps : List Part) → server_told o id t k ≡ Some ps → (me : Pid) → AllMild me (Some id) ps
 server_mild o id t k ps e me = grind (arith, nat_tests)
 
 pub process_hears : (o : Point) (m : ℕ) (id : MsgId) (t : Told) (k : Known) (ps : List Part) → process_told o m id t k ≡ Some ps → Hears k id t ps
-process_hears o m id t k ps e = grind (arith, nat_tests, rests, forwards_mild)
+process_hears o m id t k ps e = grind (arith, nat_tests, forwards_mild)

@@ -125,7 +125,6 @@ places_held v w t p x known moves held had h =
     (λ learnt. placed_held v w t p x learnt (same p) held ((h p).now v.acting had) ((h p).long v.acting had) (h p))
 
 -- what the phase of a process that moves says
-
 held_by : (k : MessageKind) (s d m : ℕ) (x : Known) (b c : Bool) → (s == m) ≡ b → (if b then kind_leaves k d x else if c then kind_comes k s x else is_away x) ≡ true → is_held x ≡ true → (s ≡ m) × (is_restart k ≡ false)
 held_by k s d m x b c is e h = grind (arith, nat_tests, eq_is)
 

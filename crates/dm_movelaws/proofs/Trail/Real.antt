@@ -130,7 +130,6 @@ passing_loud = record {
 }
 
 -- at the start no process leaves
-
 passing_start : (b : Boot) → Passing (first_point b).kernel (first_point b).view
 passing_start b = grind (arith, nat_tests, start_known, no_place)
 

@@ -156,7 +156,6 @@ address : (s : OneKernel) (v w : View) (a : Addresses) (id : MsgId) (t : Told) (
 address s v w a id t p at_ h same told about = search
 
 -- whether an address is behind
-
 three : (a b c : Bool) → (a && (b && c)) ≡ true → (a ≡ true) × (b ≡ true) × (c ≡ true)
 three a b c e = grind (arith, nat_tests)
 
@@ -164,7 +163,6 @@ behind_is : (s : OneKernel) (a : Addresses) (q p : Pid) (c : ℕ) (h : Holder) (
 behind_is s a q p c h x mine leads e = grind (arith, nat_tests)
 
 -- an ended process has no links
-
 count_is : (s : OneKernel) (v : View) (a : Addresses) (t : Told) (p : Pid) (at_ : Place) (m n : ℕ) → t.about ≡ view.Place p at_.at at_.moves → KnownStands s v
     → (n ≡ behind_count s a t.receiver (place_told t.about)) ⊎ ((n ≡ 0) × (is_server t.receiver ≡ false) × (v.known m t.receiver ≡ Ended))
     → behind_among (is_behind s a t.receiver p at_.moves) (holders_of s t.receiver) ≡ n
