@@ -1,8 +1,8 @@
 -- Where parts lead: what holds behind the lines that they say, behind the puts of their messages, and still behind packets, holds where they lead.
-use Rattle.dm_movelaws.proofs.Names.{◌≡◌, ℕ, ◌==◌, Bool, true, false, List, [], ◌∷◌, length, refl, ap, ◌∙◌, subst, ⊤, if◌then◌else◌, Some, Pid, MsgId, MessageKind, plain_kind, PlainMessage, OneKernel, bind-is, Line, Load, Told}
-use Rattle.dm_movelaws.proofs.Names.{own_id, Receiver, Point, label_of, kernel_after, moved, after, Part, Says, Routes, Again, Owns, Transmits, Spelled, puts, goes_out, packet_line, spelled, Steps, said_by, PacketsKeep, by_parts}
-use Rattle.dm_movelaws.proofs.Names.{AllSayable, Sayable, Sane, part_sane, lines_of, IsNetLine, IsNet, by_net, touches, Pair, AllFit, Boot, Step, turns_fit, resends_net, arrives_net, slice_get, migrates, migrates_fit, bind, behind, ◌++◌}
-use Rattle.dm_movelaws.proofs.Names.{nat_tests, arith}
+use Rattle.dm_movelaws.proofs.Names.{◌≡◌, ℕ, ◌==◌, Bool, true, false, List, [], ◌∷◌, length, refl, ap, ◌∙◌, subst, ⊤, if◌then◌else◌, Some, Pid, MsgId, MessageKind, plain_kind, PlainMessage, OneKernel, bind-is, Line, Load, Told, own_id}
+use Rattle.dm_movelaws.proofs.Names.{Receiver, Point, label_of, kernel_after, moved, after, Part, Says, Routes, Again, Owns, Transmits, Spelled, puts, goes_out, packet_line, spelled, Steps, said_by, PacketsKeep, by_parts, AllSayable}
+use Rattle.dm_movelaws.proofs.Names.{Sayable, Sane, part_sane, lines_of, IsNetLine, IsNet, by_net, touches, Pair, AllFit, Boot, Step, turns_fit, resends_net, arrives_net, slice_get, migrates, migrates_fit, bind, behind, ◌++◌, nat_tests}
+use Rattle.dm_movelaws.proofs.Names.{arith}
 use Rattle.dm_rule.specs.Rule as rule
 
 -- a put and its packet

@@ -1,7 +1,7 @@
 -- Where a process has ended nothing comes to its queue: each group keeps it.
-use Rattle.dm_movelaws.proofs.Names.{◌≡◌, ℕ, ◌+◌, Bool, true, false, List, [], ◌∷◌, ◌++◌, refl, ap, ◌∙◌, sym, subst, false≢true, Option, None, Some, Pid, MsgId, Boot, Label, Line, Stage, PlainProcess, Life, Alive, OneKernel}
-use Rattle.dm_movelaws.proofs.Names.{Step, LifeGrows, after_step, Spelled, is_away, Point, kernel_after, label_of, group_of, at_record, without_id, without_front, View, Told, Known, Unknown, Here, Frozen, Incoming, Ended, handled}
-use Rattle.dm_movelaws.proofs.Names.{receiver_of, served_told, view_after, target_of, front_told, front_of, gone_to, Phased, Sane, KnownStands, group_keeps, Loud, keeps_by, set_all, killed_or, nat_tests, arith}
+use Rattle.dm_movelaws.proofs.Names.{◌≡◌, ℕ, ◌+◌, Bool, true, false, List, [], ◌∷◌, ◌++◌, refl, ap, ◌∙◌, sym, subst, false≢true, Option, None, Some, Pid, MsgId, Boot, Label, Line, Stage, PlainProcess, Life, Alive, OneKernel, Step}
+use Rattle.dm_movelaws.proofs.Names.{LifeGrows, after_step, Spelled, is_away, Point, kernel_after, label_of, group_of, at_record, without_id, without_front, View, Told, Known, Unknown, Here, Frozen, Incoming, Ended, handled, receiver_of}
+use Rattle.dm_movelaws.proofs.Names.{served_told, view_after, target_of, front_told, front_of, gone_to, Phased, Sane, KnownStands, group_keeps, Loud, keeps_by, set_all, killed_or, nat_tests, arith}
 use Rattle.dm_onekernel.specs.Step as kernel
 use Rattle.dm_rule.specs.View as view
 
@@ -113,7 +113,6 @@ loud before = record {
 }
 
 -- where a group begins
-
 pub dead_by : (s : OneKernel) (v : View) (n : ℕ) (q : Pid) → KnownStands s v → v.known n q ≡ Ended → is_dead (s.processes q) ≡ true
 dead_by s v n q h e = grind (arith, nat_tests)
 

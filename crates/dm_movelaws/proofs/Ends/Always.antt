@@ -1,7 +1,6 @@
 -- Wherever the rule leads, each directive to move a process has at most one end, and one where nothing is on its way.
-use Rattle.dm_movelaws.proofs.Names.{◌≡◌, ℕ, ◌+◌, List, [], ◌∷◌, length, refl, ap, subst, arith, Pid, MsgId, Boot, IsValid, Step}
-use Rattle.dm_movelaws.proofs.Names.{Line, IsStep, Point, first_point, IsQuiet, first_view, fits, LeadsBy, Both, both_start, both_group, run_start, run_group, asks, ends, count, EndsAlways}
-use Rattle.dm_movelaws.proofs.Names.{nat_tests}
+use Rattle.dm_movelaws.proofs.Names.{◌≡◌, ℕ, ◌+◌, List, [], ◌∷◌, length, refl, ap, subst, arith, Pid, MsgId, Boot, IsValid, Step, Line, IsStep, Point, first_point, IsQuiet, first_view, fits, LeadsBy, Both, both_start, both_group, run_start}
+use Rattle.dm_movelaws.proofs.Names.{run_group, asks, ends, count, EndsAlways, nat_tests}
 use Rattle.dm_movelaws.proofs.Ends.Lines.{Extends}
 use Rattle.dm_movelaws.proofs.Ends.Moving.{moving_in, waits_or}
 use Rattle.dm_movelaws.proofs.Ends.Open.{Opens}

@@ -1,7 +1,6 @@
 -- A process moves where some machine waits for it to leave or to come.
-use Rattle.dm_movelaws.proofs.Names.{◌≡◌, ◌⊎◌, ℕ, ◌==◌, ◌&&◌, Bool, true, false, not, refl, ap, ◌∙◌, sym, inl, inr, if◌then◌else◌, Option, false≢true, Pid, MsgId, MessageKind, View, Known, Here, Phase}
-use Rattle.dm_movelaws.proofs.Names.{Nowhere, Rests, Over, Moves, knows, kind_comes, is_away, is_unknown, is_here, is_over, is_restart, is_early, is_between, IsIn, parts, InPhases, rests_here, is_moving, source_knows, kind_leaves}
-use Rattle.dm_movelaws.proofs.Names.{nat_tests, arith}
+use Rattle.dm_movelaws.proofs.Names.{◌≡◌, ◌⊎◌, ℕ, ◌==◌, ◌&&◌, Bool, true, false, not, refl, ap, ◌∙◌, sym, inl, inr, if◌then◌else◌, Option, false≢true, Pid, MsgId, MessageKind, View, Known, Here, Phase, Nowhere, Rests, Over, Moves, knows}
+use Rattle.dm_movelaws.proofs.Names.{kind_comes, is_away, is_unknown, is_here, is_over, is_restart, is_early, is_between, IsIn, parts, InPhases, rests_here, is_moving, source_knows, kind_leaves, nat_tests, arith}
 use Rattle.dm_movelaws.proofs.Ends.Lines.{Still}
 use Rattle.dm_movelaws.proofs.Stages.Spares.{restart_late}
 pub use Rattle.dm_rulelaws.proofs.Goes.Own.{destination_knows as knows_target}

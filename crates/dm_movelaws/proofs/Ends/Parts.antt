@@ -1,8 +1,8 @@
 -- Parts that leave all requests to move a process where they stand, and end none; and the lines of parts, counted.
-use Rattle.dm_movelaws.proofs.Names.{◌≡◌, ℕ, ◌+◌, ◌&&◌, Bool, false, List, [], ◌∷◌, ◌++◌, refl, ap, ◌∙◌, sym, subst, arith, ⊤, if◌then◌else◌, Option, None, Some, Pid, pid_eq, MsgId, MessageKind, plain_kind, Line, Load, View}
-use Rattle.dm_movelaws.proofs.Names.{Told, view_after, own_id, after_put, Point, Part, Says, Routes, Again, Owns, Transmits, Spelled, lines_of, spelled, touches, pair_same, PairsFit, put_told_off, fits_as, fits_put, fits_packet}
-use Rattle.dm_movelaws.proofs.Names.{Sane, Sayable, part_sane, put_spots, put_at, Needs, NeedsPart, Walks, Steps, asks, ends, count, packet_off, by_parts, PacketsKeep, OneKernel, label_of, kernel_after, nat_tests, PlainMessage}
-use Rattle.dm_movelaws.proofs.Names.{Boot, Loose, loose_round, loose_handles, by_forwards, goes_round, handles}
+use Rattle.dm_movelaws.proofs.Names.{◌≡◌, ℕ, ◌+◌, ◌&&◌, Bool, false, List, [], ◌∷◌, ◌++◌, refl, ap, ◌∙◌, sym, subst, arith, ⊤, if◌then◌else◌, Option, None, Some, Pid, pid_eq, MsgId, MessageKind, plain_kind, Line, Load, View, Told}
+use Rattle.dm_movelaws.proofs.Names.{view_after, own_id, after_put, Point, Part, Says, Routes, Again, Owns, Transmits, Spelled, lines_of, spelled, touches, pair_same, PairsFit, put_told_off, fits_as, fits_put, fits_packet, Sane, Sayable}
+use Rattle.dm_movelaws.proofs.Names.{part_sane, put_spots, put_at, Needs, NeedsPart, Walks, Steps, asks, ends, count, packet_off, by_parts, PacketsKeep, OneKernel, label_of, kernel_after, nat_tests, PlainMessage, Boot, Loose, loose_round}
+use Rattle.dm_movelaws.proofs.Names.{loose_handles, by_forwards, goes_round, handles}
 use Rattle.dm_movelaws.proofs.Ends.Lines.{asks_for, is_migrate, plain_not, Extends, Smooth, Still, Plain, smooth_same, smooth_trans, smooth_others, moves_none, plain_in_bag, own_untold, Tame, QuietLine, tame_plain, line_smooth}
 use Rattle.dm_movelaws.proofs.Ends.Lines.{still_same, still_trans, line_still, quiet_ends}
 use Rattle.dm_movelaws.proofs.Leading.{All, Behind, part_leads, lines_are}

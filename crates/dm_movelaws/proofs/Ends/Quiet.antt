@@ -1,7 +1,7 @@
 -- Where nothing is on its way between machines, no kernel's own message stands anywhere, and no process moves.
-use Rattle.dm_movelaws.proofs.Names.{◌≡◌, ◌⊎◌, ℕ, ◌<◌, ◌≤◌, Bool, true, false, List, [], ◌∷◌, drop, length, refl, ap, ◌∙◌, sym, subst, inl, inr, arith, Option, None, Some, false≢true, nat_tests, drop-length, Pid, MsgId}
-use Rattle.dm_movelaws.proofs.Names.{PlainMessage, Boot, Phase, Moves, is_due, IsIn, sender_in, receiver_in, told_between, Point, IsQuiet, Spot, Queue, Held, Inbox, Untaken, times, untaken, standing, View, Told, is_kernels, letters}
-use Rattle.dm_movelaws.proofs.Names.{kernels_fresh, under_way, kernels_by, between_of, Run, is_moving, not_true, times_self}
+use Rattle.dm_movelaws.proofs.Names.{◌≡◌, ◌⊎◌, ℕ, ◌<◌, ◌≤◌, Bool, true, false, List, [], ◌∷◌, drop, length, refl, ap, ◌∙◌, sym, subst, inl, inr, arith, Option, None, Some, false≢true, nat_tests, drop-length, Pid, MsgId, PlainMessage, Boot}
+use Rattle.dm_movelaws.proofs.Names.{Phase, Moves, is_due, IsIn, sender_in, receiver_in, told_between, Point, IsQuiet, Spot, Queue, Held, Inbox, Untaken, times, untaken, standing, View, Told, is_kernels, letters, kernels_fresh, under_way}
+use Rattle.dm_movelaws.proofs.Names.{kernels_by, between_of, Run, is_moving, not_true, times_self}
 use Rattle.dm_movelaws.proofs.Ends.Lines.{plain_in_bag}
 use Rattle.dm_movelaws.proofs.Ends.Moving.{moving_in, waits_moves}
 use Rattle.dm_movelaws.proofs.Ends.Open.{IsOpen, Opens}

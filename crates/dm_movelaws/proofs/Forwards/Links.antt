@@ -1,7 +1,6 @@
 -- Where all is at rest, a process that was told of a forward has links that lead to where the other is.
-use Rattle.dm_movelaws.proofs.Names.{◌≡◌, ◌≢◌, ℕ, ◌+◌, ◌<◌, ◌≤◌, true, false, List, [], ◌∷◌, ◌++◌, is_some, refl, ap, ◌∙◌, sym, subst, arith, slice_get, slice_get_within, Some, Pid, Place, MsgId, Boot}
-use Rattle.dm_movelaws.proofs.Names.{OneKernel, receptions, reached, Sound, Step, IsStep, Leads, Point, first_point, labels, Trails, View, Unknown, Forward, actor, is_server, KnownStands, group_replay, run_always, AtRest}
-use Rattle.dm_movelaws.proofs.Names.{IsThere, CountsPromise, update_of, IsUnderWay, nat_tests}
+use Rattle.dm_movelaws.proofs.Names.{◌≡◌, ◌≢◌, ℕ, ◌+◌, ◌<◌, ◌≤◌, true, false, List, [], ◌∷◌, ◌++◌, is_some, refl, ap, ◌∙◌, sym, subst, arith, slice_get, slice_get_within, Some, Pid, Place, MsgId, Boot, OneKernel, receptions, reached, Sound}
+use Rattle.dm_movelaws.proofs.Names.{Step, IsStep, Leads, Point, first_point, labels, Trails, View, Unknown, Forward, actor, is_server, KnownStands, group_replay, run_always, AtRest, IsThere, CountsPromise, update_of, IsUnderWay, nat_tests}
 use Rattle.dm_movelaws.proofs.At.RestAlways.{at_rest_always}
 use Rattle.dm_movelaws.proofs.Forwards.Told.{forwards_tell}
 use Rattle.dm_movelaws.proofs.Promise.Always.{promises_always, same_some}

@@ -1,9 +1,9 @@
 -- Where a group that sends a message on leads: the update for its sender is under way.
-use Rattle.dm_movelaws.proofs.Names.{◌≡◌, ℕ, Bool, true, List, [], ◌∷◌, ◌++◌, refl, ap, ◌∙◌, sym, subst, if◌then◌else◌, None, Some, Pid, Place, MsgId, MessageKind, plain_kind, PlainMessage, PlainWhat, Boot, manager, Step, Line}
-use Rattle.dm_movelaws.proofs.Names.{Sender, is_told_back, Part, Says, Again, Owns, Spelled, lines_of, spelled, Point, View, Told, About, Forward, own_id, handled, receiver_of, actor, view_after, fits, fits_put, fits_packet, pair_same}
-use Rattle.dm_movelaws.proofs.Names.{put_at, fits_as, PairsFit, Sane, part_sane, Steps, begun, begun_sane, said_by, again_rides, again_same, own_fresh, front, Run, Tells, ForwardsTell, RequestsTell, update_of, IsUnderWay, run_always}
-use Rattle.dm_movelaws.proofs.Names.{last_point, first_none, forwarded_own, GroupIs, group_is, by_parts, Addresses, forwards_on, sends_on, migrates, IsNetLine, IsNet, by_migrates, Loose, loose_round, loose_handles, by_forwards, by_net}
-use Rattle.dm_movelaws.proofs.Names.{by_outcome, by_hears, nat_tests, arith}
+use Rattle.dm_movelaws.proofs.Names.{◌≡◌, ℕ, Bool, true, List, [], ◌∷◌, ◌++◌, refl, ap, ◌∙◌, sym, subst, if◌then◌else◌, None, Some, Pid, Place, MsgId, MessageKind, plain_kind, PlainMessage, PlainWhat, Boot, manager, Step, Line, Sender}
+use Rattle.dm_movelaws.proofs.Names.{is_told_back, Part, Says, Again, Owns, Spelled, lines_of, spelled, Point, View, Told, About, Forward, own_id, handled, receiver_of, actor, view_after, fits, fits_put, fits_packet, pair_same, put_at}
+use Rattle.dm_movelaws.proofs.Names.{fits_as, PairsFit, Sane, part_sane, Steps, begun, begun_sane, said_by, again_rides, again_same, own_fresh, front, Run, Tells, ForwardsTell, RequestsTell, update_of, IsUnderWay, run_always, last_point}
+use Rattle.dm_movelaws.proofs.Names.{first_none, forwarded_own, GroupIs, group_is, by_parts, Addresses, forwards_on, sends_on, migrates, IsNetLine, IsNet, by_migrates, Loose, loose_round, loose_handles, by_forwards, by_net, by_outcome}
+use Rattle.dm_movelaws.proofs.Names.{by_hears, nat_tests, arith}
 use Rattle.dm_movelaws.proofs.Leading.{next_of, puts_lead, lines_are}
 use Rattle.dm_movelaws.proofs.Promise.Spots.{Stands, put_this, packet_stands}
 use Rattle.dm_rule.specs.View as view
@@ -124,7 +124,6 @@ sent_append [] ys = refl
 sent_append (x ∷ xs) ys = ap (with_forward x) (sent_append xs ys) ∙ with_append x (sent_on xs) (sent_on ys)
 
 -- those of a group's lines are those of its parts
-
 part_sends : (pt : Point) (p : Part) (ls : List Line) (fs : List Onward) → lines_of pt p ≡ Some ls → sent_on ls ++ fs ≡ part_forwards p fs
 part_sends pt p ls fs is = grind (arith, nat_tests, lines_are, with_append)
 

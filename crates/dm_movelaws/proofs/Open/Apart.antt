@@ -1,9 +1,9 @@
 -- Each line of a group leaves a process that moves alone, where it stands.
 use Rattle.dm_movelaws.proofs.Names.{◌≡◌, ◌≢◌, ℕ, ◌+◌, ◌==◌, Bool, true, false, List, [], ◌∷◌, ◌++◌, refl, ap, ◌∙◌, sym, subst, ⊤, Option, Some, false≢true, Pid, pid_of, MsgId, MessageKind, PlainMessage, Boot, Label, Why, first_number}
-use Rattle.dm_movelaws.proofs.Names.{OneKernel, bind, bind-is, Step, Line, Spares, migrates, Part, Spelled, lines_of, spelled, Moves, knows, IsIn, Point, label_of, kernel_after, moved, after_line, after, group_of, Here}
-use Rattle.dm_movelaws.proofs.Names.{SparesPart, FirstApart, ApartOf, apart_first, turns_apart, net_apart, migrates_apart, arrives_net, resends_net, Rooted, nowhere_known, moves_away, is_fixed, IsAnothersIf, moves_known}
-use Rattle.dm_movelaws.proofs.Names.{by_parts, by_group, is_some, IsValid, start, replay, ended_stays, Phase, is_between, is_restart, is_early, kind_comes, first_point, labels, Known}
-use Rattle.dm_movelaws.proofs.Names.{moving_stays_always, is_server, agrees, LeadsBy, after_replay, Run, run_always, mark_while, IsSpared, OpenSpares, apart_is, destination_knows, server_leaves, why_ended-is, kind_leaves, nat_tests, arith}
+use Rattle.dm_movelaws.proofs.Names.{OneKernel, bind, bind-is, Step, Line, Spares, migrates, Part, Spelled, lines_of, spelled, Moves, knows, IsIn, Point, label_of, kernel_after, moved, after_line, after, group_of, Here, SparesPart}
+use Rattle.dm_movelaws.proofs.Names.{FirstApart, ApartOf, apart_first, turns_apart, net_apart, migrates_apart, arrives_net, resends_net, Rooted, nowhere_known, moves_away, is_fixed, IsAnothersIf, moves_known, by_parts, by_group, is_some}
+use Rattle.dm_movelaws.proofs.Names.{IsValid, start, replay, ended_stays, Phase, is_between, is_restart, is_early, kind_comes, first_point, labels, Known, moving_stays_always, is_server, agrees, LeadsBy, after_replay, Run, run_always}
+use Rattle.dm_movelaws.proofs.Names.{mark_while, IsSpared, OpenSpares, apart_is, destination_knows, server_leaves, why_ended-is, kind_leaves, nat_tests, arith}
 use Rattle.dm_onekernel.specs.Kernel.{Ended}
 use Rattle.dm_movelaws.proofs.Leading.{lines_are}
 use Rattle.dm_movelaws.proofs.After.{after-append, group_after}
@@ -135,6 +135,5 @@ alone_rest y (x ∷ xs) ys pt mid h e =
     record { rest = k.rest; same = k.same ∙ sym (ap (λ (q : Point). q.kernel.processes y) f) ∙ kernel_same pt.kernel s y (label_of x) h.0 is }
 
 -- a step that spares a living process takes no message for it
-
 pub anothers_if : (s t : OneKernel) (y : Pid) (o : Option Label) → is_fixed y ≡ false → ((z : Why) → s.processes y ≡ Some (Ended z) → ⊥) → Spares s y o → kernel_after s o ≡ Some t → IsAnothersIf s y o
 anothers_if s t y o free lives h e = grind (arith, nat_tests)

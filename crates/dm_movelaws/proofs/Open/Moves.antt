@@ -1,6 +1,6 @@
 -- The open mark among the lines of a run says in what phase a process is.
-use Rattle.dm_movelaws.proofs.Names.{◌≡◌, List, [], ◌∷◌, refl, ap, ◌∙◌, sym, subst, Option, None, Some, Pid, Boot, Step, Line, Leads, Phase, Point, first_point, after, first_view, Phased, phased_start, phased_group, LeadsBy}
-use Rattle.dm_movelaws.proofs.Names.{Mark, marks, left_open, open_mark, mark_while, OpenMoves, nat_tests, arith}
+use Rattle.dm_movelaws.proofs.Names.{◌≡◌, List, [], ◌∷◌, refl, ap, ◌∙◌, sym, subst, Option, None, Some, Pid, Boot, Step, Line, Leads, Phase, Point, first_point, after, first_view, Phased, phased_start, phased_group, LeadsBy, Mark, marks}
+use Rattle.dm_movelaws.proofs.Names.{left_open, open_mark, mark_while, OpenMoves, nat_tests, arith}
 use Rattle.dm_movelaws.proofs.After.{after-append, group_after}
 use Rattle.dm_movelaws.proofs.Stages.Marks.{open_after, open-append, marks-append}
 use Rattle.dm_movelaws.proofs.Stages.Spares.{mark_in}

@@ -1,6 +1,6 @@
 -- A group that marks a process says no label.
-use Rattle.dm_movelaws.proofs.Names.{◌≡◌, ◌⊎◌, ℕ, Bool, List, [], ◌∷◌, ◌++◌, refl, ◌∙◌, inl, inr, ⊤, if◌then◌else◌, Option, None, Some, Pid, MsgId, MessageKind, Boot, Step, Line, process_told, server_told, migrates, Part}
-use Rattle.dm_movelaws.proofs.Names.{Spelled, lines_of, spelled, Point, label_of, group_of, Told, About, marks, by_migrates, IsHeardLine, kernel_kept, by_parts, by_group, by_outcome, moved, nat_tests, arith}
+use Rattle.dm_movelaws.proofs.Names.{◌≡◌, ◌⊎◌, ℕ, Bool, List, [], ◌∷◌, ◌++◌, refl, ◌∙◌, inl, inr, ⊤, if◌then◌else◌, Option, None, Some, Pid, MsgId, MessageKind, Boot, Step, Line, process_told, server_told, migrates, Part, Spelled, lines_of}
+use Rattle.dm_movelaws.proofs.Names.{spelled, Point, label_of, group_of, Told, About, marks, by_migrates, IsHeardLine, kernel_kept, by_parts, by_group, by_outcome, moved, nat_tests, arith}
 use Rattle.dm_movelaws.proofs.Stages.Marks.{marks_of, spelled_marks}
 use Rattle.dm_movelaws.proofs.Stages.Lines.{AllMild, mild_marks, net_marks}
 use Rattle.dm_movelaws.proofs.Stages.Hears.{round_mild, handles_mild, server_mild, process_hears}

@@ -1,8 +1,8 @@
 -- Wherever the rule leads, each pending request of the manager's has one message under its number.
 use Rattle.dm_movelaws.proofs.Names.{◌≡◌, ◌⊎◌, ℕ, ◌+◌, ◌<◌, ◌≤◌, ◌==◌, Bool, true, false, List, [], ◌∷◌, ◌++◌, length, is_some, refl, ap, ◌∙◌, subst, inl, inr, arith, if◌then◌else◌, Option, None, Some, cases_Bool, false≢true, nat_tests}
-use Rattle.dm_movelaws.proofs.Names.{Pid, PlainLink, MsgId, id_of, plain_kind, PlainMessage, PlainWhat, switchboard, manager, Boot, Label, Manager, Pending, OneKernel, with_sent, without_message, replay, entry, reception}
-use Rattle.dm_movelaws.proofs.Names.{after_step, ServerSends, board_takes_lem, manager_takes_lem, Sound, bind-is, Step, ascends, Point, View, still_pending, WhatFits, KernelFits, based_always, fits_step, group_replay}
-use Rattle.dm_movelaws.proofs.Names.{Based, makes, is_pending, HasOne, IsOfPending, PendingHasOne, Spelled, group_of, PendingAscends}
+use Rattle.dm_movelaws.proofs.Names.{Pid, PlainLink, MsgId, id_of, plain_kind, PlainMessage, PlainWhat, switchboard, manager, Boot, Label, Manager, Pending, OneKernel, with_sent, without_message, replay, entry, reception, after_step}
+use Rattle.dm_movelaws.proofs.Names.{ServerSends, board_takes_lem, manager_takes_lem, Sound, bind-is, Step, ascends, Point, View, still_pending, WhatFits, KernelFits, based_always, fits_step, group_replay, Based, makes, is_pending, HasOne}
+use Rattle.dm_movelaws.proofs.Names.{IsOfPending, PendingHasOne, Spelled, group_of, PendingAscends}
 use Rattle.dm_movelaws.proofs.Pending.Pairs.{is_create, Neither, neither, Pair, answer_of, Ones, off_both, out_ones, put_ones, from_other, took_pair, asked_pair}
 use Rattle.dm_movelaws.proofs.Pending.Steps.{label_ones}
 use Rattle.dm_movelaws.proofs.Promise.Before.{step_pending}
@@ -144,7 +144,6 @@ ones_on : (b : Boot) (pt : Point) (d : Step) (w : Spelled) → group_of b pt d �
 ones_on b pt d w is based h = search (replay_ones, group_replay)
 
 -- what that comes to
-
 has_one : (s : OneKernel) (n : ℕ) → Pair (s.bag (id_of manager n)) (s.bag (answer_of n)) → HasOne s n
 has_one s n h = grind (arith, nat_tests)
 

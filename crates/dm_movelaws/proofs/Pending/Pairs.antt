@@ -115,7 +115,6 @@ made_ones r e s u t id m w is same up there asked answers h ones =
     subst Ones is of
 
 -- what the manager sends is under its next number
-
 pending_some : (s : OneKernel) (n : ℕ) (o : Option Pending) → manage.pending_numbered n s.manager.pending ≡ o → is_some o ≡ true → ascends 0 s.manager.pending s.manager.sent ≡ true → n < s.manager.sent
 pending_some s n None is p up = absurd (false≢true p)
 pending_some s n (Some r) is p up = let k = (numbered_from s.manager.pending 0 s.manager.sent n r up is).1 in grind (arith, nat_tests)

@@ -1,7 +1,7 @@
 -- Each update that is under way keeps its promise: where all is at rest, the links that its receiver hasn't filled since lead to
 -- where the process is that it is about.
-use Rattle.dm_movelaws.proofs.Names.{◌≡◌, ℕ, ◌+◌, ◌<◌, ◌≤◌, List, [], ◌∷◌, ◌++◌, length, refl, ap, ◌∙◌, sym, arith, slice_get, Some, slice_get_within, Pid, Place, MsgId, Boot, IsValid, pid_eq-same, Step, Line, Slot, leads_to, Leads}
-use Rattle.dm_movelaws.proofs.Names.{Point, first_point, Trails, based_group, based_always, Based, AtRest, AtRestAlways, update_of, Promised, PromisesAlways, Updated, UpdatesAlways, nat_tests}
+use Rattle.dm_movelaws.proofs.Names.{◌≡◌, ℕ, ◌+◌, ◌<◌, ◌≤◌, List, [], ◌∷◌, ◌++◌, length, refl, ap, ◌∙◌, sym, arith, slice_get, Some, slice_get_within, Pid, Place, MsgId, Boot, IsValid, pid_eq-same, Step, Line, Slot, leads_to, Leads, Point}
+use Rattle.dm_movelaws.proofs.Names.{first_point, Trails, based_group, based_always, Based, AtRest, AtRestAlways, update_of, Promised, PromisesAlways, Updated, UpdatesAlways, nat_tests}
 use Rattle.dm_movelaws.proofs.At.RestAlways.{at_rest_always}
 use Rattle.dm_movelaws.proofs.Updates.Always.{updates_always}
 use Rattle.dm_movelaws.proofs.Promise.Trail.{OnTrail, TrailKnown}

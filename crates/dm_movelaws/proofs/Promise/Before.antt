@@ -1,6 +1,6 @@
 -- Where no line gives a slot an address, a link in it was there before.
-use Rattle.dm_movelaws.proofs.Names.{◌≡◌, ℕ, ◌==◌, ◌&&◌, ◌||◌, Bool, true, false, List, [], ◌∷◌, refl, ap, ◌∙◌, arith, if◌then◌else◌, Option, None, Some, Pid, Place, PlainMessage, Label, OneKernel, pid_eq-same, View, Addresses}
-use Rattle.dm_movelaws.proofs.Names.{Holder, Slot, Gets, gives, given, holder_eq, leads_to, unmoved, ascends, eq_self, AtHome, HomesAre, homes_are, at_home, SaidOn, label_on, gives_to, nat_tests}
+use Rattle.dm_movelaws.proofs.Names.{◌≡◌, ℕ, ◌==◌, ◌&&◌, ◌||◌, Bool, true, false, List, [], ◌∷◌, refl, ap, ◌∙◌, arith, if◌then◌else◌, Option, None, Some, Pid, Place, PlainMessage, Label, OneKernel, pid_eq-same, View, Addresses, Holder}
+use Rattle.dm_movelaws.proofs.Names.{Slot, Gets, gives, given, holder_eq, leads_to, unmoved, ascends, eq_self, AtHome, HomesAre, homes_are, at_home, SaidOn, label_on, gives_to, nat_tests}
 use Rattle.dm_rule.proofs.Homes.Serves.{Named}
 use Rattle.dm_movelaws.proofs.Promise.Slots.{same_given, gives_same}
 use Rattle.dm_onekernel.specs.Step as kernel

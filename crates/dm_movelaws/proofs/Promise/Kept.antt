@@ -1,7 +1,7 @@
 -- As long as no line gives a slot an address, its address doesn't come to know fewer moves; and what was told stays.
-use Rattle.dm_movelaws.proofs.Names.{◌≡◌, ℕ, ◌+◌, ◌≤◌, true, false, List, [], ◌∷◌, refl, ap, ◌∙◌, sym, subst, arith, Option, None, Some, nat_tests, Pid, Place, MsgId, MessageKind, Label, OneKernel, entry}
-use Rattle.dm_movelaws.proofs.Names.{reception, id_eq-is, after_step, Sound, bind-is, Line, View, Told, view_after, Addresses, Holder, Slot, Gets, given, gives, all_follow, first_gives, leads_to}
-use Rattle.dm_movelaws.proofs.Names.{updated, addresses_after, ascends, Point, label_of, kernel_after, after_line, after, moved, hushed, put_at, put_told_off, gives_to, fills, Unfilled, first_kept}
+use Rattle.dm_movelaws.proofs.Names.{◌≡◌, ℕ, ◌+◌, ◌≤◌, true, false, List, [], ◌∷◌, refl, ap, ◌∙◌, sym, subst, arith, Option, None, Some, nat_tests, Pid, Place, MsgId, MessageKind, Label, OneKernel, entry, reception, id_eq-is, after_step}
+use Rattle.dm_movelaws.proofs.Names.{Sound, bind-is, Line, View, Told, view_after, Addresses, Holder, Slot, Gets, given, gives, all_follow, first_gives, leads_to, updated, addresses_after, ascends, Point, label_of, kernel_after, after_line}
+use Rattle.dm_movelaws.proofs.Names.{after, moved, hushed, put_at, put_told_off, gives_to, fills, Unfilled, first_kept}
 use Rattle.dm_movelaws.proofs.Promise.Before.{not_given, step_pending, led_before}
 use Rattle.dm_rule.specs.View as view
 

@@ -1,8 +1,8 @@
 -- Wherever the rule leads, whoever is named is a kernel of a machine that there is, a server, or a process that was made.
-use Rattle.dm_movelaws.proofs.Names.{◌≡◌, ◌≢◌, ℕ, ◌<◌, ◌≤◌, Bool, true, false, ◌∷◌, is_some, nat_lt, refl, ap, ◌∙◌, sym, subst, inl, inr, arith, if◌then◌else◌, Option, Some, cases_Bool, nat_tests, Pid, pid_eq, MsgId, Line}
-use Rattle.dm_movelaws.proofs.Names.{PlainMessage, PlainWhat, Boot, switchboard, manager, Life, OneKernel, is_counted, counts, Step, IsStep, Spelled, Point, first_point, group_of, Inbox, times, View, Told, Known, Unknown, Here, after_head}
-use Rattle.dm_movelaws.proofs.Names.{is_kernels, actor, group_is, outcome_sayable, line_within, is_server, WhatFits, agrees, begun, begun_sane, named_real, times_self, Run, IsReal, Kernel, Server, Made, IsAboutReal, RealAlways, or_cases}
-use Rattle.dm_movelaws.proofs.Names.{from_kernel, run_always}
+use Rattle.dm_movelaws.proofs.Names.{◌≡◌, ◌≢◌, ℕ, ◌<◌, ◌≤◌, Bool, true, false, ◌∷◌, is_some, nat_lt, refl, ap, ◌∙◌, sym, subst, inl, inr, arith, if◌then◌else◌, Option, Some, cases_Bool, nat_tests, Pid, pid_eq, MsgId, Line, PlainMessage}
+use Rattle.dm_movelaws.proofs.Names.{PlainWhat, Boot, switchboard, manager, Life, OneKernel, is_counted, counts, Step, IsStep, Spelled, Point, first_point, group_of, Inbox, times, View, Told, Known, Unknown, Here, after_head, is_kernels}
+use Rattle.dm_movelaws.proofs.Names.{actor, group_is, outcome_sayable, line_within, is_server, WhatFits, agrees, begun, begun_sane, named_real, times_self, Run, IsReal, Kernel, Server, Made, IsAboutReal, RealAlways, or_cases, from_kernel}
+use Rattle.dm_movelaws.proofs.Names.{run_always}
 use Rattle.dm_movelaws.proofs.Ends.Lines.{told_by}
 use Rattle.dm_movelaws.proofs.NumbersAlways.{bag_counted, told_counted}
 use Rattle.dm_movelaws.proofs.Real.Lines.{HereReal, InboxTold, outcome_real, rises_same, Reals, Receivers, parts_reals}

@@ -1,15 +1,13 @@
 -- Wherever the rule leads, each message that its sender counts was routed.
-use Rattle.dm_movelaws.proofs.Names.{◌≡◌, ◌⊎◌, ℕ, zero, suc, ◌<◌, ◌≤◌, true, false, is_some, nat_lt, List, [], ◌∷◌, ◌++◌, length, refl, ap, ◌∙◌, sym, subst, inl, inr, arith, Option, Some, false≢true}
-use Rattle.dm_movelaws.proofs.Names.{nat_tests, Pid, pid_eq, MsgId, id_of, BootProcess, Boot, IsValid, switchboard, manager, Alive, OneKernel, PlainProcess, life_at, id_eq-is, not_server, bind-is, Step, Line}
-use Rattle.dm_movelaws.proofs.Names.{without_id, Point, first_point, after, after_line, times, View, Told, view_after, hushed, without_counts, one_of, line_view, put_told_off, LeadsBy, Both, both_start, both_group, times_more, run_start}
-use Rattle.dm_movelaws.proofs.Names.{run_group, with_put, routed, AreRouted, RoutedAlways, less_test}
+use Rattle.dm_movelaws.proofs.Names.{◌≡◌, ◌⊎◌, ℕ, zero, suc, ◌<◌, ◌≤◌, true, false, is_some, nat_lt, List, [], ◌∷◌, ◌++◌, length, refl, ap, ◌∙◌, sym, subst, inl, inr, arith, Option, Some, false≢true, nat_tests, Pid, pid_eq, MsgId, id_of}
+use Rattle.dm_movelaws.proofs.Names.{BootProcess, Boot, IsValid, switchboard, manager, Alive, OneKernel, PlainProcess, life_at, id_eq-is, not_server, bind-is, Step, Line, without_id, Point, first_point, after, after_line, times, View, Told}
+use Rattle.dm_movelaws.proofs.Names.{view_after, hushed, without_counts, one_of, line_view, put_told_off, LeadsBy, Both, both_start, both_group, times_more, run_start, run_group, with_put, routed, AreRouted, RoutedAlways, less_test}
 use Rattle.dm_movelaws.proofs.After.{group_after}
 use Rattle.dm_movelaws.proofs.Routed.Groups.{IsTold, AllTold, told_group}
 use Rattle.dm_movelaws.proofs.Routed.Steps.{has_sent, is_sent}
 use Rattle.dm_movelaws.proofs.Ends.Open.{shorter as without_length}
 
 -- before the first line nobody has sent
-
 life_sent : (b : Boot) (ps : List BootProcess) (q : Pid) (n : ℕ) → has_sent n (life_at b ps q) ≡ false
 life_sent b [] q n = refl
 life_sent b (p ∷ ps) q n = grind (arith, nat_tests, life_sent b ps q n)

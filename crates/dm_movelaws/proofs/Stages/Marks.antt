@@ -17,7 +17,6 @@ open-append o [] ys = refl
 open-append o (x ∷ xs) ys = open-append (left_open x) xs ys
 
 -- marks of lists
-
 with-append : (p : Pid) (l : Line) (xs ys : List Mark) → with_mark p l (xs ++ ys) ≡ with_mark p l xs ++ ys
 with-append p l xs ys = grind (arith, nat_tests)
 

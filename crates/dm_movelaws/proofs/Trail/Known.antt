@@ -1,8 +1,8 @@
 -- Wherever the rule leads there are trails that all addresses are on; where a process doesn't move, its trail ends where it is.
-use Rattle.dm_movelaws.proofs.Names.{◌≡◌, ◌≢◌, ℕ, ◌+◌, ◌==◌, Bool, true, false, List, [], ◌∷◌, length, ap, ◌∙◌, sym, subst, inl, inr, arith, if◌then◌else◌, slice_get, Option, Some, Pid, MsgId, MessageKind, Boot, bind}
-use Rattle.dm_movelaws.proofs.Names.{Step, bind-is, Line, Leads, Phase, Nowhere, Rests, Over, Moves, IsIn, is_away, is_here, is_over, is_restart, kind_comes, Point, first_point, after, after_line, Trails, Trodden, first_trodden}
-use Rattle.dm_movelaws.proofs.Names.{along, trails_after, View, Known, Unknown, Ended, parts, along_treads, treads_start, Treads, is_moving, IsThere, eq_self, not_false, kind_leaves, nat_tests}
-use Rattle.dm_movelaws.proofs.Names.{IsValid, IsStep, Spelled, group_of, first_trails, TrailsAlways, first_view, eq_is, start_known, Carries, trails_always_by, Both, both_start, both_group, run_start, run_group}
+use Rattle.dm_movelaws.proofs.Names.{◌≡◌, ◌≢◌, ℕ, ◌+◌, ◌==◌, Bool, true, false, List, [], ◌∷◌, length, ap, ◌∙◌, sym, subst, inl, inr, arith, if◌then◌else◌, slice_get, Option, Some, Pid, MsgId, MessageKind, Boot, bind, Step, bind-is, Line}
+use Rattle.dm_movelaws.proofs.Names.{Leads, Phase, Nowhere, Rests, Over, Moves, IsIn, is_away, is_here, is_over, is_restart, kind_comes, Point, first_point, after, after_line, Trails, Trodden, first_trodden, along, trails_after, View}
+use Rattle.dm_movelaws.proofs.Names.{Known, Unknown, Ended, parts, along_treads, treads_start, Treads, is_moving, IsThere, eq_self, not_false, kind_leaves, nat_tests, IsValid, IsStep, Spelled, group_of, first_trails, TrailsAlways}
+use Rattle.dm_movelaws.proofs.Names.{first_view, eq_is, start_known, Carries, trails_always_by, Both, both_start, both_group, run_start, run_group}
 use Rattle.dm_movelaws.proofs.After.{group_after}
 use Rattle.dm_movelaws.proofs.Promise.Trail.{TrailKnown}
 use Rattle.dm_movelaws.proofs.Stages.Spares.{restart_late}

@@ -1,10 +1,9 @@
 -- Lines, puts and packets that fit the trails anywhere, and leave each process where it is.
 use Rattle.dm_movelaws.proofs.Names.{◌≡◌, ℕ, ◌+◌, ◌==◌, Bool, true, false, List, [], ◌∷◌, length, refl, ap, ◌∙◌, sym, subst, if◌then◌else◌, Option, None, Some, Pid, pid_of, MsgId, MessageKind, Stage, plain_kind, Label, OneKernel, entry}
-use Rattle.dm_movelaws.proofs.Names.{reception, id_eq-same, after_step, bind-is, Line, Load, View, Told, own_id, view_after, handled, after_proto, receiver_of, Receiver, goes_between}
-use Rattle.dm_movelaws.proofs.Names.{own_gives, Point, moved, after, Part, Says, Routes, Owns, Transmits, puts, goes_out, packet_line, to_kernel, Trails, IsOn, trails_after, IsNet, IsNetLine, SaidOn, not_kernels, queued_known, held_known}
-use Rattle.dm_movelaws.proofs.Names.{dropped_known, proto_known, Sane, Outside, Treads, LineFits, LabelFits, KnownFits, PutFits, Rides, Steps, said_by, own_outside, own_fresh, queued_moves, held_moves, dropped_moves, nat_tests, arith, ◌++◌}
-use Rattle.dm_movelaws.proofs.Names.{⊤, PlainMessage, bind, after_line, Again, Spelled, lines_of, spelled, Trodden, along, AllSayable, part_sane, line_treads, Said, plain_own, by_parts, Addresses, Sort, own_given, is_between, sort_of}
-use Rattle.dm_movelaws.proofs.Names.{false≢true, tells_between}
+use Rattle.dm_movelaws.proofs.Names.{reception, id_eq-same, after_step, bind-is, Line, Load, View, Told, own_id, view_after, handled, after_proto, receiver_of, Receiver, goes_between, own_gives, Point, moved, after, Part, Says, Routes}
+use Rattle.dm_movelaws.proofs.Names.{Owns, Transmits, puts, goes_out, packet_line, to_kernel, Trails, IsOn, trails_after, IsNet, IsNetLine, SaidOn, not_kernels, queued_known, held_known, dropped_known, proto_known, Sane, Outside, Treads}
+use Rattle.dm_movelaws.proofs.Names.{LineFits, LabelFits, KnownFits, PutFits, Rides, Steps, said_by, own_outside, own_fresh, queued_moves, held_moves, dropped_moves, nat_tests, arith, ◌++◌, ⊤, PlainMessage, bind, after_line, Again, Spelled}
+use Rattle.dm_movelaws.proofs.Names.{lines_of, spelled, Trodden, along, AllSayable, part_sane, line_treads, Said, plain_own, by_parts, Addresses, Sort, own_given, is_between, sort_of, false≢true, tells_between}
 use Rattle.dm_movelaws.proofs.Trail.Placed.{Places, placed_same}
 use Rattle.dm_movelaws.proofs.Leading.{Behind, whatever_put, part_leads}
 use Rattle.dm_rule.proofs.Trails.Along.{AllFit}

@@ -1,9 +1,9 @@
 -- What an update does wherever the rule leads.
 use Rattle.dm_movelaws.proofs.Names.{◌≡◌, ◌⊎◌, ℕ, ◌<◌, ◌≤◌, ◌==◌, ◌&&◌, Bool, true, false, not, [], ◌++◌, refl, ap, ◌∙◌, sym, inl, inr, nat_lt, arith, if◌then◌else◌, cases_Bool, false≢true, nat_tests, Option, None, Some, Pid, Place, pid_eq}
-use Rattle.dm_movelaws.proofs.Names.{MsgId, Boot, switchboard, manager, OneKernel, pid_eq-same, Step, Addresses, Holder, belongs_to, leads_to, is_pid, is_behind, place_told, updated, holders_of, behind_among, behind_count}
-use Rattle.dm_movelaws.proofs.Names.{holders_numbered, answers_in, slot_holders, Spelled, Point, View, Told, About, Ended, after_head, is_server, KnownStands, Updated, UpdatesAlways, front_own, Both, is_place, own_sort, run_always}
-use Rattle.dm_movelaws.proofs.Names.{pid_there, second, zero, suc, ◌+◌, List, ◌∷◌, length, slice_get, slice_get_cases, PlainLink, link_at, NamedLink, Pending, PlainProcess, pid_eq-is, not_server, alive-is, Slot, Owner, Child, Name, Answer}
-use Rattle.dm_movelaws.proofs.Names.{holder_eq, link_target, slot_of, name_link, ascends, slots_from, listings, is_owner}
+use Rattle.dm_movelaws.proofs.Names.{MsgId, Boot, switchboard, manager, OneKernel, pid_eq-same, Step, Addresses, Holder, belongs_to, leads_to, is_pid, is_behind, place_told, updated, holders_of, behind_among, behind_count, holders_numbered}
+use Rattle.dm_movelaws.proofs.Names.{answers_in, slot_holders, Spelled, Point, View, Told, About, Ended, after_head, is_server, KnownStands, Updated, UpdatesAlways, front_own, Both, is_place, own_sort, run_always, pid_there, second, zero}
+use Rattle.dm_movelaws.proofs.Names.{suc, ◌+◌, List, ◌∷◌, length, slice_get, slice_get_cases, PlainLink, link_at, NamedLink, Pending, PlainProcess, pid_eq-is, not_server, alive-is, Slot, Owner, Child, Name, Answer, holder_eq, link_target}
+use Rattle.dm_movelaws.proofs.Names.{slot_of, name_link, ascends, slots_from, listings, is_owner}
 use Rattle.dm_movelaws.proofs.Updates.Groups.{Handled, handled_by}
 use Rattle.dm_laws.proofs.Entered.{Made}
 use Rattle.dm_onekernel.specs.Step as kernel
