@@ -1,5 +1,5 @@
 -- Each step keeps what the messages of data moves say.
-use Rattle.dm_movelaws.proofs.Names.{◌≡◌, ◌⊎◌, ℕ, ◌-◌, Bool, true, false, length, take, drop, refl, ap, ◌∙◌, sym, subst, inl, inr, ⊤, if◌then◌else◌, Option, None, Some, Pid, PlainLink, MsgId, PlainMessage, PlainWhat, Direction, Row}
+use Rattle.dm_movelaws.proofs.Names.{◌≡◌, ◌⊎◌, ℕ, Bool, true, false, length, take, drop, refl, ap, ◌∙◌, sym, subst, inl, inr, ⊤, if◌then◌else◌, Option, None, Some, Pid, PlainLink, MsgId, PlainMessage, PlainWhat, Direction, Row}
 use Rattle.dm_movelaws.proofs.Names.{instruction, switchboard, manager, Label, Reply, Why, PlainProcess, PlainStatus, Alive, OneKernel, with_process, with_sent, Called, Sends, CallNumber, answer_to, first_failed, without_message}
 use Rattle.dm_movelaws.proofs.Names.{is_of_memory, pending_of, ServerSends, board_takes_lem, manager_takes_lem, lands-is, Sound, bind-is, KernelFits, by_step, Lives, Life, is_piece, Grown, LifeGrows, stayed, came, HasEnded, nat_tests}
 use Rattle.dm_movelaws.proofs.Names.{arith}

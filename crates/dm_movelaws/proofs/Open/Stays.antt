@@ -10,7 +10,6 @@ use Rattle.dm_movelaws.proofs.Open.Quiet.{AllQuiet, group_or}
 use Rattle.dm_movelaws.proofs.Stages.Always.{group_marked}
 use Rattle.dm_movelaws.proofs.Stages.Marks.{open_after, open-append, marks-append}
 use Rattle.dm_movelaws.proofs.Stages.Spares.{mark_in}
-use Rattle.dm_onekernel.specs.Step as kernel
 
 -- a line behind others, from some point on
 record At (pt : Point) (earlier : List Line) (l : Line) (p : Pid) : Type 0 where

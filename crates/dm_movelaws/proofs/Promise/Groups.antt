@@ -1,6 +1,6 @@
 -- Each group leaves an update that is under way standing somewhere, or says that it was handled, and nothing else.
 use Rattle.dm_movelaws.proofs.Names.{◌≡◌, ◌⊎◌, ℕ, Bool, true, false, List, [], ◌∷◌, refl, ap, ◌∙◌, sym, subst, inl, inr, Option, None, Some, false≢true, Pid, Place, MsgId, MessageKind, id_eq, plain_kind, PlainMessage, PlainWhat, Boot}
-use Rattle.dm_movelaws.proofs.Names.{id_eq-is, Step, Line, Told, is_kernels, Point, Part, Spelled, spelled, migrates, group_of, not_kernels, not_true, parts, IsNet, fits, under_way, kernels_by, Phased, PairsFit, Sane, begun, begun_sane}
+use Rattle.dm_movelaws.proofs.Names.{id_eq-is, Step, Line, Told, is_kernels, Point, Part, Spelled, spelled, migrates, group_of, not_kernels, not_true, IsNet, fits, under_way, kernels_by, Phased, PairsFit, Sane, begun, begun_sane}
 use Rattle.dm_movelaws.proofs.Names.{update_of, by_migrates, by_outcome, group_is, nat_tests, arith}
 use Rattle.dm_movelaws.proofs.Promise.Kept.{told_stays}
 use Rattle.dm_movelaws.proofs.Promise.Spots.{Stands, packet_stands, head_stands, net_stands}

@@ -10,7 +10,6 @@ use Rattle.dm_movelaws.proofs.Stages.Hears.{round_mild, handles_mild, Hears, Cal
 use Rattle.dm_movelaws.proofs.Stages.Rows.{about_others, plain_others, row_marked}
 use Rattle.dm_movelaws.proofs.Stages.Steps.{freezes_row, told_marked}
 use Rattle.dm_onekernel.specs.Step as kernel
-use Rattle.dm_rule.specs.View as view
 use Rattle.dm_rule.specs.Rule as rule
 use Rattle.dm_rule.proofs.Groups as groups
 

@@ -8,7 +8,6 @@ use Rattle.dm_movelaws.proofs.Trail.Placed.{Places, placed_same}
 use Rattle.dm_movelaws.proofs.Leading.{Behind, whatever_put, part_leads}
 use Rattle.dm_rule.proofs.Trails.Along.{AllFit}
 use Rattle.dm_onekernel.specs.Step as kernel
-use Rattle.dm_rule.specs.View as view
 use Rattle.dm_rule.specs.Rule as rule
 
 -- each of these lines fits where the ones before lead, and behind the last each process is placed

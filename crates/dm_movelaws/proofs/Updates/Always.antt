@@ -7,7 +7,6 @@ use Rattle.dm_movelaws.proofs.Names.{slot_of, name_link, ascends, slots_from, li
 use Rattle.dm_movelaws.proofs.Updates.Groups.{Handled, handled_by}
 use Rattle.dm_laws.proofs.Entered.{Made}
 use Rattle.dm_onekernel.specs.Step as kernel
-use Rattle.dm_rule.specs.Addresses as addresses
 use Rattle.dm_rule.specs.View as view
 use Rattle.dm_onekernel.specs.Manager as manage
 

@@ -3,7 +3,6 @@ use Rattle.dm_movelaws.proofs.Names.{◌≡◌, ℕ, ◌||◌, Bool, true, false
 use Rattle.dm_movelaws.proofs.Names.{Point, moved, group_of, GroupIs, group_is, by_parts, inl, inr, manager, place_told, behind_count, sends_on, Told, IsNetLine, IsNet, by_migrates, by_hears, migrates, by_net, by_outcome, ◌⊎◌, ⊤}
 use Rattle.dm_movelaws.proofs.Names.{PlainMessage, Addresses, forwards_on, Ended, is_server, Loose, loose_round, loose_handles, by_forwards, nat_tests, arith}
 use Rattle.dm_movelaws.proofs.Leading.{lines_are}
-use Rattle.dm_rule.specs.View as view
 use Rattle.dm_rule.specs.Migrating as migrating
 use Rattle.dm_rule.specs.Rule as rule
 
