@@ -17,9 +17,6 @@ same_count a c h e = let f : count_of c h ≡ count_of a h = ap (λ (p : Place).
 no_receiver : (i : MsgId) (h : Holder) → is_owned h ≡ true → holder_eq (Receiver i) h ≡ false
 no_receiver i h e = grind (arith, nat_tests)
 
-no_sender : (i : MsgId) (h : Holder) → is_owned h ≡ true → holder_eq (Sender i) h ≡ false
-no_sender i h e = grind (arith, nat_tests)
-
 forwards_none : (v : View) (a : Addresses) (id : MsgId) (h : Holder) (o : Option Told) → is_owned h ≡ true → gives_to h (forwards v a id o) ≡ false
 forwards_none v a id h o e = grind (arith, nat_tests, no_receiver)
 
