@@ -1,11 +1,11 @@
 -- The count of an address that a process or a server has doesn't fall until a step gives it a new one.
-use Rattle.dm_movelaws.proofs.Names.{◌≡◌, ℕ, ◌<◌, ◌≤◌, ◌&&◌, ◌||◌, Bool, true, false, List, [], ◌∷◌, ◌++◌, refl, ap, ◌∙◌, sym, subst, nat_lt, arith, if◌then◌else◌, false≢true, nat_tests, Option, None, Some, Pid, Place, MsgId, MessageKind}
-use Rattle.dm_movelaws.proofs.Names.{OneKernel, bind-is, Line, Addresses, Holder, Receiver, Sender, Enclosed, Gets, gets, holder_eq, unmoved, given, gives, belongs_to, leads_to, is_pid, is_behind, told_back_gets, is_told_back, forwards}
-use Rattle.dm_movelaws.proofs.Names.{all_follow, child_number, place_of_child, own_gives, first_gives, place_told, updated, updated_to, addresses_after, Point, label_of, kernel_after, moved, after_line, after, View, Told, About, is_owned}
-use Rattle.dm_movelaws.proofs.Names.{gives_to, is_filled, in_next, refilled, CountsStay, CountsKept, Updated, Sort, sort_of, own_given}
-use Rattle.dm_rule.specs.View as view
+use Rattle.dm_movelaws.proofs.Names.{◌≡◌, ℕ, ◌≤◌, ◌||◌, Bool, true, false, List, [], ◌∷◌, refl, ap, ◌∙◌, sym, subst, arith, nat_tests, Option, Some, Pid, Place, MsgId, MessageKind, OneKernel, bind-is, Line, Addresses, Holder, Receiver}
+use Rattle.dm_movelaws.proofs.Names.{Sender, Gets, holder_eq, given, gives, belongs_to, leads_to, forwards, all_follow, own_gives, first_gives, updated, addresses_after, Point, label_of, kernel_after, moved, after_line, after, View, Told}
+use Rattle.dm_movelaws.proofs.Names.{is_owned, gives_to, is_filled, in_next, refilled, CountsStay, CountsKept, Updated, Sort, sort_of, own_given}
 use Rattle.dm_movelaws.proofs.After.{group_after}
 use Rattle.dm_movelaws.proofs.Updates.Always.{updates_always}
+use Rattle.dm_movelaws.proofs.Promise.Before.{neither as either, not_given}
+use Rattle.dm_rule.specs.View as view
 
 abbrev count_of : Addresses → Holder → ℕ
 count_of a h = (a h).moves
@@ -13,89 +13,36 @@ count_of a h = (a h).moves
 same_count : (a c : Addresses) (h : Holder) → c h ≡ a h → count_of a h ≤ count_of c h
 same_count a c h e = let f : count_of c h ≡ count_of a h = ap (λ (p : Place). p.moves) e in omega (arith, f)
 
--- what a label gives
-either : (b c : Bool) → (b || c) ≡ false → (b ≡ false) × (c ≡ false)
-either true c e = absurd (false≢true (sym e))
-either false c e = (refl, e)
-
-not_given : (a : Addresses) (gs : List Gets) (h : Holder) → gives_to h gs ≡ false → given a gs h ≡ a h
-not_given a [] h e = refl
-not_given a (g ∷ gs) h e =
-    let k = either (holder_eq g.holder h) (gives_to h gs) e in
-    ap (λ (c : Bool). if c then g.place else given a gs h) k.0 ∙ not_given a gs h k.1
-
 -- what goes on gives addresses to messages only
 no_receiver : (i : MsgId) (h : Holder) → is_owned h ≡ true → holder_eq (Receiver i) h ≡ false
-no_receiver i (Receiver j) e = absurd (false≢true e)
-no_receiver i _ e = refl
-
-no_sender : (i : MsgId) (h : Holder) → is_owned h ≡ true → holder_eq (Sender i) h ≡ false
-no_sender i (Sender j) e = absurd (false≢true e)
-no_sender i _ e = refl
-
-both_none : (i : MsgId) (p r : Place) (h : Holder) → is_owned h ≡ true → gives_to h (gets (Receiver i) p ∷ gets (Sender i) r ∷ []) ≡ false
-both_none i p r h e = ap (λ (c : Bool). c || (holder_eq (Sender i) h || false)) (no_receiver i h e) ∙ ap (λ (c : Bool). c || false) (no_sender i h e)
-
-tells_none : (v : View) (a : Addresses) (id : MsgId) (h : Holder) (c : Bool) → is_owned h ≡ true → gives_to h (told_back_gets v a id c) ≡ false
-tells_none v a id h true e = both_none (view.own_id v) (a (Sender id)) (unmoved v.acting) h e
-tells_none v a id h false e = refl
+no_receiver i h e = grind (arith, nat_tests)
 
 forwards_none : (v : View) (a : Addresses) (id : MsgId) (h : Holder) (o : Option Told) → is_owned h ≡ true → gives_to h (forwards v a id o) ≡ false
-forwards_none v a id h None e = refl
-forwards_none v a id h (Some t) e = ap (λ (c : Bool). c || gives_to h (told_back_gets v a id (is_told_back t.kind))) (no_receiver id h e) ∙ tells_none v a id h (is_told_back t.kind) e
+forwards_none v a id h o e = grind (arith, nat_tests, no_receiver)
 
 follows_none : (v : View) (a : Addresses) (p : Pid) (h : Holder) (is : List MsgId) → is_owned h ≡ true → gives_to h (all_follow v a p is) ≡ false
 follows_none v a p h [] e = refl
 follows_none v a p h (i ∷ is) e = ap (λ (c : Bool). c || gives_to h (all_follow v a p is)) (no_receiver i h e) ∙ follows_none v a p h is e
 
 own_none_by : (s : OneKernel) (v : View) (a : Addresses) (id : MsgId) (r : Pid) (h : Holder) (w : Sort) → is_owned h ≡ true → gives_to h (own_given s v a id r w) ≡ false
-own_none_by s v a id r h Sort.Request e = both_none id (place_of_child a (child_number s r)) (unmoved v.acting) h e
-own_none_by s v a id r h (Sort.Between passage) e = both_none id (unmoved r.home) (unmoved v.acting) h e
-own_none_by s v a id r h Sort.Unsent e = both_none id (unmoved r.home) (unmoved v.acting) h e
-own_none_by s v a id r h _ e = refl
+own_none_by s v a id r h w e = grind (arith, nat_tests)
 
 own_none : (s : OneKernel) (v : View) (a : Addresses) (id : MsgId) (r : Pid) (h : Holder) (x : MessageKind) → is_owned h ≡ true → gives_to h (own_gives s v a id r x) ≡ false
 own_none s v a id r h x e = own_none_by s v a id r h (sort_of x) e
 
 first_none : (h : Holder) (o : Option Told) (gs : List Gets) → gives_to h gs ≡ false → gives_to h (first_gives o gs) ≡ false
-first_none h None gs e = e
-first_none h (Some t) gs e = refl
+first_none h o gs e = grind (arith, nat_tests)
 
 -- an update only raises
-raised_if : (c : Bool) (p at_ : Place) → (c ≡ true → p.moves ≤ at_.moves) → p.moves ≤ (if c then at_ else p).moves
-raised_if true p at_ h = h refl
-raised_if false p at_ h = omega arith
-
-third : (a b c : Bool) → (a && (b && c)) ≡ true → c ≡ true
-third true true c e = e
-third true false c e = absurd (false≢true e)
-third false b c e = absurd (false≢true e)
-
-told_raises : (s : OneKernel) (a : Addresses) (r : Pid) (h : Holder) (o : Option (Pid × Place)) → count_of a h ≤ (updated_to s a (Some r) o h).moves
-told_raises s a r h None = omega arith
-told_raises s a r h (Some t) =
-    raised_if (is_behind s a r t.0 t.1.moves h) (a h) t.1
-    (λ e. let f = third (belongs_to r h) (is_pid t.0 (leads_to s h)) (nat_lt (a h).moves t.1.moves) e in
-    let g : (a h).moves < t.1.moves = grind (arith, nat_tests) in omega (arith, g))
-
 update_raises : (s : OneKernel) (v : View) (a : Addresses) (h : Holder) (o : Option Told) → count_of a h ≤ (updated s v a o h).moves
-update_raises s v a h None = omega arith
-update_raises s v a h (Some t) = told_raises s a t.receiver h (place_told t.about)
+update_raises s v a h o = grind (arith, nat_tests)
 
 -- each line
 by_line : (pt : Point) (l : Line) (h : Holder) → is_owned h ≡ true → is_filled pt (label_of l) h ≡ false → count_of pt.addresses h ≤ count_of (addresses_after pt.kernel pt.view pt.addresses l) h
-by_line pt (Line.Label l) h mine e = same_count pt.addresses (given pt.addresses (gives pt.kernel pt.view pt.addresses l)) h (not_given pt.addresses (gives pt.kernel pt.view pt.addresses l) h e)
-by_line pt (Line.Forwarded id m) h mine e =
-    let gs = forwards pt.view pt.addresses id (pt.view.told id) in
-    same_count pt.addresses (given pt.addresses gs) h (not_given pt.addresses gs h (forwards_none pt.view pt.addresses id h (pt.view.told id) mine))
-by_line pt (Line.SentOn p n) h mine e =
-    let is = pt.view.queue pt.view.acting p ++ pt.view.held pt.view.acting p in
-    let gs = all_follow pt.view pt.addresses p is in
-    same_count pt.addresses (given pt.addresses gs) h (not_given pt.addresses gs h (follows_none pt.view pt.addresses p h is mine))
-by_line pt (Line.Put from to id x r) h mine e =
-    let own = own_gives pt.kernel pt.view pt.addresses id r x in
-    let gs = first_gives (pt.view.told id) own in
-    same_count pt.addresses (given pt.addresses gs) h (not_given pt.addresses gs h (first_none h (pt.view.told id) own (own_none pt.kernel pt.view pt.addresses id r h x mine)))
+by_line pt (Line.Label l) h mine e = same_count pt.addresses (given pt.addresses (gives pt.kernel pt.view pt.addresses l)) h (not_given pt.addresses h (gives pt.kernel pt.view pt.addresses l) e)
+by_line pt (Line.Forwarded id m) h mine e = search (same_count, not_given, forwards_none)
+by_line pt (Line.SentOn p n) h mine e = search (same_count, not_given, follows_none)
+by_line pt (Line.Put from to id x r) h mine e = search (same_count, not_given, first_none, own_none)
 by_line pt (Line.Updated id n) h mine e = update_raises pt.kernel pt.view pt.addresses h (pt.view.told id)
 by_line pt _ h mine e = omega arith
 
@@ -118,31 +65,16 @@ pub counts_stay : CountsStay
 counts_stay b [] pt end h mine leads = same_count pt.addresses end.addresses h (sym (ap (λ (x : Point). x.addresses h) leads))
 counts_stay b (d ∷ ds) pt end h mine (w, fit, is, unfilled, more) =
     let one = by_lines w.lines pt w.point h mine (group_after b pt d w is) unfilled in
-    let others = counts_stay b ds w.point end h mine more in
-    omega (arith, one, others)
+    grind (arith, nat_tests, counts_stay b ds w.point end h mine more)
 
 -- what belongs to a process or a server is its own
 owned_by : (q : Pid) (h : Holder) → belongs_to q h ≡ true → is_owned h ≡ true
-owned_by q (Receiver j) e = e
-owned_by q (Sender j) e = e
-owned_by q (Enclosed j k) e = e
-owned_by q _ e = refl
+owned_by q h e = grind (arith, nat_tests)
 
 -- what an update told stays
-count_in : (x y : About) (p : Pid) (c at_ : Place) (r : Pid) → x ≡ view.Place p c.at c.moves → x ≡ view.Place r at_.at at_.moves → (r ≡ p) × (c.moves ≡ at_.moves)
-count_in x y p c at_ r e f =
-    let g : view.Place p c.at c.moves ≡ view.Place r at_.at at_.moves = sym e ∙ f in
-    (let k : r ≡ p = cc in k, let k : c.moves ≡ at_.moves = cc in k)
-
 kept_by : (pt next end : Point) (id : MsgId) (n : ℕ) (t : Told) (p : Pid) (c : Place) (h : Holder) → Updated pt next id n → pt.view.told id ≡ Some t → t.about ≡ view.Place p c.at c.moves → belongs_to t.receiver h ≡ true → leads_to pt.kernel h ≡ Some p
     → count_of next.addresses h ≤ count_of end.addresses h → c.moves ≤ count_of end.addresses h
-kept_by pt next end id n t p c h u told about mine leads stay =
-    let same : u.told ≡ t = let f : Some u.told ≡ Some t = sym u.is ∙ told in cc in
-    let both = count_in t.about t.about p c u.place u.process about (sym (ap (λ (x : Told). x.about) same) ∙ u.about) in
-    let own : belongs_to u.told.receiver h ≡ true = ap (λ (x : Told). belongs_to x.receiver h) same ∙ mine in
-    let least = u.raised h own (leads ∙ ap Some (sym both.0)) in
-    let counts = both.1 in
-    omega (arith, least, counts, stay)
+kept_by pt next end id n t p c h u told about mine leads stay = grind (arith, nat_tests)
 
 pub counts_kept : CountsKept
 counts_kept b es more pt end d w id n t p c h earlier later valid leads is lines told about mine slot unfilled =

@@ -1,15 +1,11 @@
 -- Lemmas of the family Ends, by file.
-pub mod Smooth
 pub mod Lines
-pub mod Still
 pub mod Parts
 pub mod Net
-pub mod Turns
 pub mod Moving
 pub mod Open
 pub mod Rows
 pub mod Sends
-pub mod Steps
 pub mod Hears
 pub mod Groups
 pub mod Sources

@@ -1,5 +1,6 @@
 pub mod Names
 pub mod After
+pub mod Leading
 pub mod Trail
 pub mod Lists
 pub mod Stages
@@ -17,5 +18,4 @@ pub mod Real
 pub mod Movers
 pub mod Routed
 pub mod ProtocolMoves
-pub mod LifePlaces
 pub mod LifeLines

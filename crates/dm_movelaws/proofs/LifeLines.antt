@@ -1,10 +1,132 @@
 -- The end lines say of each process once whether it lives.
-use Rattle.dm_movelaws.proofs.Names.{◌≡◌, ◌≢◌, ◌⊎◌, ℕ, zero, suc, ◌+◌, ◌<◌, ◌≤◌, ◌==◌, ◌||◌, Bool, true, false, is_some, nat_le, List, [], ◌∷◌, ◌++◌, length, refl, ap, ◌∙◌, sym, subst, inl, inr, arith, ◌*◌, ◌/◌, if◌then◌else◌, take, drop}
-use Rattle.dm_movelaws.proofs.Names.{Option, None, Some, cases_Bool, nat_tests, append-nil, filter-append, Pid, pid_of, pid_eq, PlainLink, MsgId, Boot, first_number, switchboard, manager, PlainProcess, Life, Alive, NamedLink, Pending}
-use Rattle.dm_movelaws.proofs.Names.{pid_eq-is, pid_eq-same, EndLine, trimmed, block_line, memory_lines, home_with, each_machine, list_line, Addresses, Stood, standing_of, first_with, stood, doing_of, slot_line, link_lines, state_lines}
-use Rattle.dm_movelaws.proofs.Names.{alive_lines, process_lines, homes_with, each_process, name_lines, child_lines, pending_lines, queue_at, queue_lines, holding_lines, inbox_lines, stream_lines, server_lines, end_lines, Point, untaken}
-use Rattle.dm_movelaws.proofs.Names.{View, is_server, Run, run_always, tells_life, life_lines, IsSaid, LivesAreSaid}
-use Rattle.dm_movelaws.proofs.LifePlaces.{alive_placed}
+use Rattle.dm_movelaws.proofs.Names.{◌≡◌, ◌≢◌, ◌⊎◌, ℕ, zero, suc, ◌+◌, ◌<◌, ◌≤◌, ◌==◌, ◌||◌, Bool, true, false, is_some, nat_le, List, [], ◌∷◌, ◌++◌, refl, ap, ◌∙◌, sym, subst, inl, inr, arith, if◌then◌else◌, Option, None, Some, cases_Bool}
+use Rattle.dm_movelaws.proofs.Names.{nat_tests, append-nil, filter-append, Pid, pid_of, pid_eq, PlainLink, MsgId, Boot, first_number, switchboard, manager, PlainProcess, Life, Alive, NamedLink, Pending, pid_eq-is, pid_eq-same, EndLine}
+use Rattle.dm_movelaws.proofs.Names.{block_line, memory_lines, home_with, each_machine, list_line, Addresses, Stood, standing_of, first_with, stood, doing_of, slot_line, link_lines, state_lines, alive_lines, process_lines, homes_with}
+use Rattle.dm_movelaws.proofs.Names.{each_process, name_lines, child_lines, pending_lines, queue_at, queue_lines, holding_lines, inbox_lines, stream_lines, server_lines, end_lines, Point, View, is_server, Run, run_always, tells_life}
+use Rattle.dm_movelaws.proofs.Names.{life_lines, IsSaid, LivesAreSaid, not, ◌&&◌, false≢true, MessageKind, Standing, or, Phase, Nowhere, Rests, Over, Moves, IsIn, knows, is_here, is_restart, is_early, Known, Unknown, Frozen, Forward}
+use Rattle.dm_movelaws.proofs.Names.{agrees, living, stands_by, IsPlace}
+use Rattle.dm_rule.specs.Ends.{awaits}
+use Rattle.dm_movelaws.proofs.At.RestAlways.{is_unknown_is as unknown_by}
+use Rattle.dm_movelaws.proofs.Stages.Spares.{restart_late}
+use Rattle.dm_onekernel.specs.Step as kernel
+use Rattle.dm_rule.specs.Phases as phases
+
+-- the first of so many machines that is looked for
+record Finds (f : Known → Option Standing) (v : View) (p : Pid) (n : ℕ) : Type 0 where
+  at : Stood
+  is : first_with f v p n ≡ Some at
+  within : at.at < n
+  stands : f (v.known at.at p) ≡ Some at.standing
+
+-- or there is none
+record FindsNone (f : Known → Option Standing) (v : View) (p : Pid) (n : ℕ) : Type 0 where
+  is : first_with f v p n ≡ None
+  none : (m : ℕ) → m < n → f (v.known m p) ≡ None
+
+first_or : (f : Known → Option Standing) (v : View) (p : Pid) (n : ℕ) → Finds f v p n ⊎ FindsNone f v p n
+first_or f v p zero = inr (record { is = refl; none = λ m less. absurd (omega (arith, less)) })
+first_or f v p (suc n) = grind (arith, nat_tests, first_or f v p n)
+
+-- a process is where it is found
+has_stands : (k : Known) (x : Standing) → standing_of k ≡ Some x → stands_by k ≡ Some x
+has_stands k x e = grind (arith, nat_tests)
+
+awaits_stands : (k : Known) (x : Standing) → awaits k ≡ Some x → stands_by k ≡ Some x
+awaits_stands k x e = grind (arith, nat_tests)
+
+neither : (k : Known) (x : Standing) → standing_of k ≡ None → awaits k ≡ None → stands_by k ≡ Some x → ⊥
+neither k x a b e = grind (arith, nat_tests)
+
+-- a process that stands on some machine is found
+pub record Placed (pt : Point) (p : Pid) : Type 0 where
+  pub at : Stood
+  pub is : stood pt.view p pt.kernel.machines ≡ Some at
+  pub place : IsPlace pt p at
+
+placed : (pt : Point) (p : Pid) (m : ℕ) (x : Standing) → m < pt.kernel.machines → stands_by (pt.view.known m p) ≡ Some x → Placed pt p
+placed pt p m x less some =
+    let n = pt.kernel.machines in
+    elim (first_or standing_of pt.view p n) [
+      | inl found ↦ record {
+        at = found.at;
+        is = ap (λ (y : Option Stood). or y (first_with awaits pt.view p n)) found.is;
+        place = record { machine = found.within; stands = has_stands (pt.view.known found.at.at p) found.at.standing found.stands };
+      }
+      | inr none ↦ elim (first_or awaits pt.view p n) [
+        | inl found ↦ record {
+          at = found.at;
+          is = ap (λ (y : Option Stood). or y (first_with awaits pt.view p n)) none.is ∙ found.is;
+          place = record { machine = found.within; stands = awaits_stands (pt.view.known found.at.at p) found.at.standing found.stands };
+        }
+        | inr nor ↦ absurd (neither (pt.view.known m p) x (none.none m less) (nor.none m less) some)
+      ]
+    ]
+
+-- by its phase
+record Somewhere (v : View) (p : Pid) : Type 0 where
+  machine : ℕ
+  standing : Standing
+  stands : stands_by (v.known machine p) ≡ Some standing
+
+here_stands : (k : Known) → is_here k ≡ true → stands_by k ≡ Some Standing.Here
+here_stands k e = grind (arith, nat_tests)
+
+rests_stands : (v : View) (p : Pid) (at : ℕ) → knows (Rests at) at (v.known at p) ≡ true → Somewhere v p
+rests_stands v p at e =
+    let same : (at == at) ≡ true = grind (arith, nat_tests) in
+    record { machine = at; standing = Standing.Here; stands = here_stands (v.known at p) (sym (ap (λ (c : Bool). if c then is_here (v.known at p) else phases.is_away (v.known at p)) same) ∙ e) }
+
+-- a process that moves is frozen at its source, or comes to its destination
+leaves_or : (k : MessageKind) (d : ℕ) (x : Known) → phases.kind_leaves k d x ≡ true → (stands_by x ≡ Some Standing.Leaving) ⊎ (is_restart k ≡ true)
+leaves_or k d (Frozen m) e = inl refl
+leaves_or k d (Forward m moves) e = inr (first (is_restart k) (d == m) e)
+  where
+    first : (a b : Bool) → (a && b) ≡ true → a ≡ true
+    first true b e = refl
+    first false b e = absurd (false≢true e)
+leaves_or k d _ e = absurd (false≢true e)
+
+comes_stands : (k : MessageKind) (s : ℕ) (x : Known) → is_early k ≡ false → phases.kind_comes k s x ≡ true → stands_by x ≡ Some Standing.Arriving
+comes_stands k s x late e = grind (arith, nat_tests)
+
+moves_stands : (v : View) (p : Pid) (k : MessageKind) (s d : ℕ) (id : Option MsgId) → IsIn v p (Moves k s d id) → Somewhere v p
+moves_stands v p k s d id h =
+    let at_s : (s == s) ≡ true = grind (arith, nat_tests) in
+    let source : phases.kind_leaves k d (v.known s p) ≡ true =
+    sym (ap (λ (c : Bool). if c then phases.kind_leaves k d (v.known s p) else if d == s then phases.kind_comes k s (v.known s p) else phases.is_away (v.known s p)) at_s) ∙ h.known s in
+    elim (leaves_or k d (v.known s p) source) [
+      | inl leaving ↦ record { machine = s; standing = Standing.Leaving; stands = leaving }
+      | inr restart ↦
+          let apart : (s == d) ≡ false = other (phases.is_between k) (s == d) h.apart in
+          let at_d : (d == d) ≡ true = grind (arith, nat_tests) in
+          let destination : phases.kind_comes k s (v.known d p) ≡ true =
+          sym (ap (λ (c : Bool). if c then phases.kind_leaves k d (v.known d p) else if d == d then phases.kind_comes k s (v.known d p) else phases.is_away (v.known d p)) apart
+          ∙ ap (λ (c : Bool). if c then phases.kind_comes k s (v.known d p) else phases.is_away (v.known d p)) at_d) ∙ h.known d in
+          record { machine = d; standing = Standing.Arriving; stands = comes_stands k s (v.known d p) (restart_late k restart) destination }
+    ]
+  where
+    other : (a b : Bool) → (a && not b) ≡ true → b ≡ false
+    other a false e = refl
+    other true true e = absurd (false≢true e)
+    other false true e = absurd (false≢true e)
+
+-- a living process is in none of the other phases
+somewhere : (v : View) (p : Pid) (phase : Phase) (l : Option Life) (x : PlainProcess) → IsIn v p phase → l ≡ Some (Alive x) → ((m : ℕ) → agrees (v.known m p) l ≡ true) → v.known p.home p ≢ Unknown → Somewhere v p
+somewhere v p Nowhere l x h alive agree home = absurd (home (unknown_by (v.known p.home p) (h.known p.home)))
+somewhere v p (Rests at) l x h alive agree home = rests_stands v p at (h.known at)
+somewhere v p (Over at) l x h alive agree home =
+    let same : (at == at) ≡ true = grind (arith, nat_tests) in
+    grind (arith, nat_tests)
+somewhere v p (Moves k s d id) l x h alive agree home = moves_stands v p k s d id h
+
+pub alive_placed : (b : Boot) (pt : Point) (p : Pid) (x : PlainProcess) → Run b pt → pt.kernel.processes p ≡ Some (Alive x) → Placed pt p
+alive_placed b pt p x run alive =
+    let known = run.based.known in
+    let sane = run.based.phased.sane in
+    let server = (living pt p x sane (ap kernel.alive alive)).server in
+    let phases_ = run.based.phased.phases in
+    let at = somewhere pt.view p (phases_.of p) (pt.kernel.processes p) x (phases_.each p) alive (λ m. known.agree m p server) (known.home p server (ap is_some alive)) in
+    placed pt p at.machine at.standing (run.found.known_within at.machine p (λ e. let f : None ≡ Some at.standing = sym (ap stands_by e) ∙ at.stands in cc)) at.stands
 
 -- lines that say of no process whether it lives
 abbrev Mute : Pid → List EndLine → Type 0
@@ -31,8 +153,7 @@ mute_machines p f (suc m) h = mute_both p (each_machine f m) (f m) (mute_machine
 
 -- all but the lines of processes
 mute_list : (p : Pid) (f : List MsgId → EndLine) (ids : List MsgId) → ((is : List MsgId) → tells_life p (f is) ≡ false) → Mute p (list_line f ids)
-mute_list p f [] h = refl
-mute_list p f (i ∷ is) h = ap (λ (c : Bool). if c then f (i ∷ is) ∷ [] else []) (h (i ∷ is))
+mute_list p f ids h = grind (arith, nat_tests)
 
 mute_names : (p : Pid) (a : Addresses) (n : ℕ) (ks : List NamedLink) → Mute p (name_lines a n ks)
 mute_names p a n [] = refl
@@ -47,60 +168,40 @@ mute_pending p [] = refl
 mute_pending p (r ∷ rs) = mute_pending p rs
 
 mute_servers : (p : Pid) (pt : Point) → Mute p (server_lines pt)
-mute_servers p pt =
-    let s = pt.kernel in
-    let names = EndLine.Server switchboard s.switchboard.sent ∷ EndLine.Server manager s.manager.sent ∷ name_lines pt.addresses 0 s.switchboard.names in
-    let children = child_lines pt.addresses 1 s.manager.children in
-    let pending = pending_lines s.manager.pending in
-    mute_both p (names ++ children) pending (mute_both p names children (mute_names p pt.addresses 0 s.switchboard.names) (mute_children p pt.addresses 1 s.manager.children)) (mute_pending p s.manager.pending)
+mute_servers p pt = search (mute_both, mute_names, mute_children, mute_pending)
 
 mute_queue : (p : Pid) (v : View) (q : Pid) (o : Option Stood) → Mute p (queue_at v q o)
-mute_queue p v q None = refl
-mute_queue p v q (Some s) = mute_list p (EndLine.Queue q) (v.queue s.at q) (λ is. refl)
+mute_queue p v q o = grind (arith, nat_tests, mute_list)
 
 mute_queues : (p : Pid) (pt : Point) → Mute p (queue_lines pt)
-mute_queues p pt =
-    let n = pt.kernel.machines in
-    mute_homes p pt (λ q. queue_at pt.view q (first_with standing_of pt.view q n)) n (λ q. mute_queue p pt.view q (first_with standing_of pt.view q n))
+mute_queues p pt = search (mute_homes, mute_queue)
 
 mute_holding : (p : Pid) (pt : Point) → Mute p (holding_lines pt)
-mute_holding p pt =
-    let n = pt.kernel.machines in
-    mute_machines p (λ m. each_process pt (λ q. list_line (EndLine.Holding m q) (pt.view.held m q))) n
-    (λ m. mute_homes p pt (λ q. list_line (EndLine.Holding m q) (pt.view.held m q)) n (λ q. mute_list p (EndLine.Holding m q) (pt.view.held m q) (λ is. refl)))
+mute_holding p pt = search (mute_machines, mute_homes, mute_list)
 
 mute_inboxes : (p : Pid) (pt : Point) → Mute p (inbox_lines pt)
 mute_inboxes p pt = mute_machines p (λ m. list_line (EndLine.Inbox m) (pt.view.inbox m)) pt.kernel.machines (λ m. mute_list p (EndLine.Inbox m) (pt.view.inbox m) (λ is. refl))
 
 mute_streams : (p : Pid) (pt : Point) → Mute p (stream_lines pt)
-mute_streams p pt =
-    let n = pt.kernel.machines in
-    mute_machines p (λ a. each_machine (λ c. list_line (EndLine.Stream a c) (untaken (pt.view.pair a c))) n) n
-    (λ a. mute_machines p (λ c. list_line (EndLine.Stream a c) (untaken (pt.view.pair a c))) n (λ c. mute_list p (EndLine.Stream a c) (untaken (pt.view.pair a c)) (λ is. refl)))
+mute_streams p pt = search (mute_machines, mute_list)
 
 -- the lines of a process, but for the first
 mute_block : (p q : Pid) (k : ℕ) (bytes : List ℕ) → Mute p (block_line q k bytes)
-mute_block p q k [] = refl
-mute_block p q k (x ∷ xs) = refl
+mute_block p q k bytes = grind (arith, nat_tests)
 
 mute_memory : (p q : Pid) (bytes : List ℕ) (k : ℕ) → Mute p (memory_lines q bytes k)
 mute_memory p q bytes zero = refl
-mute_memory p q bytes (suc k) =
-    let block = trimmed (take 256 (drop (256 * k) bytes)) in
-    mute_both p (memory_lines q bytes k) (block_line q k block) (mute_memory p q bytes k) (mute_block p q k block)
+mute_memory p q bytes (suc k) = search (mute_both, mute_block, mute_memory p q bytes k)
 
 mute_slot : (p : Pid) (a : Addresses) (q : Pid) (k : ℕ) (o : Option PlainLink) → Mute p (slot_line a q k o)
-mute_slot p a q k None = refl
-mute_slot p a q k (Some l) = refl
+mute_slot p a q k o = grind (arith, nat_tests)
 
 mute_links : (p : Pid) (a : Addresses) (q : Pid) (k : ℕ) (ls : List (Option PlainLink)) → Mute p (link_lines a q k ls)
 mute_links p a q k [] = refl
 mute_links p a q k (l ∷ ls) = mute_both p (slot_line a q k l) (link_lines a q (k + 1) ls) (mute_slot p a q k l) (mute_links p a q (k + 1) ls)
 
 mute_state : (p : Pid) (a : Addresses) (q : Pid) (x : PlainProcess) → Mute p (state_lines a q x)
-mute_state p a q x =
-    let memory = memory_lines q x.memory (length x.memory / 256) in
-    mute_both p (EndLine.Registers q x.regs.r x.regs.pc ∷ memory) (link_lines a q 0 x.links) (mute_memory p q x.memory (length x.memory / 256)) (mute_links p a q 0 x.links)
+mute_state p a q x = search (mute_both, mute_memory, mute_links)
 
 -- another process's lines say nothing of this one
 other_alive : (p : Pid) (a : Addresses) (q : Pid) (x : PlainProcess) (o : Option Stood) → pid_eq p q ≡ false → Mute p (alive_lines a q x o)
@@ -110,9 +211,7 @@ other_alive p a q x (Some s) off =
     ap (λ (c : Bool). if c then l ∷ life_lines p (state_lines a q x) else life_lines p (state_lines a q x)) off ∙ mute_state p a q x
 
 other_life : (p : Pid) (pt : Point) (q : Pid) (l : Option Life) → pid_eq p q ≡ false → Mute p (process_lines pt q l)
-other_life p pt q None off = refl
-other_life p pt q (Some (Alive x)) off = other_alive p pt.addresses q x (stood pt.view q pt.kernel.machines) off
-other_life p pt q (Some (Life.Ended because)) off = ap (λ (c : Bool). if c then EndLine.Ended q because ∷ [] else []) off
+other_life p pt q l off = grind (arith, nat_tests, other_alive)
 
 -- this process's own lines
 own_life : (b : Boot) (pt : Point) (p : Pid) (l : Option Life) → Run b pt → pt.kernel.processes p ≡ l → IsSaid pt p l (life_lines p (process_lines pt p l))
@@ -120,19 +219,11 @@ own_life b pt p None run is = refl
 own_life b pt p (Some (Life.Ended because)) run is = ap (λ (c : Bool). if c then EndLine.Ended p because ∷ [] else []) (pid_eq-same p)
 own_life b pt p (Some (Alive x)) run is =
     let at = alive_placed b pt p x run is in
-    let l = EndLine.Process p at.at.at at.at.standing (doing_of x.status) x.stopped x.sent in
-    let rest = state_lines pt.addresses p x in
-    let said : life_lines p (alive_lines pt.addresses p x (stood pt.view p pt.kernel.machines)) ≡ l ∷ [] =
-    ap (λ (o : Option Stood). life_lines p (alive_lines pt.addresses p x o)) at.is ∙ ap (λ (c : Bool). if c then l ∷ life_lines p rest else life_lines p rest) (pid_eq-same p)
-    ∙ ap (λ (ls : List EndLine). l ∷ ls) (mute_state p pt.addresses p x) in
-    (at.at, at.place, said)
+    grind (arith, nat_tests, pid_eq-same, mute_state)
 
 -- a process among those of a home, and of all homes
 not_same : (p q : Pid) → (p ≡ q → ⊥) → pid_eq p q ≡ false
-not_same p q h = elim (cases_Bool (pid_eq p q)) [
-  | inl same ↦ absurd (h (pid_eq-is p q same))
-  | inr off ↦ off
-]
+not_same p q h = grind (arith, nat_tests, pid_eq-is)
 
 abbrev Others : Pid → (Pid → List EndLine) → Type 0
 Others p f = (q : Pid) → pid_eq p q ≡ false → Mute p (f q)

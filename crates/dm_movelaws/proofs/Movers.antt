@@ -1,5 +1,4 @@
 -- Lemmas of the family Movers, by file.
 pub mod Says
 pub mod Rows
-pub mod Gone
 pub mod Always

@@ -1,17 +1,16 @@
 -- What the proofs of this crate name of what lies below it.
 pub use Rattle.std.proofs.Math.Seq.{drop-nil}
 pub use Rattle.std.proofs.lemmas.List.Elements.{filter-append}
-pub use Rattle.dm_processor.proofs.Names.{Bool, List, Row, [], ap, arith, drop, false, instruction, length, nat_tests, refl, suc, sym, take, true, zero, ℕ, ◌*◌, ◌++◌, ◌+◌, ◌-◌, ◌/◌, ◌<◌, ◌∙◌, ◌∷◌, ◌≡◌, ◌≤◌}
+pub use Rattle.dm_processor.proofs.Names.{Bool, List, Row, [], ap, arith, drop, false, instruction, length, nat_tests, refl, suc, sym, take, true, zero, ℕ, ◌++◌, ◌+◌, ◌-◌, ◌/◌, ◌<◌, ◌∙◌, ◌∷◌, ◌≡◌, ◌≤◌}
 pub use Rattle.dm_linktable.proofs.Names.{Pid, first_empty, link_at, map, pid_eq, subst, ◌&&◌, ◌==◌, ◌≢◌}
 pub use Rattle.dm_schedule.proofs.Names.{append-nil, append_assoc, drop-length, if◌then◌else◌, nat_lt, not}
 pub use Rattle.dm_process.proofs.Names.{slice_get}
 pub use Rattle.dm_onekernel.specs.Pieces.{piece_of}
 pub use Rattle.dm_onekernel.specs.Service.{manager_took}
 pub use Rattle.dm_laws.proofs.Counted.{Sent, is_of_memory}
-pub use Rattle.dm_laws.proofs.Names.{Alive, Boot, BootImage, BootProcess, CallNumber, Called, Copy, Direction, Drop, IsValid, Label, Life, Make, Manager, Move, Moving, MsgId, None, OneKernel, Option, Pending, PlainLink, PlainMessage}
-pub use Rattle.dm_laws.proofs.Names.{PlainProcess, PlainStatus, PlainWhat, Ready, Receive, Reply, Send, Sends, Some, Waiting, Waits, Why, answer_id, answer_to, bind, bool_eq, call_number, cases_Bool, direction_numbered, entry, false≢true}
-pub use Rattle.dm_laws.proofs.Names.{first_failed, first_life, first_number, id_eq, id_of, in_bag, inl, inr, is_some, life_at, manager, nat_le, option_map, pid_of, plain_link, reception, receptions, reg, replay, start}
-pub use Rattle.dm_laws.proofs.Names.{switchboard, with_process, with_sent, without_message, ⊤, ◌⊎◌}
+pub use Rattle.dm_laws.proofs.Names.{Alive, Boot, BootProcess, CallNumber, Called, Direction, IsValid, Label, Life, Manager, Moving, MsgId, None, OneKernel, Option, Pending, PlainLink, PlainMessage, PlainProcess, PlainStatus, PlainWhat}
+pub use Rattle.dm_laws.proofs.Names.{Ready, Reply, Sends, Some, Waiting, Why, answer_id, answer_to, bind, bool_eq, cases_Bool, entry, false≢true, first_failed, first_number, id_eq, id_of, in_bag, inl, inr, is_some, life_at}
+pub use Rattle.dm_laws.proofs.Names.{manager, nat_le, pid_of, reception, receptions, replay, start, switchboard, with_process, with_sent, without_message, ⊤, ◌⊎◌}
 pub use Rattle.dm_laws.proofs.Runs.{ended_stays, reached}
 pub use Rattle.dm_laws.proofs.Servers.{board_takes_lem, manager_takes_lem}
 pub use Rattle.dm_laws.proofs.Sound.{not_counted}
@@ -37,19 +36,17 @@ pub use Rattle.dm_rule.proofs.Moves.Lists.{emptied}
 pub use Rattle.dm_rule.proofs.Moves.Rows.{accepted_off, frozen_off, home_again, home_off, lacks_off, left_off, memory_off, proto_off, restarted_off, state_off}
 pub use Rattle.dm_rule.proofs.Moves.Sent.{least_of as either, fits_packet, fits_put, line_next}
 pub use Rattle.dm_rule.proofs.Moves.States.{kernels_by, packet_off}
-pub use Rattle.dm_rule.proofs.Names.{About, Addresses, AddressesOn, Again, Answer, Child, Enclosed, Ended, Forward, Frozen, Gets, Held, Here, Holder, Inbox, Incoming, IsIn, IsOn, IsOthers, IsQuiet, IsStep, IsToken, Known, Leads, LifeGrows}
-pub use Rattle.dm_rule.proofs.Names.{Line, Load, MessageKind, Moves, Name, NamedLink, NothingElse, Nowhere, Of, Over, Owner, Owns, Pair, Part, Phase, Place, Point, Queue, Receiver, Rests, Routes, Says, Sender, ServerSends, Slot, Sort}
-pub use Rattle.dm_rule.proofs.Names.{Sound, Spares, Spelled, Spot, Stage, StandsNowhere, StandsOutside, StandsRight, Step, Told, Trail, Trails, TrailsAlways, Transmits, Trodden, Unknown, Untaken, View, accepts, acting_place, actor}
-pub use Rattle.dm_rule.proofs.Names.{addresses_after, after, after_head, after_line, after_proto, after_put, after_step, alive-is, all_follow, along, answer_link, ascends, asks_on, at_machine, at_pair, at_record, behind, behind_count}
-pub use Rattle.dm_rule.proofs.Names.{belongs_to, bind-is, board_finds, board_keeps, both_true, call_gets, child_links, child_number, chunks_of, counts, counts_process, destination, enclosed_from, encloses, ended_told, fills_by, filter}
-pub use Rattle.dm_rule.proofs.Names.{first_gives, first_point, first_trails, first_trodden, first_view, follows_up, forward_about, forwarded_for, forwards, forwards_on, free_room, front_of, front_told, gets, given, gives, gives_piece}
-pub use Rattle.dm_rule.proofs.Names.{goes_out, goes_round, gone_to, group_of, handled, handled_first, hears, held_for, here_told, holder_eq, id_eq-is, id_eq-same, ids_at, is_apart, is_away, is_behind, is_between, is_counted, is_dropped}
-pub use Rattle.dm_rule.proofs.Names.{is_due, is_early, is_here, is_kernels, is_over, is_pid, is_restart, is_told_back, kernel_after, kernel_hears, kernel_told, kills, kind_comes, knowing, known_at, knows, label_of, lands-is, leads_to}
-pub use Rattle.dm_rule.proofs.Names.{left_true, length-append, lines_of, link_target, manager_answers, manager_sends, manager_tells, marked, migrates, moved, name_link, names, not_server, outcome, own_given, own_gives, own_id, packet_line}
-pub use Rattle.dm_rule.proofs.Names.{pending_of, pid_eq-is, pid_eq-same, pieces_of, place_of_child, place_told, plain_kind, process_told, puts, receiver_in, receiver_of, receives_links, receives_what, released, right_true, sender_in}
-pub use Rattle.dm_rule.proofs.Names.{sender_of, sends_on, sends_what, sent_at, sent_off, served_told, server_told, serves_what, slice_get_cases, slice_get_within, slot_after, slot_of, sort_of, spelled, standing, stayed, taken_id}
-pub use Rattle.dm_rule.proofs.Names.{takes_block, takes_chunk, target_of, times, to_kernel, to_of, token_in, told_back_gets, told_between, trails_after, unmoved, untaken, updated, updated_to, updates, view_after, why_ended-is, with_pair}
-pub use Rattle.dm_rule.proofs.Names.{with_ring, without_front, without_id, ◌||◌}
+pub use Rattle.dm_rule.proofs.Names.{About, Addresses, AddressesOn, Again, Answer, Child, Enclosed, Ended, Forward, Frozen, Gets, Held, Here, Holder, Inbox, Incoming, IsIn, IsOn, IsQuiet, IsStep, IsToken, Known, Leads, LifeGrows, Line}
+pub use Rattle.dm_rule.proofs.Names.{Load, MessageKind, Moves, Name, NamedLink, NothingElse, Nowhere, Of, Over, Owner, Owns, Pair, Part, Phase, Place, Point, Queue, Receiver, Rests, Routes, Says, Sender, ServerSends, Slot, Sort, Sound}
+pub use Rattle.dm_rule.proofs.Names.{Spares, Spelled, Spot, Stage, StandsOutside, StandsRight, Step, StoodOnTrail, Told, Trail, Trails, TrailsAlways, Transmits, Trodden, Unknown, Untaken, View, accepts, actor, addresses_after, after}
+pub use Rattle.dm_rule.proofs.Names.{after_head, after_line, after_proto, after_put, after_step, alive-is, all_follow, along, ascends, at_machine, at_pair, at_record, behind, behind_count, belongs_to, bind-is, both_true, child_links}
+pub use Rattle.dm_rule.proofs.Names.{chunks_of, counts, counts_process, destination, enclosed_from, encloses, ended_told, filter, first_gives, first_point, first_trails, first_trodden, first_view, forwarded_for, forwards, forwards_on}
+pub use Rattle.dm_rule.proofs.Names.{front_of, front_told, given, gives, gives_piece, goes_out, goes_round, gone_to, group_of, handled, handled_first, hears, held_for, here_told, holder_eq, id_eq-is, id_eq-same, ids_at, is_away, is_behind}
+pub use Rattle.dm_rule.proofs.Names.{is_between, is_counted, is_dropped, is_due, is_early, is_here, is_kernels, is_over, is_pid, is_restart, is_told_back, kernel_after, kernel_hears, kernel_told, kills, kind_comes, knowing, knows, label_of}
+pub use Rattle.dm_rule.proofs.Names.{lands-is, leads_to, leaves, left_true, length-append, lines_of, link_target, manager_gets, manager_sends, manager_tells, migrates, moved, name_link, not_server, outcome, own_given, own_gives, own_id}
+pub use Rattle.dm_rule.proofs.Names.{packet_line, pending_of, pid_eq-is, pid_eq-same, pieces_of, place_told, plain_kind, process_told, puts, receiver_in, receiver_of, receives_links, receives_what, released, right_true, sender_in}
+pub use Rattle.dm_rule.proofs.Names.{sender_of, sends_on, sends_what, sent_at, sent_off, served_told, server_told, slice_get_cases, slice_get_within, slot_after, slot_of, sort_of, spelled, standing, stayed, taken_id, takes_block}
+pub use Rattle.dm_rule.proofs.Names.{takes_chunk, target_of, times, to_kernel, to_of, token_in, told_between, trails_after, unmoved, untaken, updated, view_after, why_ended-is, with_pair, with_ring, without_front, without_id, ◌||◌}
 pub use Rattle.dm_rule.proofs.Once.{one_of-same}
 pub use Rattle.dm_rule.proofs.Pairs.Lines.{AllFit, line_view, onward, pair_same, taken_pair, touches}
 pub use Rattle.dm_rule.proofs.Pairs.Migrating.{migrates_fit}
@@ -67,10 +64,10 @@ pub use Rattle.dm_rule.proofs.Phases.Put.{first_none, last_there, put_spot, put_
 pub use Rattle.dm_rule.proofs.Phases.Quiet.{Tame, line_calm, parts_settle, plain_in_bag, received_spots}
 pub use Rattle.dm_rule.proofs.Phases.Rests.{released_on}
 pub use Rattle.dm_rule.proofs.Phases.Stand.{held_plain, queued_plain}
-pub use Rattle.dm_rule.proofs.Phases.Start.{start_known, starts}
+pub use Rattle.dm_rule.proofs.Phases.Start.{start_known}
 pub use Rattle.dm_rule.proofs.Said.{fits_as}
 pub use Rattle.dm_rule.proofs.Serving.{Loose, loose_handles, loose_round}
-pub use Rattle.dm_rule.proofs.States.{PacketsKeep, PairsFit, said as last_point, puts_next, said, says_next, transmits_next}
+pub use Rattle.dm_rule.proofs.States.{PacketsKeep, PairsFit, said as last_point, puts_next, said, says_next}
 pub use Rattle.dm_rule.proofs.Trails.Along.{Carries, along_treads, trails_always_by}
 pub use Rattle.dm_rule.proofs.Trails.Found.{treads_start}
 pub use Rattle.dm_rule.proofs.Trails.Known.{get_at_end}
@@ -86,10 +83,10 @@ pub use Rattle.dm_rule.specs.Addresses.{creates_what}
 pub use Rattle.dm_rule.specs.Ends.{Stood, alive_lines, child_lines, doing_of, each_process, end_lines, first_with, holding_lines, homes_with, inbox_lines, link_lines, name_lines, pending_lines, process_lines, queue_at, queue_lines}
 pub use Rattle.dm_rule.specs.Ends.{server_lines, slot_line, standing_of, state_lines, stood, stood_at, stream_lines}
 pub use Rattle.dm_rule.specs.Migrating.{answers_in, behind_among, holders_numbered, holders_of, slot_holders, slots_from}
-pub use Rattle.dm_rule.specs.Phases.{is_unknown, kind_leaves}
+pub use Rattle.dm_rule.specs.Phases.{is_unknown, kind_leaves, tells_between}
 pub use Rattle.dm_rule.specs.Rule.{handles, landing_parts}
-pub use Rattle.dm_rulelaws.proofs.Based.Always.{based_always, based_group, based_start}
-pub use Rattle.dm_rulelaws.proofs.Based.Constants.{constant_group, step_constant}
+pub use Rattle.dm_rulelaws.proofs.Based.Always.{based_always, based_group}
+pub use Rattle.dm_rulelaws.proofs.Based.Constants.{step_constant}
 pub use Rattle.dm_rulelaws.proofs.Based.Groups.{Begins, begins, group_keeps}
 pub use Rattle.dm_rulelaws.proofs.Based.Loud.{Loud, keeps_by}
 pub use Rattle.dm_rulelaws.proofs.Based.Needs.{AllLoose, Needs, NeedsLabel, NeedsPart, Rides, Said, Serves, Steps, Unborn, Walks, WalksOf, again_rides, begun, begun_sane, loose_walks, said_by}
@@ -108,21 +105,20 @@ pub use Rattle.dm_rulelaws.proofs.Found.Labels.{fixed_home}
 pub use Rattle.dm_rulelaws.proofs.Found.Lists.{more_front}
 pub use Rattle.dm_rulelaws.proofs.Found.Parts.{again_same, own_fresh, own_outside, plain_own}
 pub use Rattle.dm_rulelaws.proofs.Found.Real.{made_free, named_real, or_cases, server_fixed}
-pub use Rattle.dm_rulelaws.proofs.Found.Steps.{created_for, no_space_for, took_for}
 pub use Rattle.dm_rulelaws.proofs.Goes.Always.{front, front_own, own_by, stands_first, told_of}
 pub use Rattle.dm_rulelaws.proofs.Goes.Own.{apart_is, destination_knows, server_leaves, source_knows}
 pub use Rattle.dm_rulelaws.proofs.Goes.Parts.{some_is}
 pub use Rattle.dm_rulelaws.proofs.Goes.Runs.{Both, both_group, both_start}
 pub use Rattle.dm_rulelaws.proofs.Goes.Serves.{first_is}
 pub use Rattle.dm_rulelaws.proofs.Goes.Turns.{times_more, times_self}
-pub use Rattle.dm_rulelaws.proofs.Names.{AllSayable, AtHome, BagStep, Grown, InPhases, IsNet, IsNetLine, IsPending, KernelFits, KnownStands, LeadsBy, Links, Named, One, Outside, Phased, ReceivedAt, Rooted, SaidOn, Sane, Sayable, State}
-pub use Rattle.dm_rulelaws.proofs.Names.{Stops, Target, WhatFits, about_same, agrees, arrives_net, at_home, at_machine_at, at_place, at_record_at, awaits, bag_call, bag_created, bag_dropped, bag_end, bag_gone, bag_no_space, bag_out}
-pub use Rattle.dm_rulelaws.proofs.Names.{bag_ran, bag_receive, bag_refuse, bag_sends, bag_served, bag_took, bag_wait, both_lists, both_times, by_forwards, by_group, by_handles, by_hears, by_migrates, by_net, by_outcome, by_parts, by_round}
-pub use Rattle.dm_rulelaws.proofs.Names.{by_step, calm_phases, came, child_is, destination_expects, dropped_known, due, eq_is, eq_self, first_off, first_told, forwarded_back, forwarded_known, front_gone, front_kernels, front_way}
-pub use Rattle.dm_rulelaws.proofs.Names.{goes_between, group_is, grown_none, has_bytes, has_no_queue, has_nothing_held, head_calm, held_known, hidden, homes_are, hushed, is_fixed, is_kill, is_piece, is_put, is_server, kernels_fresh}
-pub use Rattle.dm_rulelaws.proofs.Names.{label_on, label_topic, labels, left_parts, length-drop, length-take, letters, machine_of, move_fits, moves_away, not_false, not_kernels, not_true, one_of, or_first, out_off, outcome_sayable}
-pub use Rattle.dm_rulelaws.proofs.Names.{pair_keeps, part_sane, parts, phased_group, phased_start, pid_eq-swap, piece_fits, proto_acting, proto_known, put_at, put_told_off, queued_known, rejoins, resends_net, rests_here, rooted, sane_line}
-pub use Rattle.dm_rulelaws.proofs.Names.{second, served_keeps, server_at, source_holds, stands_right, status_awaits, times-append, token_is, told_some, turn_off, under_way, with_label}
+pub use Rattle.dm_rulelaws.proofs.Names.{AllSayable, AtHome, BagStep, Grown, InPhases, IsNet, IsNetLine, KernelFits, KnownStands, LeadsBy, Links, Named, One, Outside, Phased, ReceivedAt, Rooted, SaidOn, Sane, Sayable, State, Stops, Target}
+pub use Rattle.dm_rulelaws.proofs.Names.{WhatFits, about_same, agrees, arrives_net, at_home, at_machine_at, at_place, at_record_at, awaits, bag_call, bag_created, bag_dropped, bag_end, bag_gone, bag_no_space, bag_out, bag_ran, bag_receive}
+pub use Rattle.dm_rulelaws.proofs.Names.{bag_refuse, bag_sends, bag_served, bag_took, bag_wait, both_lists, both_times, by_forwards, by_group, by_handles, by_hears, by_migrates, by_net, by_outcome, by_parts, by_round, by_step, calm_phases}
+pub use Rattle.dm_rulelaws.proofs.Names.{came, child_is, destination_expects, dropped_known, due, eq_is, eq_self, first_off, forwarded_back, forwarded_known, front_gone, front_kernels, front_way, goes_between, group_is, grown_none}
+pub use Rattle.dm_rulelaws.proofs.Names.{has_bytes, has_no_queue, has_nothing_held, head_calm, held_known, hidden, homes_are, hushed, is_fixed, is_kill, is_piece, is_put, is_server, kernels_fresh, label_on, label_topic, labels, left_parts}
+pub use Rattle.dm_rulelaws.proofs.Names.{length-drop, length-take, letters, machine_of, move_fits, moves_away, not_false, not_kernels, not_true, one_of, or_first, out_off, outcome_sayable, pair_keeps, part_sane, parts, phased_group}
+pub use Rattle.dm_rulelaws.proofs.Names.{phased_start, pid_eq-swap, piece_fits, proto_acting, proto_known, put_at, put_told_off, queued_known, rejoins, resends_net, rests_here, rooted, sane_line, second, served_keeps, source_holds}
+pub use Rattle.dm_rulelaws.proofs.Names.{stands_right, status_awaits, times-append, token_is, told_some, turn_off, under_way, with_label}
 pub use Rattle.dm_rulelaws.proofs.Own.Told.{is_place, own_sort}
 pub use Rattle.dm_rulelaws.proofs.Queued.{IsQueued}
 pub use Rattle.dm_rulelaws.proofs.RunLabels.{after_replay, group_replay, labels-append, replay-append}
@@ -137,12 +133,12 @@ pub use Rattle.dm_movelaws.specs.Links.{CountsPromise, IsThere}
 pub use Rattle.dm_movelaws.specs.Lists.{IsFor, IsUserFor, ListsAlways, ListsForTheirs}
 pub use Rattle.dm_movelaws.specs.Movers.{AnswersFor, AsksFor, HasEnded, HasPiece, MoversHavePieces, answers_piece, asks_piece}
 pub use Rattle.dm_movelaws.specs.Numbers.{IsBelow, NumbersAlways}
-pub use Rattle.dm_movelaws.specs.Open.{AllOpen, IsAnothers, IsAnothersIf, IsSpared, OpenKeeps, OpenMoves, OpenSpares, OpenStays, is_open, mark_by, mark_while, open_mark}
+pub use Rattle.dm_movelaws.specs.Open.{AllOpen, IsAnothers, IsAnothersIf, IsSpared, OpenKeeps, OpenMoves, OpenSpares, OpenStays, is_open, mark_while, open_mark}
 pub use Rattle.dm_movelaws.specs.Pending.{HasOne, IsOfPending, PendingAscends, PendingHasOne, is_pending, makes}
 pub use Rattle.dm_movelaws.specs.Promise.{IsUnderWay, Promised, PromisesAlways, Unfilled, fills, update_of}
 pub use Rattle.dm_movelaws.specs.Protocol.{ProtocolMoves}
 pub use Rattle.dm_movelaws.specs.Real.{IsAboutReal, IsReal, Kernel, Made, RealAlways, Server}
 pub use Rattle.dm_movelaws.specs.Routed.{AreRouted, RoutedAlways, routed, with_put}
-pub use Rattle.dm_movelaws.specs.Stages.{Lacking, Mark, Reached, Staying, StepsInOrder, follows, in_order, left_open, mark_for, marks, with_mark}
+pub use Rattle.dm_movelaws.specs.Stages.{Lacking, Mark, Reached, Staying, StepsInOrder, in_order, left_open, mark_for, marks, with_mark}
 pub use Rattle.dm_movelaws.specs.Trail.{AddressesLead, ByForward, ByHolder, ByOwn, ByRequest, ByUpdate, IsLast, IsLed, IsNamed, Reaches, TrailStands, TrailsStand, ends_walk, has_it, is_made}
 pub use Rattle.dm_movelaws.specs.Updates.{Updated, UpdatesAlways, is_owner, listings}

@@ -1,6 +1,6 @@
 -- The numbers in names of messages are below the counts of their senders.
-use Rattle.dm_movelaws.proofs.Names.{◌≡◌, ℕ, ◌<◌, ◌≤◌, Bool, true, false, nat_lt, refl, ap, ◌∙◌, sym, inl, inr, arith, if◌then◌else◌, None, Some, cases_Bool, nat_tests, Pid, pid_of, pid_eq, MsgId, id_of, PlainMessage, switchboard, manager}
-use Rattle.dm_movelaws.proofs.Names.{OneKernel, in_bag, is_counted, counts, pid_eq-same, Sound, not_server, counts_process, Point, Told, is_kernels, Sane, run_always, IsBelow, NumbersAlways, cases_zero}
+use Rattle.dm_movelaws.proofs.Names.{◌≡◌, ℕ, ◌<◌, true, false, nat_lt, refl, ap, ◌∙◌, sym, inl, inr, arith, None, Some, nat_tests, pid_of, MsgId, id_of, PlainMessage, OneKernel, in_bag, is_counted, counts, pid_eq-same, Sound, not_server}
+use Rattle.dm_movelaws.proofs.Names.{counts_process, Point, Told, is_kernels, Sane, run_always, IsBelow, NumbersAlways, cases_zero}
 
 -- what has entered is counted
 below : (r e : MsgId → ℕ) (s : OneKernel) (i : MsgId) → Sound r e s → counts s i ≡ true → IsBelow s i
@@ -8,17 +8,8 @@ below r e s i h c = record {
   of_process = λ x alive.
       let k : nat_lt i.n x.sent ≡ true = sym (counts_process s i.from i refl (not_server s i.from x alive h.made) ∙ ap (is_counted i.n) alive) ∙ c in
       grind (arith, nat_tests);
-  of_switchboard = λ is.
-      let same : pid_eq i.from switchboard ≡ true = ap (λ (q : Pid). pid_eq q switchboard) is ∙ pid_eq-same switchboard in
-      let k : nat_lt i.n s.switchboard.sent ≡ true = sym (ap (λ (t : Bool). if t then nat_lt i.n s.switchboard.sent else if pid_eq i.from manager then nat_lt i.n s.manager.sent else is_counted i.n (s.processes i.from)) same) ∙ c in
-      grind (arith, nat_tests);
-  of_manager = λ is.
-      let off : pid_eq i.from switchboard ≡ false = ap (λ (q : Pid). pid_eq q switchboard) is in
-      let same : pid_eq i.from manager ≡ true = ap (λ (q : Pid). pid_eq q manager) is ∙ pid_eq-same manager in
-      let k : nat_lt i.n s.manager.sent ≡ true =
-      sym (ap (λ (t : Bool). if t then nat_lt i.n s.switchboard.sent else if pid_eq i.from manager then nat_lt i.n s.manager.sent else is_counted i.n (s.processes i.from)) off
-      ∙ ap (λ (t : Bool). if t then nat_lt i.n s.manager.sent else is_counted i.n (s.processes i.from)) same) ∙ c in
-      grind (arith, nat_tests);
+  of_switchboard = grind (arith, nat_tests, pid_eq-same);
+  of_manager = grind (arith, nat_tests, pid_eq-same);
 }
 
 pub bag_counted : (r e : MsgId → ℕ) (s : OneKernel) (i : MsgId) (m : PlainMessage) → Sound r e s → s.bag i ≡ Some m → counts s i ≡ true
@@ -35,19 +26,10 @@ pub own_name : (i : MsgId) → is_kernels i ≡ true → id_of (pid_of i.from.ho
 own_name i e = grind (arith, nat_tests)
 
 own_below : (pt : Point) (i : MsgId) (t : Told) → Sane pt → pt.view.told i ≡ Some t → is_kernels i ≡ true → i.n < pt.view.count i.from.home
-own_below pt i t h told own = elim (cases_Bool (nat_lt i.n (pt.view.count i.from.home))) [
-  | inl less ↦ grind (arith, nat_tests)
-  | inr more ↦
-      let le : pt.view.count i.from.home ≤ i.n = grind (arith, nat_tests) in
-      absurd (let f : None ≡ Some t = sym (h.numbered i.from.home i.n le) ∙ ap pt.view.told (own_name i own) ∙ told in cc)
-]
+own_below pt i t h told own = grind (arith, nat_tests, own_name)
 
 -- wherever the rule leads
 pub numbers_always : NumbersAlways
 numbers_always b es pt valid leads =
     let sane = (run_always b es pt valid leads).run.based.phased.sane in
-    record {
-      bag = λ i m there. below sane.r sane.e pt.kernel i sane.sound (bag_counted sane.r sane.e pt.kernel i m sane.sound there);
-      told = λ i t told other. below sane.r sane.e pt.kernel i sane.sound (told_counted pt i t sane told other);
-      own = λ i t told own. own_below pt i t sane told own;
-    }
+    search (below, bag_counted, told_counted, own_below)

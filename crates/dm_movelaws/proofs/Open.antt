@@ -1,8 +1,6 @@
 -- Lemmas of the family Open, by file.
 pub mod Moves
-pub mod Spares
 pub mod Quiet
 pub mod Apart
 pub mod Stays
-pub mod Keeps
 pub mod Worked

@@ -1,5 +1,4 @@
 -- Lemmas of the family Pending, by file.
-pub mod Order
 pub mod Pairs
 pub mod Steps
 pub mod Always

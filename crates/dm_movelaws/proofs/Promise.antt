@@ -4,9 +4,7 @@ pub mod Slots
 pub mod Before
 pub mod Kept
 pub mod Spots
-pub mod Stands
 pub mod Parts
-pub mod Rows
 pub mod Told
 pub mod Groups
 pub mod Finds

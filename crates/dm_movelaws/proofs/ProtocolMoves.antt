@@ -1,12 +1,9 @@
 -- Each message of a migration that stands anywhere is the one that is under way of a process that moves.
-use Rattle.dm_movelaws.proofs.Names.{◌≡◌, ℕ, ap, ◌∙◌, sym, subst, Some, Pid, MsgId, MessageKind, Moves, IsIn, told_between, View, Told, token_is, run_always, ProtocolMoves}
+use Rattle.dm_movelaws.proofs.Names.{◌≡◌, ℕ, subst, Some, Pid, MsgId, MessageKind, Moves, IsIn, View, Told, token_is, run_always, ProtocolMoves}
 
 -- what was told of the message says its kind
 kind_is : (v : View) (p : Pid) (i : MsgId) (t : Told) (k : MessageKind) (s d : ℕ) → v.told i ≡ Some t → IsIn v p (Moves k s d (Some i)) → k ≡ t.kind
-kind_is v p i t k s d told h =
-    let e : Some (told_between p k s d) ≡ Some t = sym h.token.told ∙ told in
-    let f : told_between p k s d ≡ t = cc in
-    ap (λ (u : Told). u.kind) f
+kind_is v p i t k s d told h = search
 
 pub protocol_moves : ProtocolMoves
 protocol_moves b es pt i t z valid leads told between stands =

@@ -1,4 +1,3 @@
 -- Lemmas of the family Real, by file.
-pub mod Rows
 pub mod Lines
 pub mod Always

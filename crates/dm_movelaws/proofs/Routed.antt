@@ -1,5 +1,4 @@
 -- Lemmas of the family Routed, by file.
 pub mod Steps
-pub mod Outs
 pub mod Groups
 pub mod Always

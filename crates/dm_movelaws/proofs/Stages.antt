@@ -2,10 +2,7 @@
 pub mod Marks
 pub mod Spares
 pub mod Lines
-pub mod Parts
-pub mod Turns
 pub mod Hears
 pub mod Rows
 pub mod Steps
-pub mod Told
 pub mod Always

@@ -1,12 +1,9 @@
 -- Lemmas of the family Trail, by file.
 pub mod Placed
-pub mod Walks
 pub mod Loose
 pub mod Rows
 pub mod Forwards
 pub mod Hears
-pub mod Turns
-pub mod Always
 pub mod Real
 pub mod Standing
 pub mod Known

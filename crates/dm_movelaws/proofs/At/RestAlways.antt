@@ -1,9 +1,8 @@
 -- Where nothing is on its way between machines all is at rest.
-use Rattle.dm_movelaws.proofs.Names.{◌≡◌, ◌≢◌, ℕ, ◌+◌, ◌<◌, ◌≤◌, ◌==◌, ◌||◌, Bool, true, false, is_some, List, [], ◌∷◌, drop, refl, ap, ◌∙◌, sym, subst, inl, inr, nat_lt, nat_le, arith, if◌then◌else◌, drop-length, drop-nil, cases_Bool}
-use Rattle.dm_movelaws.proofs.Names.{false≢true, nat_tests, Option, None, Some, Pid, pid_eq, MsgId, MessageKind, PlainMessage, Boot, manager, Alive, PlainProcess, id_eq-same, not_server, Receiver, to_of, Phase, Nowhere, Rests, Over, Moves}
-use Rattle.dm_movelaws.proofs.Names.{is_unknown, is_here, is_over, is_away, is_due, IsToken, IsIn, Point, IsQuiet, Spot, Queue, Held, Inbox, Untaken, times, untaken, standing, View, Known, Unknown, Here, Frozen, Incoming, Ended, is_kernels}
-use Rattle.dm_movelaws.proofs.Names.{stands_right, kernels_fresh, phases_always, AtRestAlways, IsAt, IsWaiting, is_moving, is_server, has_no_queue, has_nothing_held, agrees, Run, run_always, told_of, eq_self, own_by, user_kind, machine_of}
-use Rattle.dm_rule.specs.Phases as phases
+use Rattle.dm_movelaws.proofs.Names.{◌≡◌, ◌≢◌, ℕ, ◌<◌, ◌≤◌, ◌||◌, Bool, true, false, is_some, List, [], ◌∷◌, drop, refl, ap, ◌∙◌, sym, subst, inl, inr, nat_lt, arith, if◌then◌else◌, drop-length, drop-nil, cases_Bool, false≢true, nat_tests}
+use Rattle.dm_movelaws.proofs.Names.{Option, None, Some, Pid, pid_eq, MsgId, MessageKind, PlainMessage, Boot, manager, Alive, PlainProcess, id_eq-same, not_server, Receiver, to_of, Phase, Nowhere, Rests, Over, Moves, is_unknown, is_here}
+use Rattle.dm_movelaws.proofs.Names.{is_over, is_away, is_due, IsToken, IsIn, Point, IsQuiet, Spot, Queue, Held, Inbox, Untaken, times, untaken, standing, View, Known, Unknown, Here, Ended, is_kernels, stands_right, kernels_fresh}
+use Rattle.dm_movelaws.proofs.Names.{phases_always, AtRestAlways, IsAt, IsWaiting, is_moving, is_server, has_no_queue, has_nothing_held, agrees, Run, run_always, told_of, eq_self, own_by, user_kind, machine_of}
 use Rattle.dm_movelaws.proofs.At.RestPairs.{Routed, routed_always}
 use Rattle.dm_movelaws.proofs.At.RestQueues.{Dropped, dropped_always}
 
@@ -17,10 +16,7 @@ pub within : (b : Boot) (pt : Point) (i : MsgId) (z : Spot) → Run b pt → 1 �
 within b pt i z h least = subst (λ (n : ℕ). n < pt.kernel.machines) (h.found.at_ i z least) (within_by b pt i z (pt.kernel.bag i) refl h least)
 
 first_times : (i : MsgId) (is xs : List MsgId) → xs ≡ i ∷ is → 1 ≤ times i xs
-first_times i is xs e =
-    let a : times i xs ≡ times i (i ∷ is) = ap (times i) e in
-    let c : times i (i ∷ is) ≡ 1 + times i is = ap (λ (c : Bool). (if c then 1 else 0) + times i is) (id_eq-same i) in
-    omega (arith, a, c)
+first_times i is xs e = grind (arith, nat_tests, id_eq-same)
 
 -- no message is on its way
 no_inbox : (b : Boot) (pt : Point) (m : ℕ) (is : List MsgId) → pt.view.inbox m ≡ is → Run b pt → IsQuiet pt.kernel.machines pt.view → pt.view.inbox m ≡ []
@@ -48,61 +44,18 @@ calm b pt h routed quiet = record {
 }
 
 -- so no process moves
-unknown_still : (k : Known) → is_unknown k ≡ true → is_moving k ≡ false
-unknown_still (Frozen to) e = absurd (false≢true e)
-unknown_still (Incoming from) e = absurd (false≢true e)
-unknown_still _ e = refl
-
-here_still : (k : Known) → is_here k ≡ true → is_moving k ≡ false
-here_still (Frozen to) e = absurd (false≢true e)
-here_still (Incoming from) e = absurd (false≢true e)
-here_still _ e = refl
-
-over_still : (k : Known) → is_over k ≡ true → is_moving k ≡ false
-over_still (Frozen to) e = absurd (false≢true e)
-over_still (Incoming from) e = absurd (false≢true e)
-over_still _ e = refl
-
-away_still : (k : Known) → is_away k ≡ true → is_moving k ≡ false
-away_still (Frozen to) e = absurd (false≢true e)
-away_still (Incoming from) e = absurd (false≢true e)
-away_still _ e = refl
-
-rests_still : (c : Bool) (k : Known) → (if c then is_here k else is_away k) ≡ true → is_moving k ≡ false
-rests_still true k e = here_still k e
-rests_still false k e = away_still k e
-
-ends_still : (c : Bool) (k : Known) → (if c then is_over k else is_away k) ≡ true → is_moving k ≡ false
-ends_still true k e = over_still k e
-ends_still false k e = away_still k e
-
 no_token : (v : View) (p : Pid) (k : MessageKind) (s d : ℕ) (id : MsgId) → Calm v → IsToken v p k s d id → ⊥
-no_token v p k s d id h t =
-    let stands = t.stands in
-    elim (t.ways t.spot stands) [
-      | inl box ↦ let f : standing v id t.spot ≡ 0 = ap (standing v id) box ∙ ap (times id) (h.inbox (phases.receiver_in k s d)) in omega (arith, stands, f)
-      | inr way ↦ let f : standing v id t.spot ≡ 0 = ap (standing v id) way ∙ ap (times id) (h.untaken (phases.sender_in k s d) (phases.receiver_in k s d)) in omega (arith, stands, f)
-    ]
+no_token v p k s d id h t = grind (arith, nat_tests)
 
 phase_still : (v : View) (p : Pid) (phase : Phase) (m : ℕ) → Calm v → IsIn v p phase → is_due phase ≡ false → is_moving (v.known m p) ≡ false
-phase_still v p Nowhere m h is due = unknown_still (v.known m p) (is.known m)
-phase_still v p (Rests n) m h is due = rests_still (n == m) (v.known m p) (is.known m)
-phase_still v p (Over n) m h is due = ends_still (n == m) (v.known m p) (is.known m)
-phase_still v p (Moves k s d None) m h is due = absurd (false≢true (sym due))
-phase_still v p (Moves k s d (Some id)) m h is due =
-    absurd (no_token v p k s d id h is.token)
+phase_still v p phase m h is due = grind (arith, nat_tests, no_token)
 
-still_held : (k : Known) → is_moving k ≡ false → has_nothing_held k ≡ true
-still_held (Frozen to) e = sym e
-still_held (Incoming from) e = sym e
-still_held _ e = refl
+pub still_held : (k : Known) → is_moving k ≡ false → has_nothing_held k ≡ true
+still_held k e = grind (arith, nat_tests)
 
 -- a queue is where a process is
 still_queue : (k : Known) → is_moving k ≡ false → has_no_queue k ≡ false → (k ≡ Ended → ⊥) → k ≡ Here
-still_queue Here e f lives = refl
-still_queue (Frozen to) e f lives = absurd (false≢true (sym e))
-still_queue Ended e f lives = absurd (lives refl)
-still_queue _ e f lives = absurd (false≢true (sym f))
+still_queue k e f lives = grind (arith, nat_tests)
 
 -- all that stands stands in a queue
 pub record Rest (pt : Point) : Type 0 where
@@ -139,14 +92,7 @@ waits_at b pt i x (Inbox m) h rest there one others = absurd (nothing_one i (pt.
 waits_at b pt i x (Untaken c d) h rest there one others = absurd (nothing_one i (untaken (pt.view.pair c d)) (rest.calm.untaken c d) one)
 
 own_queue : (b : Boot) (pt : Point) (i : MsgId) (m : ℕ) (p : Pid) → Run b pt → is_kernels i ≡ true → standing pt.view i (Queue m p) ≡ 0
-own_queue b pt i m p h own = elim (cases_Bool (nat_le 1 (times i (pt.view.queue m p)))) [
-  | inl some ↦
-      let state = h.based.phased.state in
-      let q = h.based.queued m p i (let f : 1 ≤ times i (pt.view.queue m p) = grind (arith, nat_tests) in f) in
-      let entered = q.entered in
-      absurd (let zero_ = kernels_fresh state.r state.e pt.kernel i state.sound own in omega (arith, entered, zero_))
-  | inr none ↦ let f : times i (pt.view.queue m p) ≡ 0 = grind (arith, nat_tests) in f
-]
+own_queue b pt i m p h own = grind (arith, nat_tests, kernels_fresh)
 
 own_nowhere : (b : Boot) (pt : Point) (i : MsgId) (z : Spot) → Run b pt → Rest pt → is_kernels i ≡ true → standing pt.view i z ≡ 0
 own_nowhere b pt i (Queue m p) h rest own = own_queue b pt i m p h own
@@ -155,17 +101,14 @@ own_nowhere b pt i (Inbox m) h rest own = ap (times i) (rest.calm.inbox m)
 own_nowhere b pt i (Untaken c d) h rest own = ap (times i) (rest.calm.untaken c d)
 
 -- where a living process is
-is_here_is : (k : Known) → is_here k ≡ true → k ≡ Here
-is_here_is Here e = refl
-is_here_is _ e = absurd (false≢true e)
+pub is_here_is : (k : Known) → is_here k ≡ true → k ≡ Here
+is_here_is k e = grind (arith, nat_tests)
 
-is_unknown_is : (k : Known) → is_unknown k ≡ true → k ≡ Unknown
-is_unknown_is Unknown e = refl
-is_unknown_is _ e = absurd (false≢true e)
+pub is_unknown_is : (k : Known) → is_unknown k ≡ true → k ≡ Unknown
+is_unknown_is k e = grind (arith, nat_tests)
 
 over_dead : (k : Known) (x : PlainProcess) → is_over k ≡ true → agrees k (Some (Alive x)) ≡ true → ⊥
-over_dead Ended x e f = absurd (false≢true f)
-over_dead _ x e f = absurd (false≢true e)
+over_dead k x e f = grind (arith, nat_tests)
 
 phase_at : (v : View) (p : Pid) (x : PlainProcess) (phase : Phase) → Calm v → v.known p.home p ≢ Unknown → ((m : ℕ) → agrees (v.known m p) (Some (Alive x)) ≡ true) → IsIn v p phase → is_due phase ≡ false → IsAt v p
 phase_at v p x Nowhere h home alive is due = absurd (home (is_unknown_is (v.known p.home p) (is.known p.home)))

@@ -1,8 +1,7 @@
 -- Where a process has ended nothing comes to its queue: each group keeps it.
-use Rattle.dm_movelaws.proofs.Names.{◌≡◌, ℕ, ◌+◌, ◌==◌, Bool, true, false, List, [], ◌∷◌, ◌++◌, refl, ap, ◌∙◌, sym, subst, inl, inr, if◌then◌else◌, cases_Bool, false≢true, Option, None, Some, Pid, MsgId, Boot, Label, Line, Stage}
-use Rattle.dm_movelaws.proofs.Names.{PlainProcess, Life, Alive, OneKernel, Step, LifeGrows, after_step, Spelled, is_away, Point, kernel_after, label_of, group_of, at_record, without_id, without_front, View, Told, Known, Unknown, Here}
-use Rattle.dm_movelaws.proofs.Names.{Frozen, Incoming, Ended, handled, receiver_of, served_told, view_after, target_of, front_told, front_of, gone_to, Phased, Sane, is_server, KnownStands, agrees, group_keeps, Loud, keeps_by, set_all}
-use Rattle.dm_movelaws.proofs.Names.{killed_or}
+use Rattle.dm_movelaws.proofs.Names.{◌≡◌, ℕ, ◌+◌, Bool, true, false, List, [], ◌∷◌, ◌++◌, refl, ap, ◌∙◌, sym, subst, false≢true, Option, None, Some, Pid, MsgId, Boot, Label, Line, Stage, PlainProcess, Life, Alive, OneKernel, Step}
+use Rattle.dm_movelaws.proofs.Names.{LifeGrows, after_step, Spelled, is_away, Point, kernel_after, label_of, group_of, at_record, without_id, without_front, View, Told, Known, Unknown, Here, Frozen, Incoming, Ended, handled, receiver_of}
+use Rattle.dm_movelaws.proofs.Names.{served_told, view_after, target_of, front_told, front_of, gone_to, Phased, Sane, KnownStands, group_keeps, Loud, keeps_by, set_all, killed_or, nat_tests, arith}
 use Rattle.dm_onekernel.specs.Step as kernel
 use Rattle.dm_rule.specs.View as view
 
@@ -21,8 +20,7 @@ pub record Buried (before : Knows) (s : OneKernel) (v : View) : Type 0 where
 
 -- what has ended stays so
 dead_grows : (a b : Option Life) → LifeGrows a b → is_dead a ≡ true → is_dead b ≡ true
-dead_grows (Some (Life.Ended y)) b h e = ap is_dead h
-dead_grows _ b h e = absurd (false≢true e)
+dead_grows a b h e = grind (arith, nat_tests)
 
 abbrev Dies : OneKernel → OneKernel → Type 0
 Dies s t = (q : Pid) → is_dead (s.processes q) ≡ true → is_dead (t.processes q) ≡ true
@@ -35,11 +33,7 @@ dies_by pt t None h e q dead = sym (ap (λ (k : OneKernel). is_dead (k.processes
 dies_by pt t (Some l) h e q dead = dies_label pt t l h e q dead
 
 as_ : (before : Knows) (s t : OneKernel) (v w : View) → Dies s t → w.known ≡ v.known → w.queue ≡ v.queue → Buried before s v → Buried before t w
-as_ before s t v w dies known queue h = record {
-  known = λ n q e. ap (λ (f : Knows). f n q) known ∙ h.known n q e;
-  queue = λ n q e. ap (λ (f : ℕ → Pid → List MsgId). f n q) queue ∙ h.queue n q e;
-  dead = λ n q e. dies q (h.dead n q e);
-}
+as_ before s t v w dies known queue h = grind (arith, nat_tests)
 
 learns : (before : Knows) (s t : OneKernel) (v w : View) (p : Pid) (k : Known) → Dies s t → w.known ≡ at_record v.known v.acting p k → w.queue ≡ v.queue → (before v.acting p ≡ Ended → k ≡ Ended) → Buried before s v → Buried before t w
 learns before s t v w p k dies known queue new h = record {
@@ -79,11 +73,7 @@ dropped before s t v id (Some p) dies h =
     queues before s t v (view.dropped_for (handled v id) id (Some p)) p (without_front id (v.queue v.acting p)) dies refl refl (λ e. ap (without_front id) (h.queue v.acting p e)) h
 
 served : (before : Knows) (s t : OneKernel) (v : View) (id : MsgId) (o : Option Told) → Dies s t → Buried before s v → Buried before t (served_told (handled v id) o)
-served before s t v id None dies h = as_ before s t v (handled v id) dies refl refl h
-served before s t v id (Some u) dies h =
-    killed_or (Buried before t) u.kind (handled v id) u.receiver
-    (λ k. learns before s t v (view.ended (handled v id) u.receiver) u.receiver Ended dies refl refl (λ e. refl) h)
-    (λ k. as_ before s t v (handled v id) dies refl refl h)
+served before s t v id o dies h = grind (arith, nat_tests, as_, killed_or, learns)
 
 queued : (before : Knows) (s : OneKernel) (v : View) (id : MsgId) (o : Option Told) → ((t : Told) → o ≡ Some t → v.known v.acting t.receiver ≡ Here) → Buried before s v → Buried before s (view.queued_for (handled v id) id (receiver_of o))
 queued before s v id None here h = as_ before s s v (handled v id) (same s) refl refl h
@@ -91,15 +81,11 @@ queued before s v id (Some t) here h =
     queues before s s v (view.queued_for (handled v id) id (Some t.receiver)) t.receiver (v.queue v.acting t.receiver ++ id ∷ []) (same s) refl refl (λ e. absurd (not_ended before s v t.receiver Here h (here t refl) here_off e)) h
 
 held : (before : Knows) (s : OneKernel) (v : View) (id : MsgId) (o : Option Told) → Buried before s v → Buried before s (view.held_for (handled v id) id (receiver_of o))
-held before s v id None h = as_ before s s v (handled v id) (same s) refl refl h
-held before s v id (Some t) h = as_ before s s v (view.held_for (handled v id) id (Some t.receiver)) (same s) refl refl h
+held before s v id o h = grind (arith, nat_tests, as_, same)
 
 loud : (before : Knows) → Loud (λ pt. Buried before pt.kernel pt.view)
 loud before = record {
-  rides = record {
-    put = λ pt a b i k q h. record { known = h.known; queue = h.queue; dead = h.dead };
-    packet = λ pt a b k l h. record { known = h.known; queue = h.queue; dead = h.dead };
-  };
+  rides = grind (arith, nat_tests);
   quiet = λ pt w t l e s told alike sane is h. subst (Buried before t) (sym e) (as_ before pt.kernel t pt.view w (dies_by pt t (label_of l) sane is) s.known s.queue h);
   ran = λ pt t p k here alike sane is h. as_ before pt.kernel t pt.view (view_after pt.view (Line.Label (Label.Ran p k))) (dies_label pt t (Label.Ran p k) sane is) refl refl h;
   receive = λ pt t p id here alike sane is h.
@@ -127,19 +113,8 @@ loud before = record {
 }
 
 -- where a group begins
-server_lives : (m : ℕ) (c : Bool) → (if c then Here else Unknown) ≡ Ended → ⊥
-server_lives m true e = here_off e
-server_lives m false e = unknown_off e
-
-agrees_dead : (o : Option Life) → agrees Ended o ≡ true → is_dead o ≡ true
-agrees_dead (Some (Alive x)) e = e
-agrees_dead _ e = e
-
 pub dead_by : (s : OneKernel) (v : View) (n : ℕ) (q : Pid) → KnownStands s v → v.known n q ≡ Ended → is_dead (s.processes q) ≡ true
-dead_by s v n q h e = elim (cases_Bool (is_server q)) [
-  | inl server ↦ absurd (server_lives n (n == 0) (sym (h.server n q server) ∙ e))
-  | inr other ↦ agrees_dead (s.processes q) (sym (ap (λ (k : Known). agrees k (s.processes q)) e) ∙ h.agree n q other)
-]
+dead_by s v n q h e = grind (arith, nat_tests)
 
 pub buried_group : (b : Boot) (pt : Point) (d : Step) (w : Spelled) → group_of b pt d ≡ Some w → Phased pt → KnownStands pt.kernel pt.view → ((n : ℕ) (q : Pid) → pt.view.known n q ≡ Ended → pt.view.queue n q ≡ []) → Buried pt.view.known w.point.kernel w.point.view
 buried_group b pt d w is phased known h =

@@ -1,15 +1,14 @@
 -- Where a process has ended no message is queued for it.
-use Rattle.dm_movelaws.proofs.Names.{◌≡◌, ◌⊎◌, ℕ, ◌≤◌, ◌==◌, ◌&&◌, Bool, true, false, List, [], ◌∷◌, refl, ap, ◌∙◌, sym, subst, inl, inr, arith, if◌then◌else◌, slice_get, cases_Bool, false≢true, nat_tests, Option, None, Some, Pid, pid_eq}
-use Rattle.dm_movelaws.proofs.Names.{MsgId, MessageKind, Boot, Label, id_eq-same, pid_eq-same, Step, Line, migrates, Part, Says, Spelled, spelled, Point, moved, group_of, at_record, without_front, times, View, Told, Ended, view_after}
-use Rattle.dm_movelaws.proofs.Names.{handled, receiver_of, PlainMessage, IsValid, Leads, first_point, Spot, Queue, Inbox, standing, StandsNowhere, StandsOutside, StandsRight, is_kernels, group_is, arrives_net, resends_net, stands_right}
-use Rattle.dm_movelaws.proofs.Names.{kernels_fresh, not_true, is_kill, says_next, DropsAlways, killed_or, stands_first, Both, both_start, both_group, Run, run_start, run_group, times_self, told_of, more_front}
+use Rattle.dm_movelaws.proofs.Names.{◌≡◌, ◌⊎◌, ℕ, ◌≤◌, true, false, List, [], ◌∷◌, refl, ap, ◌∙◌, sym, subst, inl, inr, arith, cases_Bool, false≢true, nat_tests, Option, None, Some, Pid, MsgId, MessageKind, Boot, Label, id_eq-same, Step}
+use Rattle.dm_movelaws.proofs.Names.{Line, Part, Says, Spelled, spelled, Point, moved, group_of, at_record, times, View, Told, Ended, view_after, handled, PlainMessage, IsValid, Leads, first_point, Spot, Queue, Inbox, standing, StandsRight}
+use Rattle.dm_movelaws.proofs.Names.{is_kernels, group_is, arrives_net, resends_net, stands_right, kernels_fresh, not_true, is_kill, says_next, DropsAlways, killed_or, stands_first, Run, told_of, more_front}
+use Rattle.dm_movelaws.proofs.At.RestBuried.{Knows, buried_group}
+use Rattle.dm_movelaws.proofs.At.RestOnly.{AllStay, LineEnds, LastEnds, Ends, Once, Runs, turns_ends, Only, only_as, parts_only, nets_stay, migrates_stay}
+use Rattle.dm_movelaws.proofs.After.{keeps_always}
 use Rattle.dm_laws.proofs.Equal as equal
 use Rattle.dm_rule.specs.Rule as rule
 use Rattle.dm_rule.specs.View as view
 use Rattle.dm_rule.proofs.Lines as lines
-use Rattle.dm_movelaws.proofs.At.RestBuried.{Knows, buried_group}
-use Rattle.dm_movelaws.proofs.At.RestEnds.{AllStay, LineEnds, LastEnds, Ends, Once, Runs, turns_ends}
-use Rattle.dm_movelaws.proofs.At.RestOnly.{Only, only_as, parts_only, nets_stay, migrates_stay}
 
 -- what is left of the queue of a process that has ended
 record Left (a : ℕ) (p : Pid) (known : Knows) (v : View) (ids : List MsgId) : Type 0 where
@@ -18,26 +17,8 @@ record Left (a : ℕ) (p : Pid) (known : Knows) (v : View) (ids : List MsgId) : 
   queue : v.queue a p ≡ ids
   told : (i : MsgId) → 1 ≤ times i ids → (t : Told) × (v.told i ≡ Some t) × (t.receiver ≡ p)
 
-at_self : (f : ℕ → Pid → List MsgId) (m a : ℕ) (p : Pid) (xs : List MsgId) → m ≡ a → at_record f m p xs a p ≡ xs
-at_self f m a p xs e =
-    let here : (m == a) ≡ true = grind (arith, nat_tests) in
-    ap (λ (c : Bool). if c && pid_eq p p then xs else f a p) here ∙ ap (λ (c : Bool). if c then xs else f a p) (pid_eq-same p)
-
 drop_left : (a : ℕ) (p : Pid) (known : Knows) (v : View) (i : MsgId) (is : List MsgId) → Left a p known v (i ∷ is) → Left a p known (view_after v (Line.Label (Label.Dropped i))) is
-drop_left a p known v i is h =
-    let (t, told, for) = h.told i (times_self i is) in
-    let w : View = record (handled v i) { queue = at_record v.queue v.acting p (without_front i (v.queue v.acting p)) } in
-    let look : view_after v (Line.Label (Label.Dropped i)) ≡ w = ap (λ (o : Option Told). view.dropped_for (handled v i) i (receiver_of o)) told ∙ ap (λ (q : Pid). view.dropped_for (handled v i) i (Some q)) for in
-    let acting = h.acting in
-    let front : without_front i (v.queue v.acting p) ≡ is =
-    ap (λ (m : ℕ). without_front i (v.queue m p)) acting ∙ ap (without_front i) h.queue ∙ ap (λ (c : Bool). if c then is else i ∷ is) (id_eq-same i) in
-    let goes : Left a p known w is = record {
-      acting = acting;
-      same = h.same;
-      queue = at_self v.queue v.acting a p (without_front i (v.queue v.acting p)) acting ∙ front;
-      told = λ j least. h.told j (more_front j i is least);
-    } in
-    subst (λ (u : View). Left a p known u is) (sym look) goes
+drop_left a p known v i is h = grind (arith, nat_tests, id_eq-same, more_front)
 
 drops_left : (a : ℕ) (p : Pid) (known : Knows) (ids : List MsgId) (pt : Point) (w : Spelled) → spelled pt (rule.drop_parts ids) ≡ Some w → Left a p known pt.view ids → Left a p known w.point.view []
 drops_left a p known [] pt w is h = let f : record { lines = []; point = pt } ≡ w = cc in subst (λ (x : Spelled). Left a p known x.point.view []) f h
@@ -52,18 +33,8 @@ record Cleared (before : Knows) (v : View) : Type 0 where
 cleared_only : (before : Knows) (v : View) → Only before v → Cleared before v
 cleared_only before v h = record { each = λ n q e. inl (h.only n q e) }
 
-set_known : (f : Knows) (a : ℕ) (p : Pid) (n : ℕ) (q : Pid) (T : Type 0) → at_record f a p Ended n q ≡ Ended → (f n q ≡ Ended → T) → (((a == n) && pid_eq p q) ≡ true → T) → T
-set_known f a p n q T e old new = elim (cases_Bool ((a == n) && pid_eq p q)) [
-  | inl same ↦ new same
-  | inr off ↦ old (sym (ap (λ (c : Bool). if c then Ended else f n q) off) ∙ e)
-]
-
 cleared_left : (a : ℕ) (p : Pid) (before : Knows) (v : View) → Left a p (at_record before a p Ended) v [] → Cleared before v
-cleared_left a p before v h = record {
-  each = λ n q e. set_known before a p n q ((before n q ≡ Ended) ⊎ (v.queue n q ≡ [])) (sym (ap (λ (f : Knows). f n q) h.same) ∙ e) (λ f. inl f)
-      (λ c. let k = lines.parts (a == n) (pid_eq p q) c in
-      inr (subst (λ (m : ℕ). v.queue m q ≡ []) (lines.eq_is a n k.0) (subst (λ (r : Pid). v.queue a r ≡ []) (equal.pid_eq-is p q k.1) h.queue)));
-}
+cleared_left a p before v h = grind (arith, nat_tests, lines.parts, lines.eq_is, equal.pid_eq-is)
 
 -- where a turn begins
 record Starts (o : Point) (a : ℕ) (v : View) : Type 0 where
@@ -74,12 +45,7 @@ record Starts (o : Point) (a : ℕ) (v : View) : Type 0 where
   receivers : (p : Pid) (i : MsgId) → 1 ≤ times i (o.view.queue a p) → (t : Told) × (o.view.told i ≡ Some t) × (t.receiver ≡ p)
 
 left_starts : (o : Point) (a : ℕ) (p : Pid) (v w : View) → Starts o a v → w.acting ≡ v.acting → w.known ≡ at_record v.known v.acting p Ended → w.queue ≡ v.queue → w.told ≡ v.told → Left a p (at_record o.view.known a p Ended) w (o.view.queue a p)
-left_starts o a p v w h acting known queue told = record {
-  acting = acting ∙ h.acting;
-  same = known ∙ ap (λ (f : Knows). at_record f v.acting p Ended) h.known ∙ ap (λ (m : ℕ). at_record o.view.known m p Ended) h.acting;
-  queue = ap (λ (f : ℕ → Pid → List MsgId). f a p) (queue ∙ h.queue);
-  told = λ i least. let (t, is, for) = h.receivers p i least in (t, ap (λ (f : MsgId → Option Told). f i) (told ∙ h.told) ∙ is, for);
-}
+left_starts o a p v w h acting known queue told = grind (arith, nat_tests)
 
 ends_left : (o : Point) (a : ℕ) (p : Pid) (pt mid : Point) (ps : List Part) (rest : Spelled) → Starts o a pt.view → ps ≡ rule.drop_parts (o.view.queue a p) → spelled mid ps ≡ Some rest
     → mid.view.acting ≡ pt.view.acting → mid.view.known ≡ at_record pt.view.known pt.view.acting p Ended → mid.view.queue ≡ pt.view.queue → mid.view.told ≡ pt.view.told → Cleared o.view.known rest.point.view
@@ -100,10 +66,7 @@ kills_not : (k : MessageKind) (v : View) (p : Pid) → is_kill k ≡ false → v
 kills_not k v p off = killed_or (λ w. w ≡ v) k v p (λ e. absurd (false≢true (sym off ∙ e))) (λ e. refl)
 
 served_cleared : (o : Point) (a : ℕ) (id : MsgId) (ps : List Part) (pt mid : Point) (rest : Spelled) (x : Option Told) → Starts o a pt.view → pt.view.told id ≡ x → mid.view ≡ view.served_told (handled pt.view id) x → LineEnds o a (Line.Label (Label.Served id)) ps → spelled mid ps ≡ Some rest → Cleared o.view.known rest.point.view
-served_cleared o a id ps pt mid rest None h told now ends more =
-    let none : (t : Told) → o.view.told id ≡ Some t → is_kill t.kind ≡ false = λ t is. absurd (let f : None ≡ Some t = sym told ∙ ap (λ (g : MsgId → Option Told). g id) h.told ∙ is in cc) in
-    let start : Only o.view.known mid.view = only_as o.view.known pt.view mid.view (ap (λ (v : View). v.known) now) (begins_only o a pt.view h) in
-    cleared_only o.view.known rest.point.view (parts_only o.view.known ps mid rest (ends.1 none) more start)
+served_cleared o a id ps pt mid rest None h told now ends more = grind (arith, nat_tests, only_as, begins_only, cleared_only, parts_only)
 served_cleared o a id ps pt mid rest (Some t) h told now ends more =
     let here : o.view.told id ≡ Some t = sym (ap (λ (g : MsgId → Option Told). g id) h.told) ∙ told in
     elim (cases_Bool (is_kill t.kind)) [
@@ -113,7 +76,7 @@ served_cleared o a id ps pt mid rest (Some t) h told now ends more =
       | inr off ↦
           let look : mid.view ≡ handled pt.view id = now ∙ kills_not t.kind (handled pt.view id) t.receiver off in
           let none : (u : Told) → o.view.told id ≡ Some u → is_kill u.kind ≡ false = λ u is. (let f : Some t ≡ Some u = sym here ∙ is in let g : t ≡ u = cc in sym (ap (λ (y : Told). is_kill y.kind) g) ∙ off) in
-          let start : Only o.view.known mid.view = only_as o.view.known pt.view mid.view (ap (λ (v : View). v.known) look) (begins_only o a pt.view h) in
+          let start : Only o.view.known mid.view = only_as o.view.known pt.view mid.view (λ n q. ap (λ (v : View). v.known n q) look) (begins_only o a pt.view h) in
           cleared_only o.view.known rest.point.view (parts_only o.view.known ps mid rest (ends.1 none) more start)
     ]
 
@@ -152,8 +115,7 @@ ends_cleared o a ps pt z h (Runs p k rest form ends) is =
     subst (λ (q : Point). Cleared o.view.known q.view) n.point (last_cleared o a rest (moved pt (Line.Label (Label.Ran p k)) n.s) n.rest start ends n.more)
 
 in_bag : (i : MsgId) (x : Option PlainMessage) (f : Spot → ℕ) (z : Spot) → 1 ≤ f z → is_kernels i ≡ false → StandsRight i x f → (m : PlainMessage) × (x ≡ Some m)
-in_bag i None f z least off h = absurd (let k : StandsNowhere f = subst (λ (c : Bool). StandsOutside c f) off h in let e : f z ≡ 0 = k z in omega (arith, least, e))
-in_bag i (Some m) f z least off h = (m, refl)
+in_bag i x f z least off h = grind (arith, nat_tests)
 
 receivers : (b : Boot) (pt : Point) (a : ℕ) (p : Pid) (i : MsgId) → Run b pt → 1 ≤ times i (pt.view.queue a p) → (t : Told) × (pt.view.told i ≡ Some t) × (t.receiver ≡ p)
 receivers b pt a p i h least =
@@ -172,23 +134,13 @@ group_cleared b pt (Step.Turn m) w is h =
     let ends : Ends pt m g.parts = turns_ends b pt m (pt.view.inbox m) g.parts h.based.phased.sane (λ i js box. told_of (pt.view.told i) (h.found.told i (Inbox m) (stands_first pt.view m i js box))) g.is in
     let start : Starts pt m (moved pt (Line.Head (Step.Turn m)) pt.kernel).view = record { acting = refl; known = refl; queue = refl; told = refl; receivers = λ p i least. receivers b pt m p i h least } in
     subst (λ (q : Point). Cleared pt.view.known q.view) g.point (ends_cleared pt m g.parts (moved pt (Line.Head (Step.Turn m)) pt.kernel) g.rest start ends g.said)
-group_cleared b pt (Step.Tick m) w is h =
-    let g = group_is b pt (Step.Tick m) w is in
-    let qs = Says (Line.Resent m (rule.outstanding_count pt.view m pt.kernel.machines)) ∷ rule.resends pt.view m pt.kernel.machines in
-    let f : qs ≡ g.parts = let k = g.is in cc in
-    let stays : AllStay g.parts = subst AllStay f (refl, nets_stay (rule.resends pt.view m pt.kernel.machines) (resends_net pt.view m pt.kernel.machines)) in
-    subst (λ (q : Point). Cleared pt.view.known q.view) g.point (cleared_only pt.view.known g.rest.point.view (parts_only pt.view.known g.parts (moved pt (Line.Head (Step.Tick m)) pt.kernel) g.rest stays g.said (record { only = λ n q e. e })))
+group_cleared b pt (Step.Tick m) w is h = grind (arith, nat_tests, group_is, nets_stay, resends_net, cleared_only, parts_only)
 group_cleared b pt (Step.Deliver a c k) w is h =
     let g = group_is b pt (Step.Deliver a c k) w is in
-    let qs = rule.arrives a c (pt.view.pair a c) (pt.view.pair c a) (slice_get (pt.view.pair a c).wire k) in
-    let f : qs ≡ g.parts = let t = g.is in cc in
-    let stays : AllStay g.parts = subst AllStay f (nets_stay qs (arrives_net a c (pt.view.pair a c) (pt.view.pair c a) (slice_get (pt.view.pair a c).wire k))) in
-    subst (λ (q : Point). Cleared pt.view.known q.view) g.point (cleared_only pt.view.known g.rest.point.view (parts_only pt.view.known g.parts (moved pt (Line.Head (Step.Deliver a c k)) pt.kernel) g.rest stays g.said (record { only = λ n q e. e })))
+    grind (arith, nat_tests, nets_stay, arrives_net, cleared_only, parts_only)
 group_cleared b pt (Step.Migrate p m) w is h =
     let g = group_is b pt (Step.Migrate p m) w is in
-    let f : migrates pt p ≡ g.parts = let k = g.is in cc in
-    let stays : AllStay g.parts = subst AllStay f (migrates_stay pt p) in
-    subst (λ (q : Point). Cleared pt.view.known q.view) g.point (cleared_only pt.view.known g.rest.point.view (parts_only pt.view.known g.parts (moved pt (Line.Head (Step.Migrate p m)) pt.kernel) g.rest stays g.said (record { only = λ n q e. e })))
+    grind (arith, nat_tests, migrates_stay, cleared_only, parts_only)
 
 -- no message waits for a process where it has ended
 pub record Dropped (v : View) : Type 0 where
@@ -205,13 +157,8 @@ dropped_group b pt d w is h old =
       ];
     }
 
-dropped_on : (b : Boot) (es : List Step) (pt end : Point) → IsValid b → Leads b pt es end → Both b pt → Dropped pt.view → Dropped end.view
-dropped_on b [] pt end valid leads h old = subst (λ (q : Point). Dropped q.view) leads old
-dropped_on b (d ∷ ds) pt end valid (w, fit, is, more) h old =
-    dropped_on b ds w.point end valid more (both_group run_group b pt d w valid fit is h) (dropped_group b pt d w is h.run old)
-
 pub dropped_always : (b : Boot) (es : List Step) (pt : Point) → IsValid b → Leads b (first_point b) es pt → Dropped pt.view
-dropped_always b es pt valid leads = dropped_on b es (first_point b) pt valid leads (both_start run_start b valid) (record { queue = λ n q e. refl })
+dropped_always b es pt valid leads = keeps_always b (λ q. Dropped q.view) (λ q d w fit is run old. dropped_group b q d w is run old) valid (record { queue = λ n q e. refl }) es pt leads
 
 pub drops_always : DropsAlways
 drops_always b es pt n q valid leads ended = (dropped_always b es pt valid leads).queue n q ended

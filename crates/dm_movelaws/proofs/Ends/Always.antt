@@ -1,8 +1,7 @@
 -- Wherever the rule leads, each directive to move a process has at most one end, and one where nothing is on its way.
-use Rattle.dm_movelaws.proofs.Names.{◌≡◌, ℕ, ◌+◌, ◌==◌, ◌&&◌, ◌||◌, Bool, true, false, List, [], ◌∷◌, length, refl, ap, ◌∙◌, sym, subst, inl, inr, arith, if◌then◌else◌, None, Some, false≢true, Pid, pid_eq, MsgId, Boot, BootProcess, IsValid}
-use Rattle.dm_movelaws.proofs.Names.{switchboard, manager, Step, Line, IsStep, Point, first_point, IsQuiet, Known, Unknown, Here, known_at, first_view, fits, LeadsBy, Both, both_start, both_group, run_start, run_group, is_moving, asks}
-use Rattle.dm_movelaws.proofs.Names.{ends, count, EndsAlways}
-use Rattle.dm_movelaws.proofs.Ends.Smooth.{Extends}
+use Rattle.dm_movelaws.proofs.Names.{◌≡◌, ℕ, ◌+◌, List, [], ◌∷◌, length, refl, ap, subst, arith, Pid, MsgId, Boot, IsValid, Step, Line, IsStep, Point, first_point, IsQuiet, first_view, fits, LeadsBy, Both, both_start, both_group, run_start}
+use Rattle.dm_movelaws.proofs.Names.{run_group, asks, ends, count, EndsAlways, nat_tests}
+use Rattle.dm_movelaws.proofs.Ends.Lines.{Extends}
 use Rattle.dm_movelaws.proofs.Ends.Moving.{moving_in, waits_or}
 use Rattle.dm_movelaws.proofs.Ends.Open.{Opens}
 use Rattle.dm_movelaws.proofs.Ends.Parts.{count-append}
@@ -50,36 +49,15 @@ ran p b (d ∷ ds) pt end ls ids valid h sources opens (w, rest, fit, is, split,
       sources = r.sources;
       left = r.left;
       opens = r.opens;
-      sum = (let f = end.view.told in
-          let a : count (asks p) ls ≡ count (asks p) w.lines + count (asks p) rest = ap (count (asks p)) split ∙ count-append (asks p) w.lines rest in
-          let c : count (ends f p) ls ≡ count (ends f p) w.lines + count (ends f p) rest = ap (count (ends f p)) split ∙ count-append (ends f p) w.lines rest in
-          let x = g.sum f r.grows in
-          let y = r.sum in
-          omega (arith, a, c, x, y));
+      sum = grind (arith, nat_tests, count-append);
     }
 
 -- where a run begins nothing moves
-here_or : (c : Bool) (k : Known) → is_moving k ≡ false → is_moving (if c then Here else k) ≡ false
-here_or true k e = refl
-here_or false k e = e
-
-known_rests : (ps : List BootProcess) (m : ℕ) (q : Pid) → is_moving (known_at ps m q) ≡ false
-known_rests [] m q = here_or ((m == 0) && (pid_eq q switchboard || pid_eq q manager)) Unknown refl
-known_rests (p ∷ ps) m q = here_or (pid_eq p.pid q && (p.pid.home == m)) (known_at ps m q) (known_rests ps m q)
-
 start_stays : (b : Boot) (p : Pid) (h : Both b (first_point b)) → moving_at b (first_point b) h p ≡ 0
-start_stays b p h =
-    let phases = h.run.based.phased.phases in
-    elim (waits_or (first_view b) p (phases.of p) (phases.each p)) [
-      | inl x ↦ absurd (false≢true (sym (known_rests b.processes x.machine p) ∙ x.waits))
-      | inr x ↦ x.none
-    ]
+start_stays b p h = grind (arith, nat_tests, waits_or)
 
 start_opens : (b : Boot) (p : Pid) → Opens p (first_view b) []
-start_opens b p = record { each = λ i least. absurd (omega (arith, least)); all = λ i is. absurd (let e = is.is in none_some is.told e) }
-  where
-    none_some : {X : Type 0} (x : X) → None ≡ Some x → ⊥
-    none_some x e = cc
+start_opens b p = grind (arith, nat_tests)
 
 pub ends_always : EndsAlways
 ends_always b es ls pt p valid leads =

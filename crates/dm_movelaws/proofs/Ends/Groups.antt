@@ -1,21 +1,17 @@
 -- What each group does with requests to move a process: directives and ends are counted against those that are under way.
-use Rattle.dm_movelaws.proofs.Names.{◌≡◌, ℕ, ◌+◌, Bool, true, List, [], ◌∷◌, length, refl, ap, ◌∙◌, sym, subst, inl, inr, arith, if◌then◌else◌, Option, Some, cases_Bool, Pid, pid_eq, MsgId, MessageKind, Boot, bind, Step, bind-is, Line}
-use Rattle.dm_movelaws.proofs.Names.{Child, migrates, View, Told, after_head, after_put, view_after, own_id, Point, moved, after, Part, Says, Owns, Spelled, lines_of, behind, spelled, group_of, IsNet, front_way, Phased, told_some}
-use Rattle.dm_movelaws.proofs.Names.{put_spots, put_at, head_calm, put_there, put_spot, InPhases, calm_phases, PairsFit, PacketsKeep, put_told_off, said, Sane, KnownStands, Begins, begins, WalksOf, loose_walks, begun, begun_sane, turned}
-use Rattle.dm_movelaws.proofs.Names.{resting, round_walks, handles_walks, asks, ends, count, first_none, by_migrates, by_outcome, group_is}
-use Rattle.dm_rule.specs.Rule as rule
-use Rattle.dm_movelaws.proofs.Ends.Smooth.{is_migrate, Extends, Smooth, Still, plain_in_bag, own_untold, smooth_same}
-use Rattle.dm_movelaws.proofs.Ends.Lines.{Tame}
-use Rattle.dm_movelaws.proofs.Ends.Still.{still_same}
+use Rattle.dm_movelaws.proofs.Names.{◌≡◌, ℕ, ◌+◌, Bool, true, List, [], ◌∷◌, length, refl, ap, ◌∙◌, sym, subst, inl, inr, arith, if◌then◌else◌, Option, Some, cases_Bool, Pid, pid_eq, MsgId, MessageKind, Boot, Step, Line, Child, migrates}
+use Rattle.dm_movelaws.proofs.Names.{View, Told, after_head, after_put, view_after, own_id, Point, Part, Says, Owns, Spelled, behind, spelled, group_of, IsNet, front_way, Phased, told_some, put_spots, put_at, head_calm, put_there, put_spot}
+use Rattle.dm_movelaws.proofs.Names.{InPhases, calm_phases, PairsFit, PacketsKeep, put_told_off, said, Sane, KnownStands, Begins, begins, WalksOf, loose_walks, begun, begun_sane, turned, resting, round_walks, handles_walks, asks, ends}
+use Rattle.dm_movelaws.proofs.Names.{count, first_none, by_migrates, by_outcome, group_is, None, false, label_of, nat_tests}
+use Rattle.dm_movelaws.proofs.Ends.Lines.{is_migrate, Extends, Still, plain_in_bag, own_untold, smooth_same, Tame, still_same}
 use Rattle.dm_movelaws.proofs.Ends.Net.{head_smooth, net_level, net_asks, net_ends}
-use Rattle.dm_movelaws.proofs.Ends.Parts.{packet_smooth, one_if, zero_if, parts_count, asks_silent, ends_silent}
+use Rattle.dm_movelaws.proofs.Ends.Parts.{packet_smooth, one_if, zero_if, parts_count, round_quiet, handles_quiet}
 use Rattle.dm_movelaws.proofs.Ends.Moving.{moving_in, still_moves}
 use Rattle.dm_movelaws.proofs.Ends.Open.{Opens, Adds, Balance, level_balance, smooth_opens, add_opens}
 use Rattle.dm_movelaws.proofs.Ends.Rows.{Turn, Comes, line_alone, quiet_row, and_off}
-use Rattle.dm_movelaws.proofs.Ends.Sends.{puts_lead}
-use Rattle.dm_movelaws.proofs.Ends.Steps.{ComesOf}
-use Rattle.dm_movelaws.proofs.Ends.Hears.{hears_comes}
-use Rattle.dm_movelaws.proofs.Ends.Turns.{round_quiet, handles_quiet}
+use Rattle.dm_movelaws.proofs.Ends.Hears.{ComesOf, hears_comes}
+use Rattle.dm_movelaws.proofs.Leading.{next_of, part_leads}
+use Rattle.dm_rule.specs.Rule as rule
 
 abbrev begun_phases : (pt : Point) (d : Step) → InPhases pt.view → InPhases (begun pt d).view
 begun_phases pt d h = calm_phases pt.view (after_head pt.view d) (head_calm pt.view d) h
@@ -40,23 +36,13 @@ asked_by p d = one_if (asks p) (Line.Head d)
 abbrev Directed : Pid → Step → (pt : Point) → InPhases pt.view → List Part → Spelled → Type 0
 Directed p d pt h parts w = (g : InPhases w.point.view) (ids : List MsgId) → Opens p pt.view ids → Balance p w.point.view ids (asked_by p d) (moving_in (h.of p)) (moving_in (g.of p)) parts
 
-pinned_comes : (p q : Pid) (m : ℕ) (pt : Point) (h : InPhases pt.view) (w : Spelled) → spelled pt (Says (Line.Pinned q) ∷ []) ≡ Some w → Directed p (Step.Migrate q m) pt h (Says (Line.Pinned q) ∷ []) w
-pinned_comes p q m pt h w e g ids opens =
-    let at : moved pt (Line.Pinned q) pt.kernel ≡ w.point = line_alone pt (Line.Pinned q) w refl e in
+said_comes : (p q : Pid) (m : ℕ) (pt : Point) (l : Line) (h : InPhases pt.view) (w : Spelled) → label_of l ≡ None → view_after pt.view l ≡ pt.view → asks p l ≡ false → ((f : MsgId → Option Told) → ends f p l ≡ pid_eq p q) → spelled pt (Says l ∷ []) ≡ Some w
+    → Directed p (Step.Migrate q m) pt h (Says l ∷ []) w
+said_comes p q m pt l h w none alike plain ended e g ids opens =
     let v = pt.view in
-    let smooth : Smooth p v w.point.view = subst (λ (x : Point). Smooth p v x.view) at (smooth_same p v) in
-    let still : Still p v w.point.view = subst (λ (x : Point). Still p v x.view) at (still_same p v) in
-    let same = still_moves p v w.point.view h g still in
-    record { left = ids; opens = smooth_opens p v w.point.view ids smooth opens; quiet = refl; sum = λ f ext. omega (arith, same) }
-
-no_child_comes : (p q : Pid) (m : ℕ) (pt : Point) (h : InPhases pt.view) (w : Spelled) → spelled pt (Says (Line.NoChild q) ∷ []) ≡ Some w → Directed p (Step.Migrate q m) pt h (Says (Line.NoChild q) ∷ []) w
-no_child_comes p q m pt h w e g ids opens =
-    let at : moved pt (Line.NoChild q) pt.kernel ≡ w.point = line_alone pt (Line.NoChild q) w refl e in
-    let v = pt.view in
-    let smooth : Smooth p v w.point.view = subst (λ (x : Point). Smooth p v x.view) at (smooth_same p v) in
-    let still : Still p v w.point.view = subst (λ (x : Point). Still p v x.view) at (still_same p v) in
-    let same = still_moves p v w.point.view h g still in
-    record { left = ids; opens = smooth_opens p v w.point.view ids smooth opens; quiet = refl; sum = λ f ext. omega (arith, same) }
+    let at : v ≡ w.point.view = sym alike ∙ ap (λ (x : Point). x.view) (line_alone pt l w none e) in
+    let same = still_moves p v w.point.view h g (subst (Still p v) at (still_same p v)) in
+    grind (arith, nat_tests, zero_if, smooth_opens, smooth_same)
 
 -- a request is put
 record Added (p : Pid) (v : View) (ids : List MsgId) (w : View) : Type 0 where
@@ -83,14 +69,11 @@ request_comes : (p q : Pid) (m b : ℕ) (pt : Point) (h : InPhases pt.view) (w :
 request_comes p q m b pt h w sane fits same e g ids opens =
     let v = pt.view in
     let i = own_id v in
-    let (ls, lines, rest) = bind-is (lines_of pt (Owns MessageKind.Migrate q b)) (λ (xs : List Line). bind (after pt xs) (λ (x : Point). bind (spelled x []) (λ (z : Spelled). Some (behind xs z)))) w e in
-    let (next, leads, last) = bind-is (after pt ls) (λ (x : Point). bind (spelled x []) (λ (z : Spelled). Some (behind ls z))) w rest in
-    let (z, more, end) = bind-is (spelled next []) (λ (y : Spelled). Some (behind ls y)) w last in
-    let f : behind ls z ≡ w = cc in
-    let at : next ≡ w.point = said next z more ∙ ap (λ (x : Spelled). x.point) f in
+    let n = next_of pt (Owns MessageKind.Migrate q b) [] w e in
+    let at : n.next ≡ w.point = said n.next n.rest n.more ∙ n.point in
     let first : Added p v (i ∷ ids) (after_put v v.acting b i MessageKind.Migrate q) = record { opens = add_opens p v (after_put v v.acting b i MessageKind.Migrate q) ids i (request_adds p q pt b sane fits same) opens; still = λ n. refl } in
-    let put : Added p v (i ∷ ids) next.view = puts_lead (λ (x : Point). Added p v (i ∷ ids) x.view) (added_packet p v (i ∷ ids)) pt next b i MessageKind.Migrate q ls first lines leads in
-    let there : Added p v (i ∷ ids) w.point.view = subst (λ (x : Point). Added p v (i ∷ ids) x.view) at put in
+    let to : Point → Type 0 = λ x. Added p v (i ∷ ids) x.view in
+    let there : Added p v (i ∷ ids) w.point.view = subst to at (part_leads to (added_packet p v (i ∷ ids)) pt n.next (Owns MessageKind.Migrate q b) first n.steps) in
     let mv = still_moves p v w.point.view h g there.still in
     let one : asked_by p (Step.Migrate q m) ≡ 1 = ap (λ (c : Bool). if c then 1 else 0) same in
     record { left = i ∷ ids; opens = there.opens; quiet = refl; sum = λ f ext. omega (arith, one, mv) }
@@ -107,7 +90,7 @@ owns_comes p q m b pt h w sane fits e g ids opens = elim (cases_Bool (pid_eq p q
 
 migrates_comes : (p q : Pid) (m : ℕ) (o pt : Point) (h : InPhases pt.view) (w : Spelled) → Sane pt → PairsFit pt.view → spelled pt (migrates o q) ≡ Some w → Directed p (Step.Migrate q m) pt h (migrates o q) w
 migrates_comes p q m o pt h w sane fits =
-    by_migrates (λ (ps : List Part). spelled pt ps ≡ Some w → Directed p (Step.Migrate q m) pt h ps w) o q (pinned_comes p q m pt h w) (no_child_comes p q m pt h w)
+    by_migrates (λ (ps : List Part). spelled pt ps ≡ Some w → Directed p (Step.Migrate q m) pt h ps w) o q (said_comes p q m pt (Line.Pinned q) h w refl refl refl (λ f. refl)) (said_comes p q m pt (Line.NoChild q) h w refl refl refl (λ f. refl))
     (λ n off is. owns_comes p q m (o.addresses (Child n)).at pt h w sane fits)
 
 -- what comes of a directive
@@ -141,16 +124,7 @@ pub record GroupBalance (p : Pid) (w : Spelled) (ids : List MsgId) (before behin
 
 whole_balance : (p : Pid) (d : Step) (parts : List Part) (ids : List MsgId) (before behind : ℕ) (start : Point) (rest : Spelled) → spelled start parts ≡ Some rest → Balance p rest.point.view ids (asked_by p d) before behind parts
     → GroupBalance p (rule.headed (Line.Head d) rest) ids before behind
-whole_balance p d parts ids before behind start rest e h = record {
-  left = h.left;
-  opens = h.opens;
-  sum = λ f ext.
-      let a = parts_count (asks p) (asks_silent p) parts start rest e in
-      let b = parts_count (ends f p) (ends_silent f p) parts start rest e in
-      let quiet = h.quiet in
-      let s = h.sum f ext in
-      omega (arith, a, b, quiet, s);
-}
+whole_balance p d parts ids before behind start rest e h = grind (arith, nat_tests, parts_count)
 
 pub group_balance : (p : Pid) (b : Boot) (pt : Point) (d : Step) (w : Spelled) (h : InPhases pt.view) (g : InPhases w.point.view) (ids : List MsgId) → Phased pt → KnownStands pt.kernel pt.view → PairsFit pt.view → group_of b pt d ≡ Some w → Opens p pt.view ids
     → GroupBalance p w ids (moving_in (h.of p)) (moving_in (g.of p))
@@ -159,6 +133,4 @@ group_balance p b pt d w h g ids phased known fits e opens =
     let start : Opens p (begun pt d).view ids = smooth_opens p pt.view (begun pt d).view ids (head_smooth p pt.view d) opens in
     let back : InPhases k.rest.point.view = subst (λ (x : Spelled). InPhases x.point.view) (sym k.whole) g in
     let r = directed p b pt d k.parts k.rest h phased known fits k.is k.said back ids start in
-    let same : moving_in (back.of p) ≡ moving_in (g.of p) = still_moves p k.rest.point.view w.point.view back g (subst (λ (x : Spelled). Still p k.rest.point.view x.point.view) k.whole (still_same p k.rest.point.view)) in
-    subst (λ (n : ℕ). GroupBalance p w ids (moving_in (h.of p)) n) same
-    (subst (λ (x : Spelled). GroupBalance p x ids (moving_in (h.of p)) (moving_in (back.of p))) k.whole (whole_balance p d k.parts ids (moving_in (h.of p)) (moving_in (back.of p)) (begun pt d) k.rest k.said r))
+    grind (arith, nat_tests, still_moves, still_same, whole_balance)

@@ -1,7 +1,8 @@
 -- A process moves where some machine waits for it to leave or to come.
-use Rattle.dm_movelaws.proofs.Names.{◌≡◌, ◌⊎◌, ℕ, ◌==◌, ◌&&◌, Bool, true, false, not, refl, ap, ◌∙◌, sym, inl, inr, if◌then◌else◌, Option, false≢true, Pid, MsgId, MessageKind, View, Known, Here, Frozen, Incoming, Forward, Ended, Phase}
-use Rattle.dm_movelaws.proofs.Names.{Nowhere, Rests, Over, Moves, knows, kind_comes, is_away, is_unknown, is_here, is_over, is_restart, is_early, is_between, IsIn, parts, InPhases, rests_here, is_moving, source_knows, kind_leaves}
-use Rattle.dm_movelaws.proofs.Ends.Smooth.{Still}
+use Rattle.dm_movelaws.proofs.Names.{◌≡◌, ◌⊎◌, ℕ, ◌==◌, ◌&&◌, Bool, true, false, not, refl, ap, ◌∙◌, sym, inl, inr, if◌then◌else◌, Option, false≢true, Pid, MsgId, MessageKind, View, Known, Here, Phase, Nowhere, Rests, Over, Moves, knows}
+use Rattle.dm_movelaws.proofs.Names.{kind_comes, is_away, is_unknown, is_here, is_over, is_restart, is_early, is_between, IsIn, parts, InPhases, rests_here, is_moving, source_knows, kind_leaves, nat_tests, arith}
+use Rattle.dm_movelaws.proofs.Ends.Lines.{Still}
+use Rattle.dm_movelaws.proofs.Stages.Spares.{restart_late}
 pub use Rattle.dm_rulelaws.proofs.Goes.Own.{destination_knows as knows_target}
 pub use Rattle.dm_rule.proofs.Phases.Pieces.{not_false}
 
@@ -11,55 +12,27 @@ moving_in _ = 0
 
 -- the source or the destination waits
 source_waits : (k : MessageKind) (d : ℕ) (x : Known) → is_restart k ≡ false → kind_leaves k d x ≡ true → is_moving x ≡ true
-source_waits k d (Frozen to) e h = refl
-source_waits k d (Incoming from) e h = refl
-source_waits k d (Forward at moves) e h = absurd (false≢true (sym (ap (λ (c : Bool). c && (d == at)) e) ∙ h))
-source_waits k d _ e h = absurd (false≢true h)
-
-restart_late : (k : MessageKind) → is_restart k ≡ true → is_early k ≡ false
-restart_late MessageKind.Ask e = absurd (false≢true e)
-restart_late MessageKind.Refuse e = absurd (false≢true e)
-restart_late k e = refl
+source_waits k d x e h = grind (arith, nat_tests)
 
 pub target_waits : (k : MessageKind) (s : ℕ) (x : Known) → is_early k ≡ false → kind_comes k s x ≡ true → is_moving x ≡ true
-target_waits k s Here e h = absurd (false≢true h)
-target_waits k s (Frozen to) e h = refl
-target_waits k s (Incoming from) e h = refl
-target_waits k s Ended e h = absurd (false≢true h)
-target_waits k s _ e h = absurd (false≢true (sym e ∙ h))
+target_waits k s x e h = grind (arith, nat_tests)
 
 some_waits : (k : MessageKind) (s d : ℕ) (o : Option MsgId) (f : ℕ → Known) (c : Bool) → is_restart k ≡ c → (is_between k && not (s == d)) ≡ true → ((m : ℕ) → knows (Moves k s d o) m (f m) ≡ true) → (m : ℕ) × (is_moving (f m) ≡ true)
 some_waits k s d o f true e apart h = (d, target_waits k s (f d) (restart_late k e) (knows_target k s d o (f d) (not_false (s == d) (parts (is_between k) (not (s == d)) apart).1) (h d)))
 some_waits k s d o f false e apart h = (s, source_waits k d (f s) e (source_knows k s d o (f s) (h s)))
 
 -- elsewhere none does
-unknown_rests : (x : Known) → is_unknown x ≡ true → is_moving x ≡ false
-unknown_rests (Frozen to) e = absurd (false≢true e)
-unknown_rests (Incoming from) e = absurd (false≢true e)
-unknown_rests _ e = refl
+pub unknown_rests : (x : Known) → is_unknown x ≡ true → is_moving x ≡ false
+unknown_rests x e = grind (arith, nat_tests)
 
-away_rests : (x : Known) → is_away x ≡ true → is_moving x ≡ false
-away_rests (Frozen to) e = absurd (false≢true e)
-away_rests (Incoming from) e = absurd (false≢true e)
-away_rests _ e = refl
+pub away_rests : (x : Known) → is_away x ≡ true → is_moving x ≡ false
+away_rests x e = grind (arith, nat_tests)
 
-here_rests : (x : Known) → is_here x ≡ true → is_moving x ≡ false
-here_rests (Frozen to) e = absurd (false≢true e)
-here_rests (Incoming from) e = absurd (false≢true e)
-here_rests _ e = refl
+pub at_rests : (c : Bool) (x : Known) → (if c then is_here x else is_away x) ≡ true → is_moving x ≡ false
+at_rests c x e = grind (arith, nat_tests, away_rests)
 
-over_rests : (x : Known) → is_over x ≡ true → is_moving x ≡ false
-over_rests (Frozen to) e = absurd (false≢true e)
-over_rests (Incoming from) e = absurd (false≢true e)
-over_rests _ e = refl
-
-at_rests : (c : Bool) (x : Known) → (if c then is_here x else is_away x) ≡ true → is_moving x ≡ false
-at_rests true x e = here_rests x e
-at_rests false x e = away_rests x e
-
-at_over : (c : Bool) (x : Known) → (if c then is_over x else is_away x) ≡ true → is_moving x ≡ false
-at_over true x e = over_rests x e
-at_over false x e = away_rests x e
+pub at_over : (c : Bool) (x : Known) → (if c then is_over x else is_away x) ≡ true → is_moving x ≡ false
+at_over c x e = grind (arith, nat_tests, away_rests)
 
 -- a phase, and who waits
 pub record Waiting (v : View) (p : Pid) (n : ℕ) : Type 0 where
@@ -81,10 +54,7 @@ waits_or v p (Moves k s d o) h =
 
 -- one machine that waits says that the process moves
 pub waits_moves : (v : View) (h : InPhases v) (p : Pid) (m : ℕ) → is_moving (v.known m p) ≡ true → moving_in (h.of p) ≡ 1
-waits_moves v h p m e = elim (waits_or v p (h.of p) (h.each p)) [
-  | inl w ↦ w.one
-  | inr r ↦ absurd (false≢true (sym (r.rests m) ∙ e))
-]
+waits_moves v h p m e = grind (arith, nat_tests, waits_or)
 
 pub here_stays : (v : View) (h : InPhases v) (p : Pid) (m : ℕ) → v.known m p ≡ Here → moving_in (h.of p) ≡ 0
 here_stays v h p m e = ap moving_in (rests_here (h.of p) m (sym (ap (knows (h.of p) m) e) ∙ (h.each p).known m))

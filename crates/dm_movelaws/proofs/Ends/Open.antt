@@ -1,7 +1,7 @@
 -- The requests to move a process that are under way, listed.
-use Rattle.dm_movelaws.proofs.Names.{◌≡◌, ℕ, suc, ◌+◌, ◌≤◌, Bool, true, false, List, [], ◌∷◌, length, refl, ap, ◌∙◌, sym, subst, inl, inr, arith, if◌then◌else◌, Option, None, Some, cases_Bool, Pid, MsgId, id_eq, id_eq-is, Part, without_id}
-use Rattle.dm_movelaws.proofs.Names.{Spot, times, standing, View, Told, not_true, without_counts, one_of, asks, ends, one_of-same, off_zero}
-use Rattle.dm_movelaws.proofs.Ends.Smooth.{asks_for, Somewhere, Extends, Smooth, stands_as, stands_was}
+use Rattle.dm_movelaws.proofs.Names.{◌≡◌, ℕ, suc, ◌+◌, ◌≤◌, Bool, true, false, List, [], ◌∷◌, length, refl, ◌∙◌, sym, subst, inl, inr, arith, if◌then◌else◌, Option, None, Some, cases_Bool, Pid, MsgId, id_eq, id_eq-is, Part, without_id}
+use Rattle.dm_movelaws.proofs.Names.{Spot, times, standing, View, Told, not_true, without_counts, asks, ends, one_of-same, off_zero, nat_tests}
+use Rattle.dm_movelaws.proofs.Ends.Lines.{asks_for, Somewhere, Extends, Smooth, stands_as, stands_was}
 use Rattle.dm_movelaws.proofs.Ends.Net.{zero_cases}
 use Rattle.dm_movelaws.proofs.Ends.Parts.{part_count}
 
@@ -38,13 +38,9 @@ pub record Closes (p : Pid) (v w : View) (i : MsgId) : Type 0 where
   pub gone : Somewhere w i → ⊥
 
 shorter_by : (i j : MsgId) (js : List MsgId) (c : Bool) → id_eq i j ≡ c → 1 ≤ times i (j ∷ js) → (1 ≤ times i js → length js ≡ suc (length (without_id i js))) → length (j ∷ js) ≡ suc (length (if c then js else j ∷ without_id i js))
-shorter_by i j js true is least h = refl
-shorter_by i j js false is least h =
-    let zero_ : one_of i j ≡ 0 = ap (λ (c : Bool). if c then 1 else 0) is in
-    let rest = h (omega (arith, least, zero_)) in
-    ap suc rest
+shorter_by i j js c is least h = grind (arith, nat_tests)
 
-shorter : (i : MsgId) (js : List MsgId) → 1 ≤ times i js → length js ≡ suc (length (without_id i js))
+pub shorter : (i : MsgId) (js : List MsgId) → 1 ≤ times i js → length js ≡ suc (length (without_id i js))
 shorter i [] least = absurd (omega arith)
 shorter i (j ∷ js) least = shorter_by i j js (id_eq i j) refl least (λ x. shorter i js x)
 
@@ -103,17 +99,11 @@ adds_back : (p : Pid) (v w : View) (i j : MsgId) → Adds p v w i → id_eq i j 
 adds_back p v w i j c apart h = record { told = h.told; is = sym (c.told j apart) ∙ h.is; asks = h.asks; stands = stands_was v w j (c.spots j apart) h.stands }
 
 none_listed : (p : Pid) (v : View) (ids : List MsgId) (i : MsgId) → v.told i ≡ None → Opens p v ids → times i ids ≡ 0
-none_listed p v ids i none h = elim (zero_cases (times i ids)) [
-  | inl z ↦ z
-  | inr some ↦ absurd (let k = h.each i some in let f : None ≡ Some k.told = sym none ∙ k.is in cc)
-]
+none_listed p v ids i none h = grind (arith, nat_tests, zero_cases)
 
 pub add_opens : (p : Pid) (v w : View) (ids : List MsgId) (i : MsgId) → Adds p v w i → Opens p v ids → Opens p w (i ∷ ids)
 add_opens p v w ids i c h = record {
-  each = λ j some. elim (cases_Bool (id_eq i j)) [
-    | inl same ↦ subst (λ (x : MsgId). IsOpen p w x) (id_eq-is i j same) c.now
-    | inr apart ↦ let none = off_zero i j apart in adds_on p v w i j c apart (h.each j (omega (arith, some, none)))
-  ];
+  each = λ j some. grind (arith, nat_tests, id_eq-is, off_zero, adds_on);
   all = λ j now. elim (cases_Bool (id_eq i j)) [
     | inl same ↦
         let self = one_of-same i in

@@ -1,12 +1,13 @@
 -- Parts that leave all requests to move a process where they stand, and end none; and the lines of parts, counted.
-use Rattle.dm_movelaws.proofs.Names.{◌≡◌, ℕ, ◌+◌, ◌==◌, ◌&&◌, Bool, true, false, List, [], ◌∷◌, ◌++◌, length, refl, ap, ◌∙◌, sym, subst, arith, ⊤, if◌then◌else◌, Option, None, Some, Pid, pid_eq, MsgId, MessageKind, plain_kind, bind}
-use Rattle.dm_movelaws.proofs.Names.{bind-is, Line, Stage, Load, View, Told, view_after, own_id, after_put, Receiver, Point, moved, after, Part, Says, Routes, Again, Owns, Transmits, Spelled, lines_of, puts, goes_out, packet_line, behind}
-use Rattle.dm_movelaws.proofs.Names.{spelled, is_put, touches, pair_same, PairsFit, put_told_off, fits_as, fits_put, fits_packet, Sane, Sayable, part_sane, put_spots, put_at, Needs, NeedsPart, Walks, Steps, Said, said_by, asks, ends, count}
-use Rattle.dm_movelaws.proofs.Names.{packet_off, by_parts}
+use Rattle.dm_movelaws.proofs.Names.{◌≡◌, ℕ, ◌+◌, ◌&&◌, Bool, false, List, [], ◌∷◌, ◌++◌, refl, ap, ◌∙◌, sym, subst, arith, ⊤, if◌then◌else◌, Option, None, Some, Pid, pid_eq, MsgId, MessageKind, plain_kind, Line, Load, View, Told}
+use Rattle.dm_movelaws.proofs.Names.{view_after, own_id, after_put, Point, Part, Says, Routes, Again, Owns, Transmits, Spelled, lines_of, spelled, touches, pair_same, PairsFit, put_told_off, fits_as, fits_put, fits_packet, Sane, Sayable}
+use Rattle.dm_movelaws.proofs.Names.{part_sane, put_spots, put_at, Needs, NeedsPart, Walks, Steps, asks, ends, count, packet_off, by_parts, PacketsKeep, OneKernel, label_of, kernel_after, nat_tests, PlainMessage, Boot, Loose, loose_round}
+use Rattle.dm_movelaws.proofs.Names.{loose_handles, by_forwards, goes_round, handles}
+use Rattle.dm_movelaws.proofs.Ends.Lines.{asks_for, is_migrate, plain_not, Extends, Smooth, Still, Plain, smooth_same, smooth_trans, smooth_others, moves_none, plain_in_bag, own_untold, Tame, QuietLine, tame_plain, line_smooth}
+use Rattle.dm_movelaws.proofs.Ends.Lines.{still_same, still_trans, line_still, quiet_ends}
+use Rattle.dm_movelaws.proofs.Leading.{All, Behind, part_leads, lines_are}
 use Rattle.dm_rule.specs.View as view
-use Rattle.dm_movelaws.proofs.Ends.Smooth.{asks_for, is_migrate, plain_not, Extends, Smooth, Still, Plain, smooth_same, smooth_trans, smooth_others, moves_none, plain_in_bag, own_untold}
-use Rattle.dm_movelaws.proofs.Ends.Lines.{Tame, QuietLine, Foreign, tame_plain, line_smooth}
-use Rattle.dm_movelaws.proofs.Ends.Still.{still_same, still_trans, line_still, quiet_ends}
+use Rattle.dm_rule.specs.Rule as rule
 pub use Rattle.dm_rule.proofs.Phases.Lines.{first_kept}
 
 -- a put of a message that is no request to move this process
@@ -32,50 +33,17 @@ Quiet p v (Owns k q b) = (is_migrate k && pid_eq p q) ≡ false
 Quiet p v _ = ⊤
 
 abbrev pub AllQuiet : Pid → View → List Part → Type 0
-AllQuiet p v [] = ⊤
-AllQuiet p v (x ∷ ps) = Quiet p v x × AllQuiet p v ps
+AllQuiet p v = All (Quiet p v)
 
 -- what is quiet stays so
 tame_on : (p : Pid) (v w : View) (i : MsgId) → Smooth p v w → Tame p v i → Tame p w i
 tame_on p v w i c h = record { what = h.what; told = c.kept i h.what h.told; plain = h.plain }
 
-foreign_on : (p : Pid) (v w : View) (i : MsgId) → Smooth p v w → Foreign p v i → Foreign p w i
-foreign_on p v w i c h = record { what = h.what; told = c.kept i h.what h.told; other = h.other }
-
-line_on : (p : Pid) (v w : View) (l : Line) → Smooth p v w → QuietLine p v l → QuietLine p w l
-line_on p v w (Line.Queued i) c h = tame_on p v w i c h
-line_on p v w (Line.Held i) c h = tame_on p v w i c h
-line_on p v w (Line.Forwarded i m) c h = tame_on p v w i c h
-line_on p v w (Line.Updated i n) c h = tame_on p v w i c h
-line_on p v w (Line.Proto i) c h = tame_on p v w i c h
-line_on p v w (Line.Here i) c h = foreign_on p v w i c h
-line_on p v w (Line.NoMove i) c h = foreign_on p v w i c h
-line_on p v w (Line.Migration Stage.Asked q) c h = h
-line_on p v w (Line.Migration Stage.Frozen q) c h = h
-line_on p v w (Line.Migration Stage.Accepted q) c h = h
-line_on p v w (Line.Migration Stage.StateTaken q) c h = h
-line_on p v w (Line.Migration Stage.MemoryTaken q) c h = h
-line_on p v w (Line.Migration Stage.Left q) c h = h
-line_on p v w (Line.Migration Stage.Restarted q) c h = h
-line_on p v w l c h = h
-
 quiet_on : (p : Pid) (v w : View) (x : Part) → Smooth p v w → Quiet p v x → Quiet p w x
-quiet_on p v w (Says l) c h = line_on p v w l c h
-quiet_on p v w (Again i b) c h = tame_on p v w i c h
-quiet_on p v w _ c h = h
+quiet_on p v w x c h = grind (arith, nat_tests, tame_on)
 
 quiet_touches : (p : Pid) (v : View) (l : Line) → QuietLine p v l → touches l ≡ false
-quiet_touches p v (Line.Head s) h = absurd h
-quiet_touches p v (Line.Put a b i k q) h = absurd h
-quiet_touches p v (Line.Packet a b k l) h = absurd h
-quiet_touches p v (Line.Taken a b n) h = absurd h
-quiet_touches p v (Line.Early a b n) h = absurd h
-quiet_touches p v (Line.Acked a b n) h = absurd h
-quiet_touches p v l h = refl
-
-quiet_put : (p : Pid) (v : View) (l : Line) → QuietLine p v l → is_put l ≡ false
-quiet_put p v (Line.Put a b i k q) h = absurd h
-quiet_put p v l h = refl
+quiet_touches p v l h = grind (arith, nat_tests)
 
 -- what is kept through parts
 pub record Settled (p : Pid) (v : View) (pt : Point) : Type 0 where
@@ -89,73 +57,41 @@ pub record Rest (p : Pid) (v w : View) : Type 0 where
   pub still : Still p v w
   pub fits : PairsFit w
 
-packet_or_none : (p : Pid) (v : View) (pt next : Point) (c d : Bool) (a b k : ℕ) (l : Load) → Rest p v pt.view → after pt (if c then [] else if d then Line.Packet a b k l ∷ [] else []) ≡ Some next → Rest p v next.view
-packet_or_none p v pt next true d a b k l h is = let f : pt ≡ next = cc in subst (λ (q : Point). Rest p v q.view) f h
-packet_or_none p v pt next false false a b k l h is = let f : pt ≡ next = cc in subst (λ (q : Point). Rest p v q.view) f h
-packet_or_none p v pt next false true a b k l h is =
-    let f : moved pt (Line.Packet a b k l) pt.kernel ≡ next = cc in
-    let w = view_after pt.view (Line.Packet a b k l) in
-    let r : Rest p v w = record { smooth = smooth_trans p v pt.view w h.smooth (packet_smooth p pt.view a b k l); still = h.still; fits = fits_packet pt.view a b k l h.fits } in
-    subst (λ (q : Point). Rest p v q.view) f r
+pub rest_packet : (p : Pid) (v : View) → PacketsKeep (λ q. Rest p v q.view)
+rest_packet p v q a b k l h = search (smooth_trans, packet_smooth, fits_packet)
 
-puts_rest : (p : Pid) (pt next : Point) (b : ℕ) (i : MsgId) (k : MessageKind) (q : Pid) (ls : List Line) → PairsFit pt.view → (is_migrate k && pid_eq p q) ≡ false → Plain p pt.view i → Some (puts pt.view b i k q) ≡ Some ls → after pt ls ≡ Some next → Rest p pt.view next.view
-puts_rest p pt next b i k q ls fits e plain is leads =
-    let v = pt.view in
-    let f : puts v b i k q ≡ ls = cc in
-    let mid = moved pt (Line.Put v.acting b i k q) pt.kernel in
-    packet_or_none p v mid next (v.acting == b) (goes_out (v.pair v.acting b)) v.acting b (length (v.pair v.acting b).wire) (Load.Data (length (v.pair v.acting b).ids))
-    (record { smooth = put_smooth p v v.acting b i k q fits e plain; still = λ m. refl; fits = fits_put v v.acting b i k q fits }) (ap (after pt) f ∙ leads)
+put_rest : (p : Pid) (v : View) (b : ℕ) (i : MsgId) (k : MessageKind) (q : Pid) → PairsFit v → (is_migrate k && pid_eq p q) ≡ false → Plain p v i → Rest p v (after_put v v.acting b i k q)
+put_rest p v b i k q fits e plain = record { smooth = put_smooth p v v.acting b i k q fits e plain; still = λ m. refl; fits = fits_put v v.acting b i k q fits }
 
-says_rest : (p : Pid) (pt next : Point) (l : Line) → Sane pt → PairsFit pt.view → QuietLine p pt.view l → Needs pt l → Said pt l next → Rest p pt.view next.view
-says_rest p pt next l h fits quiet need k =
-    let w = view_after pt.view l in
-    let r : Rest p pt.view w = record { smooth = line_smooth p pt k.kernel l h quiet k.step; still = line_still p pt l quiet need; fits = fits_as pt.view w (pair_same pt.view l (quiet_touches p pt.view l quiet)) fits } in
-    subst (λ (q : Point). Rest p pt.view q.view) k.is r
+says_rest : (p : Pid) (pt : Point) (s : OneKernel) (l : Line) → Sane pt → PairsFit pt.view → QuietLine p pt.view l → Needs pt l → kernel_after pt.kernel (label_of l) ≡ Some s → Rest p pt.view (view_after pt.view l)
+says_rest p pt s l h fits quiet need step = search (line_smooth, line_still, fits_as, pair_same, quiet_touches)
 
 untold_plain : (p : Pid) (v : View) (i : MsgId) → v.told i ≡ None → Plain p v i
 untold_plain p v i none t told = absurd (let f : None ≡ Some t = sym none ∙ told in cc)
 
-first_off : (b c : Bool) → b ≡ false → (b && c) ≡ false
+pub first_off : (b c : Bool) → b ≡ false → (b && c) ≡ false
 first_off b c e = ap (λ (x : Bool). x && c) e
 
-part_rest : (p : Pid) (pt next : Point) (x : Part) → Sane pt → PairsFit pt.view → Quiet p pt.view x → NeedsPart pt x → Steps pt x next → Rest p pt.view next.view
-part_rest p pt next (Says l) h fits quiet need s = says_rest p pt next l h fits quiet need (said_by pt next l s)
-part_rest p pt next (Routes i) h fits quiet need s =
-    let (m, there, last) = bind-is (pt.kernel.bag i) (λ m. Some (puts pt.view (pt.addresses (Receiver i)).at i (plain_kind m.what) m.to)) s.lines s.are in
-    puts_rest p pt next (pt.addresses (Receiver i)).at i (plain_kind m.what) m.to s.lines fits (first_off (is_migrate (plain_kind m.what)) (pid_eq p m.to) (plain_not m.what)) (plain_in_bag p pt i m h there) last s.leads
-part_rest p pt next (Again i b) h fits quiet need s =
-    let (t, there, last) = bind-is (pt.view.told i) (λ t. Some (puts pt.view b i t.kind t.receiver)) s.lines s.are in
-    puts_rest p pt next b i t.kind t.receiver s.lines fits (tame_plain p pt.view i quiet t there) (tame_plain p pt.view i quiet) last s.leads
-part_rest p pt next (Owns k q b) h fits quiet need s = puts_rest p pt next b (own_id pt.view) k q s.lines fits quiet (untold_plain p pt.view (own_id pt.view) (own_untold pt h)) s.are s.leads
-part_rest p pt next (Transmits a b l) h fits quiet need s =
-    let lines_are = s.are in
-    let f : packet_line pt.view a b l ∷ [] ≡ s.lines = cc in
-    packet_or_none p pt.view pt next false true a b (length (pt.view.pair a b).wire) l (record { smooth = smooth_same p pt.view; still = λ m. refl; fits = fits }) (ap (after pt) f ∙ s.leads)
+rest_behind : (p : Pid) (pt : Point) (x : Part) → Sane pt → PairsFit pt.view → Quiet p pt.view x → NeedsPart pt x → Behind (λ q. Rest p pt.view q.view) pt x
+rest_behind p pt (Says l) h fits quiet need = λ s step. says_rest p pt s l h fits quiet need step
+rest_behind p pt (Routes i) h fits quiet need = λ m there. put_rest p pt.view _ i (plain_kind m.what) m.to fits (first_off (is_migrate (plain_kind m.what)) (pid_eq p m.to) (plain_not m.what)) (plain_in_bag p pt i m h there)
+rest_behind p pt (Again i b) h fits quiet need = λ t there. put_rest p pt.view b i t.kind t.receiver fits (tame_plain p pt.view i quiet t there) (tame_plain p pt.view i quiet)
+rest_behind p pt (Owns k q b) h fits quiet need = put_rest p pt.view b (own_id pt.view) k q fits quiet (untold_plain p pt.view (own_id pt.view) (own_untold pt h))
+rest_behind p pt (Transmits a b l) h fits quiet need = record { smooth = smooth_same p pt.view; still = λ m. refl; fits = fits }
 
 sayable_of : (p : Pid) (v : View) (x : Part) → Quiet p v x → Sayable x
-sayable_of p v (Says l) h = quiet_put p v l h
-sayable_of p v _ h = tt
+sayable_of p v x h = grind (arith, nat_tests)
 
 pub settled_same : (p : Pid) (pt : Point) → Sane pt → PairsFit pt.view → Settled p pt.view pt
 settled_same p pt sane fits = record { smooth = smooth_same p pt.view; still = still_same p pt.view; sane = sane; fits = fits }
 
 pub parts_settle : (p : Pid) (ps : List Part) (v : View) (pt : Point) (w : Spelled) → AllQuiet p v ps → Walks pt ps → Settled p v pt → spelled pt ps ≡ Some w → Settled p v w.point
-parts_settle p [] v pt w quiet walks h is = let f : record { lines = []; point = pt } ≡ w = cc in subst (λ (x : Spelled). Settled p v x.point) f h
-parts_settle p (x ∷ ps) v pt w quiet walks h is =
-    let (ls, lines, rest) = bind-is (lines_of pt x) (λ (xs : List Line). bind (after pt xs) (λ (q : Point). bind (spelled q ps) (λ (z : Spelled). Some (behind xs z)))) w is in
-    let (next, leads, last) = bind-is (after pt ls) (λ (q : Point). bind (spelled q ps) (λ (z : Spelled). Some (behind ls z))) w rest in
-    let (z, more, end) = bind-is (spelled next ps) (λ (y : Spelled). Some (behind ls y)) w last in
-    let f : behind ls z ≡ w = cc in
+parts_settle p qs v q w quiet walks h is = by_parts (λ ps pt u. AllQuiet p v ps → Walks pt ps → Settled p v pt → Settled p v u.point) (λ pt quiet walks h. h) (λ x ps pt next ls z lines leads rest quiet walks h. (
     let here : Quiet p pt.view x = quiet_on p v pt.view x h.smooth quiet.0 in
     let s : Steps pt x next = record { lines = ls; are = lines; leads = leads } in
-    let c = part_rest p pt next x h.sane h.fits here walks.0 s in
-    let there : Settled p v next = record {
-      smooth = smooth_trans p v pt.view next.view h.smooth c.smooth;
-      still = still_trans p v pt.view next.view h.still c.still;
-      sane = part_sane pt next x ls (sayable_of p pt.view x here) lines leads h.sane;
-      fits = c.fits;
-    } in
-    subst (λ (y : Spelled). Settled p v y.point) f (parts_settle p ps v next z quiet.1 (walks.1 next s) there more)
+    let c = part_leads (λ y. Rest p pt.view y.view) (rest_packet p pt.view) pt next x (rest_behind p pt x h.sane h.fits here walks.0) s in
+    rest quiet.1 (walks.1 next s) (search (smooth_trans, still_trans, part_sane, sayable_of))
+    )) qs q w is quiet walks h
 
 -- the lines of parts, counted
 abbrev pub one_if : (Line → Bool) → Line → ℕ
@@ -164,21 +100,12 @@ one_if f l = if f l then 1 else 0
 abbrev pub part_count : (Line → Bool) → List Part → ℕ
 part_count f [] = 0
 part_count f (Says l ∷ ps) = one_if f l + part_count f ps
-part_count f (Routes i ∷ ps) = part_count f ps
-part_count f (Again i b ∷ ps) = part_count f ps
-part_count f (Owns k q b ∷ ps) = part_count f ps
-part_count f (Transmits a b l ∷ ps) = part_count f ps
+part_count f (x ∷ ps) = part_count f ps
 
 -- puts and packets don't count
 pub record Silent (f : Line → Bool) : Type 0 where
   pub put : (a b : ℕ) (i : MsgId) (k : MessageKind) (q : Pid) → f (Line.Put a b i k q) ≡ false
   pub packet : (a b k : ℕ) (l : Load) → f (Line.Packet a b k l) ≡ false
-
-pub asks_silent : (p : Pid) → Silent (asks p)
-asks_silent p = record { put = λ a b i k q. refl; packet = λ a b k l. refl }
-
-pub ends_silent : (g : MsgId → Option Told) (p : Pid) → Silent (ends g p)
-ends_silent g p = record { put = λ a b i k q. refl; packet = λ a b k l. refl }
 
 pub count-append : (f : Line → Bool) (xs ys : List Line) → count f (xs ++ ys) ≡ count f xs + count f ys
 count-append f [] ys = omega arith
@@ -190,65 +117,39 @@ unit_if c = if c then 1 else 0
 pub zero_if : (c : Bool) → c ≡ false → unit_if c ≡ 0
 zero_if c e = ap unit_if e
 
-puts_zero : (f : Line → Bool) (v : View) (b : ℕ) (i : MsgId) (k : MessageKind) (q : Pid) (c d : Bool) → Silent f → count f (Line.Put v.acting b i k q ∷ (if c then [] else if d then packet_line v v.acting b (Load.Data (length (v.pair v.acting b).ids)) ∷ [] else [])) ≡ 0
-puts_zero f v b i k q true d h = let x = zero_if (f (Line.Put v.acting b i k q)) (h.put v.acting b i k q) in omega (arith, x)
-puts_zero f v b i k q false false h = let x = zero_if (f (Line.Put v.acting b i k q)) (h.put v.acting b i k q) in omega (arith, x)
-puts_zero f v b i k q false true h =
-    let l = packet_line v v.acting b (Load.Data (length (v.pair v.acting b).ids)) in
-    let x = zero_if (f (Line.Put v.acting b i k q)) (h.put v.acting b i k q) in
-    let y = zero_if (f l) (h.packet v.acting b (length (v.pair v.acting b).wire) (Load.Data (length (v.pair v.acting b).ids))) in
-    omega (arith, x, y)
-
-puts_count : (f : Line → Bool) (v : View) (b : ℕ) (i : MsgId) (k : MessageKind) (q : Pid) (ls : List Line) → Silent f → Some (puts v b i k q) ≡ Some ls → count f ls ≡ 0
-puts_count f v b i k q ls h is =
-    let g : puts v b i k q ≡ ls = cc in
-    subst (λ (xs : List Line). count f xs ≡ 0) g (puts_zero f v b i k q (v.acting == b) (goes_out (v.pair v.acting b)) h)
-
-one_count : (f : Line → Bool) (l : Line) (ls : List Line) → Some (l ∷ []) ≡ Some ls → count f ls ≡ one_if f l
-one_count f l ls is = let g : l ∷ [] ≡ ls = cc in sym (ap (count f) g) ∙ (omega arith)
-
 lines_count : (f : Line → Bool) (pt : Point) (x : Part) (ps : List Part) (ls : List Line) → Silent f → lines_of pt x ≡ Some ls → count f ls + part_count f ps ≡ part_count f (x ∷ ps)
-lines_count f pt (Says l) ps ls h is = let e = one_count f l ls is in omega (arith, e)
-lines_count f pt (Routes i) ps ls h is =
-    let (m, there, last) = bind-is (pt.kernel.bag i) (λ m. Some (puts pt.view (pt.addresses (Receiver i)).at i (plain_kind m.what) m.to)) ls is in
-    let e = puts_count f pt.view (pt.addresses (Receiver i)).at i (plain_kind m.what) m.to ls h last in
-    omega (arith, e)
-lines_count f pt (Again i b) ps ls h is =
-    let (t, there, last) = bind-is (pt.view.told i) (λ t. Some (puts pt.view b i t.kind t.receiver)) ls is in
-    let e = puts_count f pt.view b i t.kind t.receiver ls h last in
-    omega (arith, e)
-lines_count f pt (Owns k q b) ps ls h is = let e = puts_count f pt.view b (own_id pt.view) k q ls h is in omega (arith, e)
-lines_count f pt (Transmits a b l) ps ls h is =
-    let e = one_count f (packet_line pt.view a b l) ls is in
-    let z = zero_if (f (packet_line pt.view a b l)) (h.packet a b (length (pt.view.pair a b).wire) l) in
-    omega (arith, e, z)
+lines_count f pt x ps ls h is = grind (arith, nat_tests, lines_are, zero_if)
 
 pub parts_count : (f : Line → Bool) → Silent f → (ps : List Part) (pt : Point) (w : Spelled) → spelled pt ps ≡ Some w → count f w.lines ≡ part_count f ps
 parts_count f h = by_parts (λ ps pt w. count f w.lines ≡ part_count f ps) (λ pt. refl) (λ x ps pt next ls z lines leads rest. count-append f ls z.lines ∙ ap (λ n. count f ls + n) rest ∙ lines_count f pt x ps ls h lines)
 
+-- parts whose lines don't count
+pub none_count : (f : Line → Bool) (Q : Part → Type 0) → ((l : Line) → Q (Says l) → f l ≡ false) → (ps : List Part) → All Q ps → part_count f ps ≡ 0
+none_count f Q none [] so = refl
+none_count f Q none (Says l ∷ ps) so = search (zero_if, none_count f Q none ps so.1)
+none_count f Q none (x ∷ ps) so = none_count f Q none ps so.1
+
 -- quiet parts end none, and are no directive
 pub quiet_count : (p : Pid) (v : View) (ps : List Part) (f : MsgId → Option Told) → AllQuiet p v ps → Extends v.told f → part_count (ends f p) ps ≡ 0
-quiet_count p v [] f quiet ext = refl
-quiet_count p v (Says l ∷ ps) f quiet ext =
-    let a = zero_if (ends f p l) (quiet_ends p v l f quiet.0 ext) in
-    let b = quiet_count p v ps f quiet.1 ext in
-    omega (arith, a, b)
-quiet_count p v (Routes i ∷ ps) f quiet ext = quiet_count p v ps f quiet.1 ext
-quiet_count p v (Again i b ∷ ps) f quiet ext = quiet_count p v ps f quiet.1 ext
-quiet_count p v (Owns k q b ∷ ps) f quiet ext = quiet_count p v ps f quiet.1 ext
-quiet_count p v (Transmits a b l ∷ ps) f quiet ext = quiet_count p v ps f quiet.1 ext
+quiet_count p v ps f quiet ext = none_count (ends f p) (Quiet p v) (λ l q. quiet_ends p v l f q ext) ps quiet
 
 line_asks : (p : Pid) (v : View) (l : Line) → QuietLine p v l → asks p l ≡ false
-line_asks p v (Line.Head d) h = absurd h
-line_asks p v l h = refl
+line_asks p v l h = grind (arith, nat_tests)
 
 pub quiet_asks : (p : Pid) (v : View) (ps : List Part) → AllQuiet p v ps → part_count (asks p) ps ≡ 0
-quiet_asks p v [] quiet = refl
-quiet_asks p v (Says l ∷ ps) quiet =
-    let a = zero_if (asks p l) (line_asks p v l quiet.0) in
-    let b = quiet_asks p v ps quiet.1 in
-    omega (arith, a, b)
-quiet_asks p v (Routes i ∷ ps) quiet = quiet_asks p v ps quiet.1
-quiet_asks p v (Again i b ∷ ps) quiet = quiet_asks p v ps quiet.1
-quiet_asks p v (Owns k q b ∷ ps) quiet = quiet_asks p v ps quiet.1
-quiet_asks p v (Transmits a b l ∷ ps) quiet = quiet_asks p v ps quiet.1
+quiet_asks p v = none_count (asks p) (Quiet p v) (line_asks p v)
+
+quiet_loose : (p : Pid) (v : View) → Loose (AllQuiet p v)
+quiet_loose p v = record { none = tt; label = λ l ps h. (tt, h); routes = λ i ps h. (tt, h) }
+
+pub round_quiet : (p : Pid) (v : View) (b : Boot) (o : Point) (m : ℕ) (q : Option Pid) (ps : List Part) → rule.goes_round b o m q ≡ Some ps → AllQuiet p v ps
+round_quiet p v b o m q ps e = loose_round (AllQuiet p v) (quiet_loose p v) b o m q ps (tt, tt) e
+
+pub told_quiet : (p : Pid) (v : View) (c : Bool) (q : Pid) (to : ℕ) → AllQuiet p v (if c then Owns MessageKind.Update q to ∷ [] else [])
+told_quiet p v c q to = grind (arith, nat_tests)
+
+-- a message of the bag, at the front of the inbox
+pub handles_quiet : (p : Pid) (v : View) (b : Boot) (o : Point) (m : ℕ) (id : MsgId) (msg : PlainMessage) (ps : List Part) → Tame p v id → rule.handles b o m id msg ≡ Some ps → AllQuiet p v ps
+handles_quiet p v b o m id msg ps h e =
+    loose_handles (AllQuiet p v) (AllQuiet p v) (quiet_loose p v) (λ qs k. k) b o m id msg ps (λ here. (h, tt)) (h, tt)
+    (λ to moves at_. by_forwards (AllQuiet p v) o.addresses id (plain_kind msg.what) msg.sender to (h, (h, tt)) (h, (h, (refl, tt)))) e

@@ -1,11 +1,12 @@
 -- Where nothing is on its way between machines, no kernel's own message stands anywhere, and no process moves.
-use Rattle.dm_movelaws.proofs.Names.{◌≡◌, ◌⊎◌, ℕ, zero, suc, ◌<◌, ◌≤◌, Bool, true, false, List, [], ◌∷◌, drop, length, refl, ap, ◌∙◌, sym, subst, inl, inr, arith, nat_le, Option, None, Some, cases_Bool, false≢true, nat_tests, drop-length}
-use Rattle.dm_movelaws.proofs.Names.{Pid, MsgId, PlainMessage, Boot, Phase, Moves, is_due, IsIn, sender_in, receiver_in, told_between, Point, IsQuiet, Spot, Queue, Held, Inbox, Untaken, times, untaken, standing, View, Known, Frozen}
-use Rattle.dm_movelaws.proofs.Names.{Incoming, Told, is_kernels, letters, kernels_fresh, under_way, kernels_by, between_of, has_nothing_held, Run, is_moving, not_true, times_self}
-use Rattle.dm_movelaws.proofs.Ends.Smooth.{plain_in_bag}
+use Rattle.dm_movelaws.proofs.Names.{◌≡◌, ◌⊎◌, ℕ, ◌<◌, ◌≤◌, Bool, true, false, List, [], ◌∷◌, drop, length, refl, ap, ◌∙◌, sym, subst, inl, inr, arith, Option, None, Some, false≢true, nat_tests, drop-length, Pid, MsgId, PlainMessage, Boot}
+use Rattle.dm_movelaws.proofs.Names.{Phase, Moves, is_due, IsIn, sender_in, receiver_in, told_between, Point, IsQuiet, Spot, Queue, Held, Inbox, Untaken, times, untaken, standing, View, Told, is_kernels, letters, kernels_fresh, under_way}
+use Rattle.dm_movelaws.proofs.Names.{kernels_by, between_of, Run, is_moving, not_true, times_self}
+use Rattle.dm_movelaws.proofs.Ends.Lines.{plain_in_bag}
 use Rattle.dm_movelaws.proofs.Ends.Moving.{moving_in, waits_moves}
 use Rattle.dm_movelaws.proofs.Ends.Open.{IsOpen, Opens}
 use Rattle.dm_movelaws.proofs.Ends.Sources.{Sources}
+use Rattle.dm_movelaws.proofs.At.RestAlways.{still_held as rests_empty}
 
 abbrev is_listed : Spot → Bool
 is_listed (Inbox m) = false
@@ -16,14 +17,10 @@ nothing_stands : (i : MsgId) (xs : List MsgId) → xs ≡ [] → 1 ≤ times i x
 nothing_stands i xs none st = let z : times i xs ≡ 0 = ap (times i) none in omega (arith, z, st)
 
 less_or : (x y : ℕ) → (x < y) ⊎ (y ≤ x)
-less_or x y = elim (cases_Bool (nat_le y x)) [
-  | inl e ↦ inr (grind (arith, nat_tests))
-  | inr e ↦ inl (grind (arith, nat_tests))
-]
+less_or x y = grind (arith, nat_tests)
 
 drop_nothing : (k : ℕ) → drop {A = MsgId} k [] ≡ []
-drop_nothing zero = refl
-drop_nothing (suc k) = refl
+drop_nothing k = grind (arith, nat_tests)
 
 -- streams are empty: all was taken, or nothing was routed
 stream_empty : (n : ℕ) (v : View) → IsQuiet n v → Sources n v → (a b : ℕ) → b < n → untaken (v.pair a b) ≡ []
@@ -44,10 +41,7 @@ own_listed b pt h n is quiet sources i t told mine _ st = refl
 
 -- so no process moves
 token_spot : (z : Spot) (from to : ℕ) → (z ≡ Inbox to) ⊎ (z ≡ Untaken from to) → is_listed z ≡ false
-token_spot z from to e = elim e [
-  | inl x ↦ ap is_listed x
-  | inr x ↦ ap is_listed x
-]
+token_spot z from to e = grind (arith, nat_tests)
 
 none_moves : (b : Boot) (pt : Point) (h : Run b pt) (n : ℕ) → pt.kernel.machines ≡ n → IsQuiet n pt.view → Sources n pt.view → (p : Pid) (x : Phase) → IsIn pt.view p x → is_due x ≡ false → moving_in x ≡ 0
 none_moves b pt h n is quiet sources p (Moves k s d None) i due = absurd (false≢true (sym due))
@@ -64,11 +58,6 @@ quiet_stays b pt h n is quiet sources p =
     none_moves b pt h n is quiet sources p (phases.of p) (phases.each p) (not_true (is_due (phases.of p)) (λ e. let f : None ≡ Some p = phases.put p e in cc))
 
 -- and nothing is held
-rests_empty : (k : Known) → is_moving k ≡ false → has_nothing_held k ≡ true
-rests_empty (Frozen to) e = absurd (false≢true (sym e))
-rests_empty (Incoming from) e = absurd (false≢true (sym e))
-rests_empty _ e = refl
-
 quiet_rests : (b : Boot) (pt : Point) (h : Run b pt) (n : ℕ) → pt.kernel.machines ≡ n → IsQuiet n pt.view → Sources n pt.view → (m : ℕ) (p : Pid) → is_moving (pt.view.known m p) ≡ false
 quiet_rests b pt h n is quiet sources m p = not_true (is_moving (pt.view.known m p)) (λ e.
     let one = waits_moves pt.view h.based.phased.phases p m e in
@@ -77,12 +66,7 @@ quiet_rests b pt h n is quiet sources m p = not_true (is_moving (pt.view.known m
 
 -- no kernel's own message stands anywhere
 pub quiet_own : (b : Boot) (pt : Point) (h : Run b pt) (n : ℕ) → pt.kernel.machines ≡ n → IsQuiet n pt.view → Sources n pt.view → (i : MsgId) (t : Told) → pt.view.told i ≡ Some t → is_kernels i ≡ true → (z : Spot) → 1 ≤ standing pt.view i z → ⊥
-quiet_own b pt h n is quiet sources i t told mine (Queue m p) st =
-    let state = h.based.phased.state in
-    let q = h.based.queued m p i st in
-    let some = q.entered in
-    let none = kernels_fresh state.r state.e pt.kernel i state.sound mine in
-    omega (arith, some, none)
+quiet_own b pt h n is quiet sources i t told mine (Queue m p) st = grind (arith, nat_tests, kernels_fresh)
 quiet_own b pt h n is quiet sources i t told mine (Held m p) st =
     nothing_stands i (pt.view.held m p) (h.based.lists.held m p (rests_empty (pt.view.known m p) (quiet_rests b pt h n is quiet sources m p))) st
 quiet_own b pt h n is quiet sources i t told mine any_ st = false≢true (own_listed b pt h n is quiet sources i t told mine any_ st)

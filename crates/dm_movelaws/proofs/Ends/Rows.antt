@@ -1,11 +1,9 @@
 -- What a turn does with a kernel's own message: what comes of it, line by line.
-use Rattle.dm_movelaws.proofs.Names.{◌≡◌, ℕ, ◌==◌, Bool, true, false, List, [], ◌∷◌, refl, ap, ◌∙◌, sym, subst, arith, if◌then◌else◌, Option, None, Some, false≢true, Pid, pid_eq, MsgId, MessageKind, id_eq, Label, OneKernel, bind, pid_eq-is}
+use Rattle.dm_movelaws.proofs.Names.{◌≡◌, ℕ, ◌==◌, Bool, true, false, List, [], ◌∷◌, ap, ◌∙◌, sym, subst, arith, if◌then◌else◌, Option, None, Some, false≢true, Pid, pid_eq, MsgId, MessageKind, id_eq, Label, OneKernel, bind, pid_eq-is}
 use Rattle.dm_movelaws.proofs.Names.{pid_eq-same, Line, View, Told, Of, Known, view_after, handled_first, Point, label_of, kernel_after, moved, after_line, Part, Says, Spelled, spelled, is_between, at_record, Spot, Inbox, times, ids_at}
 use Rattle.dm_movelaws.proofs.Names.{standing, is_put, not_true, at_record_at, at_record_off, first_off, line_next, touches, pair_same, due, front_gone, handled_spots, InPhases, fits_as, State, PairsFit, said, Sane, sane_line, Walks}
-use Rattle.dm_movelaws.proofs.Names.{is_moving, asks, ends}
-use Rattle.dm_movelaws.proofs.Ends.Smooth.{is_migrate, asks_for, kind_not, Somewhere, Smooth, Still, Plain, smooth_trans, hushed_smooth, told_by, stands_as, stands_was}
-use Rattle.dm_movelaws.proofs.Ends.Lines.{told_one}
-use Rattle.dm_movelaws.proofs.Ends.Still.{still_trans}
+use Rattle.dm_movelaws.proofs.Names.{is_moving, asks, ends, nat_tests}
+use Rattle.dm_movelaws.proofs.Ends.Lines.{is_migrate, asks_for, kind_not, Somewhere, Smooth, Still, Plain, smooth_trans, hushed_smooth, told_by, stands_as, stands_was, told_one, still_trans}
 use Rattle.dm_movelaws.proofs.Ends.Parts.{AllQuiet, Settled, settled_same, parts_settle, one_if, zero_if, quiet_count, quiet_asks}
 use Rattle.dm_movelaws.proofs.Ends.Moving.{moving_in, still_moves}
 use Rattle.dm_movelaws.proofs.Ends.Open.{Opens, IsOpen, Closes, Balance, level_balance, close_opens, smooth_opens}
@@ -27,8 +25,7 @@ abbrev pub Comes : Pid → (pt : Point) → InPhases pt.view → List Part → S
 Comes p pt h parts w = (g : InPhases w.point.view) (ids : List MsgId) → Opens p pt.view ids → Balance p w.point.view ids 0 (moving_in (h.of p)) (moving_in (g.of p)) parts
 
 between_not : (k : MessageKind) → is_between k ≡ true → is_migrate k ≡ false
-between_not MessageKind.Migrate e = absurd (false≢true e)
-between_not k e = refl
+between_not k e = grind (arith, nat_tests)
 
 pub plain_one : (p : Pid) (v : View) (i : MsgId) (t : Told) → v.told i ≡ Some t → asks_for p t ≡ false → Plain p v i
 plain_one p v i t told e u is = subst (λ (x : Told). asks_for p x ≡ false) (told_one (v.told i) t u told is) e
@@ -47,18 +44,7 @@ pub first_smooth : (p : Pid) (v : View) (l : Line) (i : MsgId) (is : List MsgId)
 first_smooth p v l i is front plain quiet off = hushed_smooth p v l i quiet plain (first_spots v (view_after v l) i is front off)
 
 pub first_closes : (p : Pid) (pt : Point) (l : Line) (i : MsgId) (is : List MsgId) (t : Told) → Turn pt i is t → is_put l ≡ false → ((z : Spot) → ids_at (view_after pt.view l) z ≡ ids_at (handled_first pt.view) z) → Closes p pt.view (view_after pt.view l) i
-first_closes p pt l i is t h quiet off =
-    let v = pt.view in
-    let w = view_after v l in
-    let same = told_by v l quiet in
-    let spots = first_spots v w i is h.front off in
-    record {
-      kept = λ j u e. same j ∙ e;
-      fresh = λ j u e a. sym (same j) ∙ e;
-      on = λ j apart s. stands_as v w j (spots j apart) s;
-      back = λ j apart s. stands_was v w j (spots j apart) s;
-      gone = λ s. (let (z, st) = s in let none = front_gone pt l i is h.state quiet h.front off z in absurd (omega (arith, none, st)));
-    }
+first_closes p pt l i is t h quiet off = grind (arith, nat_tests, told_by, first_spots, stands_as, stands_was, front_gone)
 
 -- a line that is no step, and quiet parts behind it
 pub line_then : (p : Pid) (pt : Point) (l : Line) (ps : List Part) (w : Spelled) → label_of l ≡ None → is_put l ≡ false → touches l ≡ false → Sane pt → PairsFit pt.view → AllQuiet p (view_after pt.view l) ps → Walks (moved pt l pt.kernel) ps → spelled pt (Says l ∷ ps) ≡ Some w
@@ -76,9 +62,7 @@ line_alone pt l w none e = let n = line_next pt l [] w none e in said (moved pt 
 pub due_moves : (p q : Pid) (pt : Point) (i : MsgId) (is : List MsgId) (t : Told) (h : Turn pt i is t) → is_between t.kind ≡ true → t.about ≡ Of q → pid_eq p q ≡ true → moving_in (h.phases.of p) ≡ 1
 due_moves p q pt i is t h b about same =
     let u = due pt i is t h.phases h.front h.told b in
-    let uq : u.p ≡ q = about_same u.p q (sym (ap (λ (y : Told). y.about) u.told) ∙ about) in
-    let pu : p ≡ u.p = pid_eq-is p q same ∙ sym uq in
-    ap (λ (x : Pid). moving_in (h.phases.of x)) pu ∙ ap moving_in u.phase
+    grind (arith, nat_tests, about_same, pid_eq-is)
 
 pub pid_swap : (p q : Pid) → pid_eq p q ≡ false → pid_eq q p ≡ false
 pid_swap p q off = not_true (pid_eq q p) (λ e. let is : q ≡ p = pid_eq-is q p e in false≢true (sym off ∙ ap (pid_eq p) is ∙ pid_eq-same p))

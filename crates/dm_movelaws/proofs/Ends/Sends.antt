@@ -1,13 +1,14 @@
 -- Messages that go on, those that are held, and those that come back from a held list: all stand somewhere again.
-use Rattle.dm_movelaws.proofs.Names.{◌≡◌, ◌⊎◌, ℕ, ◌≤◌, ◌==◌, ◌&&◌, Bool, true, false, List, [], ◌∷◌, ◌++◌, length, refl, ap, ◌∙◌, sym, subst, inl, inr, arith, if◌then◌else◌, Option, None, Some, cases_Bool, false≢true, Pid, pid_eq, MsgId}
-use Rattle.dm_movelaws.proofs.Names.{MessageKind, id_eq, bind, id_eq-is, id_eq-same, bind-is, Line, Load, at_machine, at_record, View, Told, Here, view_after, after_put, handled, handled_first, held_for, receiver_of, released, with_ring}
-use Rattle.dm_movelaws.proofs.Names.{knowing, Point, moved, after, Part, Again, Spelled, lines_of, puts, goes_out, packet_line, behind, spelled, sends_on, Spot, Queue, Held, Inbox, Untaken, times, ids_at, standing, at_record_at, parts}
-use Rattle.dm_movelaws.proofs.Names.{eq_is, eq_self, fits_put, fits_packet, one_of, handled_spots, held_spots, put_spots, put_there, put_spot, times-append, PairsFit, PacketsKeep, Sane, part_sane, pid_eq-is, last_there, fewer_record}
-use Rattle.dm_rule.specs.View as view
-use Rattle.dm_movelaws.proofs.Ends.Smooth.{asks_for, Somewhere, Smooth, Plain, smooth_trans, smooth_still, smooth_others, stands_as, stands_was, told_by}
+use Rattle.dm_movelaws.proofs.Names.{◌≡◌, ◌⊎◌, ℕ, ◌≤◌, ◌==◌, Bool, true, false, List, [], ◌∷◌, ◌++◌, refl, ap, ◌∙◌, sym, subst, inl, inr, arith, if◌then◌else◌, Option, None, Some, cases_Bool, Pid, MsgId, id_eq, id_eq-is, id_eq-same, Line}
+use Rattle.dm_movelaws.proofs.Names.{at_machine, at_record, View, Told, Here, view_after, after_put, handled, handled_first, held_for, receiver_of, released, with_ring, knowing, Point, Part, Again, Spelled, spelled, sends_on, Spot, Queue}
+use Rattle.dm_movelaws.proofs.Names.{Held, Inbox, Untaken, times, ids_at, standing, at_record_at, parts, eq_is, eq_self, fits_put, fits_packet, one_of, handled_spots, held_spots, put_spots, put_there, put_spot, times-append, PairsFit}
+use Rattle.dm_movelaws.proofs.Names.{PacketsKeep, Sane, part_sane, pid_eq-is, last_there, fewer_record, nat_tests}
+use Rattle.dm_movelaws.proofs.Ends.Lines.{asks_for, Somewhere, Smooth, Plain, smooth_trans, smooth_still, smooth_others, stands_as, stands_was, told_by, other_than as other_front}
 use Rattle.dm_movelaws.proofs.Ends.Net.{zero_cases}
 use Rattle.dm_movelaws.proofs.Ends.Parts.{packet_smooth, part_count}
 use Rattle.dm_movelaws.proofs.Ends.Rows.{front_one, first_spots}
+use Rattle.dm_movelaws.proofs.Leading.{next_of, part_leads}
+use Rattle.dm_rule.specs.View as view
 pub use Rattle.dm_rule.proofs.Moves.States.{again_told}
 
 -- one message stands elsewhere, and the others where they stood
@@ -35,25 +36,6 @@ held_smooth p v i is t front told =
     smooth_moves p v (view_after v (Line.Held i)) i (told_by v (Line.Held i) refl) (Inbox v.acting, front_one v v.acting i is front) (held_there (handled v i) i o t.receiver (ap receiver_of told))
     (λ j e z. held_spots (handled v i) i j o e z ∙ handled_spots v i j e z)
 
--- a put and its packet
-puts_by : (P : Point → Type 0) (keeps : PacketsKeep P) (pt next : Point) (b : ℕ) (i : MsgId) (k : MessageKind) (q : Pid) (c d : Bool) → P (moved pt (Line.Put pt.view.acting b i k q) pt.kernel)
-    → after pt (Line.Put pt.view.acting b i k q ∷ (if c then [] else if d then packet_line pt.view pt.view.acting b (Load.Data (length (pt.view.pair pt.view.acting b).ids)) ∷ [] else [])) ≡ Some next → P next
-puts_by P keeps pt next b i k q true d h is =
-    let f : moved pt (Line.Put pt.view.acting b i k q) pt.kernel ≡ next = cc in subst P f h
-puts_by P keeps pt next b i k q false false h is =
-    let f : moved pt (Line.Put pt.view.acting b i k q) pt.kernel ≡ next = cc in subst P f h
-puts_by P keeps pt next b i k q false true h is =
-    let n = length (pt.view.pair pt.view.acting b).wire in
-    let l = Load.Data (length (pt.view.pair pt.view.acting b).ids) in
-    let mid = moved pt (Line.Put pt.view.acting b i k q) pt.kernel in
-    let f : moved mid (Line.Packet pt.view.acting b n l) mid.kernel ≡ next = cc in
-    subst P f (keeps mid pt.view.acting b n l h)
-
-pub puts_lead : (P : Point → Type 0) (keeps : PacketsKeep P) (pt next : Point) (b : ℕ) (i : MsgId) (k : MessageKind) (q : Pid) (ls : List Line) → P (moved pt (Line.Put pt.view.acting b i k q) pt.kernel) → Some (puts pt.view b i k q) ≡ Some ls → after pt ls ≡ Some next → P next
-puts_lead P keeps pt next b i k q ls h is leads =
-    let f : puts pt.view b i k q ≡ ls = cc in
-    puts_by P keeps pt next b i k q (pt.view.acting == b) (goes_out (pt.view.pair pt.view.acting b)) h (ap (after pt) f ∙ leads)
-
 -- messages on the way from their lists to their puts
 pub record Sending (p : Pid) (v : View) (js : List MsgId) (w : View) : Type 0 where
   pub told : (i : MsgId) → w.told i ≡ v.told i
@@ -65,21 +47,7 @@ pub record Sending (p : Pid) (v : View) (js : List MsgId) (w : View) : Type 0 wh
   pub acting : w.acting ≡ v.acting
 
 pub sending_packet : (p : Pid) (v : View) (js : List MsgId) → PacketsKeep (λ q. Sending p v js q.view)
-sending_packet p v js q a b k l h =
-    let w = view_after q.view (Line.Packet a b k l) in
-    let s = packet_smooth p q.view a b k l in
-    record {
-      told = h.told;
-      on = λ i t e c st. elim (h.on i t e c st) [
-        | inl x ↦ inl (s.on i t (h.told i ∙ e) c x)
-        | inr x ↦ inr x
-      ];
-      back = λ i t e c st. h.back i t e c (s.back i t (h.told i ∙ e) c st);
-      from = h.from;
-      known = h.known;
-      fits = fits_packet q.view a b k l h.fits;
-      acting = h.acting;
-    }
+sending_packet p v js q a b k l h = grind (arith, nat_tests, packet_smooth, fits_packet)
 
 one_apart : (i j : MsgId) → id_eq i j ≡ false → one_of i j ≡ 0
 one_apart i j e = ap (λ (c : Bool). if c then 1 else 0) e
@@ -96,10 +64,7 @@ sending_put p v j js w b u told h =
       on = λ i t e c st. elim (cases_Bool (id_eq i j)) [
         | inl is ↦ inl (subst (λ (x : MsgId). Somewhere n x) (sym (id_eq-is i j is)) there)
         | inr apart ↦ elim (h.on i t e c st) [
-          | inl x ↦ elim (cases_Bool (id_eq j i)) [
-            | inl is ↦ inl (subst (λ (y : MsgId). Somewhere n y) (id_eq-is j i is) there)
-            | inr off ↦ inl (stands_as w n i (spots i off) x)
-          ]
+          | inl x ↦ grind (arith, nat_tests, id_eq-is, stands_as)
           | inr x ↦ let none = one_apart i j apart in inr (omega (arith, x, none))
         ]
       ];
@@ -128,26 +93,13 @@ pub record Sent (p : Pid) (v : View) (ps : List Part) (w : Spelled) : Type 0 whe
 pub all_sent : (p : Pid) (v : View) (js : List MsgId) (b : ℕ) (ps : List Part) (pt : Point) (w : Spelled) → Sending p v js pt.view → Sane pt → spelled pt (sends_on b js ++ ps) ≡ Some w → Sent p v ps w
 all_sent p v [] b ps pt w h sane e = record { next = pt; sending = h; sane = sane; rest = w; more = e; point = refl }
 all_sent p v (j ∷ js) b ps pt w h sane e =
-    let qs = sends_on b js ++ ps in
-    let (ls, lines, rest) = bind-is (lines_of pt (Again j b)) (λ (xs : List Line). bind (after pt xs) (λ (q : Point). bind (spelled q qs) (λ (z : Spelled). Some (behind xs z)))) w e in
-    let (next, leads, last) = bind-is (after pt ls) (λ (q : Point). bind (spelled q qs) (λ (z : Spelled). Some (behind ls z))) w rest in
-    let (z, more, end) = bind-is (spelled next qs) (λ (y : Spelled). Some (behind ls y)) w last in
-    let f : behind ls z ≡ w = cc in
-    let (t, there, is) = bind-is (pt.view.told j) (λ (t : Told). Some (puts pt.view b j t.kind t.receiver)) ls lines in
-    let step : Sending p v js next.view = puts_lead (λ (q : Point). Sending p v js q.view) (sending_packet p v js) pt next b j t.kind t.receiver ls (sending_put p v j js pt.view b t there h) is leads in
-    let r = all_sent p v js b ps next z step (part_sane pt next (Again j b) ls tt lines leads sane) more in
-    record { next = r.next; sending = r.sending; sane = r.sane; rest = r.rest; more = r.more; point = ◌∙◌ {a = r.rest.point} r.point (ap (λ (x : Spelled). x.point) f) }
+    let n = next_of pt (Again j b) (sends_on b js ++ ps) w e in
+    let step = part_leads (λ (q : Point). Sending p v js q.view) (sending_packet p v js) pt n.next (Again j b) (λ t there. sending_put p v j js pt.view b t there h) n.steps in
+    let r = all_sent p v js b ps n.next n.rest step (part_sane pt n.next (Again j b) n.steps.lines tt n.steps.are n.steps.leads sane) n.more in
+    record { next = r.next; sending = r.sending; sane = r.sane; rest = r.rest; more = r.more; point = ◌∙◌ {a = r.rest.point} r.point n.point }
 
 pub sent_smooth : (p : Pid) (v w : View) → Sending p v [] w → Smooth p v w
-sent_smooth p v w h = record {
-  kept = λ i t e. h.told i ∙ e;
-  fresh = λ i t e a. sym (h.told i) ∙ e;
-  on = λ i t e a s. elim (h.on i t e a s) [
-    | inl x ↦ x
-    | inr x ↦ absurd (omega (arith, x))
-  ];
-  back = h.back;
-}
+sent_smooth p v w h = grind (arith, nat_tests)
 
 pub sends_count : (f : Line → Bool) (b : ℕ) (js : List MsgId) (ps : List Part) → part_count f (sends_on b js ++ ps) ≡ part_count f ps
 sends_count f b [] ps = refl
@@ -155,12 +107,7 @@ sends_count f b (j ∷ js) ps = sends_count f b js ps
 
 -- what begins: the front goes, and the lists of a process are emptied
 emptied_on : (f : ℕ → Pid → List MsgId) (a : ℕ) (q : Pid) (i : MsgId) (m : ℕ) (r : Pid) → 1 ≤ times i (f m r) → (1 ≤ times i (at_record f a q [] m r)) ⊎ (1 ≤ times i (f a q))
-emptied_on f a q i m r least = elim (cases_Bool ((a == m) && pid_eq q r)) [
-  | inl same ↦
-      let both = parts (a == m) (pid_eq q r) same in
-      inr (subst (λ (n : ℕ). 1 ≤ times i (f n q)) (sym (eq_is a m both.0)) (subst (λ (x : Pid). 1 ≤ times i (f m x)) (sym (pid_eq-is q r both.1)) least))
-  | inr apart ↦ inl (subst (λ n. 1 ≤ n) (sym (ap (λ (c : Bool). times i (if c then [] else f m r)) apart)) least)
-]
+emptied_on f a q i m r least = grind (arith, nat_tests, parts, eq_is, pid_eq-is)
 
 abbrev sent_view : View → Pid → ℕ → View
 sent_view v q n = view_after v (Line.SentOn q n)
@@ -196,12 +143,6 @@ both_stand v q i least =
       | inl none ↦ (Held v.acting q, omega (arith, least, sum, none))
       | inr some ↦ (Queue v.acting q, some)
     ]
-
-other_front : (p : Pid) (v : View) (i j : MsgId) (t : Told) → Plain p v i → v.told j ≡ Some t → asks_for p t ≡ true → id_eq i j ≡ false
-other_front p v i j t plain told a = elim (cases_Bool (id_eq i j)) [
-  | inl same ↦ absurd (false≢true (sym (plain t (ap v.told (id_eq-is i j same) ∙ told)) ∙ a))
-  | inr apart ↦ apart
-]
 
 pub sent_begins : (p : Pid) (v : View) (q : Pid) (n : ℕ) (i : MsgId) (is : List MsgId) → v.inbox v.acting ≡ i ∷ is → Plain p v i → PairsFit v → Sending p v (v.queue v.acting q ++ v.held v.acting q) (sent_view v q n)
 sent_begins p v q n i is front plain fits =
@@ -256,8 +197,7 @@ pub handled_smooth : (p : Pid) (v : View) (i : MsgId) (is : List MsgId) → v.in
 handled_smooth p v i is front plain = smooth_others p v (handled_first v) i plain plain (λ t e. e) (record { told = λ j a. refl; spots = first_spots v (handled_first v) i is front (λ z. refl) })
 
 here_off : (v : View) (q : Pid) (ring : List Pid) (z : Spot) → ids_at (with_ring (knowing v q Here) ring) z ≡ ids_at v z
-here_off v q ring (Queue m r) = refl
-here_off v q ring _ = refl
+here_off v q ring z = grind (arith, nat_tests)
 
 pub rejoins_smooth : (p : Pid) (v : View) (q : Pid) → Smooth p v (view.rejoins v q)
 rejoins_smooth p v q =

@@ -1,14 +1,9 @@
 -- Messages come only from machines that there are; and what was told stays.
-use Rattle.dm_movelaws.proofs.Names.{◌≡◌, ℕ, ◌<◌, ◌≤◌, ◌==◌, ◌&&◌, Bool, true, false, List, [], ◌∷◌, refl, ap, ◌∙◌, sym, subst, inl, inr, arith, ⊤, if◌then◌else◌, slice_get, Option, Some, cases_Bool, false≢true, Pid, MsgId, MessageKind}
-use Rattle.dm_movelaws.proofs.Names.{id_eq, plain_kind, Boot, bind, Step, Stage, id_eq-is, bind-is, Line, at_pair, Receiver, IsStep, migrates, View, Pair, Told, view_after, after_head, after_put, handled, receiver_of, own_id, Point, moved}
-use Rattle.dm_movelaws.proofs.Names.{after, Part, Says, Routes, Again, Owns, Transmits, Spelled, lines_of, puts, packet_line, behind, spelled, group_of, group_is, IsNetLine, IsNet, arrives_net, resends_net, acting_label, is_put, eq_is}
-use Rattle.dm_movelaws.proofs.Names.{touches, pair_same, taken_pair, AllFit, migrates_fit, turns_fit, put_at, PacketsKeep, put_told_off, says_next, transmits_next, said, begun, acting_taken, proto_acting, queued_acting, held_acting}
-use Rattle.dm_movelaws.proofs.Names.{forwarded_acting}
-use Rattle.dm_rule.specs.View as view
-use Rattle.dm_rule.specs.Rule as rule
-use Rattle.dm_movelaws.proofs.Ends.Smooth.{Extends, told_by}
+use Rattle.dm_movelaws.proofs.Names.{◌≡◌, ℕ, ◌<◌, ◌≤◌, ◌==◌, Bool, true, false, List, [], refl, ◌∙◌, subst, arith, Option, Some, Pid, MsgId, MessageKind, Boot, Step, id_eq-is, Line, at_pair, IsStep, View, Pair, Told, view_after, after_head}
+use Rattle.dm_movelaws.proofs.Names.{after_put, Point, Part, Spelled, spelled, group_of, group_is, IsNetLine, is_put, eq_is, touches, pair_same, taken_pair, put_at, PacketsKeep, put_told_off, begun, nat_tests}
+use Rattle.dm_movelaws.proofs.Ends.Lines.{Extends, told_by}
 use Rattle.dm_movelaws.proofs.Ends.Parts.{first_kept}
-use Rattle.dm_movelaws.proofs.Ends.Sends.{puts_lead}
+use Rattle.dm_movelaws.proofs.Leading.{All, Behind, whatever_put, parts_lead, Saying, outcome_says}
 
 -- nothing was routed from another machine
 abbrev pub Sources : ℕ → View → Type 0
@@ -16,54 +11,18 @@ Sources n v = (a b : ℕ) → n ≤ a → (v.pair a b).ids ≡ []
 
 -- a pair that keeps what was routed
 pair_ids : (f : ℕ → ℕ → Pair) (a b : ℕ) (p : Pair) → p.ids ≡ (f a b).ids → (c d : ℕ) → (at_pair f a b p c d).ids ≡ (f c d).ids
-pair_ids f a b p e c d = elim (cases_Bool ((a == c) && (b == d))) [
-  | inl same ↦ ap (λ (t : Bool). (if t then p else f c d).ids) same ∙ e ∙ ap (λ (n : ℕ). (f n b).ids) (eq_is a c (left_of (a == c) (b == d) same)) ∙ ap (λ (n : ℕ). (f c n).ids) (eq_is b d (right_of (a == c) (b == d) same))
-  | inr apart ↦ ap (λ (t : Bool). (if t then p else f c d).ids) apart
-]
-  where
-    left_of : (x y : Bool) → (x && y) ≡ true → x ≡ true
-    left_of true y h = refl
-    left_of false y h = absurd (false≢true h)
-
-    right_of : (x y : Bool) → (x && y) ≡ true → y ≡ true
-    right_of true y h = h
-    right_of false y h = absurd (false≢true h)
+pair_ids f a b p e c d = grind (arith, nat_tests, eq_is)
 
 pub head_ids : (v : View) (d : Step) (a b : ℕ) → ((after_head v d).pair a b).ids ≡ (v.pair a b).ids
-head_ids v (Step.Deliver x y k) a b = pair_ids v.pair x y (view.marked (v.pair x y) k) refl a b
-head_ids v _ a b = refl
+head_ids v d a b = grind (arith, nat_tests, pair_ids)
 
 pub line_ids : (v : View) (l : Line) → is_put l ≡ false → (a b : ℕ) → ((view_after v l).pair a b).ids ≡ (v.pair a b).ids
-line_ids v (Line.Head d) e a b = head_ids v d a b
-line_ids v (Line.Put x y i k q) e a b = absurd (false≢true (sym e))
-line_ids v (Line.Packet x y k l) e a b = pair_ids v.pair x y _ refl a b
-line_ids v (Line.Taken x y n) e a b = ap (λ (f : ℕ → ℕ → Pair). (f a b).ids) (taken_pair (view.with_pair v x y _) y (view.oldest (v.pair x y))) ∙ pair_ids v.pair x y _ refl a b
-line_ids v (Line.Early x y n) e a b = pair_ids v.pair x y _ refl a b
-line_ids v (Line.Acked x y n) e a b = pair_ids v.pair y x _ refl a b
-line_ids v (Line.Idle m) e a b = ap (λ (f : ℕ → ℕ → Pair). (f a b).ids) (pair_same v (Line.Idle m) refl)
-line_ids v (Line.Label l) e a b = ap (λ (f : ℕ → ℕ → Pair). (f a b).ids) (pair_same v (Line.Label l) refl)
-line_ids v (Line.Queued i) e a b = ap (λ (f : ℕ → ℕ → Pair). (f a b).ids) (pair_same v (Line.Queued i) refl)
-line_ids v (Line.Held i) e a b = ap (λ (f : ℕ → ℕ → Pair). (f a b).ids) (pair_same v (Line.Held i) refl)
-line_ids v (Line.Forwarded i m) e a b = ap (λ (f : ℕ → ℕ → Pair). (f a b).ids) (pair_same v (Line.Forwarded i m) refl)
-line_ids v (Line.Migration s p) e a b = ap (λ (f : ℕ → ℕ → Pair). (f a b).ids) (pair_same v (Line.Migration s p) refl)
-line_ids v (Line.Proto i) e a b = ap (λ (f : ℕ → ℕ → Pair). (f a b).ids) (pair_same v (Line.Proto i) refl)
-line_ids v _ e a b = refl
+line_ids v l e a b = grind (arith, nat_tests, head_ids, pair_ids, taken_pair, pair_same)
 
 -- no line but a head sets the machine that acts
 abbrev is_head : Line → Bool
 is_head (Line.Head d) = true
 is_head l = false
-
-line_acting : (v : View) (l : Line) → is_head l ≡ false → (view_after v l).acting ≡ v.acting
-line_acting v (Line.Head d) e = absurd (false≢true (sym e))
-line_acting v (Line.Taken x y n) e = acting_taken (view.with_pair v x y _) y (view.oldest (v.pair x y))
-line_acting v (Line.Label l) e = acting_label v l
-line_acting v (Line.Queued i) e = queued_acting (handled v i) i (receiver_of (v.told i))
-line_acting v (Line.Held i) e = held_acting (handled v i) i (receiver_of (v.told i))
-line_acting v (Line.Forwarded i m) e = forwarded_acting (handled v i) (receiver_of (v.told i))
-line_acting v (Line.Migration Stage.Frozen p) e = refl
-line_acting v (Line.Proto i) e = proto_acting (handled v i) (v.told i)
-line_acting v _ e = refl
 
 -- what stands between the lines of a group
 pub record Acts (n : ℕ) (f : MsgId → Option Told) (v : View) : Type 0 where
@@ -72,136 +31,48 @@ pub record Acts (n : ℕ) (f : MsgId → Option Told) (v : View) : Type 0 where
   pub grows : Extends f v.told
 
 line_acts : (n : ℕ) (f : MsgId → Option Told) (v : View) (l : Line) → is_head l ≡ false → is_put l ≡ false → Acts n f v → Acts n f (view_after v l)
-line_acts n f v l head quiet h = record {
-  acting = subst (λ (m : ℕ). m < n) (sym (line_acting v l head)) h.acting;
-  sources = λ a b le. line_ids v l quiet a b ∙ h.sources a b le;
-  grows = λ i t e. told_by v l quiet i ∙ h.grows i t e;
-}
+line_acts n f v l head quiet h = grind (arith, nat_tests, line_ids, told_by)
 
 other_source : (a c n : ℕ) → a < n → n ≤ c → (a == c) ≡ false
-other_source a c n less le = elim (cases_Bool (a == c)) [
-  | inl same ↦ absurd (let e : a ≡ c = eq_is a c same in omega (arith, e, less, le))
-  | inr apart ↦ apart
-]
+other_source a c n less le = grind (arith, nat_tests, eq_is)
 
 put_grows : (v : View) (a b : ℕ) (i : MsgId) (k : MessageKind) (q : Pid) → Extends v.told (after_put v a b i k q).told
-put_grows v a b i k q j t e = elim (cases_Bool (id_eq i j)) [
-  | inl same ↦
-      let ij : i ≡ j = id_eq-is i j same in
-      let u : Told = record { kind = k; receiver = q; about = v.topic } in
-      subst (λ (x : MsgId). (after_put v a b i k q).told x ≡ Some t) ij (put_at v a b i k q ∙ first_kept (v.told i) u t (ap v.told ij ∙ e))
-  | inr apart ↦ put_told_off v a b i j k q apart ∙ e
-]
+put_grows v a b i k q j t e = grind (arith, nat_tests, id_eq-is, put_at, first_kept, put_told_off)
 
 put_acts : (n : ℕ) (f : MsgId → Option Told) (v : View) (b : ℕ) (i : MsgId) (k : MessageKind) (q : Pid) → Acts n f v → Acts n f (after_put v v.acting b i k q)
-put_acts n f v b i k q h = record {
-  acting = h.acting;
-  sources = λ c d le. ap (λ (t : Bool). (if t && (b == d) then view.routed_on v.acting b (v.pair v.acting b) i else v.pair c d).ids) (other_source v.acting c n h.acting le) ∙ h.sources c d le;
-  grows = λ j t e. put_grows v v.acting b i k q j t (h.grows j t e);
-}
+put_acts n f v b i k q h = grind (arith, nat_tests, other_source, put_grows)
 
 -- parts
-abbrev Goes : Part → Type 0
-Goes (Says l) = (is_head l ≡ false) × (is_put l ≡ false)
-Goes _ = ⊤
+abbrev IsSaid : Line → Type 0
+IsSaid l = (is_head l ≡ false) × (is_put l ≡ false)
 
-abbrev AllGo : List Part → Type 0
-AllGo [] = ⊤
-AllGo (x ∷ ps) = Goes x × AllGo ps
+abbrev Goes : Part → Type 0
+Goes = Saying IsSaid
 
 acts_packet : (n : ℕ) (f : MsgId → Option Told) → PacketsKeep (λ q. Acts n f q.view)
 acts_packet n f q a b k l h = line_acts n f q.view (Line.Packet a b k l) refl refl h
 
--- a part that puts a message
-record ActsNext (n : ℕ) (f : MsgId → Option Told) (ps : List Part) (w : Spelled) : Type 0 where
-  next : Point
-  acts : Acts n f next.view
-  rest : Spelled
-  more : spelled next ps ≡ Some rest
-  point : rest.point ≡ w.point
+acts_behind : (n : ℕ) (f : MsgId → Option Told) (pt : Point) (p : Part) → Goes p → Acts n f pt.view → Behind (λ q. Acts n f q.view) pt p
+acts_behind n f pt p ok h =
+    whatever_put (λ q. Acts n f q.view) pt p (λ l is s step. let k = subst Goes is ok in line_acts n f pt.view l k.0 k.1 h) (λ b i k q. put_acts n f pt.view b i k q h) h
 
-acts_next : (n : ℕ) (f : MsgId → Option Told) (x : Part) (ps : List Part) (pt : Point) (w : Spelled) → ((ls : List Line) (next : Point) → lines_of pt x ≡ Some ls → after pt ls ≡ Some next → Acts n f next.view) → spelled pt (x ∷ ps) ≡ Some w → ActsNext n f ps w
-acts_next n f x ps pt w go e =
-    let (ls, lines, rest) = bind-is (lines_of pt x) (λ (xs : List Line). bind (after pt xs) (λ (q : Point). bind (spelled q ps) (λ (z : Spelled). Some (behind xs z)))) w e in
-    let (next, leads, last) = bind-is (after pt ls) (λ (q : Point). bind (spelled q ps) (λ (z : Spelled). Some (behind ls z))) w rest in
-    let (z, more, end) = bind-is (spelled next ps) (λ (y : Spelled). Some (behind ls y)) w last in
-    let g : behind ls z ≡ w = cc in
-    record { next = next; acts = go ls next lines leads; rest = z; more = more; point = ap (λ (y : Spelled). y.point) g }
-
-put_lines : (n : ℕ) (f : MsgId → Option Told) (pt next : Point) (b : ℕ) (i : MsgId) (k : MessageKind) (q : Pid) (ls : List Line) → Acts n f pt.view → Some (puts pt.view b i k q) ≡ Some ls → after pt ls ≡ Some next → Acts n f next.view
-put_lines n f pt next b i k q ls h is leads = puts_lead (λ (x : Point). Acts n f x.view) (acts_packet n f) pt next b i k q ls (put_acts n f pt.view b i k q h) is leads
-
-parts_act : (n : ℕ) (f : MsgId → Option Told) (ps : List Part) (pt : Point) (w : Spelled) → AllGo ps → Acts n f pt.view → spelled pt ps ≡ Some w → Acts n f w.point.view
-parts_act n f [] pt w ok h e = subst (λ (q : Point). Acts n f q.view) (said pt w e) h
-parts_act n f (Says l ∷ ps) pt w ok h e =
-    let k = says_next pt l ps w e in
-    subst (λ (q : Point). Acts n f q.view) k.point (parts_act n f ps (moved pt l k.s) k.rest ok.1 (line_acts n f pt.view l ok.0.0 ok.0.1 h) k.more)
-parts_act n f (Transmits a b l ∷ ps) pt w ok h e =
-    let k = transmits_next pt a b l ps w e in
-    let x = packet_line pt.view a b l in
-    subst (λ (q : Point). Acts n f q.view) k.point (parts_act n f ps (moved pt x pt.kernel) k.rest ok.1 (line_acts n f pt.view x refl refl h) k.more)
-parts_act n f (Routes i ∷ ps) pt w ok h e =
-    let k = acts_next n f (Routes i) ps pt w (λ ls next lines leads.
-    let (m, there, last) = bind-is (pt.kernel.bag i) (λ m. Some (puts pt.view (pt.addresses (Receiver i)).at i (plain_kind m.what) m.to)) ls lines in
-    put_lines n f pt next (pt.addresses (Receiver i)).at i (plain_kind m.what) m.to ls h last leads) e in
-    subst (λ (q : Point). Acts n f q.view) k.point (parts_act n f ps k.next k.rest ok.1 k.acts k.more)
-parts_act n f (Again i b ∷ ps) pt w ok h e =
-    let k = acts_next n f (Again i b) ps pt w (λ ls next lines leads.
-    let (t, there, last) = bind-is (pt.view.told i) (λ t. Some (puts pt.view b i t.kind t.receiver)) ls lines in
-    put_lines n f pt next b i t.kind t.receiver ls h last leads) e in
-    subst (λ (q : Point). Acts n f q.view) k.point (parts_act n f ps k.next k.rest ok.1 k.acts k.more)
-parts_act n f (Owns c q b ∷ ps) pt w ok h e =
-    let k = acts_next n f (Owns c q b) ps pt w (λ ls next lines leads. put_lines n f pt next b (own_id pt.view) c q ls h lines leads) e in
-    subst (λ (q : Point). Acts n f q.view) k.point (parts_act n f ps k.next k.rest ok.1 k.acts k.more)
+parts_act : (n : ℕ) (f : MsgId → Option Told) (ps : List Part) (pt : Point) (w : Spelled) → All Goes ps → spelled pt ps ≡ Some w → Acts n f pt.view → Acts n f w.point.view
+parts_act n f = parts_lead (λ q. Acts n f q.view) (acts_packet n f) Goes (acts_behind n f)
 
 -- what the parts of a group are
 fit_goes : (l : Line) → touches l ≡ false → (is_head l ≡ false) × (is_put l ≡ false)
-fit_goes (Line.Head d) e = absurd (false≢true (sym e))
-fit_goes (Line.Put a b i k q) e = absurd (false≢true (sym e))
-fit_goes l e = (refl, refl)
-
-fit_go : (f : ℕ → ℕ → Pair) (ps : List Part) → AllFit f ps → AllGo ps
-fit_go f [] h = tt
-fit_go f (Says l ∷ ps) h = (fit_goes l h.0, fit_go f ps h.1)
-fit_go f (Routes i ∷ ps) h = (tt, fit_go f ps h.1)
-fit_go f (Again i b ∷ ps) h = (tt, fit_go f ps h.1)
-fit_go f (Owns k q b ∷ ps) h = (tt, fit_go f ps h.1)
-fit_go f (Transmits a b l ∷ ps) h = (tt, fit_go f ps h.1)
+fit_goes l e = grind (arith, nat_tests)
 
 net_goes : (l : Line) → IsNetLine l → (is_head l ≡ false) × (is_put l ≡ false)
-net_goes (Line.Head d) e = absurd e
-net_goes (Line.Put a b i k q) e = absurd e
-net_goes l e = (refl, refl)
-
-net_go : (ps : List Part) → IsNet ps → AllGo ps
-net_go [] h = tt
-net_go (Says l ∷ ps) h = (net_goes l h.0, net_go ps h.1)
-net_go (Transmits a b l ∷ ps) h = (tt, net_go ps h.1)
-net_go _ h = absurd h.0
-
-outcome_go : (b : Boot) (pt : Point) (d : Step) (ps : List Part) → rule.outcome b pt d ≡ Some ps → AllGo ps
-outcome_go b pt (Step.Turn m) ps e = fit_go pt.view.pair ps (turns_fit pt.view.pair b pt m (pt.view.inbox m) ps e)
-outcome_go b pt (Step.Tick m) ps e =
-    let qs = Says (Line.Resent m (rule.outstanding_count pt.view m pt.kernel.machines)) ∷ rule.resends pt.view m pt.kernel.machines in
-    let f : qs ≡ ps = cc in
-    subst AllGo f (net_go qs (tt, resends_net pt.view m pt.kernel.machines))
-outcome_go b pt (Step.Deliver a c k) ps e =
-    let qs = rule.arrives a c (pt.view.pair a c) (pt.view.pair c a) (slice_get (pt.view.pair a c).wire k) in
-    let f : qs ≡ ps = cc in
-    subst AllGo f (net_go qs (arrives_net a c (pt.view.pair a c) (pt.view.pair c a) (slice_get (pt.view.pair a c).wire k)))
-outcome_go b pt (Step.Migrate q m) ps e =
-    let f : migrates pt q ≡ ps = cc in
-    subst AllGo f (fit_go pt.view.pair (migrates pt q) (migrates_fit pt.view.pair pt q))
+net_goes l e = grind (arith, nat_tests)
 
 -- a directive acts on a machine that there is
 actor_less : (n : ℕ) (v : View) (d : Step) → IsStep n d → (after_head v d).acting < n
-actor_less n v (Step.Deliver a b k) h = h.1
-actor_less n v (Step.Migrate p m) h = omega (arith, h)
-actor_less n v _ h = h
+actor_less n v d h = grind (arith, nat_tests)
 
 -- each group
 pub group_acts : (n : ℕ) (b : Boot) (pt : Point) (d : Step) (w : Spelled) → IsStep n d → group_of b pt d ≡ Some w → Sources n pt.view → Acts n pt.view.told w.point.view
 group_acts n b pt d w fit e h =
     let g = group_is b pt d w e in
     let start : Acts n pt.view.told (begun pt d).view = record { acting = actor_less n pt.view d fit; sources = λ x y le. head_ids pt.view d x y ∙ h x y le; grows = λ i t told. told_by pt.view (Line.Head d) refl i ∙ told } in
-    subst (λ (q : Point). Acts n pt.view.told q.view) g.point (parts_act n pt.view.told g.parts (begun pt d) g.rest (outcome_go b pt d g.parts g.is) start g.said)
+    subst (λ (q : Point). Acts n pt.view.told q.view) g.point (parts_act n pt.view.told g.parts (begun pt d) g.rest (outcome_says IsSaid fit_goes net_goes b pt d g.parts g.is) g.said start)

@@ -1,22 +1,16 @@
 -- Where all is at rest, a process that was told of a forward has links that lead to where the other is.
-use Rattle.dm_movelaws.proofs.Names.{◌≡◌, ◌≢◌, ℕ, ◌+◌, ◌<◌, ◌≤◌, ◌==◌, Bool, true, false, List, [], ◌∷◌, ◌++◌, is_some, refl, ap, ◌∙◌, sym, subst, arith, if◌then◌else◌, slice_get, false≢true, slice_get_within, Option, None, Some, Pid}
-use Rattle.dm_movelaws.proofs.Names.{Place, MsgId, Boot, Life, Alive, OneKernel, receptions, LifeGrows, reached, Sound, Step, IsStep, Leads, Point, first_point, labels, Trails, View, Known, Unknown, Here, Forward, actor, is_server}
-use Rattle.dm_movelaws.proofs.Names.{KnownStands, agrees, group_replay, run_always, AtRest, IsThere, CountsPromise, update_of, IsUnderWay}
+use Rattle.dm_movelaws.proofs.Names.{◌≡◌, ◌≢◌, ℕ, ◌+◌, ◌<◌, ◌≤◌, true, false, List, [], ◌∷◌, ◌++◌, is_some, refl, ap, ◌∙◌, sym, subst, arith, slice_get, slice_get_within, Some, Pid, Place, MsgId, Boot, OneKernel, receptions, reached, Sound}
+use Rattle.dm_movelaws.proofs.Names.{Step, IsStep, Leads, Point, first_point, labels, Trails, View, Unknown, Forward, actor, is_server, KnownStands, group_replay, run_always, AtRest, IsThere, CountsPromise, update_of, IsUnderWay, nat_tests}
 use Rattle.dm_movelaws.proofs.At.RestAlways.{at_rest_always}
 use Rattle.dm_movelaws.proofs.Forwards.Told.{forwards_tell}
-use Rattle.dm_movelaws.proofs.Promise.Always.{promises_always}
+use Rattle.dm_movelaws.proofs.Promise.Always.{promises_always, same_some}
 use Rattle.dm_movelaws.proofs.Promise.Finds.{lines_by, leads_append}
 use Rattle.dm_movelaws.proofs.Promise.Kept.{lines_told}
 use Rattle.dm_movelaws.proofs.Promise.Trail.{OnTrail}
 use Rattle.dm_movelaws.proofs.Trail.Known.{trail_known}
+use Rattle.dm_movelaws.proofs.Real.Lines.{made_by as life_stays}
 
 -- a process that was made stays made
-life_stays : (a b : Option Life) → LifeGrows a b → is_some a ≡ true → is_some b ≡ true
-life_stays None b g e = absurd (false≢true e)
-life_stays (Some (Life.Ended y)) b g e = ap is_some g
-life_stays (Some (Alive x)) None g e = absurd g
-life_stays (Some (Alive x)) (Some l) g e = refl
-
 made_on : (b : Boot) (es : List Step) (pt end : Point) (q : Pid) (r e : MsgId → ℕ) → Leads b pt es end → Sound r e pt.kernel → is_some (pt.kernel.processes q) ≡ true → is_some (end.kernel.processes q) ≡ true
 made_on b [] pt end q r e leads h there = ap (λ (x : Point). is_some (x.kernel.processes q)) (sym leads) ∙ there
 made_on b (d ∷ es) pt end q r e (w, fit, is, rest) h there =
@@ -24,32 +18,16 @@ made_on b (d ∷ es) pt end q r e (w, fit, is, rest) h there =
     made_on b es w.point end q (λ i. r i + receptions i (labels w.lines)) k.e' rest k.sound (life_stays (pt.kernel.processes q) (w.point.kernel.processes q) (k.grown.lives q) there)
 
 -- what a machine forwards for is a process that was made
-server_stays : (m : ℕ) (c : Bool) (to moves : ℕ) → (if c then Here else Unknown) ≡ Forward to moves → ⊥
-server_stays m true to moves e = cc
-server_stays m false to moves e = cc
-
-no_server : (s : OneKernel) (v : View) (m : ℕ) (q : Pid) (to moves : ℕ) (c : Bool) → is_server q ≡ c → KnownStands s v → v.known m q ≡ Forward to moves → c ≡ false
-no_server s v m q to moves true is h e = absurd (server_stays m (m == 0) to moves (sym (h.server m q is) ∙ e))
-no_server s v m q to moves false is h e = refl
-
-made_there : (to moves : ℕ) (o : Option Life) → agrees (Forward to moves) o ≡ true → is_some o ≡ true
-made_there to moves None e = absurd (false≢true e)
-made_there to moves (Some l) e = refl
 
 -- a machine has one forwarding address for it
 one_count : (to m n : ℕ) → Forward to m ≡ Forward to n → m ≡ n
 one_count to m n e = cc
 
-same_some : (m n : ℕ) → Some m ≡ Some n → m ≡ n
-same_some m n e = cc
-
 turn_fits : (n : ℕ) (d : Step) → d ≡ Step.Turn (actor d) → actor d < n → IsStep n d
 turn_fits n d e h = subst (IsStep n) (sym e) h
 
 forwarded_made : (s : OneKernel) (v : View) (m : ℕ) (q : Pid) (to moves : ℕ) → KnownStands s v → v.known m q ≡ Forward to moves → (is_server q ≡ false) × (is_some (s.processes q) ≡ true)
-forwarded_made s v m q to moves h known =
-    let server = no_server s v m q to moves (is_server q) refl h known in
-    (server, made_there to moves (s.processes q) (sym (ap (λ (k : Known). agrees k (s.processes q)) known) ∙ h.agree m q server))
+forwarded_made s v m q to moves h known = grind (arith, nat_tests)
 
 forwarded_some : (v : View) (m : ℕ) (q : Pid) (to moves : ℕ) → v.known m q ≡ Forward to moves → v.known m q ≢ Unknown
 forwarded_some v m q to moves known e = let f : Forward to moves ≡ Unknown = sym known ∙ e in cc

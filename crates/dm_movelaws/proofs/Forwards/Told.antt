@@ -1,14 +1,115 @@
 -- Where a group that sends a message on leads: the update for its sender is under way.
-use Rattle.dm_movelaws.proofs.Names.{◌≡◌, ℕ, ◌==◌, Bool, true, false, List, [], ◌∷◌, ◌++◌, length, refl, ap, ◌∙◌, sym, subst, if◌then◌else◌, Option, None, Some, Pid, Place, MsgId, MessageKind, Load, plain_kind, PlainMessage, PlainWhat}
-use Rattle.dm_movelaws.proofs.Names.{Boot, manager, bind-is, Step, Line, Receiver, Sender, is_told_back, Part, Says, Routes, Again, Owns, Transmits, Spelled, lines_of, puts, goes_out, packet_line, spelled, Point, View, Told, About, Known}
-use Rattle.dm_movelaws.proofs.Names.{Forward, own_id, handled, receiver_of, actor, view_after, fits, fits_put, fits_packet, pair_same, put_at, fits_as, PairsFit, Sane, part_sane, Steps, begun, begun_sane, said_by, again_rides, again_same}
-use Rattle.dm_movelaws.proofs.Names.{own_fresh, front, Run, Tells, ForwardsTell, RequestsTell, update_of, IsUnderWay, run_always, last_point, first_none, forwarded_own, GroupIs, group_is, by_parts}
+use Rattle.dm_movelaws.proofs.Names.{◌≡◌, ℕ, Bool, true, List, [], ◌∷◌, ◌++◌, refl, ap, ◌∙◌, sym, subst, if◌then◌else◌, None, Some, Pid, Place, MsgId, MessageKind, plain_kind, PlainMessage, PlainWhat, Boot, manager, Step, Line, Sender}
+use Rattle.dm_movelaws.proofs.Names.{is_told_back, Part, Says, Again, Owns, Spelled, lines_of, spelled, Point, View, Told, About, Forward, own_id, handled, receiver_of, actor, view_after, fits, fits_put, fits_packet, pair_same, put_at}
+use Rattle.dm_movelaws.proofs.Names.{fits_as, PairsFit, Sane, part_sane, Steps, begun, begun_sane, said_by, again_rides, again_same, own_fresh, front, Run, Tells, ForwardsTell, RequestsTell, update_of, IsUnderWay, run_always, last_point}
+use Rattle.dm_movelaws.proofs.Names.{first_none, forwarded_own, GroupIs, group_is, by_parts, Addresses, forwards_on, sends_on, migrates, IsNetLine, IsNet, by_migrates, Loose, loose_round, loose_handles, by_forwards, by_net, by_outcome}
+use Rattle.dm_movelaws.proofs.Names.{by_hears, nat_tests, arith}
+use Rattle.dm_movelaws.proofs.Leading.{next_of, puts_lead, lines_are}
+use Rattle.dm_movelaws.proofs.Promise.Spots.{Stands, put_this, packet_stands}
 use Rattle.dm_rule.specs.View as view
-use Rattle.dm_movelaws.proofs.Ends.Sends.{puts_lead}
-use Rattle.dm_movelaws.proofs.Forwards.Rows.{Onward, with_forward, part_forwards, forwards_of, goes_on, GoesOn, GoesOnOwn, Form, Nothing, Plain, Own, outcome_form}
-use Rattle.dm_movelaws.proofs.Promise.Parts.{next_of}
-use Rattle.dm_movelaws.proofs.Promise.Spots.{Stands}
-use Rattle.dm_movelaws.proofs.Promise.Stands.{put_this, packet_stands}
+use Rattle.dm_rule.specs.Rule as rule
+
+-- a message that is sent on, and the machine that it goes to
+abbrev pub Onward : Type 0
+Onward = MsgId × ℕ
+
+-- those that a line says, before others
+abbrev pub with_forward : Line → List Onward → List Onward
+with_forward (Line.Forwarded i m) fs = (i, m) ∷ fs
+with_forward l fs = fs
+
+abbrev pub part_forwards : Part → List Onward → List Onward
+part_forwards (Says l) fs = with_forward l fs
+part_forwards _ fs = fs
+
+abbrev pub forwards_of : List Part → List Onward
+forwards_of [] = []
+forwards_of (p ∷ ps) = part_forwards p (forwards_of ps)
+
+quiet_loose : Loose (λ ps. forwards_of ps ≡ [])
+quiet_loose = record { none = refl; label = λ l ps h. h; routes = λ i ps h. h }
+
+-- a kernel's own message
+sends_none : (to : ℕ) (ids : List MsgId) (ps : List Part) → forwards_of (sends_on to ids ++ ps) ≡ forwards_of ps
+sends_none to [] ps = refl
+sends_none to (i ∷ is) ps = sends_none to is ps
+
+-- the other directives
+net_none : (l : Line) (fs : List Onward) → IsNetLine l → with_forward l fs ≡ fs
+net_none l fs h = grind (arith, nat_tests)
+
+nets_none : (ps : List Part) → IsNet ps → forwards_of ps ≡ []
+nets_none = by_net (λ ps. forwards_of ps ≡ []) refl (λ l ps net h. net_none l (forwards_of ps) net ∙ h) (λ a b l ps h. h)
+
+migrates_none : (o : Point) (p : Pid) → forwards_of (migrates o p) ≡ []
+migrates_none o p = by_migrates (λ (ps : List Part). forwards_of ps ≡ []) o p refl refl (λ n off is. refl)
+
+-- a message goes on, and its sender may be told
+pub goes_on : (a : Addresses) (id : MsgId) (k : MessageKind) (sender : Pid) (to : ℕ) → forwards_of (forwards_on a id k sender to) ≡ (id, to) ∷ []
+goes_on a id k sender to = by_forwards (λ ps. forwards_of ps ≡ (id, to) ∷ []) a id k sender to refl refl
+
+-- a turn sends on a message of the bag, which stands at the front of the inbox
+pub record GoesOn (o : Point) (d : Step) (ps : List Part) : Type 0 where
+  pub machine : ℕ
+  pub acts : d ≡ Step.Turn machine
+  pub id : MsgId
+  pub rest : List MsgId
+  pub box : o.view.inbox machine ≡ id ∷ rest
+  pub message : PlainMessage
+  pub there : o.kernel.bag id ≡ Some message
+  pub to : ℕ
+  pub moves : ℕ
+  pub known : o.view.known machine message.to ≡ Forward to moves
+  pub are : ps ≡ forwards_on o.addresses id (plain_kind message.what) message.sender to
+
+-- a turn sends on a message of a kernel's own
+pub record GoesOnOwn (o : Point) (d : Step) (ps : List Part) : Type 0 where
+  pub machine : ℕ
+  pub acts : d ≡ Step.Turn machine
+  pub id : MsgId
+  pub outside : o.kernel.bag id ≡ None
+  pub told : Told
+  pub told_is : o.view.told id ≡ Some told
+  pub to : ℕ
+  pub moves : ℕ
+  pub known : o.view.known machine told.receiver ≡ Forward to moves
+  pub are : ps ≡ forwards_on o.addresses id told.kind manager to
+
+-- the parts of a group send nothing on, a message of the bag, or one of a kernel's own
+pub data Form (o : Point) (d : Step) (ps : List Part) : Type 0 where
+  Nothing : (none : forwards_of ps ≡ []) → Form o d ps
+  Plain : (goes : GoesOn o d ps) → Form o d ps
+  Own : (goes : GoesOnOwn o d ps) → Form o d ps
+
+round_form : (b : Boot) (o : Point) (m : ℕ) (ps : List Part) → rule.goes_round b o m (rule.first_runnable o.kernel (o.view.queue m) (o.view.ring m)) ≡ Some ps → Form o (Step.Turn m) ps
+round_form b o m ps e = Nothing (loose_round (λ xs. forwards_of xs ≡ []) quiet_loose b o m (rule.first_runnable o.kernel (o.view.queue m) (o.view.ring m)) ps refl e)
+
+handles_form : (b : Boot) (o : Point) (m : ℕ) (id : MsgId) (is : List MsgId) (msg : PlainMessage) (ps : List Part) → o.view.inbox m ≡ id ∷ is → o.kernel.bag id ≡ Some msg → rule.handles b o m id msg ≡ Some ps → Form o (Step.Turn m) ps
+handles_form b o m id is msg ps box there = loose_handles (Form o (Step.Turn m)) (λ xs. forwards_of xs ≡ []) quiet_loose (λ xs. Nothing) b o m id msg ps (λ here. Nothing refl) (Nothing refl)
+    (λ to moves at_. Plain (record { machine = m; acts = refl; id = id; rest = is; box = box; message = msg; there = there; to = to; moves = moves; known = at_.known; are = refl }))
+
+hears_form : (b : Boot) (o : Point) (m : ℕ) (id : MsgId) (ps : List Part) → o.kernel.bag id ≡ None → rule.hears b o m id (o.view.told id) ≡ Some ps → Form o (Step.Turn m) ps
+hears_form b o m id ps none = by_hears (Form o (Step.Turn m)) b o m id (o.view.told id) ps (λ t told. record {
+  told = λ p x about alive. grind (arith, nat_tests, sends_none);
+  updated = λ kind. Nothing refl;
+  updated_none = λ kind at_. Nothing refl;
+  no_move = λ at_. Nothing refl;
+  leaving = λ to at_. Nothing refl;
+  coming = λ from at_. Nothing refl;
+  forwarded = λ to moves at_. Own (record { machine = m; acts = refl; id = id; outside = none; told = t; told_is = told; to = to; moves = moves; known = at_.known; are = refl });
+  stays_here = λ at_. Nothing refl;
+  frozen = λ to at_. Nothing refl;
+})
+
+pub outcome_form : (b : Boot) (o : Point) (d : Step) (ps : List Part) → rule.outcome b o d ≡ Some ps → Form o d ps
+outcome_form b o d ps = by_outcome (Form o) b o d ps (record {
+  round = λ m xs box e. round_form b o m xs e;
+  handles = λ m i is msg xs box there e. handles_form b o m i is msg xs box there e;
+  hears = λ m i is xs box none e. hears_form b o m i xs none e;
+  ticks = λ m xs net. Nothing (nets_none xs net);
+  delivers = λ a c k xs net. Nothing (nets_none xs net);
+  asks = λ p m. Nothing (migrates_none o p);
+})
 
 -- the messages that lines send on
 abbrev sent_on : List Line → List Onward
@@ -16,38 +117,15 @@ sent_on [] = []
 sent_on (l ∷ ls) = with_forward l (sent_on ls)
 
 with_append : (l : Line) (xs ys : List Onward) → with_forward l (xs ++ ys) ≡ with_forward l xs ++ ys
-with_append (Line.Forwarded i m) xs ys = refl
-with_append l xs ys = refl
+with_append l xs ys = grind (arith, nat_tests)
 
 sent_append : (xs ys : List Line) → sent_on (xs ++ ys) ≡ sent_on xs ++ sent_on ys
 sent_append [] ys = refl
 sent_append (x ∷ xs) ys = ap (with_forward x) (sent_append xs ys) ∙ with_append x (sent_on xs) (sent_on ys)
 
 -- those of a group's lines are those of its parts
-puts_if : (v : View) (b : ℕ) (i : MsgId) (k : MessageKind) (q : Pid) (c d : Bool)
-    → sent_on (Line.Put v.acting b i k q ∷ (if c then [] else if d then packet_line v v.acting b (Load.Data (length (v.pair v.acting b).ids)) ∷ [] else [])) ≡ []
-puts_if v b i k q true d = refl
-puts_if v b i k q false true = refl
-puts_if v b i k q false false = refl
-
-puts_none : (v : View) (b : ℕ) (i : MsgId) (k : MessageKind) (q : Pid) (ls : List Line) → puts v b i k q ≡ ls → sent_on ls ≡ []
-puts_none v b i k q ls e = sym (ap sent_on e) ∙ puts_if v b i k q (v.acting == b) (goes_out (v.pair v.acting b))
-
-then_none : (ls : List Line) (fs : List Onward) → sent_on ls ≡ [] → sent_on ls ++ fs ≡ fs
-then_none ls fs e = ap (λ (xs : List Onward). xs ++ fs) e
-
 part_sends : (pt : Point) (p : Part) (ls : List Line) (fs : List Onward) → lines_of pt p ≡ Some ls → sent_on ls ++ fs ≡ part_forwards p fs
-part_sends pt (Says l) ls fs is =
-    let f : l ∷ [] ≡ ls = cc in
-    sym (ap (λ (xs : List Line). sent_on xs ++ fs) f) ∙ sym (with_append l [] fs)
-part_sends pt (Routes i) ls fs is =
-    let (m, there, last) = bind-is (pt.kernel.bag i) (λ m. Some (puts pt.view (pt.addresses (Receiver i)).at i (plain_kind m.what) m.to)) ls is in
-    then_none ls fs (puts_none pt.view (pt.addresses (Receiver i)).at i (plain_kind m.what) m.to ls (let f : puts pt.view (pt.addresses (Receiver i)).at i (plain_kind m.what) m.to ≡ ls = cc in f))
-part_sends pt (Again i b) ls fs is =
-    let (t, there, last) = bind-is (pt.view.told i) (λ t. Some (puts pt.view b i t.kind t.receiver)) ls is in
-    then_none ls fs (puts_none pt.view b i t.kind t.receiver ls (let f : puts pt.view b i t.kind t.receiver ≡ ls = cc in f))
-part_sends pt (Owns k q b) ls fs is = then_none ls fs (puts_none pt.view b (own_id pt.view) k q ls (let f : puts pt.view b (own_id pt.view) k q ≡ ls = cc in f))
-part_sends pt (Transmits a b l) ls fs is = let f : packet_line pt.view a b l ∷ [] ≡ ls = cc in then_none ls fs (sym (ap sent_on f))
+part_sends pt p ls fs is = grind (arith, nat_tests, lines_are, with_append)
 
 parts_send : (ps : List Part) (pt : Point) (w : Spelled) → spelled pt ps ≡ Some w → sent_on w.lines ≡ forwards_of ps
 parts_send = by_parts (λ ps pt w. sent_on w.lines ≡ forwards_of ps) (λ pt. refl) (λ p ps pt next ls z lines leads rest. sent_append ls z.lines ∙ ap (λ (fs : List Onward). sent_on ls ++ fs) rest ∙ part_sends pt p ls (forwards_of ps) lines)
@@ -82,8 +160,7 @@ sent_by : (b : Boot) (o : Point) (d : Step) (w : Spelled) (g : GroupIs b o d w) 
 sent_by b o d w g id message to xs ys there says (Nothing none) = absurd (none_there (sent_on xs) (sent_on ys) (id, to) (there_in b o d w g id to xs ys says ∙ none))
 sent_by b o d w g id message to xs ys there says (Own h) =
     let same = one_there (sent_on xs) (sent_on ys) (id, to) (h.id, h.to) (there_in b o d w g id to xs ys says ∙ ap forwards_of h.are ∙ goes_on o.addresses h.id h.told.kind manager h.to) in
-    let f : Some message ≡ None = sym there ∙ ap o.kernel.bag (same_id (id, to) (h.id, h.to) same) ∙ h.outside in
-    cc
+    grind (arith, nat_tests, same_id)
 sent_by b o d w g id message to xs ys there says (Plain h) =
     let same = one_there (sent_on xs) (sent_on ys) (id, to) (h.id, h.to) (there_in b o d w g id to xs ys says ∙ ap forwards_of h.are ∙ goes_on o.addresses h.id (plain_kind h.message.what) h.message.sender h.to) in
     record { group = g; goes = h; id_is = sym (same_id (id, to) (h.id, h.to) same); to_is = sym (same_to (id, to) (h.id, h.to) same) }
@@ -96,8 +173,7 @@ record SentOwn (b : Boot) (o : Point) (d : Step) (w : Spelled) (id : MsgId) (to 
   to_is : goes.to ≡ to
 
 no_request : (w : PlainWhat) → plain_kind w ≡ MessageKind.Migrate → ⊥
-no_request (PlainWhat.User code channel body links) e = cc
-no_request w e = cc
+no_request w e = grind (arith, nat_tests)
 
 own_by : (b : Boot) (o : Point) (d : Step) (w : Spelled) (g : GroupIs b o d w) (id : MsgId) (t : Told) (to : ℕ) (xs ys : List Line) → Sane o → o.view.told id ≡ Some t → t.kind ≡ MessageKind.Migrate → w.lines ≡ xs ++ Line.Forwarded id to ∷ ys → Form o d g.parts → SentOwn b o d w id to
 own_by b o d w g id t to xs ys sane told request says (Nothing none) = absurd (none_there (sent_on xs) (sent_on ys) (id, to) (there_in b o d w g id to xs ys says ∙ none))
@@ -111,10 +187,7 @@ own_by b o d w g id t to xs ys sane told request says (Own h) =
 
 -- what the update is about
 topic_at : (v : View) (i : MsgId) (m : ℕ) (t : Told) (p : Pid) (to moves : ℕ) → v.told i ≡ Some t → t.receiver ≡ p → v.known v.acting p ≡ Forward to moves → (view_after v (Line.Forwarded i m)).topic ≡ view.Place p to moves
-topic_at v i m t p to moves told receiver known =
-    ap (λ (o : Option Told). (view.forwarded_for (handled v i) (receiver_of o)).topic) told
-    ∙ ap (λ (q : Pid). view.forward_about q (v.known v.acting q)) receiver
-    ∙ ap (λ (k : Known). view.forward_about p k) known
+topic_at v i m t p to moves told receiver known = search
 
 -- between the parts of such a group: what its own message will be about, and its name
 record Ready (v : View) (a : About) (pt : Point) : Type 0 where
@@ -182,8 +255,7 @@ tells pt w id sender place back t q sane fit told receiver known is =
 -- it goes on, and its sender is told
 told_parts : (o : Point) (d : Step) (ps : List Part) (h : GoesOn o d ps) → is_told_back (plain_kind h.message.what) ≡ true
     → ps ≡ Says (Line.Forwarded h.id h.to) ∷ Again h.id h.to ∷ Owns MessageKind.Update h.message.sender (o.addresses (Sender h.id)).at ∷ []
-told_parts o d ps h back =
-    h.are ∙ ap (λ (c : Bool). Says (Line.Forwarded h.id h.to) ∷ Again h.id h.to ∷ (if c then Owns MessageKind.Update h.message.sender (o.addresses (Sender h.id)).at ∷ [] else [])) back
+told_parts o d ps h back = search
 
 -- where the group begins
 turn_fits : (v : View) (m : ℕ) → PairsFit v → PairsFit (view.after_head v (Step.Turn m))

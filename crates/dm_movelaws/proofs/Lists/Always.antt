@@ -1,18 +1,14 @@
 -- Messages wait only where a machine has a list for them.
-use Rattle.dm_movelaws.proofs.Names.{◌≡◌, ℕ, ◌+◌, ◌≤◌, Bool, true, false, List, [], ◌∷◌, refl, ap, ◌∙◌, subst, arith, if◌then◌else◌, Some, Pid, MsgId, PlainMessage, Boot, IsValid, id_eq-same, Step, Line, Leads, Part, Spelled, Point}
-use Rattle.dm_movelaws.proofs.Names.{first_point, moved, group_of, Inbox, times, View, is_server, Both, both_start, both_group, Run, run_start, run_group, ListsAlways, some_is, by_outcome, by_group}
-use Rattle.dm_rule.specs.Rule as rule
+use Rattle.dm_movelaws.proofs.Names.{◌≡◌, ℕ, ◌≤◌, Bool, true, false, List, [], ◌∷◌, refl, ap, ◌∙◌, arith, Some, Pid, MsgId, PlainMessage, Boot, id_eq-same, Step, Line, Part, Spelled, Point, moved, group_of, Inbox, times, View, is_server}
+use Rattle.dm_movelaws.proofs.Names.{Run, ListsAlways, some_is, by_outcome, by_group, run_always, sym, inl, inr, Option, None, cases_Bool, false≢true, Spot, Queue, Held, StandsOutside, StandsRight, standing, is_kernels, stands_right}
+use Rattle.dm_movelaws.proofs.Names.{kernels_fresh, IsQueued, IsUserFor, IsFor, ListsForTheirs, user_kind, nat_tests}
 use Rattle.dm_movelaws.proofs.At.RestQueues.{drops_always}
-use Rattle.dm_movelaws.proofs.Lists.Hears.{migrates_ok}
-use Rattle.dm_movelaws.proofs.Lists.Parts.{ForProcess, NoQueues, AllOk, nets_ok, line_queues, parts_queues}
-use Rattle.dm_movelaws.proofs.Lists.Hears.{hears_ok}
-use Rattle.dm_movelaws.proofs.Lists.Turns.{round_ok, handles_ok}
+use Rattle.dm_movelaws.proofs.Lists.Parts.{migrates_ok, ForProcess, NoQueues, AllOk, nets_ok, line_queues, parts_queues, hears_ok, round_ok, handles_ok}
+use Rattle.dm_movelaws.proofs.After.{keeps_always}
+use Rattle.dm_rule.specs.Rule as rule
 
 at_front : (xs is : List MsgId) (i : MsgId) → xs ≡ i ∷ is → 1 ≤ times i xs
-at_front xs is i e =
-    let one : times i (i ∷ is) ≡ 1 + times i is = ap (λ (c : Bool). (if c then 1 else 0) + times i is) (id_eq-same i) in
-    let all : times i xs ≡ times i (i ∷ is) = ap (times i) e in
-    omega (arith, one, all)
+at_front xs is i e = grind (arith, nat_tests, id_eq-same)
 
 front_process : (b : Boot) (pt : Point) (m : ℕ) (i : MsgId) (is : List MsgId) (msg : PlainMessage) → Run b pt → pt.view.inbox m ≡ i ∷ is → pt.kernel.bag i ≡ Some msg → is_server msg.to ≡ false → ForProcess pt.view i
 front_process b pt m i is msg h box there process =
@@ -20,14 +16,7 @@ front_process b pt m i is msg h box there process =
     record { what = t; told = told; process = ap is_server (h.based.phased.sane.tells.receiver i msg t there told) ∙ process }
 
 outcome_ok : (b : Boot) (pt : Point) (d : Step) (ps : List Part) → Run b pt → rule.outcome b pt d ≡ Some ps → AllOk (ForProcess pt.view) ps
-outcome_ok b pt d ps h is = by_outcome (λ x. AllOk (ForProcess pt.view)) b pt d ps (record {
-  round = λ m qs box e. round_ok (ForProcess pt.view) b pt m (rule.first_runnable pt.kernel (pt.view.queue m) (pt.view.ring m)) qs e;
-  handles = λ m i is msg qs box there e. handles_ok (ForProcess pt.view) b pt m i msg qs (front_process b pt m i is msg h box there) e;
-  hears = λ m i is qs box none e. hears_ok (ForProcess pt.view) b pt m i (pt.view.told i) qs e;
-  ticks = λ m. nets_ok (ForProcess pt.view);
-  delivers = λ a c k. nets_ok (ForProcess pt.view);
-  asks = λ p m. migrates_ok (ForProcess pt.view) pt p;
-}) is
+outcome_ok b pt d ps h is = by_outcome (λ x. AllOk (ForProcess pt.view)) b pt d ps (search (by_outcome, round_ok, handles_ok, front_process, hears_ok, nets_ok, migrates_ok)) is
 
 abbrev NoneQueued : View → Type 0
 NoneQueued v = (m : ℕ) (p : Pid) → is_server p ≡ true → v.queue m p ≡ []
@@ -39,16 +28,36 @@ queues_group b pt d w e h none = by_group (λ v. NoneQueued v.point.view) b pt d
     )) e
 
 -- wherever the rule leads
-record Kept (b : Boot) (pt : Point) : Type 0 where
-  both : Both b pt
-  none : NoneQueued pt.view
-
-kept_on : (b : Boot) (es : List Step) (pt end : Point) → IsValid b → Leads b pt es end → Kept b pt → Kept b end
-kept_on b [] pt end valid way h = subst (Kept b) way h
-kept_on b (e ∷ es) pt end valid (w, fit, is, more) h =
-    kept_on b es w.point end valid more (record { both = both_group run_group b pt e w valid fit is h.both; none = queues_group b pt e w is h.both.run h.none })
-
 pub lists_always : ListsAlways
 lists_always b es pt valid way =
-    let k = kept_on b es (first_point b) pt valid way (record { both = both_start run_start b valid; none = λ m p e. refl }) in
-    record { stand = k.both.run.based.lists; ended = λ m p e. drops_always b es pt m p valid way e; server = k.none }
+    let none = keeps_always b (λ q. NoneQueued q.view) (λ q d w fit is run h. queues_group b q d w is run h) valid (λ m p e. refl) es pt way in
+    record { stand = (run_always b es pt valid way).run.based.lists; ended = λ m p e. drops_always b es pt m p valid way e; server = none }
+
+-- a message that stands and has entered is in the bag
+queued_by : (b : Boot) (pt : Point) (p : Pid) (i : MsgId) (z : Spot) (o : Option PlainMessage) (h : Run b pt) → pt.kernel.bag i ≡ o → IsQueued (h.based.phased.state.e i) p o → 1 ≤ standing pt.view i z → IsUserFor pt p i
+queued_by b pt p i z (Some x) h is q least = record { message = x; there = is; user = user_kind x.what (q.is x refl).1; receiver = (q.is x refl).0 }
+queued_by b pt p i z None h is q least =
+    let state = h.based.phased.state in
+    let right : StandsRight {M = PlainMessage} i None (standing pt.view i) = stands_right pt i state None is in
+    absurd (elim (cases_Bool (is_kernels i)) [
+      | inl own ↦ (let none = kernels_fresh state.r state.e pt.kernel i state.sound own in let some = q.entered in omega (arith, none, some))
+      | inr other ↦ nowhere (is_kernels i) other right
+    ])
+  where
+    nowhere : (c : Bool) → c ≡ false → StandsOutside c (standing pt.view i) → ⊥
+    nowhere true e k = false≢true (sym e)
+    nowhere false e k = let none = k z in omega (arith, none, least)
+
+held_by : (b : Boot) (pt : Point) (m : ℕ) (p : Pid) (i : MsgId) → Run b pt → 1 ≤ standing pt.view i (Held m p) → IsFor pt p i
+held_by b pt m p i h least =
+    let (t, told, to) = h.based.held m p i least in
+    record { told = t; is = told; receiver = to; of_bag = λ x there. sym (h.based.phased.sane.tells.receiver i x t there told) ∙ to }
+
+-- wherever the rule leads
+pub lists_for_theirs : ListsForTheirs
+lists_for_theirs b es pt valid leads =
+    let h = (run_always b es pt valid leads).run in
+    record {
+      queue = λ m p i least. queued_by b pt p i (Queue m p) (pt.kernel.bag i) h refl (h.based.queued m p i least) least;
+      held = λ m p i least. held_by b pt m p i h least;
+    }

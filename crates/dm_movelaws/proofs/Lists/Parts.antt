@@ -1,7 +1,8 @@
 -- No message is queued for a server: each line keeps it, where what it queues is for a process.
-use Rattle.dm_movelaws.proofs.Names.{◌≡◌, ℕ, ◌+◌, ◌==◌, Bool, true, false, not, filter, List, [], ◌∷◌, ◌++◌, length, refl, ap, ◌∙◌, sym, subst, ⊤, if◌then◌else◌, false≢true, Option, None, Some, Pid, MsgId, MessageKind, plain_kind, Label}
-use Rattle.dm_movelaws.proofs.Names.{bind-is, Step, Line, Load, Stage, Receiver, Part, Says, Routes, Again, Owns, Transmits, Spelled, lines_of, puts, goes_out, packet_line, spelled, Point, after_line, after, at_record, without_id}
-use Rattle.dm_movelaws.proofs.Names.{without_front, View, Told, About, NothingElse, view_after, handled, receiver_of, IsNetLine, IsNet, is_put, hushed, line_view, is_server, set_all, killed_or, told_kept, by_parts}
+use Rattle.dm_movelaws.proofs.Names.{◌≡◌, ℕ, true, false, List, [], ◌∷◌, refl, ap, ◌∙◌, sym, subst, ⊤, Option, None, Some, Pid, MsgId, MessageKind, plain_kind, Label, bind-is, Step, Line, Stage, Part, Spelled, lines_of, spelled, Point}
+use Rattle.dm_movelaws.proofs.Names.{after_line, after, at_record, View, Told, view_after, handled, receiver_of, IsNetLine, IsNet, is_put, hushed, line_view, is_server, set_all, killed_or, told_kept, by_parts, Boot, Addresses, forwards_on}
+use Rattle.dm_movelaws.proofs.Names.{migrates, hears, by_migrates, IsHeardLine, Kept, kept_forward, hears_kept, PlainMessage, goes_round, handles, Loose, loose_round, loose_handles, nat_tests, arith}
+use Rattle.dm_movelaws.proofs.Leading.{All, lines_are, Saying, net_says}
 use Rattle.dm_rule.specs.View as view
 
 -- what is queued is so
@@ -10,28 +11,18 @@ LineOk ok (Line.Queued i) = ok i
 LineOk ok l = ⊤
 
 abbrev pub PartOk : (MsgId → Type 0) → Part → Type 0
-PartOk ok (Says l) = LineOk ok l
-PartOk ok _ = ⊤
+PartOk ok = Saying (LineOk ok)
 
 abbrev pub AllOk : (MsgId → Type 0) → List Part → Type 0
-AllOk ok [] = ⊤
-AllOk ok (p ∷ ps) = PartOk ok p × AllOk ok ps
+AllOk ok = All (PartOk ok)
 
 -- what the net says
 net_ok : (ok : MsgId → Type 0) (l : Line) → IsNetLine l → LineOk ok l
-net_ok ok (Line.Taken a b k) h = tt
-net_ok ok (Line.Old a b k) h = tt
-net_ok ok (Line.Early a b k) h = tt
-net_ok ok (Line.Acked a b k) h = tt
-net_ok ok (Line.Resent m k) h = tt
-net_ok ok Line.Nothing h = tt
-net_ok ok _ h = absurd h
+net_ok ok (Line.Queued i) h = absurd h
+net_ok ok _ h = tt
 
 pub nets_ok : (ok : MsgId → Type 0) (ps : List Part) → IsNet ps → AllOk ok ps
-nets_ok ok [] h = tt
-nets_ok ok (Says l ∷ ps) h = (net_ok ok l h.0, nets_ok ok ps h.1)
-nets_ok ok (Transmits a b l ∷ ps) h = (tt, nets_ok ok ps h.1)
-nets_ok ok _ h = absurd h.0
+nets_ok ok = net_says (LineOk ok) (net_ok ok)
 
 -- a message that was told of is for no server
 pub record ForProcess (v : View) (i : MsgId) : Type 0 where
@@ -45,10 +36,7 @@ pub record NoQueues (before v : View) : Type 0 where
   pub none : (m : ℕ) (p : Pid) → is_server p ≡ true → v.queue m p ≡ []
 
 same_queues : (before v w : View) → w.told ≡ v.told → w.queue ≡ v.queue → NoQueues before v → NoQueues before w
-same_queues before v w told queue h = record {
-  told = λ i t e. ap (λ (f : MsgId → Option Told). f i) told ∙ h.told i t e;
-  none = λ m p e. ap (λ (f : ℕ → Pid → List MsgId). f m p) queue ∙ h.none m p e;
-}
+same_queues before v w told queue h = grind (arith, nat_tests)
 
 set_queue : (before v w : View) (q : Pid) (xs : List MsgId) → w.told ≡ v.told → w.queue ≡ at_record v.queue v.acting q xs → (is_server q ≡ true → xs ≡ []) → NoQueues before v → NoQueues before w
 set_queue before v w q xs told queue new h = record {
@@ -58,64 +46,39 @@ set_queue before v w q xs told queue new h = record {
 
 -- lines that change no queue
 held_queue : (v : View) (i : MsgId) (o : Option Pid) → (view.held_for v i o).queue ≡ v.queue
-held_queue v i None = refl
-held_queue v i (Some p) = refl
+held_queue v i o = grind (arith, nat_tests)
 
 forwarded_queue : (v : View) (o : Option Pid) → (view.forwarded_for v o).queue ≡ v.queue
-forwarded_queue v None = refl
-forwarded_queue v (Some p) = refl
+forwarded_queue v o = grind (arith, nat_tests)
 
 taken_queue : (v : View) (b : ℕ) (o : Option MsgId) → (view.taken_id v b o).queue ≡ v.queue
-taken_queue v b None = refl
-taken_queue v b (Some i) = refl
-
-asks_queue : (v : View) (a : About) → (view.asks_on v a).queue ≡ v.queue
-asks_queue v NothingElse = refl
-asks_queue v _ = refl
-
-follows_queue : (v : View) (a : About) (k : MessageKind) → (view.follows_up v a k).queue ≡ v.queue
-follows_queue v a MessageKind.State = asks_queue v a
-follows_queue v a MessageKind.Memory = asks_queue v a
-follows_queue v a _ = refl
+taken_queue v b o = grind (arith, nat_tests)
 
 proto_queue : (v : View) (o : Option Told) → (view.after_proto v o).queue ≡ v.queue
-proto_queue v None = refl
-proto_queue v (Some t) = follows_queue v t.about t.kind
+proto_queue v o = grind (arith, nat_tests)
 
 head_queue : (v : View) (d : Step) → (view.after_head v d).queue ≡ v.queue
-head_queue v (Step.Turn m) = refl
-head_queue v _ = refl
+head_queue v d = grind (arith, nat_tests)
 
 stage_queue : (v : View) (p : Pid) (s : Stage) → (view.after_stage v p s).queue ≡ v.queue
-stage_queue v p Stage.Frozen = refl
-stage_queue v p _ = refl
+stage_queue v p s = grind (arith, nat_tests)
 
 served_queue : (v : View) (o : Option Told) → (view.served_told v o).queue ≡ v.queue
-served_queue v None = refl
-served_queue v (Some t) = killed_or (λ (w : View). w.queue ≡ v.queue) t.kind v t.receiver (λ k. refl) (λ k. refl)
+served_queue v o = grind (arith, nat_tests, killed_or)
 
 -- and lines that do
 dropped_queues : (before v : View) (i : MsgId) (o : Option Pid) → (view.dropped_for (handled v i) i o).told ≡ v.told → NoQueues before v → NoQueues before (view.dropped_for (handled v i) i o)
 dropped_queues before v i None told h = same_queues before v (handled v i) told refl h
-dropped_queues before v i (Some p) told h =
-    set_queue before v (view.dropped_for (handled v i) i (Some p)) p (without_front i (v.queue v.acting p)) told refl (λ e. ap (without_front i) (h.none v.acting p e)) h
+dropped_queues before v i (Some p) told h = grind (arith, nat_tests, set_queue)
 
 queued_queues : (before v : View) (i : MsgId) (o : Option Told) (t : Told) → o ≡ Some t → is_server t.receiver ≡ false → (view.queued_for (handled v i) i (receiver_of o)).told ≡ v.told → NoQueues before v → NoQueues before (view.queued_for (handled v i) i (receiver_of o))
 queued_queues before v i None t is process told h = absurd (let f : None ≡ Some t = is in cc)
-queued_queues before v i (Some u) t is process told h =
-    let f : u ≡ t = cc in
-    set_queue before v (view.queued_for (handled v i) i (Some u.receiver)) u.receiver (v.queue v.acting u.receiver ++ i ∷ []) told refl
-    (λ e. absurd (false≢true (sym process ∙ sym (ap (λ (x : Told). is_server x.receiver) f) ∙ e))) h
+queued_queues before v i (Some u) t is process told h = grind (arith, nat_tests, set_queue)
 
 label_queues : (before v : View) (l : Label) → NoQueues before v → NoQueues before (view_after v (Line.Label l))
-label_queues before v (Label.Receive p id) h =
-    set_queue before v (view_after v (Line.Label (Label.Receive p id))) p (without_id id (v.queue v.acting p)) refl refl (λ e. ap (without_id id) (h.none v.acting p e)) h
+label_queues before v (Label.Receive p id) h = grind (arith, nat_tests, set_queue)
 label_queues before v (Label.Dropped id) h = dropped_queues before v id (receiver_of (v.told id)) (hushed v (Line.Label (Label.Dropped id)) refl).told h
 label_queues before v (Label.Served id) h = same_queues before v (view_after v (Line.Label (Label.Served id))) (hushed v (Line.Label (Label.Served id)) refl).told (served_queue (handled v id) (v.told id)) h
-label_queues before v (Label.Call p n c) h = h
-label_queues before v (Label.Send p id) h = h
-label_queues before v (Label.Wait p) h = h
-label_queues before v (Label.Out p w) h = h
 label_queues before v any_ h = same_queues before v (view_after v (Line.Label any_)) refl refl h
 
 quiet_queues : (before v : View) (l : Line) → is_put l ≡ false → (view_after v l).queue ≡ v.queue → NoQueues before v → NoQueues before (view_after v l)
@@ -127,19 +90,11 @@ line_queues before v (Line.Queued id) e h = queued_queues before v id (v.told id
 line_queues before v (Line.Put a b id k q) e h = record { told = λ j t f. told_kept v a b id k q j t (h.told j t f); none = h.none }
 line_queues before v (Line.SentOn p k) e h = set_queue before v (view_after v (Line.SentOn p k)) p [] refl refl (λ f. refl) h
 line_queues before v (Line.Head d) e h = quiet_queues before v (Line.Head d) refl (head_queue v d) h
-line_queues before v (Line.Taken a b k) e h =
-    let p = v.pair a b in
-    quiet_queues before v (Line.Taken a b k) refl (taken_queue (view.with_pair v a b (record p { taken = p.taken + 1; kept = filter (λ j. not (j == k)) p.kept })) b (view.oldest p)) h
+line_queues before v (Line.Taken a b k) e h = search (quiet_queues, taken_queue)
 line_queues before v (Line.Held id) e h = quiet_queues before v (Line.Held id) refl (held_queue (handled v id) id (receiver_of (v.told id))) h
 line_queues before v (Line.Forwarded id m) e h = quiet_queues before v (Line.Forwarded id m) refl (forwarded_queue (handled v id) (receiver_of (v.told id))) h
 line_queues before v (Line.Proto id) e h = quiet_queues before v (Line.Proto id) refl (proto_queue (handled v id) (v.told id)) h
 line_queues before v (Line.Migration s p) e h = quiet_queues before v (Line.Migration s p) refl (stage_queue v p s) h
-line_queues before v Line.Nothing e h = h
-line_queues before v (Line.Idle m) e h = h
-line_queues before v (Line.Old a b k) e h = h
-line_queues before v (Line.Resent m k) e h = h
-line_queues before v (Line.NoChild p) e h = h
-line_queues before v (Line.Pinned p) e h = h
 line_queues before v any_ e h = quiet_queues before v any_ refl refl h
 
 -- lines, one after another
@@ -154,27 +109,37 @@ lines_queues before (l ∷ ls) pt next ok e h =
     lines_queues before ls mid next ok.1 rest (subst (NoQueues before) (sym (line_view pt mid l first)) (line_queues before pt.view l ok.0 h))
 
 -- what a part says
-packet_ok : (ok : MsgId → Type 0) (c d : Bool) (v : View) (a b : ℕ) (l : Load) → LinesOk ok (if c then [] else if d then packet_line v a b l ∷ [] else [])
-packet_ok ok true d v a b l = tt
-packet_ok ok false true v a b l = (tt, tt)
-packet_ok ok false false v a b l = tt
-
-puts_ok : (ok : MsgId → Type 0) (v : View) (b : ℕ) (i : MsgId) (k : MessageKind) (q : Pid) (ls : List Line) → Some (puts v b i k q) ≡ Some ls → LinesOk ok ls
-puts_ok ok v b i k q ls is =
-    let f : puts v b i k q ≡ ls = cc in
-    subst (LinesOk ok) f (tt, packet_ok ok (v.acting == b) (goes_out (v.pair v.acting b)) v v.acting b (Load.Data (length (v.pair v.acting b).ids)))
-
 part_ok : (ok : MsgId → Type 0) (pt : Point) (p : Part) (ls : List Line) → PartOk ok p → lines_of pt p ≡ Some ls → LinesOk ok ls
-part_ok ok pt (Says l) ls h is = let f : l ∷ [] ≡ ls = cc in subst (LinesOk ok) f (h, tt)
-part_ok ok pt (Routes i) ls h is =
-    let (m, there, last) = bind-is (pt.kernel.bag i) (λ m. Some (puts pt.view (pt.addresses (Receiver i)).at i (plain_kind m.what) m.to)) ls is in
-    puts_ok ok pt.view (pt.addresses (Receiver i)).at i (plain_kind m.what) m.to ls last
-part_ok ok pt (Again i b) ls h is =
-    let (t, there, last) = bind-is (pt.view.told i) (λ t. Some (puts pt.view b i t.kind t.receiver)) ls is in
-    puts_ok ok pt.view b i t.kind t.receiver ls last
-part_ok ok pt (Owns k q b) ls h is = puts_ok ok pt.view b (view.own_id pt.view) k q ls is
-part_ok ok pt (Transmits a b l) ls h is = let f : packet_line pt.view a b l ∷ [] ≡ ls = cc in subst (LinesOk ok) f (tt, tt)
+part_ok ok pt p ls h is = lines_are (LinesOk ok) pt p ls
+    (record { says = λ l e. (subst (PartOk ok) e h, tt); put = λ none a b i k q. (tt, tt); goes = λ none a b n i k q l. (tt, (tt, tt)); packet = λ none a b n l. (tt, tt) }) is
 
 pub parts_queues : (before : View) (ps : List Part) (pt : Point) (w : Spelled) → AllOk (ForProcess before) ps → spelled pt ps ≡ Some w → NoQueues before pt.view → NoQueues before w.point.view
 parts_queues before qs q w ok is h = by_parts (λ ps pt v. AllOk (ForProcess before) ps → NoQueues before pt.view → NoQueues before v.point.view) (λ pt ok h. h)
     (λ p ps pt next ls z lines leads rest ok h. rest ok.1 (lines_queues before ls pt next (part_ok (ForProcess before) pt p ls ok.0 lines) leads h)) qs q w is ok h
+
+ok_line : (ok : MsgId → Type 0) (l : Line) → IsHeardLine l → LineOk ok l
+ok_line ok (Line.Queued i) h = absurd h
+ok_line ok _ h = tt
+
+ok_kept : (ok : MsgId → Type 0) → Kept (AllOk ok)
+ok_kept ok = record { none = tt; says = λ l ps h k. (ok_line ok l h, k); again = λ i to ps k. (tt, k); owns = λ k q to ps h. (tt, h) }
+
+pub forwards_ok : (ok : MsgId → Type 0) (a : Addresses) (id : MsgId) (k : MessageKind) (sender : Pid) (to : ℕ) → AllOk ok (forwards_on a id k sender to)
+forwards_ok ok a id k sender to = kept_forward (AllOk ok) (ok_kept ok) a id k sender to
+
+pub hears_ok : (ok : MsgId → Type 0) (b : Boot) (pt : Point) (m : ℕ) (id : MsgId) (o : Option Told) (ps : List Part) → hears b pt m id o ≡ Some ps → AllOk ok ps
+hears_ok ok b pt m id o ps e = hears_kept (AllOk ok) (ok_kept ok) b pt m id o ps e
+
+pub migrates_ok : (ok : MsgId → Type 0) (pt : Point) (p : Pid) → AllOk ok (migrates pt p)
+migrates_ok ok pt p = by_migrates (AllOk ok) pt p (tt, tt) (tt, tt) (λ n off is. (tt, tt))
+
+ok_loose : (ok : MsgId → Type 0) → Loose (AllOk ok)
+ok_loose ok = record { none = tt; label = λ l ps h. (tt, h); routes = λ i ps h. (tt, h) }
+
+pub round_ok : (ok : MsgId → Type 0) (b : Boot) (pt : Point) (m : ℕ) (o : Option Pid) (ps : List Part) → goes_round b pt m o ≡ Some ps → AllOk ok ps
+round_ok ok b pt m o ps e = loose_round (AllOk ok) (ok_loose ok) b pt m o ps (tt, tt) e
+
+pub handles_ok : (ok : MsgId → Type 0) (b : Boot) (pt : Point) (m : ℕ) (id : MsgId) (msg : PlainMessage) (ps : List Part) → (is_server msg.to ≡ false → ok id) → handles b pt m id msg ≡ Some ps → AllOk ok ps
+handles_ok ok b pt m id msg ps need e =
+    loose_handles (AllOk ok) (AllOk ok) (ok_loose ok) (λ qs h. h) b pt m id msg ps (λ here. (need here.process, tt)) (tt, tt)
+    (λ to moves at_. forwards_ok ok pt.addresses id (plain_kind msg.what) msg.sender to) e

@@ -1,13 +1,13 @@
 -- Wherever the rule leads, each living process that moves data has the message that its status says.
-use Rattle.dm_movelaws.proofs.Names.{◌≡◌, ℕ, ◌+◌, ◌==◌, true, false, List, [], ◌∷◌, length, refl, ap, ◌∙◌, sym, subst, inl, inr, arith, Option, None, Some, nat_tests, Pid, MsgId, id_of, plain_kind, PlainMessage, PlainWhat, Direction, Boot}
-use Rattle.dm_movelaws.proofs.Names.{Label, PlainProcess, PlainStatus, Moving, Life, Alive, OneKernel, piece_of, answer_id, is_of_memory, replay, Step, Leads, Point, first_point, labels, entry, reception, in_bag, is_piece, pending_of, One}
-use Rattle.dm_movelaws.proofs.Names.{after_step, Sound, bind-is, piece_fits, status_awaits, awaits, WhatFits, KernelFits, based_start, based_group, based_always, both, fits_step, group_replay, Based, asks_piece, answers_piece, AsksFor}
-use Rattle.dm_movelaws.proofs.Names.{AnswersFor, HasEnded, HasPiece, MoversHavePieces}
-use Rattle.dm_onekernel.specs.Step as kernel
+use Rattle.dm_movelaws.proofs.Names.{◌≡◌, ℕ, ◌+◌, ◌==◌, true, false, List, [], ◌∷◌, refl, ap, ◌∙◌, sym, subst, arith, Option, None, Some, nat_tests, Pid, MsgId, id_of, plain_kind, PlainMessage, PlainWhat, Direction, Boot, Label}
+use Rattle.dm_movelaws.proofs.Names.{PlainProcess, PlainStatus, Moving, Life, Alive, OneKernel, answer_id, is_of_memory, replay, Step, Point, labels, entry, reception, in_bag, is_piece, pending_of, One, after_step, Sound, bind-is}
+use Rattle.dm_movelaws.proofs.Names.{piece_fits, status_awaits, awaits, WhatFits, KernelFits, based_always, both, fits_step, group_replay, Based, asks_piece, answers_piece, AsksFor, AnswersFor, HasEnded, HasPiece, MoversHavePieces, Spelled}
+use Rattle.dm_movelaws.proofs.Names.{group_of}
 use Rattle.dm_movelaws.specs.Movers.{Moves}
 use Rattle.dm_movelaws.proofs.Movers.Says.{other_end, Begins, StatusSays, Says, AllSay}
-use Rattle.dm_movelaws.proofs.Movers.Gone.{GoneEnded, step_gone}
-use Rattle.dm_movelaws.proofs.Movers.Rows.{memory_end, step_says}
+use Rattle.dm_movelaws.proofs.Movers.Rows.{GoneEnded, step_gone, memory_end, step_says}
+use Rattle.dm_movelaws.proofs.After.{keeps_always}
+use Rattle.dm_onekernel.specs.Step as kernel
 
 -- a run
 replay_says : (ls : List Label) (r e : MsgId → ℕ) (s t : OneKernel) → replay s ls ≡ Some t → KernelFits s → Sound r e s → AllSay s × GoneEnded s → AllSay t × GoneEnded t
@@ -18,47 +18,28 @@ replay_says (l ∷ ls) r e s t is fits sound h =
     let after = after_step r e s u l first sound in
     replay_says ls (λ i. r i + reception i l) (λ i. e i + entry i s u) u t rest next after.sound (step_says r e s u l first sound next h.0, step_gone s u l first after.grown h.1)
 
-says_on : (b : Boot) (es : List Step) (pt end : Point) → Leads b pt es end → Based b pt → AllSay pt.kernel × GoneEnded pt.kernel → AllSay end.kernel × GoneEnded end.kernel
-says_on b [] pt end leads based h = subst (λ (x : Point). AllSay x.kernel × GoneEnded x.kernel) leads h
-says_on b (d ∷ es) pt end (w, fit, is, rest) based h =
-    let sane = based.phased.sane in
-    says_on b es w.point end rest (based_group b pt d w fit is based) (replay_says (labels w.lines) sane.r sane.e pt.kernel w.point.kernel (group_replay b pt d w is) based.fits sane.sound h)
+says_on : (b : Boot) (pt : Point) (d : Step) (w : Spelled) → group_of b pt d ≡ Some w → Based b pt → AllSay pt.kernel × GoneEnded pt.kernel → AllSay w.point.kernel × GoneEnded w.point.kernel
+says_on b pt d w is based h = let sane = based.phased.sane in replay_says (labels w.lines) sane.r sane.e pt.kernel w.point.kernel (group_replay b pt d w is) based.fits sane.sound h
 
 -- one of the two
 pair_one : (a b : Option PlainMessage) → One a b → in_bag a + in_bag b ≡ 1
-pair_one (Some m) None h = refl
-pair_one None (Some m) h = refl
-pair_one None None h = absurd h
-pair_one (Some m) (Some k) h = absurd h
+pair_one a b h = grind (arith, nat_tests)
 
 pair_request : (a b : Option PlainMessage) (m : PlainMessage) → One a b → a ≡ Some m → is_of_memory m.what ≡ true
-pair_request (Some k) None m h e = let f : k ≡ m = cc in sym (ap (λ (x : PlainMessage). is_of_memory x.what) f) ∙ h
-pair_request (Some k) (Some j) m h e = absurd h
-pair_request None b m h e = cc
+pair_request a b m h e = grind (arith, nat_tests)
 
 pair_answer : (a b : Option PlainMessage) (m : PlainMessage) → One a b → b ≡ Some m → is_piece m.what ≡ true
-pair_answer None (Some k) m h e = let f : k ≡ m = cc in sym (ap (λ (x : PlainMessage). is_piece x.what) f) ∙ h
-pair_answer (Some j) (Some k) m h e = absurd h
-pair_answer None None m h e = absurd h
-pair_answer (Some j) None m h e = cc
+pair_answer a b m h e = grind (arith, nat_tests)
 
 -- what fits is awaited
 memory_awaits : (s : OneKernel) (i : MsgId) (m : PlainMessage) (w : PlainWhat) → is_of_memory w ≡ true → WhatFits s i m w → awaits (s.processes i.from) i.n w ≡ true
-memory_awaits s i m (PlainWhat.Read base len) e h = h.1
-memory_awaits s i m (PlainWhat.Write base bytes) e h = h.1
-memory_awaits s i m w e h = cc
+memory_awaits s i m w e h = grind (arith, nat_tests)
 
 piece_awaits : (s : OneKernel) (i : MsgId) (m : PlainMessage) (w : PlainWhat) → is_piece w ≡ true → WhatFits s i m w → awaits (s.processes i.from) i.n w ≡ true
-piece_awaits s i m (PlainWhat.Block bytes) e h = h.1
-piece_awaits s i m PlainWhat.Written e h = h.1
-piece_awaits s i m PlainWhat.Gone e h = h.1
-piece_awaits s i m w e h = cc
+piece_awaits s i m w e h = grind (arith, nat_tests)
 
 piece_end : (m : PlainMessage) (w : PlainWhat) → is_piece w ≡ true → other_end m w ≡ Some m.sender
-piece_end m (PlainWhat.Block bytes) e = refl
-piece_end m PlainWhat.Written e = refl
-piece_end m PlainWhat.Gone e = refl
-piece_end m w e = cc
+piece_end m w e = grind (arith, nat_tests)
 
 -- what a mover's status says of what it waits for
 status_fits : (st : PlainStatus) (dir : Direction) (owner : Pid) (base own left pending n : ℕ) (w : PlainWhat) → st ≡ Moving dir owner base own left pending → status_awaits st n w ≡ true → piece_fits dir left w ≡ true
@@ -68,16 +49,10 @@ says_is : (st : PlainStatus) (dir : Direction) (owner : Pid) (base own left pend
 says_is st dir owner base own left pending q w is h = subst (λ (v : PlainStatus). StatusSays v pending q w) is h refl
 
 asks_for : (dir : Direction) (base left : ℕ) (w : PlainWhat) → is_of_memory w ≡ true → piece_fits dir left w ≡ true → Begins base left w → AsksFor dir base left w
-asks_for Direction.FromArea base left (PlainWhat.Read from len) m f h = let size : len ≡ piece_of left = grind (arith, nat_tests) in λ i. PlainWhat.Read (h i) (size i)
-asks_for Direction.IntoArea base left (PlainWhat.Write from bytes) m f h = record { bytes = bytes; is = ap (λ (n : ℕ). PlainWhat.Write n bytes) h.0; size = h.1 }
-asks_for _ base left w m f h = cc
+asks_for dir base left w m f h = grind (arith, nat_tests)
 
 answers_for : (dir : Direction) (left : ℕ) (w : PlainWhat) → is_piece w ≡ true → piece_fits dir left w ≡ true → AnswersFor dir left w
-answers_for Direction.FromArea left (PlainWhat.Block bytes) m f = inl (record { bytes = bytes; is = refl; size = (let size : length bytes ≡ piece_of left = grind (arith, nat_tests) in size) })
-answers_for Direction.FromArea left PlainWhat.Gone m f = inr refl
-answers_for Direction.IntoArea left PlainWhat.Written m f = inl refl
-answers_for Direction.IntoArea left PlainWhat.Gone m f = inr refl
-answers_for _ left w m f = cc
+answers_for dir left w m f = grind (arith, nat_tests)
 
 has_piece : (r e : MsgId → ℕ) (s : OneKernel) (p : Pid) (x : PlainProcess) (dir : Direction) (owner : Pid) (base own left pending : ℕ) → s.processes p ≡ Some (Alive x) → x.status ≡ Moving dir owner base own left pending → Sound r e s → KernelFits s → AllSay s → GoneEnded s
     → HasPiece s p dir owner base left pending
@@ -112,21 +87,13 @@ has_piece r e s p x dir owner base own left pending alive status sound fits says
 
 -- messages of kinds
 kind_memory : (w : PlainWhat) → asks_piece (plain_kind w) ≡ true → is_of_memory w ≡ true
-kind_memory (PlainWhat.Read base len) e = refl
-kind_memory (PlainWhat.Write base bytes) e = refl
-kind_memory w e = cc
+kind_memory w e = grind (arith, nat_tests)
 
 kind_piece : (w : PlainWhat) → answers_piece (plain_kind w) ≡ true → is_piece w ≡ true
-kind_piece (PlainWhat.Block bytes) e = refl
-kind_piece PlainWhat.Written e = refl
-kind_piece PlainWhat.Gone e = refl
-kind_piece w e = cc
+kind_piece w e = grind (arith, nat_tests)
 
 moves_by : (p : Pid) (x : PlainProcess) (i : MsgId) (st : PlainStatus) (w : PlainWhat) → x.status ≡ st → status_awaits st i.n w ≡ true → Moves p x (id_of p i.n)
-moves_by p x i (Moving dir owner base own left pending) w is h =
-    let same : i.n ≡ pending = (let k = (both (i.n == pending) (piece_fits dir left w) h).0 in grind (arith, nat_tests)) in
-    record { dir = dir; owner = owner; base = base; own = own; left = left; pending = pending; status = is; name = ap (id_of p) same }
-moves_by p x i _ w is h = cc
+moves_by p x i st w is h = grind (arith, nat_tests)
 
 requests_move : (r e : MsgId → ℕ) (s : OneKernel) (i : MsgId) (m : PlainMessage) (x : PlainProcess) → s.bag i ≡ Some m → is_of_memory m.what ≡ true → s.processes m.sender ≡ Some (Alive x) → Sound r e s → KernelFits s → Moves m.sender x i
 requests_move r e s i m x there memory alive sound fits =
@@ -151,7 +118,7 @@ movers_have_pieces b es pt valid leads =
     let based = based_always b es pt valid leads in
     let s = pt.kernel in
     let sane = based.phased.sane in
-    let says = says_on b es (first_point b) pt leads (based_start b valid) (λ i m q there e. absurd (let f : None ≡ Some m = there in cc), λ i m there e. absurd (let f : None ≡ Some m = there in cc)) in
+    let says = keeps_always b (λ q. AllSay q.kernel × GoneEnded q.kernel) (λ q d w fit is run h. says_on b q d w is run.based h) valid (λ i m q there e. absurd (let f : None ≡ Some m = there in cc), λ i m there e. absurd (let f : None ≡ Some m = there in cc)) es pt leads in
     record {
       has = λ p x dir owner base own left pending alive status. has_piece sane.r sane.e s p x dir owner base own left pending alive status sane.sound based.fits says.0 says.1;
       requests = λ i m x there e alive. requests_move sane.r sane.e s i m x there (kind_memory m.what e) alive sane.sound based.fits;

@@ -1,15 +1,15 @@
 -- Each step keeps what the messages of data moves say.
-use Rattle.dm_movelaws.proofs.Names.{◌≡◌, ◌⊎◌, ℕ, ◌+◌, ◌-◌, ◌==◌, ◌&&◌, Bool, true, false, length, take, drop, refl, ap, ◌∙◌, sym, subst, inl, inr, nat_le, ⊤, if◌then◌else◌, Option, None, Some, Pid, PlainLink, first_empty, link_at, MsgId}
-use Rattle.dm_movelaws.proofs.Names.{PlainMessage, PlainWhat, direction_numbered, Direction, Row, instruction, switchboard, manager, Label, Reply, Why, reg, PlainProcess, PlainStatus, Waiting, Moving, Alive, OneKernel, with_process}
-use Rattle.dm_movelaws.proofs.Names.{with_sent, Called, Sends, Waits, CallNumber, Make, Copy, Drop, Send, Receive, Move, call_number, answer_to, first_failed, without_message, is_of_memory, pending_of, ServerSends, board_takes_lem}
-use Rattle.dm_movelaws.proofs.Names.{manager_takes_lem, lands-is, Sound, bind-is, KernelFits, by_step, Lives}
+use Rattle.dm_movelaws.proofs.Names.{◌≡◌, ◌⊎◌, ℕ, Bool, true, false, length, take, drop, refl, ap, ◌∙◌, sym, subst, inl, inr, ⊤, if◌then◌else◌, Option, None, Some, Pid, PlainLink, MsgId, PlainMessage, PlainWhat, Direction, Row}
+use Rattle.dm_movelaws.proofs.Names.{instruction, switchboard, manager, Label, Reply, Why, PlainProcess, PlainStatus, Alive, OneKernel, with_process, with_sent, Called, Sends, CallNumber, answer_to, first_failed, without_message}
+use Rattle.dm_movelaws.proofs.Names.{is_of_memory, pending_of, ServerSends, board_takes_lem, manager_takes_lem, lands-is, Sound, bind-is, KernelFits, by_step, Lives, Life, is_piece, Grown, LifeGrows, stayed, came, HasEnded, nat_tests}
+use Rattle.dm_movelaws.proofs.Names.{arith}
+use Rattle.dm_movelaws.proofs.Movers.Says.{other_end, AllSay, same_says, still_says, fresh_says, ended_says, out_says, other_says, answer_says, Requests, request_says, Begins}
+use Rattle.dm_rule.proofs.Names.{begun}
+use Rattle.dm_onekernel.specs.Kernel.{Ended}
 use Rattle.dm_onekernel.specs.Calls as calls
 use Rattle.dm_onekernel.specs.Pieces as pieces
 use Rattle.dm_onekernel.specs.Service as service
 use Rattle.dm_onekernel.specs.Step as kernel
-use Rattle.dm_movelaws.proofs.Movers.Says.{other_end, AllSay, same_says, still_says, fresh_says, ended_says, out_says, other_says, no_end, answer_says, Requests, request_says}
-use Rattle.dm_movelaws.proofs.Movers.Says.{Begins}
-use Rattle.dm_rule.proofs.Names.{begun}
 
 -- what a call sends: no message of a data move, or the request for its first piece
 abbrev CallSends : Pid → Called → Type 0
@@ -17,51 +17,26 @@ CallSends p (Sends m y) = (other_end m m.what ≡ None) ⊎ Requests p m y
 CallSends p _ = ⊤
 
 unless_sends : (p : Pid) (x : PlainProcess) (o : Option Reply) (c : Called) → CallSends p c → CallSends p (calls.unless_refused o x c)
-unless_sends p x None c h = h
-unless_sends p x (Some r) c h = tt
-
-puts_link_sends : (p : Pid) (x : PlainProcess) (l : PlainLink) (o : Option ℕ) → CallSends p (calls.puts_link x l o)
-puts_link_sends p x l None = tt
-puts_link_sends p x l (Some slot) = tt
+unless_sends p x o c h = grind (arith, nat_tests)
 
 if_sends : (p : Pid) (b : Bool) (c d : Called) → CallSends p c → CallSends p d → CallSends p (if b then c else d)
-if_sends p true c d h k = h
-if_sends p false c d h k = k
-
-copies_sends : (p : Pid) (x : PlainProcess) (o : Option PlainLink) → CallSends p (calls.copies x o)
-copies_sends p x None = tt
-copies_sends p x (Some l) = if_sends p (calls.is_reply l.kind) (calls.refused Reply.NotCopyable x) (calls.puts_link x l (first_empty x.links)) tt (puts_link_sends p x l (first_empty x.links))
+if_sends p b c d h k = grind (arith, nat_tests)
 
 drops_sends : (p : Pid) (x : PlainProcess) (o : Option PlainLink) → CallSends p (calls.drop_call x o)
-drops_sends p x None = tt
-drops_sends p x (Some l) = tt
+drops_sends p x o = grind (arith, nat_tests)
 
 sends_sends : (p : Pid) (x : PlainProcess) (o : Option PlainLink) → CallSends p (calls.send_call p x o)
 sends_sends p x None = tt
 sends_sends p x (Some l) = unless_sends p x (first_failed (calls.send_refusals x)) (Sends (calls.message_over p x l) (calls.after_send x)) (inl refl)
 
-moves_bytes_sends : (p : Pid) (x : PlainProcess) (l : PlainLink) (dir : Direction) → CallSends p (calls.moves_bytes p x l dir)
-moves_bytes_sends p x l dir =
-    if_sends p (reg x.regs 5 == 0) (calls.refused Reply.Done x) (calls.begins_move (pieces.requests p x dir l.to (l.area.base + reg x.regs 3) (reg x.regs 4) (reg x.regs 5))) tt
-    (inr (record { dir = dir; owner = l.to; base = l.area.base + reg x.regs 3; own = reg x.regs 4; left = reg x.regs 5; before = x; message = refl; process = refl }))
-
 moves_over_sends : (p : Pid) (x : PlainProcess) (l : PlainLink) (o : Option Direction) → CallSends p (calls.moves_over p x l o)
-moves_over_sends p x l None = tt
-moves_over_sends p x l (Some dir) = unless_sends p x (first_failed (calls.move_refusals x l dir)) (calls.moves_bytes p x l dir) (moves_bytes_sends p x l dir)
+moves_over_sends p x l o = grind (arith, nat_tests, unless_sends)
 
 moves_sends : (p : Pid) (x : PlainProcess) (o : Option PlainLink) → CallSends p (calls.move_call p x o)
-moves_sends p x None = tt
-moves_sends p x (Some l) = moves_over_sends p x l (direction_numbered (reg x.regs 2))
+moves_sends p x o = grind (arith, nat_tests, moves_over_sends)
 
 does_call_sends : (p : Pid) (x : PlainProcess) (c : CallNumber) → CallSends p (calls.does_call p x c)
-does_call_sends p x Make = unless_sends p x (first_failed (calls.make_refusals x)) (calls.puts_link x (calls.own_link p x) (first_empty x.links)) (puts_link_sends p x (calls.own_link p x) (first_empty x.links))
-does_call_sends p x Copy = copies_sends p x (link_at x.links (reg x.regs 1))
-does_call_sends p x Drop = drops_sends p x (link_at x.links (reg x.regs 1))
-does_call_sends p x Send = sends_sends p x (link_at x.links (reg x.regs 1))
-does_call_sends p x Receive =
-    if_sends p (calls.is_outside x (reg x.regs 2) (reg x.regs 3)) (calls.refused Reply.BadRange x) (Waits (record x { status = Waiting (reg x.regs 1) (reg x.regs 2) (reg x.regs 3) })) tt tt
-does_call_sends p x Move = moves_sends p x (link_at x.links (reg x.regs 1))
-does_call_sends p x _ = tt
+does_call_sends p x c = grind (arith, nat_tests, unless_sends, drops_sends, sends_sends, if_sends, moves_sends)
 
 -- and the next instruction
 abbrev NextSends : Pid → kernel.Trap → Type 0
@@ -69,11 +44,7 @@ NextSends p (kernel.Calls number called) = CallSends p called
 NextSends p (kernel.Faults fault) = ⊤
 
 row_sends : (p : Pid) (x : PlainProcess) (w : Row) (n : kernel.Trap) → kernel.next_row p x w ≡ Some n → NextSends p n
-row_sends p x (Row.Plain regs bytes) n e = cc
-row_sends p x (Row.Calls number regs) n e =
-    let k : kernel.Calls number (calls.call p (record x { regs = regs }) number) ≡ n = cc in
-    subst (NextSends p) k (does_call_sends p (record x { regs = regs }) (call_number number))
-row_sends p x (Row.Faults fault) n e = let k : kernel.Faults fault ≡ n = cc in subst (NextSends p) k tt
+row_sends p x w n e = grind (arith, nat_tests, does_call_sends)
 
 next_sends : (s : OneKernel) (p : Pid) (n : kernel.Trap) → kernel.next_trap s p ≡ Some n → NextSends p n
 next_sends s p n e =
@@ -86,47 +57,33 @@ LandsSends p (pieces.Next m y) = Requests p m y
 LandsSends p (pieces.Done c y) = ⊤
 
 goes_on_sends : (p : Pid) (z : PlainProcess) (dir : Direction) (owner : Pid) (base own left : ℕ) (b : Bool) → LandsSends p (if b then pieces.done Reply.Done z else pieces.next_request (pieces.requests p z dir owner base own left))
-goes_on_sends p z dir owner base own left true = tt
-goes_on_sends p z dir owner base own left false = record { dir = dir; owner = owner; base = base; own = own; left = left; before = z; message = refl; process = refl }
+goes_on_sends p z dir owner base own left b = grind (arith, nat_tests)
 
 if_lands : (p : Pid) (b : Bool) (k c : pieces.Landed) → LandsSends p k → (if b then Some k else None) ≡ Some c → LandsSends p c
-if_lands p true k c h e = let f : k ≡ c = cc in subst (LandsSends p) f h
-if_lands p false k c h e = cc
+if_lands p b k c h e = grind (arith, nat_tests)
 
 gone_lands : (p : Pid) (x : PlainProcess) (c : pieces.Landed) → Some (pieces.done Reply.Gone x) ≡ Some c → LandsSends p c
 gone_lands p x c e = let f : pieces.done Reply.Gone x ≡ c = cc in subst (LandsSends p) f tt
 
 lands_what_sends : (p : Pid) (x : PlainProcess) (dir : Direction) (owner : Pid) (base own left : ℕ) (w : PlainWhat) (c : pieces.Landed) → pieces.lands_what p x dir owner base own left w ≡ Some c → LandsSends p c
-lands_what_sends p x Direction.FromArea owner base own left (PlainWhat.Block bytes) c e =
-    let z = record x { memory = pieces.written_at x.memory own bytes } in
-    let piece = pieces.piece_of left in
-    if_lands p ((length bytes == piece) && nat_le (own + left) (length x.memory)) (pieces.move_goes_on p z Direction.FromArea owner base own left piece) c
-    (goes_on_sends p z Direction.FromArea owner (base + piece) (own + piece) (left - piece) (left - piece == 0)) e
-lands_what_sends p x Direction.IntoArea owner base own left PlainWhat.Written c e =
-    let piece = pieces.piece_of left in
-    if_lands p (nat_le (own + left) (length x.memory)) (pieces.move_goes_on p x Direction.IntoArea owner base own left piece) c
-    (goes_on_sends p x Direction.IntoArea owner (base + piece) (own + piece) (left - piece) (left - piece == 0)) e
+lands_what_sends p x Direction.FromArea owner base own left (PlainWhat.Block bytes) c e = search (if_lands, goes_on_sends)
+lands_what_sends p x Direction.IntoArea owner base own left PlainWhat.Written c e = search (if_lands, goes_on_sends)
 lands_what_sends p x Direction.FromArea owner base own left PlainWhat.Gone c e = gone_lands p x c e
 lands_what_sends p x Direction.IntoArea owner base own left PlainWhat.Gone c e = gone_lands p x c e
 lands_what_sends p x _ owner base own left w c e = cc
 
 if_lands_what : (p : Pid) (x : PlainProcess) (b : Bool) (dir : Direction) (owner : Pid) (base own left : ℕ) (w : PlainWhat) (c : pieces.Landed) → (if b then pieces.lands_what p x dir owner base own left w else None) ≡ Some c → LandsSends p c
-if_lands_what p x true dir owner base own left w c e = lands_what_sends p x dir owner base own left w c e
-if_lands_what p x false dir owner base own left w c e = cc
+if_lands_what p x b dir owner base own left w c e = grind (arith, nat_tests, lands_what_sends)
 
 lands_sends : (p : Pid) (x : PlainProcess) (m : PlainMessage) (st : PlainStatus) (c : pieces.Landed) → pieces.lands p x m st ≡ Some c → LandsSends p c
-lands_sends p x m (Moving dir owner base own left pending) c e = if_lands_what p x (m.id.n == pending) dir owner base own left m.what c e
-lands_sends p x m _ c e = cc
+lands_sends p x m st c e = grind (arith, nat_tests, if_lands_what)
 
 pub memory_end : (m : PlainMessage) (w : PlainWhat) → is_of_memory w ≡ true → other_end m w ≡ Some m.to
-memory_end m (PlainWhat.Read base len) e = refl
-memory_end m (PlainWhat.Write base bytes) e = refl
-memory_end m w e = cc
+memory_end m w e = grind (arith, nat_tests)
 
 -- what a server sends
 server_says : (u : OneKernel) (p : Pid) (o : Option PlainMessage) (n after : ℕ) → ServerSends p n o after → AllSay u → AllSay (with_sent u o)
-server_says u p None n after sends h = h
-server_says u p (Some x) n after sends h = other_says u x (no_end x x.what sends.2 sends.3) h
+server_says u p o n after sends h = grind (arith, nat_tests, other_says)
 
 -- every step
 pub step_says : (r e : MsgId → ℕ) (s t : OneKernel) (l : Label) → kernel.step s l ≡ Some t → Sound r e s → KernelFits t → AllSay s → AllSay t
@@ -171,11 +128,68 @@ step_says r e s t l is_ sound =
           let on : AllSay (with_process s m.to (Alive y)) = fresh_says r e s m.to x y w.alive waits sound h in
           request_says (without_message s id) m.to r_ y (lands_sends m.to x m x.status (pieces.Next r_ y) c) from fits (out_says (with_process s m.to (Alive y)) id on));
       done = λ id m x c y is w f g fits h. still_says (without_message s id) m.to y (lands-is m.to x m x.status (pieces.Done c y) g).1 (out_says s id h);
-      board = λ id m k is there c took fits h.
-          server_says (record (without_message s id) { switchboard = k.switchboard }) switchboard k.answer s.switchboard.sent k.switchboard.sent (board_takes_lem s.switchboard m m.what k took).2 (out_says s id h);
+      board = grind (arith, nat_tests, server_says, board_takes_lem, out_says);
       manager = λ id m k is there c took fits h.
           server_says (record (without_message s id) { manager = k.manager }) manager k.message s.manager.sent k.manager.sent (manager_takes_lem s.manager s.machines (length s.images) m m.what k took).2.sends (out_says s id h);
       creates = λ id child m image links i is w found name fits h.
           other_says (service.with_created (without_message s id) child i links) (answer_to m (PlainWhat.Created child)) refl (still_says (without_message s id) child (begun s.format i links) refl (out_says s id h));
       no_room = λ id a b m image links is w fits h. other_says (without_message s id) (answer_to m PlainWhat.NoRoom) refl (out_says s id h);
     }) is_
+
+-- each message that says that its sender has ended
+abbrev pub GoneEnded : OneKernel → Type 0
+GoneEnded s = (i : MsgId) (m : PlainMessage) → s.bag i ≡ Some m → m.what ≡ PlainWhat.Gone → HasEnded s m.sender
+
+-- what is in the bag behind a step was there, or is no such message, or a right one
+abbrev Came : OneKernel → OneKernel → Type 0
+Came s t = (i : MsgId) (m : PlainMessage) → t.bag i ≡ Some m → (s.bag i ≡ Some m) ⊎ (m.what ≡ PlainWhat.Gone → HasEnded t m.sender)
+
+put_came : (s u : OneKernel) (x : PlainMessage) → ((i : MsgId) (m : PlainMessage) → u.bag i ≡ Some m → s.bag i ≡ Some m) → (x.what ≡ PlainWhat.Gone → HasEnded u x.sender) → Came s (with_sent u (Some x))
+put_came s u x sub f i m k = elim (came u x m i k) [
+  | inl is ↦ inr (λ g. subst (λ (z : PlainMessage). HasEnded u z.sender) is.0 (f (ap (λ (z : PlainMessage). z.what) is.0 ∙ g)))
+  | inr was ↦ inl (sub i m was)
+]
+
+no_piece : (v : PlainWhat) (s : OneKernel) (p : Pid) → is_piece v ≡ false → v ≡ PlainWhat.Gone → HasEnded s p
+no_piece v s p e g = let f : false ≡ true = sym e ∙ ap is_piece g in cc
+
+server_came : (s u : OneKernel) (p : Pid) (o : Option PlainMessage) (n after : _) → ServerSends p n o after → ((i : MsgId) (m : PlainMessage) → u.bag i ≡ Some m → s.bag i ≡ Some m) → Came s (with_sent u o)
+server_came s u p None n after sends sub = λ i m k. inl (sub i m k)
+server_came s u p (Some x) n after sends sub = put_came s u x sub (no_piece x.what u x.sender sends.3)
+
+step_came : (s t : OneKernel) (l : Label) → kernel.step s l ≡ Some t → Came s t
+step_came s t l = by_step (Came s) s t l (record {
+  ran = λ p k x m is w i z there. inl there;
+  replies = λ p n k c d y is w i z there. inl there;
+  sends = λ p id k m y is same w.
+      (let (z, sent, pending, counted) = w.so.counts in
+      put_came s (kernel.goes_on s p y) m (λ i x there. there) (no_piece m.what (kernel.goes_on s p y) m.sender counted.piece));
+  waits = λ p k y is w i z there. inl there;
+  outputs = λ p w k v y is n i z there. inl there;
+  ends = λ p y next is w i z there. inl there;
+  receives = λ p id y is w c i z there. inl (stayed s id i z there);
+  refuses = λ p id c d y is w e i z there. inl there;
+  dropped = λ id m y is w e i z there. inl (stayed s id i z there);
+  gone = λ id m y is w e. put_came s (without_message s id) (answer_to m PlainWhat.Gone) (stayed s id) (λ g. (y, w.ended));
+  stops = λ id m x b is w e i z there. inl (stayed s id i z there);
+  kills = λ id m x is w e i z there. inl (stayed s id i z there);
+  reads = λ id m x base len is w e. put_came s (service.changed s id m x) (answer_to m (PlainWhat.Block (take len (drop base x.memory)))) (stayed s id) (λ g. cc);
+  writes = λ id m x base bytes is w e. put_came s (service.changed s id m (record x { memory = pieces.written_at x.memory base bytes })) (answer_to m PlainWhat.Written) (stayed s id) (λ g. cc);
+  lands = λ id m x r y is w e c. put_came s (service.changed s id m y) r (stayed s id) (no_piece r.what (service.changed s id m y) r.sender (lands-is m.to x m x.status (pieces.Next r y) c).0.piece);
+  done = λ id m x c y is w e f i z there. inl (stayed s id i z there);
+  board = λ id m k is there c took. server_came s (record (without_message s id) { switchboard = k.switchboard }) switchboard k.answer s.switchboard.sent k.switchboard.sent (board_takes_lem s.switchboard m m.what k took).2 (stayed s id);
+  manager = λ id m k is there c took.
+      server_came s (record (without_message s id) { manager = k.manager }) manager k.message s.manager.sent k.manager.sent (manager_takes_lem s.manager s.machines (length s.images) m m.what k took).2.sends (stayed s id);
+  creates = λ id child m image links i is w found name. put_came s (service.with_created (without_message s id) child i links) (answer_to m (PlainWhat.Created child)) (stayed s id) (λ g. cc);
+  no_room = λ id a b m image links is w. put_came s (without_message s id) (answer_to m PlainWhat.NoRoom) (stayed s id) (λ g. cc);
+})
+
+-- whoever has ended stays so
+stays : (l m : Option Life) (y : Why) → LifeGrows l m → l ≡ Some (Ended y) → m ≡ Some (Ended y)
+stays l m y g e = grind (arith, nat_tests)
+
+pub step_gone : (s t : OneKernel) (l : Label) → kernel.step s l ≡ Some t → Grown s t → GoneEnded s → GoneEnded t
+step_gone s t l is grown h i m there gone = elim (step_came s t l is i m there) [
+  | inl was ↦ let (y, ended) = h i m was gone in (y, stays (s.processes m.sender) (t.processes m.sender) y (grown.lives m.sender) ended)
+  | inr new ↦ new gone
+]

@@ -1,7 +1,7 @@
 -- What a message of a data move says of the mover's status: the ways in which that stays.
-use Rattle.dm_movelaws.proofs.Names.{◌≡◌, ℕ, ◌+◌, ◌≤◌, true, false, length, take, drop, refl, ap, ◌∙◌, sym, subst, inl, inr, nat_le, nat_lt, arith, ⊤, Option, None, Some, nat_tests, length-take, length-drop, Pid, MsgId, PlainMessage}
-use Rattle.dm_movelaws.proofs.Names.{PlainWhat, Direction, Why, PlainProcess, PlainStatus, Ready, Waiting, Moving, Life, Alive, OneKernel, with_process, with_sent, piece_of, answer_to, without_message, is_of_memory, is_piece, pending_of}
-use Rattle.dm_movelaws.proofs.Names.{counts, is_counted, stayed, came, Sound, not_server, counts_process, not_counted, has_bytes, move_fits, KernelFits, both, set_if, set_at}
+use Rattle.dm_movelaws.proofs.Names.{◌≡◌, ℕ, ◌+◌, ◌≤◌, true, false, length, take, drop, refl, ap, ◌∙◌, sym, subst, nat_le, nat_lt, arith, ⊤, Option, None, Some, nat_tests, length-take, length-drop, Pid, MsgId, PlainMessage, PlainWhat}
+use Rattle.dm_movelaws.proofs.Names.{Direction, Why, PlainProcess, PlainStatus, Ready, Waiting, Moving, Life, Alive, OneKernel, with_process, with_sent, piece_of, answer_to, without_message, pending_of, counts, is_counted, stayed, came}
+use Rattle.dm_movelaws.proofs.Names.{Sound, not_server, counts_process, not_counted, has_bytes, move_fits, KernelFits, both, set_if, set_at}
 use Rattle.dm_rulelaws.proofs.Names.{Lives}
 use Rattle.dm_onekernel.specs.Kernel.{Ended}
 use Rattle.dm_onekernel.specs.Pieces as pieces
@@ -39,16 +39,14 @@ AllSay s = (i : MsgId) (m : PlainMessage) (q : Pid) → s.bag i ≡ Some m → o
 
 -- nobody waits for it
 unawaited_says : (st : PlainStatus) (n : ℕ) (q : Pid) (w : PlainWhat) → (pending_of st ≡ Some n → ⊥) → StatusSays st n q w
-unawaited_says (Moving dir owner base own left pending) n q w f = λ e. absurd (f (ap Some (sym e)))
-unawaited_says _ n q w f = tt
+unawaited_says st n q w f = grind (arith, nat_tests)
 
 set_says : (s : OneKernel) (p : Pid) (l : Life) → ((i : MsgId) (m : PlainMessage) (q : Pid) → s.bag i ≡ Some m → i.from ≡ p → Says (s.processes p) i.n q m.what → Says (Some l) i.n q m.what) → AllSay s → AllSay (with_process s p l)
 set_says s p l f h i m q there e = set_if (λ (o : Option Life). Says o i.n q m.what) s p i.from l (λ same. f i m q there same) (h i m q there e)
 
 -- a process goes on waiting for the same
 pub same_says : (s : OneKernel) (p : Pid) (x y : PlainProcess) → s.processes p ≡ Some (Alive x) → y.status ≡ x.status → AllSay s → AllSay (with_process s p (Alive y))
-same_says s p x y is status h =
-    set_says s p (Alive y) (λ i m q there from k. subst (λ (st : PlainStatus). StatusSays st i.n q m.what) (sym status) (subst (λ (o : Option Life). Says o i.n q m.what) is k)) h
+same_says s p x y is status h = grind (arith, nat_tests, set_says)
 
 -- it waits for nothing
 pub still_says : (s : OneKernel) (p : Pid) (y : PlainProcess) → pending_of y.status ≡ None → AllSay s → AllSay (with_process s p (Alive y))
@@ -74,32 +72,14 @@ pub out_says : (s : OneKernel) (id : MsgId) → AllSay s → AllSay (without_mes
 out_says s id h i m q there e = h i m q (stayed s id i m there) e
 
 pub put_says : (u : OneKernel) (x : PlainMessage) → ((q : Pid) → other_end x x.what ≡ Some q → Says (u.processes x.id.from) x.id.n q x.what) → AllSay u → AllSay (with_sent u (Some x))
-put_says u x f h i m q there e = elim (came u x m i there) [
-  | inl is ↦
-      let k = f q (ap (λ (z : PlainMessage). other_end z z.what) is.0 ∙ e) in
-      subst (λ (j : MsgId). Says (u.processes j.from) j.n q m.what) is.1 (subst (λ (z : PlainMessage). Says (u.processes x.id.from) x.id.n q z.what) is.0 k)
-  | inr was ↦ h i m q was e
-]
+put_says u x f h i m q there e = grind (arith, nat_tests, came)
 
 pub other_says : (u : OneKernel) (x : PlainMessage) → other_end x x.what ≡ None → AllSay u → AllSay (with_sent u (Some x))
 other_says u x none h = put_says u x (λ q e. absurd (let f : None ≡ Some q = sym none ∙ e in cc)) h
 
-pub no_end : (m : PlainMessage) (w : PlainWhat) → is_of_memory w ≡ false → is_piece w ≡ false → other_end m w ≡ None
-no_end m (PlainWhat.Read base len) a b = cc
-no_end m (PlainWhat.Write base bytes) a b = cc
-no_end m (PlainWhat.Block bytes) a b = cc
-no_end m PlainWhat.Written a b = cc
-no_end m PlainWhat.Gone a b = cc
-no_end m w a b = refl
-
 -- an answer says what its request said
-status_turns : (st : PlainStatus) (n : ℕ) (q : Pid) (v w : PlainWhat) → ((base left : ℕ) → Begins base left w) → StatusSays st n q v → StatusSays st n q w
-status_turns (Moving dir owner base own left pending) n q v w f h = λ e. ((h e).0, f base left)
-status_turns _ n q v w f h = tt
-
 turns : (o : Option Life) (n : ℕ) (q : Pid) (v w : PlainWhat) → ((base left : ℕ) → Begins base left w) → Says o n q v → Says o n q w
-turns (Some (Alive x)) n q v w f h = status_turns x.status n q v w f h
-turns _ n q v w f h = tt
+turns o n q v w f h = grind (arith, nat_tests)
 
 pub answer_says : (u : OneKernel) (id : MsgId) (m : PlainMessage) (w : PlainWhat) → m.id ≡ id → Says (u.processes id.from) id.n m.to m.what → other_end (answer_to m w) w ≡ Some m.to → ((base left : ℕ) → Begins base left w) → AllSay u → AllSay (with_sent u (Some (answer_to m w)))
 answer_says u id m w name says end f h =

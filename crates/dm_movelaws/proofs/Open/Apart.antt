@@ -1,14 +1,80 @@
 -- Each line of a group leaves a process that moves alone, where it stands.
-use Rattle.dm_movelaws.proofs.Names.{◌≡◌, ◌≢◌, ℕ, ◌+◌, ◌==◌, Bool, true, false, List, [], ◌∷◌, ◌++◌, length, refl, ap, ◌∙◌, sym, subst, ⊤, if◌then◌else◌, slice_get, Option, None, Some, false≢true, Pid, pid_of, MsgId, MessageKind}
-use Rattle.dm_movelaws.proofs.Names.{plain_kind, Load, PlainMessage, Boot, Label, Why, first_number, Life, OneKernel, bind, bind-is, Step, Line, Receiver, IsOthers, Spares, migrates, Part, Says, Routes, Again, Owns, Transmits, Spelled}
-use Rattle.dm_movelaws.proofs.Names.{lines_of, puts, goes_out, packet_line, spelled, Moves, knows, IsIn, Point, label_of, kernel_after, moved, after_line, after, group_of, Here, own_id, SparesPart, FirstApart, ApartOf, apart_first}
-use Rattle.dm_movelaws.proofs.Names.{turns_apart, net_apart, migrates_apart, arrives_net, resends_net, Rooted, nowhere_known, moves_away, is_fixed, IsAnothers, IsAnothersIf, moves_known, took_for, created_for, no_space_for, by_parts}
-use Rattle.dm_movelaws.proofs.Names.{by_group}
+use Rattle.dm_movelaws.proofs.Names.{◌≡◌, ◌≢◌, ℕ, ◌+◌, ◌==◌, Bool, true, false, List, [], ◌∷◌, ◌++◌, refl, ap, ◌∙◌, sym, subst, ⊤, Option, Some, false≢true, Pid, pid_of, MsgId, MessageKind, PlainMessage, Boot, Label, Why, first_number}
+use Rattle.dm_movelaws.proofs.Names.{OneKernel, bind, bind-is, Step, Line, Spares, migrates, Part, Spelled, lines_of, spelled, Moves, knows, IsIn, Point, label_of, kernel_after, moved, after_line, after, group_of, Here, SparesPart}
+use Rattle.dm_movelaws.proofs.Names.{FirstApart, ApartOf, apart_first, turns_apart, net_apart, migrates_apart, arrives_net, resends_net, Rooted, nowhere_known, moves_away, is_fixed, IsAnothersIf, moves_known, by_parts, by_group, is_some}
+use Rattle.dm_movelaws.proofs.Names.{IsValid, start, replay, ended_stays, Phase, is_between, is_restart, is_early, kind_comes, first_point, labels, Known, moving_stays_always, is_server, agrees, LeadsBy, after_replay, Run, run_always}
+use Rattle.dm_movelaws.proofs.Names.{mark_while, IsSpared, OpenSpares, apart_is, destination_knows, server_leaves, why_ended-is, kind_leaves, nat_tests, arith}
 use Rattle.dm_onekernel.specs.Kernel.{Ended}
+use Rattle.dm_movelaws.proofs.Leading.{lines_are}
+use Rattle.dm_movelaws.proofs.After.{after-append, group_after}
+use Rattle.dm_movelaws.proofs.Open.Moves.{leads_of, run_after, open_moves}
+use Rattle.dm_movelaws.proofs.Stages.Spares.{restart_late}
 use Rattle.dm_onekernel.specs.Step as kernel
 use Rattle.dm_rule.specs.Rule as rule
-use Rattle.dm_movelaws.proofs.Open.Spares.{dropped_over}
 pub use Rattle.dm_rule.proofs.Apart.Groups.{kernel_same}
+pub use Rattle.dm_rulelaws.proofs.Goes.Own.{source_knows}
+
+-- what moves hasn't ended
+leaving_not : (k : MessageKind) (d : ℕ) (n : Known) (y : Why) → kind_leaves k d n ≡ true → is_restart k ≡ false → agrees n (Some (Ended y)) ≡ true → ⊥
+leaving_not k d n y e r a = grind (arith, nat_tests)
+
+coming_not : (k : MessageKind) (s : ℕ) (n : Known) (y : Why) → kind_comes k s n ≡ true → is_early k ≡ false → agrees n (Some (Ended y)) ≡ true → ⊥
+coming_not k s n y e r a = grind (arith, nat_tests)
+
+by_server : (c r : Bool) (b : Boot) (pt : Point) (p : Pid) (k : MessageKind) (s d : ℕ) (y : Why) → is_server p ≡ c → is_restart k ≡ r → Run b pt → kind_leaves k d (pt.view.known s p) ≡ true → kind_comes k s (pt.view.known d p) ≡ true → pt.kernel.processes p ≡ Some (Ended y) → ⊥
+by_server true r b pt p k s d y server restart run leave come over = false≢true (sym (server_leaves k d (s == 0)) ∙ sym (ap (kind_leaves k d) (run.based.known.server s p server)) ∙ leave)
+by_server false true b pt p k s d y server restart run leave come over =
+    coming_not k s (pt.view.known d p) y come (restart_late k restart) (sym (ap (agrees (pt.view.known d p)) over) ∙ run.based.known.agree d p server)
+by_server false false b pt p k s d y server restart run leave come over =
+    leaving_not k d (pt.view.known s p) y leave restart (sym (ap (agrees (pt.view.known s p)) over) ∙ run.based.known.agree s p server)
+
+pub moving_lives : (b : Boot) (pt : Point) (p : Pid) (k : MessageKind) (s d : ℕ) (id : Option MsgId) (y : Why) → Run b pt → IsIn pt.view p (Moves k s d id) → pt.kernel.processes p ≡ Some (Ended y) → ⊥
+moving_lives b pt p k s d id y run phase over =
+    by_server (is_server p) (is_restart k) b pt p k s d y refl refl run (source_knows k s d id (pt.view.known s p) (phase.known s))
+    (destination_knows k s d id (pt.view.known d p) (apart_is (is_between k) s d phase.apart) (phase.known d)) over
+
+-- the rest of a group leads on from where its first lines lead
+pub after-rest : (xs ys : List Line) (pt mid end : Point) → after pt xs ≡ Some mid → after pt (xs ++ ys) ≡ Some end → after mid ys ≡ Some end
+after-rest [] ys pt mid end e f = let g : pt ≡ mid = cc in ap (λ (x : Point). after x ys) (sym g) ∙ f
+after-rest (x ∷ xs) ys pt mid end e f =
+    let (next, first, rest) = bind-is (after_line pt x) (λ (q : Point). after q xs) mid e in
+    after-rest xs ys next mid end rest (sym (ap (λ (o : Option Point). bind o (λ (q : Point). after q (xs ++ ys))) first) ∙ f)
+
+pub dropped_over : (s t : OneKernel) (id : MsgId) (m : PlainMessage) → kernel.step s (Label.Dropped id) ≡ Some t → s.bag id ≡ Some m → (y : Why) × (s.processes m.to ≡ Some (Ended y))
+dropped_over s t id m is there = grind (arith, nat_tests, bind-is, why_ended-is)
+
+-- a group that keeps the process drops no message for it
+dropped_for_other : (b : Boot) (ls earlier later : List Line) (pt before end : Point) (p : Pid) (id : MsgId) (m : PlainMessage) → IsValid b → ((y : Why) → pt.kernel.processes p ≡ Some (Ended y) → ⊥) → end.kernel.processes p ≡ pt.kernel.processes p
+    → after (first_point b) ls ≡ Some pt → after pt earlier ≡ Some before → after before (Line.Label (Label.Dropped id) ∷ later) ≡ Some end → before.kernel.bag id ≡ Some m → m.to ≢ p
+dropped_for_other b ls earlier later pt before end p id m valid lives same first comes goes there to =
+    let l = Line.Label (Label.Dropped id) in
+    let (mid, line_, rest) = bind-is (after_line before l) (λ (q : Point). after q later) end goes in
+    let (t, step_, last) = bind-is (kernel_after before.kernel (label_of l)) (λ (s : OneKernel). Some (moved before l s)) mid line_ in
+    let (y, over) = dropped_over before.kernel t id m step_ there in
+    let ended : before.kernel.processes p ≡ Some (Ended y) = ap before.kernel.processes (sym to) ∙ over in
+    let to_here : replay (start b) (labels (ls ++ earlier)) ≡ Some before.kernel = after_replay (ls ++ earlier) (first_point b) before (after-append ls earlier (first_point b) pt before first comes) in
+    lives y (sym same ∙ ended_stays b (labels (ls ++ earlier)) (labels (l ∷ later)) before.kernel end.kernel p y valid (to_here, after_replay (l ∷ later) before end goes) ended)
+
+-- the phase of an open mark
+spared : (b : Boot) (es : List Step) (ls : List Line) (pt : Point) (d : Step) (w : Spelled) (p : Pid) (phase : Phase) → IsValid b → LeadsBy b (first_point b) es ls pt → group_of b pt d ≡ Some w → is_some (mark_while phase) ≡ true → IsIn pt.view p phase → IsSpared pt w p
+spared b es ls pt d w p (Moves k s t id) valid by e begun h =
+    let leads = leads_of b es ls (first_point b) pt by in
+    let stays = moving_stays_always b es pt d w p k s t id valid leads e h in
+    let run = (run_always b es pt valid leads).run in
+    record {
+      others = stays.0;
+      kept = λ earlier later before i m split comes there. dropped_for_other b ls earlier later pt before w.point p i m valid (λ y over. moving_lives b pt p k s t id y run h over) stays.1
+          (run_after b es ls (first_point b) pt by) comes
+          (after-rest earlier (Line.Label (Label.Dropped i) ∷ later) pt before w.point comes (ap (after pt) (sym split) ∙ group_after b pt d w e)) there;
+      same = stays.1;
+    }
+spared b es ls pt d w p _ valid by e begun h = absurd (false≢true begun)
+
+-- wherever the rule leads
+pub open_spares : OpenSpares
+open_spares b es ls pt d w p valid by begun e =
+    let (phase, h, due, mark) = open_moves b es ls pt p valid by in
+    spared b es ls pt d w p phase valid by e (sym (ap is_some mark) ∙ begun) h
 
 -- each of these lines spares the process where it stands
 abbrev pub AllAlone : Pid → Point → List Line → Type 0
@@ -20,27 +86,8 @@ alone_append y [] ys pt h k = k pt refl
 alone_append y (x ∷ xs) ys pt h k = (h.0, λ next e. alone_append y xs ys next (h.1 next e) (λ end f. k end (ap (λ (o : Option Point). bind o (λ (q : Point). after q xs)) e ∙ f)))
 
 -- the lines of a part
-packet_alone : (y : Pid) (pt : Point) (l : Line) (c d : Bool) → label_of l ≡ None → AllAlone y pt (if c then [] else if d then l ∷ [] else [])
-packet_alone y pt l true d none = tt
-packet_alone y pt l false true none = (subst (Spares pt.kernel y) (sym none) tt, λ next e. tt)
-packet_alone y pt l false false none = tt
-
-puts_alone : (y : Pid) (pt : Point) (b : ℕ) (i : MsgId) (k : MessageKind) (q : Pid) (ls : List Line) → Some (puts pt.view b i k q) ≡ Some ls → AllAlone y pt ls
-puts_alone y pt b i k q ls is =
-    let f : puts pt.view b i k q ≡ ls = cc in
-    subst (AllAlone y pt) f
-    (tt, λ next e. packet_alone y next (packet_line pt.view pt.view.acting b (Load.Data (length (pt.view.pair pt.view.acting b).ids))) (pt.view.acting == b) (goes_out (pt.view.pair pt.view.acting b)) refl)
-
 part_alone : (y : Pid) (pt : Point) (p : Part) (ls : List Line) → SparesPart pt.kernel y p → lines_of pt p ≡ Some ls → AllAlone y pt ls
-part_alone y pt (Says l) ls h is = let f : l ∷ [] ≡ ls = cc in subst (AllAlone y pt) f (h, λ next e. tt)
-part_alone y pt (Routes i) ls h is =
-    let (m, there, last) = bind-is (pt.kernel.bag i) (λ m. Some (puts pt.view (pt.addresses (Receiver i)).at i (plain_kind m.what) m.to)) ls is in
-    puts_alone y pt (pt.addresses (Receiver i)).at i (plain_kind m.what) m.to ls last
-part_alone y pt (Again i b) ls h is =
-    let (t, there, last) = bind-is (pt.view.told i) (λ t. Some (puts pt.view b i t.kind t.receiver)) ls is in
-    puts_alone y pt b i t.kind t.receiver ls last
-part_alone y pt (Owns k q b) ls h is = puts_alone y pt b (own_id pt.view) k q ls is
-part_alone y pt (Transmits a b l) ls h is = let f : packet_line pt.view a b l ∷ [] ≡ ls = cc in subst (AllAlone y pt) f (tt, λ next e. tt)
+part_alone y pt p ls h is = grind (arith, nat_tests, lines_are)
 
 parts_alone : (y : Pid) (ps : List Part) (pt : Point) (w : Spelled) → FirstApart pt.kernel y ps → spelled pt ps ≡ Some w → AllAlone y pt w.lines
 parts_alone y qs p w h is = by_parts (λ ps pt v. FirstApart pt.kernel y ps → AllAlone y pt v.lines) (λ pt h. tt) (λ x ps pt next ls z lines leads rest h. (
@@ -62,10 +109,7 @@ group_alone b pt d w y h = by_group (λ v. AllAlone y pt v.lines) b pt d w (λ p
 outcome_apart : (b : Boot) (pt : Point) (d : Step) (y : Pid) → Rooted pt → ((m : ℕ) → pid_of m (first_number + pt.kernel.made m) ≢ y) → ((m : ℕ) (p : Pid) → pt.view.known m p ≡ Here → p ≢ y) → ApartOf pt.kernel y (rule.outcome b pt d)
 outcome_apart b pt (Step.Turn m) y h child off = turns_apart y b pt m (pt.view.inbox m) (child m) (off m) (h.served m)
 outcome_apart b pt (Step.Tick m) y h child off = (tt, net_apart y (rule.resends pt.view m pt.kernel.machines) (resends_net pt.view m pt.kernel.machines))
-outcome_apart b pt (Step.Deliver a c k) y h child off =
-    let s = slice_get (pt.view.pair a c).wire k in
-    let qs = rule.arrives a c (pt.view.pair a c) (pt.view.pair c a) s in
-    apart_first pt.kernel y qs (net_apart y qs (arrives_net a c (pt.view.pair a c) (pt.view.pair c a) s))
+outcome_apart b pt (Step.Deliver a c k) y h child off = search (apart_first, net_apart, arrives_net)
 outcome_apart b pt (Step.Migrate p m) y h child off = apart_first pt.kernel y (migrates pt p) (migrates_apart y pt p)
 
 pub moving_alone : (b : Boot) (pt : Point) (d : Step) (w : Spelled) (y : Pid) (k : MessageKind) (s t : ℕ) (o : Option MsgId) → Rooted pt → IsIn pt.view y (Moves k s t o) → group_of b pt d ≡ Some w → AllAlone y pt w.lines
@@ -91,30 +135,5 @@ alone_rest y (x ∷ xs) ys pt mid h e =
     record { rest = k.rest; same = k.same ∙ sym (ap (λ (q : Point). q.kernel.processes y) f) ∙ kernel_same pt.kernel s y (label_of x) h.0 is }
 
 -- a step that spares a living process takes no message for it
-message_is : (s : OneKernel) (id : MsgId) (n m : PlainMessage) → s.bag id ≡ Some n → s.bag id ≡ Some m → n ≡ m
-message_is s id n m e f = let g : Some n ≡ Some m = sym e ∙ f in cc
-
-gone_over : (s t : OneKernel) (id : MsgId) (m : PlainMessage) → kernel.step s (Label.Gone id) ≡ Some t → s.bag id ≡ Some m → (y : Why) × (s.processes m.to ≡ Some (Ended y))
-gone_over s t id m is there =
-    let (n, at, rest) = bind-is (s.bag id) (λ n. bind (kernel.why_ended (s.processes n.to)) (kernel.says_gone s id n)) t is in
-    let (y, over, last) = bind-is (kernel.why_ended (s.processes n.to)) (kernel.says_gone s id n) t rest in
-    (y, ap (λ (x : PlainMessage). s.processes x.to) (sym (message_is s id n m at there)) ∙ ended_is (s.processes n.to) y over)
-  where
-    ended_is : (o : Option Life) (y : Why) → kernel.why_ended o ≡ Some y → o ≡ Some (Ended y)
-    ended_is (Some (Ended z)) y e = let f : z ≡ y = cc in ap (λ (v : Why). Some (Ended v)) f
-    ended_is _ y e = cc
-
-fixed_off : (y q : Pid) → is_fixed y ≡ false → is_fixed q ≡ true → q ≢ y
-fixed_off y q free fixed e = false≢true (sym free ∙ ap is_fixed (sym e) ∙ fixed)
-
-pub anothers_is : (s t : OneKernel) (y : Pid) (l : Label) → is_fixed y ≡ false → ((z : Why) → s.processes y ≡ Some (Ended z) → ⊥) → IsOthers s y l → kernel.step s l ≡ Some t → IsAnothers s y l
-anothers_is s t y (Label.Dropped id) free lives h e = λ m there to. let (z, over) = dropped_over s t id m e there in lives z (ap s.processes (sym to) ∙ over)
-anothers_is s t y (Label.Gone id) free lives h e = λ m there to. let (z, over) = gone_over s t id m e there in lives z (ap s.processes (sym to) ∙ over)
-anothers_is s t y (Label.Took id) free lives h e = λ m there. fixed_off y m.to free (took_for s t id e m there)
-anothers_is s t y (Label.Created id q) free lives h e = (h, λ m there. fixed_off y m.to free (created_for s t id q e m there))
-anothers_is s t y (Label.NoSpace id a b) free lives h e = λ m there. fixed_off y m.to free (no_space_for s t id a b e m there)
-anothers_is s t y _ free lives h e = h
-
 pub anothers_if : (s t : OneKernel) (y : Pid) (o : Option Label) → is_fixed y ≡ false → ((z : Why) → s.processes y ≡ Some (Ended z) → ⊥) → Spares s y o → kernel_after s o ≡ Some t → IsAnothersIf s y o
-anothers_if s t y None free lives h e = tt
-anothers_if s t y (Some l) free lives h e = anothers_is s t y l free lives h e
+anothers_if s t y o free lives h e = grind (arith, nat_tests)

@@ -1,10 +1,12 @@
 -- The open mark among the lines of a run says in what phase a process is.
-use Rattle.dm_movelaws.proofs.Names.{◌≡◌, false, List, [], ◌∷◌, refl, ap, ◌∙◌, sym, subst, Option, None, Some, Pid, MessageKind, Boot, Step, Line, Leads, Phase, Moves, is_due, IsIn, Point, first_point, after, View, first_view, not_true}
-use Rattle.dm_movelaws.proofs.Names.{Phased, phased_start, phased_group, InPhases, LeadsBy, Mark, marks, left_open, open_mark, mark_by, mark_while, OpenMoves}
+use Rattle.dm_movelaws.proofs.Names.{◌≡◌, List, [], ◌∷◌, refl, ap, ◌∙◌, sym, subst, Option, None, Some, Pid, Boot, Step, Line, Leads, Phase, Point, first_point, after, first_view, Phased, phased_start, phased_group, LeadsBy, Mark, marks}
+use Rattle.dm_movelaws.proofs.Names.{left_open, open_mark, mark_while, OpenMoves, nat_tests, arith}
 use Rattle.dm_movelaws.proofs.After.{after-append, group_after}
 use Rattle.dm_movelaws.proofs.Stages.Marks.{open_after, open-append, marks-append}
-use Rattle.dm_movelaws.proofs.Stages.Spares.{mark_of, mark_in}
+use Rattle.dm_movelaws.proofs.Stages.Spares.{mark_in}
 use Rattle.dm_movelaws.proofs.Stages.Always.{group_marked}
+pub use Rattle.dm_movelaws.proofs.Stages.Always.{not_due as none_due}
+pub use Rattle.dm_movelaws.proofs.Stages.Always.{start_mark}
 
 -- the lines of a run lead where the run leads
 pub leads_of : (b : Boot) (es : List Step) (ls : List Line) (pt end : Point) → LeadsBy b pt es ls end → Leads b pt es end
@@ -21,17 +23,10 @@ pub open_is : (o : Option Mark) (ms : List Mark) → open_mark o ms ≡ open_aft
 open_is o [] = refl
 open_is o (m ∷ ms) = open_is (left_open m) ms
 
-kind_is : (k : MessageKind) → mark_of k ≡ mark_by k
-kind_is MessageKind.Ask = refl
-kind_is _ = refl
-
 pub mark_is : (phase : Phase) → mark_in phase ≡ mark_while phase
-mark_is (Moves k s d id) = kind_is k
-mark_is _ = refl
+mark_is phase = grind (arith, nat_tests)
 
 -- between groups no message is due
-pub none_due : (v : View) (h : InPhases v) (p : Pid) → is_due (h.of p) ≡ false
-none_due v h p = not_true (is_due (h.of p)) (λ e. let f : None ≡ Some p = h.put p e in cc)
 
 -- where a run has come, with this open mark
 pub record Opened (end : Point) (p : Pid) (o : Option Mark) : Type 0 where
@@ -49,15 +44,10 @@ run_open b (d ∷ ds) ls pt end p (w, rest, fit, is, split, more) h =
     let later = run_open b ds rest w.point end p more k in
     record {
       phased = later.phased;
-      is = ap (λ (xs : List Line). open_after o (marks p xs)) split ∙ ap (open_after o) (marks-append p w.lines rest) ∙ open-append o (marks p w.lines) (marks p rest)
-          ∙ ap (λ (x : Option Mark). open_after x (marks p rest)) g.1 ∙ later.is;
+      is = grind (arith, nat_tests, marks-append, open-append);
     }
 
 -- nothing is told of before the first line
-pub start_mark : (b : Boot) (p : Pid) (a : Phase) → IsIn (first_view b) p a → is_due a ≡ false → mark_in a ≡ None
-start_mark b p (Moves k s d None) h due = cc
-start_mark b p (Moves k s d (Some i)) h due = absurd (let e = h.token.told in cc)
-start_mark b p _ h due = refl
 
 -- wherever the rule leads
 pub open_moves : OpenMoves

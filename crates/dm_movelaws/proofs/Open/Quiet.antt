@@ -1,12 +1,11 @@
 -- A group that marks a process says no label.
-use Rattle.dm_movelaws.proofs.Names.{◌≡◌, ◌⊎◌, ℕ, ◌==◌, Bool, true, false, List, [], ◌∷◌, ◌++◌, refl, ◌∙◌, sym, subst, inl, inr, ⊤, if◌then◌else◌, Option, None, Some, Pid, pid_eq, MsgId, MessageKind, plain_kind, Boot, switchboard, manager}
-use Rattle.dm_movelaws.proofs.Names.{bind-is, Step, Line, Receiver, process_told, server_told, migrates, Part, Says, Routes, Again, Owns, Transmits, Spelled, lines_of, puts, goes_out, packet_line, spelled, Point, label_of, group_of, Told}
-use Rattle.dm_movelaws.proofs.Names.{About, Known, own_id, marks, by_migrates, IsHeardLine, kernel_kept, by_parts, by_group, by_outcome, moved}
-use Rattle.dm_rule.specs.Rule as rule
+use Rattle.dm_movelaws.proofs.Names.{◌≡◌, ◌⊎◌, ℕ, Bool, List, [], ◌∷◌, ◌++◌, refl, ◌∙◌, inl, inr, ⊤, if◌then◌else◌, Option, None, Some, Pid, MsgId, MessageKind, Boot, Step, Line, process_told, server_told, migrates, Part, Spelled, lines_of}
+use Rattle.dm_movelaws.proofs.Names.{spelled, Point, label_of, group_of, Told, About, marks, by_migrates, IsHeardLine, kernel_kept, by_parts, by_group, by_outcome, moved, nat_tests, arith}
 use Rattle.dm_movelaws.proofs.Stages.Marks.{marks_of, spelled_marks}
 use Rattle.dm_movelaws.proofs.Stages.Lines.{AllMild, mild_marks, net_marks}
-use Rattle.dm_movelaws.proofs.Stages.Turns.{round_mild, handles_mild}
-use Rattle.dm_movelaws.proofs.Stages.Hears.{Hears, Calms, Freezes, server_mild, process_hears}
+use Rattle.dm_movelaws.proofs.Stages.Hears.{round_mild, handles_mild, server_mild, process_hears}
+use Rattle.dm_movelaws.proofs.Leading.{All, lines_are, Saying}
+use Rattle.dm_rule.specs.Rule as rule
 
 -- lines that are no steps of the kernel without machines
 abbrev pub AllQuiet : List Line → Type 0
@@ -15,17 +14,14 @@ AllQuiet (l ∷ ls) = (label_of l ≡ None) × AllQuiet ls
 
 -- and parts
 abbrev QuietPart : Part → Type 0
-QuietPart (Says l) = label_of l ≡ None
-QuietPart _ = ⊤
+QuietPart = Saying (λ l. label_of l ≡ None)
 
 abbrev QuietParts : List Part → Type 0
-QuietParts [] = ⊤
-QuietParts (p ∷ ps) = QuietPart p × QuietParts ps
+QuietParts = All QuietPart
 
 -- what kernels tell each other of a process
 quiet_line : (l : Line) → IsHeardLine l → label_of l ≡ None
-quiet_line (Line.Label l) h = absurd h
-quiet_line _ h = refl
+quiet_line l h = grind (arith, nat_tests)
 
 kernel_quiet : (b : Boot) (o : Point) (m : ℕ) (i : MsgId) (k : MessageKind) (a : About) (ps : List Part) → rule.kernel_hears b o m i k a ≡ Some ps → QuietParts ps
 kernel_quiet b o m i k a ps e =
@@ -38,20 +34,12 @@ OrQuiet p ps = (marks_of p ps ≡ []) ⊎ QuietParts ps
 mild_or : (p : Pid) (front : Option MsgId) (ps : List Part) → AllMild p front ps → OrQuiet p ps
 mild_or p front ps h = inl (mild_marks p front ps h)
 
-process_or : (p : Pid) (i : MsgId) (t : Told) (k : Known) (ps : List Part) → Hears k i t ps → OrQuiet p ps
-process_or p i t k ps (Calms mild) = mild_or p (Some i) ps (mild p)
-process_or p i t k ps (Freezes here are) = inr (subst QuietParts (sym are) (refl, (refl, (tt, tt))))
-
 hears_by : (p : Pid) (b : Boot) (o : Point) (m : ℕ) (i : MsgId) (t : Told) (c d g : Bool) (ps : List Part)
     → (if c then rule.kernel_hears b o m i t.kind t.about else if d then server_told o i t t.kind else if g then server_told o i t t.kind else process_told o m i t (o.view.known m t.receiver)) ≡ Some ps → OrQuiet p ps
-hears_by p b o m i t true d g ps e = inr (kernel_quiet b o m i t.kind t.about ps e)
-hears_by p b o m i t false true g ps e = mild_or p (Some i) ps (server_mild o i t t.kind ps e p)
-hears_by p b o m i t false false true ps e = mild_or p (Some i) ps (server_mild o i t t.kind ps e p)
-hears_by p b o m i t false false false ps e = process_or p i t (o.view.known m t.receiver) ps (process_hears o m i t (o.view.known m t.receiver) ps e)
+hears_by p b o m i t c d g ps e = grind (arith, nat_tests, kernel_quiet, mild_or, server_mild, process_hears)
 
 hears_or : (p : Pid) (b : Boot) (o : Point) (m : ℕ) (i : MsgId) (q : Option Told) (ps : List Part) → rule.hears b o m i q ≡ Some ps → OrQuiet p ps
-hears_or p b o m i None ps e = cc
-hears_or p b o m i (Some t) ps e = hears_by p b o m i t (t.receiver.num == 0) (pid_eq t.receiver switchboard) (pid_eq t.receiver manager) ps e
+hears_or p b o m i q ps e = grind (arith, nat_tests, hears_by)
 
 migrates_quiet : (o : Point) (q : Pid) → QuietParts (migrates o q)
 migrates_quiet o q = by_migrates QuietParts o q (refl, tt) (refl, tt) (λ n off is. (tt, tt))
@@ -71,26 +59,8 @@ quiet_append : (xs ys : List Line) → AllQuiet xs → AllQuiet ys → AllQuiet 
 quiet_append [] ys h k = k
 quiet_append (x ∷ xs) ys h k = (h.0, quiet_append xs ys h.1 k)
 
-packet_quiet : (l : Line) (c d : Bool) → label_of l ≡ None → AllQuiet (if c then [] else if d then l ∷ [] else [])
-packet_quiet l true d h = tt
-packet_quiet l false true h = (h, tt)
-packet_quiet l false false h = tt
-
-puts_quiet : (pt : Point) (b : ℕ) (i : MsgId) (k : MessageKind) (q : Pid) (ls : List Line) → Some (puts pt.view b i k q) ≡ Some ls → AllQuiet ls
-puts_quiet pt b i k q ls is =
-    let f : puts pt.view b i k q ≡ ls = cc in
-    subst AllQuiet f (refl, packet_quiet (packet_line pt.view pt.view.acting b _) (pt.view.acting == b) (goes_out (pt.view.pair pt.view.acting b)) refl)
-
 part_quiet : (pt : Point) (p : Part) (ls : List Line) → QuietPart p → lines_of pt p ≡ Some ls → AllQuiet ls
-part_quiet pt (Says l) ls h is = let f : l ∷ [] ≡ ls = cc in subst AllQuiet f (h, tt)
-part_quiet pt (Routes i) ls h is =
-    let (m, there, last) = bind-is (pt.kernel.bag i) (λ m. Some (puts pt.view (pt.addresses (Receiver i)).at i (plain_kind m.what) m.to)) ls is in
-    puts_quiet pt (pt.addresses (Receiver i)).at i (plain_kind m.what) m.to ls last
-part_quiet pt (Again i b) ls h is =
-    let (t, there, last) = bind-is (pt.view.told i) (λ t. Some (puts pt.view b i t.kind t.receiver)) ls is in
-    puts_quiet pt b i t.kind t.receiver ls last
-part_quiet pt (Owns k q b) ls h is = puts_quiet pt b (own_id pt.view) k q ls is
-part_quiet pt (Transmits a b l) ls h is = let f : packet_line pt.view a b l ∷ [] ≡ ls = cc in subst AllQuiet f (refl, tt)
+part_quiet pt p ls h is = grind (arith, nat_tests, lines_are)
 
 parts_quiet : (ps : List Part) (pt : Point) (w : Spelled) → QuietParts ps → spelled pt ps ≡ Some w → AllQuiet w.lines
 parts_quiet qs q w h is = by_parts (λ ps pt v. QuietParts ps → AllQuiet v.lines) (λ pt h. tt) (λ p ps pt next ls z lines leads rest h. quiet_append ls z.lines (part_quiet pt p ls h.0 lines) (rest h.1)) qs q w is h

@@ -1,12 +1,12 @@
 -- Each line between a process's step 1 and its step 8 or `stays` is another's, and leaves its plain value.
 use Rattle.dm_movelaws.proofs.Names.{◌≡◌, ℕ, true, false, List, [], ◌∷◌, ◌++◌, is_some, refl, ap, ◌∙◌, sym, subst, inl, inr, Option, None, Some, false≢true, Pid, MsgId, MessageKind, Boot, Label, IsValid, OneKernel, bind, bind-is, Step}
-use Rattle.dm_movelaws.proofs.Names.{Line, Spelled, Phase, Moves, IsIn, Point, label_of, kernel_after, moved, after_line, after, first_point, group_of, View, Known, Frozen, Forward, first_view, rooted, is_fixed, LeadsBy, KnownIs, Both}
-use Rattle.dm_movelaws.proofs.Names.{both_start, both_group, after_replay, Run, run_start, run_group, IsAnothersIf, OpenStays, Mark, marks, kind_leaves}
+use Rattle.dm_movelaws.proofs.Names.{Line, Spelled, Phase, Moves, IsIn, Point, label_of, kernel_after, moved, after_line, after, first_point, group_of, View, Known, first_view, rooted, is_fixed, LeadsBy, KnownIs, Both, both_start}
+use Rattle.dm_movelaws.proofs.Names.{both_group, after_replay, Run, run_start, run_group, IsAnothersIf, OpenStays, Mark, marks, kind_leaves, append_assoc, start, replay, with_label, labels, labels-append, replay-append, AllOpen, OpenKeeps}
+use Rattle.dm_movelaws.proofs.Names.{nat_tests, arith}
 use Rattle.dm_movelaws.proofs.After.{after-append, group_after}
-use Rattle.dm_movelaws.proofs.Open.Apart.{AllAlone, moving_alone, kernel_same, alone_rest, anothers_if}
+use Rattle.dm_movelaws.proofs.Open.Apart.{AllAlone, moving_alone, kernel_same, alone_rest, anothers_if, source_knows, moving_lives}
 use Rattle.dm_movelaws.proofs.Open.Moves.{open_is, none_due, start_mark}
 use Rattle.dm_movelaws.proofs.Open.Quiet.{AllQuiet, group_or}
-use Rattle.dm_movelaws.proofs.Open.Spares.{source_knows, moving_lives}
 use Rattle.dm_movelaws.proofs.Stages.Always.{group_marked}
 use Rattle.dm_movelaws.proofs.Stages.Marks.{open_after, open-append, marks-append}
 use Rattle.dm_movelaws.proofs.Stages.Spares.{mark_in}
@@ -39,9 +39,7 @@ meets (x ∷ xs) ys l pt end e =
 
 -- a group of a process that moves
 leaves_free : (n : ℕ) (v : View) (m : ℕ) (p : Pid) (k : MessageKind) (d : ℕ) (x : Known) → kind_leaves k d x ≡ true → KnownIs n v m p x → is_fixed p ≡ false
-leaves_free n v m p k d (Frozen to) e h = h.2
-leaves_free n v m p k d (Forward at moves) e h = h.2
-leaves_free n v m p k d _ e h = absurd (false≢true e)
+leaves_free n v m p k d x e h = grind (arith, nat_tests)
 
 moving_at : (b : Boot) (pt : Point) (d : Step) (w : Spelled) (p : Pid) (k : MessageKind) (s t : ℕ) (id : Option MsgId) (earlier g : List Line) (l : Line) → Run b pt → IsIn pt.view p (Moves k s t id) → group_of b pt d ≡ Some w → w.lines ≡ earlier ++ l ∷ g → At pt earlier l p
 moving_at b pt d w p k s t id earlier g l run phase e split =
@@ -69,8 +67,7 @@ left_none [] ys e = refl
 left_none (x ∷ xs) ys e = cc
 
 kernel_none : (s t : OneKernel) (o : Option Label) (p : Pid) → o ≡ None → kernel_after s o ≡ Some t → t.processes p ≡ s.processes p
-kernel_none s t None p none e = ap (λ (k : OneKernel). k.processes p) (let f : t ≡ s = cc in f)
-kernel_none s t (Some l) p none e = cc
+kernel_none s t o p none e = grind (arith, nat_tests)
 
 resting_at : (b : Boot) (pt : Point) (d : Step) (w : Spelled) (p : Pid) (earlier g : List Line) (l : Line) → group_of b pt d ≡ Some w → w.lines ≡ earlier ++ l ∷ g → is_some (open_after None (marks p earlier)) ≡ true → At pt earlier l p
 resting_at b pt d w p earlier g l e split begun = elim (group_or p b pt d w e) [
@@ -150,3 +147,26 @@ open_stays b es ls earlier later l pt p valid leads split begun =
     let none = start_mark b p (phases.of p) (phases.each p) (none_due (first_view b) phases p) in
     let at = run_at b es ls earlier later l (first_point b) pt p valid leads h split (ap (λ (o : Option Mark). is_some (open_after o (marks p earlier))) none ∙ ap is_some (sym (open_is None (marks p earlier))) ∙ begun) in
     record { before = at.mid.kernel; comes = after_replay earlier (first_point b) at.mid at.comes; behind = at.next; goes = at.goes; anothers = at.anothers; same = at.same }
+
+-- one line
+rest_of : (o : Option Label) (ls : List Label) (s u t : OneKernel) → kernel_after s o ≡ Some u → replay s (with_label o ls) ≡ Some t → replay u ls ≡ Some t
+rest_of o ls s u t e f = grind (arith, nat_tests, bind-is)
+
+one_label : (o : Option Label) (s u : OneKernel) → kernel_after s o ≡ Some u → replay s (with_label o []) ≡ Some u
+one_label o s u e = grind (arith, nat_tests)
+
+keeps : (b : Boot) (es : List Step) (ls earlier between later : List Line) (pt : Point) (p : Pid) (s t : OneKernel) → IsValid b → LeadsBy b (first_point b) es ls pt → ls ≡ earlier ++ (between ++ later) → AllOpen p earlier between → replay (start b) (labels earlier) ≡ Some s
+    → replay s (labels between) ≡ Some t → t.processes p ≡ s.processes p
+keeps b es ls earlier [] later pt p s t valid leads split on e f = let g : t ≡ s = cc in ap (λ (k : OneKernel). k.processes p) g
+keeps b es ls earlier (l ∷ between) later pt p s t valid leads split on e f =
+    let a = open_stays b es ls earlier (between ++ later) l pt p valid leads split on.0 in
+    let at : a.before ≡ s = (let k : Some a.before ≡ Some s = sym a.comes ∙ e in cc) in
+    let goes : kernel_after s (label_of l) ≡ Some a.behind = ap (λ (k : OneKernel). kernel_after k (label_of l)) (sym at) ∙ a.goes in
+    let here : replay (start b) (labels (earlier ++ l ∷ [])) ≡ Some a.behind =
+    ap (replay (start b)) (labels-append earlier (l ∷ [])) ∙ replay-append (labels earlier) (labels (l ∷ [])) (start b) s a.behind e (one_label (label_of l) s a.behind goes) in
+    let more : ls ≡ (earlier ++ l ∷ []) ++ (between ++ later) = split ∙ sym (append_assoc earlier (l ∷ []) (between ++ later)) in
+    keeps b es ls (earlier ++ l ∷ []) between later pt p a.behind t valid leads more on.1 here (rest_of (label_of l) (labels between) s a.behind t goes f) ∙ a.same ∙ ap (λ (k : OneKernel). k.processes p) at
+
+-- wherever the rule leads
+pub open_keeps : OpenKeeps
+open_keeps = keeps

@@ -1,53 +1,32 @@
 -- Each step of a process or of its kernel keeps one message under each pending request's number.
-use Rattle.dm_movelaws.proofs.Names.{◌≡◌, ℕ, Bool, true, false, refl, ap, ◌∙◌, take, drop, if◌then◌else◌, None, Some, Pid, pid_eq, MsgId, PlainMessage, PlainWhat, manager, Label, bind, PlainProcess, PlainStatus, Waiting, Alive, OneKernel}
-use Rattle.dm_movelaws.proofs.Names.{with_sent, answer_to, without_message, is_dropped, is_of_memory, lands-is, Sound, not_server, bind-is, length, id_of, by_step, is_served}
+use Rattle.dm_movelaws.proofs.Names.{◌≡◌, ℕ, Bool, true, false, refl, ap, ◌∙◌, take, drop, if◌then◌else◌, None, Some, Pid, pid_eq, MsgId, PlainMessage, PlainWhat, manager, Label, bind, PlainProcess, Alive, OneKernel, with_sent, answer_to}
+use Rattle.dm_movelaws.proofs.Names.{without_message, is_dropped, is_of_memory, lands-is, Sound, not_server, bind-is, length, id_of, by_step, is_served, nat_tests, arith}
+use Rattle.dm_laws.proofs.Entered.{asks}
+use Rattle.dm_movelaws.proofs.Pending.Pairs.{is_create, Neither, neither, Ones, out_ones, put_ones, from_other, answered_ones, made_ones, Off}
 use Rattle.dm_onekernel.specs.Pieces as pieces
 use Rattle.dm_onekernel.specs.Receiving as receiving
 use Rattle.dm_onekernel.specs.Service as service
 use Rattle.dm_onekernel.specs.Step as kernel
-use Rattle.dm_laws.proofs.Entered.{asks}
-use Rattle.dm_movelaws.proofs.Pending.Pairs.{is_create, Neither, neither, Ones, out_ones, put_ones, from_other, answered_ones, made_ones}
 use Rattle.dm_onekernel.specs.Manager as manage
 use Rattle.dm_onekernel.specs.Switchboard as board
-use Rattle.dm_movelaws.proofs.Pending.Pairs.{Off}
 
 -- what a process receives is a user message
-completes_user : (p : Pid) (x : PlainProcess) (m : PlainMessage) (mask base size : ℕ) (w : PlainWhat) (c : receiving.Completed) → m.what ≡ w → receiving.completes_what p x m mask base size w ≡ Some c → Neither m.what
-completes_user p x m mask base size (PlainWhat.User code channel body links) c e is = neither m.what (PlainWhat.User code channel body links) e refl refl
-completes_user p x m mask base size w c e is = cc
-
-completes_status : (p : Pid) (x : PlainProcess) (m : PlainMessage) (st : PlainStatus) (c : receiving.Completed) → receiving.completes_status p x m st ≡ Some c → Neither m.what
-completes_status p x m (Waiting mask base size) c is = completes_user p x m mask base size m.what c refl is
-completes_status p x m _ c is = cc
-
 completes_if : (p : Pid) (x : PlainProcess) (m : PlainMessage) (stopped : Bool) (c : receiving.Completed) → (if stopped then None else receiving.completes_status p x m x.status) ≡ Some c → Neither m.what
-completes_if p x m true c is = cc
-completes_if p x m false c is = completes_status p x m x.status c is
+completes_if p x m stopped c is = grind (arith, nat_tests)
 
 -- dropped, or its receiver has ended
 dropped_neither : (v w : PlainWhat) → v ≡ w → is_dropped w ≡ true → Neither v
-dropped_neither v (PlainWhat.Create image links) e d = cc
-dropped_neither v (PlainWhat.Created child) e d = cc
-dropped_neither v PlainWhat.NoRoom e d = cc
-dropped_neither v w e d = neither v w e refl refl
+dropped_neither v w e d = grind (arith, nat_tests, neither)
 
 memory_asks : (w : PlainWhat) → is_of_memory w ≡ true → (asks w ≡ true) × (is_create w ≡ false)
-memory_asks (PlainWhat.Read base len) e = (refl, refl)
-memory_asks (PlainWhat.Write base bytes) e = (refl, refl)
-memory_asks w e = cc
+memory_asks w e = grind (arith, nat_tests)
 
 memory_neither : (v w : PlainWhat) → v ≡ w → is_of_memory w ≡ true → Neither v
-memory_neither v (PlainWhat.Read base len) e m = neither v (PlainWhat.Read base len) e refl refl
-memory_neither v (PlainWhat.Write base bytes) e m = neither v (PlainWhat.Write base bytes) e refl refl
-memory_neither v w e m = cc
+memory_neither v w e m = grind (arith, nat_tests, neither)
 
 -- what the kernel of a living process serves
 served_neither : (v w : PlainWhat) → v ≡ w → is_served w ≡ true → Neither v
-served_neither v (PlainWhat.User code channel body links) e s = cc
-served_neither v (PlainWhat.Create image links) e s = cc
-served_neither v (PlainWhat.Created child) e s = cc
-served_neither v PlainWhat.NoRoom e s = cc
-served_neither v w e s = neither v w e refl refl
+served_neither v w e s = grind (arith, nat_tests, neither)
 
 -- a name of a process's own
 own_off : (r e : MsgId → ℕ) (s : OneKernel) (p : Pid) (x : PlainProcess) (i : MsgId) (k : ℕ) → Sound r e s → s.processes p ≡ Some (Alive x) → i ≡ id_of p k → (n : ℕ) → Off i n

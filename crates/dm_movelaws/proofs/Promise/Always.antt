@@ -1,7 +1,7 @@
 -- Each update that is under way keeps its promise: where all is at rest, the links that its receiver hasn't filled since lead to
 -- where the process is that it is about.
-use Rattle.dm_movelaws.proofs.Names.{◌≡◌, ℕ, ◌+◌, ◌<◌, ◌≤◌, true, List, [], ◌∷◌, ◌++◌, length, refl, ap, ◌∙◌, sym, arith, slice_get, Option, Some, slice_get_within, Pid, Place, MsgId, Boot, IsValid, OneKernel, pid_eq-same, Step, Line, Slot}
-use Rattle.dm_movelaws.proofs.Names.{belongs_to, leads_to, Leads, Point, first_point, Trails, Told, About, based_group, based_always, Based, AtRest, AtRestAlways, update_of, Promised, PromisesAlways, Updated, UpdatesAlways}
+use Rattle.dm_movelaws.proofs.Names.{◌≡◌, ℕ, ◌+◌, ◌<◌, ◌≤◌, List, [], ◌∷◌, ◌++◌, length, refl, ap, ◌∙◌, sym, arith, slice_get, Some, slice_get_within, Pid, Place, MsgId, Boot, IsValid, pid_eq-same, Step, Line, Slot, leads_to, Leads, Point}
+use Rattle.dm_movelaws.proofs.Names.{first_point, Trails, based_group, based_always, Based, AtRest, AtRestAlways, update_of, Promised, PromisesAlways, Updated, UpdatesAlways, nat_tests}
 use Rattle.dm_movelaws.proofs.At.RestAlways.{at_rest_always}
 use Rattle.dm_movelaws.proofs.Updates.Always.{updates_always}
 use Rattle.dm_movelaws.proofs.Promise.Trail.{OnTrail, TrailKnown}
@@ -15,30 +15,14 @@ use Rattle.dm_movelaws.proofs.Promise.Finds.{lines_by, leads_append, Handles, fi
 same_place : (a b : Place) → a.at ≡ b.at → a.moves ≡ b.moves → a ≡ b
 same_place a b e f = λ i. record { at = e i; moves = f i }
 
-same_some : (m n : ℕ) → Some m ≡ Some n → m ≡ n
+pub same_some : (m n : ℕ) → Some m ≡ Some n → m ≡ n
 same_some m n e = cc
 
 -- what the record of the update says is what was told
-same_told : (t u : Told) (o : Option Told) → o ≡ Some t → o ≡ Some u → t ≡ u
-same_told t u o e f = let g : Some t ≡ Some u = sym e ∙ f in cc
-
-about_process : (p q : Pid) (a b m n : ℕ) → About.Place p a m ≡ About.Place q b n → p ≡ q
-about_process p q a b m n e = cc
-
-about_moves : (p q : Pid) (a b m n : ℕ) → About.Place p a m ≡ About.Place q b n → m ≡ n
-about_moves p q a b m n e = cc
 
 -- where the group that handles it leads, each link of its receiver's to the process knows as many moves
 raised_at : (at next : Point) (id : MsgId) (n : ℕ) (p q : Pid) (place : Place) (k : ℕ) → Updated at next id n → at.view.told id ≡ Some (update_of p q place) → leads_to next.kernel (Slot p k) ≡ Some q → place.moves ≤ (next.addresses (Slot p k)).moves
-raised_at at next id n p q place k u told leads =
-    let same : u.told ≡ update_of p q place = same_told u.told (update_of p q place) (at.view.told id) u.is told in
-    let about : About.Place u.process u.place.at u.place.moves ≡ About.Place q place.at place.moves = sym u.about ∙ ap (λ (t : Told). t.about) same in
-    let process : u.process ≡ q = about_process u.process q u.place.at place.at u.place.moves place.moves about in
-    let moves : u.place.moves ≡ place.moves = about_moves u.process q u.place.at place.at u.place.moves place.moves about in
-    let mine : belongs_to u.told.receiver (Slot p k) ≡ true = ap (λ (t : Told). belongs_to t.receiver (Slot p k)) same ∙ pid_eq-same p in
-    let led : leads_to at.kernel (Slot p k) ≡ Some u.process = ap (λ (s : OneKernel). leads_to s (Slot p k)) (sym u.kernel) ∙ leads ∙ ap Some (sym process) in
-    let least = u.raised (Slot p k) mine led in
-    omega (arith, moves, least)
+raised_at at next id n p q place k u told leads = grind (arith, nat_tests, pid_eq-same)
 
 -- and where all is at rest, it names the place that the update told
 kept_place : (pt : Point) (t : Trails) (id : MsgId) (p q : Pid) (place : Place) (k : ℕ) → OnTrail pt t → AtRest pt → pt.view.told id ≡ Some (update_of p q place) → pt.view.moves q ≡ place.moves → leads_to pt.kernel (Slot p k) ≡ Some q → place.moves ≤ (pt.addresses (Slot p k)).moves

@@ -1,14 +1,12 @@
 -- Where no line gives a slot an address, a link in it was there before.
-use Rattle.dm_movelaws.proofs.Names.{◌≡◌, ℕ, ◌==◌, ◌&&◌, ◌||◌, Bool, true, false, List, [], ◌∷◌, refl, ap, ◌∙◌, sym, subst, inl, inr, arith, if◌then◌else◌, Option, None, Some, cases_Bool, false≢true, Pid, Place, pid_eq, PlainMessage, Label}
-use Rattle.dm_movelaws.proofs.Names.{OneKernel, pid_eq-is, pid_eq-same, View, Addresses, Holder, Slot, Gets, gives, given, holder_eq, leads_to, unmoved, ascends, names, eq_is, eq_self, parts, AtHome, HomesAre, homes_are, at_home, SaidOn}
-use Rattle.dm_movelaws.proofs.Names.{label_on, gives_to}
-use Rattle.dm_onekernel.specs.Step as kernel
+use Rattle.dm_movelaws.proofs.Names.{◌≡◌, ℕ, ◌==◌, ◌&&◌, ◌||◌, Bool, true, false, List, [], ◌∷◌, refl, ap, ◌∙◌, arith, if◌then◌else◌, Option, None, Some, Pid, Place, PlainMessage, Label, OneKernel, pid_eq-same, View, Addresses, Holder}
+use Rattle.dm_movelaws.proofs.Names.{Slot, Gets, gives, given, holder_eq, leads_to, unmoved, ascends, eq_self, AtHome, HomesAre, homes_are, at_home, SaidOn, label_on, gives_to, nat_tests}
 use Rattle.dm_rule.proofs.Homes.Serves.{Named}
 use Rattle.dm_movelaws.proofs.Promise.Slots.{same_given, gives_same}
+use Rattle.dm_onekernel.specs.Step as kernel
 
-neither : (c d : Bool) → (c || d) ≡ false → (c ≡ false) × (d ≡ false)
-neither true d e = absurd (false≢true (sym e))
-neither false d e = (refl, e)
+pub neither : (c d : Bool) → (c || d) ≡ false → (c ≡ false) × (d ≡ false)
+neither c d e = grind (arith, nat_tests)
 
 pub not_given : (a : Addresses) (h : Holder) (gs : List Gets) → gives_to h gs ≡ false → given a gs h ≡ a h
 not_given a h [] e = refl
@@ -40,37 +38,17 @@ Was s p k q place = place.moves ≡ 1 → leads_to s (Slot p k) ≡ Some q
 none_was : (s : OneKernel) (p : Pid) (k : ℕ) (q : Pid) (place : Place) → place.moves ≡ 0 → Was s p k q place
 none_was s p k q place zero_ one = absurd (omega (arith, zero_, one))
 
-slot_is : (p : Pid) (k : ℕ) (h : Holder) → holder_eq h (Slot p k) ≡ true → h ≡ Slot p k
-slot_is p k (Slot q l) e =
-    let both = parts (pid_eq q p) (l == k) e in
-    ap (λ (r : Pid). Slot r l) (pid_eq-is q p both.0) ∙ ap (Slot p) (eq_is l k both.1)
-slot_is p k _ e = absurd (false≢true e)
-
 slot_same : (p : Pid) (k : ℕ) → holder_eq (Slot p k) (Slot p k) ≡ true
 slot_same p k = ap (λ (c : Bool). c && (k == k)) (pid_eq-same p) ∙ eq_self k
 
 marks_are : (s : OneKernel) (p : Pid) (k : ℕ) → HomesAre (Was s p k) s (marked p k)
-marks_are s p k h q e = elim (cases_Bool (holder_eq h (Slot p k))) [
-  | inl same ↦ λ one. subst (λ (g : Holder). names s g ≡ Some q) (slot_is p k h same) e
-  | inr off ↦ none_was s p k q (marked p k h) (ap (λ (c : Bool). (if c then record { at = 0; moves = 1 } else unmoved 0).moves) off)
-]
+marks_are s p k h q e = grind (arith, nat_tests, none_was)
 
 said_marked : (s : OneKernel) (v : View) (p : Pid) (k : ℕ) (l : Label) → SaidOn (Was s p k) s (still_view s v l) (marked p k) l
-said_marked s v p k (Label.Call r n c) = λ one. absurd (omega (arith, one))
-said_marked s v p k (Label.Send r id) = λ one. absurd (omega (arith, one))
-said_marked s v p k (Label.Wait r) = λ one. absurd (omega (arith, one))
-said_marked s v p k (Label.Out r x) = λ one. absurd (omega (arith, one))
-said_marked s v p k (Label.Served id) = λ m there one. absurd (omega (arith, one))
-said_marked s v p k (Label.Gone id) = λ m there one. absurd (omega (arith, one))
-said_marked s v p k (Label.Took id) = λ m there. sym (ap home_in there)
-said_marked s v p k (Label.Created id child) = λ m there. sym (ap home_in there)
-said_marked s v p k (Label.NoSpace id f b) = λ m there. sym (ap home_in there)
-said_marked s v p k _ = tt
+said_marked s v p k l = grind (arith, nat_tests)
 
 marked_home : (s t : OneKernel) (v : View) (l : Label) (p : Pid) (k : ℕ) → kernel.step s l ≡ Some t → Named s → ascends 0 s.manager.pending s.manager.sent ≡ true → AtHome (Was s p k) t (given (marked p k) (gives s (still_view s v l) (marked p k) l))
-marked_home s t v l p k is named pending =
-    label_on (Was s p k) s t (still_view s v l) (marked p k) l is named (said_marked s v p k l)
-    (at_home (Was s p k) s (marked p k) (λ q. none_was s p k q (unmoved q.home) refl) (marks_are s p k) pending)
+marked_home s t v l p k is named pending = search (label_on, said_marked, at_home, none_was, marks_are)
 
 -- the manager's requests stay in their order
 pub step_pending : (s t : OneKernel) (v : View) (l : Label) → kernel.step s l ≡ Some t → Named s → ascends 0 s.manager.pending s.manager.sent ≡ true → ascends 0 t.manager.pending t.manager.sent ≡ true

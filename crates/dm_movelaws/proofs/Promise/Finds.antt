@@ -1,6 +1,6 @@
 -- Where nothing is on its way any more, an update that was under way was handled by the first group that says so.
-use Rattle.dm_movelaws.proofs.Names.{◌≡◌, ℕ, ◌≤◌, List, [], ◌∷◌, ◌++◌, refl, ap, sym, subst, inl, inr, arith, Some, Pid, Place, MsgId, Boot, Step, Line, Leads, IsStep, Spelled, Point, after, group_of, Spot, standing, Phased, phased_group}
-use Rattle.dm_movelaws.proofs.Names.{LeadsBy, update_of}
+use Rattle.dm_movelaws.proofs.Names.{◌≡◌, ℕ, List, [], ◌∷◌, ◌++◌, refl, ap, sym, subst, inl, inr, arith, Some, Pid, Place, MsgId, Boot, Step, Line, Leads, IsStep, Spelled, Point, after, group_of, Spot, standing, Phased, phased_group}
+use Rattle.dm_movelaws.proofs.Names.{LeadsBy, update_of, nat_tests}
 use Rattle.dm_movelaws.proofs.After.{after-append, group_after}
 use Rattle.dm_movelaws.proofs.Promise.Kept.{lines_told}
 use Rattle.dm_movelaws.proofs.Promise.Spots.{Stands}
@@ -54,8 +54,7 @@ later b pt end d w es id fit is h = record {
 }
 
 pub find_handled : (b : Boot) (es : List Step) (pt end : Point) (id : MsgId) (p q : Pid) (place : Place) → Leads b pt es end → Phased pt → pt.view.told id ≡ Some (update_of p q place) → Stands pt.view id → ((z : Spot) → standing end.view id z ≡ 0) → Handles b pt end es id
-find_handled b [] pt end id p q place leads phased told h none =
-    absurd (let there : 1 ≤ standing end.view id h.spot = subst (λ (x : Point). 1 ≤ standing x.view id h.spot) leads h.least in let zero_ = none h.spot in omega (arith, there, zero_))
+find_handled b [] pt end id p q place leads phased told h none = grind (arith, nat_tests)
 find_handled b (d ∷ es) pt end id p q place (w, fit, is, rest) phased told h none =
     elim (group_ends b pt d w id p q place is phased told h) [
       | inl there ↦

@@ -1,28 +1,22 @@
 -- Each group leaves an update that is under way standing somewhere, or says that it was handled, and nothing else.
-use Rattle.dm_movelaws.proofs.Names.{◌≡◌, ◌⊎◌, ℕ, ◌≤◌, Bool, true, false, List, [], ◌∷◌, ◌==◌, ◌&&◌, length, refl, ap, ◌∙◌, sym, subst, inl, inr, Option, None, Some, cases_Bool, false≢true, Pid, Place, MsgId, MessageKind, id_eq, plain_kind}
-use Rattle.dm_movelaws.proofs.Names.{PlainMessage, PlainWhat, Boot, id_eq-is, Step, Line, View, Pair, marked, Told, is_kernels, after_head, Point, Part, Says, Transmits, Spelled, packet_line, spelled, standing, migrates, group_of, letters}
-use Rattle.dm_movelaws.proofs.Names.{not_kernels, eq_is, not_true, parts, IsNet, fits, under_way, kernels_by, Phased, set_is, set_other, PairsFit, Sane, begun, begun_sane, said_by, update_of, by_migrates, by_outcome, group_is}
-use Rattle.dm_rule.specs.Rule as rule
+use Rattle.dm_movelaws.proofs.Names.{◌≡◌, ◌⊎◌, ℕ, Bool, true, false, List, [], ◌∷◌, refl, ap, ◌∙◌, sym, subst, inl, inr, Option, None, Some, false≢true, Pid, Place, MsgId, MessageKind, id_eq, plain_kind, PlainMessage, PlainWhat, Boot}
+use Rattle.dm_movelaws.proofs.Names.{id_eq-is, Step, Line, Told, is_kernels, Point, Part, Spelled, spelled, migrates, group_of, not_kernels, not_true, IsNet, fits, under_way, kernels_by, Phased, PairsFit, Sane, begun, begun_sane}
+use Rattle.dm_movelaws.proofs.Names.{update_of, by_migrates, by_outcome, group_is, nat_tests, arith}
 use Rattle.dm_movelaws.proofs.Promise.Kept.{told_stays}
-use Rattle.dm_movelaws.proofs.Promise.Spots.{Stands}
-use Rattle.dm_movelaws.proofs.Promise.Stands.{packet_stands, head_stands, net_stands}
-use Rattle.dm_movelaws.proofs.Promise.Parts.{all_loose, GoesOf, next_of}
-use Rattle.dm_movelaws.proofs.Promise.Rows.{Waits, loose_row, round_goes, handles_goes}
+use Rattle.dm_movelaws.proofs.Promise.Spots.{Stands, packet_stands, head_stands, net_stands}
+use Rattle.dm_movelaws.proofs.Promise.Parts.{all_loose, GoesOf, Waits, loose_row, round_goes, handles_goes, Goes}
+use Rattle.dm_movelaws.proofs.Leading.{net_lead}
 use Rattle.dm_movelaws.proofs.Promise.Told.{hears_goes, hears_this}
-use Rattle.dm_movelaws.proofs.Promise.Parts.{Goes}
+use Rattle.dm_rule.specs.Rule as rule
 
 -- no message of the bag is an update
 no_update : (k : PlainWhat) → plain_kind k ≡ MessageKind.Update → ⊥
-no_update (PlainWhat.User x1 x2 x3 x4) e = cc
-no_update _ e = cc
+no_update k e = grind (arith, nat_tests)
 
 -- an update that is under way is a kernel's own message
 pub update_own : (pt : Point) (j : MsgId) (t : Told) (o : Option PlainMessage) → pt.kernel.bag j ≡ o → t.kind ≡ MessageKind.Update → pt.view.told j ≡ Some t → Stands pt.view j → Phased pt → is_kernels j ≡ true
 update_own pt j t (Some m) there update told h phased = absurd (no_update m.what (sym (phased.sane.tells.kind j m t there told) ∙ update))
-update_own pt j t None there update told h phased =
-    let s = phased.state in
-    let (q, way) = under_way (letters s.own pt.kernel.bag j) (standing pt.view j) h.spot h.least (s.stands.kept j) in
-    kernels_by s.own pt.kernel.bag j q (is_kernels j) refl there way
+update_own pt j t None there update told h phased = grind (arith, nat_tests, under_way, kernels_by)
 
 -- a turn
 turned_by : (b : Boot) (o : Point) (m : ℕ) (j : MsgId) (p q : Pid) (place : Place) (i : MsgId) (is : List MsgId) (ps : List Part) (c : Bool) → id_eq i j ≡ c → o.view.inbox m ≡ i ∷ is → Waits j (update_of p q place) (begun o (Step.Turn m)) → rule.hears b o m i (o.view.told i) ≡ Some ps → Goes j (begun o (Step.Turn m)) ps
@@ -30,24 +24,14 @@ turned_by b o m j p q place i is ps true e front h said =
     let same : i ≡ j = id_eq-is i j e in
     let pt = begun o (Step.Turn m) in
     subst (GoesOf j pt) (ap (rule.hears b o m j) (sym h.base.told) ∙ ap (λ (x : MsgId). rule.hears b o m x (o.view.told x)) (sym same) ∙ said) (hears_this j pt b o m p q place h)
-turned_by b o m j p q place i is ps false e front h said =
-    hears_goes j (update_of p q place) (begun o (Step.Turn m)) b o m i (o.view.told i) ps (λ r. refl) h (record { front = record { first = i; rest = is; is = front; apart = e }; apart = e }) said
+turned_by b o m j p q place i is ps false e front h said = search hears_goes
 
 bag_apart : (pt : Point) (i j : MsgId) (x : PlainMessage) → Sane pt → pt.kernel.bag i ≡ Some x → is_kernels j ≡ true → id_eq i j ≡ false
 bag_apart pt i j x h there own = not_true (id_eq i j) (λ f. false≢true (sym (not_kernels h.r h.e pt.kernel i x there h.sound) ∙ ap is_kernels (id_eq-is i j f) ∙ own))
 
 -- packets and what they bring
 net_goes : (ps : List Part) (j : MsgId) (pt : Point) (w : Spelled) → IsNet ps → Stands pt.view j → spelled pt ps ≡ Some w → Stands w.point.view j
-net_goes [] j pt w net h is = let f : record { lines = []; point = pt } ≡ w = cc in subst (λ (x : Spelled). Stands x.point.view j) f h
-net_goes (Says l ∷ ps) j pt w net h is =
-    let n = next_of pt (Says l) ps w is in
-    let k = said_by pt n.next l n.steps in
-    subst (λ (x : Point). Stands x.view j) n.point (net_goes ps j n.next n.rest net.1 (subst (λ (x : Point). Stands x.view j) k.is (net_stands pt.view l j net.0 h)) n.more)
-net_goes (Transmits a b l ∷ ps) j pt w net h is =
-    let n = next_of pt (Transmits a b l) ps w is in
-    let k = said_by pt n.next (packet_line pt.view a b l) (record { lines = n.steps.lines; are = n.steps.are; leads = n.steps.leads }) in
-    subst (λ (x : Point). Stands x.view j) n.point (net_goes ps j n.next n.rest net.1 (subst (λ (x : Point). Stands x.view j) k.is (packet_stands pt.view a b (length (pt.view.pair a b).wire) l j h)) n.more)
-net_goes _ j pt w net h is = absurd net.0
+net_goes ps j pt w net h is = net_lead (λ x. Stands x.view j) (λ x a c n l f. packet_stands x.view a c n l j f) (λ q s l line there. net_stands q.view l j line there) ps pt w net is h
 
 -- a directive to move a process
 migrates_loose : (o : Point) (p : Pid) → all_loose (migrates o p) ≡ true
@@ -66,25 +50,8 @@ outcome_goes b o d ps j p q place h = by_outcome (λ e. Goes j (begun o e)) b o 
 })
 
 -- a head leaves the streams as they are
-delivered_fits : (v : View) (a b k : ℕ) → PairsFit v → PairsFit (after_head v (Step.Deliver a b k))
-delivered_fits v a b k h = record {
-  within = λ c d. elim (cases_Bool ((a == c) && (b == d))) [
-    | inl same ↦ subst (λ (p : Pair). p.taken ≤ length p.ids) (sym (set_is v.pair a b (marked (v.pair a b) k) c d same)) (h.within a b)
-    | inr off ↦ subst (λ (p : Pair). p.taken ≤ length p.ids) (sym (set_other v.pair a b (marked (v.pair a b) k) c d off)) (h.within c d)
-  ];
-  home = λ c. elim (cases_Bool ((a == c) && (b == c))) [
-    | inl same ↦
-        let both = parts (a == c) (b == c) same in
-        let ab : a ≡ b = eq_is a c both.0 ∙ sym (eq_is b c both.1) in
-        let was : (v.pair a b).taken ≡ length (v.pair a b).ids = subst (λ n. (v.pair a n).taken ≡ length (v.pair a n).ids) ab (h.home a) in
-        subst (λ (p : Pair). p.taken ≡ length p.ids) (sym (set_is v.pair a b (marked (v.pair a b) k) c c same)) was
-    | inr off ↦ subst (λ (p : Pair). p.taken ≡ length p.ids) (sym (set_other v.pair a b (marked (v.pair a b) k) c c off)) (h.home c)
-  ];
-}
-
 head_fits : (o : Point) (d : Step) → PairsFit o.view → PairsFit (begun o d).view
-head_fits o (Step.Deliver a b k) h = delivered_fits o.view a b k h
-head_fits o _ h = record { within = h.within; home = h.home }
+head_fits o d h = grind (arith, nat_tests)
 
 waits_begun : (o : Point) (d : Step) (j : MsgId) (t : Told) → t.kind ≡ MessageKind.Update → o.view.told j ≡ Some t → Stands o.view j → Phased o → Waits j t (begun o d)
 waits_begun o d j t update told h phased = record {

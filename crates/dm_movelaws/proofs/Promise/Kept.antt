@@ -1,19 +1,12 @@
 -- As long as no line gives a slot an address, its address doesn't come to know fewer moves; and what was told stays.
-use Rattle.dm_movelaws.proofs.Names.{◌≡◌, ℕ, ◌+◌, ◌≤◌, ◌&&◌, nat_lt, Bool, true, false, List, [], ◌∷◌, ◌++◌, refl, ap, ◌∙◌, sym, subst, inl, inr, arith, if◌then◌else◌, Option, None, Some, cases_Bool, nat_tests, Pid, Place, MsgId}
-use Rattle.dm_movelaws.proofs.Names.{MessageKind, id_eq, Label, OneKernel, entry, reception, id_eq-is, after_step, Sound, bind-is, Line, View, Told, view_after, Addresses, Holder, Slot, Gets, given, gives, forwards, told_back_gets}
-use Rattle.dm_movelaws.proofs.Names.{all_follow, first_gives, own_gives, is_told_back, is_behind, is_pid, belongs_to, leads_to, updated, updated_to, place_told, addresses_after, ascends, Point, label_of, kernel_after, after_line, after}
-use Rattle.dm_movelaws.proofs.Names.{moved, parts, hushed, put_at, put_told_off, gives_to, fills, Unfilled, first_kept}
-use Rattle.dm_rule.specs.View as view
+use Rattle.dm_movelaws.proofs.Names.{◌≡◌, ℕ, ◌+◌, ◌≤◌, true, false, List, [], ◌∷◌, refl, ap, ◌∙◌, sym, subst, arith, Option, None, Some, nat_tests, Pid, Place, MsgId, MessageKind, Label, OneKernel, entry, reception, id_eq-is, after_step}
+use Rattle.dm_movelaws.proofs.Names.{Sound, bind-is, Line, View, Told, view_after, Addresses, Holder, Slot, Gets, given, gives, all_follow, first_gives, leads_to, updated, addresses_after, ascends, Point, label_of, kernel_after, after_line}
+use Rattle.dm_movelaws.proofs.Names.{after, moved, hushed, put_at, put_told_off, gives_to, fills, Unfilled, first_kept}
 use Rattle.dm_movelaws.proofs.Promise.Before.{not_given, step_pending, led_before}
+use Rattle.dm_rule.specs.View as view
 
 put_told : (v : View) (a b : ℕ) (i j : MsgId) (k : MessageKind) (q : Pid) (t : Told) → v.told j ≡ Some t → (view.after_put v a b i k q).told j ≡ Some t
-put_told v a b i j k q t e = elim (cases_Bool (id_eq i j)) [
-  | inl same ↦
-      let is : i ≡ j = id_eq-is i j same in
-      subst (λ (x : MsgId). (view.after_put v a b i k q).told x ≡ Some t) is
-      (put_at v a b i k q ∙ first_kept (v.told i) (record { kind = k; receiver = q; about = v.topic }) t (ap v.told is ∙ e))
-  | inr apart ↦ put_told_off v a b i j k q apart ∙ e
-]
+put_told v a b i j k q t e = grind (arith, nat_tests, id_eq-is, put_at, first_kept, put_told_off)
 
 pub told_stays : (v : View) (l : Line) (j : MsgId) (t : Told) → v.told j ≡ Some t → (view_after v l).told j ≡ Some t
 told_stays v (Line.Put a b i k q) j t e = put_told v a b i j k q t e
@@ -24,54 +17,18 @@ told_stays v any_ j t e = ap (λ (f : MsgId → Option Told). f j) (hushed v any
 same_address : (a : Addresses) (p : Pid) (k : ℕ) (gs : List Gets) → gives_to (Slot p k) gs ≡ false → (a (Slot p k)).moves ≤ (given a gs (Slot p k)).moves
 same_address a p k gs e = let f : (given a gs (Slot p k)).moves ≡ (a (Slot p k)).moves = ap (λ (x : Place). x.moves) (not_given a (Slot p k) gs e) in omega (arith, f)
 
-back_spares : (v : View) (a : Addresses) (id : MsgId) (c : Bool) (p : Pid) (k : ℕ) → gives_to (Slot p k) (told_back_gets v a id c) ≡ false
-back_spares v a id true p k = refl
-back_spares v a id false p k = refl
-
-forwards_spare : (v : View) (a : Addresses) (id : MsgId) (o : Option Told) (p : Pid) (k : ℕ) → gives_to (Slot p k) (forwards v a id o) ≡ false
-forwards_spare v a id None p k = refl
-forwards_spare v a id (Some t) p k = back_spares v a id (is_told_back t.kind) p k
-
 follow_spares : (v : View) (a : Addresses) (r : Pid) (ids : List MsgId) (p : Pid) (k : ℕ) → gives_to (Slot p k) (all_follow v a r ids) ≡ false
 follow_spares v a r [] p k = refl
 follow_spares v a r (i ∷ is) p k = follow_spares v a r is p k
 
-own_spares : (s : OneKernel) (v : View) (a : Addresses) (id : MsgId) (q : Pid) (c : MessageKind) (p : Pid) (k : ℕ) → gives_to (Slot p k) (own_gives s v a id q c) ≡ false
-own_spares s v a id q MessageKind.Ask p k = refl
-own_spares s v a id q _ p k = refl
-
 first_spares : (o : Option Told) (gs : List Gets) (p : Pid) (k : ℕ) → gives_to (Slot p k) gs ≡ false → gives_to (Slot p k) (first_gives o gs) ≡ false
-first_spares None gs p k e = e
-first_spares (Some t) gs p k e = refl
-
-less_than : (m n : ℕ) → nat_lt m n ≡ true → m ≤ n
-less_than m n e = grind (arith, nat_tests)
-
-raised_by : (a : Place) (b : Place) (c : Bool) → (c ≡ true → nat_lt a.moves b.moves ≡ true) → a.moves ≤ (if c then b else a).moves
-raised_by a b true h = less_than a.moves b.moves (h refl)
-raised_by a b false h = omega arith
-
-updated_grows : (s : OneKernel) (a : Addresses) (q : Pid) (o : Option (Pid × Place)) (h : Holder) → (a h).moves ≤ (updated_to s a (Some q) o h).moves
-updated_grows s a q None h = omega arith
-updated_grows s a q (Some t) h =
-    raised_by (a h) t.1 (is_behind s a q t.0 t.1.moves h)
-    (λ e. (parts (is_pid t.0 (leads_to s h)) (nat_lt (a h).moves t.1.moves) (parts (belongs_to q h) (is_pid t.0 (leads_to s h) && nat_lt (a h).moves t.1.moves) e).1).1)
+first_spares o gs p k e = grind (arith, nat_tests)
 
 told_grows : (s : OneKernel) (v : View) (a : Addresses) (o : Option Told) (h : Holder) → (a h).moves ≤ (updated s v a o h).moves
-told_grows s v a None h = omega arith
-told_grows s v a (Some t) h = updated_grows s a t.receiver (place_told t.about) h
+told_grows s v a o h = grind (arith, nat_tests)
 
 moves_grow : (pt : Point) (l : Line) (p : Pid) (k : ℕ) → fills pt (Slot p k) l ≡ false → (pt.addresses (Slot p k)).moves ≤ (addresses_after pt.kernel pt.view pt.addresses l (Slot p k)).moves
-moves_grow pt (Line.Label x) p k e = same_address pt.addresses p k (gives pt.kernel pt.view pt.addresses x) e
-moves_grow pt (Line.Forwarded id m) p k e = same_address pt.addresses p k (forwards pt.view pt.addresses id (pt.view.told id)) (forwards_spare pt.view pt.addresses id (pt.view.told id) p k)
-moves_grow pt (Line.SentOn r n) p k e =
-    let ids = pt.view.queue pt.view.acting r ++ pt.view.held pt.view.acting r in
-    same_address pt.addresses p k (all_follow pt.view pt.addresses r ids) (follow_spares pt.view pt.addresses r ids p k)
-moves_grow pt (Line.Updated id n) p k e = told_grows pt.kernel pt.view pt.addresses (pt.view.told id) (Slot p k)
-moves_grow pt (Line.Put from to id c q) p k e =
-    let gs = own_gives pt.kernel pt.view pt.addresses id q c in
-    same_address pt.addresses p k (first_gives (pt.view.told id) gs) (first_spares (pt.view.told id) gs p k (own_spares pt.kernel pt.view pt.addresses id q c p k))
-moves_grow pt _ p k e = omega arith
+moves_grow pt l p k e = grind (arith, nat_tests, same_address, follow_spares, told_grows, first_spares)
 
 -- what each line needs of the kernel, and keeps
 pub record Grounds (s : OneKernel) : Type 0 where
@@ -100,8 +57,7 @@ led_by pt t l None p q k of is h spared leads = let f : pt.kernel ≡ t = cc in 
 led_by pt t l (Some x) p q k of is h spared leads = led_before pt.kernel t pt.view pt.addresses x p q k is h.sound.entered.named h.pending (spared x refl) leads
 
 spared_by : (pt : Point) (l : Line) (p : Pid) (k : ℕ) (x : Label) → label_of l ≡ Some x → fills pt (Slot p k) l ≡ false → gives_to (Slot p k) (gives pt.kernel pt.view pt.addresses x) ≡ false
-spared_by pt (Line.Label y) p k x of e = let f : y ≡ x = cc in ap (λ (z : Label). gives_to (Slot p k) (gives pt.kernel pt.view pt.addresses z)) (sym f) ∙ e
-spared_by pt _ p k x of e = cc
+spared_by pt l p k x of e = grind (arith, nat_tests)
 
 line_before : (pt next : Point) (l : Line) (p q : Pid) (k moves : ℕ) → after_line pt l ≡ Some next → Grounds pt.kernel → fills pt (Slot p k) l ≡ false → Before next p q k moves → Before pt p q k moves
 line_before pt next l p q k moves is h e before =
@@ -113,10 +69,7 @@ line_before pt next l p q k moves is h e before =
     record { leads = led_by pt s l (label_of l) p q k refl comes h (λ x of. spared_by pt l p k x of e) was.leads; fewer = omega (arith, grows, fewer) }
 
 line_grounds : (pt next : Point) (l : Line) → after_line pt l ≡ Some next → Grounds pt.kernel → Grounds next.kernel
-line_grounds pt next l is h =
-    let (s, comes, last) = bind-is (kernel_after pt.kernel (label_of l)) (λ s. Some (moved pt l s)) next is in
-    let f : moved pt l s ≡ next = cc in
-    subst (λ (x : Point). Grounds x.kernel) f (grounds_by pt.kernel s pt.view (label_of l) comes h)
+line_grounds pt next l is h = grind (arith, nat_tests, bind-is, grounds_by)
 
 -- through lines none of which gives the slot an address
 pub lines_before : (ls : List Line) (pt end : Point) (p q : Pid) (k moves : ℕ) → after pt ls ≡ Some end → Grounds pt.kernel → Unfilled pt (Slot p k) ls → Before end p q k moves → Before pt p q k moves

@@ -1,11 +1,12 @@
 -- A walk over the parts of a turn that leaves a kernel's own message standing somewhere.
-use Rattle.dm_movelaws.proofs.Names.{◌≡◌, ◌⊎◌, ℕ, ◌≤◌, ◌==◌, ◌&&◌, Bool, true, false, List, [], ◌∷◌, ◌++◌, length, refl, ap, ◌∙◌, sym, subst, inl, inr, arith, ⊤, if◌then◌else◌, Option, None, Some, cases_Bool, false≢true, Pid, MsgId}
-use Rattle.dm_movelaws.proofs.Names.{MessageKind, plain_kind, id_eq, bind, id_eq-is, id_eq-same, bind-is, Line, Stage, Load, View, Told, is_kernels, own_id, view_after, Receiver, Point, label_of, kernel_after, after, moved, Part, Says}
-use Rattle.dm_movelaws.proofs.Names.{Routes, Again, Owns, Transmits, Spelled, lines_of, puts, goes_out, packet_line, behind, spelled, times, sends_on, is_put, not_true, parts, one_of, touches, pair_same, fits_as, PairsFit, fits_put}
-use Rattle.dm_movelaws.proofs.Names.{fits_packet, Sane, Sayable, part_sane, Steps, said_by}
+use Rattle.dm_movelaws.proofs.Names.{◌≡◌, ◌⊎◌, ℕ, ◌≤◌, ◌&&◌, Bool, true, false, List, [], ◌∷◌, ◌++◌, refl, ap, ◌∙◌, sym, subst, inl, inr, arith, ⊤, Option, None, Some, cases_Bool, Pid, MsgId, MessageKind, plain_kind, id_eq, id_eq-is}
+use Rattle.dm_movelaws.proofs.Names.{id_eq-same, Line, Stage, View, Told, is_kernels, view_after, Point, label_of, kernel_after, Part, Says, Again, Owns, Spelled, spelled, times, sends_on, is_put, not_true, parts, touches, pair_same}
+use Rattle.dm_movelaws.proofs.Names.{fits_as, PairsFit, fits_put, fits_packet, Sane, Sayable, part_sane, Steps, said_by, OneKernel, PlainMessage, Boot, Addresses, Sender, forwards_on, Loose, loose_round, loose_handles, by_forwards}
+use Rattle.dm_movelaws.proofs.Names.{nat_tests}
 use Rattle.dm_movelaws.proofs.Promise.Kept.{lines_told}
-use Rattle.dm_movelaws.proofs.Promise.Spots.{Stands, Spares, line_stands}
-use Rattle.dm_movelaws.proofs.Promise.Stands.{label_stands, put_this, put_stands, packet_stands}
+use Rattle.dm_movelaws.proofs.Promise.Spots.{Stands, Spares, line_stands, label_stands, put_this, put_stands, packet_stands}
+use Rattle.dm_movelaws.proofs.Leading.{Behind, whatever_put, part_leads, next_of}
+use Rattle.dm_rule.specs.Rule as rule
 
 -- a kernel's own message that was told of
 pub record Base (j : MsgId) (t : Told) (pt : Point) : Type 0 where
@@ -39,87 +40,29 @@ abbrev pub all_loose : List Part → Bool
 all_loose [] = true
 all_loose (p ∷ ps) = is_loose p && all_loose ps
 
-line_loose : (j : MsgId) (v : View) (l : Line) → is_loose_line l ≡ true → Spares j v l
-line_loose j v (Line.Label l) e = tt
-line_loose j v (Line.Idle m) e = tt
-line_loose j v (Line.Old a b n) e = tt
-line_loose j v Line.Nothing e = tt
-line_loose j v (Line.Resent m n) e = tt
-line_loose j v (Line.NoChild p) e = tt
-line_loose j v (Line.Pinned p) e = tt
-line_loose j v (Line.Migration Stage.Asked p) e = tt
-line_loose j v (Line.Migration Stage.Left p) e = tt
-line_loose j v _ e = absurd (false≢true e)
-
 part_loose : (j : MsgId) (pt : Point) (p : Part) → is_loose p ≡ true → NeedsPart j pt p
-part_loose j pt (Says l) e = line_loose j pt.view l e
-part_loose j pt _ e = tt
+part_loose j pt p e = grind (arith, nat_tests)
 
 spares_quiet : (j : MsgId) (v : View) (l : Line) → Spares j v l → (touches l ≡ false) × (is_put l ≡ false)
-spares_quiet j v (Line.Migration Stage.Asked p) e = (refl, refl)
-spares_quiet j v (Line.Early a b n) e = absurd e
-spares_quiet j v (Line.Acked a b n) e = absurd e
-spares_quiet j v (Line.SentOn p n) e = absurd e
-spares_quiet j v (Line.Head s) e = absurd e
-spares_quiet j v (Line.Put a b i k q) e = absurd e
-spares_quiet j v (Line.Packet a b k l) e = absurd e
-spares_quiet j v (Line.Taken a b n) e = absurd e
-spares_quiet j v _ e = (refl, refl)
-
--- a put and its packet
-puts_by : (Q : Point → Type 0) → ((x : Point) (a b n : ℕ) (l : Load) → Q x → Q (moved x (Line.Packet a b n l) x.kernel)) → (pt next : Point) (b : ℕ) (i : MsgId) (k : MessageKind) (q : Pid) (c d : Bool) → Q (moved pt (Line.Put pt.view.acting b i k q) pt.kernel)
-    → after pt (Line.Put pt.view.acting b i k q ∷ (if c then [] else if d then packet_line pt.view pt.view.acting b (Load.Data (length (pt.view.pair pt.view.acting b).ids)) ∷ [] else [])) ≡ Some next → Q next
-puts_by Q keep pt next b i k q true d h is = let f : moved pt (Line.Put pt.view.acting b i k q) pt.kernel ≡ next = cc in subst Q f h
-puts_by Q keep pt next b i k q false false h is = let f : moved pt (Line.Put pt.view.acting b i k q) pt.kernel ≡ next = cc in subst Q f h
-puts_by Q keep pt next b i k q false true h is =
-    let n = length (pt.view.pair pt.view.acting b).wire in
-    let l = Load.Data (length (pt.view.pair pt.view.acting b).ids) in
-    let mid = moved pt (Line.Put pt.view.acting b i k q) pt.kernel in
-    let f : moved mid (Line.Packet pt.view.acting b n l) mid.kernel ≡ next = cc in
-    subst Q f (keep mid pt.view.acting b n l h)
-
-puts_keep : (Q : Point → Type 0) → ((x : Point) (a b n : ℕ) (l : Load) → Q x → Q (moved x (Line.Packet a b n l) x.kernel)) → (pt next : Point) (b : ℕ) (i : MsgId) (k : MessageKind) (q : Pid) (ls : List Line) → Q (moved pt (Line.Put pt.view.acting b i k q) pt.kernel)
-    → Some (puts pt.view b i k q) ≡ Some ls → after pt ls ≡ Some next → Q next
-puts_keep Q keep pt next b i k q ls h is leads =
-    let f : puts pt.view b i k q ≡ ls = cc in
-    puts_by Q keep pt next b i k q (pt.view.acting == b) (goes_out (pt.view.pair pt.view.acting b)) h (ap (after pt) f ∙ leads)
+spares_quiet j v l e = grind (arith, nat_tests)
 
 -- pairs that fit
-puts_fit : (pt next : Point) (b : ℕ) (i : MsgId) (k : MessageKind) (q : Pid) (ls : List Line) → PairsFit pt.view → Some (puts pt.view b i k q) ≡ Some ls → after pt ls ≡ Some next → PairsFit next.view
-puts_fit pt next b i k q ls h is leads = puts_keep (λ x. PairsFit x.view) (λ x a c n l f. fits_packet x.view a c n l f) pt next b i k q ls (fits_put pt.view pt.view.acting b i k q h) is leads
-
 says_fit : (pt next : Point) (l : Line) → touches l ≡ false → PairsFit pt.view → Steps pt (Says l) next → PairsFit next.view
 says_fit pt next l quiet h s =
     let k = said_by pt next l s in
     subst (λ (x : Point). PairsFit x.view) k.is (fits_as pt.view (view_after pt.view l) (pair_same pt.view l quiet) h)
 
-sent_fit : (pt next : Point) (a b : ℕ) (l : Load) → PairsFit pt.view → Steps pt (Transmits a b l) next → PairsFit next.view
-sent_fit pt next a b l h s =
-    let k = said_by pt next (packet_line pt.view a b l) (record { lines = s.lines; are = s.are; leads = s.leads }) in
-    subst (λ (x : Point). PairsFit x.view) k.is (fits_packet pt.view a b (length (pt.view.pair a b).wire) l h)
+fits_behind : (j : MsgId) (pt : Point) (p : Part) → NeedsPart j pt p → PairsFit pt.view → Behind (λ x. PairsFit x.view) pt p
+fits_behind j pt p need h = grind (arith, nat_tests, whatever_put, fits_as, pair_same, spares_quiet, fits_put)
 
 part_fits : (j : MsgId) (pt next : Point) (p : Part) → NeedsPart j pt p → PairsFit pt.view → Steps pt p next → PairsFit next.view
-part_fits j pt next (Says l) need h s = says_fit pt next l (spares_quiet j pt.view l need).0 h s
-part_fits j pt next (Routes i) need h s =
-    let (m, there, last) = bind-is (pt.kernel.bag i) (λ m. Some (puts pt.view (pt.addresses (Receiver i)).at i (plain_kind m.what) m.to)) s.lines s.are in
-    puts_fit pt next (pt.addresses (Receiver i)).at i (plain_kind m.what) m.to s.lines h last s.leads
-part_fits j pt next (Again i b) need h s =
-    let (t, there, last) = bind-is (pt.view.told i) (λ t. Some (puts pt.view b i t.kind t.receiver)) s.lines s.are in
-    puts_fit pt next b i t.kind t.receiver s.lines h last s.leads
-part_fits j pt next (Owns k q b) need h s = puts_fit pt next b (own_id pt.view) k q s.lines h s.are s.leads
-part_fits j pt next (Transmits a b l) need h s = sent_fit pt next a b l h s
+part_fits j pt next p need h s = part_leads (λ x. PairsFit x.view) (λ x a c n l f. fits_packet x.view a c n l f) pt next p (fits_behind j pt p need h) s
 
 part_says : (j : MsgId) (pt : Point) (p : Part) → NeedsPart j pt p → Sayable p
-part_says j pt (Says l) need = (spares_quiet j pt.view l need).1
-part_says j pt _ need = tt
+part_says j pt p need = grind (arith, nat_tests, spares_quiet)
 
 base_on : (j : MsgId) (t : Told) (pt next : Point) (p : Part) → Sayable p → PairsFit next.view → Base j t pt → Steps pt p next → Base j t next
-base_on j t pt next p ok fits h s = record {
-  sane = part_sane pt next p s.lines ok s.are s.leads h.sane;
-  fits = fits;
-  own = h.own;
-  told = lines_told s.lines pt next j t s.leads h.told;
-}
+base_on j t pt next p ok fits h s = search (part_sane, lines_told)
 
 -- a line that touches no pair
 pub base_says : (j : MsgId) (t : Told) (pt next : Point) (l : Line) → touches l ≡ false → is_put l ≡ false → Base j t pt → Steps pt (Says l) next → Base j t next
@@ -129,53 +72,19 @@ part_base : (j : MsgId) (t : Told) (pt next : Point) (p : Part) → NeedsPart j 
 part_base j t pt next p need h s = base_on j t pt next p (part_says j pt p need) (part_fits j pt next p need h.fits s) h s
 
 -- and it stands
-puts_stand : (j : MsgId) (pt next : Point) (b : ℕ) (i : MsgId) (k : MessageKind) (q : Pid) (ls : List Line) → PairsFit pt.view → Stands pt.view j → Some (puts pt.view b i k q) ≡ Some ls → after pt ls ≡ Some next → Stands next.view j
-puts_stand j pt next b i k q ls fits h is leads =
-    puts_keep (λ x. Stands x.view j) (λ x a c n l f. packet_stands x.view a c n l j f) pt next b i k q ls (put_stands pt.view pt.view.acting b i k q j fits h) is leads
-
-line_on : (j : MsgId) (pt next : Point) (l : Line) → Spares j pt.view l → Sane pt → is_kernels j ≡ true → Stands pt.view j → Steps pt (Says l) next → Stands next.view j
-line_on j pt next l need sane own h s =
-    let k = said_by pt next l s in
-    subst (λ (x : Point). Stands x.view j) k.is
-    (line_stands pt.view j l need
-    (λ x is. subst (λ (y : Line). Stands (view_after pt.view y) j) (sym is)
-    (label_stands pt k.kernel x j sane (ap (λ (y : Line). kernel_after pt.kernel (label_of y)) (sym is) ∙ k.step) own h)) h)
+line_behind : (j : MsgId) (pt : Point) (s : OneKernel) (l : Line) → Spares j pt.view l → Sane pt → is_kernels j ≡ true → Stands pt.view j → kernel_after pt.kernel (label_of l) ≡ Some s → Stands (view_after pt.view l) j
+line_behind j pt s l need sane own h step =
+    line_stands pt.view j l need
+    (λ x is. subst (λ (y : Line). Stands (view_after pt.view y) j) (sym is) (label_stands pt s x j sane (ap (λ (y : Line). kernel_after pt.kernel (label_of y)) (sym is) ∙ step) own h)) h
 
 part_stands : (j : MsgId) (t : Told) (pt next : Point) (p : Part) → NeedsPart j pt p → Base j t pt → Stands pt.view j → Steps pt p next → Stands next.view j
-part_stands j t pt next (Says l) need base h s = line_on j pt next l need base.sane base.own h s
-part_stands j t pt next (Routes i) need base h s =
-    let (m, there, last) = bind-is (pt.kernel.bag i) (λ m. Some (puts pt.view (pt.addresses (Receiver i)).at i (plain_kind m.what) m.to)) s.lines s.are in
-    puts_stand j pt next (pt.addresses (Receiver i)).at i (plain_kind m.what) m.to s.lines base.fits h last s.leads
-part_stands j t pt next (Again i b) need base h s =
-    let (u, there, last) = bind-is (pt.view.told i) (λ t. Some (puts pt.view b i t.kind t.receiver)) s.lines s.are in
-    puts_stand j pt next b i u.kind u.receiver s.lines base.fits h last s.leads
-part_stands j t pt next (Owns k q b) need base h s = puts_stand j pt next b (own_id pt.view) k q s.lines base.fits h s.are s.leads
-part_stands j t pt next (Transmits a b l) need base h s =
-    let k = said_by pt next (packet_line pt.view a b l) (record { lines = s.lines; are = s.are; leads = s.leads }) in
-    subst (λ (x : Point). Stands x.view j) k.is (packet_stands pt.view a b (length (pt.view.pair a b).wire) l j h)
+part_stands j t pt next p need base h s =
+    part_leads (λ x. Stands x.view j) (λ x a c n l f. packet_stands x.view a c n l j f) pt next p
+    (whatever_put (λ x. Stands x.view j) pt p (λ l is k step. line_behind j pt k l (subst (NeedsPart j pt) is need) base.sane base.own h step) (λ b i k q. put_stands pt.view pt.view.acting b i k q j base.fits h) h) s
 
 -- the message itself is put again
 pub again_this : (j : MsgId) (t : Told) (pt next : Point) (b : ℕ) → Base j t pt → Steps pt (Again j b) next → Stands next.view j
-again_this j t pt next b base s =
-    let (u, there, last) = bind-is (pt.view.told j) (λ t. Some (puts pt.view b j t.kind t.receiver)) s.lines s.are in
-    puts_keep (λ x. Stands x.view j) (λ x a c n l f. packet_stands x.view a c n l j f) pt next b j u.kind u.receiver s.lines (put_this pt.view pt.view.acting b j u.kind u.receiver base.fits) last s.leads
-
--- the first part, and what is spelled behind it
-pub record Next (pt : Point) (p : Part) (ps : List Part) (w : Spelled) : Type 0 where
-  pub next : Point
-  pub steps : Steps pt p next
-  pub rest : Spelled
-  pub more : spelled next ps ≡ Some rest
-  pub lines : steps.lines ++ rest.lines ≡ w.lines
-  pub point : rest.point ≡ w.point
-
-pub next_of : (pt : Point) (p : Part) (ps : List Part) (w : Spelled) → spelled pt (p ∷ ps) ≡ Some w → Next pt p ps w
-next_of pt p ps w is =
-    let (ls, are, rest) = bind-is (lines_of pt p) (λ (xs : List Line). bind (after pt xs) (λ (q : Point). bind (spelled q ps) (λ (z : Spelled). Some (behind xs z)))) w is in
-    let (next, leads, last) = bind-is (after pt ls) (λ (q : Point). bind (spelled q ps) (λ (z : Spelled). Some (behind ls z))) w rest in
-    let (z, more, end) = bind-is (spelled next ps) (λ (y : Spelled). Some (behind ls y)) w last in
-    let f : behind ls z ≡ w = cc in
-    record { next = next; steps = record { lines = ls; are = are; leads = leads }; rest = z; more = more; lines = ap (λ (x : Spelled). x.lines) f; point = ap (λ (x : Spelled). x.point) f }
+again_this j t pt next b base s = part_leads (λ x. Stands x.view j) (λ x a c n l f. packet_stands x.view a c n l j f) pt next (Again j b) (λ u told. put_this pt.view pt.view.acting b j u.kind u.receiver base.fits) s
 
 -- it stands somewhere behind the parts, or they say that it was handled, and nothing else
 abbrev pub Ends : MsgId → Spelled → Type 0
@@ -206,10 +115,7 @@ loose_goes j t pt ps e base h w is = inl (loose_stands ps j t pt w e base h is)
 
 -- messages that go on: it stands somewhere, or is one of those that still go
 apart_rest : (j i : MsgId) (is : List MsgId) → id_eq i j ≡ false → 1 ≤ times j (i ∷ is) → 1 ≤ times j is
-apart_rest j i is e least =
-    let f : id_eq j i ≡ false = not_true (id_eq j i) (λ g. false≢true (sym e ∙ ap (λ (x : MsgId). id_eq x j) (sym (id_eq-is j i g)) ∙ id_eq-same j)) in
-    let z : one_of j i ≡ 0 = ap (λ (c : Bool). if c then 1 else 0) f in
-    omega (arith, least, z)
+apart_rest j i is e least = grind (arith, nat_tests, not_true, id_eq-is, id_eq-same)
 
 again_as : (i j : MsgId) (t : Told) (pt next : Point) (b : ℕ) → i ≡ j → Base j t pt → Steps pt (Again i b) next → Stands next.view j
 again_as i j t pt next b e base s = again_this j t pt next b base (subst (λ (x : MsgId). Steps pt (Again x b) next) e s)
@@ -230,3 +136,32 @@ sends_stand (i ∷ is_) j t to ps pt w e base h is =
       ]
     ] in
     subst (λ (x : Point). Stands x.view j) n.point (sends_stand is_ j t to ps n.next n.rest e base_ there n.more)
+
+-- the message stands somewhere where a turn begins
+pub record Waits (j : MsgId) (t : Told) (pt : Point) : Type 0 where
+  pub base : Base j t pt
+  pub stands : Stands pt.view j
+
+pub first_row : (j : MsgId) (t : Told) (pt : Point) (p : Part) (ps : List Part) → Waits j t pt → NeedsPart j pt p → all_loose ps ≡ true → Goes j pt (p ∷ ps)
+first_row j t pt p ps h need e = first_goes j t pt p ps need e h.base h.stands
+
+pub loose_row : (j : MsgId) (t : Told) (pt : Point) (ps : List Part) → Waits j t pt → all_loose ps ≡ true → Goes j pt ps
+loose_row j t pt ps h e = loose_goes j t pt ps e h.base h.stands
+
+quiet_loose : Loose (λ ps. all_loose ps ≡ true)
+quiet_loose = record { none = refl; label = λ l ps h. h; routes = λ i ps h. h }
+
+-- a process is served
+pub round_goes : (j : MsgId) (t : Told) (pt : Point) (b : Boot) (o : Point) (m : ℕ) (q : Option Pid) (ps : List Part) → Waits j t pt → rule.goes_round b o m q ≡ Some ps → Goes j pt ps
+round_goes j t pt b o m q ps h e = loose_row j t pt ps h (loose_round (λ xs. all_loose xs ≡ true) quiet_loose b o m q ps refl e)
+
+-- another message is handled
+pub forwards_goes : (j : MsgId) (t : Told) (pt : Point) (a : Addresses) (id : MsgId) (k : MessageKind) (sender : Pid) (to : ℕ) → Waits j t pt → id_eq id j ≡ false → Goes j pt (forwards_on a id k sender to)
+forwards_goes j t pt a id k sender to h off =
+    let l = Says (Line.Forwarded id to) in
+    by_forwards (Goes j pt) a id k sender to (first_row j t pt l (Again id to ∷ []) h off refl) (first_row j t pt l (Again id to ∷ Owns MessageKind.Update sender (a (Sender id)).at ∷ []) h off refl)
+
+pub handles_goes : (j : MsgId) (t : Told) (pt : Point) (b : Boot) (o : Point) (m : ℕ) (id : MsgId) (msg : PlainMessage) (ps : List Part) → Waits j t pt → id_eq id j ≡ false → rule.handles b o m id msg ≡ Some ps → Goes j pt ps
+handles_goes j t pt b o m id msg ps h off e =
+    loose_handles (Goes j pt) (λ xs. all_loose xs ≡ true) quiet_loose (λ xs. loose_row j t pt xs h) b o m id msg ps (λ here. first_row j t pt (Says (Line.Queued id)) [] h off refl) (first_row j t pt (Says (Line.Held id)) [] h off refl)
+    (λ to moves at_. forwards_goes j t pt o.addresses id (plain_kind msg.what) msg.sender to h off) e

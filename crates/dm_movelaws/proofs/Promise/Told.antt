@@ -1,12 +1,11 @@
 -- A turn that handles a kernel's own message leaves another standing; an update that it handles goes on, or that is said alone.
-use Rattle.dm_movelaws.proofs.Names.{◌≡◌, ◌⊎◌, ℕ, ◌≤◌, ◌==◌, Bool, true, false, List, [], ◌∷◌, ◌++◌, length, refl, ap, ◌∙◌, sym, subst, inl, inr, if◌then◌else◌, Option, None, Some, Pid, Place, pid_eq, MsgId, MessageKind, Stage, id_eq, Boot}
-use Rattle.dm_movelaws.proofs.Names.{switchboard, manager, Line, Told, Known, Unknown, Here, Forward, Ended, Point, Part, Says, Again, Spelled, spelled, times, to_kernel, sends_on, process_told, server_told, both_lists, said_by, update_of}
-use Rattle.dm_movelaws.proofs.Names.{last_point, by_hears, behind_count, place_told}
+use Rattle.dm_movelaws.proofs.Names.{◌≡◌, ◌⊎◌, ℕ, ◌≤◌, Bool, false, List, [], ◌∷◌, ◌++◌, length, refl, ap, ◌∙◌, sym, subst, inl, inr, if◌then◌else◌, Option, Some, Pid, Place, MsgId, MessageKind, Stage, id_eq, Boot, manager, Line, Told}
+use Rattle.dm_movelaws.proofs.Names.{Known, Unknown, Here, Forward, Ended, Point, Part, Says, Again, Spelled, spelled, times, to_kernel, sends_on, process_told, both_lists, said_by, update_of, last_point, by_hears, behind_count, place_told}
+use Rattle.dm_movelaws.proofs.Names.{nat_tests, arith}
+use Rattle.dm_movelaws.proofs.Promise.Spots.{Stands, Front, Spares, sent_stands, held_this}
+use Rattle.dm_movelaws.proofs.Promise.Parts.{Goes, GoesOf, base_says, again_this, loose_stands, sends_stand, Waits, first_row, forwards_goes}
+use Rattle.dm_movelaws.proofs.Leading.{next_of}
 use Rattle.dm_rule.specs.Rule as rule
-use Rattle.dm_movelaws.proofs.Promise.Spots.{Stands, Front, Spares}
-use Rattle.dm_movelaws.proofs.Promise.Stands.{sent_stands, held_this}
-use Rattle.dm_movelaws.proofs.Promise.Parts.{Goes, GoesOf, base_says, again_this, next_of, loose_stands, sends_stand}
-use Rattle.dm_movelaws.proofs.Promise.Rows.{Waits, first_row, forwards_goes}
 
 -- another is at the front of the acting machine's inbox
 pub record Other (j : MsgId) (pt : Point) (i : MsgId) : Type 0 where
@@ -85,8 +84,7 @@ forwarded_goes j t pt to h w is =
     inl (subst (λ (x : Point). Stands x.view j) (last ∙ end) there)
 
 goes_if : (j : MsgId) (pt : Point) (c : Bool) (x y : Option (List Part)) → GoesOf j pt x → GoesOf j pt y → GoesOf j pt (if c then x else y)
-goes_if j pt true x y h k = h
-goes_if j pt false x y h k = k
+goes_if j pt c x y h k = grind (arith, nat_tests)
 
 process_this : (j : MsgId) (pt o : Point) (m : ℕ) (p q : Pid) (place : Place) (c : Known) → Waits j (update_of p q place) pt → GoesOf j pt (process_told o m j (update_of p q place) c)
 process_this j pt o m p q place Unknown h = tt
@@ -96,10 +94,4 @@ process_this j pt o m p q place Ended h = updates_this j pt 0
 process_this j pt o m p q place _ h = held_goes j (update_of p q place) pt h
 
 pub hears_this : (j : MsgId) (pt : Point) (b : Boot) (o : Point) (m : ℕ) (p q : Pid) (place : Place) → Waits j (update_of p q place) pt → GoesOf j pt (rule.hears b o m j (Some (update_of p q place)))
-hears_this j pt b o m p q place h =
-    let u = update_of p q place in
-    let to_server = server_told o j u MessageKind.Update in
-    let to_process = process_told o m j u (o.view.known m p) in
-    goes_if j pt (p.num == 0) None (if pid_eq p switchboard then to_server else if pid_eq p manager then to_server else to_process) tt
-    (goes_if j pt (pid_eq p switchboard) to_server (if pid_eq p manager then to_server else to_process) (updates_this j pt _)
-    (goes_if j pt (pid_eq p manager) to_server to_process (updates_this j pt _) (process_this j pt o m p q place (o.view.known m p) h)))
+hears_this j pt b o m p q place h = search (goes_if, updates_this, process_this)

@@ -1,19 +1,17 @@
 -- Wherever the rule leads, whoever is named is a kernel of a machine that there is, a server, or a process that was made.
-use Rattle.dm_movelaws.proofs.Names.{◌≡◌, ◌≢◌, ℕ, ◌<◌, ◌≤◌, ◌==◌, ◌||◌, Bool, true, false, List, [], ◌∷◌, is_some, nat_lt, refl, ap, ◌∙◌, sym, subst, inl, inr, arith, if◌then◌else◌, Option, None, Some, cases_Bool, false≢true, nat_tests}
-use Rattle.dm_movelaws.proofs.Names.{Pid, pid_eq, MsgId, Line, PlainMessage, PlainWhat, Boot, IsValid, switchboard, manager, Life, OneKernel, is_counted, counts, Step, IsStep, Leads, Spelled, Point, first_point, group_of, Inbox, times}
-use Rattle.dm_movelaws.proofs.Names.{View, Told, Known, Unknown, Here, after_head, is_kernels, actor, group_is, outcome_sayable, line_within, has_bytes, is_server, WhatFits, agrees, begun, begun_sane, named_real, Both, both_start}
-use Rattle.dm_movelaws.proofs.Names.{both_group, times_self, Run, run_start, run_group, IsReal, Kernel, Server, Made, IsAboutReal, RealAlways, or_cases, from_kernel}
-use Rattle.dm_rulelaws.proofs.Found.Core as core
-use Rattle.dm_movelaws.proofs.Ends.Smooth.{told_by}
+use Rattle.dm_movelaws.proofs.Names.{◌≡◌, ◌≢◌, ℕ, ◌<◌, ◌≤◌, Bool, true, false, ◌∷◌, is_some, nat_lt, refl, ap, ◌∙◌, sym, subst, inl, inr, arith, if◌then◌else◌, Option, Some, cases_Bool, nat_tests, Pid, pid_eq, MsgId, Line, PlainMessage}
+use Rattle.dm_movelaws.proofs.Names.{PlainWhat, Boot, switchboard, manager, Life, OneKernel, is_counted, counts, Step, IsStep, Spelled, Point, first_point, group_of, Inbox, times, View, Told, Known, Unknown, Here, after_head, is_kernels}
+use Rattle.dm_movelaws.proofs.Names.{actor, group_is, outcome_sayable, line_within, is_server, WhatFits, agrees, begun, begun_sane, named_real, times_self, Run, IsReal, Kernel, Server, Made, IsAboutReal, RealAlways, or_cases, from_kernel}
+use Rattle.dm_movelaws.proofs.Names.{run_always}
+use Rattle.dm_movelaws.proofs.Ends.Lines.{told_by}
 use Rattle.dm_movelaws.proofs.NumbersAlways.{bag_counted, told_counted}
-use Rattle.dm_movelaws.proofs.Real.Rows.{HereReal, InboxTold, outcome_real}
-use Rattle.dm_movelaws.proofs.Real.Lines.{rises_same, Reals, Receivers, parts_reals}
+use Rattle.dm_movelaws.proofs.Real.Lines.{HereReal, InboxTold, outcome_real, rises_same, Reals, Receivers, parts_reals}
+use Rattle.dm_movelaws.proofs.After.{keeps_always}
+use Rattle.dm_rulelaws.proofs.Found.Core as core
 
 -- whom a machine knows
 agrees_made : (k : Known) (l : Option Life) → k ≢ Unknown → agrees k l ≡ true → is_some l ≡ true
-agrees_made k (Some l) some e = refl
-agrees_made Unknown None some e = absurd (some refl)
-agrees_made _ None some e = absurd (false≢true e)
+agrees_made k l some e = grind (arith, nat_tests)
 
 known_real : (b : Boot) (pt : Point) (n : ℕ) (p : Pid) → Run b pt → pt.view.known n p ≢ Unknown → IsReal pt.kernel p
 known_real b pt n p run some = elim (cases_Bool (is_server p)) [
@@ -21,27 +19,15 @@ known_real b pt n p run some = elim (cases_Bool (is_server p)) [
   | inr other ↦ Made (agrees_made (pt.view.known n p) (pt.kernel.processes p) some (run.based.known.agree n p other))
 ]
 
-zero_num : (n : ℕ) → (n == 0) ≡ true → n ≡ 0
-zero_num n e = grind (arith, nat_tests)
-
 core_real : (b : Boot) (pt : Point) (q : Pid) → Run b pt → core.IsReal pt.kernel.machines pt.view q → IsReal pt.kernel q
 core_real b pt q run h = elim h [
-  | inl fixed ↦ elim (or_cases (q.num == 0) (is_server q) fixed.0) [
-    | inl num ↦ Kernel (zero_num q.num num) fixed.1
-    | inr server ↦ Server server
-  ]
+  | inl fixed ↦ grind (arith, nat_tests, or_cases)
   | inr some ↦ known_real b pt q.home q run some
 ]
 
 -- whose number a sender counts
-counted_made : (s : OneKernel) (q : Pid) (n : ℕ) (l : Option Life) → s.processes q ≡ l → is_counted n l ≡ true → IsReal s q
-counted_made s q n None is e = absurd (false≢true e)
-counted_made s q n (Some l) is e = Made (ap is_some is)
-
 counted_by : (s : OneKernel) (i : MsgId) (c d : Bool) → pid_eq i.from switchboard ≡ c → pid_eq i.from manager ≡ d → (if c then nat_lt i.n s.switchboard.sent else if d then nat_lt i.n s.manager.sent else is_counted i.n (s.processes i.from)) ≡ true → IsReal s i.from
-counted_by s i true d x y e = Server (ap (λ (t : Bool). t || pid_eq i.from manager) x)
-counted_by s i false true x y e = Server (ap (λ (t : Bool). t || pid_eq i.from manager) x ∙ y)
-counted_by s i false false x y e = counted_made s i.from i.n (s.processes i.from) refl e
+counted_by s i c d x y e = grind (arith, nat_tests)
 
 counted_real : (s : OneKernel) (i : MsgId) → counts s i ≡ true → IsReal s i.from
 counted_real s i e = counted_by s i (pid_eq i.from switchboard) (pid_eq i.from manager) refl refl e
@@ -67,13 +53,10 @@ inbox_told b pt run m i is at =
     run.found.told i (Inbox m) (let a : times i (pt.view.inbox m) ≡ times i (i ∷ is) = ap (times i) at in let c = times_self i is in subst (λ (n : ℕ). 1 ≤ n) (sym a) c)
 
 pub head_less : (n : ℕ) (d : Step) → IsStep n d → actor d < n
-head_less n (Step.Deliver a b k) h = h.1
-head_less n (Step.Migrate p m) h = omega (arith, h)
-head_less n _ h = h
+head_less n d h = grind (arith, nat_tests)
 
 head_topic : (s : OneKernel) (v : View) (d : Step) → IsAboutReal s (after_head v d).topic
-head_topic s v (Step.Turn m) = tt
-head_topic s v _ = tt
+head_topic s v d = grind (arith, nat_tests)
 
 begins_real : (b : Boot) (pt : Point) (d : Step) → IsStep pt.kernel.machines d → Run b pt → RealAt pt → Reals pt (begun pt d)
 begins_real b pt d fit run h =
@@ -96,45 +79,28 @@ real_group b pt d w fit e run h =
     subst RealAt g.point (record { own = k.own; receiver = k.receiver; about = k.about })
 
 -- a run
-record Ran (b : Boot) (pt : Point) : Type 0 where
-  both : Both b pt
-  real : RealAt pt
-
-real_on : (b : Boot) (es : List Step) (pt end : Point) → IsValid b → Leads b pt es end → Ran b pt → Ran b end
-real_on b [] pt end valid leads h = subst (Ran b) leads h
-real_on b (d ∷ ds) pt end valid (w, fit, is, rest) h =
-    real_on b ds w.point end valid rest (record { both = both_group run_group b pt d w valid fit is h.both; real = real_group b pt d w fit is h.both.run h.real })
-
 start_real : (b : Boot) → RealAt (first_point b)
-start_real b = record {
-  own = λ i t e mine. absurd (let f : None ≡ Some t = e in cc);
-  receiver = λ i t e other. absurd (let f : None ≡ Some t = e in cc);
-  about = λ i t e. absurd (let f : None ≡ Some t = e in cc);
-}
+start_real b = grind (arith, nat_tests)
 
 -- a child that is named was made
 child_made : (s : OneKernel) (i : MsgId) (m : PlainMessage) (w : PlainWhat) (p : Pid) → w ≡ PlainWhat.Created p → WhatFits s i m w → IsReal s p
-child_made s i m w p is fits = made (s.processes p) refl (subst (WhatFits s i m) is fits).3
-  where
-    made : (l : Option Life) → s.processes p ≡ l → has_bytes 0 l ≡ true → IsReal s p
-    made (Some l) at e = Made (ap is_some at)
-    made None at e = absurd (false≢true e)
+child_made s i m w p is fits = grind (arith, nat_tests)
 
 -- wherever the rule leads
 pub real_always : RealAlways
 real_always b es pt valid leads =
-    let ran = real_on b es (first_point b) pt valid leads (record { both = both_start run_start b valid; real = start_real b }) in
-    let run = ran.both.run in
+    let real = keeps_always b RealAt (λ q d w fit is h. real_group b q d w fit is h) valid (start_real b) es pt leads in
+    let run = (run_always b es pt valid leads).run in
     let sane = run.based.phased.sane in
     record {
       named = λ h q e. core_real b pt q run (named_real pt pt.kernel.machines h q run.kept e);
       bag = λ i m there. counted_real pt.kernel i (bag_counted sane.r sane.e pt.kernel i m sane.sound there);
       told = λ i t told. elim (cases_Bool (is_kernels i)) [
-        | inl own ↦ Kernel (from_kernel i own) (ran.real.own i t told own)
+        | inl own ↦ Kernel (from_kernel i own) (real.own i t told own)
         | inr other ↦ counted_real pt.kernel i (told_counted pt i t sane told other)
       ];
-      receiver = receivers b pt run ran.real;
-      about = ran.real.about;
+      receiver = receivers b pt run real;
+      about = real.about;
       child = λ i m p there is. child_made pt.kernel i m m.what p is (run.based.fits.messages i m there);
       known = λ n p some. known_real b pt n p run some;
     }

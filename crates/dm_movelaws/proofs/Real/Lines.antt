@@ -1,13 +1,125 @@
 -- Each line keeps that whoever is told of is somebody.
-use Rattle.dm_movelaws.proofs.Names.{◌≡◌, ◌⊎◌, ℕ, ◌<◌, true, false, List, is_some, refl, ap, ◌∙◌, sym, subst, inl, inr, arith, Option, None, Some, cases_Bool, false≢true, nat_tests, Pid, MsgId, MessageKind, id_eq, plain_kind, Stage}
-use Rattle.dm_movelaws.proofs.Names.{PlainMessage, PlainWhat, Label, Life, OneKernel, id_eq-is, LifeGrows, after_step, Sound, bind-is, Line, Receiver, Part, Says, Routes, Again, Owns, Transmits, Spelled, lines_of, puts, packet_line}
-use Rattle.dm_movelaws.proofs.Names.{spelled, Point, label_of, kernel_after, moved, after, View, Told, About, Of, Known, Forward, view_after, after_put, handled, receiver_of, own_id, is_kernels, is_put, not_kernels, grown_none, put_at}
-use Rattle.dm_movelaws.proofs.Names.{PacketsKeep, put_told_off, Sane, AllSayable, part_sane, label_topic, Within, HeadIn, line_within, has_bytes, is_server, awaits, WhatFits, KernelFits, step_constant, said_by, fits_step, IsReal, Kernel}
-use Rattle.dm_movelaws.proofs.Names.{Server, Made, IsAboutReal, or_cases, queued_topic, held_topic, taken_topic, told_kept, by_parts}
+use Rattle.dm_movelaws.proofs.Names.{◌≡◌, ◌⊎◌, ℕ, ◌<◌, true, false, List, is_some, refl, ap, ◌∙◌, sym, subst, inl, inr, arith, Option, None, Some, false≢true, nat_tests, Pid, MsgId, MessageKind, plain_kind, Stage, PlainMessage, PlainWhat}
+use Rattle.dm_movelaws.proofs.Names.{Label, Life, OneKernel, id_eq-is, LifeGrows, after_step, Sound, Line, Receiver, Part, Says, Routes, Again, Owns, Transmits, Spelled, spelled, Point, label_of, kernel_after, moved, View, Told, About}
+use Rattle.dm_movelaws.proofs.Names.{Known, view_after, after_put, handled, receiver_of, own_id, is_kernels, is_put, not_kernels, grown_none, put_at, PacketsKeep, put_told_off, Sane, AllSayable, label_topic, Within, HeadIn, line_within}
+use Rattle.dm_movelaws.proofs.Names.{has_bytes, awaits, WhatFits, KernelFits, step_constant, fits_step, IsReal, Kernel, Server, Made, IsAboutReal, or_cases, queued_topic, held_topic, taken_topic, told_kept, [], ◌∷◌, ◌++◌, ⊤, pid_eq, Boot}
+use Rattle.dm_movelaws.proofs.Names.{manager, pid_eq-same, alive-is, Step, to_kernel, sends_on, migrates, Here, IsNetLine, IsNet, by_migrates, by_outcome, by_forwards, by_hears}
+use Rattle.dm_movelaws.proofs.Ends.Lines.{told_by}
+use Rattle.dm_movelaws.proofs.Leading.{Behind, sane_lead, All, Saying, net_says}
+use Rattle.dm_movelaws.proofs.Stages.Lines.{MildLine, AllMild}
+use Rattle.dm_movelaws.proofs.Stages.Hears.{round_mild, handles_mild}
 use Rattle.dm_rule.specs.View as view
-use Rattle.dm_movelaws.proofs.Ends.Sends.{puts_lead}
-use Rattle.dm_movelaws.proofs.Ends.Smooth.{told_by}
-use Rattle.dm_movelaws.proofs.Real.Rows.{LineReal, AllReal, PartReal}
+use Rattle.dm_rule.specs.Rule as rule
+
+-- a row a line, seen from where its group begins
+abbrev pub LineReal : Point → Line → Type 0
+LineReal o (Line.Migration s p) = IsReal o.kernel p
+LineReal o (Line.SentOn p n) = IsReal o.kernel p
+LineReal o (Line.Lacks p a b) = IsReal o.kernel p
+LineReal o (Line.Forwarded i m) = is_some (o.view.told i) ≡ true
+LineReal o (Line.Head d) = ⊥
+LineReal o (Line.Put a b i k q) = ⊥
+LineReal o _ = ⊤
+
+abbrev pub PartReal : Point → Part → Type 0
+PartReal o = Saying (LineReal o)
+
+abbrev pub AllReal : Point → List Part → Type 0
+AllReal o = All (PartReal o)
+
+-- parts that leave all migrations as they are; the message at the front was told of
+abbrev FrontTold : Point → Option MsgId → Type 0
+FrontTold o front = (i : MsgId) → front ≡ Some i → is_some (o.view.told i) ≡ true
+
+self_off : (q : Pid) → pid_eq q q ≡ false → ⊥
+self_off q e = false≢true (sym e ∙ pid_eq-same q)
+
+mild_line : (o : Point) (front : Option MsgId) (l : Line) → FrontTold o front → ((me : Pid) → MildLine me front l) → LineReal o l
+mild_line o front (Line.Migration Stage.Asked q) told h = absurd (self_off q (h q))
+mild_line o front (Line.Migration Stage.Left q) told h = absurd (self_off q (h q))
+mild_line o front (Line.Migration s q) told h = absurd (h q)
+mild_line o front (Line.SentOn q n) told h = absurd (h q)
+mild_line o front (Line.Lacks q a b) told h = absurd (h q)
+mild_line o front (Line.Forwarded i m) told h = told i (h manager)
+mild_line o front (Line.Head d) told h = absurd (h manager)
+mild_line o front (Line.Put a b i k q) told h = absurd (h manager)
+mild_line o front _ told h = tt
+
+mild_real : (o : Point) (front : Option MsgId) (ps : List Part) → FrontTold o front → ((me : Pid) → AllMild me front ps) → AllReal o ps
+mild_real o front [] told h = tt
+mild_real o front (Says l ∷ ps) told h = (mild_line o front l told (λ me. (h me).0), mild_real o front ps told (λ me. (h me).1))
+mild_real o front (p ∷ ps) told h = (tt, mild_real o front ps told (λ me. (h me).1))
+
+-- deliveries and repeats
+net_line : (o : Point) (l : Line) → IsNetLine l → LineReal o l
+net_line o (Line.Taken a b n) h = tt
+net_line o (Line.Old a b n) h = tt
+net_line o (Line.Early a b n) h = tt
+net_line o (Line.Acked a b n) h = tt
+net_line o (Line.Resent m n) h = tt
+net_line o Line.Nothing h = tt
+net_line o _ h = absurd h
+
+net_real : (o : Point) (ps : List Part) → IsNet ps → AllReal o ps
+net_real o = net_says (LineReal o) (net_line o)
+
+-- what kernels tell each other of a process
+sends_real : (o : Point) (to : ℕ) (ids : List MsgId) (ps : List Part) → AllReal o ps → AllReal o (sends_on to ids ++ ps)
+sends_real o to [] ps h = h
+sends_real o to (i ∷ is) ps h = (tt, sends_real o to is ps h)
+
+-- whom a machine has is somebody
+abbrev pub HereReal : Point → Type 0
+HereReal o = (m : ℕ) (q : Pid) → o.view.known m q ≡ Here → IsReal o.kernel q
+
+hears_real : (b : Boot) (o : Point) (m : ℕ) (i : MsgId) (q : Option Told) (ps : List Part) → FrontTold o (Some i) → HereReal o → rule.hears b o m i q ≡ Some ps → AllReal o ps
+hears_real b o m i q ps told here = by_hears (AllReal o) b o m i q ps (λ t is. record {
+  told = λ p x about alive. (
+      let h : IsReal o.kernel p = Made (ap is_some (alive-is (o.kernel.processes p) x alive)) in
+      record {
+        accepted = λ ask. (h, (tt, tt));
+        lacks = λ slots blocks. (h, (tt, tt));
+        stays = λ kind. (tt, tt);
+        state = (tt, (tt, tt));
+        next_chunk = (tt, (tt, tt));
+        last_chunk = (h, (tt, tt));
+        memory = (tt, (tt, tt));
+        next_block = (tt, (tt, tt));
+        last_block = (h, (tt, tt));
+        left = λ ids to leaves. (h, sends_real o to ids (Says (Line.Migration Stage.Left p) ∷ to_kernel MessageKind.Restart i.from.home ∷ []) (h, (tt, tt)));
+        restarted = λ kind. (h, tt);
+      }
+      );
+  updated = λ kind. (tt, tt);
+  updated_none = λ kind at_. (tt, tt);
+  no_move = λ at_. (tt, tt);
+  leaving = λ to at_. (tt, tt);
+  coming = λ from at_. (tt, tt);
+  forwarded = λ to moves at_. by_forwards (AllReal o) o.addresses i t.kind manager to (told i refl, (tt, tt)) (told i refl, (tt, (tt, tt)));
+  stays_here = λ at_. (tt, tt);
+  frozen = λ to at_. (let h = here m t.receiver at_.known in (h, (h, (tt, tt))));
+})
+
+-- what stands in an inbox was told of
+abbrev pub InboxTold : Point → Type 0
+InboxTold o = (m : ℕ) (i : MsgId) (is : List MsgId) → o.view.inbox m ≡ i ∷ is → is_some (o.view.told i) ≡ true
+
+front_is : (o : Point) (m : ℕ) (i : MsgId) (is : List MsgId) → InboxTold o → o.view.inbox m ≡ i ∷ is → FrontTold o (Some i)
+front_is o m i is told at j e = let f : i ≡ j = cc in subst (λ (x : MsgId). is_some (o.view.told x) ≡ true) f (told m i is at)
+
+-- the directive to migrate
+migrates_real : (o : Point) (q : Pid) → AllReal o (migrates o q)
+migrates_real o q = by_migrates (AllReal o) o q (tt, tt) (tt, tt) (λ n off is. (tt, tt))
+
+pub outcome_real : (b : Boot) (o : Point) (d : Step) (ps : List Part) → InboxTold o → HereReal o → rule.outcome b o d ≡ Some ps → AllReal o ps
+outcome_real b o d ps told here = by_outcome (λ x. AllReal o) b o d ps (record {
+  round = λ m xs box e. mild_real o None xs (λ i k. cc) (λ p. round_mild p None b o m (rule.first_runnable o.kernel (o.view.queue m) (o.view.ring m)) xs e);
+  handles = λ m i is msg xs box there e. mild_real o (Some i) xs (front_is o m i is told box) (λ p. handles_mild p b o m i msg xs e);
+  hears = λ m i is xs box none e. hears_real b o m i (o.view.told i) xs (front_is o m i is told box) here e;
+  ticks = λ m. net_real o;
+  delivers = λ a c k. net_real o;
+  asks = λ p m. migrates_real o p;
+})
 
 -- who was made stays so, and there are as many machines
 pub record Rises (s t : OneKernel) : Type 0 where
@@ -21,18 +133,13 @@ rises_on : (s t u : OneKernel) → Rises s t → Rises t u → Rises s u
 rises_on s t u h k = record { machines = k.machines ∙ h.machines; made = λ q e. k.made q (h.made q e) }
 
 real_rises : (s t : OneKernel) (q : Pid) → Rises s t → IsReal s q → IsReal t q
-real_rises s t q h (Kernel num home) = Kernel num (subst (λ (k : ℕ). q.home < k) (sym h.machines) home)
-real_rises s t q h (Server e) = Server e
-real_rises s t q h (Made e) = Made (h.made q e)
+real_rises s t q h e = grind (arith, nat_tests)
 
 about_rises : (s t : OneKernel) (a : About) → Rises s t → IsAboutReal s a → IsAboutReal t a
-about_rises s t (Of p) h e = real_rises s t p h e
-about_rises s t (view.Place p at moves) h e = real_rises s t p h e
-about_rises s t _ h e = tt
+about_rises s t a h e = grind (arith, nat_tests, real_rises)
 
-made_by : (a b : Option Life) → LifeGrows a b → is_some a ≡ true → is_some b ≡ true
-made_by a (Some l) g e = refl
-made_by a None g e = absurd (false≢true (sym (ap is_some (grown_none a None g refl)) ∙ e))
+pub made_by : (a b : Option Life) → LifeGrows a b → is_some a ≡ true → is_some b ≡ true
+made_by a b g e = grind (arith, nat_tests, grown_none)
 
 step_rises : (r e : MsgId → ℕ) (s t : OneKernel) (o : Option Label) → kernel_after s o ≡ Some t → Sound r e s → KernelFits s → Rises s t × KernelFits t
 step_rises r e s t None is h fits = let f : s ≡ t = cc in subst (λ (u : OneKernel). Rises s u × KernelFits u) f (rises_same s, fits)
@@ -40,18 +147,13 @@ step_rises r e s t (Some l) is h fits =
     (record { machines = (step_constant s t l is).machines; made = λ q some. made_by (s.processes q) (t.processes q) ((after_step r e s t l is h).grown.lives q) some }, fits_step r e s t l is h fits)
 
 has_made : (s : OneKernel) (q : Pid) (n : ℕ) (l : Option Life) → s.processes q ≡ l → has_bytes n l ≡ true → IsReal s q
-has_made s q n (Some l) is e = Made (ap is_some is)
-has_made s q n None is e = absurd (false≢true e)
+has_made s q n l is e = grind (arith, nat_tests)
 
 waits_made : (s : OneKernel) (q : Pid) (n : ℕ) (w : PlainWhat) (l : Option Life) → s.processes q ≡ l → awaits l n w ≡ true → IsReal s q
-waits_made s q n w (Some l) is e = Made (ap is_some is)
-waits_made s q n w None is e = absurd (false≢true e)
+waits_made s q n w l is e = grind (arith, nat_tests)
 
 pub receiver_real : (s : OneKernel) (i : MsgId) (m : PlainMessage) (w : PlainWhat) → WhatFits s i m w → IsReal s m.to
-receiver_real s i m (PlainWhat.User z1 z2 z3 z4) e = elim (or_cases (is_server m.to) (has_bytes 0 (s.processes m.to)) e.0) [
-  | inl server ↦ Server server
-  | inr has ↦ has_made s m.to 0 (s.processes m.to) refl has
-]
+receiver_real s i m (PlainWhat.User z1 z2 z3 z4) e = grind (arith, nat_tests, or_cases, has_made)
 receiver_real s i m (PlainWhat.Read base len) e = has_made s m.to _ (s.processes m.to) refl e.0
 receiver_real s i m (PlainWhat.Write base bytes) e = has_made s m.to _ (s.processes m.to) refl e.0
 receiver_real s i m (PlainWhat.Block bytes) e = subst (IsReal s) (sym e.0) (waits_made s i.from i.n (PlainWhat.Block bytes) (s.processes i.from) refl e.1)
@@ -80,20 +182,17 @@ abbrev pub Receivers : Point → Type 0
 Receivers o = (i : MsgId) (t : Told) → o.view.told i ≡ Some t → IsReal o.kernel t.receiver
 
 forward_real : (s : OneKernel) (p : Pid) (k : Known) → IsReal s p → IsAboutReal s (view.forward_about p k)
-forward_real s p (Forward at moves) h = h
-forward_real s p _ h = tt
+forward_real s p k h = grind (arith, nat_tests)
 
 forwarded_real : (s : OneKernel) (v : View) (q : Option Told) → ((t : Told) → q ≡ Some t → IsReal s t.receiver) → IsAboutReal s v.topic → IsAboutReal s (view.forwarded_for v (receiver_of q)).topic
 forwarded_real s v None h e = e
 forwarded_real s v (Some t) h e = forward_real s t.receiver (v.known v.acting t.receiver) (h t refl)
 
 proto_real : (s : OneKernel) (v : View) (q : Option Told) → ((t : Told) → q ≡ Some t → IsAboutReal s t.about) → IsAboutReal s (view.after_proto v q).topic
-proto_real s v None h = tt
-proto_real s v (Some t) h = h t refl
+proto_real s v q h = grind (arith, nat_tests)
 
 told_at : (o pt : Point) (i : MsgId) (q : Option Told) (t : Told) → o.view.told i ≡ q → is_some q ≡ true → Reals o pt → pt.view.told i ≡ Some t → o.view.told i ≡ Some t
-told_at o pt i None t is some h e = absurd (false≢true some)
-told_at o pt i (Some u) t is some h e = let f : Some u ≡ Some t = sym (h.kept i u is) ∙ e in is ∙ f
+told_at o pt i q t is some h e = grind (arith, nat_tests)
 
 line_topic : (o pt : Point) (l : Line) → Receivers o → LineReal o l → Reals o pt → IsAboutReal pt.kernel (view_after pt.view l).topic
 line_topic o pt (Line.Migration Stage.Frozen p) known need h = real_rises o.kernel pt.kernel p h.rises need
@@ -115,12 +214,10 @@ line_topic o pt (Line.Put a b i k q) known need h = absurd need
 line_topic o pt _ known need h = h.topic
 
 no_put : (o : Point) (l : Line) → LineReal o l → is_put l ≡ false
-no_put o (Line.Put a b i k q) h = absurd h
-no_put o l h = refl
+no_put o l h = grind (arith, nat_tests)
 
 no_head : (o : Point) (n : ℕ) (l : Line) → LineReal o l → HeadIn n l
-no_head o n (Line.Head d) h = absurd h
-no_head o n l h = tt
+no_head o n l h = grind (arith, nat_tests)
 
 line_reals : (o pt : Point) (t : OneKernel) (l : Line) → Receivers o → LineReal o l → kernel_after pt.kernel (label_of l) ≡ Some t → Sane pt → Reals o pt → Reals o (moved pt l t)
 line_reals o pt t l known need is sane h =
@@ -140,23 +237,11 @@ line_reals o pt t l known need is sane h =
     }
 
 -- a put
-first_or : (q : Option Told) (u t : Told) → Some (view.first_told q u) ≡ Some t → (q ≡ Some t) ⊎ ((q ≡ None) × (u ≡ t))
-first_or None u t e = inr (refl, (let f : u ≡ t = cc in f))
-first_or (Some s) u t e = inl e
-
 abbrev put_of : View → MessageKind → Pid → Told
 put_of v k q = record { kind = k; receiver = q; about = v.topic }
 
 put_or : (v : View) (a b : ℕ) (i : MsgId) (k : MessageKind) (q : Pid) (j : MsgId) (t : Told) → (after_put v a b i k q).told j ≡ Some t → (v.told j ≡ Some t) ⊎ ((i ≡ j) × (v.told i ≡ None) × (put_of v k q ≡ t))
-put_or v a b i k q j t e = elim (cases_Bool (id_eq i j)) [
-  | inl same ↦
-      let ij : i ≡ j = id_eq-is i j same in
-      elim (first_or (v.told i) (put_of v k q) t (sym (put_at v a b i k q) ∙ ap (after_put v a b i k q).told ij ∙ e)) [
-        | inl old ↦ inl (ap v.told (sym ij) ∙ old)
-        | inr new ↦ inr (ij, new.0, new.1)
-      ]
-  | inr apart ↦ inl (sym (put_told_off v a b i j k q apart) ∙ e)
-]
+put_or v a b i k q j t e = grind (arith, nat_tests, id_eq-is, put_at, put_told_off)
 
 -- what is put for the first time is a kernel's own, or for somebody
 record Puts (pt : Point) (i : MsgId) (q : Pid) : Type 0 where
@@ -188,43 +273,20 @@ put_reals o pt b i k q new h =
     }
 
 packet_reals : (o : Point) → PacketsKeep (Reals o)
-packet_reals o pt a b k l h = record {
-  within = line_within pt.kernel.machines pt.view (Line.Packet a b k l) tt h.within;
-  fits = h.fits;
-  rises = h.rises;
-  kept = h.kept;
-  own = h.own;
-  receiver = h.receiver;
-  about = h.about;
-  topic = h.topic;
-}
+packet_reals o pt a b k l h = search line_within
 
 -- a part
-part_reals : (o pt next : Point) (p : Part) (ls : List Line) → Receivers o → PartReal o p → lines_of pt p ≡ Some ls → after pt ls ≡ Some next → Sane pt → Reals o pt → Reals o next
-part_reals o pt next (Says l) ls known need is leads sane h =
-    let k = said_by pt next l (record { lines = ls; are = is; leads = leads }) in
-    subst (Reals o) k.is (line_reals o pt k.kernel l known need k.step sane h)
-part_reals o pt next (Routes i) ls known need is leads sane h =
-    let (m, there, last) = bind-is (pt.kernel.bag i) (λ m. Some (puts pt.view (pt.addresses (Receiver i)).at i (plain_kind m.what) m.to)) ls is in
-    puts_lead (Reals o) (packet_reals o) pt next (pt.addresses (Receiver i)).at i (plain_kind m.what) m.to ls
-    (put_reals o pt (pt.addresses (Receiver i)).at i (plain_kind m.what) m.to
+reals_behind : (o pt : Point) (p : Part) → Receivers o → PartReal o p → Sane pt → Reals o pt → Behind (Reals o) pt p
+reals_behind o pt (Says l) known need sane h = λ s step. line_reals o pt s l known need step sane h
+reals_behind o pt (Routes i) known need sane h = λ m there.
+    put_reals o pt (pt.addresses (Receiver i)).at i (plain_kind m.what) m.to
     (record {
       mine = λ none own. absurd (false≢true (sym (not_kernels sane.r sane.e pt.kernel i m there sane.sound) ∙ own));
       other = λ none other. receiver_real pt.kernel i m m.what (h.fits.messages i m there);
-    }) h) last leads
-part_reals o pt next (Again i b) ls known need is leads sane h =
-    let (t, there, last) = bind-is (pt.view.told i) (λ t. Some (puts pt.view b i t.kind t.receiver)) ls is in
-    puts_lead (Reals o) (packet_reals o) pt next b i t.kind t.receiver ls
-    (put_reals o pt b i t.kind t.receiver
-    (record { mine = λ none own. absurd (let f : None ≡ Some t = sym none ∙ there in cc); other = λ none other. absurd (let f : None ≡ Some t = sym none ∙ there in cc) }) h) last leads
-part_reals o pt next (Owns k q b) ls known need is leads sane h =
-    puts_lead (Reals o) (packet_reals o) pt next b (own_id pt.view) k q ls
-    (put_reals o pt b (own_id pt.view) k q (record { mine = λ none own. h.within.acting; other = λ none other. absurd (false≢true (sym other)) }) h) is leads
-part_reals o pt next (Transmits a b l) ls known need is leads sane h =
-    let x = packet_line pt.view a b l in
-    let k = said_by pt next x (record { lines = ls; are = is; leads = leads }) in
-    subst (Reals o) k.is (line_reals o pt k.kernel x known tt k.step sane h)
+    }) h
+reals_behind o pt (Again i b) known need sane h = λ t there. put_reals o pt b i t.kind t.receiver (record { mine = λ none own. cc; other = λ none other. cc }) h
+reals_behind o pt (Owns k q b) known need sane h = put_reals o pt b (own_id pt.view) k q (record { mine = λ none own. h.within.acting; other = λ none other. absurd (false≢true (sym other)) }) h
+reals_behind o pt (Transmits a b l) known need sane h = h
 
 pub parts_reals : (o : Point) (ps : List Part) (pt : Point) (w : Spelled) → Receivers o → AllReal o ps → AllSayable ps → Sane pt → spelled pt ps ≡ Some w → Reals o pt → Reals o w.point
-parts_reals o qs q w known need ok sane is h = by_parts (λ ps pt v. AllReal o ps → AllSayable ps → Sane pt → Reals o pt → Reals o v.point) (λ pt need ok sane h. h)
-    (λ p ps pt next ls z lines leads rest need ok sane h. rest need.1 ok.1 (part_sane pt next p ls ok.0 lines leads sane) (part_reals o pt next p ls known need.0 lines leads sane h)) qs q w is need ok sane h
+parts_reals o qs q w known need ok sane is h = sane_lead (Reals o) (packet_reals o) (PartReal o) (λ pt p so say fine. reals_behind o pt p known so fine) qs q w need ok sane is h

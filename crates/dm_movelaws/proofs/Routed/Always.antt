@@ -1,52 +1,30 @@
 -- Wherever the rule leads, each message that its sender counts was routed.
-use Rattle.dm_movelaws.proofs.Names.{◌≡◌, ◌⊎◌, ℕ, zero, suc, ◌<◌, ◌≤◌, Bool, true, false, is_some, nat_lt, List, [], ◌∷◌, ◌++◌, length, refl, ap, ◌∙◌, sym, subst, inl, inr, arith, if◌then◌else◌, slice_get, option_map, map, Option, None}
-use Rattle.dm_movelaws.proofs.Names.{Some, cases_Bool, false≢true, nat_tests, Pid, pid_eq, PlainLink, plain_link, MsgId, id_eq, id_of, BootImage, BootProcess, Boot, IsValid, switchboard, manager, Alive, OneKernel, PlainProcess, first_life}
-use Rattle.dm_movelaws.proofs.Names.{life_at, id_eq-is, not_server, bind-is, Step, Line, without_id, Point, first_point, after, after_line, times, View, Told, view_after, hushed, without_counts, one_of, line_view, put_told_off, LeadsBy}
-use Rattle.dm_movelaws.proofs.Names.{Both, both_start, both_group, times_self, times_more, run_start, run_group, with_put, routed, AreRouted, RoutedAlways, less_test}
-use Rattle.dm_onekernel.specs.Start.{begun}
+use Rattle.dm_movelaws.proofs.Names.{◌≡◌, ◌⊎◌, ℕ, zero, suc, ◌<◌, ◌≤◌, true, false, is_some, nat_lt, List, [], ◌∷◌, ◌++◌, length, refl, ap, ◌∙◌, sym, subst, inl, inr, arith, Option, Some, false≢true, nat_tests, Pid, pid_eq, MsgId, id_of}
+use Rattle.dm_movelaws.proofs.Names.{BootProcess, Boot, IsValid, switchboard, manager, Alive, OneKernel, PlainProcess, life_at, id_eq-is, not_server, bind-is, Step, Line, without_id, Point, first_point, after, after_line, times, View, Told}
+use Rattle.dm_movelaws.proofs.Names.{view_after, hushed, without_counts, one_of, line_view, put_told_off, LeadsBy, Both, both_start, both_group, times_more, run_start, run_group, with_put, routed, AreRouted, RoutedAlways, less_test}
 use Rattle.dm_movelaws.proofs.After.{group_after}
 use Rattle.dm_movelaws.proofs.Routed.Groups.{IsTold, AllTold, told_group}
 use Rattle.dm_movelaws.proofs.Routed.Steps.{has_sent, is_sent}
+use Rattle.dm_movelaws.proofs.Ends.Open.{shorter as without_length}
 
 -- before the first line nobody has sent
-none_less : (n : ℕ) → nat_lt n 0 ≡ false
-none_less n = grind (arith, nat_tests)
-
-image_sent : (b : Boot) (links : List PlainLink) (n : ℕ) (o : Option BootImage) → has_sent n (option_map (λ image. Alive (begun b.format image links)) o) ≡ false
-image_sent b links n None = refl
-image_sent b links n (Some image) = none_less n
-
 life_sent : (b : Boot) (ps : List BootProcess) (q : Pid) (n : ℕ) → has_sent n (life_at b ps q) ≡ false
 life_sent b [] q n = refl
-life_sent b (p ∷ ps) q n = elim (cases_Bool (pid_eq p.pid q)) [
-  | inl same ↦ ap (λ (c : Bool). has_sent n (if c then first_life b p else life_at b ps q)) same ∙ image_sent b (map plain_link p.links) n (slice_get b.images p.image)
-  | inr off ↦ ap (λ (c : Bool). has_sent n (if c then first_life b p else life_at b ps q)) off ∙ life_sent b ps q n
-]
-
-none_chosen : (c d : Bool) (x y z : Bool) → x ≡ false → y ≡ false → z ≡ false → (if c then x else if d then y else z) ≡ true → ⊥
-none_chosen true d x y z f g h e = false≢true (sym f ∙ e)
-none_chosen false true x y z f g h e = false≢true (sym g ∙ e)
-none_chosen false false x y z f g h e = false≢true (sym h ∙ e)
+life_sent b (p ∷ ps) q n = grind (arith, nat_tests, life_sent b ps q n)
 
 start_told : (b : Boot) → AllTold (first_point b)
-start_told b i ask sent =
-    absurd (none_chosen (pid_eq i.from switchboard) (pid_eq i.from manager) (nat_lt i.n 0) (nat_lt i.n 0) (has_sent i.n (life_at b b.processes i.from)) (none_less i.n) (none_less i.n) (life_sent b b.processes i.from i.n) sent)
+start_told b i ask sent = grind (arith, nat_tests, life_sent)
 
 -- what was told of was put
 put_at : (v : View) (l : Line) (i : MsgId) (ids : List MsgId) → IsTold (view_after v l) i → IsTold v i ⊎ (1 ≤ times i (with_put l ids))
-put_at v (Line.Put a b id k q) i ids h = elim (cases_Bool (id_eq id i)) [
-  | inl same ↦ inr (subst (λ (j : MsgId). 1 ≤ times j (id ∷ ids)) (id_eq-is id i same) (times_self id ids))
-  | inr apart ↦ inl (ap is_some (sym (put_told_off v a b id i k q apart)) ∙ h)
-]
+put_at v (Line.Put a b id k q) i ids h = grind (arith, nat_tests, id_eq-is, put_told_off)
 put_at v l i ids h = inl (ap (λ (f : MsgId → Option Told). is_some (f i)) (sym (hushed v l refl).told) ∙ h)
 
 put_more : (l : Line) (i : MsgId) (ids : List MsgId) → times i ids ≤ times i (with_put l ids)
-put_more (Line.Put a b id k q) i ids = times_more i id ids
-put_more l i ids = omega arith
+put_more l i ids = grind (arith, nat_tests, times_more)
 
 put_on : (l : Line) (i : MsgId) (xs ys : List MsgId) → times i xs ≤ times i ys → times i (with_put l xs) ≤ times i (with_put l ys)
-put_on (Line.Put a b id k q) i xs ys h = omega (arith, h)
-put_on l i xs ys h = h
+put_on l i xs ys h = grind (arith, nat_tests)
 
 put_among : (ls : List Line) (pt q : Point) (i : MsgId) → after pt ls ≡ Some q → IsTold q.view i → IsTold pt.view i ⊎ (1 ≤ times i (routed ls))
 put_among [] pt q i e h = let f : pt ≡ q = cc in inl (subst (λ (x : Point). IsTold x.view i) (sym f) h)
@@ -75,11 +53,7 @@ record ToldBy (pt end : Point) (ls : List Line) : Type 0 where
   put : (i : MsgId) → IsTold end.view i → IsTold pt.view i ⊎ (1 ≤ times i (routed ls))
 
 put_behind : (ls earlier later : List Line) (pt mid : Point) (i : MsgId) → ls ≡ earlier ++ later → after pt earlier ≡ Some mid → IsTold mid.view i ⊎ (1 ≤ times i (routed later)) → IsTold pt.view i ⊎ (1 ≤ times i (routed ls))
-put_behind ls earlier later pt mid i are leads (inr behind_) = inr (subst (λ (xs : List Line). 1 ≤ times i (routed xs)) (sym are) (let m = more_last earlier later i in omega (arith, behind_, m)))
-put_behind ls earlier later pt mid i are leads (inl here) = elim (put_among earlier pt mid i leads here) [
-  | inl before ↦ inl before
-  | inr among ↦ inr (subst (λ (xs : List Line). 1 ≤ times i (routed xs)) (sym are) (let m = more_first earlier later i in omega (arith, among, m)))
-]
+put_behind ls earlier later pt mid i are leads e = grind (arith, nat_tests, more_last, put_among, more_first)
 
 told_on : (b : Boot) (es : List Step) (ls : List Line) (pt end : Point) → IsValid b → LeadsBy b pt es ls end → Both b pt → AllTold pt → ToldBy pt end ls
 told_on b [] ls pt end valid (none, same) both h = record { all = subst AllTold same h; put = λ i t. inl (subst (λ (x : Point). IsTold x.view i) (sym same) t) }
@@ -90,21 +64,7 @@ told_on b (d ∷ ds) ls pt end valid (w, rest, fit, is, are, more) both h =
 
 -- so many names are so many messages
 one_off : (p : Pid) (k n : ℕ) → k < n → one_of (id_of p k) (id_of p n) ≡ 0
-one_off p k n less = elim (cases_Bool (id_eq (id_of p k) (id_of p n))) [
-  | inl same ↦ absurd (let e : k ≡ n = ap (λ (i : MsgId). i.n) (id_eq-is (id_of p k) (id_of p n) same) in omega (arith, e, less))
-  | inr apart ↦ ap (λ (c : Bool). if c then 1 else 0) apart
-]
-
-without_length : (i : MsgId) (ids : List MsgId) → 1 ≤ times i ids → length ids ≡ suc (length (without_id i ids))
-without_length i [] least = absurd (omega (arith, least))
-without_length i (j ∷ js) least = elim (cases_Bool (id_eq i j)) [
-  | inl same ↦ let e : length (without_id i (j ∷ js)) ≡ length js = ap (λ (c : Bool). length (if c then js else j ∷ without_id i js)) same in omega (arith, e)
-  | inr apart ↦
-      let e : length (without_id i (j ∷ js)) ≡ suc (length (without_id i js)) = ap (λ (c : Bool). length (if c then js else j ∷ without_id i js)) apart in
-      let none : one_of i j ≡ 0 = ap (λ (c : Bool). if c then 1 else 0) apart in
-      let h = without_length i js (omega (arith, least, none)) in
-      omega (arith, e, h)
-]
+one_off p k n less = grind (arith, nat_tests, id_eq-is)
 
 few : (n : ℕ) (p : Pid) (ids : List MsgId) → ((k : ℕ) → k < n → 1 ≤ times (id_of p k) ids) → n ≤ length ids
 few zero p ids h = omega arith
@@ -112,16 +72,13 @@ few (suc n) p ids h =
     let here = h n (omega arith) in
     let rest = few n p (without_id (id_of p n) ids)
     (λ k less. let c = without_counts (id_of p k) (id_of p n) ids here in let off = one_off p k n less in let m = h k (omega (arith, less)) in omega (arith, c, off, m)) in
-    let long = without_length (id_of p n) ids here in
-    omega (arith, rest, long)
+    grind (arith, nat_tests, without_length)
 
 are_routed : (ls : List Line) (p : Pid) (n : ℕ) → ((k : ℕ) → k < n → 1 ≤ times (id_of p k) (routed ls)) → AreRouted ls p n
 are_routed ls p n h = record { each = h; count = few n p (routed ls) h }
 
 process_sent : (s : OneKernel) (p : Pid) (x : PlainProcess) (k : ℕ) → (pid_eq p switchboard ≡ false) × (pid_eq p manager ≡ false) → s.processes p ≡ Some (Alive x) → nat_lt k x.sent ≡ true → is_sent s (id_of p k) ≡ true
-process_sent s p x k off is h =
-    ap (λ (c : Bool). if c then nat_lt k s.switchboard.sent else if pid_eq p manager then nat_lt k s.manager.sent else has_sent k (s.processes p)) off.0
-    ∙ ap (λ (c : Bool). if c then nat_lt k s.manager.sent else has_sent k (s.processes p)) off.1 ∙ ap (has_sent k) is ∙ h
+process_sent s p x k off is h = search
 
 untold : (b : Boot) (i : MsgId) → IsTold (first_point b).view i → ⊥
 untold b i e = false≢true e

@@ -1,12 +1,11 @@
 -- A step of the kernel without machines counts no message as sent that it doesn't put into the bag.
-use Rattle.dm_movelaws.proofs.Names.{◌≡◌, ◌⊎◌, ℕ, ◌+◌, Bool, true, false, is_some, nat_lt, length, refl, ap, ◌∙◌, sym, inl, inr, arith, if◌then◌else◌, take, drop, Option, None, Some, cases_Bool, false≢true, nat_tests, Pid, pid_eq, MsgId}
-use Rattle.dm_movelaws.proofs.Names.{id_eq, id_of, PlainMessage, PlainWhat, Label, Why, switchboard, manager, PlainProcess, Life, Alive, OneKernel, with_process, with_sent, answer_to, without_message, pid_eq-is, id_eq-same, Sent, sent_at}
-use Rattle.dm_movelaws.proofs.Names.{ServerSends, board_takes_lem, manager_takes_lem, lands-is, Sent-from, name_is, by_step}
+use Rattle.dm_movelaws.proofs.Names.{◌≡◌, ◌⊎◌, ℕ, ◌+◌, Bool, true, false, is_some, nat_lt, length, refl, ap, ◌∙◌, sym, inl, arith, if◌then◌else◌, take, drop, Option, None, Some, false≢true, nat_tests, Pid, pid_eq, MsgId, id_of}
+use Rattle.dm_movelaws.proofs.Names.{PlainMessage, PlainWhat, Label, Why, switchboard, manager, PlainProcess, Life, Alive, OneKernel, with_process, with_sent, answer_to, without_message, pid_eq-is, id_eq-same, Sent, sent_at, ServerSends}
+use Rattle.dm_movelaws.proofs.Names.{board_takes_lem, manager_takes_lem, lands-is, Sent-from, name_is, by_step}
 use Rattle.dm_onekernel.specs.Kernel.{Ended}
 use Rattle.dm_onekernel.specs.Kernel as kernels
 use Rattle.dm_onekernel.specs.Pieces as pieces
 use Rattle.dm_onekernel.specs.Service as service
-use Rattle.dm_onekernel.specs.Start.{begun}
 use Rattle.dm_onekernel.specs.Step as step
 
 -- the sender of a message counts it: a living process, or a server
@@ -29,16 +28,12 @@ Was x m = (x ≡ true) ⊎ (is_some m ≡ true)
 
 -- by whose name it is
 chosen : (m : Option PlainMessage) (c d : Bool) (x y z k l n : Bool) → (c ≡ true → k ≡ true → Was x m) → (d ≡ true → l ≡ true → Was y m) → (n ≡ true → Was z m) → (if c then k else if d then l else n) ≡ true → Was (if c then x else if d then y else z) m
-chosen m true d x y z k l n f g h e = f refl e
-chosen m false true x y z k l n f g h e = g refl e
-chosen m false false x y z k l n f g h e = h e
+chosen m c d x y z k l n f g h e = grind (arith, nat_tests)
 
 counts_by : (s t : OneKernel) (i : MsgId) → (pid_eq i.from switchboard ≡ true → nat_lt i.n t.switchboard.sent ≡ true → Was (nat_lt i.n s.switchboard.sent) (t.bag i))
     → (pid_eq i.from manager ≡ true → nat_lt i.n t.manager.sent ≡ true → Was (nat_lt i.n s.manager.sent) (t.bag i))
     → (has_sent i.n (t.processes i.from) ≡ true → Was (has_sent i.n (s.processes i.from)) (t.bag i)) → is_sent t i ≡ true → Was (is_sent s i) (t.bag i)
-counts_by s t i f g h e =
-    chosen (t.bag i) (pid_eq i.from switchboard) (pid_eq i.from manager) (nat_lt i.n s.switchboard.sent) (nat_lt i.n s.manager.sent) (has_sent i.n (s.processes i.from))
-    (nat_lt i.n t.switchboard.sent) (nat_lt i.n t.manager.sent) (has_sent i.n (t.processes i.from)) f g h e
+counts_by s t i f g h e = search chosen
 
 less : (n a b : ℕ) → a ≡ b → nat_lt n b ≡ true → nat_lt n a ≡ true
 less n a b e h = ap (nat_lt n) e ∙ h
@@ -50,29 +45,15 @@ pub record Quiet (s t : OneKernel) : Type 0 where
   pub process : (q : Pid) (n : ℕ) → has_sent n (t.processes q) ≡ true → has_sent n (s.processes q) ≡ true
 
 counts_quiet : (s t : OneKernel) → Quiet s t → CountsSo s t
-counts_quiet s t h i ask =
-    counts_by s t i (λ c k. inl (less i.n s.switchboard.sent t.switchboard.sent h.board k)) (λ c k. inl (less i.n s.manager.sent t.manager.sent h.manager_ k)) (λ k. inl (h.process i.from i.n k))
+counts_quiet s t h i ask = grind (arith, nat_tests, counts_by, less)
 
 quiet_same : (s t : OneKernel) → t.switchboard ≡ s.switchboard → t.manager ≡ s.manager → t.processes ≡ s.processes → Quiet s t
-quiet_same s t b g p = record {
-  board = sym (ap (λ (x : kernels.Switchboard). x.sent) b);
-  manager_ = sym (ap (λ (x : kernels.Manager). x.sent) g);
-  process = λ q n e. ap (λ (f : Pid → Option Life). has_sent n (f q)) (sym p) ∙ e;
-}
+quiet_same s t b g p = grind (arith, nat_tests)
 
 -- a process goes on, or ends
 set_quiet : (s t : OneKernel) (p : Pid) (x : PlainProcess) (life : Life) → s.processes p ≡ Some (Alive x) → ((n : ℕ) → has_sent n (Some life) ≡ true → nat_lt n x.sent ≡ true)
     → t.switchboard ≡ s.switchboard → t.manager ≡ s.manager → t.processes ≡ (with_process s p life).processes → Quiet s t
-set_quiet s t p x life is fewer b g set = record {
-  board = sym (ap (λ (y : kernels.Switchboard). y.sent) b);
-  manager_ = sym (ap (λ (y : kernels.Manager). y.sent) g);
-  process = λ q n e. elim (cases_Bool (pid_eq p q)) [
-    | inl same ↦
-        let at : has_sent n (Some life) ≡ true = sym (ap (λ (c : Bool). has_sent n (if c then Some life else s.processes q)) same) ∙ ap (λ (f : Pid → Option Life). has_sent n (f q)) (sym set) ∙ e in
-        ap (λ (r : Pid). has_sent n (s.processes r)) (sym (pid_eq-is p q same)) ∙ ap (has_sent n) is ∙ fewer n at
-    | inr apart ↦ sym (ap (λ (c : Bool). has_sent n (if c then Some life else s.processes q)) apart) ∙ ap (λ (f : Pid → Option Life). has_sent n (f q)) (sym set) ∙ e
-  ];
-}
+set_quiet s t p x life is fewer b g set = grind (arith, nat_tests, pid_eq-is)
 
 alive_fewer : (x y : PlainProcess) → y.sent ≡ x.sent → (n : ℕ) → has_sent n (Some (Alive y)) ≡ true → nat_lt n x.sent ≡ true
 alive_fewer x y e n h = less n x.sent y.sent (sym e) h
@@ -80,19 +61,8 @@ alive_fewer x y e n h = less n x.sent y.sent (sym e) h
 ended_fewer : (x : PlainProcess) (y : Why) (n : ℕ) → has_sent n (Some (Ended y)) ≡ true → nat_lt n x.sent ≡ true
 ended_fewer x y n h = absurd (false≢true h)
 
-next_or : (i n after : ℕ) → after ≡ n + 1 → nat_lt i after ≡ true → (nat_lt i n ≡ true) ⊎ (i ≡ n)
-next_or i n after e h = elim (cases_Bool (nat_lt i n)) [
-  | inl less_ ↦ inl less_
-  | inr not ↦ inr (grind (arith, nat_tests))
-]
-
 next_sent : (u : OneKernel) (m : PlainMessage) (p : Pid) (n after : ℕ) (i : MsgId) → m.id ≡ id_of p n → after ≡ n + 1 → i.answer ≡ false → i.from ≡ p → nat_lt i.n after ≡ true → Was (nat_lt i.n n) ((with_sent u (Some m)).bag i)
-next_sent u m p n after i id count ask from h = elim (next_or i.n n after count h) [
-  | inl before ↦ inl before
-  | inr now ↦
-      let is : m.id ≡ i = id ∙ sym (name_is i p n from now ask) in
-      inr (ap is_some (sent_at u m i (ap (λ (j : MsgId). id_eq m.id j) (sym is) ∙ id_eq-same m.id)))
-]
+next_sent u m p n after i id count ask from h = grind (arith, nat_tests, name_is, sent_at, id_eq-same)
 
 -- a process sends
 counts_sends : (s u : OneKernel) (p : Pid) (x y : PlainProcess) (m : PlainMessage) → s.processes p ≡ Some (Alive x) → Sent p x m y → u.switchboard ≡ s.switchboard → u.manager ≡ s.manager → u.processes ≡ (with_process s p (Alive y)).processes
@@ -101,30 +71,16 @@ counts_sends s u p x y m is sent b g set i ask =
     counts_by s (with_sent u (Some m)) i
     (λ c k. inl (less i.n s.switchboard.sent u.switchboard.sent (sym (ap (λ (z : kernels.Switchboard). z.sent) b)) k))
     (λ c k. inl (less i.n s.manager.sent u.manager.sent (sym (ap (λ (z : kernels.Manager). z.sent) g)) k))
-    (λ k. elim (cases_Bool (pid_eq p i.from)) [
-      | inl same ↦
-          let from : p ≡ i.from = pid_eq-is p i.from same in
-          let at : nat_lt i.n y.sent ≡ true = sym (ap (λ (c : Bool). has_sent i.n (if c then Some (Alive y) else s.processes i.from)) same) ∙ ap (λ (f : Pid → Option Life). has_sent i.n (f i.from)) (sym set) ∙ k in
-          let here : has_sent i.n (s.processes i.from) ≡ nat_lt i.n x.sent = ap (λ (r : Pid). has_sent i.n (s.processes r)) (sym from) ∙ ap (has_sent i.n) is in
-          elim (next_sent u m p x.sent y.sent i sent.id sent.count ask (sym from) at) [
-            | inl before ↦ inl (here ∙ before)
-            | inr now ↦ inr now
-          ]
-      | inr apart ↦ inl (sym (ap (λ (c : Bool). has_sent i.n (if c then Some (Alive y) else s.processes i.from)) apart) ∙ ap (λ (f : Pid → Option Life). has_sent i.n (f i.from)) (sym set) ∙ k)
-    ])
+    (λ k. (grind (arith, nat_tests, pid_eq-is, next_sent)))
 
 -- a server sends, or doesn't
 counts_board : (s : OneKernel) (id : MsgId) (b : kernels.Switchboard) (o : Option PlainMessage) → ServerSends switchboard s.switchboard.sent o b.sent → CountsSo s (with_sent (record (without_message s id) { switchboard = b }) o)
 counts_board s id b None h i ask = counts_quiet s (record (without_message s id) { switchboard = b }) (record { board = sym h; manager_ = refl; process = λ q n e. e }) i ask
-counts_board s id b (Some m) h i ask =
-    let u = record (without_message s id) { switchboard = b } in
-    counts_by s (with_sent u (Some m)) i (λ c k. next_sent u m switchboard s.switchboard.sent b.sent i h.0 h.1 ask (pid_eq-is i.from switchboard c) k) (λ c k. inl k) (λ k. inl k)
+counts_board s id b (Some m) h i ask = grind (arith, nat_tests, counts_by, next_sent, pid_eq-is)
 
 counts_manager : (s : OneKernel) (id : MsgId) (g : kernels.Manager) (o : Option PlainMessage) → ServerSends manager s.manager.sent o g.sent → CountsSo s (with_sent (record (without_message s id) { manager = g }) o)
 counts_manager s id g None h i ask = counts_quiet s (record (without_message s id) { manager = g }) (record { board = refl; manager_ = sym h; process = λ q n e. e }) i ask
-counts_manager s id g (Some m) h i ask =
-    let u = record (without_message s id) { manager = g } in
-    counts_by s (with_sent u (Some m)) i (λ c k. inl k) (λ c k. next_sent u m manager s.manager.sent g.sent i h.0 h.1 ask (pid_eq-is i.from manager c) k) (λ k. inl k)
+counts_manager s id g (Some m) h i ask = grind (arith, nat_tests, counts_by, next_sent, pid_eq-is)
 
 goes_counts : (s : OneKernel) (p : Pid) (x y : PlainProcess) → s.processes p ≡ Some (Alive x) → y.sent ≡ x.sent → CountsSo s (step.goes_on s p y)
 goes_counts s p x y is sent = counts_quiet s (step.goes_on s p y) (set_quiet s (step.goes_on s p y) p x (Alive y) is (alive_fewer x y sent) refl refl refl)
@@ -135,13 +91,7 @@ changed_counts s t id m x y is sent b g set = counts_quiet s t (set_quiet s t m.
 
 -- a kernel makes a process
 born_fewer : (s : OneKernel) (p : Pid) (y : PlainProcess) (q : Pid) (n : ℕ) → y.sent ≡ 0 → has_sent n ((with_process s p (Alive y)).processes q) ≡ true → has_sent n (s.processes q) ≡ true
-born_fewer s p y q n none e = elim (cases_Bool (pid_eq p q)) [
-  | inl same ↦
-      let at : nat_lt n y.sent ≡ true = sym (ap (λ (c : Bool). has_sent n (if c then Some (Alive y) else s.processes q)) same) ∙ e in
-      let zero_ : nat_lt n 0 ≡ true = less n 0 y.sent (sym none) at in
-      absurd (grind (arith, nat_tests))
-  | inr apart ↦ sym (ap (λ (c : Bool). has_sent n (if c then Some (Alive y) else s.processes q)) apart) ∙ e
-]
+born_fewer s p y q n none e = grind (arith, nat_tests, less)
 
 answers_counts : (s : OneKernel) (id : MsgId) (o : Option PlainMessage) → CountsSo s (with_sent (without_message s id) o)
 answers_counts s id None = counts_quiet s (without_message s id) (quiet_same s (without_message s id) refl refl refl)
@@ -160,9 +110,7 @@ step_counts s t l = by_step (CountsSo s) s t l (record {
   dropped = λ id m y is w e. answers_counts s id None;
   gone = λ id m y is w e. answers_counts s id (Some (answer_to m PlainWhat.Gone));
   stops = λ id m x b is w e. (let y = record x { stopped = b } in changed_counts s (service.changed s id m y) id m x y w.alive refl refl refl refl);
-  kills = λ id m x is w e.
-      (let v = with_process (without_message s id) m.to (Ended Why.Killed) in
-      counts_quiet s v (set_quiet s v m.to x (Ended Why.Killed) w.alive (ended_fewer x Why.Killed) refl refl refl));
+  kills = grind (arith, nat_tests, counts_quiet, set_quiet, ended_fewer);
   reads = λ id m x base len is w e. changed_counts s (with_sent (service.changed s id m x) (Some (answer_to m (PlainWhat.Block (take len (drop base x.memory)))))) id m x x w.alive refl refl refl refl;
   writes = λ id m x base bytes is w e.
       (let y = record x { memory = pieces.written_at x.memory base bytes } in
@@ -171,8 +119,6 @@ step_counts s t l = by_step (CountsSo s) s t l (record {
   done = λ id m x c y is w e f. changed_counts s (service.changed s id m y) id m x y w.alive (lands-is m.to x m x.status (pieces.Done c y) f).0 refl refl refl;
   board = λ id m k is there c took. (let (memory, piece, sends) = board_takes_lem s.switchboard m m.what k took in counts_board s id k.switchboard k.answer sends);
   manager = λ id m k is there c took. (let (memory, piece, sends) = manager_takes_lem s.manager s.machines (length s.images) m m.what k took in counts_manager s id k.manager k.message sends.sends);
-  creates = λ id child m image links i is w found name.
-      counts_quiet s (with_sent (service.with_created (without_message s id) child i links) (Some (answer_to m (PlainWhat.Created child))))
-      (record { board = refl; manager_ = refl; process = λ q n e. born_fewer s child (begun s.format i links) q n refl e });
+  creates = search (counts_quiet, born_fewer);
   no_room = λ id a b m image links is w. answers_counts s id (Some (answer_to m PlainWhat.NoRoom));
 })

@@ -1,21 +1,17 @@
 -- Each group keeps the marks of each process in order, and so they are wherever the rule leads.
 use Rattle.dm_movelaws.proofs.Names.{◌≡◌, ℕ, ◌==◌, Bool, true, false, List, [], ◌∷◌, refl, ap, ◌∙◌, sym, subst, length, ◌/◌, if◌then◌else◌, Option, None, Some, Pid, pid_eq, MsgId, PlainMessage, Boot, switchboard, manager, Step, Line, View}
-use Rattle.dm_movelaws.proofs.Names.{Told, About, Of, Known, first_view, target_of, is_between, Phase, Moves, is_due, IsIn, Point, first_point, Part, Spelled, spelled, kernel_told, server_told, process_told, migrates, group_of, bind-is}
-use Rattle.dm_movelaws.proofs.Names.{IsNet, not_true, front_way, Phased, phased_start, phased_group, due, Calm, calm_same, calm_in, told_some, head_calm, net_parts, migrates_quiet, Tame, plain_in_bag, parts_settle, InPhases, calm_phases}
-use Rattle.dm_movelaws.proofs.Names.{State, PairsFit, Sane, LeadsBy, begun, begun_sane, Mark, marks, in_order, StepsInOrder, plain_by, by_migrates, by_outcome}
-use Rattle.dm_onekernel.specs.Step as kernel
-use Rattle.dm_rule.specs.View as view
-use Rattle.dm_rule.specs.Rule as rule
-use Rattle.dm_rule.proofs.Groups as groups
+use Rattle.dm_movelaws.proofs.Names.{Told, About, Of, Known, first_view, target_of, is_between, Phase, is_due, IsIn, Point, first_point, Part, Spelled, spelled, kernel_told, server_told, process_told, migrates, group_of, bind-is, IsNet}
+use Rattle.dm_movelaws.proofs.Names.{not_true, front_way, Phased, phased_start, phased_group, due, Calm, calm_same, calm_in, told_some, head_calm, net_parts, migrates_quiet, Tame, plain_in_bag, parts_settle, InPhases, State, PairsFit, Sane}
+use Rattle.dm_movelaws.proofs.Names.{LeadsBy, begun, begun_sane, Mark, marks, in_order, StepsInOrder, plain_by, by_migrates, by_outcome, nat_tests, arith}
 use Rattle.dm_movelaws.proofs.Stages.Marks.{order-append, marks-append, marks_of, group_says}
 use Rattle.dm_movelaws.proofs.Stages.Spares.{mark_in, spares_same, spares_calm, Marked, none_marked}
-use Rattle.dm_movelaws.proofs.Stages.Lines.{AllMild, mild_marks, net_marks, TameAt}
-use Rattle.dm_movelaws.proofs.Stages.Parts.{parts_spare}
-use Rattle.dm_movelaws.proofs.Stages.Turns.{round_mild, handles_mild}
-use Rattle.dm_movelaws.proofs.Stages.Hears.{Hears, Calms, Freezes, freezes, server_mild, process_hears}
+use Rattle.dm_movelaws.proofs.Stages.Lines.{AllMild, mild_marks, net_marks, TameAt, parts_spare}
+use Rattle.dm_movelaws.proofs.Stages.Hears.{round_mild, handles_mild, Hears, Calms, Freezes, freezes, server_mild, process_hears}
 use Rattle.dm_movelaws.proofs.Stages.Rows.{about_others, plain_others, row_marked}
-use Rattle.dm_movelaws.proofs.Stages.Steps.{freezes_row}
-use Rattle.dm_movelaws.proofs.Stages.Told.{told_marked}
+use Rattle.dm_movelaws.proofs.Stages.Steps.{freezes_row, told_marked}
+use Rattle.dm_onekernel.specs.Step as kernel
+use Rattle.dm_rule.specs.Rule as rule
+use Rattle.dm_rule.proofs.Groups as groups
 
 -- where the parts of a turn begin
 pub record Turning (o pt : Point) (m : ℕ) : Type 0 where
@@ -63,8 +59,7 @@ hears_by b o pt m i is t false true g ps w h c front told e n =
 hears_by b o pt m i is t false false true ps w h c front told e n =
     let plain = plain_by pt i is t h.phases (is_between t.kind) refl front told c in
     mild_marked pt (Some i) ps w h.sane h.fits (tame_front pt.view i (record { what = t; told = told; plain = plain })) (server_mild o i t t.kind ps e) n
-hears_by b o pt m i is t false false false ps w h c front told e n =
-    process_marked o pt m i is t (o.view.known m t.receiver) ps w h front told (plain_by pt i is t h.phases (is_between t.kind) refl front told c) refl (process_hears o m i t (o.view.known m t.receiver) ps e) n
+hears_by b o pt m i is t false false false ps w h c front told e n = search (process_marked, plain_by, process_hears)
 
 hears_marked : (b : Boot) (o pt : Point) (m : ℕ) (i : MsgId) (is : List MsgId) (q : Option Told) (ps : List Part) (w : Spelled) → Turning o pt m → pt.view.inbox pt.view.acting ≡ i ∷ is → pt.view.told i ≡ q → rule.hears b o m i q ≡ Some ps → spelled pt ps ≡ Some w → MarkedBy pt w ps
 hears_marked b o pt m i is None ps w h front told e n = cc
@@ -78,15 +73,7 @@ front_tame pt i is msg sane state front there =
     record { what = t; told = told; plain = plain_in_bag pt i msg sane there t told }
 
 turning : (o : Point) (m : ℕ) → Phased o → Turning o (begun o (Step.Turn m)) m
-turning o m h =
-    let fits = groups.fits o.view h.pairs in
-    record {
-      sane = begun_sane o (Step.Turn m) h.sane;
-      fits = record { within = fits.within; home = fits.home };
-      state = groups.begun o (Step.Turn m) h.state (λ z. groups.turn_off o.view m z) (λ i. refl);
-      phases = calm_phases o.view (view.after_head o.view (Step.Turn m)) (head_calm o.view (Step.Turn m)) h.phases;
-      same = λ q. refl;
-    }
+turning o m h = grind (arith, nat_tests, groups.fits, begun_sane, groups.begun, groups.turn_off, head_calm)
 
 -- the directive to migrate
 migrates_marks : (p : Pid) (o : Point) (q : Pid) → marks_of p (migrates o q) ≡ []
@@ -130,7 +117,7 @@ group_marked b pt d w e h p =
     (head_marked pt.view (begun pt d).view g.rest.point.view p (marks_of p g.parts) (head_calm pt.view d) (outcome_marked b pt d g.parts g.rest h g.is g.said p)))
 
 -- groups
-not_due : (v : View) (h : InPhases v) (p : Pid) → is_due (h.of p) ≡ false
+pub not_due : (v : View) (h : InPhases v) (p : Pid) → is_due (h.of p) ≡ false
 not_due v h p = not_true (is_due (h.of p)) (λ e. let f : None ≡ Some p = h.put p e in cc)
 
 pub run_marked : (b : Boot) (es : List Step) (ls : List Line) (pt end : Point) (p : Pid) → LeadsBy b pt es ls end → (h : Phased pt) → in_order (mark_in (h.phases.of p)) (marks p ls) ≡ true
@@ -144,10 +131,8 @@ run_marked b (d ∷ ds) ls pt end p (w, rest, fit, is, split, more) h =
     ∙ order-append o (marks p w.lines) (marks p rest) g.0 (ap (λ (x : Option Mark). in_order x (marks p rest)) g.1 ∙ later)
 
 -- nothing is told of before the first line
-start_mark : (b : Boot) (p : Pid) (a : Phase) → IsIn (first_view b) p a → is_due a ≡ false → mark_in a ≡ None
-start_mark b p (Moves k s d None) h due = cc
-start_mark b p (Moves k s d (Some i)) h due = absurd (let e = h.token.told in cc)
-start_mark b p _ h due = refl
+pub start_mark : (b : Boot) (p : Pid) (a : Phase) → IsIn (first_view b) p a → is_due a ≡ false → mark_in a ≡ None
+start_mark b p a h due = grind (arith, nat_tests)
 
 -- wherever the rule leads
 pub steps_in_order : StepsInOrder

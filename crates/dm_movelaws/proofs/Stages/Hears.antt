@@ -1,8 +1,21 @@
 -- What a process or a server says of a kernel's own message leaves all migrations as they are, or freezes the process.
-use Rattle.dm_movelaws.proofs.Names.{◌≡◌, ℕ, ◌==◌, Bool, true, false, List, [], ◌∷◌, refl, subst, if◌then◌else◌, Some, Pid, MsgId, MessageKind, Line, Stage, manager, Told, Known, Unknown, Here, Forward, Ended, target_of, Point, Part, Says}
-use Rattle.dm_movelaws.proofs.Names.{to_kernel, forwards_on, updates, here_told, ended_told, process_told, server_told}
+use Rattle.dm_movelaws.proofs.Names.{◌≡◌, ℕ, List, [], ◌∷◌, refl, Some, Pid, MsgId, MessageKind, Line, Stage, Told, Known, Here, target_of, Point, Part, Says, to_kernel, forwards_on, process_told, server_told, Option, plain_kind}
+use Rattle.dm_movelaws.proofs.Names.{PlainMessage, Boot, goes_round, handles, Addresses, Loose, loose_round, loose_handles, by_forwards, nat_tests, arith}
 use Rattle.dm_movelaws.proofs.Stages.Lines.{AllMild}
-use Rattle.dm_movelaws.proofs.Stages.Turns.{forwards_mild}
+
+mild_loose : (me : Pid) (front : Option MsgId) → Loose (AllMild me front)
+mild_loose me front = record { none = tt; label = λ l ps h. (tt, h); routes = λ i ps h. (tt, h) }
+
+pub round_mild : (me : Pid) (front : Option MsgId) (b : Boot) (pt : Point) (m : ℕ) (o : Option Pid) (ps : List Part) → goes_round b pt m o ≡ Some ps → AllMild me front ps
+round_mild me front b pt m o ps e = loose_round (AllMild me front) (mild_loose me front) b pt m o ps (tt, tt) e
+
+pub forwards_mild : (me : Pid) (a : Addresses) (id : MsgId) (k : MessageKind) (sender : Pid) (to : ℕ) → AllMild me (Some id) (forwards_on a id k sender to)
+forwards_mild me a id k sender to = by_forwards (AllMild me (Some id)) a id k sender to (refl, (tt, tt)) (refl, (tt, (tt, tt)))
+
+pub handles_mild : (me : Pid) (b : Boot) (pt : Point) (m : ℕ) (id : MsgId) (msg : PlainMessage) (ps : List Part) → handles b pt m id msg ≡ Some ps → AllMild me (Some id) ps
+handles_mild me b pt m id msg ps e =
+    loose_handles (AllMild me (Some id)) (AllMild me (Some id)) (mild_loose me (Some id)) (λ qs h. h) b pt m id msg ps (λ here. (refl, tt)) (refl, tt)
+    (λ to moves at_. forwards_mild me pt.addresses id (plain_kind msg.what) msg.sender to) e
 
 -- the parts that freeze a process
 abbrev pub freezes : Pid → ℕ → List Part
@@ -12,30 +25,8 @@ pub data Hears (k : Known) (id : MsgId) (t : Told) (ps : List Part) : Type 0 whe
   Calms : ((me : Pid) → AllMild me (Some id) ps) → Hears k id t ps
   Freezes : k ≡ Here → ps ≡ freezes t.receiver (target_of (Some t)) → Hears k id t ps
 
-rests : (k : Known) (id : MsgId) (t : Told) (qs ps : List Part) → ((me : Pid) → AllMild me (Some id) qs) → Some qs ≡ Some ps → Hears k id t ps
-rests k id t qs ps h e = let f : qs ≡ ps = cc in Calms (λ me. subst (AllMild me (Some id)) f (h me))
-
-moves_hears : (m : ℕ) (id : MsgId) (t : Told) (same : Bool) (ps : List Part) → Some (if same then Says (Line.Here id) ∷ [] else freezes t.receiver (target_of (Some t))) ≡ Some ps → Hears Here id t ps
-moves_hears m id t true ps e = rests Here id t (Says (Line.Here id) ∷ []) ps (λ me. (refl, tt)) e
-moves_hears m id t false ps e = let f : ps ≡ freezes t.receiver (target_of (Some t)) = cc in Freezes refl f
-
-here_hears : (o : Point) (m : ℕ) (id : MsgId) (t : Told) (k : MessageKind) (ps : List Part) → here_told o m id t k ≡ Some ps → Hears Here id t ps
-here_hears o m id t MessageKind.Migrate ps e = moves_hears m id t (m == target_of (Some t)) ps e
-here_hears o m id t MessageKind.Update ps e = rests Here id t (updates o id t) ps (λ me. (refl, tt)) e
-here_hears o m id t _ ps e = cc
-
-ended_hears : (id : MsgId) (t : Told) (k : MessageKind) (ps : List Part) → ended_told id k ≡ Some ps → Hears Ended id t ps
-ended_hears id t MessageKind.Migrate ps e = rests Ended id t (Says (Line.NoMove id) ∷ []) ps (λ me. (refl, tt)) e
-ended_hears id t MessageKind.Update ps e = rests Ended id t (Says (Line.Updated id 0) ∷ []) ps (λ me. (refl, tt)) e
-ended_hears id t _ ps e = cc
-
 pub server_mild : (o : Point) (id : MsgId) (t : Told) (k : MessageKind) (ps : List Part) → server_told o id t k ≡ Some ps → (me : Pid) → AllMild me (Some id) ps
-server_mild o id t MessageKind.Update ps e me = let f : updates o id t ≡ ps = cc in subst (AllMild me (Some id)) f (refl, tt)
-server_mild o id t _ ps e me = cc
+server_mild o id t k ps e me = grind (arith, nat_tests)
 
 pub process_hears : (o : Point) (m : ℕ) (id : MsgId) (t : Told) (k : Known) (ps : List Part) → process_told o m id t k ≡ Some ps → Hears k id t ps
-process_hears o m id t Unknown ps e = cc
-process_hears o m id t Here ps e = here_hears o m id t t.kind ps e
-process_hears o m id t (Forward at moves) ps e = rests (Forward at moves) id t (forwards_on o.addresses id t.kind manager at) ps (λ me. forwards_mild me o.addresses id t.kind manager at) e
-process_hears o m id t Ended ps e = ended_hears id t t.kind ps e
-process_hears o m id t any_ ps e = rests any_ id t (Says (Line.Held id) ∷ []) ps (λ me. (refl, tt)) e
+process_hears o m id t k ps e = grind (arith, nat_tests, forwards_mild)

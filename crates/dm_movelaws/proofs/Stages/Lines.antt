@@ -1,11 +1,12 @@
 -- Lines that leave the migration of a process as it is.
-use Rattle.dm_movelaws.proofs.Names.{◌≡◌, ℕ, ◌+◌, ◌≤◌, ◌==◌, ◌&&◌, Bool, true, false, List, [], ◌∷◌, refl, ap, ◌∙◌, sym, subst, inl, inr, ⊤, if◌then◌else◌, Option, None, Some, cases_Bool, Pid, pid_eq, MsgId, MessageKind, Stage, Label}
-use Rattle.dm_movelaws.proofs.Names.{OneKernel, Line, at_record, View, Told, Known, Here, Ended, Of, view_after, handled, served_told, kills, gone_to, is_between, Point, label_of, kernel_after, Part, Says, Routes, Again, Owns, Transmits}
-use Rattle.dm_movelaws.proofs.Names.{Spot, times, standing, pid_eq-swap, out_of, IsNetLine, IsNet, is_put, hushed, gone_in, left_off, Plain, handled_spots, record_off, Tame, line_calm, plain_in_bag, Sane, ended_off, created_off}
-use Rattle.dm_movelaws.proofs.Names.{served_keeps, Mark, with_mark, other_than}
-use Rattle.dm_onekernel.specs.Step as kernel
+use Rattle.dm_movelaws.proofs.Names.{◌≡◌, ℕ, ◌≤◌, true, false, List, [], ◌∷◌, refl, ap, ◌∙◌, sym, subst, ⊤, Option, Some, Pid, pid_eq, MsgId, Stage, Label, OneKernel, Line, at_record, View, Told, Known, Of, view_after, handled}
+use Rattle.dm_movelaws.proofs.Names.{served_told, is_between, Point, label_of, kernel_after, Part, Says, Transmits, Spot, times, standing, pid_eq-swap, out_of, IsNetLine, IsNet, is_put, hushed, gone_in, left_off, Plain, handled_spots}
+use Rattle.dm_movelaws.proofs.Names.{record_off, Tame, line_calm, plain_in_bag, Sane, ended_off, created_off, served_keeps, Mark, with_mark, other_than, Spelled, spelled, fits_put, fits_packet, touches, pair_same, packet_calm, fits_as}
+use Rattle.dm_movelaws.proofs.Names.{PairsFit, Sayable, part_sane, by_parts, Steps, PacketsKeep, nat_tests, arith}
 use Rattle.dm_movelaws.proofs.Stages.Marks.{mark_other, marks_of}
-use Rattle.dm_movelaws.proofs.Stages.Spares.{is_settled, Spares, spares_same, spares_calm}
+use Rattle.dm_movelaws.proofs.Stages.Spares.{is_settled, Spares, spares_same, spares_calm, spares_trans, spares_put}
+use Rattle.dm_movelaws.proofs.Leading.{whatever_put, part_leads}
+use Rattle.dm_onekernel.specs.Step as kernel
 
 -- what is said of the message at the front, and steps of another process that handle no message
 abbrev pub MildLine : Pid → Option MsgId → Line → Type 0
@@ -19,11 +20,6 @@ MildLine p o (Line.Here i) = o ≡ Some i
 MildLine p o (Line.NoMove i) = o ≡ Some i
 MildLine p o (Line.Migration Stage.Asked q) = pid_eq q p ≡ false
 MildLine p o (Line.Migration Stage.Left q) = pid_eq q p ≡ false
-MildLine p o (Line.Migration Stage.Frozen q) = ⊥
-MildLine p o (Line.Migration Stage.Accepted q) = ⊥
-MildLine p o (Line.Migration Stage.StateTaken q) = ⊥
-MildLine p o (Line.Migration Stage.MemoryTaken q) = ⊥
-MildLine p o (Line.Migration Stage.Restarted q) = ⊥
 MildLine p o _ = ⊥
 
 abbrev pub Mild : Pid → Option MsgId → Part → Type 0
@@ -36,35 +32,16 @@ AllMild p o (q ∷ ps) = Mild p o q × AllMild p o ps
 
 -- they don't mark it
 line_marks : (p : Pid) (o : Option MsgId) (l : Line) (ms : List Mark) → MildLine p o l → with_mark p l ms ≡ ms
-line_marks p o (Line.Migration Stage.Asked q) ms h = mark_other p q _ ms (pid_eq-swap p q ∙ h)
-line_marks p o (Line.Migration Stage.Left q) ms h = mark_other p q _ ms (pid_eq-swap p q ∙ h)
-line_marks p o (Line.Migration Stage.Frozen q) ms h = absurd h
-line_marks p o (Line.Migration Stage.Accepted q) ms h = absurd h
-line_marks p o (Line.Migration Stage.StateTaken q) ms h = absurd h
-line_marks p o (Line.Migration Stage.MemoryTaken q) ms h = absurd h
-line_marks p o (Line.Migration Stage.Restarted q) ms h = absurd h
-line_marks p o (Line.SentOn q n) ms h = absurd h
-line_marks p o (Line.Lacks q a b) ms h = absurd h
-line_marks p o (Line.Stays q) ms h = absurd h
-line_marks p o _ ms h = refl
+line_marks p o l ms h = grind (arith, nat_tests, mark_other, pid_eq-swap)
 
 pub mild_marks : (p : Pid) (o : Option MsgId) (ps : List Part) → AllMild p o ps → marks_of p ps ≡ []
 mild_marks p o [] h = refl
 mild_marks p o (Says l ∷ ps) h = line_marks p o l (marks_of p ps) h.0 ∙ mild_marks p o ps h.1
-mild_marks p o (Routes i ∷ ps) h = mild_marks p o ps h.1
-mild_marks p o (Again i b ∷ ps) h = mild_marks p o ps h.1
-mild_marks p o (Owns k q b ∷ ps) h = mild_marks p o ps h.1
-mild_marks p o (Transmits a b l ∷ ps) h = mild_marks p o ps h.1
+mild_marks p o (x ∷ ps) h = mild_marks p o ps h.1
 
 -- the lines of deliveries and repeats don't either
 net_line : (p : Pid) (l : Line) (ms : List Mark) → IsNetLine l → with_mark p l ms ≡ ms
-net_line p (Line.Taken a b n) ms h = refl
-net_line p (Line.Old a b n) ms h = refl
-net_line p (Line.Early a b n) ms h = refl
-net_line p (Line.Acked a b n) ms h = refl
-net_line p (Line.Resent m n) ms h = refl
-net_line p Line.Nothing ms h = refl
-net_line p _ ms h = absurd h
+net_line p l ms h = grind (arith, nat_tests)
 
 pub net_marks : (p : Pid) (ps : List Part) → IsNet ps → marks_of p ps ≡ []
 net_marks p [] h = refl
@@ -74,18 +51,10 @@ net_marks p _ h = absurd h.0
 
 -- a message of the bag is handled
 settled_at : (f : ℕ → Pid → Known) (a : ℕ) (q : Pid) (x : Known) (m : ℕ) (p : Pid) → is_settled x ≡ true → is_settled (f m p) ≡ true → is_settled (at_record f a q x m p) ≡ true
-settled_at f a q x m p e h = elim (cases_Bool ((a == m) && pid_eq q p)) [
-  | inl same ↦ ap (λ (c : Bool). is_settled (if c then x else f m p)) same ∙ e
-  | inr apart ↦ ap (λ (c : Bool). is_settled (if c then x else f m p)) apart ∙ h
-]
-
-kills_still : (k : MessageKind) (v : View) (q : Pid) (m : ℕ) (p : Pid) → is_settled (v.known m p) ≡ true → is_settled ((kills k v (Some q)).known m p) ≡ true
-kills_still MessageKind.Kill v q m p h = settled_at v.known v.acting q Ended m p refl h
-kills_still _ v q m p h = h
+settled_at f a q x m p e h = grind (arith, nat_tests)
 
 served_still : (v : View) (o : Option Told) (m : ℕ) (p : Pid) → is_settled (v.known m p) ≡ true → is_settled ((served_told v o).known m p) ≡ true
-served_still v None m p h = h
-served_still v (Some t) m p h = kills_still t.kind v t.receiver m p h
+served_still v o m p h = grind (arith, nat_tests)
 
 gone_plain : (pt : Point) (s : OneKernel) (l : Label) (i : MsgId) → Sane pt → kernel.step pt.kernel l ≡ Some s → out_of l ≡ Some i → Plain pt.view i
 gone_plain pt s l i h is goes = let g = gone_in pt.kernel s l i is goes in plain_in_bag pt i g.message h g.there
@@ -93,26 +62,15 @@ gone_plain pt s l i h is goes = let g = gone_in pt.kernel s l i is goes in plain
 -- a line that is no put, by what stands where behind it
 pub spares_line : (v : View) (l : Line) (p : Pid) → is_put l ≡ false → ((j : MsgId) (t : Told) (z : Spot) → v.told j ≡ Some t → is_between t.kind ≡ true → t.about ≡ Of p → 1 ≤ standing v j z → (y : Spot) × (1 ≤ standing (view_after v l) j y))
     → ((m : ℕ) → is_settled (v.known m p) ≡ true → is_settled ((view_after v l).known m p) ≡ true) → Spares v (view_after v l) p
-spares_line v l p quiet on still = record {
-  kept = λ j t e. ap (λ (f : MsgId → Option Told). f j) (hushed v l quiet).told ∙ e;
-  on = on;
-  still = still;
-}
+spares_line v l p quiet on still = grind (arith, nat_tests, hushed)
 
 -- by each message standing where it stood
 pub same_spot : (v w : View) (j : MsgId) (z : Spot) → standing w j z ≡ standing v j z → 1 ≤ standing v j z → (y : Spot) × (1 ≤ standing w j y)
 same_spot v w j z same s = (z, subst (λ n. 1 ≤ n) (sym same) s)
 
 label_spares : (pt : Point) (s : OneKernel) (l : Label) (p : Pid) → Sane pt → kernel.step pt.kernel l ≡ Some s → Spares pt.view (view_after pt.view (Line.Label l)) p
-label_spares pt s (Label.End q y) p h is =
-    let l = Line.Label (Label.End q y) in
-    spares_line pt.view l p refl (λ j t z told b a st. same_spot pt.view (view_after pt.view l) j z (ap (times j) (ended_off pt.view q z)) st) (λ m e. settled_at pt.view.known pt.view.acting q Ended m p refl e)
-label_spares pt s (Label.Created id q) p h is =
-    let l = Line.Label (Label.Created id q) in
-    let plain = gone_plain pt s (Label.Created id q) id h is refl in
-    spares_line pt.view l p refl
-    (λ j t z told b a st. same_spot pt.view (view_after pt.view l) j z (ap (times j) (created_off pt.view id q z) ∙ handled_spots pt.view id j (other_than pt.view id j t plain told b) z) st)
-    (λ m e. settled_at pt.view.known pt.view.acting q Here m p refl e)
+label_spares pt s (Label.End q y) p h is = search (spares_line, same_spot, ended_off, settled_at)
+label_spares pt s (Label.Created id q) p h is = search (gone_plain, spares_line, same_spot, created_off, handled_spots, other_than, settled_at)
 label_spares pt s (Label.Served id) p h is =
     let l = Line.Label (Label.Served id) in
     let plain = gone_plain pt s (Label.Served id) id h is refl in
@@ -126,10 +84,7 @@ abbrev pub TameAt : View → Option MsgId → Type 0
 TameAt v o = (i : MsgId) → o ≡ Some i → Tame v i
 
 pub left_spares : (v : View) (q p : Pid) → pid_eq q p ≡ false → Spares v (view_after v (Line.Migration Stage.Left q)) p
-left_spares v q p off =
-    let l = Line.Migration Stage.Left q in
-    spares_line v l p refl (λ j t z told b a st. same_spot v (view_after v l) j z (ap (times j) (left_off v q z)) st)
-    (λ m e. ap is_settled (record_off v.known v.acting q (gone_to (v.known v.acting q) (v.moves q + 1)) m p off) ∙ e)
+left_spares v q p off = search (spares_line, same_spot, left_off, record_off)
 
 pub line_spares : (pt : Point) (s : OneKernel) (l : Line) (p : Pid) (o : Option MsgId) → Sane pt → TameAt pt.view o → MildLine p o l → kernel_after pt.kernel (label_of l) ≡ Some s → Spares pt.view (view_after pt.view l) p
 line_spares pt s (Line.Idle m) p o h tame mild is = spares_same pt.view p
@@ -143,3 +98,39 @@ line_spares pt s (Line.NoMove i) p o h tame mild is = spares_calm pt.view (view_
 line_spares pt s (Line.Migration Stage.Asked q) p o h tame mild is = spares_same pt.view p
 line_spares pt s (Line.Migration Stage.Left q) p o h tame mild is = left_spares pt.view q p mild
 line_spares pt s _ p o h tame mild is = absurd mild
+
+mild_touches : (p : Pid) (o : Option MsgId) (l : Line) → MildLine p o l → touches l ≡ false
+mild_touches p o l h = grind (arith, nat_tests)
+
+-- what parts keep
+pub record Kept (v : View) (p : Pid) (o : Option MsgId) (pt : Point) : Type 0 where
+  pub spares : Spares v pt.view p
+  pub sane : Sane pt
+  pub fits : PairsFit pt.view
+  pub tame : TameAt v o
+
+tame_on : (v w : View) (p : Pid) (o : Option MsgId) → Spares v w p → TameAt v o → TameAt w o
+tame_on v w p o h tame i e = let t = tame i e in record { what = t.what; told = h.kept i t.what t.told; plain = t.plain }
+
+-- behind a part
+abbrev Spared : Pid → View → Point → Type 0
+Spared p v q = Spares v q.view p × PairsFit q.view
+
+spared_packet : (p : Pid) (v : View) → PacketsKeep (Spared p v)
+spared_packet p v q a b k l h = search (spares_trans, spares_calm, packet_calm, fits_packet)
+
+part_spares : (p : Pid) (o : Option MsgId) (pt next : Point) (q : Part) → Sane pt → PairsFit pt.view → TameAt pt.view o → Mild p o q → Steps pt q next → Spared p pt.view next
+part_spares p o pt next q h fits tame mild =
+    part_leads (Spared p pt.view) (spared_packet p pt.view) pt next q
+    (whatever_put (Spared p pt.view) pt q
+    (λ l is s step. let m = subst (Mild p o) is mild in (line_spares pt s l p o h tame m step, fits_as pt.view (view_after pt.view l) (pair_same pt.view l (mild_touches p o l m)) fits))
+    (λ b i k r. (spares_put pt.view b i k r p fits, fits_put pt.view pt.view.acting b i k r fits)) (spares_same pt.view p, fits))
+
+sayable_of : (p : Pid) (o : Option MsgId) (q : Part) → Mild p o q → Sayable q
+sayable_of p o q h = grind (arith, nat_tests)
+
+pub parts_spare : (p : Pid) (o : Option MsgId) (ps : List Part) (v : View) (pt : Point) (w : Spelled) → AllMild p o ps → Kept v p o pt → spelled pt ps ≡ Some w → Kept v p o w.point
+parts_spare p o qs v x w mild h is = by_parts (λ ps pt u. AllMild p o ps → Kept v p o pt → Kept v p o u.point) (λ pt mild h. h) (λ q ps pt next ls z lines leads rest mild h. (
+    let c = part_spares p o pt next q h.sane h.fits (tame_on v pt.view p o h.spares h.tame) mild.0 (record { lines = ls; are = lines; leads = leads }) in
+    rest mild.1 (record { spares = spares_trans v pt.view next.view p h.spares c.0; sane = part_sane pt next q ls (sayable_of p o q mild.0) lines leads h.sane; fits = c.1; tame = h.tame })
+    )) qs x w is mild h

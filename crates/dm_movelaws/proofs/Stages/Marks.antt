@@ -1,7 +1,7 @@
 -- The marks of lines: of one list after another, and of the lines that parts say.
-use Rattle.dm_movelaws.proofs.Names.{◌≡◌, ℕ, ◌==◌, Bool, true, false, List, [], ◌∷◌, ◌++◌, refl, ap, ◌∙◌, sym, length, if◌then◌else◌, Option, Some, Pid, pid_eq, MsgId, MessageKind, plain_kind, Boot, pid_eq-same, bind-is, Step, Line, Load}
-use Rattle.dm_movelaws.proofs.Names.{own_id, Receiver, Point, moved, Part, Says, Routes, Again, Owns, Transmits, Spelled, lines_of, puts, goes_out, packet_line, spelled, sends_on, group_of, outcome, Mark, mark_for, with_mark, marks}
-use Rattle.dm_movelaws.proofs.Names.{follows, left_open, in_order, left_true, right_true, both_true, by_parts, group_is}
+use Rattle.dm_movelaws.proofs.Names.{◌≡◌, ℕ, Bool, true, false, List, [], ◌∷◌, ◌++◌, refl, ap, ◌∙◌, sym, if◌then◌else◌, Option, Some, Pid, pid_eq, MsgId, Boot, pid_eq-same, Step, Line, Point, moved, Part, Says, Spelled, lines_of, spelled}
+use Rattle.dm_movelaws.proofs.Names.{sends_on, group_of, outcome, Mark, mark_for, with_mark, marks, left_open, in_order, left_true, right_true, both_true, by_parts, group_is, nat_tests, arith}
+use Rattle.dm_movelaws.proofs.Leading.{lines_are}
 
 -- the mark that is last behind these marks, if its migration isn't over
 abbrev pub open_after : Option Mark → List Mark → Option Mark
@@ -10,24 +10,15 @@ open_after last (m ∷ ms) = open_after (left_open m) ms
 
 pub order-append : (o : Option Mark) (xs ys : List Mark) → in_order o xs ≡ true → in_order (open_after o xs) ys ≡ true → in_order o (xs ++ ys) ≡ true
 order-append o [] ys e f = f
-order-append o (x ∷ xs) ys e f =
-    both_true (follows o x) (in_order (left_open x) (xs ++ ys)) (left_true (follows o x) (in_order (left_open x) xs) e) (order-append (left_open x) xs ys (right_true (follows o x) (in_order (left_open x) xs) e) f)
+order-append o (x ∷ xs) ys e f = search (both_true, left_true, right_true, order-append (left_open x) xs ys)
 
 pub open-append : (o : Option Mark) (xs ys : List Mark) → open_after o (xs ++ ys) ≡ open_after (open_after o xs) ys
 open-append o [] ys = refl
 open-append o (x ∷ xs) ys = open-append (left_open x) xs ys
 
 -- marks of lists
-if-append : (c : Bool) (m : Mark) (xs ys : List Mark) → (if c then m ∷ (xs ++ ys) else xs ++ ys) ≡ (if c then m ∷ xs else xs) ++ ys
-if-append true m xs ys = refl
-if-append false m xs ys = refl
-
 with-append : (p : Pid) (l : Line) (xs ys : List Mark) → with_mark p l (xs ++ ys) ≡ with_mark p l xs ++ ys
-with-append p (Line.Migration s q) xs ys = if-append (pid_eq p q) _ xs ys
-with-append p (Line.SentOn q n) xs ys = if-append (pid_eq p q) _ xs ys
-with-append p (Line.Lacks q s b) xs ys = if-append (pid_eq p q) _ xs ys
-with-append p (Line.Stays q) xs ys = if-append (pid_eq p q) _ xs ys
-with-append p _ xs ys = refl
+with-append p l xs ys = grind (arith, nat_tests)
 
 pub marks-append : (p : Pid) (xs ys : List Line) → marks p (xs ++ ys) ≡ marks p xs ++ marks p ys
 marks-append p [] ys = refl
@@ -42,27 +33,8 @@ abbrev pub marks_of : Pid → List Part → List Mark
 marks_of p [] = []
 marks_of p (q ∷ ps) = mark_part p q (marks_of p ps)
 
-packet_or_none : (p : Pid) (c d : Bool) (a b k : ℕ) (l : Load) (zs : List Line) → marks p ((if c then [] else if d then Line.Packet a b k l ∷ [] else []) ++ zs) ≡ marks p zs
-packet_or_none p true d a b k l zs = refl
-packet_or_none p false true a b k l zs = refl
-packet_or_none p false false a b k l zs = refl
-
-puts_marks : (p : Pid) (pt : Point) (b : ℕ) (i : MsgId) (k : MessageKind) (q : Pid) (ls zs : List Line) → Some (puts pt.view b i k q) ≡ Some ls → marks p (ls ++ zs) ≡ marks p zs
-puts_marks p pt b i k q ls zs is =
-    let f : puts pt.view b i k q ≡ ls = cc in
-    ap (λ (xs : List Line). marks p (xs ++ zs)) (sym f)
-    ∙ packet_or_none p (pt.view.acting == b) (goes_out (pt.view.pair pt.view.acting b)) pt.view.acting b (length (pt.view.pair pt.view.acting b).wire) (Load.Data (length (pt.view.pair pt.view.acting b).ids)) zs
-
 part_marks : (p : Pid) (pt : Point) (q : Part) (ls zs : List Line) → lines_of pt q ≡ Some ls → marks p (ls ++ zs) ≡ mark_part p q (marks p zs)
-part_marks p pt (Says l) ls zs is = let f : l ∷ [] ≡ ls = cc in ap (λ (xs : List Line). marks p (xs ++ zs)) (sym f)
-part_marks p pt (Routes i) ls zs is =
-    let (m, there, last) = bind-is (pt.kernel.bag i) (λ m. Some (puts pt.view (pt.addresses (Receiver i)).at i (plain_kind m.what) m.to)) ls is in
-    puts_marks p pt (pt.addresses (Receiver i)).at i (plain_kind m.what) m.to ls zs last
-part_marks p pt (Again i b) ls zs is =
-    let (t, there, last) = bind-is (pt.view.told i) (λ t. Some (puts pt.view b i t.kind t.receiver)) ls is in
-    puts_marks p pt b i t.kind t.receiver ls zs last
-part_marks p pt (Owns k q b) ls zs is = puts_marks p pt b (own_id pt.view) k q ls zs is
-part_marks p pt (Transmits a b l) ls zs is = let f : packet_line pt.view a b l ∷ [] ≡ ls = cc in ap (λ (xs : List Line). marks p (xs ++ zs)) (sym f)
+part_marks p pt q ls zs is = grind (arith, nat_tests, lines_are)
 
 pub spelled_marks : (p : Pid) (ps : List Part) (pt : Point) (w : Spelled) → spelled pt ps ≡ Some w → marks p w.lines ≡ marks_of p ps
 spelled_marks p = by_parts (λ ps pt w. marks p w.lines ≡ marks_of p ps) (λ pt. refl) (λ q ps pt next ls z lines leads rest. part_marks p pt q ls z.lines lines ∙ ap (mark_part p q) rest)

@@ -1,12 +1,11 @@
 -- A line that handles the message about a process, and what follows it: what that says of the marks of each process.
 use Rattle.dm_movelaws.proofs.Names.{◌≡◌, ℕ, ◌≤◌, Bool, true, false, List, [], ◌∷◌, ◌++◌, refl, ap, ◌∙◌, sym, subst, inl, inr, arith, if◌then◌else◌, Option, None, Some, cases_Bool, false≢true, Pid, pid_eq, MsgId, MessageKind, id_eq, bind}
-use Rattle.dm_movelaws.proofs.Names.{Line, Load, View, Told, Of, own_id, view_after, handled, is_between, Point, label_of, kernel_after, moved, after, Part, Says, Owns, Spelled, behind, spelled, Spot, Inbox, times, ids_at, id_eq-is}
-use Rattle.dm_movelaws.proofs.Names.{id_eq-same, pid_eq-is, pid_eq-same, is_put, not_true, line_next, one_of, touches, pair_same, onward, handled_spots, packet_calm, put_at, put_there, put_spot, fits_as, PairsFit, puts_next, said, Sane}
-use Rattle.dm_movelaws.proofs.Names.{sane_line, Mark, with_mark, in_order, first_none}
+use Rattle.dm_movelaws.proofs.Names.{Line, Load, View, Told, Of, own_id, view_after, handled, is_between, Point, label_of, kernel_after, moved, Part, Says, Owns, Spelled, behind, spelled, Spot, Inbox, times, ids_at, id_eq-is, id_eq-same}
+use Rattle.dm_movelaws.proofs.Names.{pid_eq-is, pid_eq-same, is_put, not_true, line_next, one_of, touches, pair_same, onward, handled_spots, packet_calm, put_at, put_there, put_spot, fits_as, PairsFit, puts_next, said, Sane, sane_line}
+use Rattle.dm_movelaws.proofs.Names.{Mark, with_mark, in_order, first_none, nat_tests}
 use Rattle.dm_movelaws.proofs.Stages.Marks.{open_after}
 use Rattle.dm_movelaws.proofs.Stages.Spares.{is_settled, mark_of, Spares, TokenOf, HasMark, token_mark, Marked, none_marked, some_marked}
-use Rattle.dm_movelaws.proofs.Stages.Lines.{AllMild, spares_line, same_spot}
-use Rattle.dm_movelaws.proofs.Stages.Parts.{Kept, parts_spare}
+use Rattle.dm_movelaws.proofs.Stages.Lines.{AllMild, spares_line, same_spot, Kept, parts_spare}
 pub use Rattle.dm_rule.proofs.Phases.Put.{of_same}
 
 -- the message at the front, of no other process's migration
@@ -50,10 +49,7 @@ first_spares pt i is q p l h apart quiet off known =
     (λ m e. ap is_settled (known m) ∙ e)
 
 token_packet : (q : Pid) (k : MessageKind) (x : Point) (a b n : ℕ) (l : Load) → TokenOf x.view q k → TokenOf (view_after x.view (Line.Packet a b n l)) q k
-token_packet q k x a b n l h =
-    let c = packet_calm x.view a b n l in
-    let (y, s) = c.on h.id h.what h.told (ap is_between h.kind ∙ h.between) h.spot h.stands in
-    record { id = h.id; what = h.what; told = c.kept h.id h.what h.told; kind = h.kind; between = h.between; about = h.about; spot = y; stands = s }
+token_packet q k x a b n l h = grind (arith, nat_tests, packet_calm)
 
 pub owns_token : (pt : Point) (k : MessageKind) (q r : Pid) (b : ℕ) (w : Spelled) → Sane pt → PairsFit pt.view → is_between k ≡ true → pt.view.topic ≡ Of q → spelled pt (Owns k r b ∷ []) ≡ Some w → TokenOf w.point.view q k
 owns_token pt k q r b w sane fits between topic e =
@@ -110,10 +106,7 @@ answer pt i is q r l k b ns x w h none quiet calm off known topic between unmark
     let n = line_next pt l (Owns k r b ∷ []) w none e in
     let next = moved pt l pt.kernel in
     let token : TokenOf w.point.view q k = subst (λ (y : Point). TokenOf y.view q k) n.point (owns_token next k q r b n.rest (line_sane pt l none quiet h.sane) (line_fits pt l calm h.fits) between topic n.more) in
-    record {
-      others = λ p apart. (unmarked p apart, line_and_parts pt p l (Owns k r b ∷ []) w none quiet calm h.sane h.fits (first_spares pt i is q p l h apart quiet off (λ m. known m p apart)) (tt, tt) e);
-      mine = some_marked v w.point.view q (with_mark q l []) ns x (mark_of k) marked before (token_mark w.point.view q k token) order ends;
-    }
+    search (line_and_parts, first_spares, some_marked, token_mark)
 
 -- parts after parts
 pub record Split (ps qs : List Part) (pt : Point) (w : Spelled) : Type 0 where
@@ -130,9 +123,7 @@ split (p ∷ ps) qs pt w e =
     let s = split ps qs o.next o.rest o.on in
     record {
       mid = behind o.lines s.mid;
-      first = ap (λ x. bind x (λ (ls : List Line). bind (after pt ls) (λ (n : Point). bind (spelled n ps) (λ (z : Spelled). Some (behind ls z))))) o.lines_are
-          ∙ ap (λ x. bind x (λ (n : Point). bind (spelled n ps) (λ (z : Spelled). Some (behind o.lines z)))) o.leads
-          ∙ ap (λ x. bind x (λ (z : Spelled). Some (behind o.lines z))) s.first;
+      first = grind (arith, nat_tests);
       rest = s.rest;
       more = s.more;
       point = s.point ∙ o.end;

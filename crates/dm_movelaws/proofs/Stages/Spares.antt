@@ -2,7 +2,7 @@
 use Rattle.dm_movelaws.proofs.Names.{◌≡◌, ℕ, ◌≤◌, ◌==◌, ◌&&◌, Bool, true, false, not, List, [], refl, ap, ◌∙◌, sym, subst, inl, inr, if◌then◌else◌, Option, None, Some, cases_Bool, false≢true, Pid, MsgId, MessageKind, id_eq, View, Told, Of}
 use Rattle.dm_movelaws.proofs.Names.{Known, Unknown, Here, Frozen, Incoming, Forward, after_put, Spot, standing, is_between, is_restart, is_early, is_away, is_here, is_over, kind_comes, knows, Phase, Nowhere, Rests, Over, Moves, is_due}
 use Rattle.dm_movelaws.proofs.Names.{token_in, told_between, IsIn, id_eq-is, PairsFit, put_told_off, Calm, between_of, put_spots, put_at, put_there, put_spot, rests_here, Mark, Reached, Lacking, in_order, eq_self, not_false, right_true}
-use Rattle.dm_movelaws.proofs.Names.{first_kept, kind_leaves}
+use Rattle.dm_movelaws.proofs.Names.{first_kept, kind_leaves, nat_tests, arith}
 use Rattle.dm_movelaws.proofs.Stages.Marks.{open_after}
 
 -- the last mark, by the message that is under way
@@ -37,30 +37,17 @@ pub spares_same : (v : View) (p : Pid) → Spares v v p
 spares_same v p = record { kept = λ i t e. e; on = λ i t z e b a s. (z, s); still = λ m e. e }
 
 pub spares_trans : (u v w : View) (p : Pid) → Spares u v p → Spares v w p → Spares u w p
-spares_trans u v w p h k = record {
-  kept = λ i t e. k.kept i t (h.kept i t e);
-  on = λ i t z e b a s. (let (y, x) = h.on i t z e b a s in k.on i t y (h.kept i t e) b a x);
-  still = λ m e. k.still m (h.still m e);
-}
+spares_trans u v w p h k = grind (arith, nat_tests)
 
 pub spares_calm : (v w : View) (p : Pid) → Calm v w → Spares v w p
-spares_calm v w p c = record {
-  kept = c.kept;
-  on = λ i t z e b a s. c.on i t e b z s;
-  still = λ m e. ap is_settled (c.known m p) ∙ e;
-}
+spares_calm v w p c = grind (arith, nat_tests)
 
 pub spares_put : (v : View) (b : ℕ) (i : MsgId) (k : MessageKind) (q p : Pid) → PairsFit v → Spares v (after_put v v.acting b i k q) p
 spares_put v b i k q p fits =
     let w = after_put v v.acting b i k q in
     let u : Told = record { kind = k; receiver = q; about = v.topic } in
     record {
-      kept = λ j t e. elim (cases_Bool (id_eq i j)) [
-        | inl same ↦
-            let is : i ≡ j = id_eq-is i j same in
-            subst (λ (x : MsgId). w.told x ≡ Some t) is (put_at v v.acting b i k q ∙ first_kept (v.told i) u t (ap v.told is ∙ e))
-        | inr apart ↦ put_told_off v v.acting b i j k q apart ∙ e
-      ];
+      kept = λ j t e. grind (arith, nat_tests, id_eq-is, put_at, first_kept, put_told_off);
       on = λ j t z e c a s. elim (cases_Bool (id_eq i j)) [
         | inl same ↦ (put_spot v.acting b, subst (λ (x : MsgId). 1 ≤ standing w x (put_spot v.acting b)) (id_eq-is i j same) (put_there v v.acting b i k q fits))
         | inr apart ↦ (z, subst (λ n. 1 ≤ n) (sym (put_spots v v.acting b i j k q fits apart z)) s)
@@ -93,9 +80,7 @@ rest_settled Nowhere m _ d e h = absurd (false≢true h)
 
 -- where something is, not all machines are settled: the source holds the process, or the destination expects it
 pub restart_late : (k : MessageKind) → is_restart k ≡ true → is_early k ≡ false
-restart_late MessageKind.Ask e = absurd (false≢true e)
-restart_late MessageKind.Refuse e = absurd (false≢true e)
-restart_late _ e = refl
+restart_late k e = grind (arith, nat_tests)
 
 source_settled : (k : MessageKind) (d : ℕ) (x : Known) → kind_leaves k d x ≡ true → is_settled x ≡ true → is_restart k ≡ true
 source_settled k d (Frozen to) h e = absurd (false≢true e)
@@ -107,10 +92,7 @@ source_settled k d (Forward at moves) h e = first_of (is_restart k) (d == at) h
 source_settled k d _ h e = absurd (false≢true h)
 
 destination_settled : (k : MessageKind) (s : ℕ) (x : Known) → kind_comes k s x ≡ true → is_settled x ≡ true → is_early k ≡ true
-destination_settled k s Unknown h e = h
-destination_settled k s (Incoming from) h e = absurd (false≢true e)
-destination_settled k s (Forward at moves) h e = h
-destination_settled k s _ h e = absurd (false≢true h)
+destination_settled k s x h e = grind (arith, nat_tests)
 
 moves_unsettled : (v : View) (p : Pid) (k : MessageKind) (s d : ℕ) (o : Option MsgId) → IsIn v p (Moves k s d o) → ((m : ℕ) → is_settled (v.known m p) ≡ true) → ⊥
 moves_unsettled v p k s d o h settled =
@@ -136,29 +118,19 @@ pub record TokenOf (v : View) (p : Pid) (k : MessageKind) : Type 0 where
   pub stands : 1 ≤ standing v id spot
 
 -- it is the phase's
-told_kind : (k : MessageKind) (s d : ℕ) (p : Pid) (i : MsgId) (v : View) (t : Told) → IsIn v p (Moves k s d (Some i)) → v.told i ≡ Some t → t.kind ≡ k
-told_kind k s d p i v t h told = let f : Some t ≡ Some (told_between p k s d) = sym told ∙ h.token.told in let g : t ≡ told_between p k s d = cc in ap (λ (x : Told). x.kind) g
-
-phase_kind : (v : View) (p : Pid) (a : Phase) (i : MsgId) (t : Told) → IsIn v p a → token_in a ≡ Some i → v.told i ≡ Some t → mark_in a ≡ mark_of t.kind
-phase_kind v p (Moves k s d (Some j)) i t h e told =
-    let f : j ≡ i = cc in
-    ap mark_of (sym (told_kind k s d p j v t h (ap v.told f ∙ told)))
-phase_kind v p _ i t h e told = cc
 
 -- all phases of a process have this mark
 abbrev pub HasMark : View → Pid → Option Mark → Type 0
 HasMark v p o = (a : Phase) → IsIn v p a → is_due a ≡ false → mark_in a ≡ o
 
 pub token_mark : (v : View) (p : Pid) (k : MessageKind) → TokenOf v p k → HasMark v p (mark_of k)
-token_mark v p k t a h due =
-    phase_kind v p a t.id t.what h (h.alone t.id t.what t.spot t.told (ap is_between t.kind ∙ t.between) t.about t.stands) t.told ∙ ap mark_of t.kind
+token_mark v p k t a h due = grind (arith, nat_tests)
 
 pub here_mark : (v : View) (p : Pid) (m : ℕ) → v.known m p ≡ Here → HasMark v p None
 here_mark v p m here a h due = ap mark_in (rests_here a m (sym (ap (knows a m) here) ∙ h.known m))
 
 settled_mark : (v : View) (p : Pid) → ((m : ℕ) → is_settled (v.known m p) ≡ true) → HasMark v p None
-settled_mark v p settled (Moves k s d o) h due = absurd (moves_unsettled v p k s d o h settled)
-settled_mark v p settled _ h due = refl
+settled_mark v p settled e h due = grind (arith, nat_tests, moves_unsettled)
 
 pub spares_mark : (v w : View) (p : Pid) (a b : Phase) → Spares v w p → IsIn v p a → IsIn w p b → is_due a ≡ false → is_due b ≡ false → mark_in b ≡ mark_in a
 spares_mark v w p (Moves c m n None) b s h k da db = cc
@@ -175,10 +147,7 @@ abbrev pub Marked : View → View → Pid → List Mark → Type 0
 Marked v w p ms = (a b : Phase) → IsIn v p a → IsIn w p b → is_due a ≡ false → is_due b ≡ false → (in_order (mark_in a) ms ≡ true) × (open_after (mark_in a) ms ≡ mark_in b)
 
 pub none_marked : (v w : View) (p : Pid) (ms : List Mark) → ms ≡ [] → Spares v w p → Marked v w p ms
-none_marked v w p ms none s a b h k da db =
-    (ap (in_order (mark_in a)) none, ap (open_after (mark_in a)) none ∙ sym (spares_mark v w p a b s h k da db))
+none_marked v w p ms none s a b h k da db = grind (arith, nat_tests, spares_mark)
 
 pub some_marked : (v w : View) (p : Pid) (ms ns : List Mark) (x y : Option Mark) → ms ≡ ns → HasMark v p x → HasMark w p y → in_order x ns ≡ true → open_after x ns ≡ y → Marked v w p ms
-some_marked v w p ms ns x y is before behind order ends a b h k da db =
-    let e = before a h da in
-    (ap (in_order (mark_in a)) is ∙ ap (λ (o : Option Mark). in_order o ns) e ∙ order, ap (open_after (mark_in a)) is ∙ ap (λ (o : Option Mark). open_after o ns) e ∙ ends ∙ sym (behind b k db))
+some_marked v w p ms ns x y is before behind order ends a b h k da db = grind (arith, nat_tests)

@@ -1,16 +1,13 @@
 -- Where a message goes on, its address is on the trail; and where all is taken of a process that leaves, those of its messages are.
-use Rattle.dm_movelaws.proofs.Names.{◌≡◌, ◌≢◌, ℕ, ◌+◌, ◌==◌, ◌≤◌, Bool, true, false, List, [], ◌∷◌, ◌++◌, length, refl, ap, ◌∙◌, sym, subst, arith, false≢true, length-append, if◌then◌else◌, slice_get, Option, None, Some, Pid, pid_eq, MsgId}
+use Rattle.dm_movelaws.proofs.Names.{◌≡◌, ◌≢◌, ℕ, ◌+◌, ◌==◌, ◌≤◌, Bool, true, false, List, [], ◌∷◌, ◌++◌, length, refl, ap, ◌∙◌, sym, subst, arith, false≢true, length-append, if◌then◌else◌, slice_get, Option, Some, Pid, pid_eq, MsgId}
 use Rattle.dm_movelaws.proofs.Names.{MessageKind, Line, Stage, View, Told, Known, Frozen, Incoming, Forward, own_id, handled, forwarded_for, receiver_of, view_after, gone_to, Receiver, Sender, is_told_back, Point, moved, Says, Again, Owns}
 use Rattle.dm_movelaws.proofs.Names.{to_kernel, forwards_on, sends_on, Moves, IsIn, times, Trails, IsOn, destination, trails_after, both_lists, forwarded_known, Sane, get_at_end, forwarded_back, Named, source_holds, two_apart, sent_on_at}
-use Rattle.dm_movelaws.proofs.Names.{Treads, PutFits, Rides, said_by, again_rides, named_for, again_same, own_outside, own_fresh, eq_self, forwarded_own, other_id}
-use Rattle.dm_rule.proofs.Names.{leaves}
+use Rattle.dm_movelaws.proofs.Names.{Treads, PutFits, Rides, said_by, again_rides, named_for, again_same, own_outside, own_fresh, eq_self, forwarded_own, other_id, leaves, nat_tests}
 use Rattle.dm_movelaws.proofs.Trail.Placed.{is_held, Placed, Places, placed_same, placed_left, places_set, moves_held, moves_comes}
-use Rattle.dm_movelaws.proofs.Trail.Walks.{Walks, WalksOf, first_walks, places_ride}
-use Rattle.dm_movelaws.proofs.Trail.Loose.{places_same, owns_leave, to_restart}
+use Rattle.dm_movelaws.proofs.Trail.Loose.{Walks, WalksOf, first_walks, places_ride, places_same, owns_leave, to_between}
 
 forwarded_moves : (v : View) (o : Option Pid) (q : Pid) → (forwarded_for v o).moves q ≡ v.moves q
-forwarded_moves v None q = refl
-forwarded_moves v (Some p) q = refl
+forwarded_moves v o q = grind (arith, nat_tests)
 
 back_walks : (pt : Point) (t : Trails) (sender : Pid) (m : ℕ) (c : Bool) → Places pt.view t → (c ≡ true → Sane pt → PutFits pt t (own_id pt.view) MessageKind.Update sender) → Walks pt t (if c then Owns MessageKind.Update sender m ∷ [] else [])
 back_walks pt t sender m true h fits = λ sane on. (fits refl sane, λ next s. owns_leave MessageKind.Update sender m pt next t s h)
@@ -49,26 +46,7 @@ record Sent (q : Point) (u : Trails) (p : Pid) (d : ℕ) : Type 0 where
   others : (r : Pid) → pid_eq p r ≡ false → Placed q.view u r
 
 sent_rides : (u : Trails) (p : Pid) (d : ℕ) → Rides (λ (q : Point). Sent q u p d)
-sent_rides u p d = record {
-  put = λ pt a b i k q h. record {
-    holds = h.holds;
-    at = h.at;
-    long = h.long;
-    apart = h.apart;
-    none = h.none;
-    only = h.only;
-    others = λ r e. placed_same pt.view (moved pt (Line.Put a b i k q) pt.kernel).view u u r (λ m. refl) refl refl (h.others r e);
-  };
-  packet = λ pt a b k l h. record {
-    holds = h.holds;
-    at = h.at;
-    long = h.long;
-    apart = h.apart;
-    none = h.none;
-    only = h.only;
-    others = λ r e. placed_same pt.view (moved pt (Line.Packet a b k l) pt.kernel).view u u r (λ m. refl) refl refl (h.others r e);
-  };
-}
+sent_rides u p d = grind (arith, nat_tests, placed_same)
 
 left_places : (q : Point) (u : Trails) (p : Pid) (d : ℕ) → Sent q u p d → Places (view_after q.view (Line.Migration Stage.Left p)) u
 left_places q u p d h =
@@ -81,7 +59,7 @@ left_places q u p d h =
 left_walks : (q : Point) (u : Trails) (p : Pid) (d from : ℕ) → Sent q u p d → Walks q u (Says (Line.Migration Stage.Left p) ∷ to_kernel MessageKind.Restart from ∷ [])
 left_walks q u p d from h =
     first_walks (Line.Migration Stage.Left p) (to_kernel MessageKind.Restart from ∷ []) q u
-    (λ sane on. (record { d = d; holds = h.holds; at = h.at; long = h.long; apart = h.apart }, λ next s. subst (λ (z : Point). Places z.view u) s.is (left_places q u p d h))) (to_restart from)
+    (λ sane on. (record { d = d; holds = h.holds; at = h.at; long = h.long; apart = h.apart }, λ next s. subst (λ (z : Point). Places z.view u) s.is (left_places q u p d h))) (to_between MessageKind.Restart from refl)
 
 agains_walks : (u : Trails) (p : Pid) (d from to : ℕ) (ids : List MsgId) (q : Point) → Sent q u p d → Walks q u (sends_on to ids ++ Says (Line.Migration Stage.Left p) ∷ to_kernel MessageKind.Restart from ∷ [])
 agains_walks u p d from to [] q h = left_walks q u p d from h

@@ -1,14 +1,12 @@
 -- What a turn says of a kernel's own message fits the trails.
 use Rattle.dm_movelaws.proofs.Names.{◌≡◌, ℕ, ◌+◌, ◌≤◌, Bool, true, List, [], ◌∷◌, ◌++◌, refl, ap, ◌∙◌, sym, subst, false≢true, if◌then◌else◌, Option, Some, Pid, MsgId, MessageKind, Line, Stage, Boot, manager, pid_eq-same, Told, Of, Here}
 use Rattle.dm_movelaws.proofs.Names.{Frozen, Incoming, Forward, target_of, front_told, front_of, view_after, Receiver, Point, Part, Says, to_kernel, forwards_on, Moves, IsIn, is_between, receiver_in, sender_in, times, Trails, both_lists}
-use Rattle.dm_movelaws.proofs.Names.{Sane, Named, source_holds, destination_expects, by_hears, place_told, behind_count, left_parts}
-use Rattle.dm_rule.specs.Rule as rule
+use Rattle.dm_movelaws.proofs.Names.{Sane, Named, source_holds, destination_expects, by_hears, place_told, behind_count, left_parts, nat_tests, arith}
 use Rattle.dm_movelaws.proofs.Trail.Placed.{is_held, Places, placed_comes, placed_restarts, places_set, places_held, moves_held, moves_comes, moves_forward}
-use Rattle.dm_movelaws.proofs.Trail.Walks.{Walks, first_walks, loose_walks}
-use Rattle.dm_movelaws.proofs.Trail.Loose.{to_ask, to_refuse, to_pullstate, to_state, to_pullblock, to_memory, to_alltaken, updated_loose, here_loose, no_move_loose, held_loose, lacks_loose, proto_loose, asked_loose, state_loose, memory_loose}
+use Rattle.dm_movelaws.proofs.Trail.Loose.{Walks, first_walks, loose_walks, updated_loose, here_loose, no_move_loose, held_loose, lacks_loose, proto_loose, to_between, asked_loose, state_loose, memory_loose, Loose, AllLoose}
 use Rattle.dm_movelaws.proofs.Trail.Forwards.{leaves_walks}
+use Rattle.dm_rule.specs.Rule as rule
 use Rattle.dm_rule.proofs.Hearing as hearing
-use Rattle.dm_movelaws.proofs.Trail.Walks.{Loose, AllLoose}
 
 -- a process moves, and a message of this kind is heard about it
 pub record Heard (pt : Point) (p : Pid) (k : MessageKind) : Type 0 where
@@ -32,7 +30,7 @@ accepted_places pt t p u h =
 accepts_walks : (pt : Point) (t : Trails) (from : ℕ) (p : Pid) → Heard pt p MessageKind.Ask → Places pt.view t → Walks pt t (Says (Line.Migration Stage.Accepted p) ∷ to_kernel MessageKind.PullState from ∷ [])
 accepts_walks pt t from p u h =
     first_walks (Line.Migration Stage.Accepted p) (to_kernel MessageKind.PullState from ∷ []) pt t
-    (λ sane on. (record { k = MessageKind.Ask; s = u.s; d = u.d; o = u.o; phase = u.phase; off = refl }, λ next s. subst (λ (z : Point). Places z.view t) s.is (accepted_places pt t p u h))) (to_pullstate from)
+    (λ sane on. (record { k = MessageKind.Ask; s = u.s; d = u.d; o = u.o; phase = u.phase; off = refl }, λ next s. subst (λ (z : Point). Places z.view t) s.is (accepted_places pt t p u h))) (to_between MessageKind.PullState from refl)
 
 stays_walks : (pt : Point) (t : Trails) (p : Pid) → Heard pt p MessageKind.Refuse → Places pt.view t → Walks pt t (Says (Line.Stays p) ∷ [])
 stays_walks pt t p u h =
@@ -52,16 +50,14 @@ restarted_places pt t p u h =
     (λ m held. false≢true (sym (moves_held v p MessageKind.Restart u.s u.d m u.o u.phase held).1)) (λ k from at. moves_comes v p MessageKind.Restart u.s u.d k from u.o u.phase at ∙ sym u.acts))
 
 restarts_walks : (pt : Point) (t : Trails) (p : Pid) → Heard pt p MessageKind.Restart → Places pt.view t → Walks pt t (Says (Line.Migration Stage.Restarted p) ∷ [])
-restarts_walks pt t p u h =
-    first_walks (Line.Migration Stage.Restarted p) [] pt t
-    (λ sane on. (record { k = MessageKind.Restart; s = u.s; d = u.d; o = u.o; phase = u.phase; off = refl }, λ next s. subst (λ (z : Point). Places z.view t) s.is (restarted_places pt t p u h))) tt
+restarts_walks pt t p u h = grind (arith, nat_tests, first_walks, restarted_places)
 
 freezes_walks : (pt : Point) (t : Trails) (p : Pid) (to : ℕ) → pt.view.known pt.view.acting p ≡ Here → Places pt.view t → Walks pt t (Says (Line.Migration Stage.Frozen p) ∷ Says (Line.Migration Stage.Asked p) ∷ to_kernel MessageKind.Ask to ∷ [])
 freezes_walks pt t p to here h =
     let v = pt.view in
     let x = Frozen (target_of (front_told v (v.inbox v.acting))) in
     first_walks (Line.Migration Stage.Frozen p) (Says (Line.Migration Stage.Asked p) ∷ to_kernel MessageKind.Ask to ∷ []) pt t
-    (λ sane on. (here, λ next s. subst (λ (z : Point). Places z.view t) s.is (places_held v (view_after v (Line.Migration Stage.Frozen p)) t p x refl refl refl (ap is_held here) h))) (asked_loose p, to_ask to)
+    (λ sane on. (here, λ next s. subst (λ (z : Point). Places z.view t) s.is (places_held v (view_after v (Line.Migration Stage.Frozen p)) t p x refl refl refl (ap is_held here) h))) (asked_loose p, to_between MessageKind.Ask to refl)
 
 abbrev AnotherHeard : Point → Point → Trails → ℕ → MsgId → Told → Type 0
 AnotherHeard pt o t m id v = hearing.Heard (Walks pt t) o m id v
@@ -79,14 +75,14 @@ hears_walks pt b o t m id u ps same known kernels forwards h =
           let at : (k : MessageKind) → u.kind ≡ k → is_between k ≡ true → Heard pt p k = λ k kind between. subst (Heard pt p) kind (kernels p about (ap is_between kind ∙ between)) in
           record {
             accepted = λ ask. accepts_walks pt t home p (at MessageKind.Ask ask refl) h;
-            lacks = λ slots blocks. loose_walks (Says (Line.Lacks p slots blocks) ∷ to_kernel MessageKind.Refuse home ∷ []) pt t (lacks_loose p slots blocks, to_refuse home) h;
+            lacks = λ slots blocks. loose_walks (Says (Line.Lacks p slots blocks) ∷ to_kernel MessageKind.Refuse home ∷ []) pt t (lacks_loose p slots blocks, to_between MessageKind.Refuse home refl) h;
             stays = λ kind. stays_walks pt t p (at MessageKind.Refuse kind refl) h;
-            state = proto MessageKind.State (to_state home);
-            next_chunk = proto MessageKind.PullState (to_pullstate home);
-            last_chunk = loose_walks (Says (Line.Migration Stage.StateTaken p) ∷ to_kernel MessageKind.PullBlock home ∷ []) pt t (state_loose p, to_pullblock home) h;
-            memory = proto MessageKind.Memory (to_memory home);
-            next_block = proto MessageKind.PullBlock (to_pullblock home);
-            last_block = loose_walks (Says (Line.Migration Stage.MemoryTaken p) ∷ to_kernel MessageKind.AllTaken home ∷ []) pt t (memory_loose p, to_alltaken home) h;
+            state = proto MessageKind.State (to_between MessageKind.State home refl);
+            next_chunk = proto MessageKind.PullState (to_between MessageKind.PullState home refl);
+            last_chunk = loose_walks (Says (Line.Migration Stage.StateTaken p) ∷ to_kernel MessageKind.PullBlock home ∷ []) pt t (state_loose p, to_between MessageKind.PullBlock home refl) h;
+            memory = proto MessageKind.Memory (to_between MessageKind.Memory home refl);
+            next_block = proto MessageKind.PullBlock (to_between MessageKind.PullBlock home refl);
+            last_block = loose_walks (Says (Line.Migration Stage.MemoryTaken p) ∷ to_kernel MessageKind.AllTaken home ∷ []) pt t (memory_loose p, to_between MessageKind.AllTaken home refl) h;
             left = λ ids to leaves.
                 (let k = at MessageKind.AllTaken leaves.kind refl in
                 subst (λ (js : List MsgId). Walks pt t (left_parts id p js to)) (same p ∙ sym leaves.lists) (leaves_walks pt t id p (Frozen to) k.s k.d k.o k.phase k.acts h k.for_it));

@@ -1,12 +1,44 @@
 -- Wherever the rule leads there are trails that all addresses are on; where a process doesn't move, its trail ends where it is.
-use Rattle.dm_movelaws.proofs.Names.{◌≡◌, ◌≢◌, ℕ, ◌+◌, ◌==◌, not, Bool, true, false, List, [], ◌∷◌, length, refl, ap, ◌∙◌, sym, subst, inl, inr, arith, false≢true, if◌then◌else◌, slice_get, Option, Some, Pid, MsgId, MessageKind, Boot, bind}
-use Rattle.dm_movelaws.proofs.Names.{Step, bind-is, Line, Leads, Phase, Nowhere, Rests, Over, Moves, IsIn, is_away, is_here, is_over, is_unknown, is_restart, is_early, is_between, kind_comes, Point, first_point, after, after_line, Trails}
-use Rattle.dm_movelaws.proofs.Names.{Trodden, first_trodden, along, trails_after, View, Known, Unknown, Here, Frozen, Incoming, Forward, Ended, parts, along_treads, treads_start, Treads, is_moving, IsThere, eq_self, not_false, kind_leaves}
+use Rattle.dm_movelaws.proofs.Names.{◌≡◌, ◌≢◌, ℕ, ◌+◌, ◌==◌, Bool, true, false, List, [], ◌∷◌, length, ap, ◌∙◌, sym, subst, inl, inr, arith, if◌then◌else◌, slice_get, Option, Some, Pid, MsgId, MessageKind, Boot, bind, Step, bind-is, Line}
+use Rattle.dm_movelaws.proofs.Names.{Leads, Phase, Nowhere, Rests, Over, Moves, IsIn, is_away, is_here, is_over, is_restart, kind_comes, Point, first_point, after, after_line, Trails, Trodden, first_trodden, along, trails_after, View}
+use Rattle.dm_movelaws.proofs.Names.{Known, Unknown, Ended, parts, along_treads, treads_start, Treads, is_moving, IsThere, eq_self, not_false, kind_leaves, nat_tests, IsValid, IsStep, Spelled, group_of, first_trails, TrailsAlways}
+use Rattle.dm_movelaws.proofs.Names.{first_view, eq_is, start_known, Carries, trails_always_by, Both, both_start, both_group, run_start, run_group}
 use Rattle.dm_movelaws.proofs.After.{group_after}
 use Rattle.dm_movelaws.proofs.Promise.Trail.{TrailKnown}
 use Rattle.dm_movelaws.proofs.Stages.Spares.{restart_late}
-use Rattle.dm_movelaws.proofs.Trail.Always.{Holds, carries}
-use Rattle.dm_movelaws.proofs.Trail.Placed.{is_held, Placed}
+use Rattle.dm_movelaws.proofs.Trail.Placed.{is_held, Placed, Places}
+use Rattle.dm_movelaws.proofs.At.RestAlways.{is_here_is as here_is, is_unknown_is as unknown_is}
+use Rattle.dm_movelaws.proofs.Trail.Loose.{AllGood, good_fit, good_places, along_after}
+use Rattle.dm_movelaws.proofs.Trail.Rows.{group_good}
+
+places_start : (b : Boot) → Places (first_view b) first_trails
+places_start b p = grind (arith, nat_tests, eq_is, start_known)
+
+-- what holds of all points that the rule leads to
+pub record Holds (b : Boot) (x : Trodden) : Type 0 where
+  pub valid : IsValid b
+  pub both : Both b x.point
+  pub places : Places x.point.view x.trails
+
+good : (b : Boot) (x : Trodden) (e : Step) (w : Spelled) → group_of b x.point e ≡ Some w → Holds b x → Treads x.point x.trails → AllGood x.point x.trails w.lines
+good b x e w is h on = let run = h.both.run in group_good b x.point x.trails e w is run.based.phased run.based.known run.kept h.places on
+
+behind_group : (b : Boot) (x y : Trodden) (e : Step) (w : Spelled) → IsStep x.point.kernel.machines e → group_of b x.point e ≡ Some w → along x w.lines ≡ Some y → Holds b x → Treads x.point x.trails → Holds b y
+behind_group b x y e w step is comes h on =
+    let f : Some w.point ≡ Some y.point = sym (group_after b x.point e w is) ∙ along_after w.lines x y comes in
+    let g : w.point ≡ y.point = cc in
+    record { valid = h.valid; both = subst (Both b) g (both_group run_group b x.point e w h.valid step is h.both); places = good_places w.lines x y comes (good b x e w is h on) }
+
+pub carries : Carries Holds
+carries = record {
+  start = λ b valid. record { valid = valid; both = both_start run_start b valid; places = places_start b };
+  fits = λ b x e w step is h on. good_fit w.lines x.point x.trails (good b x e w is h on);
+  keeps = λ b x y e w step is comes h on. behind_group b x y e w step is comes h on;
+  within = λ b x h. record { known = λ m q some. h.both.run.found.known_within m q some; acting = h.both.run.kept.acting };
+}
+
+pub trails_always : TrailsAlways
+trails_always = trails_always_by Holds carries
 
 abbrev trodden : Point → Trails → Trodden
 trodden pt t = record { point = pt; trails = t }
@@ -38,41 +70,23 @@ trod_on b (e ∷ es) pt end (w, fit, is, rest) h =
     })
 
 -- a process that doesn't move is where its trail ends
-unknown_is : (x : Known) → is_unknown x ≡ true → x ≡ Unknown
-unknown_is Unknown e = refl
-unknown_is _ e = absurd (false≢true e)
-
 here_held : (x : Known) → is_here x ≡ true → is_held x ≡ true
-here_held Here e = refl
-here_held _ e = absurd (false≢true e)
+here_held x e = grind (arith, nat_tests)
 
 over_held : (x : Known) → is_over x ≡ true → is_held x ≡ true
-over_held Ended e = refl
-over_held _ e = absurd (false≢true e)
+over_held x e = grind (arith, nat_tests)
 
 -- one that moves is leaving, or its destination waits for it
 still_leaves : (k : MessageKind) (d : ℕ) (x : Known) → is_moving x ≡ false → kind_leaves k d x ≡ true → is_restart k ≡ true
-still_leaves k d (Forward to moves) still e = (parts (is_restart k) (d == to) e).0
-still_leaves k d (Frozen to) still e = absurd (false≢true (sym still))
-still_leaves k d _ still e = absurd (false≢true e)
-
-still_comes : (k : MessageKind) (s : ℕ) (x : Known) → is_moving x ≡ false → kind_comes k s x ≡ true → is_early k ≡ true
-still_comes k s Unknown still e = e
-still_comes k s (Forward at moves) still e = e
-still_comes k s (Incoming from) still e = absurd (false≢true (sym still))
-still_comes k s _ still e = absurd (false≢true e)
+still_leaves k d x still e = grind (arith, nat_tests, parts)
 
 at_self : (m : ℕ) (x y : Bool) → (if m == m then x else y) ≡ true → x ≡ true
 at_self m x y e = sym (ap (λ (c : Bool). if c then x else y) (eq_self m)) ∙ e
 
-at_other : (s d : ℕ) (x y z : Bool) → (s == d) ≡ false → (if s == d then x else if d == d then y else z) ≡ true → y ≡ true
-at_other s d x y z apart e = at_self d y z (sym (ap (λ (c : Bool). if c then x else if d == d then y else z) apart) ∙ e)
-
 never_moves : (v : View) (p : Pid) (k : MessageKind) (s d : ℕ) (o : Option MsgId) → IsIn v p (Moves k s d o) → ((m : ℕ) → is_moving (v.known m p) ≡ false) → ⊥
 never_moves v p k s d o h still =
     let restart = still_leaves k d (v.known s p) (still s) (at_self s (kind_leaves k d (v.known s p)) (if d == s then kind_comes k s (v.known s p) else is_away (v.known s p)) (h.known s)) in
-    let early = still_comes k s (v.known d p) (still d) (at_other s d (kind_leaves k d (v.known d p)) (kind_comes k s (v.known d p)) (is_away (v.known d p)) (not_false (s == d) (parts (is_between k) (not (s == d)) h.apart).1) (h.known d)) in
-    false≢true (sym (restart_late k restart) ∙ early)
+    grind (arith, nat_tests, not_false, parts, restart_late)
 
 long_in : (v : View) (t : Trails) (p : Pid) (phase : Phase) → IsIn v p phase → Placed v t p → ((m : ℕ) → is_moving (v.known m p) ≡ false) → length (t p) ≡ v.moves p + 1
 long_in v t p Nowhere h on still = let k = on.unmade (λ m. unknown_is (v.known m p) (h.known m)) in let none = k.0 in let one = k.1 in omega (arith, none, one)
@@ -81,13 +95,8 @@ long_in v t p (Over at) h on still = on.long at (over_held (v.known at p) (at_se
 long_in v t p (Moves k s d o) h on still = absurd (never_moves v p k s d o h still)
 
 -- and it is there
-here_is : (x : Known) → is_here x ≡ true → x ≡ Here
-here_is Here e = refl
-here_is _ e = absurd (false≢true e)
-
-over_is : (x : Known) → is_over x ≡ true → x ≡ Ended
-over_is Ended e = refl
-over_is _ e = absurd (false≢true e)
+pub over_is : (x : Known) → is_over x ≡ true → x ≡ Ended
+over_is x e = grind (arith, nat_tests)
 
 away_at : (x y c : Bool) → c ≡ false → (if c then x else y) ≡ true → y ≡ true
 away_at x y c off e = sym (ap (λ (d : Bool). if d then x else y) off) ∙ e

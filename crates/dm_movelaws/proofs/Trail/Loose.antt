@@ -1,114 +1,160 @@
 -- Lines, puts and packets that fit the trails anywhere, and leave each process where it is.
-use Rattle.dm_movelaws.proofs.Names.{◌≡◌, ℕ, ◌+◌, ◌==◌, not, Bool, true, false, List, [], ◌∷◌, filter, length, refl, ap, ◌∙◌, sym, subst, if◌then◌else◌, Option, None, Some, Pid, pid_of, MsgId, MessageKind, Stage, plain_kind, Label}
-use Rattle.dm_movelaws.proofs.Names.{OneKernel, entry, reception, id_eq-same, after_step, bind-is, Line, Load, View, Told, About, NothingElse, own_id, view_after, handled, after_proto, follows_up, asks_on, taken_id, receiver_of, Receiver}
-use Rattle.dm_movelaws.proofs.Names.{Gets, given, unmoved, goes_between, own_gives, Point, moved, after, Part, Says, Routes, Owns, Transmits, puts, goes_out, packet_line, to_kernel, Trails, IsOn, trails_after, IsNet, IsNetLine, SaidOn}
-use Rattle.dm_movelaws.proofs.Names.{not_kernels, queued_known, held_known, dropped_known, proto_known, Sane, Outside, Treads, LineFits, LabelFits, KnownFits, PutFits, Rides, Steps, said_by, own_outside, own_fresh, queued_moves, held_moves}
-use Rattle.dm_movelaws.proofs.Names.{dropped_moves}
-use Rattle.dm_onekernel.specs.Step as kernel
-use Rattle.dm_rule.specs.View as view
-use Rattle.dm_rule.specs.Rule as rule
+use Rattle.dm_movelaws.proofs.Names.{◌≡◌, ℕ, ◌+◌, ◌==◌, Bool, true, false, List, [], ◌∷◌, length, refl, ap, ◌∙◌, sym, subst, if◌then◌else◌, Option, None, Some, Pid, pid_of, MsgId, MessageKind, Stage, plain_kind, Label, OneKernel, entry}
+use Rattle.dm_movelaws.proofs.Names.{reception, id_eq-same, after_step, bind-is, Line, Load, View, Told, own_id, view_after, handled, after_proto, receiver_of, Receiver, goes_between, own_gives, Point, moved, after, Part, Says, Routes}
+use Rattle.dm_movelaws.proofs.Names.{Owns, Transmits, puts, goes_out, packet_line, to_kernel, Trails, IsOn, trails_after, IsNet, IsNetLine, SaidOn, not_kernels, queued_known, held_known, dropped_known, proto_known, Sane, Outside, Treads}
+use Rattle.dm_movelaws.proofs.Names.{LineFits, LabelFits, KnownFits, PutFits, Rides, Steps, said_by, own_outside, own_fresh, queued_moves, held_moves, dropped_moves, nat_tests, arith, ◌++◌, ⊤, PlainMessage, bind, after_line, Again, Spelled}
+use Rattle.dm_movelaws.proofs.Names.{lines_of, spelled, Trodden, along, AllSayable, part_sane, line_treads, Said, plain_own, by_parts, Addresses, Sort, own_given, is_between, sort_of, false≢true, tells_between}
 use Rattle.dm_movelaws.proofs.Trail.Placed.{Places, placed_same}
-use Rattle.dm_movelaws.proofs.Trail.Walks.{Walks, Loose, AllLoose, first_walks, places_ride}
+use Rattle.dm_movelaws.proofs.Leading.{Behind, whatever_put, part_leads}
+use Rattle.dm_rule.proofs.Trails.Along.{AllFit}
+use Rattle.dm_onekernel.specs.Step as kernel
+use Rattle.dm_rule.specs.Rule as rule
+
+-- each of these lines fits where the ones before lead, and behind the last each process is placed
+abbrev pub AllGood : Point → Trails → List Line → Type 0
+AllGood pt t [] = Places pt.view t
+AllGood pt t (l ∷ ls) = LineFits pt t l × ((next : Point) → after_line pt l ≡ Some next → AllGood next (trails_after pt.view t l) ls)
+
+pub good_fit : (ls : List Line) (pt : Point) (t : Trails) → AllGood pt t ls → AllFit pt t ls
+good_fit [] pt t h = tt
+good_fit (l ∷ ls) pt t h = (h.0, λ next is. good_fit ls next (trails_after pt.view t l) (h.1 next is))
+
+pub good_places : (ls : List Line) (x y : Trodden) → along x ls ≡ Some y → AllGood x.point x.trails ls → Places y.point.view y.trails
+good_places [] x y is h = let f : x ≡ y = cc in subst (λ (z : Trodden). Places z.point.view z.trails) f h
+good_places (l ∷ ls) x y is h =
+    let (next, comes, rest) = bind-is (after_line x.point l) (λ (n : Point). along (record { point = n; trails = trails_after x.point.view x.trails l }) ls) y is in
+    good_places ls (record { point = next; trails = trails_after x.point.view x.trails l }) y rest (h.1 next comes)
+
+pub along_after : (ls : List Line) (x y : Trodden) → along x ls ≡ Some y → after x.point ls ≡ Some y.point
+along_after [] x y is = let f : x ≡ y = cc in ap (λ (z : Trodden). Some z.point) f
+along_after (l ∷ ls) x y is =
+    let (next, comes, rest) = bind-is (after_line x.point l) (λ (n : Point). along (record { point = n; trails = trails_after x.point.view x.trails l }) ls) y is in
+    ap (λ (o : Option Point). bind o (λ (n : Point). after n ls)) comes ∙ along_after ls (record { point = next; trails = trails_after x.point.view x.trails l }) y rest
+
+-- what a part needs
+abbrev pub FitsPart : Point → Trails → Part → Type 0
+FitsPart pt t (Says l) = LineFits pt t l
+FitsPart pt t (Owns k q b) = PutFits pt t (own_id pt.view) k q
+FitsPart pt t _ = ⊤
+
+abbrev pub behind_part : View → Trails → Part → Trails
+behind_part v t (Says l) = trails_after v t l
+behind_part v t _ = t
+
+-- each part has what it needs where the ones before lead
+abbrev pub Walks : Point → Trails → List Part → Type 0
+Walks pt t [] = Places pt.view t
+Walks pt t (p ∷ ps) = Sane pt → Treads pt t → FitsPart pt t p × ((next : Point) → Steps pt p next → Walks next (behind_part pt.view t p) ps)
+
+abbrev pub WalksOf : Point → Trails → Option (List Part) → Type 0
+WalksOf pt t None = ⊤
+WalksOf pt t (Some ps) = Walks pt t ps
+
+-- one line
+one_good : (pt next : Point) (t : Trails) (l : Line) (more : List Line) → LineFits pt t l → after pt (l ∷ []) ≡ Some next → Treads pt t → (Treads next (trails_after pt.view t l) → AllGood next (trails_after pt.view t l) more) → AllGood pt t (l ∷ more)
+one_good pt next t l more fits leads h rest = grind (arith, nat_tests, line_treads)
+
+-- a put with its packet
+puts_by : (pt next : Point) (t : Trails) (b : ℕ) (i : MsgId) (k : MessageKind) (q : Pid) (more : List Line) (c d : Bool) → PutFits pt t i k q
+    → after pt (Line.Put pt.view.acting b i k q ∷ (if c then [] else if d then packet_line pt.view pt.view.acting b (Load.Data (length (pt.view.pair pt.view.acting b).ids)) ∷ [] else [])) ≡ Some next → Treads pt t → (Treads next t → AllGood next t more)
+    → AllGood pt t ((Line.Put pt.view.acting b i k q ∷ (if c then [] else if d then packet_line pt.view pt.view.acting b (Load.Data (length (pt.view.pair pt.view.acting b).ids)) ∷ [] else [])) ++ more)
+puts_by pt next t b i k q more true d fits leads h rest = one_good pt next t (Line.Put pt.view.acting b i k q) more fits leads h rest
+puts_by pt next t b i k q more false false fits leads h rest = one_good pt next t (Line.Put pt.view.acting b i k q) more fits leads h rest
+puts_by pt next t b i k q more false true fits leads h rest =
+    let put = Line.Put pt.view.acting b i k q in
+    let packet = packet_line pt.view pt.view.acting b (Load.Data (length (pt.view.pair pt.view.acting b).ids)) in
+    let mid = moved pt put pt.kernel in
+    one_good pt mid t put (packet ∷ more) fits refl h (λ k. one_good mid next t packet more tt leads k rest)
+
+puts_good : (pt next : Point) (t : Trails) (b : ℕ) (i : MsgId) (k : MessageKind) (q : Pid) (ls more : List Line) → PutFits pt t i k q → Some (puts pt.view b i k q) ≡ Some ls → after pt ls ≡ Some next → Treads pt t → (Treads next t → AllGood next t more)
+    → AllGood pt t (ls ++ more)
+puts_good pt next t b i k q ls more fits is leads h rest =
+    let f : puts pt.view b i k q ≡ ls = cc in
+    subst (λ (xs : List Line). AllGood pt t (xs ++ more)) f (puts_by pt next t b i k q more (pt.view.acting == b) (goes_out (pt.view.pair pt.view.acting b)) fits (ap (after pt) f ∙ leads) h rest)
+
+routed_fits : (pt : Point) (t : Trails) (i : MsgId) (m : PlainMessage) (o : Option Told) → pt.view.told i ≡ o → pt.kernel.bag i ≡ Some m → Sane pt → PutFits pt t i (plain_kind m.what) m.to
+routed_fits pt t i m None told there sane = PutFits.Routed (not_kernels sane.r sane.e pt.kernel i m there sane.sound) (plain_own m.what) told
+routed_fits pt t i m (Some u) told there sane = PutFits.Again u told
+
+-- a part
+part_good : (pt next : Point) (t : Trails) (p : Part) (ls more : List Line) → FitsPart pt t p → Sane pt → lines_of pt p ≡ Some ls → after pt ls ≡ Some next → Treads pt t → (Treads next (behind_part pt.view t p) → AllGood next (behind_part pt.view t p) more) → AllGood pt t (ls ++ more)
+part_good pt next t (Says l) ls more fits sane is leads h rest = grind (arith, nat_tests, one_good)
+part_good pt next t (Routes i) ls more fits sane is leads h rest =
+    let (m, there, last) = bind-is (pt.kernel.bag i) (λ m. Some (puts pt.view (pt.addresses (Receiver i)).at i (plain_kind m.what) m.to)) ls is in
+    puts_good pt next t (pt.addresses (Receiver i)).at i (plain_kind m.what) m.to ls more (routed_fits pt t i m (pt.view.told i) refl there sane) last leads h rest
+part_good pt next t (Again i b) ls more fits sane is leads h rest =
+    let (u, there, last) = bind-is (pt.view.told i) (λ u. Some (puts pt.view b i u.kind u.receiver)) ls is in
+    puts_good pt next t b i u.kind u.receiver ls more (PutFits.Again u there) last leads h rest
+part_good pt next t (Owns k q b) ls more fits sane is leads h rest = puts_good pt next t b (own_id pt.view) k q ls more fits is leads h rest
+part_good pt next t (Transmits a b l) ls more fits sane is leads h rest =
+    let f : packet_line pt.view a b l ∷ [] ≡ ls = cc in
+    subst (λ (xs : List Line). AllGood pt t (xs ++ more)) f (one_good pt next t (packet_line pt.view a b l) more tt (ap (after pt) f ∙ leads) h rest)
+
+pub parts_good : (ps : List Part) (pt : Point) (t : Trails) (w : Spelled) → AllSayable ps → Walks pt t ps → Sane pt → Treads pt t → spelled pt ps ≡ Some w → AllGood pt t w.lines
+parts_good qs q u w ok walks sane h is = by_parts (λ ps pt v. (t : Trails) → AllSayable ps → Walks pt t ps → Sane pt → Treads pt t → AllGood pt t v.lines) (λ pt t ok walks sane h. walks) (λ p ps pt next ls z lines leads rest t ok walks sane h. (
+    let k = walks sane h in
+    part_good pt next t p ls z.lines k.0 sane lines leads h (λ on. rest (behind_part pt.view t p) ok.1 (k.1 next (record { lines = ls; are = lines; leads = leads })) (part_sane pt next p ls ok.0 lines leads sane) on)
+    )) qs q w is u ok walks sane h
+
+-- parts that fit anywhere, and leave each process where it is
+pub record Loose (p : Part) : Type 0 where
+  pub fits : (pt : Point) (t : Trails) → Sane pt → Treads pt t → FitsPart pt t p
+  pub leaves : (pt next : Point) (t : Trails) → Steps pt p next → Places pt.view t → Places next.view (behind_part pt.view t p)
+
+abbrev pub AllLoose : List Part → Type 0
+AllLoose [] = ⊤
+AllLoose (p ∷ ps) = Loose p × AllLoose ps
+
+pub loose_walks : (ps : List Part) (pt : Point) (t : Trails) → AllLoose ps → Places pt.view t → Walks pt t ps
+loose_walks [] pt t h at = at
+loose_walks (p ∷ ps) pt t h at = λ sane on. (h.0.fits pt t sane on, λ next s. loose_walks ps next (behind_part pt.view t p) h.1 (h.0.leaves pt next t s at))
+
+-- only the first line needs something
+pub first_walks : (l : Line) (ps : List Part) (pt : Point) (t : Trails) → (Sane pt → Treads pt t → LineFits pt t l × ((next : Point) → Said pt l next → Places next.view (trails_after pt.view t l))) → AllLoose ps → Walks pt t (Says l ∷ ps)
+first_walks l ps pt t h loose = grind (arith, nat_tests, loose_walks, said_by)
+
+-- what puts and packets leave
+pub places_ride : (t : Trails) → Rides (λ (q : Point). Places q.view t)
+places_ride t = record {
+  put = λ pt a b i k q h p. placed_same pt.view (moved pt (Line.Put a b i k q) pt.kernel).view t t p (λ m. refl) refl refl (h p);
+  packet = λ pt a b k l h p. placed_same pt.view (moved pt (Line.Packet a b k l) pt.kernel).view t t p (λ m. refl) refl refl (h p);
+}
 
 pub places_same : (v w : View) (t : Trails) → ((m : ℕ) (q : Pid) → w.known m q ≡ v.known m q) → ((q : Pid) → w.moves q ≡ v.moves q) → Places v t → Places w t
 places_same v w t known moves h p = placed_same v w t t p (λ m. known m p) (moves p) refl (h p)
 
 -- a put and its packet
-puts_by : (P : Point → Type 0) (keeps : Rides P) (pt next : Point) (b : ℕ) (i : MsgId) (k : MessageKind) (q : Pid) (c d : Bool) → P pt
-    → after pt (Line.Put pt.view.acting b i k q ∷ (if c then [] else if d then packet_line pt.view pt.view.acting b (Load.Data (length (pt.view.pair pt.view.acting b).ids)) ∷ [] else [])) ≡ Some next → P next
-puts_by P keeps pt next b i k q true d h is =
-    let f : moved pt (Line.Put pt.view.acting b i k q) pt.kernel ≡ next = cc in subst P f (keeps.put pt pt.view.acting b i k q h)
-puts_by P keeps pt next b i k q false false h is =
-    let f : moved pt (Line.Put pt.view.acting b i k q) pt.kernel ≡ next = cc in subst P f (keeps.put pt pt.view.acting b i k q h)
-puts_by P keeps pt next b i k q false true h is =
-    let n = length (pt.view.pair pt.view.acting b).wire in
-    let l = Load.Data (length (pt.view.pair pt.view.acting b).ids) in
-    let mid = moved pt (Line.Put pt.view.acting b i k q) pt.kernel in
-    let f : moved mid (Line.Packet pt.view.acting b n l) mid.kernel ≡ next = cc in
-    subst P f (keeps.packet mid pt.view.acting b n l (keeps.put pt pt.view.acting b i k q h))
-
-puts_keep : (P : Point → Type 0) (keeps : Rides P) (pt next : Point) (b : ℕ) (i : MsgId) (k : MessageKind) (q : Pid) (ls : List Line) → P pt → Some (puts pt.view b i k q) ≡ Some ls → after pt ls ≡ Some next → P next
-puts_keep P keeps pt next b i k q ls h is leads =
-    let f : puts pt.view b i k q ≡ ls = cc in
-    puts_by P keeps pt next b i k q (pt.view.acting == b) (goes_out (pt.view.pair pt.view.acting b)) h (ap (after pt) f ∙ leads)
+part_rides : (p : Part) (pt next : Point) (t : Trails) → ((l : Line) → p ≡ Says l → Behind (λ q. Places q.view t) pt (Says l)) → Steps pt p next → Places pt.view t → Places next.view t
+part_rides p pt next t says s h = part_leads (λ q. Places q.view t) (places_ride t).packet pt next p (whatever_put (λ q. Places q.view t) pt p says (λ b i k q. (places_ride t).put pt pt.view.acting b i k q h) h) s
 
 pub routes_loose : (i : MsgId) → Loose (Routes i)
-routes_loose i = record {
-  fits = λ pt t sane on. tt;
-  leaves = λ pt next t s h. (let (m, there, last) = bind-is (pt.kernel.bag i) (λ m. Some (puts pt.view (pt.addresses (Receiver i)).at i (plain_kind m.what) m.to)) s.lines s.are in
-      puts_keep (λ (q : Point). Places q.view t) (places_ride t) pt next (pt.addresses (Receiver i)).at i (plain_kind m.what) m.to s.lines h last s.leads);
-}
+routes_loose i = record { fits = λ pt t sane on. tt; leaves = λ pt next t. part_rides (Routes i) pt next t (λ l is. cc) }
 
 pub owns_leave : (k : MessageKind) (q : Pid) (b : ℕ) (pt next : Point) (t : Trails) → Steps pt (Owns k q b) next → Places pt.view t → Places next.view t
-owns_leave k q b pt next t s h = puts_keep (λ (z : Point). Places z.view t) (places_ride t) pt next b (own_id pt.view) k q s.lines h s.are s.leads
+owns_leave k q b pt next t = part_rides (Owns k q b) pt next t (λ l is. cc)
 
 pub transmits_loose : (a b : ℕ) (l : Load) → Loose (Transmits a b l)
-transmits_loose a b l = record {
-  fits = λ pt t sane on. tt;
-  leaves = λ pt next t s h. (let e = s.are in let leads = s.leads in
-      let f : packet_line pt.view a b l ∷ [] ≡ s.lines = cc in
-      let g : Some (moved pt (packet_line pt.view a b l) pt.kernel) ≡ Some next = ap (after pt) f ∙ leads in
-      let k : moved pt (packet_line pt.view a b l) pt.kernel ≡ next = cc in
-      subst (λ (q : Point). Places q.view t) k ((places_ride t).packet pt a b (length (pt.view.pair a b).wire) l h));
-}
+transmits_loose a b l = record { fits = λ pt t sane on. tt; leaves = λ pt next t. part_rides (Transmits a b l) pt next t (λ m is. cc) }
 
 -- a message to a kernel
 between_loose : (k : MessageKind) (m : ℕ) → ((pt : Point) → own_gives pt.kernel pt.view pt.addresses (own_id pt.view) (pid_of m 0) k ≡ goes_between pt.view (own_id pt.view) (pid_of m 0)) → (k ≡ MessageKind.Migrate → ⊥) → Loose (Owns k (pid_of m 0) m)
 between_loose k m gives none = record {
-  fits = λ pt t sane on. (let id = own_id pt.view in
-      PutFits.Own (own_outside pt sane) (own_fresh pt sane)
-      (subst (IsOn t (pid_of m 0)) (sym (ap (λ (gs : List Gets). given pt.addresses gs (Receiver id)) (gives pt) ∙ ap (λ (c : Bool). if c then unmoved m else pt.addresses (Receiver id)) (id_eq-same id))) (on.trail (pid_of m 0)).begins)
-      (λ e. absurd (none e)));
+  fits = λ pt t sane on. grind (arith, nat_tests, own_outside, own_fresh, id_eq-same);
   leaves = λ pt next t s h. owns_leave k (pid_of m 0) m pt next t s h;
 }
 
-pub to_ask : (m : ℕ) → AllLoose (to_kernel MessageKind.Ask m ∷ [])
-to_ask m = (between_loose MessageKind.Ask m (λ pt. refl) (λ e. cc), tt)
+gives_between : (s : OneKernel) (v : View) (a : Addresses) (id : MsgId) (m : ℕ) (w : Sort) → tells_between w ≡ true → own_given s v a id (pid_of m 0) w ≡ goes_between v id (pid_of m 0)
+gives_between s v a id m w e = grind (arith, nat_tests)
 
-pub to_refuse : (m : ℕ) → AllLoose (to_kernel MessageKind.Refuse m ∷ [])
-to_refuse m = (between_loose MessageKind.Refuse m (λ pt. refl) (λ e. cc), tt)
-
-pub to_pullstate : (m : ℕ) → AllLoose (to_kernel MessageKind.PullState m ∷ [])
-to_pullstate m = (between_loose MessageKind.PullState m (λ pt. refl) (λ e. cc), tt)
-
-pub to_state : (m : ℕ) → AllLoose (to_kernel MessageKind.State m ∷ [])
-to_state m = (between_loose MessageKind.State m (λ pt. refl) (λ e. cc), tt)
-
-pub to_pullblock : (m : ℕ) → AllLoose (to_kernel MessageKind.PullBlock m ∷ [])
-to_pullblock m = (between_loose MessageKind.PullBlock m (λ pt. refl) (λ e. cc), tt)
-
-pub to_memory : (m : ℕ) → AllLoose (to_kernel MessageKind.Memory m ∷ [])
-to_memory m = (between_loose MessageKind.Memory m (λ pt. refl) (λ e. cc), tt)
-
-pub to_alltaken : (m : ℕ) → AllLoose (to_kernel MessageKind.AllTaken m ∷ [])
-to_alltaken m = (between_loose MessageKind.AllTaken m (λ pt. refl) (λ e. cc), tt)
-
-pub to_restart : (m : ℕ) → AllLoose (to_kernel MessageKind.Restart m ∷ [])
-to_restart m = (between_loose MessageKind.Restart m (λ pt. refl) (λ e. cc), tt)
+pub to_between : (k : MessageKind) (m : ℕ) → is_between k ≡ true → AllLoose (to_kernel k m ∷ [])
+to_between k m b = (between_loose k m (λ pt. gives_between pt.kernel pt.view pt.addresses (own_id pt.view) m (sort_of k) b) (λ e. false≢true (sym (ap is_between e) ∙ b)), tt)
 
 -- lines that say nothing of where processes are
 pub line_loose : (l : Line) → ((pt : Point) (t : Trails) → Sane pt → Treads pt t → LineFits pt t l) → ((v : View) (t : Trails) → Places v t → Places (view_after v l) (trails_after v t l)) → Loose (Says l)
-line_loose l fits leaves = record {
-  fits = fits;
-  leaves = λ pt next t s h. (let k = said_by pt next l s in subst (λ (q : Point). Places q.view (trails_after pt.view t l)) k.is (leaves pt.view t h));
-}
-
-asks_moves : (v : View) (a : About) → (asks_on v a).moves ≡ v.moves
-asks_moves v NothingElse = refl
-asks_moves v _ = refl
-
-follows_moves : (v : View) (a : About) (k : MessageKind) → (follows_up v a k).moves ≡ v.moves
-follows_moves v a MessageKind.State = asks_moves v a
-follows_moves v a MessageKind.Memory = asks_moves v a
-follows_moves v a _ = refl
+line_loose l fits leaves = grind (arith, nat_tests, said_by)
 
 proto_moves : (v : View) (o : Option Told) → (after_proto v o).moves ≡ v.moves
-proto_moves v None = refl
-proto_moves v (Some t) = follows_moves v t.about t.kind
-
-taken_same : (v : View) (b : ℕ) (o : Option MsgId) → ((taken_id v b o).known ≡ v.known) × ((taken_id v b o).moves ≡ v.moves)
-taken_same v b None = (refl, refl)
-taken_same v b (Some i) = (refl, refl)
+proto_moves v o = grind (arith, nat_tests)
 
 at_pid : (f g : Pid → ℕ) (q : Pid) → f ≡ g → f q ≡ g q
 at_pid f g q e = ap (λ (h : Pid → ℕ). h q) e
@@ -157,10 +203,7 @@ pinned_loose p = quiet (Line.Pinned p) (λ pt t. tt) (λ v t. refl) (λ v n q. r
 
 -- what the net says
 net_line : (l : Line) → IsNetLine l → Loose (Says l)
-net_line (Line.Taken a b n) h =
-    quiet (Line.Taken a b n) (λ pt t. tt) (λ v t. refl)
-    (λ v m q. ap (λ (f : ℕ → Pid → view.Known). f m q) (taken_same (view.with_pair v a b (record (v.pair a b) { taken = (v.pair a b).taken + 1; kept = filter (λ j. not (j == n)) (v.pair a b).kept })) b (view.oldest (v.pair a b))).0)
-    (λ v q. at_pid (view_after v (Line.Taken a b n)).moves v.moves q (taken_same (view.with_pair v a b (record (v.pair a b) { taken = (v.pair a b).taken + 1; kept = filter (λ j. not (j == n)) (v.pair a b).kept })) b (view.oldest (v.pair a b))).1)
+net_line (Line.Taken a b n) h = grind (arith, nat_tests, quiet, at_pid)
 net_line (Line.Old a b n) h = quiet (Line.Old a b n) (λ pt t. tt) (λ v t. refl) (λ v m q. refl) (λ v q. refl)
 net_line (Line.Early a b n) h = quiet (Line.Early a b n) (λ pt t. tt) (λ v t. refl) (λ v m q. refl) (λ v q. refl)
 net_line (Line.Acked a b n) h = quiet (Line.Acked a b n) (λ pt t. tt) (λ v t. refl) (λ v m q. refl) (λ v q. refl)

@@ -1,6 +1,6 @@
 -- Where a process is on its trail: at the end, or one machine before it while the message that restarts it is under way.
-use Rattle.dm_movelaws.proofs.Names.{◌≡◌, ◌≢◌, ◌⊎◌, ℕ, ◌+◌, ◌==◌, not, Bool, true, false, List, length, refl, ap, ◌∙◌, sym, subst, inl, inr, arith, cases_Bool, false≢true, if◌then◌else◌, slice_get, Option, Some, Pid, pid_eq, MsgId}
-use Rattle.dm_movelaws.proofs.Names.{MessageKind, pid_eq-is, at_record, View, Known, Unknown, Here, Frozen, Incoming, Forward, Ended, Moves, IsIn, knows, kind_comes, is_restart, is_away, Trails, eq_is, parts, eq_self, set_off, kind_leaves}
+use Rattle.dm_movelaws.proofs.Names.{◌≡◌, ◌≢◌, ◌⊎◌, ℕ, ◌+◌, ◌==◌, Bool, true, false, length, refl, ap, ◌∙◌, sym, subst, inl, inr, arith, cases_Bool, false≢true, if◌then◌else◌, slice_get, Option, Some, Pid, pid_eq, MsgId, MessageKind}
+use Rattle.dm_movelaws.proofs.Names.{pid_eq-is, at_record, View, Known, Unknown, Here, Frozen, Incoming, Forward, Ended, Moves, IsIn, knows, kind_comes, is_restart, is_away, Trails, eq_is, parts, eq_self, set_off, kind_leaves, nat_tests}
 use Rattle.dm_rule.proofs.Trails.Steps.{set_at}
 
 -- a machine has a process, or had it last
@@ -22,13 +22,7 @@ abbrev pub Places : View → Trails → Type 0
 Places v t = (p : Pid) → Placed v t p
 
 pub placed_same : (v w : View) (t u : Trails) (p : Pid) → ((m : ℕ) → w.known m p ≡ v.known m p) → w.moves p ≡ v.moves p → u p ≡ t p → Placed v t p → Placed w u p
-placed_same v w t u p known moves same h = record {
-  now = λ m e. ap (λ (xs : List ℕ). slice_get xs (w.moves p)) same ∙ ap (λ (n : ℕ). slice_get (t p) n) moves ∙ h.now m (sym (ap is_held (known m)) ∙ e);
-  long = λ m e. ap length same ∙ h.long m (sym (ap is_held (known m)) ∙ e) ∙ sym (ap (λ (n : ℕ). n + 1) moves);
-  next = λ s d c e f. ap (λ (xs : List ℕ). slice_get xs (w.moves p + 1)) same ∙ ap (λ (n : ℕ). slice_get (t p) (n + 1)) moves ∙ h.next s d c (sym (known s) ∙ e) (sym (known d) ∙ f);
-  longer = λ s d c e f. ap length same ∙ h.longer s d c (sym (known s) ∙ e) (sym (known d) ∙ f) ∙ sym (ap (λ (n : ℕ). n + 2) moves);
-  unmade = λ e. let k = h.unmade (λ m. sym (known m) ∙ e m) in (moves ∙ k.0, ap length same ∙ k.1);
-}
+placed_same v w t u p known moves same h = grind (arith, nat_tests)
 
 -- the acting machine learns something of a process
 abbrev pub Learnt : View → View → Pid → Known → Type 0
@@ -42,44 +36,11 @@ pub record Off (v w : View) (p : Pid) (m : ℕ) : Type 0 where
   pub is : w.known m p ≡ v.known m p
 
 learnt_either : (v w : View) (p : Pid) (x : Known) (m : ℕ) → Learnt v w p x → ((v.acting ≡ m) × (w.known m p ≡ x)) ⊎ Off v w p m
-learnt_either v w p x m known = elim (cases_Bool (v.acting == m)) [
-  | inl same ↦ inl (eq_is v.acting m same, known m ∙ ap (λ (c : Bool). if c then x else v.known m p) same)
-  | inr apart ↦ inr (record { off = apart; is = known m ∙ ap (λ (c : Bool). if c then x else v.known m p) apart })
-]
-
-held_incoming : (x : Known) (s : ℕ) → is_held x ≡ true → x ≢ Incoming s
-held_incoming x s held e = false≢true (sym (ap is_held e) ∙ held)
-
-held_forward : (x : Known) (d c : ℕ) → is_held x ≡ true → x ≢ Forward d c
-held_forward x d c held e = false≢true (sym (ap is_held e) ∙ held)
-
-held_unknown : (x : Known) → is_held x ≡ true → x ≢ Unknown
-held_unknown x held e = false≢true (sym (ap is_held e) ∙ held)
+learnt_either v w p x m known = grind (arith, nat_tests, eq_is)
 
 -- it has it, where it is at the end of the trail
 pub placed_held : (v w : View) (t : Trails) (p : Pid) (x : Known) → Learnt v w p x → w.moves p ≡ v.moves p → is_held x ≡ true → slice_get (t p) (v.moves p) ≡ Some v.acting → length (t p) ≡ v.moves p + 1 → Placed v t p → Placed w t p
-placed_held v w t p x known moves held at long h = record {
-  now = λ m e. elim (learnt_either v w p x m known) [
-    | inl new ↦ ap (λ (n : ℕ). slice_get (t p) n) moves ∙ at ∙ ap Some new.0
-    | inr old ↦ ap (λ (n : ℕ). slice_get (t p) n) moves ∙ h.now m (sym (ap is_held old.is) ∙ e)
-  ];
-  long = λ m e. long ∙ sym (ap (λ (n : ℕ). n + 1) moves);
-  next = λ s d c e f. elim (learnt_either v w p x s known) [
-    | inl new ↦ absurd (held_forward x d c held (sym new.1 ∙ e))
-    | inr old ↦ elim (learnt_either v w p x d known) [
-      | inl new ↦ absurd (held_incoming x s held (sym new.1 ∙ f))
-      | inr older ↦ ap (λ (n : ℕ). slice_get (t p) (n + 1)) moves ∙ h.next s d c (sym old.is ∙ e) (sym older.is ∙ f)
-    ]
-  ];
-  longer = λ s d c e f. elim (learnt_either v w p x s known) [
-    | inl new ↦ absurd (held_forward x d c held (sym new.1 ∙ e))
-    | inr old ↦ elim (learnt_either v w p x d known) [
-      | inl new ↦ absurd (held_incoming x s held (sym new.1 ∙ f))
-      | inr older ↦ h.longer s d c (sym old.is ∙ e) (sym older.is ∙ f) ∙ sym (ap (λ (n : ℕ). n + 2) moves)
-    ]
-  ];
-  unmade = λ e. absurd (held_unknown x held (sym (learnt_here v w p x known) ∙ e v.acting));
-}
+placed_held v w t p x known moves held at long h = grind (arith, nat_tests, learnt_either, learnt_here)
 
 -- it expects it from a machine that doesn't forward
 pub placed_comes : (v w : View) (t : Trails) (p : Pid) (from : ℕ) → Learnt v w p (Incoming from) → w.moves p ≡ v.moves p → ((d c : ℕ) → v.known from p ≢ Forward d c) → Placed v t p → Placed w t p
@@ -164,52 +125,23 @@ places_held v w t p x known moves held had h =
     (λ learnt. placed_held v w t p x learnt (same p) held ((h p).now v.acting had) ((h p).long v.acting had) (h p))
 
 -- what the phase of a process that moves says
-leaves_held : (k : MessageKind) (d : ℕ) (x : Known) → kind_leaves k d x ≡ true → is_held x ≡ true → is_restart k ≡ false
-leaves_held k d (Frozen to) e h = turned (is_restart k) (parts (not (is_restart k)) (d == to) e).0
-  where
-    turned : (b : Bool) → not b ≡ true → b ≡ false
-    turned true f = absurd (false≢true f)
-    turned false f = refl
-leaves_held k d Here e h = absurd (false≢true e)
-leaves_held k d Ended e h = absurd (false≢true e)
-leaves_held k d _ e h = absurd (false≢true h)
-
-comes_held : (k : MessageKind) (s : ℕ) (x : Known) → kind_comes k s x ≡ true → is_held x ≡ true → ⊥
-comes_held k s Here e h = false≢true e
-comes_held k s (Frozen to) e h = false≢true e
-comes_held k s Ended e h = false≢true e
-comes_held k s _ e h = false≢true h
-
-away_held : (x : Known) → is_away x ≡ true → is_held x ≡ true → ⊥
-away_held Here e h = false≢true e
-away_held (Frozen to) e h = false≢true e
-away_held Ended e h = false≢true e
-away_held _ e h = false≢true h
-
 held_by : (k : MessageKind) (s d m : ℕ) (x : Known) (b c : Bool) → (s == m) ≡ b → (if b then kind_leaves k d x else if c then kind_comes k s x else is_away x) ≡ true → is_held x ≡ true → (s ≡ m) × (is_restart k ≡ false)
-held_by k s d m x true c is e h = (eq_is s m is, leaves_held k d x e h)
-held_by k s d m x false true is e h = absurd (comes_held k s x e h)
-held_by k s d m x false false is e h = absurd (away_held x e h)
+held_by k s d m x b c is e h = grind (arith, nat_tests, eq_is)
 
 -- its source has it, until the message is under way that restarts it
 pub moves_held : (v : View) (p : Pid) (k : MessageKind) (s d m : ℕ) (o : Option MsgId) → IsIn v p (Moves k s d o) → is_held (v.known m p) ≡ true → (s ≡ m) × (is_restart k ≡ false)
 moves_held v p k s d m o h held = held_by k s d m (v.known m p) (s == m) (d == m) refl (h.known m) held
 
 incoming_by : (k : MessageKind) (s d m from : ℕ) (b c : Bool) → (d == m) ≡ c → (if b then kind_leaves k d (Incoming from) else if c then kind_comes k s (Incoming from) else is_away (Incoming from)) ≡ true → m ≡ d
-incoming_by k s d m from true c is e = absurd (false≢true e)
-incoming_by k s d m from false true is e = sym (eq_is d m is)
-incoming_by k s d m from false false is e = absurd (false≢true e)
+incoming_by k s d m from b c is e = grind (arith, nat_tests, eq_is)
 
 -- and its destination alone expects it
 pub moves_comes : (v : View) (p : Pid) (k : MessageKind) (s d m from : ℕ) (o : Option MsgId) → IsIn v p (Moves k s d o) → v.known m p ≡ Incoming from → m ≡ d
 moves_comes v p k s d m from o h at = incoming_by k s d m from (s == m) (d == m) refl (sym (ap (λ (x : Known). knows (Moves k s d o) m x) at) ∙ h.known m)
 
 forward_by : (k : MessageKind) (d : ℕ) (x : Known) → is_restart k ≡ true → kind_leaves k d x ≡ true → (c : ℕ) × (x ≡ Forward d c)
-forward_by k d (Forward to c) on e = let both = parts (is_restart k) (d == to) e in (c, ap (λ (n : ℕ). Forward n c) (sym (eq_is d to both.1)))
-forward_by k d (Frozen to) on e = absurd (let both = parts (not (is_restart k)) (d == to) e in false≢true (sym (ap not on) ∙ both.0))
-forward_by k d _ on e = absurd (false≢true e)
+forward_by k d x on e = grind (arith, nat_tests, parts, eq_is)
 
 -- then its source forwards
 pub moves_forward : (v : View) (p : Pid) (k : MessageKind) (s d : ℕ) (o : Option MsgId) → IsIn v p (Moves k s d o) → is_restart k ≡ true → (c : ℕ) × (v.known s p ≡ Forward d c)
-moves_forward v p k s d o h on =
-    forward_by k d (v.known s p) on (sym (ap (λ (c : Bool). if c then kind_leaves k d (v.known s p) else if d == s then kind_comes k s (v.known s p) else is_away (v.known s p)) (eq_self s)) ∙ h.known s)
+moves_forward v p k s d o h on = grind (arith, nat_tests, forward_by, eq_self)

@@ -1,12 +1,12 @@
 -- Whom a place is named for is a kernel, a server or a process that was made.
-use Rattle.dm_movelaws.proofs.Names.{◌≡◌, ℕ, ◌+◌, ◌==◌, ◌&&◌, ◌||◌, Bool, true, false, not, filter, is_some, List, [], ◌∷◌, refl, ap, ◌∙◌, sym, subst, inl, inr, cases_Bool, false≢true, if◌then◌else◌, Option, None, Some, Pid, Place, MsgId}
-use Rattle.dm_movelaws.proofs.Names.{MessageKind, id_eq, Boot, Label, IsValid, Life, OneKernel, Step, after_step, Line, Stage, Leads, Spelled, Point, first_point, label_of, kernel_after, group_of, at_record, View, Told, About, NothingElse}
-use Rattle.dm_movelaws.proofs.Names.{Target, Of, Known, Unknown, Here, Frozen, Incoming, Forward, Ended, view_after, handled, receiver_of, first_told, target_of, front_told, front_of, gone_to, served_told, forward_about, hushed, grown_none}
-use Rattle.dm_movelaws.proofs.Names.{Phased, queued_known, held_known, dropped_known, starts, start_known, Sane, label_topic, is_server, is_fixed, KnownStands, agrees, group_keeps, Loud, keeps_by, set_all, killed_or, named_real, Both}
-use Rattle.dm_movelaws.proofs.Names.{both_start, both_group, run_start, run_group, is_made, IsNamed, ByHolder, ByOwn, ByRequest, ByUpdate, ByForward, queued_topic, held_topic, taken_topic, or_first}
+use Rattle.dm_movelaws.proofs.Names.{◌≡◌, ℕ, ◌+◌, ◌==◌, Bool, true, false, not, filter, is_some, List, refl, ap, ◌∙◌, sym, subst, inl, inr, cases_Bool, false≢true, Option, None, Some, Pid, Place, MsgId, MessageKind, Boot, Label, IsValid}
+use Rattle.dm_movelaws.proofs.Names.{Life, OneKernel, Step, after_step, Line, Stage, Leads, Spelled, Point, first_point, kernel_after, group_of, at_record, View, Told, About, NothingElse, Of, Known, Here, Frozen, Forward, Ended, view_after}
+use Rattle.dm_movelaws.proofs.Names.{handled, receiver_of, served_told, hushed, grown_none, Phased, queued_known, held_known, dropped_known, start_known, Sane, label_topic, is_server, KnownStands, group_keeps, Loud, keeps_by, set_all}
+use Rattle.dm_movelaws.proofs.Names.{killed_or, named_real, Both, is_made, IsNamed, ByHolder, ByOwn, ByRequest, ByUpdate, ByForward, queued_topic, held_topic, taken_topic, or_first, run_always, nat_tests, arith}
+use Rattle.dm_rulelaws.proofs.Found.Core.{IsReal}
+use Rattle.dm_movelaws.proofs.After.{keeps_always}
 use Rattle.dm_onekernel.specs.Step as kernel
 use Rattle.dm_rule.specs.View as view
-use Rattle.dm_rulelaws.proofs.Found.Core.{IsReal}
 
 -- a process that leaves a machine, or has left it
 abbrev passes : Known → Bool
@@ -27,9 +27,8 @@ record Passing (s : OneKernel) (v : View) : Type 0 where
 abbrev Goes : OneKernel → OneKernel → Type 0
 Goes s t = (p : Pid) → WasMade s p → WasMade t p
 
-none_is : (o : Option Life) → is_some o ≡ false → o ≡ None
-none_is None e = refl
-none_is (Some x) e = absurd (false≢true (sym e))
+pub none_is : (o : Option Life) → is_some o ≡ false → o ≡ None
+none_is o e = grind (arith, nat_tests)
 
 goes_label : (pt : Point) (t : OneKernel) (l : Label) → Sane pt → kernel.step pt.kernel l ≡ Some t → Goes pt.kernel t
 goes_label pt t l h e p some = elim (cases_Bool (is_some (t.processes p))) [
@@ -48,38 +47,25 @@ goes_by pt t (Some l) h e p some = goes_label pt t l h e p some
 no_place : (T : Type 0) (a : About) (p : Pid) (m c : ℕ) → a ≡ NothingElse → a ≡ view.Place p m c → T
 no_place T a p m c e f = absurd (let g : NothingElse ≡ view.Place p m c = sym e ∙ f in cc)
 
-no_target : (T : Type 0) (p : Pid) (n m c : ℕ) → Target n ≡ view.Place p m c → T
-no_target T p n m c e = cc
-
 no_of : (T : Type 0) (q p : Pid) (m c : ℕ) → Of q ≡ view.Place p m c → T
 no_of T q p m c e = cc
 
-forward_made : (s : OneKernel) (q : Pid) (x : Known) (p : Pid) (m c : ℕ) → (passes x ≡ true → WasMade s q) → forward_about q x ≡ view.Place p m c → WasMade s p
-forward_made s q (Forward at_ moves) p m c made e = let f : q ≡ p = cc in subst (WasMade s) f (made refl)
-forward_made s q _ p m c made e = no_place (WasMade s p) NothingElse p m c refl e
-
 forwarded_made : (s : OneKernel) (v : View) (o : Option Pid) (p : Pid) (m c : ℕ) → Passing s v → (view.forwarded_for v o).topic ≡ view.Place p m c → WasMade s p
-forwarded_made s v None p m c h e = h.topic p m c e
-forwarded_made s v (Some q) p m c h e = forward_made s q (v.known v.acting q) p m c (h.known v.acting q) e
+forwarded_made s v o p m c h e = grind (arith, nat_tests)
 
 proto_made : (s : OneKernel) (v : View) (i : MsgId) (o : Option Told) (p : Pid) (m c : ℕ) → v.told i ≡ o → Passing s v → (view.after_proto (handled v i) o).topic ≡ view.Place p m c → WasMade s p
-proto_made s v i None p m c is h e = no_place (WasMade s p) NothingElse p m c refl e
-proto_made s v i (Some u) p m c is h e = h.told i u p m c is e
+proto_made s v i o p m c is h e = grind (arith, nat_tests, no_place)
 
 head_made : (s : OneKernel) (v : View) (d : Step) (p : Pid) (m c : ℕ) → (view.after_head v d).topic ≡ view.Place p m c → WasMade s p
-head_made s v (Step.Migrate q n) p m c e = no_target (WasMade s p) p n m c e
-head_made s v _ p m c e = no_place (WasMade s p) NothingElse p m c refl e
+head_made s v d p m c e = grind (arith, nat_tests, no_place)
 
 stage_made : (s : OneKernel) (v : View) (q : Pid) (k : Stage) (p : Pid) (m c : ℕ) → Passing s v → (view.after_stage v q k).topic ≡ view.Place p m c → WasMade s p
-stage_made s v q Stage.Asked p m c h e = h.topic p m c e
-stage_made s v q Stage.Restarted p m c h e = h.topic p m c e
-stage_made s v q _ p m c h e = no_of (WasMade s p) q p m c e
+stage_made s v q k p m c h e = grind (arith, nat_tests, no_of)
 
 line_made : (s : OneKernel) (v : View) (l : Line) → Passing s v → (p : Pid) (m c : ℕ) → (view_after v l).topic ≡ view.Place p m c → WasMade s p
 line_made s v (Line.Head d) h p m c e = head_made s v d p m c e
 line_made s v (Line.Label l) h p m c e = h.topic p m c (sym (label_topic v l) ∙ e)
-line_made s v (Line.Forwarded i n) h p m c e =
-    forwarded_made s (handled v i) (receiver_of (v.told i)) p m c (record { known = h.known; told = h.told; topic = h.topic }) e
+line_made s v (Line.Forwarded i n) h p m c e = search forwarded_made
 line_made s v (Line.Proto i) h p m c e = proto_made s v i (v.told i) p m c refl h e
 line_made s v (Line.Migration k q) h p m c e = stage_made s v q k p m c h e
 line_made s v (Line.SentOn q n) h p m c e = no_of (WasMade s p) q p m c e
@@ -95,11 +81,7 @@ line_made s v _ h p m c e = h.topic p m c e
 -- a line after which the same leave
 line_passing : (pt : Point) (t : OneKernel) (l : Line) → Goes pt.kernel t → ((m : ℕ) (p : Pid) → passes ((view_after pt.view l).known m p) ≡ true → WasMade pt.kernel p) → (view_after pt.view l).told ≡ pt.view.told → Passing pt.kernel pt.view
     → Passing t (view_after pt.view l)
-line_passing pt t l goes known told h = record {
-  known = λ m p e. goes p (known m p e);
-  told = λ i u p m c e f. goes p (h.told i u p m c (sym (ap (λ (g : MsgId → Option Told). g i) told) ∙ e) f);
-  topic = λ p m c e. goes p (line_made pt.kernel pt.view l h p m c e);
-}
+line_passing pt t l goes known told h = grind (arith, nat_tests, line_made)
 
 same_known : (s : OneKernel) (v w : View) → w.known ≡ v.known → Passing s v → (m : ℕ) (p : Pid) → passes (w.known m p) ≡ true → WasMade s p
 same_known s v w known h m p e = h.known m p (sym (ap (λ (f : ℕ → Pid → Known). passes (f m p)) known) ∙ e)
@@ -108,36 +90,19 @@ point_known : (s : OneKernel) (v w : View) → ((m : ℕ) (p : Pid) → w.known 
 point_known s v w known h m p e = h.known m p (sym (ap passes (known m p)) ∙ e)
 
 set_known : (s : OneKernel) (v w : View) (q : Pid) (k : Known) → w.known ≡ at_record v.known v.acting q k → (passes k ≡ true → WasMade s q) → Passing s v → (m : ℕ) (p : Pid) → passes (w.known m p) ≡ true → WasMade s p
-set_known s v w q k known new h m p e =
-    set_all (λ n r x. passes x ≡ true → WasMade s r) v.known v.acting q k new (λ n r off. h.known n r) m p (sym (ap (λ (f : ℕ → Pid → Known). passes (f m p)) known) ∙ e)
+set_known s v w q k known new h m p e = grind (arith, nat_tests, set_all)
 
 served_known : (s : OneKernel) (v : View) (i : MsgId) (o : Option Told) → Passing s v → (m : ℕ) (p : Pid) → passes ((served_told (handled v i) o).known m p) ≡ true → WasMade s p
-served_known s v i None h m p e = h.known m p e
-served_known s v i (Some u) h m p e =
-    killed_or (λ (w : View). passes (w.known m p) ≡ true → WasMade s p) u.kind (handled v i) u.receiver
-    (λ k. set_known s v (view.ended (handled v i) u.receiver) u.receiver Ended refl (λ f. absurd (false≢true f)) h m p) (λ k. h.known m p) e
+served_known s v i o h m p e = grind (arith, nat_tests, killed_or, set_known)
 
 -- a put tells of what the group is about
 put_told : (v : View) (a b : ℕ) (i : MsgId) (k : MessageKind) (q : Pid) (s : OneKernel) (j : MsgId) (u : Told) (p : Pid) (m c : ℕ) → Passing s v → (view.after_put v a b i k q).told j ≡ Some u → u.about ≡ view.Place p m c → WasMade s p
-put_told v a b i k q s j u p m c h e f =
-    let new : Told = record { kind = k; receiver = q; about = v.topic } in
-    elim (cases_Bool (id_eq i j)) [
-      | inl same ↦ first (v.told i) refl (sym (ap (λ (d : Bool). if d then Some (first_told (v.told i) new) else v.told j) same) ∙ e)
-      | inr apart ↦ h.told j u p m c (sym (ap (λ (d : Bool). if d then Some (first_told (v.told i) new) else v.told j) apart) ∙ e) f
-    ]
-  where
-    first : (o : Option Told) → v.told i ≡ o → Some (first_told o (record { kind = k; receiver = q; about = v.topic })) ≡ Some u → WasMade s p
-    first None is g = h.topic p m c (let x : record { kind = k; receiver = q; about = v.topic } ≡ u = cc in ap (λ (y : Told). y.about) x ∙ f)
-    first (Some y) is g = h.told i y p m c is (let x : y ≡ u = cc in ap (λ (z : Told). z.about) x ∙ f)
+put_told v a b i k q s j u p m c h e f = grind (arith, nat_tests)
 
 passing_loud : Loud (λ pt. Passing pt.kernel pt.view)
 passing_loud = record {
-  rides = record {
-    put = λ pt a b i k q h. record { known = h.known; told = λ j u p m c e f. put_told pt.view a b i k q pt.kernel j u p m c h e f; topic = h.topic };
-    packet = λ pt a b k l h. record { known = h.known; told = h.told; topic = h.topic };
-  };
-  quiet = λ pt w t l e s told alike sane is h.
-      line_passing pt t l (goes_by pt t (label_of l) sane is) (same_known pt.kernel pt.view (view_after pt.view l) (ap (λ (x : View). x.known) e ∙ s.known) h) (ap (λ (x : View). x.told) e ∙ told) h;
+  rides = grind (arith, nat_tests, put_told);
+  quiet = grind (arith, nat_tests, line_passing, goes_by, same_known);
   ran = λ pt t p k here alike sane is h. line_passing pt t (Line.Label (Label.Ran p k)) (goes_label pt t (Label.Ran p k) sane is) h.known refl h;
   receive = λ pt t p id here alike sane is h. line_passing pt t (Line.Label (Label.Receive p id)) (goes_label pt t (Label.Receive p id) sane is) h.known refl h;
   refuse = λ pt t p id c here alike sane is h. line_passing pt t (Line.Label (Label.Refuse p id c)) (goes_label pt t (Label.Refuse p id c) sane is) h.known refl h;
@@ -153,43 +118,19 @@ passing_loud = record {
   created = λ pt t id p unborn sane is h.
       let l = Line.Label (Label.Created id p) in
       line_passing pt t l (goes_label pt t (Label.Created id p) sane is) (set_known pt.kernel pt.view (view_after pt.view l) p Here refl (λ f. absurd (false≢true f)) h) refl h;
-  queued = λ pt id need sane h.
-      let l = Line.Queued id in
-      line_passing pt pt.kernel l (λ p e. e) (point_known pt.kernel pt.view (view_after pt.view l) (λ m q. queued_known (handled pt.view id) id (receiver_of (pt.view.told id)) m q) h) (hushed pt.view l refl).told h;
-  held = λ pt id need sane h.
-      let l = Line.Held id in
-      line_passing pt pt.kernel l (λ p e. e) (point_known pt.kernel pt.view (view_after pt.view l) (λ m q. held_known (handled pt.view id) id (receiver_of (pt.view.told id)) m q) h) (hushed pt.view l refl).told h;
-  frozen = λ pt p lives here h.
-      let l = Line.Migration Stage.Frozen p in
-      line_passing pt pt.kernel l (λ q e. e) (set_known pt.kernel pt.view (view_after pt.view l) p (Frozen (target_of (front_told pt.view (pt.view.inbox pt.view.acting)))) refl (λ f. ap is_some lives.alive) h) refl h;
-  accepted = λ pt p lives away h.
-      let l = Line.Migration Stage.Accepted p in
-      line_passing pt pt.kernel l (λ q e. e) (set_known pt.kernel pt.view (view_after pt.view l) p (Incoming (front_of (pt.view.inbox pt.view.acting))) refl (λ f. absurd (false≢true f)) h) refl h;
-  left = λ pt p leaves h.
-      let l = Line.Migration Stage.Left p in
-      line_passing pt pt.kernel l (λ q e. e)
-      (set_known pt.kernel pt.view (view_after pt.view l) p (gone_to (pt.view.known pt.view.acting p) (pt.view.moves p + 1)) refl (λ f. h.known pt.view.acting p (ap passes leaves.frozen)) h) refl h;
-  restarted = λ pt p lives off h.
-      let l = Line.Migration Stage.Restarted p in
-      line_passing pt pt.kernel l (λ q e. e) (set_known pt.kernel pt.view (view_after pt.view l) p Here refl (λ f. absurd (false≢true f)) h) refl h;
-  stays_ = λ pt p lives off h.
-      let l = Line.Stays p in
-      line_passing pt pt.kernel l (λ q e. e) (set_known pt.kernel pt.view (view_after pt.view l) p Here refl (λ f. absurd (false≢true f)) h) refl h;
+  queued = grind (arith, nat_tests, line_passing, point_known, queued_known, hushed);
+  held = grind (arith, nat_tests, line_passing, point_known, held_known, hushed);
+  frozen = grind (arith, nat_tests, line_passing, set_known);
+  accepted = grind (arith, nat_tests, line_passing, set_known);
+  left = grind (arith, nat_tests, line_passing, set_known);
+  restarted = grind (arith, nat_tests, line_passing, set_known);
+  stays_ = grind (arith, nat_tests, line_passing, set_known);
   sent_on = λ pt p n h. line_passing pt pt.kernel (Line.SentOn p n) (λ q e. e) h.known refl h;
 }
 
 -- at the start no process leaves
-first_stays : (b c : Bool) → passes (if b && c then Here else Unknown) ≡ true → ⊥
-first_stays true true e = false≢true e
-first_stays true false e = false≢true e
-first_stays false c e = false≢true e
-
 passing_start : (b : Boot) → Passing (first_point b).kernel (first_point b).view
-passing_start b = record {
-  known = λ m p e. absurd (first_stays (starts b.processes p) (p.home == m) (sym (ap passes (start_known b.processes m p)) ∙ e));
-  told = λ i u p m c e f. absurd (let g : None ≡ Some u = e in cc);
-  topic = λ p m c e. no_place (WasMade (first_point b).kernel p) NothingElse p m c refl e;
-}
+passing_start b = grind (arith, nat_tests, start_known, no_place)
 
 passing_group : (b : Boot) (pt : Point) (d : Step) (w : Spelled) → group_of b pt d ≡ Some w → Phased pt → KnownStands pt.kernel pt.view → Passing pt.kernel pt.view → Passing w.point.kernel w.point.view
 passing_group b pt d w is phased known h = group_keeps (λ q. Passing q.kernel q.view) (keeps_by (λ q. Passing q.kernel q.view) passing_loud) b pt d w is phased known h
@@ -199,43 +140,18 @@ record Passed (b : Boot) (pt : Point) : Type 0 where
   both : Both b pt
   passing : Passing pt.kernel pt.view
 
-passed_on : (b : Boot) (es : List Step) (pt end : Point) → IsValid b → Leads b pt es end → Passed b pt → Passed b end
-passed_on b [] pt end valid way h = subst (Passed b) way h
-passed_on b (e ∷ es) pt end valid (w, fit, is, more) h =
-    passed_on b es w.point end valid more
-    (record { both = both_group run_group b pt e w valid fit is h.both; passing = passing_group b pt e w is h.both.run.based.phased h.both.run.based.known h.passing })
-
 passed_always : (b : Boot) (es : List Step) (pt : Point) → IsValid b → Leads b (first_point b) es pt → Passed b pt
-passed_always b es pt valid way = passed_on b es (first_point b) pt valid way (record { both = both_start run_start b valid; passing = passing_start b })
-
-or_left : (c d : Bool) → c ≡ true → (c || d) ≡ true
-or_left true d e = refl
-or_left false d e = absurd (false≢true e)
-
-agrees_some : (k : Known) (o : Option Life) → agrees k o ≡ true → (k ≡ Unknown → ⊥) → is_some o ≡ true
-agrees_some Unknown o e some = absurd (some refl)
-agrees_some _ (Some x) e some = refl
-agrees_some _ None e some = absurd (false≢true e)
-
-known_made : (s : OneKernel) (v : View) (m : ℕ) (q : Pid) → KnownStands s v → (v.known m q ≡ Unknown → ⊥) → is_made s q ≡ true
-known_made s v m q h some = elim (cases_Bool (is_server q)) [
-  | inl server ↦ or_left (is_server q) (is_some (s.processes q)) server
-  | inr process ↦ or_first (is_server q) (is_some (s.processes q)) (agrees_some (v.known m q) (s.processes q) (h.agree m q process) some)
-]
-
-fixed_made : (s : OneKernel) (q : Pid) → (q.num == 0) ≡ false → is_fixed q ≡ true → is_made s q ≡ true
-fixed_made s q other fixed = or_left (is_server q) (is_some (s.processes q)) (sym (ap (λ (c : Bool). c || is_server q) other) ∙ fixed)
+passed_always b es pt valid way = record {
+  both = run_always b es pt valid way;
+  passing = keeps_always b (λ q. Passing q.kernel q.view) (λ q d w fit is run h. passing_group b q d w is run.based.phased run.based.known h) valid (passing_start b) es pt way;
+}
 
 real_made : (s : OneKernel) (v : View) (n : ℕ) (q : Pid) → KnownStands s v → (q.num == 0) ≡ false → IsReal n v q → is_made s q ≡ true
-real_made s v n q h other real = elim real [
-  | inl fixed ↦ fixed_made s q other fixed.0
-  | inr known ↦ known_made s v q.home q h known
-]
+real_made s v n q h other real = grind (arith, nat_tests)
 
 made_by : (b : Boot) (pt : Point) (q : Pid) (place : Place) → Passed b pt → (q.num == 0) ≡ false → IsNamed pt q place → is_made pt.kernel q ≡ true
 made_by b pt q place h other (ByHolder g is at_) = real_made pt.kernel pt.view pt.kernel.machines q h.both.run.based.known other (named_real pt pt.kernel.machines g q h.both.run.kept is)
-made_by b pt q place h other (ByOwn i u own told to at_) =
-    real_made pt.kernel pt.view pt.kernel.machines q h.both.run.based.known other (subst (IsReal pt.kernel.machines pt.view) to (h.both.run.kept.real i u told own).0)
+made_by b pt q place h other (ByOwn i u own told to at_) = grind (arith, nat_tests, real_made)
 made_by b pt q place h other (ByRequest i u own told asks to at_) = subst (λ (p : Pid). is_made pt.kernel p ≡ true) to refl
 made_by b pt q place h other (ByUpdate i u told about) = or_first (is_server q) (is_some (pt.kernel.processes q)) (h.passing.told i u q place.at place.moves told about)
 made_by b pt q place h other (ByForward m e) = or_first (is_server q) (is_some (pt.kernel.processes q)) (h.passing.known m q (ap passes e))

@@ -1,12 +1,12 @@
 -- The trails that printed lines lay stand, and from each place that is named for a process the forwarding addresses lead to it.
-use Rattle.dm_movelaws.proofs.Names.{◌≡◌, ◌≢◌, ◌⊎◌, ℕ, zero, suc, ◌-◌, ◌<◌, ◌==◌, ◌||◌, Bool, true, false, is_some, List, [], ◌∷◌, ◌++◌, length, refl, ap, ◌∙◌, sym, subst, inl, inr, arith, cases_Bool, false≢true, slice_get_within}
-use Rattle.dm_movelaws.proofs.Names.{slice_get, Option, None, Some, Pid, Place, Boot, IsValid, Life, OneKernel, bind, Step, bind-is, Line, Receiver, Sender, unmoved, Leads, Point, first_point, after, after_line, Trails, Trail, IsOn}
-use Rattle.dm_movelaws.proofs.Names.{Trodden, first_trodden, along, trails_after, View, Known, Unknown, Here, Forward, along_treads, treads_start, trail_leads, Treads, Within, trail_within, is_server, is_fixed, KnownStands, agrees}
-use Rattle.dm_movelaws.proofs.Names.{server_at, LeadsBy, made_free, server_fixed, is_made, has_it, ends_walk, IsNamed, ByHolder, ByOwn, ByRequest, ByUpdate, ByForward, Reaches, IsLast, TrailStands, TrailsStand, IsLed, AddressesLead}
+use Rattle.dm_movelaws.proofs.Names.{◌≡◌, ◌≢◌, ℕ, suc, ◌-◌, ◌<◌, ◌==◌, true, false, List, [], ◌∷◌, ◌++◌, length, refl, ap, ◌∙◌, sym, subst, inl, inr, arith, cases_Bool, slice_get_within, slice_get, Option, None, Some, Pid, Place, Boot}
+use Rattle.dm_movelaws.proofs.Names.{IsValid, OneKernel, bind, Step, bind-is, Line, unmoved, Leads, Point, first_point, after, after_line, Trails, Trail, IsOn, Trodden, first_trodden, along, trails_after, View, Known, Unknown, Here}
+use Rattle.dm_movelaws.proofs.Names.{Forward, along_treads, treads_start, trail_leads, Treads, Within, trail_within, is_server, is_fixed, KnownStands, agrees, LeadsBy, made_free, server_fixed, is_made, has_it, ends_walk, IsNamed, Reaches}
+use Rattle.dm_movelaws.proofs.Names.{IsLast, TrailStands, TrailsStand, IsLed, AddressesLead, nat_tests}
 use Rattle.dm_movelaws.proofs.After.{group_after}
-use Rattle.dm_movelaws.proofs.Trail.Always.{Holds, carries}
+use Rattle.dm_movelaws.proofs.Trail.Known.{Holds, carries}
 use Rattle.dm_movelaws.proofs.Trail.Placed.{is_held}
-use Rattle.dm_movelaws.proofs.Trail.Real.{named_made}
+use Rattle.dm_movelaws.proofs.Trail.Real.{named_made, none_is}
 
 abbrev trodden : Point → Trails → Trodden
 trodden pt t = record { point = pt; trails = t }
@@ -21,9 +21,7 @@ along_there (l ∷ ls) pt end t e =
 
 along-append : (xs ys : List Line) (x y : Trodden) → along x xs ≡ Some y → along x (xs ++ ys) ≡ along y ys
 along-append [] ys x y e = let f : x ≡ y = cc in ap (λ (z : Trodden). along z ys) f
-along-append (l ∷ xs) ys x y e =
-    let (next, first, rest) = bind-is (after_line x.point l) (λ (n : Point). along (trodden n (trails_after x.point.view x.trails l)) xs) y e in
-    ap (λ (o : Option Point). bind o (λ (n : Point). along (trodden n (trails_after x.point.view x.trails l)) (xs ++ ys))) first ∙ along-append xs ys (trodden next (trails_after x.point.view x.trails l)) y rest
+along-append (l ∷ xs) ys x y e = grind (arith, nat_tests, bind-is, along-append xs ys)
 
 -- where lines lead, with the trails that they lay
 record Laid (b : Boot) (pt : Point) (t : Trails) (ls : List Line) (end : Point) : Type 0 where
@@ -60,44 +58,25 @@ one_place (x ∷ []) m long e = let f : x ≡ m = cc in ap (λ (y : ℕ). y ∷ 
 one_place _ m long e = absurd (omega (arith, long))
 
 only_place : (m c k : ℕ) → slice_get (m ∷ []) c ≡ Some k → (c ≡ 0) × (k ≡ m)
-only_place m zero k e = (refl, (let f : m ≡ k = cc in sym f))
-only_place m (suc c) k e = cc
+only_place m c k e = grind (arith, nat_tests)
 
 place_is : (place : Place) (m : ℕ) → place.moves ≡ 0 → place.at ≡ m → place ≡ unmoved m
 place_is place m moves at = λ i. record { at = at i; moves = moves i }
 
 -- what was never made
-none_is : (o : Option Life) → is_some o ≡ false → o ≡ None
-none_is None e = refl
-none_is (Some x) e = absurd (false≢true (sym e))
-
 agrees_none : (k : Known) → agrees k None ≡ true → k ≡ Unknown
-agrees_none Unknown e = refl
-agrees_none _ e = absurd (false≢true e)
+agrees_none k e = grind (arith, nat_tests)
 
 held_it : (k : Known) → has_it k ≡ true → is_held k ≡ true
-held_it Unknown e = e
-held_it _ e = e
-
-or_made : (s : OneKernel) (p : Pid) (c : Bool) → is_server p ≡ c → (c || is_some (s.processes p)) ≡ true → (is_server p ≡ true) ⊎ ((is_server p ≡ false) × (is_some (s.processes p) ≡ true))
-or_made s p true is e = inl is
-or_made s p false is e = inr (is, e)
-
-here_known : (k : Known) → k ≡ Here → k ≢ Unknown
-here_known k e f = let g : Here ≡ Unknown = sym e ∙ f in cc
+held_it k e = grind (arith, nat_tests)
 
 -- the last machine of a trail doesn't forward
 walk_ends : (k : Known) → k ≢ Unknown → ((m c : ℕ) → k ≡ Forward m c → ⊥) → ends_walk k ≡ true
-walk_ends Unknown some off = absurd (some refl)
-walk_ends (Forward m c) some off = absurd (off m c refl)
-walk_ends _ some off = refl
+walk_ends k some off = grind (arith, nat_tests)
 
 -- what was never made has only been at home
 never_made : (b : Boot) (pt : Point) (t : Trails) (p : Pid) → Holds b (trodden pt t) → is_fixed p ≡ true → pt.kernel.processes p ≡ None
-never_made b pt t p h fixed = elim (cases_Bool (is_some (pt.kernel.processes p))) [
-  | inl some ↦ absurd (false≢true (sym (made_free pt p h.both.run.based.phased.sane.sound.made some) ∙ fixed))
-  | inr none ↦ none_is (pt.kernel.processes p) none
-]
+never_made b pt t p h fixed = grind (arith, nat_tests, made_free, none_is)
 
 alone_long : (b : Boot) (pt : Point) (t : Trails) (p : Pid) → Holds b (trodden pt t) → pt.kernel.processes p ≡ None → length (t p) ≡ 1
 alone_long b pt t p h none = elim (cases_Bool (is_server p)) [
@@ -114,26 +93,18 @@ alone b pt t p h on none = one_place (t p) p.home (alone_long b pt t p h none) (
 
 -- what was made is known at home
 at_home : (s : OneKernel) (v : View) (p : Pid) → KnownStands s v → is_made s p ≡ true → v.known p.home p ≢ Unknown
-at_home s v p h made = elim (or_made s p (is_server p) refl made) [
-  | inl server ↦ here_known (v.known p.home p) (h.server p.home p server ∙ ap server_at (server_fixed p server).1)
-  | inr process ↦ h.home p process.0 process.1
-]
+at_home s v p h made = grind (arith, nat_tests, server_fixed)
 
 -- each place that is named is on the trail
 named_on : (pt : Point) (t : Trails) (q : Pid) (place : Place) → Treads pt t → IsNamed pt q place → IsOn t q place
-named_on pt t q place on (ByHolder h is at) = subst (IsOn t q) at (on.links h q is)
-named_on pt t q place on (ByOwn i u own told to at) = subst (IsOn t q) at (subst (λ (p : Pid). IsOn t p (pt.addresses (Receiver i))) to (on.own.receiver i u own told))
-named_on pt t q place on (ByRequest i u own told asks to at) = subst (IsOn t q) at (subst (λ (p : Pid). IsOn t p (pt.addresses (Sender i))) to (on.own.sender i u own told asks))
-named_on pt t q place on (ByUpdate i u told about) = on.own.about i u q place.at place.moves told about
-named_on pt t q place on (ByForward m e) = (on.trail q).named m place.at place.moves e
+named_on pt t q place on e = grind (arith, nat_tests)
 
 -- a forward leads further along the trail
 no_further : (v : View) (t : Trails) (p : Pid) (place : Place) (m c : ℕ) → Trail v t p → IsLast t p place → v.known place.at p ≡ Forward m c → ⊥
 no_further v t p place m c trail is e =
     let rises = trail.behind place.at m c place.moves e is.on in
     let less = slice_get_within (t p) c m (trail.named place.at m c e) in
-    let long = is.long in
-    omega (arith, rises, less, long)
+    grind (arith, nat_tests)
 
 some_machines : (n k : ℕ) → k < n → n ≡ suc (n - 1)
 some_machines n k less = omega (arith, less)

@@ -1,13 +1,131 @@
 -- What an update does wherever the rule leads.
-use Rattle.dm_movelaws.proofs.Names.{◌≡◌, ◌⊎◌, ℕ, ◌<◌, ◌≤◌, ◌==◌, ◌&&◌, ◌||◌, Bool, true, false, not, [], ◌++◌, refl, ap, ◌∙◌, sym, inl, inr, nat_lt, arith, if◌then◌else◌, cases_Bool, false≢true, nat_tests, Option, None, Some, Pid, Place}
-use Rattle.dm_movelaws.proofs.Names.{pid_eq, MsgId, Boot, switchboard, manager, Life, Alive, OneKernel, pid_eq-same, Step, Addresses, Holder, belongs_to, leads_to, is_pid, is_behind, place_told, updated, updated_to, holders_of}
-use Rattle.dm_movelaws.proofs.Names.{behind_among, behind_count, holders_numbered, answers_in, slot_holders, Spelled, Point, View, Told, About, Ended, after_head, is_server, KnownStands, agrees, Updated, UpdatesAlways, front_own, Both}
-use Rattle.dm_movelaws.proofs.Names.{is_place, own_sort, run_always, pid_there, second}
-use Rattle.dm_onekernel.specs.Step as kernel
-use Rattle.dm_rule.specs.Addresses as addresses
-use Rattle.dm_rule.specs.View as view
+use Rattle.dm_movelaws.proofs.Names.{◌≡◌, ◌⊎◌, ℕ, ◌<◌, ◌≤◌, ◌==◌, ◌&&◌, Bool, true, false, not, [], ◌++◌, refl, ap, ◌∙◌, sym, inl, inr, nat_lt, arith, if◌then◌else◌, cases_Bool, false≢true, nat_tests, Option, None, Some, Pid, Place, pid_eq}
+use Rattle.dm_movelaws.proofs.Names.{MsgId, Boot, switchboard, manager, OneKernel, pid_eq-same, Step, Addresses, Holder, belongs_to, leads_to, is_pid, is_behind, place_told, updated, holders_of, behind_among, behind_count, holders_numbered}
+use Rattle.dm_movelaws.proofs.Names.{answers_in, slot_holders, Spelled, Point, View, Told, About, Ended, after_head, is_server, KnownStands, Updated, UpdatesAlways, front_own, Both, is_place, own_sort, run_always, pid_there, second, zero}
+use Rattle.dm_movelaws.proofs.Names.{suc, ◌+◌, List, ◌∷◌, length, slice_get, slice_get_cases, PlainLink, link_at, NamedLink, Pending, PlainProcess, pid_eq-is, not_server, alive-is, Slot, Owner, Child, Name, Answer, holder_eq, link_target}
+use Rattle.dm_movelaws.proofs.Names.{slot_of, name_link, ascends, slots_from, listings, is_owner}
 use Rattle.dm_movelaws.proofs.Updates.Groups.{Handled, handled_by}
-use Rattle.dm_movelaws.proofs.Updates.Listed.{listed}
+use Rattle.dm_laws.proofs.Entered.{Made}
+use Rattle.dm_onekernel.specs.Step as kernel
+use Rattle.dm_rule.specs.View as view
+use Rattle.dm_onekernel.specs.Manager as manage
+
+-- where a list has something
+got : {X : Type 0} (xs : List X) (k : ℕ) (x : X) → slice_get xs k ≡ Some x → k < length xs
+got xs k x e = elim (slice_get_cases xs k).1 [
+  | inl w ↦ w.1
+  | inr w ↦ absurd (let f : None ≡ Some x = sym w.1 ∙ e in cc)
+]
+
+-- slots
+slots_below : (p q : Pid) (k n : ℕ) (ls : List (Option PlainLink)) → k < n → listings (Slot p k) (slots_from q n ls) ≡ 0
+slots_below p q k n [] le = refl
+slots_below p q k n (l ∷ ls) le = grind (arith, nat_tests, slots_below p q k (n + 1) ls)
+
+slots_once : (p q : Pid) (k n : ℕ) (ls : List (Option PlainLink)) → pid_eq q p ≡ true → n ≤ k → k < n + length ls → listings (Slot p k) (slots_from q n ls) ≡ 1
+slots_once p q k n [] same least most = absurd (omega (arith, least, most))
+slots_once p q k n (l ∷ ls) same least most = grind (arith, nat_tests, slots_below, slots_once p q k (n + 1) ls same)
+
+-- names and children, by number
+pub record Counts (f : ℕ → Holder) : Type 0 where
+  pub eq : (m n : ℕ) → holder_eq (f m) (f n) ≡ (m == n)
+
+numbered_below : {X : Type 0} (f : ℕ → Holder) (k n : ℕ) (xs : List X) → Counts f → k < n → listings (f k) (holders_numbered f n xs) ≡ 0
+numbered_below f k n [] c le = refl
+numbered_below f k n (x ∷ xs) c le = grind (arith, nat_tests, numbered_below f k (n + 1) xs c)
+
+numbered_once : {X : Type 0} (f : ℕ → Holder) (k n : ℕ) (xs : List X) → Counts f → n ≤ k → k < n + length xs → listings (f k) (holders_numbered f n xs) ≡ 1
+numbered_once f k n [] c least most = absurd (omega (arith, least, most))
+numbered_once f k n (x ∷ xs) c least most = grind (arith, nat_tests, numbered_below, numbered_once f k (n + 1) xs c)
+
+-- requests, whose numbers ascend
+answers_below : (k from to : ℕ) (rs : List Pending) → ascends from rs to ≡ true → k < from → listings (Answer k) (answers_in rs) ≡ 0
+answers_below k from to [] up le = refl
+answers_below k from to (r ∷ rs) up le =
+    let least : from ≤ r.n = grind (arith, nat_tests) in
+    let more : ascends (r.n + 1) rs to ≡ true = grind (arith, nat_tests) in
+    let off : (r.n == k) ≡ false = grind (arith, nat_tests) in
+    let rest = answers_below k (r.n + 1) to rs more (omega (arith, least, le)) in
+    let first : listings (Answer k) (answers_in (r ∷ rs)) ≡ 0 + listings (Answer k) (answers_in rs) = ap (λ (c : Bool). (if c then 1 else 0) + listings (Answer k) (answers_in rs)) off in
+    omega (arith, first, rest)
+
+answers_once : (k from to : ℕ) (rs : List Pending) (r : Pending) → ascends from rs to ≡ true → manage.pending_numbered k rs ≡ Some r → listings (Answer k) (answers_in rs) ≡ 1
+answers_once k from to [] r up e = absurd (let f : None ≡ Some r = e in cc)
+answers_once k from to (x ∷ xs) r up e = elim (cases_Bool (x.n == k)) [
+  | inl same ↦
+      let more : ascends (x.n + 1) xs to ≡ true = grind (arith, nat_tests) in
+      let g : x.n ≡ k = grind (arith, nat_tests) in
+      let rest = answers_below k (x.n + 1) to xs more (omega (arith, g)) in
+      let first : listings (Answer k) (answers_in (x ∷ xs)) ≡ 1 + listings (Answer k) (answers_in xs) = ap (λ (c : Bool). (if c then 1 else 0) + listings (Answer k) (answers_in xs)) same in
+      omega (arith, first, rest)
+  | inr off ↦
+      let more : ascends (x.n + 1) xs to ≡ true = grind (arith, nat_tests) in
+      let rest = answers_once k (x.n + 1) to xs r more (sym (ap (λ (c : Bool). if c then Some x else manage.pending_numbered k xs) off) ∙ e) in
+      let first : listings (Answer k) (answers_in (x ∷ xs)) ≡ 0 + listings (Answer k) (answers_in xs) = ap (λ (c : Bool). (if c then 1 else 0) + listings (Answer k) (answers_in xs)) off in
+      omega (arith, first, rest)
+]
+
+-- two lists
+listings-append : (h : Holder) (xs ys : List Holder) → listings h (xs ++ ys) ≡ listings h xs + listings h ys
+listings-append h [] ys = omega arith
+listings-append h (x ∷ xs) ys = let f = listings-append h xs ys in omega (arith, f)
+
+no_answer : (k : ℕ) (rs : List Pending) → listings (Child k) (answers_in rs) ≡ 0
+no_answer k [] = refl
+no_answer k (r ∷ rs) = let f = no_answer k rs in omega (arith, f)
+
+no_child : {X : Type 0} (k n : ℕ) (xs : List X) → listings (Answer k) (holders_numbered Child n xs) ≡ 0
+no_child k n [] = refl
+no_child k n (x ∷ xs) = let f = no_child k (n + 1) xs in omega (arith, f)
+
+-- each by what it belongs to
+slot_link : (o : Option PlainProcess) (k : ℕ) (q : Pid) → link_target (slot_of o k) ≡ Some q → (x : PlainProcess) × (o ≡ Some x) × (k < length x.links)
+slot_link None k q e = absurd (let f : None ≡ Some q = e in cc)
+slot_link (Some x) k q e = (x, refl, at_place x.links k q e)
+  where
+    at_place : (ls : List (Option PlainLink)) (k : ℕ) (q : Pid) → link_target (link_at ls k) ≡ Some q → k < length ls
+    at_place [] k q e = absurd (let f : None ≡ Some q = e in cc)
+    at_place (l ∷ ls) zero q e = let long : length (l ∷ ls) ≡ length ls + 1 = omega arith in omega (arith, long)
+    at_place (l ∷ ls) (suc k) q e = let f = at_place ls k q e in let long : length (l ∷ ls) ≡ length ls + 1 = omega arith in omega (arith, long, f)
+
+abbrev listed_as : OneKernel → Pid → Bool → Bool → List Holder
+listed_as s q c d = if c then holders_numbered Name 0 s.switchboard.names else if d then holders_numbered Child 1 s.manager.children ++ answers_in s.manager.pending else slot_holders q (kernel.alive (s.processes q))
+
+named_link : (o : Option NamedLink) (q : Pid) → link_target (name_link o) ≡ Some q → (k : NamedLink) × (o ≡ Some k)
+named_link o q e = grind (arith, nat_tests)
+
+not_board : (q : Pid) → pid_eq q manager ≡ true → pid_eq q switchboard ≡ false
+not_board q e = grind (arith, nat_tests)
+
+pub listed : (s : OneKernel) (q : Pid) (h : Holder) (r : Pid) → Made s → ascends 0 s.manager.pending s.manager.sent ≡ true → belongs_to q h ≡ true → is_owner h ≡ false → leads_to s h ≡ Some r → listings h (holders_of s q) ≡ 1
+listed s q (Slot p k) r made up mine other leads =
+    let (x, alive, within) = slot_link (kernel.alive (s.processes p)) k r leads in
+    let same : p ≡ q = pid_eq-is p q mine in
+    let not = not_server s p x (alive-is (s.processes p) x alive) made in
+    let board : pid_eq q switchboard ≡ false = ap (λ (z : Pid). pid_eq z switchboard) (sym same) ∙ not.0 in
+    let man : pid_eq q manager ≡ false = ap (λ (z : Pid). pid_eq z manager) (sym same) ∙ not.1 in
+    let there : kernel.alive (s.processes q) ≡ Some x = ap (λ (z : Pid). kernel.alive (s.processes z)) (sym same) ∙ alive in
+    let back : pid_eq q p ≡ true = ap (pid_eq q) same ∙ pid_eq-same q in
+    ap (λ (c : Bool). listings (Slot p k) (listed_as s q c (pid_eq q manager))) board
+    ∙ ap (λ (c : Bool). listings (Slot p k) (listed_as s q false c)) man
+    ∙ ap (λ (o : Option PlainProcess). listings (Slot p k) (slot_holders q o)) there
+    ∙ slots_once p q k 0 x.links back (omega arith) (omega (arith, within))
+listed s q (Owner p) r made up mine other leads = absurd (false≢true (sym other))
+listed s q (Child zero) r made up mine other leads = absurd (let f : None ≡ Some r = leads in cc)
+listed s q (Child (suc n)) r made up mine other leads =
+    let within = got s.manager.children n r leads in
+    let once : listings (Child (suc n)) (holders_numbered Child 1 s.manager.children) ≡ 1 = numbered_once Child (suc n) 1 s.manager.children (record { eq = λ i j. refl }) (omega arith) (omega (arith, within)) in
+    let none = no_answer (suc n) s.manager.pending in
+    let sum = listings-append (Child (suc n)) (holders_numbered Child 1 s.manager.children) (answers_in s.manager.pending) in
+    ap (λ (c : Bool). listings (Child (suc n)) (listed_as s q c (pid_eq q manager))) (not_board q mine)
+    ∙ ap (λ (c : Bool). listings (Child (suc n)) (listed_as s q false c)) mine
+    ∙ (let f : listings (Child (suc n)) (holders_numbered Child 1 s.manager.children ++ answers_in s.manager.pending) ≡ 1 = omega (arith, once, none, sum) in f)
+listed s q (Name n) r made up mine other leads =
+    let (k, there) = named_link (slice_get s.switchboard.names n) r leads in
+    ap (λ (c : Bool). listings (Name n) (listed_as s q c (pid_eq q manager))) mine
+    ∙ numbered_once Name n 0 s.switchboard.names (record { eq = λ i j. refl }) (omega arith) (let f = got s.switchboard.names n k there in omega (arith, f))
+listed s q (Answer n) r made up mine other leads = grind (arith, nat_tests, answers_once, no_child, listings-append, not_board)
+listed s q _ r made up mine other leads = absurd (false≢true mine)
 
 -- what it tells
 record Tells (a : About) : Type 0 where
@@ -21,8 +139,7 @@ tells _ e = absurd (false≢true e)
 
 -- the head changes nothing that it reads
 head_told : (v : View) (d : Step) → (after_head v d).told ≡ v.told
-head_told v (Step.Turn m) = refl
-head_told v _ = refl
+head_told v d = grind (arith, nat_tests)
 
 record Kept (v w : View) : Type 0 where
   known : w.known ≡ v.known
@@ -31,59 +148,24 @@ record Kept (v w : View) : Type 0 where
   ring : w.ring ≡ v.ring
 
 head_kept : (v : View) (d : Step) → Kept v (after_head v d)
-head_kept v (Step.Turn m) = record { known = refl; queue = refl; held = refl; ring = refl }
-head_kept v _ = record { known = refl; queue = refl; held = refl; ring = refl }
+head_kept v d = grind (arith, nat_tests)
 
 address : (s : OneKernel) (v w : View) (a : Addresses) (id : MsgId) (t : Told) (p : Pid) (at_ : Place) (h : Holder) → w.told ≡ v.told → v.told id ≡ Some t → t.about ≡ view.Place p at_.at at_.moves
     → updated s w a (w.told id) h ≡ (if is_behind s a t.receiver p at_.moves h then at_ else a h)
-address s v w a id t p at_ h same told about =
-    ap (λ (f : MsgId → Option Told). updated s w a (f id) h) same
-    ∙ ap (λ (o : Option Told). updated s w a o h) told
-    ∙ ap (λ (x : About). updated_to s a (Some t.receiver) (place_told x) h) about
+address s v w a id t p at_ h same told about = search
 
 -- whether an address is behind
-pid_true : (p : Pid) (o : Option Pid) → o ≡ Some p → is_pid p o ≡ true
-pid_true p o e = ap (is_pid p) e ∙ pid_eq-same p
-
 three : (a b c : Bool) → (a && (b && c)) ≡ true → (a ≡ true) × (b ≡ true) × (c ≡ true)
-three true true c e = (refl, refl, e)
-three true false c e = absurd (false≢true e)
-three false b c e = absurd (false≢true e)
+three a b c e = grind (arith, nat_tests)
 
 behind_is : (s : OneKernel) (a : Addresses) (q p : Pid) (c : ℕ) (h : Holder) (x : Bool) → belongs_to q h ≡ true → leads_to s h ≡ Some p → nat_lt (a h).moves c ≡ x → is_behind s a q p c h ≡ x
-behind_is s a q p c h x mine leads e =
-    ap (λ (b : Bool). b && (is_pid p (leads_to s h) && nat_lt (a h).moves c)) mine
-    ∙ ap (λ (b : Bool). b && nat_lt (a h).moves c) (pid_true p (leads_to s h) leads)
-    ∙ e
+behind_is s a q p c h x mine leads e = grind (arith, nat_tests)
 
 -- an ended process has no links
-ended_none : (o : Option Life) → agrees Ended o ≡ true → kernel.alive o ≡ None
-ended_none (Some (Alive x)) e = absurd (false≢true e)
-ended_none _ e = refl
-
-either : (b c : Bool) → (b || c) ≡ false → (b ≡ false) × (c ≡ false)
-either true c e = absurd (false≢true (sym e))
-either false c e = (refl, e)
-
-none_listed : (s : OneKernel) (q : Pid) → is_server q ≡ false → kernel.alive (s.processes q) ≡ None → holders_of s q ≡ []
-none_listed s q server none =
-    let k = either (pid_eq q switchboard) (pid_eq q manager) server in
-    let names = holders_numbered addresses.Name 0 s.switchboard.names in
-    let children = holders_numbered addresses.Child 1 s.manager.children ++ answers_in s.manager.pending in
-    let slots = slot_holders q (kernel.alive (s.processes q)) in
-    ap (λ (c : Bool). if c then names else if pid_eq q manager then children else slots) k.0
-    ∙ ap (λ (c : Bool). if c then children else slots) k.1
-    ∙ ap (slot_holders q) none
-
 count_is : (s : OneKernel) (v : View) (a : Addresses) (t : Told) (p : Pid) (at_ : Place) (m n : ℕ) → t.about ≡ view.Place p at_.at at_.moves → KnownStands s v
     → (n ≡ behind_count s a t.receiver (place_told t.about)) ⊎ ((n ≡ 0) × (is_server t.receiver ≡ false) × (v.known m t.receiver ≡ Ended))
     → behind_among (is_behind s a t.receiver p at_.moves) (holders_of s t.receiver) ≡ n
-count_is s v a t p at_ m n about known counts = elim counts [
-  | inl e ↦ sym (e ∙ ap (λ (x : About). behind_count s a t.receiver (place_told x)) about)
-  | inr e ↦
-      let none = ended_none (s.processes t.receiver) (sym (ap (λ (k : view.Known). agrees k (s.processes t.receiver)) e.2) ∙ known.agree m t.receiver e.1) in
-      ap (behind_among (is_behind s a t.receiver p at_.moves)) (none_listed s t.receiver e.1 none) ∙ sym e.0
-]
+count_is s v a t p at_ m n about known counts = grind (arith, nat_tests)
 
 updated_by : (b : Boot) (pt : Point) (d : Step) (w : Spelled) (id : MsgId) (n : ℕ) → Both b pt → Handled b pt d w id n → Updated pt w.point id n
 updated_by b pt d w id n both h =

@@ -1,13 +1,12 @@
 -- All that the kernel without machines and the lines say of processes and of what waits for them holds wherever the rule leads.
-use Rattle.dm_rulelaws.proofs.Names.{None, ◌≡◌, List, [], ◌∷◌, refl, ◌∙◌, subst, Some, Boot, IsValid, Step, IsStep, Leads, Spelled, Point, first_point, labels, group_of, phased_start, phased_group}
+use Rattle.dm_rulelaws.proofs.Names.{None, ◌≡◌, List, ◌∷◌, refl, ◌∙◌, subst, Some, Boot, IsValid, Step, IsStep, Leads, Spelled, Point, first_point, labels, group_of, phased_start, phased_group}
 use Rattle.dm_rulelaws.proofs.Based.Noted.{noted_start, noted_group}
 use Rattle.dm_rulelaws.proofs.Fits.Start.{start_fits}
 use Rattle.dm_rulelaws.proofs.RunLabels.{group_replay, replay_fits}
 use Rattle.dm_rulelaws.proofs.Runs.{Based}
 use Rattle.dm_rulelaws.proofs.Based.Constants.{constant_group}
 use Rattle.dm_rulelaws.proofs.Based.Known.{known_group}
-use Rattle.dm_rulelaws.proofs.Based.Lists.{lists_start, lists_group}
-use Rattle.dm_rulelaws.proofs.Based.Queues.{waits_start, waits_group, waits_by, queued_of, held_of}
+use Rattle.dm_rulelaws.proofs.Based.Queues.{lists_start, lists_group, waits_start, waits_group, waits_by, queued_of, held_of}
 use Rattle.dm_rulelaws.proofs.Based.Start.{known_start}
 use Rattle.dm_rulelaws.proofs.Based.Unmoved.{unmoved_start, unmoved_group}
 

@@ -1,4 +1,4 @@
-use Rattle.dm_movelaws.proofs.Lists.For.{lists_for_theirs}
+use Rattle.dm_movelaws.proofs.Lists.Always.{lists_for_theirs}
 use Rattle.dm_movelaws.proofs.laws.lists_for_theirs.Goals as goal
 
 pub returns : goal.returns

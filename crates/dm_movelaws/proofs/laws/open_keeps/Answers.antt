@@ -1,4 +1,4 @@
-use Rattle.dm_movelaws.proofs.Open.Keeps.{open_keeps}
+use Rattle.dm_movelaws.proofs.Open.Stays.{open_keeps}
 use Rattle.dm_movelaws.proofs.laws.open_keeps.Goals as goal
 
 pub returns : goal.returns

@@ -1,4 +1,4 @@
-use Rattle.dm_movelaws.proofs.Open.Spares.{open_spares}
+use Rattle.dm_movelaws.proofs.Open.Apart.{open_spares}
 use Rattle.dm_movelaws.proofs.laws.open_spares.Goals as goal
 
 pub returns : goal.returns

@@ -1,4 +1,4 @@
-use Rattle.dm_movelaws.proofs.Pending.Order.{pending_ascends}
+use Rattle.dm_movelaws.proofs.Pending.Always.{pending_ascends}
 use Rattle.dm_movelaws.proofs.laws.pending_ascends.Goals as goal
 
 pub returns : goal.returns

@@ -1,4 +1,4 @@
-use Rattle.dm_movelaws.proofs.Trail.Always.{trails_always}
+use Rattle.dm_movelaws.proofs.Trail.Known.{trails_always}
 use Rattle.dm_movelaws.proofs.laws.trails_always.Goals as goal
 
 pub returns : goal.returns
