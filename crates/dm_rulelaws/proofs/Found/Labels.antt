@@ -6,7 +6,7 @@ use Rattle.dm_rulelaws.proofs.Names.{label_told, label_topic, is_fixed, zero_cas
 use Rattle.dm_rulelaws.proofs.Names.{with_sent, answer_to, without_message, is_kill, nat_lt, List, length, if◌then◌else◌, PlainLink, id_eq, id_of, switchboard, manager, bind, answer_id, id_eq-is, Addresses, Gets, landing_gets}
 use Rattle.dm_rulelaws.proofs.Names.{serves_what, board_gets, manager_gets, not_true, nat_tests, unentered, Sound, id_in, landed_id, served_id, board_id, manager_id, took_id, bag_sends, bag_served, bag_gone, bag_no_space, bag_created}
 use Rattle.dm_rulelaws.proofs.Names.{bag_took, spares, spares_both, two_more, made_spares, sends_spares, receives_spares, creates_what_spares, finds_spares, keeps_spares, manager_takes_spares, WhatFits, KernelFits, topic_by, machine_in}
-use Rattle.dm_rulelaws.proofs.Names.{bag_answered}
+use Rattle.dm_rulelaws.proofs.Names.{bag_answered, []}
 use Rattle.dm_rule.specs.Point.{machine_of}
 use Rattle.dm_onekernel.specs.Step as kernel
 use Rattle.dm_rule.specs.View as view

@@ -3,7 +3,7 @@ use Rattle.dm_rulelaws.proofs.Names.{◌≡◌, ◌≢◌, ℕ, ◌+◌, ◌≤�
 use Rattle.dm_rulelaws.proofs.Names.{MsgId, MessageKind, Label, Reply, Line, id_eq, plain_kind, PlainMessage, PlainWhat, Direction, Boot, Why, switchboard, manager, bind, PlainProcess, PlainStatus, Moving, Life, Alive, Ended, OneKernel}
 use Rattle.dm_rulelaws.proofs.Names.{with_process, with_sent, answer_id, answer_to, without_message, is_dropped, is_of_memory, id_eq-is, out_off, LandsSo, lands-is, Addresses, Sender, is_told_back, forwards_on, Point, moved, Says, Routes}
 use Rattle.dm_rulelaws.proofs.Names.{Owns, times, View, Known, has_bytes, is_server, awaits, status_awaits, move_fits, piece_fits, WhatFits, is_fixed, agrees, is_still, handled, Note, Outcome, with_note, id_eq-same, pid_eq-same}
-use Rattle.dm_rulelaws.proofs.Names.{answers_move, leaves_for}
+use Rattle.dm_rulelaws.proofs.Names.{answers_move, leaves_for, []}
 use Rattle.dm_onekernel.specs.Pieces as pieces
 use Rattle.dm_onekernel.specs.Service as service
 use Rattle.dm_onekernel.specs.Step as kernel
