@@ -1,6 +1,6 @@
 -- What a call of a process comes to, row by row: whatever holds of each row holds of the call.
-use Rattle.dm_rulelaws.proofs.Names.{◌≡◌, ℕ, ◌+◌, ◌==◌, ◌||◌, Bool, true, false, List, ◌∷◌, refl, nat_lt, if◌then◌else◌, Option, None, Some, Pid, PlainLink, first_empty, link_at, direction_numbered, Direction, Reply, Why, PlainProcess}
-use Rattle.dm_rulelaws.proofs.Names.{Waiting, reg, first_failed, Called, Sends, Waits, CallNumber, Check, []}
+use Rattle.dm_rulelaws.proofs.Names.{◌≡◌, ℕ, ◌+◌, ◌==◌, ◌||◌, Bool, true, false, List, [], ◌∷◌, refl, nat_lt, if◌then◌else◌, Option, None, Some, Pid, PlainLink, first_empty, link_at, direction_numbered, Direction, Reply, Why, PlainProcess}
+use Rattle.dm_rulelaws.proofs.Names.{Waiting, reg, first_failed, Called, Sends, Waits, CallNumber, Check}
 use Rattle.dm_onekernel.specs.Pieces as pieces
 use Rattle.dm_onekernel.specs.Calls as calls
 

@@ -1,5 +1,5 @@
 -- The rule decides what is printed.
-use Rattle.dm_rulelaws.proofs.Names.{◌≡◌, ◌+◌, List, ◌∷◌, ◌++◌, length, refl, ap, ◌∙◌, sym, subst, arith, Option, Some, Boot, Line, Todo, Next, next_step, IsRun, Spelled, Point, group_of, RuleDecides, ShorterBegins, []}
+use Rattle.dm_rulelaws.proofs.Names.{◌≡◌, ◌+◌, List, [], ◌∷◌, ◌++◌, length, refl, ap, ◌∙◌, sym, subst, arith, Option, Some, Boot, Line, Todo, Next, next_step, IsRun, Spelled, Point, group_of, RuleDecides, ShorterBegins}
 
 same_some : {A : Type 0} (o : Option A) (x y : A) → o ≡ Some x → o ≡ Some y → y ≡ x
 same_some o x y e f = let g : Some y ≡ Some x = sym f ∙ e in cc

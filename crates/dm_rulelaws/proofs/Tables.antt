@@ -1,8 +1,8 @@
 -- Each living process has as many link slots as the format gives, and each message of the bag encloses at most four links.
 pub mod Steps
 pub mod Always
-use Rattle.dm_rulelaws.proofs.Names.{◌≡◌, ◌≤◌, Bool, length, ap, ◌∙◌, sym, subst, inl, inr, ⊤, if◌then◌else◌, Some, cases_Bool, Pid, pid_eq, MsgId, PlainMessage, PlainWhat, Why, slots_of, PlainProcess, Alive, Ended, OneKernel}
-use Rattle.dm_rulelaws.proofs.Names.{with_process, with_sent, without_message, stayed, came}
+use Rattle.dm_rulelaws.proofs.Names.{◌≡◌, ◌≤◌, Bool, length, ap, ◌∙◌, sym, subst, inl, inr, ⊤, if◌then◌else◌, Some, cases_Bool, Pid, pid_eq, MsgId, PlainMessage, PlainWhat, Why, slots_of, PlainProcess, Alive, Ended, OneKernel, with_process}
+use Rattle.dm_rulelaws.proofs.Names.{with_sent, without_message, stayed, came}
 use Rattle.dm_onekernel.specs.Service as service
 
 -- a message to a process or a server, and a request to make a process, enclose at most four links

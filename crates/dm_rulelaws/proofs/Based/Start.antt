@@ -1,7 +1,7 @@
 -- Before the first line, what machines know agrees with the kernel without machines.
-use Rattle.dm_rulelaws.proofs.Names.{◌≡◌, ℕ, ◌+◌, ◌==◌, ◌&&◌, ◌||◌, Bool, true, false, List, ◌∷◌, ◌++◌, map, refl, ap, ◌∙◌, sym, ◌≢◌, is_some, nat_lt, inl, inr, arith, if◌then◌else◌, slice_get, option_map, Option, None, Some, cases_Bool}
-use Rattle.dm_rulelaws.proofs.Names.{false≢true, nat_tests, Pid, pid_eq, plain_link, BootImage, BootProcess, Boot, IsValid, switchboard, manager, starting_at, processes_are_valid, Life, Alive, begun, first_life, life_at, pid_eq-is}
-use Rattle.dm_rulelaws.proofs.Names.{pid_eq-same, pid_eq-swap, first_point, Known, known_at, ring_at, is_server, KnownStands, agrees, server_at, rings, turns_here, eq_self, []}
+use Rattle.dm_rulelaws.proofs.Names.{◌≡◌, ℕ, ◌+◌, ◌==◌, ◌&&◌, ◌||◌, Bool, true, false, List, [], ◌∷◌, ◌++◌, map, refl, ap, ◌∙◌, sym, ◌≢◌, is_some, nat_lt, inl, inr, arith, if◌then◌else◌, slice_get, option_map, Option, None, Some}
+use Rattle.dm_rulelaws.proofs.Names.{cases_Bool, false≢true, nat_tests, Pid, pid_eq, plain_link, BootImage, BootProcess, Boot, IsValid, switchboard, manager, starting_at, processes_are_valid, Life, Alive, begun, first_life, life_at}
+use Rattle.dm_rulelaws.proofs.Names.{pid_eq-is, pid_eq-same, pid_eq-swap, first_point, Known, known_at, ring_at, is_server, KnownStands, agrees, server_at, rings, turns_here, eq_self}
 use Rattle.dm_rulelaws.proofs.Fits.Rises.{both}
 use Rattle.dm_rulelaws.proofs.Fits.Start.{get_some}
 

@@ -1,7 +1,7 @@
 -- What a call gives fits.
-use Rattle.dm_rulelaws.proofs.Names.{◌≡◌, ℕ, zero, suc, ◌+◌, ◌≤◌, ◌==◌, ◌&&◌, ◌||◌, Bool, true, false, List, ◌∷◌, length, take, drop, filter_map, refl, ap, ◌∙◌, sym, subst, nat_le, min, arith, ⊤, if◌then◌else◌, slice_set, cons_option}
+use Rattle.dm_rulelaws.proofs.Names.{◌≡◌, ℕ, zero, suc, ◌+◌, ◌≤◌, ◌==◌, ◌&&◌, ◌||◌, Bool, true, false, List, [], ◌∷◌, length, take, drop, filter_map, refl, ap, ◌∙◌, sym, subst, nat_le, min, arith, ⊤, if◌then◌else◌, slice_set, cons_option}
 use Rattle.dm_rulelaws.proofs.Names.{Option, None, Some, nat_tests, length-take, Pid, PlainLink, link_at, PlainMessage, PlainWhat, Direction, Reply, PlainProcess, reg, Life, Called, Replies, Sends, Waits, Outputs, Ends, Each, Lives}
-use Rattle.dm_rulelaws.proofs.Names.{has_bytes, is_server, takes_users, gives_no_right, LinkFits, SlotFits, move_fits, ProcessFits, status_awaits, eq_self, or_first, []}
+use Rattle.dm_rulelaws.proofs.Names.{has_bytes, is_server, takes_users, gives_no_right, LinkFits, SlotFits, move_fits, ProcessFits, status_awaits, eq_self, or_first}
 use Rattle.dm_onekernel.specs.Pieces as pieces
 use Rattle.dm_onekernel.specs.Calls as calls
 use Rattle.dm_rulelaws.proofs.Fits.Rises.{two, move_on}

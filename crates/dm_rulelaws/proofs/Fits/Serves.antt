@@ -256,20 +256,7 @@ asked_noted s t id m is there =
 unnoted_fits : (s : OneKernel) (p : Pid) (id : MsgId) → KernelFits s → KernelFits (without_note s p id)
 unnoted_fits s p id h =
     let t = without_note s p id in
-    carries s t (record {
-      rises = λ q n e. e;
-      alive = h.processes;
-      bag = λ i m is. is;
-      waits = λ i m is e. e;
-      pending = λ i m is kind c. pending_on s t kind i refl;
-      machines = refl;
-      images = refl;
-      names = h.names;
-      answers = h.answers;
-      notes = λ q n is. unnoted q n (pid_eq p q) is;
-      noted = λ q n is. pending_on s t PendingKind.Move n.id refl;
-      children = h.children;
-    }) h
+    carries s t (search (arith, h.processes, h.names, h.answers, h.children, pending_on, unnoted, pid_eq)) h
   where
     unnoted : (q : Pid) (n : Note) (c : Bool) → (if c then None else s.notes q) ≡ Some n → s.notes q ≡ Some n
     unnoted q n true e = cc

@@ -1,8 +1,8 @@
 -- What a turn needs where a message goes on, and where those of a process that leaves do.
-use Rattle.dm_rulelaws.proofs.Names.{◌≡◌, ◌≢◌, ℕ, ◌<◌, ◌≤◌, Bool, true, false, List, ◌∷◌, ◌++◌, length, refl, ap, ◌∙◌, sym, subst, inl, inr, arith, if◌then◌else◌, Option, None, Some, cases_Bool, false≢true, Pid, Place, MsgId, id_eq}
+use Rattle.dm_rulelaws.proofs.Names.{◌≡◌, ◌≢◌, ℕ, ◌<◌, ◌≤◌, Bool, true, false, List, [], ◌∷◌, ◌++◌, length, refl, ap, ◌∙◌, sym, subst, inl, inr, arith, if◌then◌else◌, Option, None, Some, cases_Bool, false≢true, Pid, Place, MsgId, id_eq}
 use Rattle.dm_rulelaws.proofs.Names.{MessageKind, Line, Stage, id_eq-is, id_eq-same, View, Told, Known, Unknown, Frozen, Forward, is_kernels, own_id, handled, forwarded_for, forward_about, receiver_of, view_after, Addresses, Receiver}
 use Rattle.dm_rulelaws.proofs.Names.{Sender, given, place_known, all_follow, is_told_back, forwards, Point, moved, Part, Says, Again, Owns, to_kernel, forwards_on, sends_on, leaves, Spot, times, standing, StandsAsBag, letters, not_true}
-use Rattle.dm_rulelaws.proofs.Names.{both_lists, without_all, without_at, first_off, sent_way, one_of, front_gone, forwarded_known, State, Sane, Named, forwarded_back, is_own, is_fixed, []}
+use Rattle.dm_rulelaws.proofs.Names.{both_lists, without_all, without_at, first_off, sent_way, one_of, front_gone, forwarded_known, State, Sane, Named, forwarded_back, is_own, is_fixed}
 use Rattle.dm_rule.proofs.Trails.Places.{Owns}
 use Rattle.dm_rulelaws.proofs.Found.Core.{AboutIs, KnowsAt, Knows, IsReal, KnownIs, LineCore, Grows, knows_grow, real_grows}
 use Rattle.dm_rulelaws.proofs.Found.Puts.{NeedsForward, NeedsSent}

@@ -1,7 +1,7 @@
 -- The parts of a group keep where messages stand, where each has what it needs.
-use Rattle.dm_rulelaws.proofs.Names.{◌≡◌, ℕ, ◌<◌, true, false, List, ◌∷◌, refl, ◌∙◌, sym, arith, ⊤, Option, None, Some, false≢true, Pid, pid_of, MsgId, MessageKind, plain_kind, PlainMessage, PlainWhat, manager, id_eq-same, bind-is, Line}
-use Rattle.dm_rulelaws.proofs.Names.{Told, is_kernels, own_id, Holder, Receiver, Sender, given, goes_between, own_gives, Point, moved, after, Part, Says, Routes, Again, Owns, Transmits, Spelled, lines_of, puts, packet_line, spelled}
-use Rattle.dm_rulelaws.proofs.Names.{not_kernels, not_first, Sane, AllSayable, part_sane, is_own, by_parts, []}
+use Rattle.dm_rulelaws.proofs.Names.{◌≡◌, ℕ, ◌<◌, true, false, List, [], ◌∷◌, refl, ◌∙◌, sym, arith, ⊤, Option, None, Some, false≢true, Pid, pid_of, MsgId, MessageKind, plain_kind, PlainMessage, PlainWhat, manager, id_eq-same, bind-is}
+use Rattle.dm_rulelaws.proofs.Names.{Line, Told, is_kernels, own_id, Holder, Receiver, Sender, given, goes_between, own_gives, Point, moved, after, Part, Says, Routes, Again, Owns, Transmits, Spelled, lines_of, puts, packet_line, spelled}
+use Rattle.dm_rulelaws.proofs.Names.{not_kernels, not_first, Sane, AllSayable, part_sane, is_own, by_parts}
 use Rattle.dm_rulelaws.proofs.Found.Core.{Knows, IsReal, LineCore}
 use Rattle.dm_rulelaws.proofs.Found.Puts.{NeedsPut, put_core}
 use Rattle.dm_rulelaws.proofs.Found.Lines.{NeedsLine, line_core, packet_core}

@@ -1,9 +1,9 @@
 -- Lines that give addresses beside the kernel keep each where its process is known: a message that is forwarded, messages that
 -- are sent on, an update, and puts.
-use Rattle.dm_rulelaws.proofs.Names.{◌≡◌, ◌⊎◌, ℕ, ◌≤◌, Bool, true, false, List, ◌∷◌, refl, ap, ◌∙◌, sym, subst, inl, inr, arith, ⊤, if◌then◌else◌, Option, None, Some, cases_Bool, false≢true, Pid, Place, MsgId, id_eq, MessageKind, manager}
-use Rattle.dm_rulelaws.proofs.Names.{OneKernel, id_eq-is, id_eq-same, View, Told, About, NothingElse, is_kernels, own_id, after_put, Addresses, Holder, Receiver, Sender, Gets, gets, given, holder_eq, place_known, all_follow, is_told_back}
-use Rattle.dm_rulelaws.proofs.Names.{told_back_gets, forwards, place_told, is_behind, updated_to, updated, own_gives, first_gives, times, one_of, put_told_off, put_at, Goes, Comes, Named, Links, holder_is, unnamed_receiver}
-use Rattle.dm_rulelaws.proofs.Names.{unnamed_sender, put_named, told_again, is_own, leads_where, behind_where, plain_gives, not_own, Sort, sort_of, own_given, []}
+use Rattle.dm_rulelaws.proofs.Names.{◌≡◌, ◌⊎◌, ℕ, ◌≤◌, Bool, true, false, List, [], ◌∷◌, refl, ap, ◌∙◌, sym, subst, inl, inr, arith, ⊤, if◌then◌else◌, Option, None, Some, cases_Bool, false≢true, Pid, Place, MsgId, id_eq, MessageKind}
+use Rattle.dm_rulelaws.proofs.Names.{manager, OneKernel, id_eq-is, id_eq-same, View, Told, About, NothingElse, is_kernels, own_id, after_put, Addresses, Holder, Receiver, Sender, Gets, gets, given, holder_eq, place_known, all_follow}
+use Rattle.dm_rulelaws.proofs.Names.{is_told_back, told_back_gets, forwards, place_told, is_behind, updated_to, updated, own_gives, first_gives, times, one_of, put_told_off, put_at, Goes, Comes, Named, Links, holder_is, unnamed_receiver}
+use Rattle.dm_rulelaws.proofs.Names.{unnamed_sender, put_named, told_again, is_own, leads_where, behind_where, plain_gives, not_own, Sort, sort_of, own_given}
 use Rattle.dm_rule.specs.View as view
 use Rattle.dm_rule.proofs.Trails.Places.{Owns}
 

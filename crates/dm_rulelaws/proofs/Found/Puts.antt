@@ -1,8 +1,8 @@
 -- Puts, and lines that give addresses, keep where addresses lead, what machines know, and where messages stand.
 use Rattle.dm_rulelaws.proofs.Names.{◌≡◌, ℕ, Bool, true, false, is_some, refl, ap, ◌∙◌, sym, subst, inl, inr, if◌then◌else◌, Option, None, Some, cases_Bool, false≢true, Pid, Place, MsgId, id_eq, MessageKind, Line, manager, OneKernel}
-use Rattle.dm_rulelaws.proofs.Names.{id_eq-is, View, Told, is_kernels, after_put, Addresses, Receiver, Sender, given, unmoved, child_number, place_of_child, own_gives, first_gives, Point, moved, not_true, put_at, put_told_off, is_own}
-use Rattle.dm_rulelaws.proofs.Names.{Sort, sort_of, own_given, ◌<◌, ◌≤◌, List, ◌∷◌, ◌++◌, arith, own_id, view_after, handled, forwarded_for, forward_about, receiver_of, place_known, all_follow, told_back_gets, is_told_back, forwards}
-use Rattle.dm_rulelaws.proofs.Names.{updated, Spot, times, standing, one_of, Named, zero_cases, flip_zero, []}
+use Rattle.dm_rulelaws.proofs.Names.{id_eq-is, View, Told, is_kernels, after_put, Addresses, Receiver, Sender, given, unmoved, child_number, place_of_child, own_gives, first_gives, Point, moved, not_true, put_at, put_told_off, is_own, Sort}
+use Rattle.dm_rulelaws.proofs.Names.{sort_of, own_given, ◌<◌, ◌≤◌, List, [], ◌∷◌, ◌++◌, arith, own_id, view_after, handled, forwarded_for, forward_about, receiver_of, place_known, all_follow, told_back_gets, is_told_back, forwards, updated}
+use Rattle.dm_rulelaws.proofs.Names.{Spot, times, standing, one_of, Named, zero_cases, flip_zero}
 use Rattle.dm_rulelaws.proofs.Found.Lists.{places_put, Places, places_line, places_handled, places_forwarded}
 use Rattle.dm_rulelaws.proofs.Found.Places.{AllAre, put_all, put_routed, put_again, put_tells, routed_gives, forwarded_all, sent_on_all, updated_all, updated_leaves}
 use Rattle.dm_rulelaws.proofs.Found.Core.{Knows, IsReal, AboutIs, IsAt, LineCore, Grows, learns_nothing, IsOwn, knows_grow, own_grows, about_grows, core_view}

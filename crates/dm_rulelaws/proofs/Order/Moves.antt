@@ -1,6 +1,6 @@
 -- Routes, deliveries and queues keep the order in which messages were sent.
-use Rattle.dm_rulelaws.proofs.Names.{◌≡◌, ℕ, zero, suc, ◌+◌, ◌≤◌, ◌<◌, ◌==◌, ◌&&◌, Bool, true, false, List, ◌∷◌, ◌++◌, refl, ap, ◌∙◌, sym, is_some, nat_lt, arith, if◌then◌else◌, Option, None, Some, false≢true, nat_tests, MsgId, id_of}
-use Rattle.dm_rulelaws.proofs.Names.{PlainMessage, PlainWhat, Life, OneKernel, counts, is_counted, pid_eq-is, at_machine, at_pair, untaken, View, Pair, not_false, []}
+use Rattle.dm_rulelaws.proofs.Names.{◌≡◌, ℕ, zero, suc, ◌+◌, ◌≤◌, ◌<◌, ◌==◌, ◌&&◌, Bool, true, false, List, [], ◌∷◌, ◌++◌, refl, ap, ◌∙◌, sym, is_some, nat_lt, arith, if◌then◌else◌, Option, None, Some, false≢true, nat_tests, MsgId, id_of}
+use Rattle.dm_rulelaws.proofs.Names.{PlainMessage, PlainWhat, Life, OneKernel, counts, is_counted, pid_eq-is, at_machine, at_pair, untaken, View, Pair, not_false}
 use Rattle.dm_rulelaws.proofs.Fits.Rises.{both, two, Each-on}
 use Rattle.dm_rulelaws.proofs.Queued.{is_user}
 use Rattle.dm_rulelaws.proofs.Order.Lines.{ordered, context, put_not, add_last, Which, on_channel, is_mine, is_one, is_told, awaiting, Ord, all_told}

@@ -1,7 +1,7 @@
 -- Wherever the rule leads, each living process has as many link slots as the boot file's format gives.
-use Rattle.dm_rulelaws.proofs.Names.{◌≡◌, ℕ, ◌≤◌, Bool, true, nat_le, List, ◌∷◌, ◌++◌, length, map, refl, ap, ◌∙◌, sym, subst, inl, inr, arith, if◌then◌else◌, slice_get, option_map, Option, None, Some, cases_Bool, nat_tests, length-map}
+use Rattle.dm_rulelaws.proofs.Names.{◌≡◌, ℕ, ◌≤◌, Bool, true, nat_le, List, [], ◌∷◌, ◌++◌, length, map, refl, ap, ◌∙◌, sym, subst, inl, inr, arith, if◌then◌else◌, slice_get, option_map, Option, None, Some, cases_Bool, nat_tests, length-map}
 use Rattle.dm_rulelaws.proofs.Names.{Pid, pid_eq, plain_link, BootImage, BootProcess, Boot, Label, IsValid, starting_at, processes_are_valid, process_is_valid, slots_of, PlainProcess, Alive, OneKernel, start, begun, first_life, life_at}
-use Rattle.dm_rulelaws.proofs.Names.{replay, bind-is, Step, Point, first_point, labels, Spelled, group_of, Leads, Each, []}
+use Rattle.dm_rulelaws.proofs.Names.{replay, bind-is, Step, Point, first_point, labels, Spelled, group_of, Leads, Each}
 use Rattle.dm_onekernel.specs.Step as kernel
 use Rattle.dm_rulelaws.proofs.Fits.Rises.{both}
 use Rattle.dm_rulelaws.proofs.RunLabels.{group_replay}
