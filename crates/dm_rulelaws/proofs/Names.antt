@@ -16,13 +16,13 @@ pub use Rattle.dm_laws.proofs.Counted.{is_of_memory, is_piece}
 pub use Rattle.dm_laws.proofs.Equal.{pid_eq-swap}
 pub use Rattle.dm_laws.proofs.Grown.{Grown}
 pub use Rattle.dm_laws.proofs.Movers.{One, came, out_at, out_off}
-pub use Rattle.dm_laws.proofs.Names.{Alive, Boot, BootImage, BootProcess, CallNumber, Called, Direction, Ended, Ends, IsValid, Label, Life, Manager, Moving, MsgId, None, OneKernel, Option, Outputs, Pending, PlainLink, PlainMessage}
-pub use Rattle.dm_laws.proofs.Names.{PlainProcess, PlainStatus, PlainWhat, Ready, Replies, Reply, Sends, Some, Switchboard, Waiting, Waits, Why, answer_id, answer_to, begun, bind, cases_Bool, direction_numbered, entry, false≢true}
-pub use Rattle.dm_laws.proofs.Names.{first_failed, first_life, first_number, id_eq, id_of, in_bag, inl, inr, is_some, life_at, manager, nat_le, option_map, pid_of, plain_link, processes_are_valid, reception, reg, replay}
-pub use Rattle.dm_laws.proofs.Names.{start, starting_at, switchboard, when, with_process, with_sent, without_message, ⊤, ◌⊎◌, Note, Outcome, PendingKind, code_of_outcome, with_note, without_note}
+pub use Rattle.dm_laws.proofs.Names.{Alive, Boot, BootImage, BootProcess, CallNumber, Called, Direction, Ended, Ends, IsValid, Label, Life, Manager, Moving, MsgId, None, Note, OneKernel, Option, Outcome, Outputs, Pending, PendingKind}
+pub use Rattle.dm_laws.proofs.Names.{PlainLink, PlainMessage, PlainProcess, PlainStatus, PlainWhat, Ready, Replies, Reply, Sends, Some, Switchboard, Waiting, Waits, Why, answer_id, answer_to, begun, bind, cases_Bool, code_of_outcome}
+pub use Rattle.dm_laws.proofs.Names.{direction_numbered, entry, false≢true, first_failed, first_life, first_number, id_eq, id_of, in_bag, inl, inr, is_some, life_at, manager, nat_le, option_map, pid_of, plain_link, processes_are_valid}
+pub use Rattle.dm_laws.proofs.Names.{reception, reg, replay, start, starting_at, switchboard, when, with_note, with_process, with_sent, without_message, without_note, ⊤, ◌⊎◌}
 pub use Rattle.dm_laws.proofs.Servers.{note-is}
-pub use Rattle.dm_rule.proofs.Bags.{BagStep, bag_call, bag_created, bag_dropped, bag_end, bag_gone, bag_no_space, bag_out, bag_ran, bag_receive, bag_refuse, bag_sends, bag_served, bag_took, bag_wait, board_id, id_in, if_some-is}
-pub use Rattle.dm_rule.proofs.Bags.{landed_id, manager_id, served_id, took_id, zero_if, bag_answered}
+pub use Rattle.dm_rule.proofs.Bags.{BagStep, bag_answered, bag_call, bag_created, bag_dropped, bag_end, bag_gone, bag_no_space, bag_out, bag_ran, bag_receive, bag_refuse, bag_sends, bag_served, bag_took, bag_wait, board_id, id_in}
+pub use Rattle.dm_rule.proofs.Bags.{if_some-is, landed_id, manager_id, served_id, took_id, zero_if}
 pub use Rattle.dm_rule.proofs.Changes.{Changes, by_step, running_is}
 pub use Rattle.dm_rule.proofs.Groups.{IsNet, IsNetLine, arrives_net, group_is, resends_net, stands_right, turn_off}
 pub use Rattle.dm_rule.proofs.Hearing.{by_hears, left_parts}
@@ -41,19 +41,19 @@ pub use Rattle.dm_rule.proofs.Lives.{Kept, grown_none}
 pub use Rattle.dm_rule.proofs.Moves.Lists.{both_lists, both_times, first_off, flip_zero, under_way, without_all, without_at, zero_cases}
 pub use Rattle.dm_rule.proofs.Moves.Sent.{least_of, sent_way}
 pub use Rattle.dm_rule.proofs.Moves.States.{front_kernels, front_one, front_way, not_first}
-pub use Rattle.dm_rule.proofs.Names.{About, Addresses, Again, Answer, AreStill, Child, Enclosed, Forward, Frozen, Gets, Held, Here, Holder, Inbox, Incoming, IsIn, IsStep, IsStill, Known, LandsSo, Leads, LifeGrows, Line, Load, Made}
-pub use Rattle.dm_rule.proofs.Names.{MessageKind, Moves, Name, NamedLink, Next, NothingElse, Of, Owner, Owns, Pair, Part, Phase, Place, Point, Queue, Receiver, Regs, Rests, Routes, Runs, Says, Sender, ServerSends, Slot, Sort, Sound}
-pub use Rattle.dm_rule.proofs.Names.{Spelled, Spot, Stage, StandsAsBag, StandsNowhere, StandsOutside, StandsRight, Step, Todo, Told, Transmits, Unknown, Untaken, View, accepts, after, after_head, after_label, after_line, after_proto}
-pub use Rattle.dm_rule.proofs.Names.{after_put, after_stage, after_step, after_taken, alive-is, all_follow, answer_link, are_for_home, are_home, ascends, asks_on, at_id, at_machine, at_pair, at_record, begins, behind, bind-is, board_gets}
-pub use Rattle.dm_rule.proofs.Names.{child_from, child_number, chunks_of, completing, cons_option, counts, dropped_for, enclosed_of, ended, ended_told, filter, filter_map, first_gives, first_point, first_view, fits, follows_up}
-pub use Rattle.dm_rule.proofs.Names.{forward_about, forwarded_for, forwards, forwards_on, free_room, front_of, front_told, gets, given, gives, gives_piece, goes_out, gone_to, group_of, handled, handled_first, headed, hears, held_for}
-pub use Rattle.dm_rule.proofs.Names.{here_told, holder_eq, id_eq-is, id_eq-same, is_apart, is_away, is_behind, is_between, is_counted, is_dropped, is_early, is_for_home, is_here, is_kernels, is_restart, is_told_back, kernel_after}
-pub use Rattle.dm_rule.proofs.Names.{kernel_hears, kernel_told, kills, kind_comes, known_at, knows, label_of, landing_gets, lands-is, leaves, length-append, lines_of, link_target, links_in, manager_gets, marked, migrates, moved}
-pub use Rattle.dm_rule.proofs.Names.{moved_back, moves_to, name_link, names, next_step, nexts, not_server, oldest, on_mask, outcome, own_given, own_gives, own_id, owner_in, owner_of, packet_line, pending_of, pid_eq-is, pid_eq-same}
-pub use Rattle.dm_rule.proofs.Names.{pieces_of, place_known, place_of_child, place_told, plain_kind, process_told, puts, queued_for, receiver_in, receiver_of, reply_code, reply_eq, right_true, ring_at, routed_on, sender_in, sender_of}
-pub use Rattle.dm_rule.proofs.Names.{sends_on, sent_at, served_told, server_told, serves_what, slice_set, slot_of, slots_of, slots_with, sort_of, spelled, standing, start-sound, stayed, taken_id, takes_block, takes_chunk, target_of}
-pub use Rattle.dm_rule.proofs.Names.{times, to_kernel, to_of, told_back_gets, told_between, unentered, unmoved, untaken, updated, updated_to, updates, view_after, when-is, without, without_front, without_id, ◌||◌, AskNone, AskedBy}
-pub use Rattle.dm_rule.proofs.Names.{IsUnasked, Target, answers_move, asker_in, at_hand-is, board_takes_lem, ends_move-is, kind_leaves, leaves_for, machine_in, manager_takes_lem, seen, tells_asker, topic_by}
+pub use Rattle.dm_rule.proofs.Names.{About, Addresses, Again, Answer, AreStill, AskNone, AskedBy, Child, Enclosed, Forward, Frozen, Gets, Held, Here, Holder, Inbox, Incoming, IsIn, IsStep, IsStill, IsUnasked, Known, LandsSo, Leads}
+pub use Rattle.dm_rule.proofs.Names.{LifeGrows, Line, Load, Made, MessageKind, Moves, Name, NamedLink, Next, NothingElse, Of, Owner, Owns, Pair, Part, Phase, Place, Point, Queue, Receiver, Regs, Rests, Routes, Runs, Says, Sender}
+pub use Rattle.dm_rule.proofs.Names.{ServerSends, Slot, Sort, Sound, Spelled, Spot, Stage, StandsAsBag, StandsNowhere, StandsOutside, StandsRight, Step, Target, Todo, Told, Transmits, Unknown, Untaken, View, accepts, after, after_head}
+pub use Rattle.dm_rule.proofs.Names.{after_label, after_line, after_proto, after_put, after_stage, after_step, after_taken, alive-is, all_follow, answer_link, answers_move, are_for_home, are_home, ascends, asker_in, asks_on, at_hand-is}
+pub use Rattle.dm_rule.proofs.Names.{at_id, at_machine, at_pair, at_record, begins, behind, bind-is, board_gets, board_takes_lem, child_from, child_number, chunks_of, completing, cons_option, counts, dropped_for, enclosed_of, ended}
+pub use Rattle.dm_rule.proofs.Names.{ended_told, ends_move-is, filter, filter_map, first_gives, first_point, first_view, fits, follows_up, forward_about, forwarded_for, forwards, forwards_on, free_room, front_of, front_told, gets, given}
+pub use Rattle.dm_rule.proofs.Names.{gives, gives_piece, goes_out, gone_to, group_of, handled, handled_first, headed, hears, held_for, here_told, holder_eq, id_eq-is, id_eq-same, is_apart, is_away, is_behind, is_between, is_counted}
+pub use Rattle.dm_rule.proofs.Names.{is_dropped, is_early, is_for_home, is_here, is_kernels, is_restart, is_told_back, kernel_after, kernel_hears, kernel_told, kills, kind_comes, kind_leaves, known_at, knows, label_of, landing_gets}
+pub use Rattle.dm_rule.proofs.Names.{lands-is, leaves, leaves_for, length-append, lines_of, link_target, links_in, machine_in, manager_gets, manager_takes_lem, marked, migrates, moved, moved_back, moves_to, name_link, names, next_step}
+pub use Rattle.dm_rule.proofs.Names.{nexts, not_server, oldest, on_mask, outcome, own_given, own_gives, own_id, owner_in, owner_of, packet_line, pending_of, pid_eq-is, pid_eq-same, pieces_of, place_known, place_of_child, place_told}
+pub use Rattle.dm_rule.proofs.Names.{plain_kind, process_told, puts, queued_for, receiver_in, receiver_of, reply_code, reply_eq, right_true, ring_at, routed_on, seen, sender_in, sender_of, sends_on, sent_at, served_told, server_told}
+pub use Rattle.dm_rule.proofs.Names.{serves_what, slice_set, slot_of, slots_of, slots_with, sort_of, spelled, standing, start-sound, stayed, taken_id, takes_block, takes_chunk, target_of, tells_asker, times, to_kernel, to_of}
+pub use Rattle.dm_rule.proofs.Names.{told_back_gets, told_between, topic_by, unentered, unmoved, untaken, updated, updated_to, updates, view_after, when-is, without, without_front, without_id, ◌||◌}
 pub use Rattle.dm_rule.proofs.Once.{one_of}
 pub use Rattle.dm_rule.proofs.Outcomes.{by_group, by_net, by_outcome, by_parts}
 pub use Rattle.dm_rule.proofs.Pairs.Moves.{or_first}

@@ -1,8 +1,8 @@
 -- What kernels do with messages keeps that all fits.
 use Rattle.dm_rulelaws.proofs.Names.{◌≡◌, ℕ, ◌+◌, ◌-◌, ◌≤◌, ◌==◌, ◌&&◌, Bool, true, false, List, length, take, drop, refl, ap, ◌∙◌, sym, subst, nat_le, arith, if◌then◌else◌, Option, None, Some, nat_tests, length-take, length-drop, Pid}
-use Rattle.dm_rulelaws.proofs.Names.{MsgId, id_of, Reply, PlainMessage, PlainWhat, Direction, PlainProcess, PlainStatus, Moving, Life, Alive, OneKernel, with_process, with_sent, answer_id, answer_to, without_message, is_of_memory}
-use Rattle.dm_rulelaws.proofs.Names.{is_piece, pending_of, One, stayed, Sound, Each, Lives, has_bytes, SlotFits, move_fits, ProcessFits, piece_fits, status_awaits, awaits, WhatFits, KernelFits, inl, inr, cases_Bool, pid_eq, IsPending}
-use Rattle.dm_rulelaws.proofs.Names.{Note, NoteFits, Outcome, PendingKind, note-is, with_note, without_note, Label, id_eq-same, bind, bind-is}
+use Rattle.dm_rulelaws.proofs.Names.{MsgId, id_of, Reply, PlainMessage, PlainWhat, Direction, PlainProcess, PlainStatus, Moving, Life, Alive, OneKernel, with_process, with_sent, answer_id, answer_to, without_message, is_of_memory, is_piece}
+use Rattle.dm_rulelaws.proofs.Names.{pending_of, One, stayed, Sound, Each, Lives, has_bytes, SlotFits, move_fits, ProcessFits, piece_fits, status_awaits, awaits, WhatFits, KernelFits, inl, inr, cases_Bool, pid_eq, IsPending, Note, NoteFits}
+use Rattle.dm_rulelaws.proofs.Names.{Outcome, PendingKind, note-is, with_note, without_note, Label, id_eq-same, bind, bind-is}
 use Rattle.dm_onekernel.specs.Step as kernel
 use Rattle.dm_rulelaws.proofs.Fits.Creates.{pending_at}
 use Rattle.dm_onekernel.specs.Pieces as pieces

@@ -1,11 +1,11 @@
 -- What each line keeps: where addresses lead, what machines know, and where messages stand.
 use Rattle.dm_rulelaws.proofs.Names.{◌≡◌, ◌≢◌, ◌⊎◌, ℕ, ◌<◌, ◌==◌, ◌&&◌, Bool, true, false, is_some, refl, ap, ◌∙◌, sym, subst, inl, inr, ⊤, if◌then◌else◌, Option, Some, cases_Bool, Pid, Place, pid_eq, MsgId, PlainMessage, pid_eq-is}
-use Rattle.dm_rulelaws.proofs.Names.{at_record, View, Told, About, Target, Known, Unknown, Here, Frozen, Incoming, Forward, is_kernels, Addresses, Receiver, ascends, Point, eq_is, parts, is_own, KernelFits, is_fixed}
+use Rattle.dm_rulelaws.proofs.Names.{at_record, View, Told, About, Target, Known, Unknown, Here, Frozen, Incoming, Forward, is_kernels, Addresses, Receiver, ascends, Point, eq_is, parts, is_own, KernelFits, is_fixed, times, receiver_of}
+use Rattle.dm_rulelaws.proofs.Names.{◌≤◌}
 use Rattle.dm_rule.specs.View.{Ended}
 use Rattle.dm_rulelaws.proofs.Found.Steps.{Sends}
 use Rattle.dm_rulelaws.proofs.Found.Lists.{Places}
 use Rattle.dm_rulelaws.proofs.Found.Places.{AllAre, all_as}
-use Rattle.dm_rulelaws.proofs.Names.{times, receiver_of, ◌≤◌}
 
 -- a process is at home there, or known; kernels and servers are at home
 abbrev pub KnowsAt : View → Pid → ℕ → Type 0

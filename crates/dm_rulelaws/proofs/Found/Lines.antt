@@ -1,7 +1,7 @@
 -- Each line keeps where addresses lead, what machines know, and where messages stand, if it has what it needs.
 use Rattle.dm_rulelaws.proofs.Names.{aim, sets, ◌≡◌, ◌≢◌, ℕ, ◌+◌, ◌<◌, not, filter, ◌==◌, refl, ap, ◌∙◌, sym, subst, false, ⊤, Option, None, Some, Pid, MsgId, OneKernel, Step, Line, Load, Stage, View, Told, About, Known, Unknown, Here}
-use Rattle.dm_rulelaws.proofs.Names.{Frozen, Incoming, view_after, after_head, after_stage, after_proto, handled, queued_for, held_for, taken_id, oldest, receiver_of, gone_to, front_of, Point, label_of, kernel_after, moved, is_put}
-use Rattle.dm_rulelaws.proofs.Names.{hushed, queued_known, held_known, proto_known, Sane, is_fixed, proto_acting}
+use Rattle.dm_rulelaws.proofs.Names.{Frozen, Incoming, view_after, after_head, after_stage, after_proto, handled, queued_for, held_for, taken_id, oldest, receiver_of, gone_to, front_of, Point, label_of, kernel_after, moved, is_put, hushed}
+use Rattle.dm_rulelaws.proofs.Names.{queued_known, held_known, proto_known, Sane, is_fixed, proto_acting}
 use Rattle.dm_rule.specs.View as view
 use Rattle.dm_rulelaws.proofs.Found.Lists.{Places, Brings, places_line}
 use Rattle.dm_rulelaws.proofs.Found.Core.{AboutIs, KnownIs, IsAt, LineCore, Grows, Learns, learns_nothing, learns, about_grows, known_grows, core_view}
