@@ -15,6 +15,7 @@ use Rattle.dm_rulelaws.proofs.Based.Groups.{Begins, begins}
 use Rattle.dm_rulelaws.proofs.Based.Needs.{Resting}
 use Rattle.dm_rulelaws.proofs.Based.Rows.{turned, resting, unborn}
 use Rattle.dm_rulelaws.proofs.Based.Sets.{set_all, killed_or}
+use Rattle.dm_rulelaws.proofs.Names.{arith}
 
 -- all processes but one, if there is one
 abbrev pub Apart : Option Pid → Pid → Type 0

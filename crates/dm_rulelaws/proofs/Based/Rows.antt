@@ -7,6 +7,7 @@ use Rattle.dm_onekernel.specs.Step as kernel
 use Rattle.dm_rule.specs.Rule as rule
 use Rattle.dm_rulelaws.proofs.Based.Loud.{Alike, life_sort, life_of, step_alike}
 use Rattle.dm_rulelaws.proofs.Based.Needs.{Resting, Serves, Unborn, Living, Queues, Walks, WalksOf, AllLoose, loose_walks, first_walks, said_by, begun}
+use Rattle.dm_rulelaws.proofs.Names.{Alive}
 
 -- the point behind the head of a turn
 abbrev pub turned : Point → ℕ → Point

@@ -220,7 +220,17 @@ other_number r e s id i m k there answer stands from h = search (arith, i.n, id.
 
 -- a request that a process follows has no answer yet
 noted_apart : (r e : MsgId → ℕ) (s : OneKernel) (id : MsgId) (m : PlainMessage) (p : Pid) (n : Note) → s.bag id ≡ Some m → id.answer ≡ true → s.notes p ≡ Some n → n.id.from ≡ id.from → Sound r e s → OtherThan id.n n.id.n
-noted_apart r e s id m p n there answer is from h = search (arith, n.id.n, id.n, n.id, same_name, h.notes.followed, h.notes.noted, h.entered.fewer, s.bag, e)
+noted_apart r e s id m p n there answer is from h = elim (cases_Bool (n.id.n == id.n)) [
+  | inr apart ↦ apart
+  | inl same ↦
+      let number : n.id.n ≡ id.n = grind (arith, nat_tests) in
+      let f = h.notes.followed n.id p (h.notes.noted p n is) in
+      let mine : answer_id n.id ≡ id = same_name (answer_id n.id) id from number (sym answer) in
+      let few = h.entered.fewer id in
+      let one : in_bag (s.bag id) ≡ 1 = ap in_bag there in
+      let none : e id ≡ 0 = sym (ap e mine) ∙ f.unanswered in
+      absurd (omega (arith, few, one, none))
+]
 
 manager_on : (s : OneKernel) (id : MsgId) (T : ℕ → Type 0) (k : manage.ManagerTook) → ManagerFits s T k → ((i : MsgId) (x : PlainMessage) → (without_message s id).bag i ≡ Some x → i.from ≡ manager → T i.n)
     → ((p : Pid) (n : Note) → s.notes p ≡ Some n → n.id.from ≡ manager → T n.id.n) → KernelFits s → KernelFits (service.manager_took s id k)
@@ -228,7 +238,8 @@ manager_on s id T k b others noted fits =
     let v = without_message s id in
     let u = record v { manager = k.manager } in
     let out = out_fits s id fits in
-    put_maybe u k.message (sends_off k.message b.sends) (carries v u ((search (arith, out.processes, b.stays, out.names, b.answers, b.children, others, noted))) out)
+    let stays : (kind : PendingKind) (i : MsgId) → (i.from ≡ manager → T i.n) → IsPending v kind i → IsPending u kind i = λ kind i of_ z. record { from = z.from; pending = b.stays kind i.n (of_ z.from) z.pending } in
+    put_maybe u k.message (sends_off k.message b.sends) (carries v u ((search (arith, out.processes, stays, out.names, b.answers, b.children, others, noted))) out)
   where
     sends_off : (o : Option PlainMessage) → SendsFit (record s { manager = k.manager }) o → SendsFit (record (without_message s id) { manager = k.manager }) o
     sends_off None h = tt

@@ -256,7 +256,7 @@ asked_noted s t id m is there =
 unnoted_fits : (s : OneKernel) (p : Pid) (id : MsgId) → KernelFits s → KernelFits (without_note s p id)
 unnoted_fits s p id h =
     let t = without_note s p id in
-    carries s t (search (arith, h.processes, h.names, h.answers, h.children, pending_on, unnoted, pid_eq)) h
+    carries s t (search (arith, h.processes, h.names, h.answers, h.children, pending_on, unnoted)) h
   where
     unnoted : (q : Pid) (n : Note) (c : Bool) → (if c then None else s.notes q) ≡ Some n → s.notes q ≡ Some n
     unnoted q n true e = cc

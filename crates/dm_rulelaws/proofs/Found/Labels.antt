@@ -24,6 +24,7 @@ use Rattle.dm_onekernel.specs.Switchboard as board
 use Rattle.dm_onekernel.specs.Manager as manage
 use Rattle.dm_rule.specs.Addresses as addresses
 use Rattle.dm_rule.specs.Given as request
+use Rattle.dm_rulelaws.proofs.Found.Core.{core_view, known_grows}
 
 -- what enters is none that was told of
 apart_from : (e : MsgId → ℕ) (i j : MsgId) → 1 ≤ e i → e j ≡ 0 → id_eq j i ≡ false

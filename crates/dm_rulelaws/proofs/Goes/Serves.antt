@@ -12,6 +12,7 @@ use Rattle.dm_rulelaws.proofs.Goes.Parts.{said, no_receive, Shape, Quiet, Takes,
 use Rattle.dm_rulelaws.proofs.Order.Moves.{Last}
 use Rattle.dm_rulelaws.proofs.Own.Told.{HaveNoOwn}
 use Rattle.dm_rulelaws.proofs.Goes.Turns.{times_self, times_more, Droppable, droppable_on, does_drops, drops_quiet, drops_own, at_hand_of}
+use Rattle.dm_rulelaws.proofs.Own.Told.{NoOwns}
 
 -- a process that executes
 pub running_of : (s : OneKernel) (p : Pid) (x : PlainProcess) → s.processes p ≡ Some (Alive x) → s.notes p ≡ None → x.stopped ≡ false → x.status ≡ Ready → kernel.running s p ≡ Some x

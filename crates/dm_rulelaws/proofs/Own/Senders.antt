@@ -8,6 +8,7 @@ use Rattle.dm_onekernel.specs.Manager as manage
 use Rattle.dm_onekernel.specs.Service as service
 use Rattle.dm_onekernel.specs.Step as step
 use Rattle.dm_rulelaws.proofs.Takes.{by_manager, by_over}
+use Rattle.dm_rulelaws.proofs.Names.{◌+◌}
 
 abbrev IsSent : PlainMessage → Type 0
 IsSent x = is_told_back (plain_kind x.what) ≡ true → (x.sender.num == 0) ≡ false
