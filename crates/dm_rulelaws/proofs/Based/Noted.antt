@@ -15,7 +15,6 @@ use Rattle.dm_rulelaws.proofs.Based.Groups.{Begins, begins}
 use Rattle.dm_rulelaws.proofs.Based.Needs.{Resting}
 use Rattle.dm_rulelaws.proofs.Based.Rows.{turned, resting, unborn}
 use Rattle.dm_rulelaws.proofs.Based.Sets.{set_all, killed_or}
-use Rattle.dm_rulelaws.proofs.Names.{arith}
 
 -- all processes but one, if there is one
 abbrev pub Apart : Option Pid → Pid → Type 0
@@ -68,7 +67,32 @@ unnoted s p id q n is = off (pid_eq p q) is
     off false e = e
 
 step_notes : (s t : OneKernel) (l : Label) → kernel.step s l ≡ Some t → NotesBy s l t
-step_notes s t l = search (arith, by_step, fewer_by, fewer_sent, unnoted)
+step_notes s t l =
+    let same : (u : OneKernel) → Fewer s u → NotesBy s l u = λ u h. fewer_by s u l h in
+    by_step (NotesBy s l) s t l (record {
+      ran = λ p k x m is w. fewer_by s (kernel.goes_on s p (kernel.with_machine x m)) l (λ q n e. e);
+      replies = λ p n k c d y is w. fewer_by s (kernel.goes_on s p y) l (λ q n e. e);
+      sends = λ p id k m y is same_ w. fewer_by s (with_sent (kernel.goes_on s p y) (Some m)) l (λ q n e. e);
+      waits = λ p k y is w. fewer_by s (kernel.goes_on s p y) l (λ q n e. e);
+      outputs = λ p w k v y is n_. fewer_by s (kernel.goes_on s p y) l (λ q n e. e);
+      ends = λ p y next is w. fewer_by s _ l (λ q n e. e);
+      receives = λ p id y is w c. fewer_by s (kernel.goes_on (without_message s id) p y) l (λ q n e. e);
+      refuses = λ p id c d y is w f. fewer_by s (kernel.goes_on s p y) l (λ q n e. e);
+      dropped = λ id m y is w f. fewer_by s (without_message s id) l (λ q n e. e);
+      gone = λ id m y is w v f. fewer_by s _ l (λ q n e. e);
+      stops = λ id m x b is w f. fewer_by s (service.changed s id m (record x { stopped = b })) l (λ q n e. e);
+      kills = λ id m x is w f. fewer_by s _ l (λ q n e. e);
+      reads = λ id m x base len is w f. fewer_by s _ l (λ q n e. e);
+      writes = λ id m x base bytes is w f. fewer_by s _ l (λ q n e. e);
+      lands = λ id m x r y is w f c. fewer_by s (with_sent (service.changed s id m y) (Some r)) l (λ q n e. e);
+      done = λ id m x c y is w f g. fewer_by s (service.changed s id m y) l (λ q n e. e);
+      board = λ id m k is there c took. fewer_by s (service.switchboard_took s id k) l (fewer_sent s (record (without_message s id) { switchboard = k.switchboard }) k.answer (λ q n e. e));
+      manager = λ id m k is there c took. fewer_by s (service.manager_took s id k) l (fewer_sent s (record (without_message s id) { manager = k.manager }) k.message (λ q n e. e));
+      creates = λ id child m image links i is w found name. fewer_by s _ l (λ q n e. e);
+      asked = λ id m x machine is w f. subst (λ (k : Label). NotesBy s k (with_note (without_message s id) m.to (record { id = id; asker = m.sender }))) (sym is) tt;
+      answered = λ id o p n is f. fewer_by s (service.move_ended s id p n o) l (unnoted s p id);
+      no_room = λ id a b m image links is w. fewer_by s _ l (λ q n e. e);
+    })
 
 -- what is known
 same_here : (v w : View) → ((m : ℕ) (p : Pid) → w.known m p ≡ v.known m p) → (m : ℕ) (p : Pid) → is_here (w.known m p) ≡ true → is_here (v.known m p) ≡ true
