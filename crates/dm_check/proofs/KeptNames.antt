@@ -1,6 +1,7 @@
 -- Each name that the switchboard keeps has 1 to 16 bytes.
 use Rattle.dm_check.proofs.Names.{◌≡◌, ℕ, ◌==◌, ◌&&◌, Bool, true, false, if◌then◌else◌, List, [], ◌∷◌, ◌++◌, length, refl, ap, sym, subst, Some, None, Option, Pid, pid_eq, PlainLink, MsgId, PlainMessage, PlainWhat, Boot, BootImage, Label}
-use Rattle.dm_check.proofs.Names.{Reply, Why, is_general, switchboard, manager, NamedLink, Switchboard, OneKernel, with_sent, bind, when, PlainProcess, start, is_name}
+use Rattle.dm_check.proofs.Names.{Reply, Why, is_general, switchboard, manager, NamedLink, Switchboard, OneKernel, with_sent, bind, when, PlainProcess, start, is_name, Outcome, Note}
+use Rattle.dm_message.specs.declared.Outcome.TheVariants as ends
 use Rattle.dm_message.specs.Plain as what
 use Rattle.dm_onekernel.specs.declared.label.Label.TheVariants as label
 use Rattle.dm_onekernel.specs.Calls as calls
@@ -149,6 +150,19 @@ no_room_stays : (s : OneKernel) (id : MsgId) (m : PlainMessage) (w : PlainWhat) 
 no_room_stays s id m (what.Create image links) = stay_when s _ _ (λ h. h)
 no_room_stays s id m w = tt
 
+gone_stays : (s : OneKernel) (id : MsgId) (m : PlainMessage) (o : Option PlainWhat) → StaySome s (bind o (λ w. Some (with_sent (service.without_message s id) (Some (pieces.answer_to m w)))))
+gone_stays s id m None = tt
+gone_stays s id m (Some w) = λ h. h
+
+follows_stays : (s : OneKernel) (id : MsgId) (m : PlainMessage) (w : PlainWhat) → StaySome s (service.follows s id m w)
+follows_stays s id m (what.Move machine) = λ h. h
+follows_stays s id m w = tt
+
+ends_move_stays : (s : OneKernel) (id : MsgId) (p : Pid) (n : Note) (o : Outcome) → StaySome s (service.ends_move s id p n o)
+ends_move_stays s id p n ends.Done = λ h. h
+ends_move_stays s id p n ends.Stayed = λ h. h
+ends_move_stays s id p n ends.Ended = tt
+
 step_stays : (s : OneKernel) (l : Label) → StaySome s (step.step s l)
 step_stays s (label.Ran p k) =
     stay_bind s (step.running s p) (λ x. bind (step.plain_steps k (step.machine_of x)) (λ m. Some (step.goes_on s p (step.with_machine x m))))
@@ -161,14 +175,19 @@ step_stays s (label.End p y) = stay_bind s (step.next_trap s p) (step.ends s p y
 step_stays s (label.Receive p id) = stay_bind s (step.completing s p id) (step.receives s p id) (λ x e. receives_stay s p id x)
 step_stays s (label.Refuse p id c) = stay_bind s (step.completing s p id) (step.refuses s p c) (λ x e. refuses_stay s p c x)
 step_stays s (label.Served id) =
-    stay_bind s (s.bag id) (λ m. bind (step.alive (s.processes m.to)) (λ p. service.serves s id m p m.what)) (λ m e. stay_bind s (step.alive (s.processes m.to)) (λ p. service.serves s id m p m.what) (λ p f. serves_stay s id m p m.what))
+    stay_bind s (s.bag id) (λ m. bind (step.at_hand s m.to) (λ p. service.serves s id m p m.what)) (λ m e. stay_bind s (step.at_hand s m.to) (λ p. service.serves s id m p m.what) (λ p f. serves_stay s id m p m.what))
 step_stays s (label.Took id) = stay_bind s (s.bag id) (service.takes s id) (λ m e. took_stays s id m)
 step_stays s (label.Dropped id) =
     stay_bind s (s.bag id) (λ m. bind (step.why_ended (s.processes m.to)) (step.drops s id m)) (λ m e. stay_bind s (step.why_ended (s.processes m.to)) (step.drops s id m) (λ y f. stay_when s _ _ (λ h. h)))
 step_stays s (label.Gone id) =
-    stay_bind s (s.bag id) (λ m. bind (step.why_ended (s.processes m.to)) (step.says_gone s id m)) (λ m e. stay_bind s (step.why_ended (s.processes m.to)) (step.says_gone s id m) (λ y f. stay_when s _ _ (λ h. h)))
+    stay_bind s (s.bag id) (λ m. bind (step.why_ended (s.processes m.to)) (step.says_gone s id m))
+    (λ m e. stay_bind s (step.why_ended (s.processes m.to)) (step.says_gone s id m) (λ y f. gone_stays s id m (service.gone_what m.what)))
 step_stays s (label.Created id child) = stay_bind s (s.bag id) (λ m. service.creates s id m child m.what) (λ m e. creates_stay s id m child m.what)
 step_stays s (label.NoSpace id slots blocks) = stay_bind s (s.bag id) (λ m. service.has_no_room s id m m.what) (λ m e. no_room_stays s id m m.what)
+step_stays s (label.Asked id) =
+    stay_bind s (s.bag id) (λ m. bind (step.at_hand s m.to) (λ p. service.follows s id m m.what)) (λ m e. stay_bind s (step.at_hand s m.to) (λ p. service.follows s id m m.what) (λ p f. follows_stays s id m m.what))
+step_stays s (label.Answered id o) =
+    stay_bind s (s.noted id) (λ p. bind (s.notes p) (λ n. service.ends_move s id p n o)) (λ p e. stay_bind s (s.notes p) (λ n. service.ends_move s id p n o) (λ n f. ends_move_stays s id p n o))
 
 names_after : (s t : OneKernel) (ls : List Label) → step.replay s ls ≡ Some t → Stay s t
 names_after s t [] e = let f : s ≡ t = cc in subst (Stay s) f (λ h. h)

@@ -6,6 +6,7 @@ use Rattle.dm_movelaws.proofs.After.{group_after}
 use Rattle.dm_movelaws.proofs.Updates.Always.{updates_always}
 use Rattle.dm_movelaws.proofs.Promise.Before.{neither as either, not_given}
 use Rattle.dm_rule.specs.View as view
+use Rattle.dm_movelaws.proofs.Names.{AskedBy}
 
 abbrev count_of : Addresses → Holder → ℕ
 count_of a h = (a h).moves

@@ -7,6 +7,7 @@ pub mod Open
 pub mod Rows
 pub mod Sends
 pub mod Hears
+pub mod Own
 pub mod Groups
 pub mod Sources
 pub mod Quiet

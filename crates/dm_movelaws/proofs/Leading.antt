@@ -4,6 +4,8 @@ use Rattle.dm_movelaws.proofs.Names.{Receiver, Point, label_of, kernel_after, mo
 use Rattle.dm_movelaws.proofs.Names.{Sayable, Sane, part_sane, lines_of, IsNetLine, IsNet, by_net, touches, Pair, AllFit, Boot, Step, turns_fit, resends_net, arrives_net, slice_get, migrates, migrates_fit, bind, behind, ◌++◌, nat_tests}
 use Rattle.dm_movelaws.proofs.Names.{arith}
 use Rattle.dm_rule.specs.Rule as rule
+use Rattle.dm_movelaws.proofs.Names.{Label, Option, None, Note, Outcome, Known, View, About, PairsFit, fits_as, pair_same, view_after, tells_asker, answers_move}
+use Rattle.dm_rule.specs.View as view
 
 -- a put and its packet
 puts_by : (P : Point → Type 0) (keeps : PacketsKeep P) (pt next : Point) (b : ℕ) (i : MsgId) (k : MessageKind) (q : Pid) (c d : Bool) → P (moved pt (Line.Put pt.view.acting b i k q) pt.kernel)
@@ -134,3 +136,27 @@ next_of pt p ps w is =
     let (z, more, end) = bind-is (spelled next ps) (λ (y : Spelled). Some (behind ls y)) w last in
     let f : behind ls z ≡ w = cc in
     record { next = next; steps = record { lines = ls; are = are; leads = leads }; rest = z; more = more; lines = ap (λ (x : Spelled). x.lines) f; point = ap (λ (x : Spelled). x.point) f }
+
+-- where a request is answered, if one is, nobody learns where a process is
+abbrev AskerPart : Part → Type 0
+AskerPart (Says (Line.Label (Label.Answered i o))) = ⊤
+AskerPart (Says l) = ⊥
+AskerPart (Routes i) = ⊤
+AskerPart _ = ⊥
+
+asker_behind : (n : ℕ) (p : Pid) (k : Known) (pt : Point) (x : Part) → AskerPart x → pt.view.known n p ≡ k → Behind (λ q. q.view.known n p ≡ k) pt x
+asker_behind n p k pt (Says (Line.Label (Label.Answered i o))) a h = λ s step. h
+asker_behind n p k pt (Says l) a h = absurd a
+asker_behind n p k pt (Routes i) a h = λ m there. h
+asker_behind n p k pt _ a h = absurd a
+
+pub asker_known : (n : ℕ) (p : Pid) (k : Known) (o : Option Note) (r : Outcome) (pt : Point) (w : Spelled) → spelled pt (tells_asker o r) ≡ Some w → pt.view.known n p ≡ k → w.point.view.known n p ≡ k
+asker_known n p k None r pt w = parts_lead (λ q. q.view.known n p ≡ k) (λ q a b c l h. h) AskerPart (asker_behind n p k) [] pt w tt
+asker_known n p k (Some x) r pt w = parts_lead (λ q. q.view.known n p ≡ k) (λ q a b c l h. h) AskerPart (asker_behind n p k) (answers_move x.id r) pt w (tt, (tt, tt))
+
+-- the topic is no part of how pairs stand
+pub fits_about : (v : View) (a : About) → PairsFit v → PairsFit (view.about v a)
+fits_about v a h = record { within = h.within; home = h.home }
+
+pub line_fits : (pt : Point) (s : OneKernel) (l : Line) → touches l ≡ false → PairsFit pt.view → PairsFit (moved pt l s).view
+line_fits pt s l calm h = fits_about (view_after pt.view l) (moved pt l s).view.topic (fits_as pt.view (view_after pt.view l) (pair_same pt.view l calm) h)

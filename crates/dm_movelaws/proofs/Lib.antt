@@ -8,6 +8,7 @@ pub mod Updates
 pub mod At
 pub mod CountsStay
 pub mod Promise
+pub mod Asked
 pub mod Ends
 pub mod Forwards
 pub mod Pending

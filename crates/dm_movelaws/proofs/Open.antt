@@ -1,6 +1,7 @@
 -- Lemmas of the family Open, by file.
 pub mod Moves
 pub mod Quiet
+pub mod Fine
 pub mod Apart
 pub mod Stays
 pub mod Worked

@@ -91,12 +91,14 @@ here_stays s m x (what.Block bytes) = lands_stays s m (landing s.here x m.what x
 here_stays s m x what.Written = lands_stays s m (landing s.here x m.what x.status)
 here_stays s m x what.Gone = lands_stays s m (landing s.here x m.what x.status)
 here_stays s m x (what.Migrate to) = either s.here (to == s.here) _ _ refl refl
+here_stays s m x (what.Move to) = either s.here (to == s.here) _ _ refl refl
 here_stays s m x (what.Update about) = refl
 here_stays s m x w = tt
 
 ended_stays : (s : KernelState) (m : Message) (w : What) → StaysAt s.here (ended_handles s m w)
 ended_stays s m (what.Read base len) = refl
 ended_stays s m (what.Write base bytes) = refl
+ended_stays s m (what.Move to) = refl
 ended_stays s m (what.User code channel body links) = refl
 ended_stays s m what.Stop = refl
 ended_stays s m what.Resume = refl
@@ -171,7 +173,7 @@ board_took_stays s m v (Some t) = refl
 
 board_stays : (s : KernelState) (m : Message) (o : Option Servers) → StaysAt s.here (board_handles s m o)
 board_stays s m None = tt
-board_stays s m (Some v) = board_took_stays s m v (board.takes v.board m.what)
+board_stays s m (Some v) = board_took_stays s m v (board.takes s.here v.board m.what)
 
 told_manager_stays : (s : KernelState) (m : Message) (v : Servers) (w : What) → StaysAt s.here (told_manager s m v w)
 told_manager_stays s m v (what.Update about) = refl
@@ -183,7 +185,7 @@ manager_took_stays s m v (Some t) = refl
 
 manager_stays : (s : KernelState) (m : Message) (o : Option Servers) → StaysAt s.here (manager_handles s m o)
 manager_stays s m None = tt
-manager_stays s m (Some v) = manager_took_stays s m v (manage.takes v.manager m.id.n m.what)
+manager_stays s m (Some v) = manager_took_stays s m v (manage.takes s.here v.manager m.id.n m.what)
 
 handles_stays : (b : Boot) (s : KernelState) (m : Message) → StaysAt s.here (handles b s m)
 handles_stays b s m =

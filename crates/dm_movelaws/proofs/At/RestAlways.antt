@@ -2,9 +2,11 @@
 use Rattle.dm_movelaws.proofs.Names.{◌≡◌, ◌≢◌, ℕ, ◌<◌, ◌≤◌, ◌||◌, Bool, true, false, is_some, List, [], ◌∷◌, drop, refl, ap, ◌∙◌, sym, subst, inl, inr, nat_lt, arith, if◌then◌else◌, drop-length, drop-nil, cases_Bool, false≢true, nat_tests}
 use Rattle.dm_movelaws.proofs.Names.{Option, None, Some, Pid, pid_eq, MsgId, MessageKind, PlainMessage, Boot, manager, Alive, PlainProcess, id_eq-same, not_server, Receiver, to_of, Phase, Nowhere, Rests, Over, Moves, is_unknown, is_here}
 use Rattle.dm_movelaws.proofs.Names.{is_over, is_away, is_due, IsToken, IsIn, Point, IsQuiet, Spot, Queue, Held, Inbox, Untaken, times, untaken, standing, View, Known, Unknown, Here, Ended, is_kernels, stands_right, kernels_fresh}
-use Rattle.dm_movelaws.proofs.Names.{phases_always, AtRestAlways, IsAt, IsWaiting, is_moving, is_server, has_no_queue, has_nothing_held, agrees, Run, run_always, told_of, eq_self, own_by, user_kind, machine_of}
+use Rattle.dm_movelaws.proofs.Names.{phases_always, AtRestAlways, IsAt, IsWaiting, is_moving, is_server, has_no_queue, has_nothing_held, agrees, Run, run_always, told_of, eq_self, own_by, user_kind}
 use Rattle.dm_movelaws.proofs.At.RestPairs.{Routed, routed_always}
 use Rattle.dm_movelaws.proofs.At.RestQueues.{Dropped, dropped_always}
+use Rattle.dm_rulelaws.proofs.Names.{machine_of}
+use Rattle.dm_movelaws.proofs.Names.{Note}
 
 within_by : (b : Boot) (pt : Point) (i : MsgId) (z : Spot) (o : Option PlainMessage) → pt.kernel.bag i ≡ o → Run b pt → 1 ≤ standing pt.view i z → (pt.addresses (Receiver i)).at < pt.kernel.machines
 within_by b pt i z (Some x) there h least = h.found.within (Receiver i) x.to (ap to_of there)
@@ -127,6 +129,14 @@ lives_at b pt p x phase h calm_ alive is due =
     let server : is_server p ≡ false = ap (λ (c : Bool). c || pid_eq p manager) k.0 ∙ k.1 in
     phase_at pt.view p x phase calm_ (h.based.known.home p server (ap is_some alive)) (λ m. sym (ap (agrees (pt.view.known m p)) alive) ∙ h.based.known.agree m p server) is due
 
+-- so none follows a request to move
+unasked_at : (b : Boot) (pt : Point) (p : Pid) (o : Option Note) (phase : Phase) → Run b pt → Calm pt.view → pt.kernel.notes p ≡ o → IsIn pt.view p phase → is_due phase ≡ false → o ≡ None
+unasked_at b pt p None phase h calm_ noted is due = refl
+unasked_at b pt p (Some n) phase h calm_ noted is due =
+    let (x, alive) = h.based.phased.state.sound.notes.lives p n noted in
+    let at = lives_at b pt p x phase h calm_ alive is due in
+    absurd (false≢true (sym (h.based.noted.away p n noted tt at.machine) ∙ ap is_here at.here))
+
 pub at_rest_always : AtRestAlways
 at_rest_always b es pt valid leads quiet =
     let h = (run_always b es pt valid leads).run in
@@ -142,5 +152,6 @@ at_rest_always b es pt valid leads quiet =
       inbox = calm_.inbox;
       untaken = calm_.untaken;
       waiting = λ i x there. let (z, one, others) = stands_right pt i h.based.phased.state (Some x) there in waits_at b pt i x z h rest there one others;
+      unasked = λ p. (let (phase, is, due) = phases_always b es pt p valid leads in unasked_at b pt p (pt.kernel.notes p) phase h calm_ refl is due);
       own = λ i z own. own_nowhere b pt i z h rest own;
     }

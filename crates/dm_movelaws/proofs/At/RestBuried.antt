@@ -4,6 +4,7 @@ use Rattle.dm_movelaws.proofs.Names.{LifeGrows, after_step, Spelled, is_away, Po
 use Rattle.dm_movelaws.proofs.Names.{served_told, view_after, target_of, front_told, front_of, gone_to, Phased, Sane, KnownStands, group_keeps, Loud, keeps_by, set_all, killed_or, nat_tests, arith}
 use Rattle.dm_onekernel.specs.Step as kernel
 use Rattle.dm_rule.specs.View as view
+use Rattle.dm_movelaws.proofs.Names.{aim, sets}
 
 abbrev pub Knows : Type 0
 Knows = ℕ → Pid → Known
@@ -99,7 +100,8 @@ loud before = record {
   queued = λ pt id need sane h. queued before pt.kernel pt.view id (pt.view.told id) (λ t e. (need t e).here) h;
   held = λ pt id need sane h. held before pt.kernel pt.view id (pt.view.told id) h;
   frozen = λ pt p lives here h.
-      learns before pt.kernel pt.kernel pt.view (view.after_stage pt.view p Stage.Frozen) p (Frozen (target_of (front_told pt.view (pt.view.inbox pt.view.acting)))) (same pt.kernel) refl refl (λ e. absurd (not_ended before pt.kernel pt.view p Here h here here_off e)) h;
+      let set = sets pt.view p pt.view.topic in
+      learns before pt.kernel pt.kernel pt.view (view.after_stage pt.view p Stage.Frozen) p (Frozen (aim pt.view pt.view.topic)) (same pt.kernel) set.known set.queue (λ e. absurd (not_ended before pt.kernel pt.view p Here h here here_off e)) h;
   accepted = λ pt p lives away h.
       learns before pt.kernel pt.kernel pt.view (view.after_stage pt.view p Stage.Accepted) p (Incoming (front_of (pt.view.inbox pt.view.acting))) (same pt.kernel) refl refl
       (λ e. absurd (false≢true (sym (ap is_away (h.known pt.view.acting p e)) ∙ away))) h;

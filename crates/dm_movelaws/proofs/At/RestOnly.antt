@@ -6,6 +6,8 @@ use Rattle.dm_movelaws.proofs.At.RestBuried.{Knows}
 use Rattle.dm_movelaws.proofs.Leading.{Behind, whatever_put, parts_lead, net_says, All, Saying}
 use Rattle.dm_rule.specs.View as view
 use Rattle.dm_rule.specs.Rule as rule
+use Rattle.dm_movelaws.proofs.Names.{aim, sets, seen}
+use Rattle.dm_movelaws.proofs.Names.{Frozen}
 
 -- no process ends by such a line
 abbrev pub is_ending : Line → Bool
@@ -71,6 +73,8 @@ handles_ends b o m id msg ps sane there t told = by_handles (Ends o m) b o m id 
   served = λ here mild. Once (no_kill o m id msg [] sane there mild tt);
   answers = λ here mild i. Once (no_kill o m id msg (Routes i ∷ []) sane there mild (tt, tt));
   kills = λ here kills. Once (kill_ends o m id msg sane there kills t told);
+  moved = λ here what. Once (refl, (tt, tt));
+  sets_off = λ to here what apart. Once (refl, (refl, (tt, tt)));
   gone = λ ended. Once (tt, tt);
   dropped = λ ended. Once tt;
   leaving = λ to at_. Once tt;
@@ -130,8 +134,13 @@ gone_ended k n e = grind (arith, nat_tests)
 here_not : (T : Type 0) → Here ≡ Ended → T
 here_not T e = cc
 
+frozen_not : (T : Type 0) (to : ℕ) → Frozen to ≡ Ended → T
+frozen_not T to e = cc
+
 stage_only : (before : Knows) (v : View) (p : Pid) (s : Stage) → Only before v → Only before (view.after_stage v p s)
-stage_only before v p Stage.Frozen h = grind (arith, nat_tests, only_set)
+stage_only before v p Stage.Frozen h =
+    let to = aim v v.topic in
+    only_set before v (view.after_stage v p Stage.Frozen) p (Frozen to) (sets v p v.topic).known (frozen_not (v.known v.acting p ≡ Ended) to) h
 stage_only before v p Stage.Asked h = h
 stage_only before v p Stage.Accepted h = grind (arith, nat_tests, only_set)
 stage_only before v p Stage.Left h = only_set before v (view.after_stage v p Stage.Left) p (view.gone_to (v.known v.acting p) (v.moves p + 1)) refl (gone_ended (v.known v.acting p) (v.moves p + 1)) h

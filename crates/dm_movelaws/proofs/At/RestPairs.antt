@@ -5,6 +5,7 @@ use Rattle.dm_movelaws.proofs.Names.{proto_acting, queued_acting, held_acting, f
 use Rattle.dm_movelaws.proofs.Leading.{All, Behind, whatever_put, parts_lead, Saying, outcome_says}
 use Rattle.dm_movelaws.proofs.After.{keeps_always}
 use Rattle.dm_rule.specs.View as view
+use Rattle.dm_movelaws.proofs.Names.{sets, seen, topic_by, label_of}
 
 pub record Routed (n : ℕ) (v : View) : Type 0 where
   pub acting : v.acting < n
@@ -45,8 +46,11 @@ net_calm : (l : Line) → IsNetLine l → is_calm l ≡ true
 net_calm l h = grind (arith, nat_tests)
 
 -- each part keeps it
+about_routed : (n : ℕ) (w : View) (a : view.About) → Routed n w → Routed n (view.about w a)
+about_routed n w a h = record { acting = h.acting; none = h.none }
+
 routed_behind : (n : ℕ) (pt : Point) (p : Part) → PartCalm p → Routed n pt.view → Behind (λ q. Routed n q.view) pt p
-routed_behind n pt p calm h = whatever_put (λ q. Routed n q.view) pt p (λ l is s step. calm_line n pt.view l (subst PartCalm is calm) h) (λ b i k q. put_routed n pt.view b i k q h) h
+routed_behind n pt p calm h = whatever_put (λ q. Routed n q.view) pt p (λ l is s step. about_routed n (view_after pt.view l) (topic_by pt.kernel (view_after pt.view l).topic (label_of l)) (calm_line n pt.view l (subst PartCalm is calm) h)) (λ b i k q. put_routed n pt.view b i k q h) h
 
 parts_routed : (n : ℕ) (ps : List Part) (pt : Point) (w : Spelled) → All PartCalm ps → spelled pt ps ≡ Some w → Routed n pt.view → Routed n w.point.view
 parts_routed n = parts_lead (λ q. Routed n q.view) (λ q a b k l h. packet_routed n q.view a b k l h) PartCalm (routed_behind n)

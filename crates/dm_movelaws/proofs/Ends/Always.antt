@@ -8,10 +8,14 @@ use Rattle.dm_movelaws.proofs.Ends.Parts.{count-append}
 use Rattle.dm_movelaws.proofs.Ends.Groups.{group_balance}
 use Rattle.dm_movelaws.proofs.Ends.Sources.{Sources, group_acts}
 use Rattle.dm_movelaws.proofs.Ends.Quiet.{quiet_stays, quiet_empty}
+use Rattle.dm_movelaws.specs.Ends.{own_ends}
+use Rattle.dm_movelaws.proofs.Ends.Own.{owned, owned_zero, own-append, leads_next}
+use Rattle.dm_movelaws.proofs.Asked.Following.{noted_moves}
+use Rattle.dm_movelaws.proofs.Names.{◌∙◌}
 
--- how many moves are under way
+-- how many moves are under way that no process asked for
 abbrev moving_at : (b : Boot) (pt : Point) → Both b pt → Pid → ℕ
-moving_at b pt h p = moving_in (h.run.based.phased.phases.of p)
+moving_at b pt h p = owned (pt.kernel.notes p) (moving_in (h.run.based.phased.phases.of p))
 
 -- what comes of a run
 record Ran (p : Pid) (b : Boot) (pt end : Point) (ls : List Line) (n : ℕ) : Type 0 where
@@ -20,7 +24,7 @@ record Ran (p : Pid) (b : Boot) (pt end : Point) (ls : List Line) (n : ℕ) : Ty
   sources : Sources (length b.machines) end.view
   left : List MsgId
   opens : Opens p end.view left
-  sum : count (asks p) ls + n ≡ count (ends end.view.told p) ls + (length left + moving_at b end both p)
+  sum : count (asks p) ls + n ≡ own_ends end.view.told p ls + (length left + moving_at b end both p)
 
 none_ran : (p : Pid) (b : Boot) (pt : Point) (ls : List Line) (ids : List MsgId) (h : Both b pt) → Sources (length b.machines) pt.view → Opens p pt.view ids → ls ≡ [] → Ran p b pt pt ls (length ids + moving_at b pt h p)
 none_ran p b pt ls ids h sources opens none = record {
@@ -29,7 +33,7 @@ none_ran p b pt ls ids h sources opens none = record {
   sources = sources;
   left = ids;
   opens = opens;
-  sum = (let a : count (asks p) ls ≡ 0 = ap (count (asks p)) none in let c : count (ends pt.view.told p) ls ≡ 0 = ap (count (ends pt.view.told p)) none in omega (arith, a, c));
+  sum = (let a : count (asks p) ls ≡ 0 = ap (count (asks p)) none in let c : own_ends pt.view.told p ls ≡ 0 = ap (own_ends pt.view.told p) none in omega (arith, a, c));
 }
 
 step_for : (b : Boot) (pt : Point) (d : Step) → Both b pt → IsStep pt.kernel.machines d → IsStep (length b.machines) d
@@ -41,7 +45,7 @@ ran p b (d ∷ ds) pt end ls ids valid h sources opens (w, rest, fit, is, split,
     let based = h.run.based in
     let next : Both b w.point = both_group run_group b pt d w valid fit is h in
     let acts = group_acts (length b.machines) b pt d w (step_for b pt d h fit) is sources in
-    let g = group_balance p b pt d w based.phased.phases next.run.based.phased.phases ids based.phased based.known (fits pt.view based.phased.pairs) is opens in
+    let g = group_balance p b pt d w based.phased.phases next.run.based.phased.phases ids based.phased based.known (fits pt.view based.phased.pairs) is opens (λ n noted. noted_moves b pt based p n noted) (λ n noted. noted_moves b w.point next.run.based p n noted) in
     let r = ran p b ds w.point end rest g.left valid next acts.sources g.opens more in
     record {
       both = r.both;
@@ -49,12 +53,21 @@ ran p b (d ∷ ds) pt end ls ids valid h sources opens (w, rest, fit, is, split,
       sources = r.sources;
       left = r.left;
       opens = r.opens;
-      sum = grind (arith, nat_tests, count-append);
+      sum = (
+          let f = end.view.told in
+          let s = g.sum f (λ i t e. r.grows i t e) in
+          let z = r.sum in
+          let a : count (asks p) ls ≡ count (asks p) w.lines + count (asks p) rest = ap (count (asks p)) split ∙ count-append (asks p) w.lines rest in
+          let c : own_ends f p ls ≡ own_ends f p w.lines + own_ends f p rest = ap (own_ends f p) split ∙ own-append f p w.lines rest (leads_next b ds w.point end rest more) in
+          omega (arith, s, z, a, c));
     }
 
 -- where a run begins nothing moves
+start_rests : (b : Boot) (p : Pid) (h : Both b (first_point b)) → moving_in (h.run.based.phased.phases.of p) ≡ 0
+start_rests b p h = grind (arith, nat_tests, waits_or)
+
 start_stays : (b : Boot) (p : Pid) (h : Both b (first_point b)) → moving_at b (first_point b) h p ≡ 0
-start_stays b p h = grind (arith, nat_tests, waits_or)
+start_stays b p h = owned_zero ((first_point b).kernel.notes p) (moving_in (h.run.based.phased.phases.of p)) (start_rests b p h)
 
 start_opens : (b : Boot) (p : Pid) → Opens p (first_view b) []
 start_opens b p = grind (arith, nat_tests)
@@ -72,6 +85,6 @@ ends_always b es ls pt p valid leads =
           let is = r.both.run.based.machines in
           let still : IsQuiet n pt.view = subst (λ (k : ℕ). IsQuiet k pt.view) is quiet in
           let none = quiet_empty p b pt r.both.run n r.left is still r.sources r.opens in
-          let rests = quiet_stays b pt r.both.run n is still r.sources p in
+          let rests = owned_zero (pt.kernel.notes p) (moving_in (r.both.run.based.phased.phases.of p)) (quiet_stays b pt r.both.run n is still r.sources p) in
           omega (arith, zero_, sum, none, rests);
     }

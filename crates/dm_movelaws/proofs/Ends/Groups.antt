@@ -12,6 +12,18 @@ use Rattle.dm_movelaws.proofs.Ends.Rows.{Turn, Comes, line_alone, quiet_row, and
 use Rattle.dm_movelaws.proofs.Ends.Hears.{ComesOf, hears_comes}
 use Rattle.dm_movelaws.proofs.Leading.{next_of, part_leads}
 use Rattle.dm_rule.specs.Rule as rule
+use Rattle.dm_movelaws.proofs.Names.{seen_none}
+use Rattle.dm_movelaws.proofs.Names.{Note, Outcome, None, PlainMessage, PlainWhat, Label, Stage, Target, Frozen, Known, Here, to_kernel, leaves_for, answers_move, said_by, part_sane, machine_in, machine_of, sets, aim, asked_off, moved, is_moving, Walks, fits_as, pid_eq-is, pid_eq-same}
+use Rattle.dm_movelaws.specs.Ends.{own_ends}
+use Rattle.dm_movelaws.proofs.Ends.Own.{OwnBalance, owned, owned_zero, own_count, own_same, own_is, kept_own, end_ends, asker_here, head_still, asks_silent}
+use Rattle.dm_movelaws.proofs.Ends.Parts.{Rest, rest_packet, rest_behind, Handled, Quiets, SetsOff, part_count, unit_if}
+use Rattle.dm_movelaws.proofs.Ends.Rows.{line_then, other_still, pid_swap}
+use Rattle.dm_movelaws.proofs.Ends.Lines.{Smooth, smooth_trans, moves_none}
+use Rattle.dm_movelaws.proofs.Ends.Moving.{here_stays}
+use Rattle.dm_movelaws.proofs.Asked.Rows.{Row, Plain, Ends, IsHere, Leaves, outcome_row, plain_notes, ends_notes, here_notes, leaves_notes}
+use Rattle.dm_movelaws.proofs.Asked.Rows.{AllUnmarked, IsUnmarked, net_unmarked}
+use Rattle.dm_movelaws.proofs.Leading.{net_says}
+use Rattle.dm_movelaws.proofs.Names.{◌&&◌}
 
 abbrev begun_phases : (pt : Point) (d : Step) → InPhases pt.view → InPhases (begun pt d).view
 begun_phases pt d h = calm_phases pt.view (after_head pt.view d) (head_calm pt.view d) h
@@ -21,7 +33,7 @@ abbrev front_turn : (o : Point) (m : ℕ) (i : MsgId) (is : List MsgId) → InPh
 front_turn o m i is h s fits front =
     let (q, way) = front_way (turned o m) i is s.state front in
     let (t, told) = told_some (o.view.told i) q (s.state.stands.told i q way) in
-    (t, record { front = front; told = told; state = s.state; sane = s.sane; fits = record { within = fits.within; home = fits.home }; phases = begun_phases o (Step.Turn m) h })
+    (t, record { front = front; told = told; state = s.state; sane = s.sane; fits = record { within = fits.within; home = fits.home }; phases = begun_phases o (Step.Turn m) h; topic = refl })
 
 -- a delivery or a tick
 net_comes : (p : Pid) (pt : Point) (h : InPhases pt.view) (ps : List Part) (w : Spelled) → IsNet ps → spelled pt ps ≡ Some w → Comes p pt h ps w
@@ -40,7 +52,7 @@ said_comes : (p q : Pid) (m : ℕ) (pt : Point) (l : Line) (h : InPhases pt.view
     → Directed p (Step.Migrate q m) pt h (Says l ∷ []) w
 said_comes p q m pt l h w none alike plain ended e g ids opens =
     let v = pt.view in
-    let at : v ≡ w.point.view = sym alike ∙ ap (λ (x : Point). x.view) (line_alone pt l w none e) in
+    let at : v ≡ w.point.view = sym alike ∙ sym (seen_none pt.kernel v l none) ∙ ap (λ (x : Point). x.view) (line_alone pt l w none e) in
     let same = still_moves p v w.point.view h g (subst (Still p v) at (still_same p v)) in
     grind (arith, nat_tests, zero_if, smooth_opens, smooth_same)
 
@@ -93,44 +105,188 @@ migrates_comes p q m o pt h w sane fits =
     by_migrates (λ (ps : List Part). spelled pt ps ≡ Some w → Directed p (Step.Migrate q m) pt h ps w) o q (said_comes p q m pt (Line.Pinned q) h w refl refl refl (λ f. refl)) (said_comes p q m pt (Line.NoChild q) h w refl refl refl (λ f. refl))
     (λ n off is. owns_comes p q m (o.addresses (Child n)).at pt h w sane fits)
 
+-- what is known of requests to move that the process follows: it moves
+abbrev Follows : Pid → (pt : Point) → InPhases pt.view → Type 0
+Follows p pt h = (n : Note) → pt.kernel.notes p ≡ Some n → moving_in (h.of p) ≡ 1
+
+abbrev OwnDirected : Pid → Step → (pt : Point) → InPhases pt.view → List Part → Spelled → Type 0
+OwnDirected p d pt h parts w = (g : InPhases w.point.view) (ids : List MsgId) → Opens p pt.view ids → Follows p pt h → Follows p w.point g
+    → OwnBalance p w.point.view ids (asked_by p d) (owned (pt.kernel.notes p) (moving_in (h.of p))) (owned (w.point.kernel.notes p) (moving_in (g.of p))) parts
+
+-- a process is asked to move, and sets off
+leaves_own : (p : Pid) (d : Step) (pt : Point) (h : InPhases pt.view) (id : MsgId) (msg : PlainMessage) (to : ℕ) (w : Spelled) → asks p (Line.Head d) ≡ false → Sane pt → PairsFit pt.view → pt.kernel.bag id ≡ Some msg → pt.view.known pt.view.acting msg.to ≡ Here → msg.what ≡ PlainWhat.Move to
+    → spelled pt (rule.says (Label.Asked id) ∷ leaves_for msg.to to) ≡ Some w → OwnDirected p d pt h (rule.says (Label.Asked id) ∷ leaves_for msg.to to) w
+leaves_own p d pt h id msg to w unasked sane fits there here what e g ids opens before behind =
+    let q = msg.to in
+    let l = Line.Label (Label.Asked id) in
+    let l2 = Line.Migration Stage.Frozen q in
+    let ps = Says (Line.Migration Stage.Asked q) ∷ to_kernel MessageKind.Ask to ∷ [] in
+    let n = next_of pt (Says l) (leaves_for q to) w e in
+    let k = said_by pt n.next l n.steps in
+    let c = part_leads (λ y. Rest p pt.view y.view) (rest_packet p pt.view) pt n.next (Says l) (rest_behind p pt (Says l) sane fits tt tt) n.steps in
+    let mid = n.next.view in
+    let sane_ = part_sane pt n.next (Says l) n.steps.lines refl n.steps.are n.steps.leads sane in
+    let topic : mid.topic ≡ Target to = sym (ap (λ (x : Point). x.view.topic) k.is) ∙ ap machine_in there ∙ ap machine_of what in
+    let rest = line_then p n.next l2 ps n.rest refl refl refl sane_ c.fits (tt, (refl, tt)) (loose_walks ps (moved n.next l2 n.next.kernel) (λ y. tt, (λ y. tt, tt))) n.more in
+    let set = sets mid q mid.topic in
+    let x = Frozen (aim mid mid.topic) in
+    let first : Smooth p mid (view_after mid l2) = moves_none p mid l2 refl (λ z. asked_off mid q to topic z) in
+    let smooth : Smooth p pt.view w.point.view = subst (λ (y : Point). Smooth p pt.view y.view) n.point (smooth_trans p pt.view mid n.rest.point.view c.smooth (smooth_trans p mid (view_after mid l2) n.rest.point.view first rest.smooth)) in
+    let notes = leaves_notes pt id msg to p w there e in
+    let zero_ = zero_if (asks p (Line.Head d)) unasked in
+    elim (cases_Bool (pid_eq q p)) [
+      | inl same ↦
+          let none : moving_in (h.of p) ≡ 0 = here_stays pt.view h p pt.view.acting (ap (pt.view.known pt.view.acting) (sym (pid_eq-is q p same)) ∙ here) in
+          let now : owned (w.point.kernel.notes p) (moving_in (g.of p)) ≡ 0 = ap (λ (o : Option Note). owned o (moving_in (g.of p))) (notes ∙ ap (λ (b : Bool). if b then Some (record { id = id; asker = msg.sender }) else pt.kernel.notes p) same) in
+          let was = owned_zero (pt.kernel.notes p) (moving_in (h.of p)) none in
+          record { left = ids; opens = smooth_opens p pt.view w.point.view ids smooth opens; quiet = refl; sum = λ f ext. (let z : own_count f p (rule.says (Label.Asked id) ∷ leaves_for q to) ≡ 0 = refl in omega (arith, z, zero_, now, was)) }
+      | inr off ↦
+          let off_ : pid_eq p q ≡ false = pid_swap q p off in
+          let still : Still p pt.view w.point.view = subst (λ (y : Point). Still p pt.view y.view) n.point
+          (λ m. rest.still m ∙ ap is_moving (ap (λ (f : ℕ → Pid → Known). f m p) set.known) ∙ other_still p q mid.known mid.acting x off_ m ∙ c.still m) in
+          let moves = still_moves p pt.view w.point.view h g still in
+          let kept : w.point.kernel.notes p ≡ pt.kernel.notes p = notes ∙ ap (λ (b : Bool). if b then Some (record { id = id; asker = msg.sender }) else pt.kernel.notes p) off in
+          let same : owned (pt.kernel.notes p) (moving_in (h.of p)) ≡ owned (w.point.kernel.notes p) (moving_in (g.of p)) = ap (owned (pt.kernel.notes p)) moves ∙ ap (λ (o : Option Note). owned o (moving_in (g.of p))) (sym kept) in
+          record { left = ids; opens = smooth_opens p pt.view w.point.view ids smooth opens; quiet = refl; sum = λ f ext. (let z : own_count f p (rule.says (Label.Asked id) ∷ leaves_for q to) ≡ 0 = refl in omega (arith, z, zero_, same)) }
+    ]
+
+-- parts that say nothing of requests to move
+plain_own : (p : Pid) (pt : Point) (d : Step) (h : InPhases (begun pt d).view) (ps : List Part) (w : Spelled) → AllUnmarked ps → spelled (begun pt d) ps ≡ Some w → Directed p d (begun pt d) h ps w → OwnDirected p d (begun pt d) h ps w
+plain_own p pt d h ps w so e r g ids opens before behind =
+    let a = pt.kernel.notes p in
+    let notes = plain_notes p ps (begun pt d) w so e in
+    subst (λ (x : Option Note). OwnBalance p w.point.view ids (asked_by p d) (owned a (moving_in (h.of p))) (owned x (moving_in (g.of p))) ps) (sym notes)
+    (kept_own p w.point.view ids (asked_by p d) (moving_in (h.of p)) (moving_in (g.of p)) ps a (λ f. own_same f p ps so) before (λ n is. behind n (notes ∙ is)) (r g ids opens))
+
+-- by what the parts say of requests to move
+own_of : (p : Pid) (pt : Point) (d : Step) (h : InPhases (begun pt d).view) (ps : List Part) (w : Spelled) → Sane (begun pt d) → PairsFit (begun pt d).view → Row pt d ps → spelled (begun pt d) ps ≡ Some w → Directed p d (begun pt d) h ps w → OwnDirected p d (begun pt d) h ps w
+own_of p pt d h ps w sane fits (Plain so) e r g ids opens before behind = plain_own p pt d h ps w so e r g ids opens before behind
+own_of p pt d h ps w sane fits (Ends q n l k noted end are) e r g ids opens before behind =
+    let start = begun pt d in
+    let qs = Says l ∷ answers_move n.id k in
+    let notes = ends_notes start q p n l k w (sane.sound.notes.noted q n noted) end (ap (spelled start) (sym are) ∙ e) in
+    let old : Balance p w.point.view ids (asked_by p d) (moving_in (h.of p)) (moving_in (g.of p)) qs = subst (Balance p w.point.view ids (asked_by p d) (moving_in (h.of p)) (moving_in (g.of p))) are (r g ids opens) in
+    subst (OwnBalance p w.point.view ids (asked_by p d) (owned (pt.kernel.notes p) (moving_in (h.of p))) (owned (w.point.kernel.notes p) (moving_in (g.of p)))) (sym are)
+    (elim (cases_Bool (pid_eq q p)) [
+      | inl same ↦
+          let is : q ≡ p = pid_eq-is q p same in
+          let mine : pt.kernel.notes p ≡ Some n = ap pt.kernel.notes (sym is) ∙ noted in
+          let one : moving_in (h.of p) ≡ 1 = before n mine in
+          let was : owned (pt.kernel.notes p) (moving_in (h.of p)) ≡ 0 = ap (λ (o : Option Note). owned o (moving_in (h.of p))) mine in
+          let now : owned (w.point.kernel.notes p) (moving_in (g.of p)) ≡ moving_in (g.of p) = ap (λ (o : Option Note). owned o (moving_in (g.of p))) (notes ∙ ap (λ (b : Bool). if b then None else pt.kernel.notes p) same) in
+          let other : pid_eq p q ≡ true = ap (pid_eq p) is ∙ pid_eq-same p in
+          record {
+            left = old.left;
+            opens = old.opens;
+            quiet = old.quiet;
+            sum = λ f ext.
+                let s = old.sum f ext in
+                let x : unit_if (ends f p l) ≡ 1 = ap (λ (b : Bool). unit_if b) (end_ends f p q k l end ∙ other) in
+                let y : unit_if (ends f p l && false) ≡ 0 = ap (λ (b : Bool). unit_if b) (and_off (ends f p l) false refl) in
+                let count_ : part_count (ends f p) qs ≡ 1 = omega (arith, x) in
+                let own : own_count f p qs ≡ 0 = omega (arith, y) in
+                omega (arith, s, count_, own, one, was, now);
+          }
+      | inr off ↦
+          let off_ : pid_eq p q ≡ false = pid_swap q p off in
+          let kept : w.point.kernel.notes p ≡ pt.kernel.notes p = notes ∙ ap (λ (b : Bool). if b then None else pt.kernel.notes p) off in
+          subst (λ (x : Option Note). OwnBalance p w.point.view ids (asked_by p d) (owned (pt.kernel.notes p) (moving_in (h.of p))) (owned x (moving_in (g.of p))) qs) (sym kept)
+          (kept_own p w.point.view ids (asked_by p d) (moving_in (h.of p)) (moving_in (g.of p)) qs (pt.kernel.notes p)
+          (λ f. let x : unit_if (ends f p l) ≡ 0 = ap (λ (b : Bool). unit_if b) (end_ends f p q k l end ∙ off_) in let y : unit_if (ends f p l && false) ≡ 0 = ap (λ (b : Bool). unit_if b) (and_off (ends f p l) false refl) in omega (arith, x, y))
+          before (λ n is. behind n (kept ∙ is)) old)
+    ])
+own_of p pt d h ps w sane fits (IsHere id msg there here are) e r g ids opens before behind =
+    let start = begun pt d in
+    let qs = rule.says (Label.Asked id) ∷ answers_move id Outcome.Done in
+    let old : Balance p w.point.view ids (asked_by p d) (moving_in (h.of p)) (moving_in (g.of p)) qs = subst (Balance p w.point.view ids (asked_by p d) (moving_in (h.of p)) (moving_in (g.of p))) are (r g ids opens) in
+    subst (OwnBalance p w.point.view ids (asked_by p d) (owned (pt.kernel.notes p) (moving_in (h.of p))) (owned (w.point.kernel.notes p) (moving_in (g.of p)))) (sym are)
+    (elim (cases_Bool (pid_eq msg.to p)) [
+      | inl same ↦
+          let is : msg.to ≡ p = pid_eq-is msg.to p same in
+          let q = asker_here start id Outcome.Done msg.to w (ap (spelled start) (sym are) ∙ e) here in
+          let none : moving_in (h.of p) ≡ 0 = here_stays start.view h p start.view.acting (ap (start.view.known start.view.acting) (sym is) ∙ here) in
+          let none_ : moving_in (g.of p) ≡ 0 = here_stays w.point.view g p start.view.acting (ap (w.point.view.known start.view.acting) (sym is) ∙ q) in
+          let was = owned_zero (pt.kernel.notes p) (moving_in (h.of p)) none in
+          let now = owned_zero (w.point.kernel.notes p) (moving_in (g.of p)) none_ in
+          record { left = old.left; opens = old.opens; quiet = old.quiet; sum = λ f ext. (let s = old.sum f ext in let z : own_count f p qs ≡ part_count (ends f p) qs = refl in omega (arith, s, z, none, none_, was, now)) }
+      | inr off ↦
+          let kept = here_notes start id msg p w there off (ap (spelled start) (sym are) ∙ e) in
+          subst (λ (x : Option Note). OwnBalance p w.point.view ids (asked_by p d) (owned (pt.kernel.notes p) (moving_in (h.of p))) (owned x (moving_in (g.of p))) qs) (sym kept)
+          (kept_own p w.point.view ids (asked_by p d) (moving_in (h.of p)) (moving_in (g.of p)) qs (pt.kernel.notes p) (λ f. refl) before (λ n is. behind n (kept ∙ is)) old)
+    ])
+own_of p pt d h ps w sane fits (Leaves id msg to unasked there here what are) e r g ids opens before behind =
+    subst (OwnBalance p w.point.view ids (asked_by p d) (owned (pt.kernel.notes p) (moving_in (h.of p))) (owned (w.point.kernel.notes p) (moving_in (g.of p)))) (sym are)
+    (leaves_own p d (begun pt d) h id msg to w (unasked p) sane fits there here what (ap (spelled (begun pt d)) (sym are) ∙ e) g ids opens before behind)
+
+handled_own : (p : Pid) (pt : Point) (m : ℕ) (id : MsgId) (msg : PlainMessage) (h : InPhases (turned pt m).view) (ps : List Part) (w : Spelled) → Sane (turned pt m) → PairsFit (turned pt m).view → pt.kernel.bag id ≡ Some msg → Row pt (Step.Turn m) ps → Walks (turned pt m) ps → spelled (turned pt m) ps ≡ Some w
+    → Handled p (turned pt m).view pt m id msg ps → OwnDirected p (Step.Turn m) (turned pt m) h ps w
+handled_own p pt m id msg h ps w sane fits there row walks e (Quiets quiet) = own_of p pt (Step.Turn m) h ps w sane fits row e (quiet_row p (turned pt m) h ps w sane fits quiet walks e)
+handled_own p pt m id msg h ps w sane fits there row walks e (SetsOff to here what are) =
+    subst (λ (xs : List Part). OwnDirected p (Step.Turn m) (turned pt m) h xs w) (sym are) (leaves_own p (Step.Turn m) (turned pt m) h id msg to w refl sane fits there here what (ap (spelled (turned pt m)) (sym are) ∙ e))
+
 -- what comes of a directive
-directed : (p : Pid) (b : Boot) (pt : Point) (d : Step) (parts : List Part) (w : Spelled) (h : InPhases pt.view) → Phased pt → KnownStands pt.kernel pt.view → PairsFit pt.view → rule.outcome b pt d ≡ Some parts → spelled (begun pt d) parts ≡ Some w → Directed p d (begun pt d) (begun_phases pt d h) parts w
+directed : (p : Pid) (b : Boot) (pt : Point) (d : Step) (parts : List Part) (w : Spelled) (h : InPhases pt.view) → Phased pt → KnownStands pt.kernel pt.view → PairsFit pt.view → rule.outcome b pt d ≡ Some parts → spelled (begun pt d) parts ≡ Some w → OwnDirected p d (begun pt d) (begun_phases pt d h) parts w
 directed p b pt d parts w h phased known fits is =
-    by_outcome (λ x ps. (u : Spelled) → spelled (begun pt x) ps ≡ Some u → Directed p x (begun pt x) (begun_phases pt x h) ps u) b pt d parts (record {
-      round = λ m ps box e u.
+    by_outcome (λ x ps. (u : Spelled) → Row pt x ps → spelled (begun pt x) ps ≡ Some u → OwnDirected p x (begun pt x) (begun_phases pt x h) ps u) b pt d parts (record {
+      round = λ m ps box e u row said.
           (let s = begins pt m phased known in
           let q = rule.first_runnable pt.kernel (pt.view.queue m) (pt.view.ring m) in
-          quiet_row p (turned pt m) (begun_phases pt (Step.Turn m) h) ps u s.sane (record { within = fits.within; home = fits.home }) (round_quiet p (turned pt m).view b pt m q ps e)
-          (subst (WalksOf (turned pt m)) e (round_walks (turned pt m) b pt m q (λ r is. resting (turned pt m).view r s.phases (s.rooted.served m r is)))));
-      handles = λ m i is msg ps box there e u.
+          let pairs : PairsFit (turned pt m).view = record { within = fits.within; home = fits.home } in
+          own_of p pt (Step.Turn m) (begun_phases pt (Step.Turn m) h) ps u s.sane pairs row said (quiet_row p (turned pt m) (begun_phases pt (Step.Turn m) h) ps u s.sane pairs (round_quiet p (turned pt m).view b pt m q ps e)
+          (subst (WalksOf (turned pt m)) e (round_walks (turned pt m) b pt m q (λ r is. resting (turned pt m).view r s.phases (s.rooted.served m r is)))) said));
+      handles = λ m i is msg ps box there e u row said.
           (let s = begins pt m phased known in
           let (t, turn) = front_turn pt m i is h s fits box in
           let tame : Tame p (turned pt m).view i = record { what = t; told = turn.told; plain = plain_in_bag p (turned pt m) i msg s.sane there t turn.told } in
-          quiet_row p (turned pt m) (begun_phases pt (Step.Turn m) h) ps u s.sane turn.fits (handles_quiet p (turned pt m).view b pt m i msg ps tame e)
-          (subst (WalksOf (turned pt m)) e (handles_walks b pt m i msg s.sane s.phases s.rooted (record { there = there; told = t; is = turn.told }))));
-      hears = λ m i is ps box none e.
-          (let (t, turn) = front_turn pt m i is h (begins pt m phased known) fits box in
-          subst (ComesOf p (turned pt m) turn.phases) (ap (rule.hears b pt m i) (sym turn.told) ∙ e) (hears_comes p b pt m i is t turn));
-      ticks = λ m ps net u. net_comes p (begun pt (Step.Tick m)) (begun_phases pt (Step.Tick m) h) ps u net;
-      delivers = λ a c k ps net u. net_comes p (begun pt (Step.Deliver a c k)) (begun_phases pt (Step.Deliver a c k) h) ps u net;
-      asks = λ q m u. migrates_comes p q m pt (begun pt (Step.Migrate q m)) (begun_phases pt (Step.Migrate q m) h) u (begun_sane pt (Step.Migrate q m) phased.sane) (record { within = fits.within; home = fits.home });
-    }) is w
+          handled_own p pt m i msg (begun_phases pt (Step.Turn m) h) ps u s.sane turn.fits there row
+          (subst (WalksOf (turned pt m)) e (handles_walks b pt m i msg s.sane s.phases s.rooted known (record { there = there; told = t; is = turn.told }))) said (handles_quiet p (turned pt m).view b pt m i msg ps tame e));
+      hears = λ m i is ps box none e u row said.
+          (let s = begins pt m phased known in
+          let (t, turn) = front_turn pt m i is h s fits box in
+          let comes = subst (ComesOf p (turned pt m) turn.phases) (ap (rule.hears b pt m i) (sym turn.told) ∙ e) (hears_comes p b pt m i is t turn) in
+          own_of p pt (Step.Turn m) (begun_phases pt (Step.Turn m) h) ps u s.sane turn.fits row said (comes u said));
+      ticks = λ m ps net u row said.
+          (let x = Step.Tick m in
+          plain_own p pt x (begun_phases pt x h) ps u (net_says IsUnmarked net_unmarked ps net) said (net_comes p (begun pt x) (begun_phases pt x h) ps u net said));
+      delivers = λ a c k ps net u row said.
+          (let x = Step.Deliver a c k in
+          plain_own p pt x (begun_phases pt x h) ps u (net_says IsUnmarked net_unmarked ps net) said (net_comes p (begun pt x) (begun_phases pt x h) ps u net said));
+      asks = λ q m u row said.
+          (let x = Step.Migrate q m in
+          let pairs : PairsFit (begun pt x).view = record { within = fits.within; home = fits.home } in
+          own_of p pt x (begun_phases pt x h) (migrates pt q) u (begun_sane pt x phased.sane) pairs row said (migrates_comes p q m pt (begun pt x) (begun_phases pt x h) u (begun_sane pt x phased.sane) pairs said));
+    }) is w (outcome_row b pt d parts is)
 
 -- what comes of a group
 pub record GroupBalance (p : Pid) (w : Spelled) (ids : List MsgId) (before behind : ℕ) : Type 0 where
   pub left : List MsgId
   pub opens : Opens p w.point.view left
-  pub sum : (f : MsgId → Option Told) → Extends w.point.view.told f → count (asks p) w.lines + (length ids + before) ≡ count (ends f p) w.lines + (length left + behind)
+  pub sum : (f : MsgId → Option Told) → Extends w.point.view.told f → count (asks p) w.lines + (length ids + before) ≡ own_ends f p w.lines + (length left + behind)
 
-whole_balance : (p : Pid) (d : Step) (parts : List Part) (ids : List MsgId) (before behind : ℕ) (start : Point) (rest : Spelled) → spelled start parts ≡ Some rest → Balance p rest.point.view ids (asked_by p d) before behind parts
+whole_balance : (p : Pid) (d : Step) (parts : List Part) (ids : List MsgId) (before behind : ℕ) (start : Point) (rest : Spelled) → spelled start parts ≡ Some rest → OwnBalance p rest.point.view ids (asked_by p d) before behind parts
     → GroupBalance p (rule.headed (Line.Head d) rest) ids before behind
-whole_balance p d parts ids before behind start rest e h = grind (arith, nat_tests, parts_count)
+whole_balance p d parts ids before behind start rest e h = record {
+  left = h.left;
+  opens = h.opens;
+  sum = λ f ext.
+      let s = h.sum f ext in
+      let a = parts_count (asks p) (asks_silent p) parts start rest e in
+      let q = h.quiet in
+      let o = (own_is f p parts start rest e).0 in
+      omega (arith, s, a, q, o);
+}
 
-pub group_balance : (p : Pid) (b : Boot) (pt : Point) (d : Step) (w : Spelled) (h : InPhases pt.view) (g : InPhases w.point.view) (ids : List MsgId) → Phased pt → KnownStands pt.kernel pt.view → PairsFit pt.view → group_of b pt d ≡ Some w → Opens p pt.view ids
-    → GroupBalance p w ids (moving_in (h.of p)) (moving_in (g.of p))
-group_balance p b pt d w h g ids phased known fits e opens =
+pub group_balance : (p : Pid) (b : Boot) (pt : Point) (d : Step) (w : Spelled) (h : InPhases pt.view) (g : InPhases w.point.view) (ids : List MsgId) → Phased pt → KnownStands pt.kernel pt.view → PairsFit pt.view → group_of b pt d ≡ Some w → Opens p pt.view ids → Follows p pt h → Follows p w.point g
+    → GroupBalance p w ids (owned (pt.kernel.notes p) (moving_in (h.of p))) (owned (w.point.kernel.notes p) (moving_in (g.of p)))
+group_balance p b pt d w h g ids phased known fits e opens before behind =
     let k = group_is b pt d w e in
     let start : Opens p (begun pt d).view ids = smooth_opens p pt.view (begun pt d).view ids (head_smooth p pt.view d) opens in
     let back : InPhases k.rest.point.view = subst (λ (x : Spelled). InPhases x.point.view) (sym k.whole) g in
-    let r = directed p b pt d k.parts k.rest h phased known fits k.is k.said back ids start in
-    grind (arith, nat_tests, still_moves, still_same, whole_balance)
+    let same : moving_in (back.of p) ≡ moving_in (g.of p) = still_moves p k.rest.point.view w.point.view back g (subst (λ (x : Spelled). Still p k.rest.point.view x.point.view) k.whole (still_same p k.rest.point.view)) in
+    let notes : k.rest.point.kernel.notes p ≡ w.point.kernel.notes p = ap (λ (x : Spelled). x.point.kernel.notes p) k.whole in
+    let begun_ : moving_in (h.of p) ≡ moving_in ((begun_phases pt d h).of p) = still_moves p pt.view (begun pt d).view h (begun_phases pt d h) (head_still p pt.view d) in
+    let r = directed p b pt d k.parts k.rest h phased known fits k.is k.said back ids start (λ n is. sym begun_ ∙ before n is) (λ n is. same ∙ behind n (sym notes ∙ is)) in
+    let whole = whole_balance p d k.parts ids (owned (pt.kernel.notes p) (moving_in ((begun_phases pt d h).of p))) (owned (k.rest.point.kernel.notes p) (moving_in (back.of p))) (begun pt d) k.rest k.said r in
+    let one = subst (λ (x : Spelled). GroupBalance p x ids (owned (pt.kernel.notes p) (moving_in ((begun_phases pt d h).of p))) (owned (k.rest.point.kernel.notes p) (moving_in (back.of p)))) k.whole whole in
+    subst (λ (n : ℕ). GroupBalance p w ids n (owned (w.point.kernel.notes p) (moving_in (g.of p)))) (ap (owned (pt.kernel.notes p)) (sym begun_))
+    (subst (GroupBalance p w ids (owned (pt.kernel.notes p) (moving_in ((begun_phases pt d h).of p)))) (ap (owned (k.rest.point.kernel.notes p)) same ∙ ap (λ (o : Option Note). owned o (moving_in (g.of p))) notes) one)

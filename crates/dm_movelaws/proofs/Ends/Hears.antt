@@ -14,6 +14,9 @@ use Rattle.dm_movelaws.proofs.Ends.Rows.{due_moves, about_same}
 use Rattle.dm_movelaws.proofs.Ends.Sends.{smooth_moves, held_smooth, again_told, all_sent, sent_smooth, sends_count, sent_begins, handled_smooth, rejoins_smooth}
 use Rattle.dm_movelaws.proofs.Leading.{next_of, part_leads}
 use Rattle.dm_rule.specs.View as view
+use Rattle.dm_movelaws.proofs.Names.{sets, aim, at_record, Note, Outcome, tells_asker, answers_move, None}
+use Rattle.dm_movelaws.proofs.Leading.{asker_known}
+use Rattle.dm_movelaws.proofs.Names.{restarted_off, times}
 
 abbrev pub ComesOf : Pid → (pt : Point) → InPhases pt.view → Option (List Part) → Type 0
 ComesOf p pt h None = ⊤
@@ -69,42 +72,51 @@ block_comes p pt i is t q true h between = step_comes p pt i is t (Line.Migratio
 block_comes p pt i is t q false h between = piece_comes p pt i is t MessageKind.PullBlock i.from.home h between refl
 
 -- a process is here again: its move has ended
-comes_back : (p : Pid) (pt : Point) (i : MsgId) (is : List MsgId) (t : Told) (q : Pid) (l : Line) (w : Spelled) (h : Turn pt i is t) → is_between t.kind ≡ true → t.about ≡ Of q → Smooth p pt.view (view_after pt.view l) → ((m : ℕ) (r : Pid) → (view_after pt.view l).known m r ≡ (rejoins (handled_first pt.view) q).known m r)
-    → Settled p (view_after pt.view l) w.point → moved pt l pt.kernel ≡ w.point → ((f : MsgId → Option Told) → ends f p l ≡ pid_eq p q) → asks p l ≡ false → Comes p pt h.phases (Says l ∷ []) w
-comes_back p pt i is t q l w h between about first known rest at ended plain g ids opens =
+asker_quiet : (p : Pid) (v : View) (a : Option Note) (r : Outcome) → AllQuiet p v (tells_asker a r)
+asker_quiet p v None r = tt
+asker_quiet p v (Some n) r = (tt, (tt, tt))
+
+asker_loose : (a : Option Note) (r : Outcome) → AllLoose (tells_asker a r)
+asker_loose None r = tt
+asker_loose (Some n) r = (λ q. tt, (λ q. tt, tt))
+
+comes_back : (p : Pid) (pt : Point) (i : MsgId) (is : List MsgId) (t : Told) (q : Pid) (l : Line) (a : Option Note) (r : Outcome) (h : Turn pt i is t) → is_between t.kind ≡ true → t.about ≡ Of q → label_of l ≡ None → is_put l ≡ false → touches l ≡ false
+    → ((z : Spot) → ids_at (view_after pt.view l) z ≡ ids_at (rejoins (handled_first pt.view) q) z) → (view_after pt.view l).known ≡ (rejoins (handled_first pt.view) q).known → ((f : MsgId → Option Told) → ends f p l ≡ pid_eq p q) → asks p l ≡ false
+    → ComesOf p pt h.phases (Some (Says l ∷ tells_asker a r))
+comes_back p pt i is t q l a r h between about none quiet calm off known ended plain w e g ids opens =
     let v = pt.view in
     let mid = view_after v l in
     let u = w.point.view in
+    let ps = tells_asker a r in
+    let back = rejoins (handled_first v) q in
+    let first : Smooth p v mid = smooth_trans p v back mid (smooth_trans p v (handled_first v) back (handled_smooth p v i is h.front (between_plain p v i t h.told between)) (rejoins_smooth p (handled_first v) q)) (smooth_still p back mid (told_by v l quiet) (λ j z. ap (times j) (off z))) in
+    let at_ : (m : ℕ) → mid.known m p ≡ at_record v.known v.acting q Here m p = λ m. ap (λ (f : ℕ → Pid → Known). f m p) known in
+    let rest = line_then p pt l ps w none quiet calm h.sane h.fits (asker_quiet p mid a r) (loose_walks ps (moved pt l pt.kernel) (asker_loose a r)) e in
+    let n = line_next pt l ps w none e in
     elim (cases_Bool (pid_eq p q)) [
       | inl same ↦
-          let here : u.known v.acting p ≡ Here = ap (λ (x : Point). x.view.known v.acting p) (sym at) ∙ known v.acting p ∙ set_here p q v.known v.acting Here same in
+          let here : u.known v.acting p ≡ Here = ap (λ (x : Point). x.view.known v.acting p) (sym n.point) ∙ asker_known v.acting p Here a r (moved pt l pt.kernel) n.rest n.more (at_ v.acting ∙ set_here p q v.known v.acting Here same) in
           let before = due_moves p q pt i is t h between about same in
           let behind = here_stays u g p v.acting here in
           record {
             left = ids;
             opens = smooth_opens p v u ids (smooth_trans p v mid u first rest.smooth) opens;
-            quiet = (let a = zero_if (asks p l) plain in omega (arith, a));
-            sum = λ f ext. (let one : one_if (ends f p) l ≡ 1 = ap (λ (c : Bool). if c then 1 else 0) (ended f ∙ same) in omega (arith, one, before, behind));
+            quiet = (let c = zero_if (asks p l) plain in let d = quiet_asks p mid ps (asker_quiet p mid a r) in omega (arith, c, d));
+            sum = λ f ext.
+                let one : one_if (ends f p) l ≡ 1 = ap (λ (c : Bool). if c then 1 else 0) (ended f ∙ same) in
+                let d = quiet_count p mid ps f (asker_quiet p mid a r) (λ j x k. ext j x (rest.smooth.kept j x k)) in
+                omega (arith, one, before, behind, d);
           }
       | inr off ↦
-          let still : Still p v mid = λ m. ap is_moving (known m p) ∙ other_still p q v.known v.acting Here off m in
-          level_row p pt h.phases l [] w first tt rest (λ f. ended f ∙ off) plain (λ x. level_still p pt h.phases l w still rest x) g ids opens
+          let still : Still p v mid = λ m. ap is_moving (at_ m) ∙ other_still p q v.known v.acting Here off m in
+          level_row p pt h.phases l ps w first (asker_quiet p mid a r) rest (λ f. ended f ∙ off) plain (λ x. level_still p pt h.phases l w still rest x) g ids opens
     ]
 
-stays_comes : (p : Pid) (pt : Point) (i : MsgId) (is : List MsgId) (t : Told) (q : Pid) (h : Turn pt i is t) → is_between t.kind ≡ true → t.about ≡ Of q → ComesOf p pt h.phases (Some (Says (Line.Stays q) ∷ []))
-stays_comes p pt i is t q h between about w e =
-    let v = pt.view in
-    let l = Line.Stays q in
-    let first : Smooth p v (view_after v l) = smooth_trans p v (handled_first v) (view_after v l) (handled_smooth p v i is h.front (between_plain p v i t h.told between)) (rejoins_smooth p (handled_first v) q) in
-    comes_back p pt i is t q l w h between about first (λ m r. refl) (line_then p pt l [] w refl refl refl h.sane h.fits tt tt e) (line_alone pt l w refl e) (λ f. refl) refl
+stays_comes : (p : Pid) (pt : Point) (i : MsgId) (is : List MsgId) (t : Told) (q : Pid) (a : Option Note) (h : Turn pt i is t) → is_between t.kind ≡ true → t.about ≡ Of q → ComesOf p pt h.phases (Some (Says (Line.Stays q) ∷ tells_asker a Outcome.Stayed))
+stays_comes p pt i is t q a h between about = comes_back p pt i is t q (Line.Stays q) a Outcome.Stayed h between about refl refl refl (λ z. refl) refl (λ f. refl) refl
 
-restarted_comes : (p : Pid) (pt : Point) (i : MsgId) (is : List MsgId) (t : Told) (q : Pid) (h : Turn pt i is t) → is_between t.kind ≡ true → t.about ≡ Of q → ComesOf p pt h.phases (Some (Says (Line.Migration Stage.Restarted q) ∷ []))
-restarted_comes p pt i is t q h between about w e =
-    let v = pt.view in
-    let l = Line.Migration Stage.Restarted q in
-    let u = rejoins (handled_first v) q in
-    let back : Smooth p v u = smooth_trans p v (handled_first v) u (handled_smooth p v i is h.front (between_plain p v i t h.told between)) (rejoins_smooth p (handled_first v) q) in
-    search (smooth_trans, smooth_still, comes_back, line_then, line_alone)
+restarted_comes : (p : Pid) (pt : Point) (i : MsgId) (is : List MsgId) (t : Told) (q : Pid) (a : Option Note) (h : Turn pt i is t) → is_between t.kind ≡ true → t.about ≡ Of q → ComesOf p pt h.phases (Some (Says (Line.Migration Stage.Restarted q) ∷ tells_asker a Outcome.Done))
+restarted_comes p pt i is t q a h between about = comes_back p pt i is t q (Line.Migration Stage.Restarted q) a Outcome.Done h between about refl refl refl (λ z. restarted_off pt.view q z) refl (λ f. refl) refl
 
 -- a process has left: what waited for it goes on, and the destination waits for it still
 abbrev leaving : ℕ → MsgId → Pid → List MsgId → List Part
@@ -155,13 +167,13 @@ leaves_comes p pt i is t q _ h all about = tt
 -- by the kind of the message
 pub told_comes : (p : Pid) (o : Point) (m : ℕ) (i : MsgId) (is : List MsgId) (t : Told) (q : Pid) (room : Bool × ℕ × ℕ) (x : PlainProcess) (k : MessageKind) (h : Turn (turned o m) i is t) → t.kind ≡ k → t.about ≡ Of q → ComesOf p (turned o m) h.phases (kernel_told o m i q room x k)
 told_comes p o m i is t q room x MessageKind.Ask h e about = accepts_comes p (turned o m) i is t q room.0 room.1 room.2 i.from.home h (ap is_between e) about
-told_comes p o m i is t q room x MessageKind.Refuse h e about = stays_comes p (turned o m) i is t q h (ap is_between e) about
+told_comes p o m i is t q room x MessageKind.Refuse h e about = stays_comes p (turned o m) i is t q (o.kernel.notes q) h (ap is_between e) about
 told_comes p o m i is t q room x MessageKind.PullState h e about = piece_comes p (turned o m) i is t MessageKind.State i.from.home h (ap is_between e) refl
 told_comes p o m i is t q room x MessageKind.State h e about = chunk_comes p (turned o m) i is t q (o.view.asked q == chunks_of x) h (ap is_between e)
 told_comes p o m i is t q room x MessageKind.PullBlock h e about = piece_comes p (turned o m) i is t MessageKind.Memory i.from.home h (ap is_between e) refl
 told_comes p o m i is t q room x MessageKind.Memory h e about = block_comes p (turned o m) i is t q (o.view.asked q == pieces_of x) h (ap is_between e)
 told_comes p o m i is t q room x MessageKind.AllTaken h e about = leaves_comes p (turned o m) i is t q (o.view.known m q) h e about
-told_comes p o m i is t q room x MessageKind.Restart h e about = restarted_comes p (turned o m) i is t q h (ap is_between e) about
+told_comes p o m i is t q room x MessageKind.Restart h e about = restarted_comes p (turned o m) i is t q (o.kernel.notes q) h (ap is_between e) about
 told_comes p o m i is t q room x k h e about = tt
 
 -- a message is held
@@ -252,15 +264,17 @@ frozen_comes p pt i is t to h k here w e g ids opens =
     let ps = Says (Line.Migration Stage.Asked q) ∷ to_kernel MessageKind.Ask to ∷ [] in
     let mid = view_after v l in
     let u = w.point.view in
-    let x = Frozen (target_of (front_told v (v.inbox v.acting))) in
+    let set = sets v q v.topic in
+    let x = Frozen (aim v v.topic) in
+    let at_ : (m : ℕ) → mid.known m p ≡ at_record v.known v.acting q x m p = λ m. ap (λ (f : ℕ → Pid → Known). f m p) set.known in
     let rest = line_then p pt l ps w refl refl refl h.sane h.fits (tt, (refl, tt)) (loose_walks ps (moved pt l pt.kernel) (λ y. tt, (λ y. tt, tt))) e in
     elim (cases_Bool (pid_eq p q)) [
       | inl same ↦
           let is_open : IsOpen p v i = record { told = t; is = h.told; asks = asks_of p t k same; stands = stands_front pt i is t h } in
-          let closes = first_closes p pt l i is t h refl (frozen_off v q) in
+          let closes = first_closes p pt l i is t h refl (frozen_off v q h.topic) in
           let s = close_opens p v mid ids i is_open closes opens in
           let before = here_stays v h.phases p v.acting (ap (v.known v.acting) (pid_eq-is p q same) ∙ here) in
-          let behind_ = waits_moves u g p v.acting (rest.still v.acting ∙ ap is_moving (set_here p q v.known v.acting x same)) in
+          let behind_ = waits_moves u g p v.acting (rest.still v.acting ∙ ap is_moving (at_ v.acting ∙ set_here p q v.known v.acting x same)) in
           record {
             left = s.left;
             opens = smooth_opens p mid u s.left rest.smooth s.opens;
@@ -268,8 +282,8 @@ frozen_comes p pt i is t to h k here w e g ids opens =
             sum = λ f ext. (let less = s.less in omega (arith, less, before, behind_));
           }
       | inr off ↦
-          level_row p pt h.phases l ps w (first_smooth p v l i is h.front (plain_one p v i t h.told (foreign_not p t off)) refl (frozen_off v q)) (tt, (refl, tt)) rest (λ f. refl) refl
-          (λ y. level_still p pt h.phases l w (λ m. other_still p q v.known v.acting x off m) rest y) g ids opens
+          level_row p pt h.phases l ps w (first_smooth p v l i is h.front (plain_one p v i t h.told (foreign_not p t off)) refl (frozen_off v q h.topic)) (tt, (refl, tt)) rest (λ f. refl) refl
+          (λ y. level_still p pt h.phases l w (λ m. ap is_moving (at_ m) ∙ other_still p q v.known v.acting x off m) rest y) g ids opens
     ]
   where
     foreign_not : (r : Pid) (s : Told) → pid_eq r s.receiver ≡ false → asks_for r s ≡ false

@@ -7,6 +7,7 @@ use Rattle.dm_onekernel.specs.Step as kernel
 use Rattle.dm_rule.specs.View as view
 pub use Rattle.dm_rule.proofs.Moves.Rows.{proto_off}
 pub use Rattle.dm_rulelaws.proofs.Found.Parts.{own_fresh as own_untold}
+use Rattle.dm_movelaws.proofs.Names.{about_off, About}
 
 abbrev pub is_migrate : MessageKind → Bool
 is_migrate MessageKind.Migrate = true
@@ -149,7 +150,12 @@ label_smooth p pt s (Label.Took id) h is = hushed_smooth p pt.view (Line.Label (
 label_smooth p pt s (Label.Created id q) h is =
     hushed_smooth p pt.view (Line.Label (Label.Created id q)) id refl (gone_plain p pt s (Label.Created id q) id h is refl) (λ j e z. ap (times j) (created_off pt.view id q z) ∙ handled_spots pt.view id j e z)
 label_smooth p pt s (Label.NoSpace id a b) h is = hushed_smooth p pt.view (Line.Label (Label.NoSpace id a b)) id refl (gone_plain p pt s (Label.NoSpace id a b) id h is refl) (λ j e z. handled_spots pt.view id j e z)
+label_smooth p pt s (Label.Asked id) h is = hushed_smooth p pt.view (Line.Label (Label.Asked id)) id refl (gone_plain p pt s (Label.Asked id) id h is refl) (λ j e z. handled_spots pt.view id j e z)
 label_smooth p pt s _ h is = smooth_same p pt.view
+
+-- the topic moves no message
+pub smooth_about : (p : Pid) (v w : View) (a : About) → Smooth p v w → Smooth p v (view.about w a)
+smooth_about p v w a h = smooth_trans p v w (view.about w a) h (smooth_still p w (view.about w a) (λ i. refl) (λ i z. ap (times i) (about_off w a z)))
 
 -- a message of a migration that is no step of it
 pub line_smooth : (p : Pid) (pt : Point) (s : OneKernel) (l : Line) → Sane pt → QuietLine p pt.view l → kernel_after pt.kernel (label_of l) ≡ Some s → Smooth p pt.view (view_after pt.view l)

@@ -6,6 +6,8 @@ use Rattle.dm_movelaws.proofs.Ends.Lines.{Somewhere, Smooth, Still, smooth_same,
 use Rattle.dm_movelaws.proofs.Ends.Parts.{packet_smooth, part_count, none_count}
 use Rattle.dm_movelaws.proofs.Leading.{Saying, net_says, net_lead}
 pub use Rattle.dm_rule.proofs.Moves.Lists.{zero_cases}
+use Rattle.dm_movelaws.proofs.Names.{moved}
+use Rattle.dm_movelaws.proofs.Ends.Lines.{smooth_about}
 
 pub head_smooth : (p : Pid) (v : View) (s : Step) → Smooth p v (after_head v s)
 head_smooth p v s = grind (arith, nat_tests, smooth_still, turn_off, tick_off, deliver_off, migrate_off)
@@ -109,7 +111,7 @@ level_packet p v q a b k l h = record { smooth = smooth_trans p v q.view (view_a
 
 pub net_level : (p : Pid) (ps : List Part) (pt : Point) (w : Spelled) → IsNet ps → spelled pt ps ≡ Some w → Level p pt.view w.point.view
 net_level p ps pt w net is = net_lead (λ q. Level p pt.view q.view) (level_packet p pt.view)
-    (λ q s l line h. record { smooth = smooth_trans p pt.view q.view (view_after q.view l) h.smooth (net_smooth p q.view l line); still = still_trans p pt.view q.view (view_after q.view l) h.still (net_still p q.view l line) })
+    (λ q s l line h. record { smooth = smooth_about p pt.view (view_after q.view l) (moved q l s).view.topic (smooth_trans p pt.view q.view (view_after q.view l) h.smooth (net_smooth p q.view l line)); still = still_trans p pt.view q.view (view_after q.view l) h.still (net_still p q.view l line) })
     ps pt w net is (record { smooth = smooth_same p pt.view; still = λ m. refl })
 
 -- and their lines are no directives and end no request

@@ -5,10 +5,13 @@ use Rattle.dm_movelaws.proofs.Names.{part_sane, put_spots, put_at, Needs, NeedsP
 use Rattle.dm_movelaws.proofs.Names.{loose_handles, by_forwards, goes_round, handles}
 use Rattle.dm_movelaws.proofs.Ends.Lines.{asks_for, is_migrate, plain_not, Extends, Smooth, Still, Plain, smooth_same, smooth_trans, smooth_others, moves_none, plain_in_bag, own_untold, Tame, QuietLine, tame_plain, line_smooth}
 use Rattle.dm_movelaws.proofs.Ends.Lines.{still_same, still_trans, line_still, quiet_ends}
-use Rattle.dm_movelaws.proofs.Leading.{All, Behind, part_leads, lines_are}
+use Rattle.dm_movelaws.proofs.Leading.{All, Behind, part_leads, lines_are, fits_about}
 use Rattle.dm_rule.specs.View as view
 use Rattle.dm_rule.specs.Rule as rule
 pub use Rattle.dm_rule.proofs.Phases.Lines.{first_kept}
+use Rattle.dm_movelaws.proofs.Names.{moved, About, PlainWhat}
+use Rattle.dm_movelaws.proofs.Ends.Lines.{smooth_about}
+use Rattle.dm_movelaws.proofs.Names.{Label, Here, leaves_for}
 
 -- a put of a message that is no request to move this process
 first_plain : (p : Pid) (o : Option Told) (k : MessageKind) (q : Pid) (a : view.About) (t : Told) → Some (view.first_told o (record { kind = k; receiver = q; about = a })) ≡ Some t → (is_migrate k && pid_eq p q) ≡ false → ((u : Told) → o ≡ Some u → asks_for p u ≡ false)
@@ -66,14 +69,17 @@ put_rest p v b i k q fits e plain = record { smooth = put_smooth p v v.acting b 
 says_rest : (p : Pid) (pt : Point) (s : OneKernel) (l : Line) → Sane pt → PairsFit pt.view → QuietLine p pt.view l → Needs pt l → kernel_after pt.kernel (label_of l) ≡ Some s → Rest p pt.view (view_after pt.view l)
 says_rest p pt s l h fits quiet need step = search (line_smooth, line_still, fits_as, pair_same, quiet_touches)
 
+rest_about : (p : Pid) (v w : View) (a : About) → Rest p v w → Rest p v (view.about w a)
+rest_about p v w a h = record { smooth = smooth_about p v w a h.smooth; still = h.still; fits = fits_about w a h.fits }
+
 untold_plain : (p : Pid) (v : View) (i : MsgId) → v.told i ≡ None → Plain p v i
 untold_plain p v i none t told = absurd (let f : None ≡ Some t = sym none ∙ told in cc)
 
 pub first_off : (b c : Bool) → b ≡ false → (b && c) ≡ false
 first_off b c e = ap (λ (x : Bool). x && c) e
 
-rest_behind : (p : Pid) (pt : Point) (x : Part) → Sane pt → PairsFit pt.view → Quiet p pt.view x → NeedsPart pt x → Behind (λ q. Rest p pt.view q.view) pt x
-rest_behind p pt (Says l) h fits quiet need = λ s step. says_rest p pt s l h fits quiet need step
+pub rest_behind : (p : Pid) (pt : Point) (x : Part) → Sane pt → PairsFit pt.view → Quiet p pt.view x → NeedsPart pt x → Behind (λ q. Rest p pt.view q.view) pt x
+rest_behind p pt (Says l) h fits quiet need = λ s step. rest_about p pt.view (view_after pt.view l) (moved pt l s).view.topic (says_rest p pt s l h fits quiet need step)
 rest_behind p pt (Routes i) h fits quiet need = λ m there. put_rest p pt.view _ i (plain_kind m.what) m.to fits (first_off (is_migrate (plain_kind m.what)) (pid_eq p m.to) (plain_not m.what)) (plain_in_bag p pt i m h there)
 rest_behind p pt (Again i b) h fits quiet need = λ t there. put_rest p pt.view b i t.kind t.receiver fits (tame_plain p pt.view i quiet t there) (tame_plain p pt.view i quiet)
 rest_behind p pt (Owns k q b) h fits quiet need = put_rest p pt.view b (own_id pt.view) k q fits quiet (untold_plain p pt.view (own_id pt.view) (own_untold pt h))
@@ -149,7 +155,11 @@ pub told_quiet : (p : Pid) (v : View) (c : Bool) (q : Pid) (to : ℕ) → AllQui
 told_quiet p v c q to = grind (arith, nat_tests)
 
 -- a message of the bag, at the front of the inbox
-pub handles_quiet : (p : Pid) (v : View) (b : Boot) (o : Point) (m : ℕ) (id : MsgId) (msg : PlainMessage) (ps : List Part) → Tame p v id → rule.handles b o m id msg ≡ Some ps → AllQuiet p v ps
+pub data Handled (p : Pid) (v : View) (o : Point) (m : ℕ) (id : MsgId) (msg : PlainMessage) (ps : List Part) : Type 0 where
+  Quiets : AllQuiet p v ps → Handled p v o m id msg ps
+  SetsOff : (to : ℕ) → o.view.known m msg.to ≡ Here → msg.what ≡ PlainWhat.Move to → ps ≡ rule.says (Label.Asked id) ∷ leaves_for msg.to to → Handled p v o m id msg ps
+
+pub handles_quiet : (p : Pid) (v : View) (b : Boot) (o : Point) (m : ℕ) (id : MsgId) (msg : PlainMessage) (ps : List Part) → Tame p v id → rule.handles b o m id msg ≡ Some ps → Handled p v o m id msg ps
 handles_quiet p v b o m id msg ps h e =
-    loose_handles (AllQuiet p v) (AllQuiet p v) (quiet_loose p v) (λ qs k. k) b o m id msg ps (λ here. (h, tt)) (h, tt)
-    (λ to moves at_. by_forwards (AllQuiet p v) o.addresses id (plain_kind msg.what) msg.sender to (h, (h, tt)) (h, (h, (refl, tt)))) e
+    loose_handles (Handled p v o m id msg) (AllQuiet p v) (quiet_loose p v) (λ qs k. Quiets k) b o m id msg ps (λ here. Quiets (h, tt)) (Quiets (h, tt)) (λ to here what apart. SetsOff to here.known what refl)
+    (λ to moves at_. Quiets (by_forwards (AllQuiet p v) o.addresses id (plain_kind msg.what) msg.sender to (h, (h, tt)) (h, (h, (refl, tt))))) e

@@ -10,6 +10,8 @@ use Rattle.dm_movelaws.proofs.Ends.Open.{Opens, IsOpen, Closes, Balance, level_b
 pub use Rattle.dm_rule.proofs.Phases.Answers.{about_same}
 pub use Rattle.dm_rulelaws.proofs.Goes.Always.{stands_first as front_one}
 pub use Rattle.dm_rule.proofs.Phases.Pieces.{and_false as and_off}
+use Rattle.dm_movelaws.proofs.Names.{seen_none, NothingElse}
+use Rattle.dm_movelaws.proofs.Leading.{line_fits}
 
 -- behind the head of a turn: the message at the front, and all that stands there
 pub record Turn (pt : Point) (i : MsgId) (is : List MsgId) (t : Told) : Type 0 where
@@ -19,6 +21,7 @@ pub record Turn (pt : Point) (i : MsgId) (is : List MsgId) (t : Told) : Type 0 w
   pub sane : Sane pt
   pub fits : PairsFit pt.view
   pub phases : InPhases pt.view
+  pub topic : pt.view.topic ≡ NothingElse
 
 -- what comes of the turn
 abbrev pub Comes : Pid → (pt : Point) → InPhases pt.view → List Part → Spelled → Type 0
@@ -53,8 +56,9 @@ line_then p pt l ps w none quiet calm sane fits q walks e =
     let n = line_next pt l ps w none e in
     let next = moved pt l pt.kernel in
     let leads : after_line pt l ≡ Some next = ap (λ (o : Option Label). bind (kernel_after pt.kernel o) (λ (s : OneKernel). Some (moved pt l s))) none in
-    let there = settled_same p next (sane_line pt next l quiet leads sane) (fits_as pt.view next.view (pair_same pt.view l calm) fits) in
-    subst (λ (x : Point). Settled p next.view x) n.point (parts_settle p ps next.view next n.rest q walks there n.more)
+    let same : next.view ≡ view_after pt.view l = seen_none pt.kernel pt.view l none in
+    let there = settled_same p next (sane_line pt next l quiet leads sane) (line_fits pt pt.kernel l calm fits) in
+    subst (λ (v : View). Settled p v w.point) same (subst (λ (x : Point). Settled p next.view x) n.point (parts_settle p ps next.view next n.rest (subst (λ (v : View). AllQuiet p v ps) (sym same) q) walks there n.more))
 
 pub line_alone : (pt : Point) (l : Line) (w : Spelled) → label_of l ≡ None → spelled pt (Says l ∷ []) ≡ Some w → moved pt l pt.kernel ≡ w.point
 line_alone pt l w none e = let n = line_next pt l [] w none e in said (moved pt l pt.kernel) n.rest n.more ∙ n.point

@@ -4,6 +4,8 @@ use Rattle.dm_movelaws.proofs.Names.{after_put, Point, Part, Spelled, spelled, g
 use Rattle.dm_movelaws.proofs.Ends.Lines.{Extends, told_by}
 use Rattle.dm_movelaws.proofs.Ends.Parts.{first_kept}
 use Rattle.dm_movelaws.proofs.Leading.{All, Behind, whatever_put, parts_lead, Saying, outcome_says}
+use Rattle.dm_movelaws.proofs.Names.{moved, About}
+use Rattle.dm_rule.specs.View as view
 
 -- nothing was routed from another machine
 abbrev pub Sources : ℕ → View → Type 0
@@ -52,9 +54,12 @@ Goes = Saying IsSaid
 acts_packet : (n : ℕ) (f : MsgId → Option Told) → PacketsKeep (λ q. Acts n f q.view)
 acts_packet n f q a b k l h = line_acts n f q.view (Line.Packet a b k l) refl refl h
 
+acts_about : (n : ℕ) (f : MsgId → Option Told) (v : View) (a : About) → Acts n f v → Acts n f (view.about v a)
+acts_about n f v a h = record { acting = h.acting; sources = h.sources; grows = h.grows }
+
 acts_behind : (n : ℕ) (f : MsgId → Option Told) (pt : Point) (p : Part) → Goes p → Acts n f pt.view → Behind (λ q. Acts n f q.view) pt p
 acts_behind n f pt p ok h =
-    whatever_put (λ q. Acts n f q.view) pt p (λ l is s step. let k = subst Goes is ok in line_acts n f pt.view l k.0 k.1 h) (λ b i k q. put_acts n f pt.view b i k q h) h
+    whatever_put (λ q. Acts n f q.view) pt p (λ l is s step. let k = subst Goes is ok in acts_about n f (view_after pt.view l) (moved pt l s).view.topic (line_acts n f pt.view l k.0 k.1 h)) (λ b i k q. put_acts n f pt.view b i k q h) h
 
 parts_act : (n : ℕ) (f : MsgId → Option Told) (ps : List Part) (pt : Point) (w : Spelled) → All Goes ps → spelled pt ps ≡ Some w → Acts n f pt.view → Acts n f w.point.view
 parts_act n f = parts_lead (λ q. Acts n f q.view) (acts_packet n f) Goes (acts_behind n f)

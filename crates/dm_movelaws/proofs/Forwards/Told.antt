@@ -86,7 +86,7 @@ round_form b o m ps e = Nothing (loose_round (λ xs. forwards_of xs ≡ []) quie
 
 handles_form : (b : Boot) (o : Point) (m : ℕ) (id : MsgId) (is : List MsgId) (msg : PlainMessage) (ps : List Part) → o.view.inbox m ≡ id ∷ is → o.kernel.bag id ≡ Some msg → rule.handles b o m id msg ≡ Some ps → Form o (Step.Turn m) ps
 handles_form b o m id is msg ps box there = loose_handles (Form o (Step.Turn m)) (λ xs. forwards_of xs ≡ []) quiet_loose (λ xs. Nothing) b o m id msg ps (λ here. Nothing refl) (Nothing refl)
-    (λ to moves at_. Plain (record { machine = m; acts = refl; id = id; rest = is; box = box; message = msg; there = there; to = to; moves = moves; known = at_.known; are = refl }))
+    (λ to here what apart. Nothing refl) (λ to moves at_. Plain (record { machine = m; acts = refl; id = id; rest = is; box = box; message = msg; there = there; to = to; moves = moves; known = at_.known; are = refl }))
 
 hears_form : (b : Boot) (o : Point) (m : ℕ) (id : MsgId) (ps : List Part) → o.kernel.bag id ≡ None → rule.hears b o m id (o.view.told id) ≡ Some ps → Form o (Step.Turn m) ps
 hears_form b o m id ps none = by_hears (Form o (Step.Turn m)) b o m id (o.view.told id) ps (λ t told. record {

@@ -4,6 +4,8 @@ use Rattle.dm_movelaws.proofs.Names.{after_line, after, at_record, View, Told, v
 use Rattle.dm_movelaws.proofs.Names.{migrates, hears, by_migrates, IsHeardLine, Kept, kept_forward, hears_kept, PlainMessage, goes_round, handles, Loose, loose_round, loose_handles, nat_tests, arith}
 use Rattle.dm_movelaws.proofs.Leading.{All, lines_are, Saying, net_says}
 use Rattle.dm_rule.specs.View as view
+use Rattle.dm_movelaws.proofs.Names.{sets}
+use Rattle.dm_movelaws.proofs.Names.{seen}
 
 -- what is queued is so
 abbrev pub LineOk : (MsgId → Type 0) → Line → Type 0
@@ -61,7 +63,8 @@ head_queue : (v : View) (d : Step) → (view.after_head v d).queue ≡ v.queue
 head_queue v d = grind (arith, nat_tests)
 
 stage_queue : (v : View) (p : Pid) (s : Stage) → (view.after_stage v p s).queue ≡ v.queue
-stage_queue v p s = grind (arith, nat_tests)
+stage_queue v p Stage.Frozen = (sets v p v.topic).queue
+stage_queue v p _ = refl
 
 served_queue : (v : View) (o : Option Told) → (view.served_told v o).queue ≡ v.queue
 served_queue v o = grind (arith, nat_tests, killed_or)
@@ -106,7 +109,7 @@ lines_queues : (before : View) (ls : List Line) (pt next : Point) → LinesOk (F
 lines_queues before [] pt next ok e h = let f : pt ≡ next = cc in subst (λ (q : Point). NoQueues before q.view) f h
 lines_queues before (l ∷ ls) pt next ok e h =
     let (mid, first, rest) = bind-is (after_line pt l) (λ (q : Point). after q ls) next e in
-    lines_queues before ls mid next ok.1 rest (subst (NoQueues before) (sym (line_view pt mid l first)) (line_queues before pt.view l ok.0 h))
+    lines_queues before ls mid next ok.1 rest (subst (NoQueues before) (sym (line_view pt mid l first)) (same_queues before (view_after pt.view l) (seen pt.kernel pt.view l) refl refl (line_queues before pt.view l ok.0 h)))
 
 -- what a part says
 part_ok : (ok : MsgId → Type 0) (pt : Point) (p : Part) (ls : List Line) → PartOk ok p → lines_of pt p ≡ Some ls → LinesOk ok ls
@@ -122,7 +125,7 @@ ok_line ok (Line.Queued i) h = absurd h
 ok_line ok _ h = tt
 
 ok_kept : (ok : MsgId → Type 0) → Kept (AllOk ok)
-ok_kept ok = record { none = tt; says = λ l ps h k. (ok_line ok l h, k); again = λ i to ps k. (tt, k); owns = λ k q to ps h. (tt, h) }
+ok_kept ok = record { none = tt; says = λ l ps h k. (ok_line ok l h, k); again = λ i to ps k. (tt, k); owns = λ k q to ps h. (tt, h); answers = λ i r. (tt, (tt, tt)) }
 
 pub forwards_ok : (ok : MsgId → Type 0) (a : Addresses) (id : MsgId) (k : MessageKind) (sender : Pid) (to : ℕ) → AllOk ok (forwards_on a id k sender to)
 forwards_ok ok a id k sender to = kept_forward (AllOk ok) (ok_kept ok) a id k sender to
@@ -141,5 +144,5 @@ round_ok ok b pt m o ps e = loose_round (AllOk ok) (ok_loose ok) b pt m o ps (tt
 
 pub handles_ok : (ok : MsgId → Type 0) (b : Boot) (pt : Point) (m : ℕ) (id : MsgId) (msg : PlainMessage) (ps : List Part) → (is_server msg.to ≡ false → ok id) → handles b pt m id msg ≡ Some ps → AllOk ok ps
 handles_ok ok b pt m id msg ps need e =
-    loose_handles (AllOk ok) (AllOk ok) (ok_loose ok) (λ qs h. h) b pt m id msg ps (λ here. (need here.process, tt)) (tt, tt)
+    loose_handles (AllOk ok) (AllOk ok) (ok_loose ok) (λ qs h. h) b pt m id msg ps (λ here. (need here.process, tt)) (tt, tt) (λ to here what apart. (tt, (tt, (tt, (tt, tt)))))
     (λ to moves at_. forwards_ok ok pt.addresses id (plain_kind msg.what) msg.sender to) e

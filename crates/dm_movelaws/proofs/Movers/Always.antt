@@ -8,18 +8,19 @@ use Rattle.dm_movelaws.proofs.Movers.Says.{other_end, Begins, StatusSays, Says, 
 use Rattle.dm_movelaws.proofs.Movers.Rows.{GoneEnded, step_gone, memory_end, step_says}
 use Rattle.dm_movelaws.proofs.After.{keeps_always}
 use Rattle.dm_onekernel.specs.Step as kernel
+use Rattle.dm_movelaws.proofs.Names.{InOrder, step_constant}
 
 -- a run
-replay_says : (ls : List Label) (r e : MsgId → ℕ) (s t : OneKernel) → replay s ls ≡ Some t → KernelFits s → Sound r e s → AllSay s × GoneEnded s → AllSay t × GoneEnded t
-replay_says [] r e s t is fits sound h = let f : s ≡ t = cc in subst (λ (x : OneKernel). AllSay x × GoneEnded x) f h
-replay_says (l ∷ ls) r e s t is fits sound h =
+replay_says : (ls : List Label) (r e : MsgId → ℕ) (s t : OneKernel) → replay s ls ≡ Some t → KernelFits s → InOrder s.manager → Sound r e s → AllSay s × GoneEnded s → AllSay t × GoneEnded t
+replay_says [] r e s t is fits order sound h = let f : s ≡ t = cc in subst (λ (x : OneKernel). AllSay x × GoneEnded x) f h
+replay_says (l ∷ ls) r e s t is fits order sound h =
     let (u, first, rest) = bind-is (kernel.step s l) (λ (x : OneKernel). replay x ls) t is in
-    let next = fits_step r e s u l first sound fits in
+    let next = fits_step r e s u l first sound order fits in
     let after = after_step r e s u l first sound in
-    replay_says ls (λ i. r i + reception i l) (λ i. e i + entry i s u) u t rest next after.sound (step_says r e s u l first sound next h.0, step_gone s u l first after.grown h.1)
+    replay_says ls (λ i. r i + reception i l) (λ i. e i + entry i s u) u t rest next ((step_constant s u l first).pending order) after.sound (step_says r e s u l first sound next h.0, step_gone s u l first after.grown h.1)
 
 says_on : (b : Boot) (pt : Point) (d : Step) (w : Spelled) → group_of b pt d ≡ Some w → Based b pt → AllSay pt.kernel × GoneEnded pt.kernel → AllSay w.point.kernel × GoneEnded w.point.kernel
-says_on b pt d w is based h = let sane = based.phased.sane in replay_says (labels w.lines) sane.r sane.e pt.kernel w.point.kernel (group_replay b pt d w is) based.fits sane.sound h
+says_on b pt d w is based h = let sane = based.phased.sane in replay_says (labels w.lines) sane.r sane.e pt.kernel w.point.kernel (group_replay b pt d w is) based.fits based.pending sane.sound h
 
 -- one of the two
 pair_one : (a b : Option PlainMessage) → One a b → in_bag a + in_bag b ≡ 1

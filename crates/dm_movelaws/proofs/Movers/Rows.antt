@@ -10,6 +10,7 @@ use Rattle.dm_onekernel.specs.Calls as calls
 use Rattle.dm_onekernel.specs.Pieces as pieces
 use Rattle.dm_onekernel.specs.Service as service
 use Rattle.dm_onekernel.specs.Step as kernel
+use Rattle.dm_movelaws.proofs.Names.{answer_id, Outcome, without_note}
 
 -- what a call sends: no message of a data move, or the request for its first piece
 abbrev CallSends : Pid → Called → Type 0
@@ -81,6 +82,19 @@ lands_sends p x m st c e = grind (arith, nat_tests, if_lands_what)
 pub memory_end : (m : PlainMessage) (w : PlainWhat) → is_of_memory w ≡ true → other_end m w ≡ Some m.to
 memory_end m w e = grind (arith, nat_tests)
 
+-- the answer of a receiver that has ended
+gone_says : (s : OneKernel) (id : MsgId) (m : PlainMessage) (v : PlainWhat) → m.id ≡ id → s.bag id ≡ Some m → (w : PlainWhat) → m.what ≡ w → service.gone_what w ≡ Some v → AllSay s → AllSay (with_sent (without_message s id) (Some (answer_to m v)))
+gone_says s id m v name there (PlainWhat.Read base len) is e h =
+    let f : PlainWhat.Gone ≡ v = cc in
+    subst (λ (x : PlainWhat). AllSay (with_sent (without_message s id) (Some (answer_to m x)))) f (answer_says (without_message s id) id m PlainWhat.Gone name (h id m m.to there (memory_end m m.what (ap is_of_memory is))) refl (λ a b. tt) (out_says s id h))
+gone_says s id m v name there (PlainWhat.Write base bytes) is e h =
+    let f : PlainWhat.Gone ≡ v = cc in
+    subst (λ (x : PlainWhat). AllSay (with_sent (without_message s id) (Some (answer_to m x)))) f (answer_says (without_message s id) id m PlainWhat.Gone name (h id m m.to there (memory_end m m.what (ap is_of_memory is))) refl (λ a b. tt) (out_says s id h))
+gone_says s id m v name there (PlainWhat.Move machine) is e h =
+    let f : PlainWhat.Moved Outcome.Ended ≡ v = cc in
+    subst (λ (x : PlainWhat). AllSay (with_sent (without_message s id) (Some (answer_to m x)))) f (other_says (without_message s id) (answer_to m (PlainWhat.Moved Outcome.Ended)) refl (out_says s id h))
+gone_says s id m v name there _ is e h = cc
+
 -- what a server sends
 server_says : (u : OneKernel) (p : Pid) (o : Option PlainMessage) (n after : ℕ) → ServerSends p n o after → AllSay u → AllSay (with_sent u o)
 server_says u p o n after sends h = grind (arith, nat_tests, other_says)
@@ -113,7 +127,9 @@ step_says r e s t l is_ sound =
       receives = λ p id y is w c fits h. still_says (without_message s id) p y w.is.1 (out_says s id h);
       refuses = λ p id c d y is w f fits h. still_says s p y w.is.1 h;
       dropped = λ id m y is w f fits h. out_says s id h;
-      gone = λ id m y is w f fits h. answer_says (without_message s id) id m PlainWhat.Gone (sound.entered.named id m w.there) (h id m m.to w.there (memory_end m m.what f)) refl (λ a b. tt) (out_says s id h);
+      gone = λ id m y is w v f fits h. gone_says s id m v (sound.entered.named id m w.there) w.there m.what refl f h;
+      asked = λ id m x machine is w f fits h. out_says s id h;
+      answered = λ id o p n is f fits h. other_says (without_note s p id) (record { id = answer_id id; to = n.asker; sender = p; what = PlainWhat.Moved o }) refl h;
       stops = λ id m x b is w f fits h. same_says (without_message s id) m.to x (record x { stopped = b }) w.alive refl (out_says s id h);
       kills = λ id m x is w f fits h. ended_says (without_message s id) m.to Why.Killed (out_says s id h);
       reads = λ id m x base len is w f fits h. answered id m x x (PlainWhat.Block (take len (drop base x.memory))) w refl (ap (other_end m) f) refl (λ a b. tt) h;
@@ -170,7 +186,9 @@ step_came s t l = by_step (Came s) s t l (record {
   receives = λ p id y is w c i z there. inl (stayed s id i z there);
   refuses = λ p id c d y is w e i z there. inl there;
   dropped = λ id m y is w e i z there. inl (stayed s id i z there);
-  gone = λ id m y is w e. put_came s (without_message s id) (answer_to m PlainWhat.Gone) (stayed s id) (λ g. (y, w.ended));
+  gone = λ id m y is w v e. put_came s (without_message s id) (answer_to m v) (stayed s id) (λ g. (y, w.ended));
+  asked = λ id m x machine is w e i z there. inl (stayed s id i z there);
+  answered = λ id o p n is f. put_came s (without_note s p id) (record { id = answer_id id; to = n.asker; sender = p; what = PlainWhat.Moved o }) (λ i x there. there) (λ g. cc);
   stops = λ id m x b is w e i z there. inl (stayed s id i z there);
   kills = λ id m x is w e i z there. inl (stayed s id i z there);
   reads = λ id m x base len is w e. put_came s (service.changed s id m x) (answer_to m (PlainWhat.Block (take len (drop base x.memory)))) (stayed s id) (λ g. cc);

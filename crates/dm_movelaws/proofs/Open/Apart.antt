@@ -13,6 +13,7 @@ use Rattle.dm_onekernel.specs.Step as kernel
 use Rattle.dm_rule.specs.Rule as rule
 pub use Rattle.dm_rule.proofs.Apart.Groups.{kernel_same}
 pub use Rattle.dm_rulelaws.proofs.Goes.Own.{source_knows}
+use Rattle.dm_movelaws.proofs.Open.Fine.{AnswersAnother, AnswersIf}
 
 -- what moves hasn't ended
 leaving_not : (k : MessageKind) (d : ℕ) (n : Known) (y : Why) → kind_leaves k d n ≡ true → is_restart k ≡ false → agrees n (Some (Ended y)) ≡ true → ⊥
@@ -112,13 +113,16 @@ outcome_apart b pt (Step.Tick m) y h child off = (tt, net_apart y (rule.resends 
 outcome_apart b pt (Step.Deliver a c k) y h child off = search (apart_first, net_apart, arrives_net)
 outcome_apart b pt (Step.Migrate p m) y h child off = apart_first pt.kernel y (migrates pt p) (migrates_apart y pt p)
 
+pub moving_off : (pt : Point) (y : Pid) (k : MessageKind) (s t : ℕ) (o : Option MsgId) → IsIn pt.view y (Moves k s t o) → (m : ℕ) (p : Pid) → pt.view.known m p ≡ Here → p ≢ y
+moving_off pt y k s t o phase m p here is = false≢true (sym (moves_away k s t m o (s == m) (t == m) refl refl) ∙ sym (ap (knows (Moves k s t o) m) (ap (pt.view.known m) (sym is) ∙ here)) ∙ phase.known m)
+
 pub moving_alone : (b : Boot) (pt : Point) (d : Step) (w : Spelled) (y : Pid) (k : MessageKind) (s t : ℕ) (o : Option MsgId) → Rooted pt → IsIn pt.view y (Moves k s t o) → group_of b pt d ≡ Some w → AllAlone y pt w.lines
 moving_alone b pt d w y k s t o h phase e =
     group_alone b pt d w y
     (outcome_apart b pt d y h
     (λ m is. moves_known k s t o (nowhere_known (Moves k s t o)
     (λ j. sym (ap (knows (Moves k s t o) j) (ap (pt.view.known j) (sym is) ∙ h.unborn m j)) ∙ phase.known j)))
-    (λ m p here is. false≢true (sym (moves_away k s t m o (s == m) (t == m) refl refl) ∙ sym (ap (knows (Moves k s t o) m) (ap (pt.view.known m) (sym is) ∙ here)) ∙ phase.known m))) e
+    (moving_off pt y k s t o phase)) e
 
 -- somewhere among the lines
 pub record Alone (y : Pid) (pt mid : Point) (ls : List Line) : Type 0 where
@@ -135,5 +139,6 @@ alone_rest y (x ∷ xs) ys pt mid h e =
     record { rest = k.rest; same = k.same ∙ sym (ap (λ (q : Point). q.kernel.processes y) f) ∙ kernel_same pt.kernel s y (label_of x) h.0 is }
 
 -- a step that spares a living process takes no message for it
-pub anothers_if : (s t : OneKernel) (y : Pid) (o : Option Label) → is_fixed y ≡ false → ((z : Why) → s.processes y ≡ Some (Ended z) → ⊥) → Spares s y o → kernel_after s o ≡ Some t → IsAnothersIf s y o
-anothers_if s t y o free lives h e = grind (arith, nat_tests)
+pub anothers_if : (s t : OneKernel) (y : Pid) (o : Option Label) → is_fixed y ≡ false → ((z : Why) → s.processes y ≡ Some (Ended z) → ⊥) → AnswersIf s y o → Spares s y o → kernel_after s o ≡ Some t → IsAnothersIf s y o
+anothers_if s t y (Some (Label.Answered id r)) free lives fine h e = fine
+anothers_if s t y o free lives fine h e = grind (arith, nat_tests)

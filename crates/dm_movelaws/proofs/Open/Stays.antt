@@ -4,12 +4,13 @@ use Rattle.dm_movelaws.proofs.Names.{Line, Spelled, Phase, Moves, IsIn, Point, l
 use Rattle.dm_movelaws.proofs.Names.{both_group, after_replay, Run, run_start, run_group, IsAnothersIf, OpenStays, Mark, marks, kind_leaves, append_assoc, start, replay, with_label, labels, labels-append, replay-append, AllOpen, OpenKeeps}
 use Rattle.dm_movelaws.proofs.Names.{nat_tests, arith}
 use Rattle.dm_movelaws.proofs.After.{after-append, group_after}
-use Rattle.dm_movelaws.proofs.Open.Apart.{AllAlone, moving_alone, kernel_same, alone_rest, anothers_if, source_knows, moving_lives}
+use Rattle.dm_movelaws.proofs.Open.Apart.{AllAlone, moving_off, moving_alone, kernel_same, alone_rest, anothers_if, source_knows, moving_lives}
 use Rattle.dm_movelaws.proofs.Open.Moves.{open_is, none_due, start_mark}
-use Rattle.dm_movelaws.proofs.Open.Quiet.{AllQuiet, group_or}
+use Rattle.dm_movelaws.proofs.Open.Quiet.{Shut, group_shut, shut_at}
 use Rattle.dm_movelaws.proofs.Stages.Always.{group_marked}
 use Rattle.dm_movelaws.proofs.Stages.Marks.{open_after, open-append, marks-append}
 use Rattle.dm_movelaws.proofs.Stages.Spares.{mark_in}
+use Rattle.dm_movelaws.proofs.Open.Fine.{Fine, group_fine, fine_at}
 
 -- a line behind others, from some point on
 record At (pt : Point) (earlier : List Line) (l : Line) (p : Pid) : Type 0 where
@@ -41,54 +42,42 @@ meets (x ∷ xs) ys l pt end e =
 leaves_free : (n : ℕ) (v : View) (m : ℕ) (p : Pid) (k : MessageKind) (d : ℕ) (x : Known) → kind_leaves k d x ≡ true → KnownIs n v m p x → is_fixed p ≡ false
 leaves_free n v m p k d x e h = grind (arith, nat_tests)
 
-moving_at : (b : Boot) (pt : Point) (d : Step) (w : Spelled) (p : Pid) (k : MessageKind) (s t : ℕ) (id : Option MsgId) (earlier g : List Line) (l : Line) → Run b pt → IsIn pt.view p (Moves k s t id) → group_of b pt d ≡ Some w → w.lines ≡ earlier ++ l ∷ g → At pt earlier l p
-moving_at b pt d w p k s t id earlier g l run phase e split =
+moving_at : (b : Boot) (pt : Point) (d : Step) (w : Spelled) (p : Pid) (k : MessageKind) (s t : ℕ) (id : Option MsgId) (earlier g : List Line) (l : Line) → Run b pt → IsIn pt.view p (Moves k s t id) → group_of b pt d ≡ Some w → w.lines ≡ earlier ++ l ∷ g → is_some (open_after (mark_in (Moves k s t id)) (marks p earlier)) ≡ true → At pt earlier l p
+moving_at b pt d w p k s t id earlier g l run phase e split begun =
     let m = meets earlier g l pt w.point (ap (after pt) (sym split) ∙ group_after b pt d w e) in
     let phased = run.based.phased in
     let alone = moving_alone b pt d w p k s t id (rooted pt phased.sane phased.ground) phase e in
     let rest = alone_rest p earlier (l ∷ g) pt m.mid (subst (AllAlone p pt) split alone) m.comes in
+    let fine = fine_at p (mark_in (Moves k s t id)) earlier g l pt m.mid (subst (Fine p pt (mark_in (Moves k s t id))) split (group_fine p (mark_in (Moves k s t id)) b pt d w phased.sane (moving_off pt p k s t id phase) e)) m.comes begun in
     let free = leaves_free pt.kernel.machines pt.view s p k t (pt.view.known s p) (source_knows k s t id (pt.view.known s p) (phase.known s)) (run.kept.known s p) in
     record {
       mid = m.mid;
       comes = m.comes;
       next = m.next;
       goes = m.goes;
-      anothers = anothers_if m.mid.kernel m.next p (label_of l) free (λ y over. moving_lives b pt p k s t id y run phase (sym rest.same ∙ over)) rest.rest.0 m.goes;
+      anothers = anothers_if m.mid.kernel m.next p (label_of l) free (λ y over. moving_lives b pt p k s t id y run phase (sym rest.same ∙ over)) fine rest.rest.0 m.goes;
       same = kernel_same m.mid.kernel m.next p (label_of l) rest.rest.0 m.goes;
     }
 
 -- a group in which a migration begins
-quiet_at : (xs ys : List Line) (l : Line) → AllQuiet (xs ++ l ∷ ys) → label_of l ≡ None
-quiet_at [] ys l h = h.0
-quiet_at (x ∷ xs) ys l h = quiet_at xs ys l h.1
-
-left_none : (xs ys : List Mark) → xs ++ ys ≡ [] → xs ≡ []
-left_none [] ys e = refl
-left_none (x ∷ xs) ys e = cc
-
 kernel_none : (s t : OneKernel) (o : Option Label) (p : Pid) → o ≡ None → kernel_after s o ≡ Some t → t.processes p ≡ s.processes p
 kernel_none s t o p none e = grind (arith, nat_tests)
 
 resting_at : (b : Boot) (pt : Point) (d : Step) (w : Spelled) (p : Pid) (earlier g : List Line) (l : Line) → group_of b pt d ≡ Some w → w.lines ≡ earlier ++ l ∷ g → is_some (open_after None (marks p earlier)) ≡ true → At pt earlier l p
-resting_at b pt d w p earlier g l e split begun = elim (group_or p b pt d w e) [
-  | inl none ↦
-      let f : marks p earlier ++ marks p (l ∷ g) ≡ [] = sym (marks-append p earlier (l ∷ g)) ∙ ap (marks p) (sym split) ∙ none in
-      absurd (false≢true (sym (ap (λ (ms : List Mark). is_some (open_after None ms)) (left_none (marks p earlier) (marks p (l ∷ g)) f)) ∙ begun))
-  | inr quiet ↦
-      let m = meets earlier g l pt w.point (ap (after pt) (sym split) ∙ group_after b pt d w e) in
-      let none = quiet_at earlier g l (subst AllQuiet split quiet) in
-      record {
-        mid = m.mid;
-        comes = m.comes;
-        next = m.next;
-        goes = m.goes;
-        anothers = subst (IsAnothersIf m.mid.kernel p) (sym none) tt;
-        same = kernel_none m.mid.kernel m.next (label_of l) p none m.goes;
-      }
-]
+resting_at b pt d w p earlier g l e split begun =
+    let m = meets earlier g l pt w.point (ap (after pt) (sym split) ∙ group_after b pt d w e) in
+    let none = shut_at p None earlier g l (subst (Shut p None) split (group_shut p b pt d w e)) begun in
+    record {
+      mid = m.mid;
+      comes = m.comes;
+      next = m.next;
+      goes = m.goes;
+      anothers = subst (IsAnothersIf m.mid.kernel p) (sym none) tt;
+      same = kernel_none m.mid.kernel m.next (label_of l) p none m.goes;
+    }
 
 group_at : (b : Boot) (pt : Point) (d : Step) (w : Spelled) (p : Pid) (phase : Phase) (earlier g : List Line) (l : Line) → Run b pt → IsIn pt.view p phase → group_of b pt d ≡ Some w → w.lines ≡ earlier ++ l ∷ g → is_some (open_after (mark_in phase) (marks p earlier)) ≡ true → At pt earlier l p
-group_at b pt d w p (Moves k s t id) earlier g l run h e split begun = moving_at b pt d w p k s t id earlier g l run h e split
+group_at b pt d w p (Moves k s t id) earlier g l run h e split begun = moving_at b pt d w p k s t id earlier g l run h e split begun
 group_at b pt d w p _ earlier g l run h e split begun = resting_at b pt d w p earlier g l e split begun
 
 -- a line is among the first lines or among the others

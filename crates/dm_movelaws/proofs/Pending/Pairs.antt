@@ -5,59 +5,70 @@ use Rattle.dm_movelaws.proofs.Names.{parts, is_pending, out_off, sent_off, manag
 use Rattle.dm_laws.proofs.Entered.{asks}
 use Rattle.dm_onekernel.specs.Manager as manage
 pub use Rattle.dm_rule.proofs.Trails.Spares.{and_no as and_false}
+use Rattle.dm_movelaws.proofs.Names.{Pid, Note, with_note, without_note}
+use Rattle.dm_laws.proofs.Notes.{Notes-agree}
+use Rattle.dm_movelaws.proofs.Names.{⊤}
+use Rattle.dm_movelaws.proofs.Names.{◌≤◌}
+use Rattle.dm_laws.proofs.Entered.{counts}
 
--- a request to make a process, and an answer to one
-abbrev pub is_create : PlainWhat → Bool
-is_create (PlainWhat.Create image links) = true
-is_create w = false
+-- a request to make a process or to move one, and an answer to one
+abbrev pub is_request : PlainWhat → Bool
+is_request (PlainWhat.Create image links) = true
+is_request (PlainWhat.Move machine) = true
+is_request w = false
 
 abbrev pub is_answer : PlainWhat → Bool
 is_answer (PlainWhat.Created child) = true
 is_answer PlainWhat.NoRoom = true
+is_answer (PlainWhat.Moved outcome) = true
 is_answer w = false
 
 pub record Neither (w : PlainWhat) : Type 0 where
-  pub create : is_create w ≡ false
+  pub request : is_request w ≡ false
   pub answer : is_answer w ≡ false
 
-pub neither : (v w : PlainWhat) → v ≡ w → is_create w ≡ false → is_answer w ≡ false → Neither v
-neither v w e c a = record { create = ap is_create e ∙ c; answer = ap is_answer e ∙ a }
+pub neither : (v w : PlainWhat) → v ≡ w → is_request w ≡ false → is_answer w ≡ false → Neither v
+neither v w e c a = record { request = ap is_request e ∙ c; answer = ap is_answer e ∙ a }
 
-abbrev pub Pair : Option PlainMessage → Option PlainMessage → Type 0
-Pair (Some m) None = is_create m.what ≡ true
-Pair None (Some m) = is_answer m.what ≡ true
-Pair None None = ⊥
-Pair (Some m) (Some k) = ⊥
+abbrev pub Pair : Option PlainMessage → Option PlainMessage → Option Pid → Type 0
+Pair (Some m) None None = is_request m.what ≡ true
+Pair None (Some m) None = is_answer m.what ≡ true
+Pair None None (Some p) = ⊤
+Pair a b c = ⊥
 
 abbrev pub answer_of : ℕ → MsgId
 answer_of n = answer_id (id_of manager n)
 
--- each pending request has one of the two
+-- each pending request has one of the two, or is followed
+abbrev pub PairAt : OneKernel → ℕ → Type 0
+PairAt s n = Pair (s.bag (id_of manager n)) (s.bag (answer_of n)) (s.noted (id_of manager n))
+
 abbrev pub Ones : OneKernel → Type 0
-Ones s = (n : ℕ) → is_pending s n ≡ true → Pair (s.bag (id_of manager n)) (s.bag (answer_of n))
+Ones s = (n : ℕ) → is_pending s n ≡ true → PairAt s n
 
 -- a message of another kind is under another name
-no_request : (a b : Option PlainMessage) (m : PlainMessage) → Pair a b → a ≡ Some m → is_create m.what ≡ false → ⊥
-no_request a b m h e off = grind (arith, nat_tests)
+no_request : (a b : Option PlainMessage) (c : Option Pid) (m : PlainMessage) → Pair a b c → a ≡ Some m → is_request m.what ≡ false → ⊥
+no_request a b c m h e off = grind (arith, nat_tests)
 
-no_answer : (a b : Option PlainMessage) (m : PlainMessage) → Pair a b → b ≡ Some m → is_answer m.what ≡ false → ⊥
-no_answer a b m h e off = grind (arith, nat_tests)
+no_answer : (a b : Option PlainMessage) (c : Option Pid) (m : PlainMessage) → Pair a b c → b ≡ Some m → is_answer m.what ≡ false → ⊥
+no_answer a b c m h e off = grind (arith, nat_tests)
 
-pub off_request : (s : OneKernel) (n : ℕ) (id : MsgId) (m : PlainMessage) → Ones s → is_pending s n ≡ true → s.bag id ≡ Some m → is_create m.what ≡ false → id_eq id (id_of manager n) ≡ false
+pub off_request : (s : OneKernel) (n : ℕ) (id : MsgId) (m : PlainMessage) → Ones s → is_pending s n ≡ true → s.bag id ≡ Some m → is_request m.what ≡ false → id_eq id (id_of manager n) ≡ false
 off_request s n id m h p there off =
-    not_true (id_eq id (id_of manager n)) (λ e. no_request (s.bag (id_of manager n)) (s.bag (answer_of n)) m (h n p) (sym (ap s.bag (id_eq-is id (id_of manager n) e)) ∙ there) off)
+    not_true (id_eq id (id_of manager n)) (λ e. no_request (s.bag (id_of manager n)) (s.bag (answer_of n)) (s.noted (id_of manager n)) m (h n p) (sym (ap s.bag (id_eq-is id (id_of manager n) e)) ∙ there) off)
 
 off_answer : (s : OneKernel) (n : ℕ) (id : MsgId) (m : PlainMessage) → Ones s → is_pending s n ≡ true → s.bag id ≡ Some m → is_answer m.what ≡ false → id_eq id (answer_of n) ≡ false
 off_answer s n id m h p there off =
-    not_true (id_eq id (answer_of n)) (λ e. no_answer (s.bag (id_of manager n)) (s.bag (answer_of n)) m (h n p) (sym (ap s.bag (id_eq-is id (answer_of n) e)) ∙ there) off)
+    not_true (id_eq id (answer_of n)) (λ e. no_answer (s.bag (id_of manager n)) (s.bag (answer_of n)) (s.noted (id_of manager n)) m (h n p) (sym (ap s.bag (id_eq-is id (answer_of n) e)) ∙ there) off)
 
 -- under a number two kernels have the same
 pub record Same (s t : OneKernel) (n : ℕ) : Type 0 where
   pub was : is_pending s n ≡ true
   pub request : t.bag (id_of manager n) ≡ s.bag (id_of manager n)
   pub answer : t.bag (answer_of n) ≡ s.bag (answer_of n)
+  pub noted : t.noted (id_of manager n) ≡ s.noted (id_of manager n)
 
-pub by_same : (s t : OneKernel) (n : ℕ) → Ones s → Same s t n → Pair (t.bag (id_of manager n)) (t.bag (answer_of n))
+pub by_same : (s t : OneKernel) (n : ℕ) → Ones s → Same s t n → PairAt t n
 by_same s t n h k = grind (arith, nat_tests)
 
 -- a message goes, or enters under another name
@@ -65,13 +76,13 @@ abbrev pub Off : MsgId → ℕ → Type 0
 Off i n = (id_eq i (id_of manager n) ≡ false) × (id_eq i (answer_of n) ≡ false)
 
 pub off_both : (s : OneKernel) (n : ℕ) (id : MsgId) (m : PlainMessage) → Ones s → is_pending s n ≡ true → s.bag id ≡ Some m → Neither m.what → Off id n
-off_both s n id m h p there w = (off_request s n id m h p there w.create, off_answer s n id m h p there w.answer)
+off_both s n id m h p there w = (off_request s n id m h p there w.request, off_answer s n id m h p there w.answer)
 
 pub out_ones : (s : OneKernel) (id : MsgId) (m : PlainMessage) → s.bag id ≡ Some m → Neither m.what → Ones s → Ones (without_message s id)
 out_ones s id m there w h n p = grind (arith, nat_tests, off_both, by_same, out_off)
 
 pub put_ones : (u : OneKernel) (x : PlainMessage) → ((n : ℕ) → is_pending u n ≡ true → Off x.id n) → Ones u → Ones (with_sent u (Some x))
-put_ones u x off h n p = by_same u (with_sent u (Some x)) n h (record { was = p; request = sent_off u x (id_of manager n) (off n p).0; answer = sent_off u x (answer_of n) (off n p).1 })
+put_ones u x off h n p = by_same u (with_sent u (Some x)) n h (record { was = p; request = sent_off u x (id_of manager n) (off n p).0; answer = sent_off u x (answer_of n) (off n p).1; noted = refl })
 
 -- names
 pub from_other : (i : MsgId) (n : ℕ) → pid_eq i.from manager ≡ false → Off i n
@@ -84,24 +95,35 @@ off_by : (i j : MsgId) (n : ℕ) → i ≡ j → Off j n → Off i n
 off_by i j n e h = subst (λ (k : MsgId). Off k n) (sym e) h
 
 -- a message is answered that is no request to make a process
-pub answered_ones : (r e : MsgId → ℕ) (s u t : OneKernel) (id : MsgId) (m : PlainMessage) (w : PlainWhat) → with_sent u (Some (answer_to m w)) ≡ t → ((n : ℕ) → is_pending u n ≡ true → is_pending s n ≡ true) → s.bag id ≡ Some m → asks m.what ≡ true → is_create m.what ≡ false → Sound r e s → Ones s → Ones u → Ones t
+pub answered_ones : (r e : MsgId → ℕ) (s u t : OneKernel) (id : MsgId) (m : PlainMessage) (w : PlainWhat) → with_sent u (Some (answer_to m w)) ≡ t → ((n : ℕ) → is_pending u n ≡ true → is_pending s n ≡ true) → s.bag id ≡ Some m → asks m.what ≡ true → is_request m.what ≡ false → Sound r e s → Ones s → Ones u → Ones t
 answered_ones r e s u t id m w is up there asked off h ones on =
     let name : (answer_to m w).id ≡ answer_id id = ap answer_id (h.entered.named id m there) in
     subst Ones is (put_ones u (answer_to m w) (λ n p. off_by (answer_to m w).id (answer_id id) n name (answer_off id n (h.entered.requests id m there asked) (off_request s n id m ones (up n p) there off))) on)
 
 -- a request to make a process is answered
-made_pair : (id : MsgId) (n : ℕ) (s u : OneKernel) (x : PlainMessage) → ((i : MsgId) → u.bag i ≡ (without_message s id).bag i) → x.id ≡ answer_id id → is_answer x.what ≡ true → id_eq id (id_of manager n) ≡ true → Pair ((with_sent u (Some x)).bag (id_of manager n)) ((with_sent u (Some x)).bag (answer_of n))
-made_pair id n s u x same name answers here = grind (arith, nat_tests, sent_off, parts)
+made_pair : (id : MsgId) (n : ℕ) (s u : OneKernel) (x : PlainMessage) → ((i : MsgId) → u.bag i ≡ (without_message s id).bag i) → u.noted (id_of manager n) ≡ None → x.id ≡ answer_id id → is_answer x.what ≡ true → id_eq id (id_of manager n) ≡ true → PairAt (with_sent u (Some x)) n
+made_pair id n s u x same free name answers here = grind (arith, nat_tests, sent_off, parts)
 
-pub made_ones : (r e : MsgId → ℕ) (s u t : OneKernel) (id : MsgId) (m : PlainMessage) (w : PlainWhat) → with_sent u (Some (answer_to m w)) ≡ t → ((i : MsgId) → u.bag i ≡ (without_message s id).bag i) → ((n : ℕ) → is_pending u n ≡ true → is_pending s n ≡ true) → s.bag id ≡ Some m → asks m.what ≡ true → is_answer w ≡ true
+-- what is in the bag is followed by nobody
+free_of : (s : OneKernel) (i : MsgId) (m : PlainMessage) (o : Option Pid) → s.noted i ≡ o → ((p : Pid) → s.noted i ≡ Some p → s.bag i ≡ None) → s.bag i ≡ Some m → o ≡ None
+free_of s i m None is taken there = refl
+free_of s i m (Some p) is taken there = let f : None ≡ Some m = sym (taken p is) ∙ there in cc
+
+pub unnoted_in : (r e : MsgId → ℕ) (s : OneKernel) (i : MsgId) (m : PlainMessage) → Sound r e s → s.bag i ≡ Some m → s.noted i ≡ None
+unnoted_in r e s i m h there = free_of s i m (s.noted i) refl (λ p is. ((Notes-agree r e s h.entered h.notes).taken i p is).0) there
+
+unnoted : (r e : MsgId → ℕ) (s : OneKernel) (id : MsgId) (n : ℕ) (m : PlainMessage) → Sound r e s → id_eq id (id_of manager n) ≡ true → s.bag id ≡ Some m → s.noted (id_of manager n) ≡ None
+unnoted r e s id n m h same there = ap s.noted (sym (id_eq-is id (id_of manager n) same)) ∙ unnoted_in r e s id m h there
+
+pub made_ones : (r e : MsgId → ℕ) (s u t : OneKernel) (id : MsgId) (m : PlainMessage) (w : PlainWhat) → with_sent u (Some (answer_to m w)) ≡ t → ((i : MsgId) → u.bag i ≡ (without_message s id).bag i) → ((i : MsgId) → u.noted i ≡ s.noted i) → ((n : ℕ) → is_pending u n ≡ true → is_pending s n ≡ true) → s.bag id ≡ Some m → asks m.what ≡ true → is_answer w ≡ true
     → Sound r e s → Ones s → Ones t
-made_ones r e s u t id m w is same up there asked answers h ones =
+made_ones r e s u t id m w is same noted up there asked answers h ones =
     let x = answer_to m w in
     let name : x.id ≡ answer_id id = ap answer_id (h.entered.named id m there) in
     let asking : id.answer ≡ false = h.entered.requests id m there asked in
-    let of : (n : ℕ) → is_pending u n ≡ true → Pair ((with_sent u (Some x)).bag (id_of manager n)) ((with_sent u (Some x)).bag (answer_of n)) = λ n p.
+    let of : (n : ℕ) → is_pending u n ≡ true → PairAt (with_sent u (Some x)) n = λ n p.
     elim (cases_Bool (id_eq id (id_of manager n))) [
-      | inl here ↦ made_pair id n s u x same name answers here
+      | inl here ↦ made_pair id n s u x same (noted (id_of manager n) ∙ unnoted r e s id n m h here there) name answers here
       | inr apart ↦
           let off = off_by x.id (answer_id id) n name (answer_off id n asking apart) in
           let out : id_eq id (answer_of n) ≡ false = ap (λ (a : Bool). (pid_eq id.from manager && (id.n == n)) && bool_eq a true) asking ∙ and_false (pid_eq id.from manager && (id.n == n)) in
@@ -110,6 +132,7 @@ made_ones r e s u t id m w is same up there asked answers h ones =
             was = up n p;
             request = sent_off u x (id_of manager n) off.0 ∙ same (id_of manager n) ∙ out_off s id (id_of manager n) apart;
             answer = sent_off u x (answer_of n) off.1 ∙ same (answer_of n) ∙ out_off s id (answer_of n) out;
+            noted = noted (id_of manager n);
           })
     ] in
     subst Ones is of
@@ -127,13 +150,74 @@ took_at s u id i o same off put = grind (arith, nat_tests, out_off, sent_off)
 
 -- the manager takes a message: a request that was pending has what it had
 pub took_pair : (s : OneKernel) (id : MsgId) (k : manage.ManagerTook) (n : ℕ) → ServerSends manager s.manager.sent k.message k.manager.sent → ascends 0 s.manager.pending s.manager.sent ≡ true → is_pending s n ≡ true → Off id n → Ones s
-    → Pair ((manager_took s id k).bag (id_of manager n)) ((manager_took s id k).bag (answer_of n))
+    → PairAt (manager_took s id k) n
 took_pair s id k n sends up p off h = grind (arith, nat_tests, pending_less, off_by, by_same, took_at)
 
 -- it asks for a process: the request is the new one's
 none_out : (s : OneKernel) (id i : MsgId) (c : Bool) → s.bag i ≡ None → (if c then None else s.bag i) ≡ None
 none_out s id i c e = grind (arith, nat_tests)
 
-pub asked_pair : (r e : MsgId → ℕ) (s : OneKernel) (id : MsgId) (k : manage.ManagerTook) (x : PlainMessage) → k.message ≡ Some x → x.id ≡ id_of manager s.manager.sent → is_create x.what ≡ true → Sound r e s
-    → Pair ((manager_took s id k).bag (id_of manager s.manager.sent)) ((manager_took s id k).bag (answer_of s.manager.sent))
-asked_pair r e s id k x sends name creates h = grind (arith, nat_tests, not_counted, id_eq-same, sent_off, none_out)
+new_pair : (a b : Option PlainMessage) (c : Option Pid) (x : PlainMessage) → is_request x.what ≡ true → a ≡ Some x → b ≡ None → c ≡ None → Pair a b c
+new_pair a b c x e f g k = grind (arith, nat_tests)
+
+-- nothing has come under its next number
+fresh_answer : (r e : MsgId → ℕ) (s : OneKernel) → Sound r e s → s.bag (answer_of s.manager.sent) ≡ None
+fresh_answer r e s h = grind (arith, nat_tests, not_counted)
+
+next_uncounted : (e : MsgId → ℕ) (s : OneKernel) → ((i : MsgId) → 1 ≤ e i → counts s i ≡ true) → 1 ≤ e (id_of manager s.manager.sent) → ⊥
+next_uncounted e s counted least = grind (arith, nat_tests)
+
+unfollowed : (r e : MsgId → ℕ) (s : OneKernel) (i : MsgId) (o : Option Pid) → s.noted i ≡ o → Sound r e s → i ≡ id_of manager s.manager.sent → o ≡ None
+unfollowed r e s i None is h at_ = refl
+unfollowed r e s i (Some p) is h at_ = absurd (next_uncounted e s h.entered.counted (subst (λ (j : MsgId). 1 ≤ e j) at_ (h.notes.followed i p is).entered))
+
+pub asked_pair : (r e : MsgId → ℕ) (s : OneKernel) (id : MsgId) (k : manage.ManagerTook) (x : PlainMessage) → k.message ≡ Some x → x.id ≡ id_of manager s.manager.sent → is_request x.what ≡ true → Sound r e s
+    → PairAt (manager_took s id k) s.manager.sent
+asked_pair r e s id k x sends name creates h =
+    let n = s.manager.sent in
+    let i = id_of manager n in
+    let u = record (without_message s id) { manager = k.manager } in
+    let off : id_eq x.id (answer_of n) ≡ false = ap (λ (j : MsgId). id_eq j (answer_of n)) name ∙ and_false (pid_eq manager manager && (n == n)) in
+    new_pair ((manager_took s id k).bag i) ((manager_took s id k).bag (answer_of n)) ((manager_took s id k).noted i) x creates
+    (ap (λ (o : Option PlainMessage). (with_sent u o).bag i) sends ∙ ap (λ (c : Bool). if c then Some x else u.bag i) (ap (λ (j : MsgId). id_eq j i) name ∙ id_eq-same i))
+    (ap (λ (o : Option PlainMessage). (with_sent u o).bag (answer_of n)) sends ∙ sent_off u x (answer_of n) off ∙ none_out s id (answer_of n) (id_eq id (answer_of n)) (fresh_answer r e s h))
+    (ap (λ (o : Option PlainMessage). (with_sent u o).noted i) sends ∙ unfollowed r e s i (s.noted i) refl h refl)
+
+-- the request goes from the bag to the process, and from there into its answer
+to_process : (a b : Option PlainMessage) (c : Option Pid) (m : PlainMessage) (a_ b_ : Option PlainMessage) (q : Pid) → a ≡ Some m → Pair a b c → a_ ≡ None → b_ ≡ b → Pair a_ b_ (Some q)
+to_process a b c m a_ b_ q e h f g = grind (arith, nat_tests)
+
+followed_pair : (a a_ b b_ : Option PlainMessage) (c c_ : Option Pid) (q : Pid) (x : PlainMessage) → Pair a b c → c ≡ Some q → c_ ≡ None → a_ ≡ a → b_ ≡ Some x → is_answer x.what ≡ true → Pair a_ b_ c_
+followed_pair a a_ b b_ c c_ q x h e f g k answers = grind (arith, nat_tests)
+
+-- a process follows the request from now on
+pub noted_ones : (r e : MsgId → ℕ) (s : OneKernel) (id : MsgId) (m : PlainMessage) (q : Pid) (k : Note) → s.bag id ≡ Some m → k.id ≡ id → asks m.what ≡ true → Sound r e s → Ones s → Ones (with_note (without_message s id) q k)
+noted_ones r e s id m q k there name asked h ones n p =
+    let t = with_note (without_message s id) q k in
+    let i = id_of manager n in
+    elim (cases_Bool (id_eq id i)) [
+      | inl here ↦ 
+          let is : id ≡ i = id_eq-is id i here in
+          let out : id_eq id (answer_of n) ≡ false = ap (λ (a : Bool). (pid_eq id.from manager && (id.n == n)) && bool_eq a true) (h.entered.requests id m there asked) ∙ and_false (pid_eq id.from manager && (id.n == n)) in
+          subst (Pair (t.bag i) (t.bag (answer_of n))) (sym (ap (λ (c : Bool). if c then Some q else s.noted i) (ap (λ (j : MsgId). id_eq j i) name ∙ here)))
+          (to_process (s.bag i) (s.bag (answer_of n)) (s.noted i) m (t.bag i) (t.bag (answer_of n)) q (ap s.bag (sym is) ∙ there) (ones n p) (ap (λ (c : Bool). if c then None else s.bag i) here) (out_off s id (answer_of n) out))
+      | inr apart ↦
+          let out : id_eq id (answer_of n) ≡ false = ap (λ (a : Bool). (pid_eq id.from manager && (id.n == n)) && bool_eq a true) (h.entered.requests id m there asked) ∙ and_false (pid_eq id.from manager && (id.n == n)) in
+          by_same s t n ones (record { was = p; request = out_off s id i apart; answer = out_off s id (answer_of n) out; noted = ap (λ (c : Bool). if c then Some q else s.noted i) (ap (λ (j : MsgId). id_eq j i) name ∙ apart) })
+    ]
+
+-- and hears how that ended
+pub unnoted_ones : (s : OneKernel) (id : MsgId) (q : Pid) (x : PlainMessage) → s.noted id ≡ Some q → id.answer ≡ false → x.id ≡ answer_id id → is_answer x.what ≡ true → Ones s → Ones (with_sent (without_note s q id) (Some x))
+unnoted_ones s id q x noted asked name answers ones n p =
+    let t = with_sent (without_note s q id) (Some x) in
+    let i = id_of manager n in
+    elim (cases_Bool (id_eq id i)) [
+      | inl here ↦
+          let is : id ≡ i = id_eq-is id i here in
+          let at_ : x.id ≡ answer_of n = name ∙ ap answer_id is in
+          followed_pair (s.bag i) (t.bag i) (s.bag (answer_of n)) (t.bag (answer_of n)) (s.noted i) (t.noted i) q x (ones n p) (ap s.noted (sym is) ∙ noted) (ap (λ (c : Bool). if c then None else s.noted i) here)
+          (sent_off (without_note s q id) x i (ap (λ (j : MsgId). id_eq j i) at_ ∙ and_false (pid_eq manager manager && (n == n)))) (ap (λ (j : MsgId). if id_eq j (answer_of n) then Some x else s.bag (answer_of n)) at_ ∙ ap (λ (c : Bool). if c then Some x else s.bag (answer_of n)) (id_eq-same (answer_of n))) answers
+      | inr apart ↦
+          let off = off_by x.id (answer_id id) n name (answer_off id n asked apart) in
+          by_same s t n ones (record { was = p; request = sent_off (without_note s q id) x i off.0; answer = sent_off (without_note s q id) x (answer_of n) off.1; noted = ap (λ (c : Bool). if c then None else s.noted i) apart })
+    ]

@@ -8,6 +8,8 @@ use Rattle.dm_movelaws.proofs.Promise.Parts.{all_loose, GoesOf, Waits, loose_row
 use Rattle.dm_movelaws.proofs.Leading.{net_lead}
 use Rattle.dm_movelaws.proofs.Promise.Told.{hears_goes, hears_this}
 use Rattle.dm_rule.specs.Rule as rule
+use Rattle.dm_movelaws.proofs.Names.{topic_by, label_of, view_after}
+use Rattle.dm_movelaws.proofs.Promise.Spots.{about_stands}
 
 -- no message of the bag is an update
 no_update : (k : PlainWhat) → plain_kind k ≡ MessageKind.Update → ⊥
@@ -31,7 +33,8 @@ bag_apart pt i j x h there own = not_true (id_eq i j) (λ f. false≢true (sym (
 
 -- packets and what they bring
 net_goes : (ps : List Part) (j : MsgId) (pt : Point) (w : Spelled) → IsNet ps → Stands pt.view j → spelled pt ps ≡ Some w → Stands w.point.view j
-net_goes ps j pt w net h is = net_lead (λ x. Stands x.view j) (λ x a c n l f. packet_stands x.view a c n l j f) (λ q s l line there. net_stands q.view l j line there) ps pt w net is h
+net_goes ps j pt w net h is = net_lead (λ x. Stands x.view j) (λ x a c n l f. packet_stands x.view a c n l j f)
+    (λ q s l line there. about_stands (view_after q.view l) (topic_by q.kernel (view_after q.view l).topic (label_of l)) j (net_stands q.view l j line there)) ps pt w net is h
 
 -- a directive to move a process
 migrates_loose : (o : Point) (p : Pid) → all_loose (migrates o p) ≡ true
@@ -42,7 +45,7 @@ outcome_goes b o d ps j p q place h = by_outcome (λ e. Goes j (begun o e)) b o 
   round = λ m xs box e. round_goes j (update_of p q place) (begun o (Step.Turn m)) b o m (rule.first_runnable o.kernel (o.view.queue m) (o.view.ring m)) xs (h (Step.Turn m)) e;
   handles = λ m i is msg xs box there e.
       (let w = h (Step.Turn m) in
-      handles_goes j (update_of p q place) (begun o (Step.Turn m)) b o m i msg xs w (bag_apart (begun o (Step.Turn m)) i j msg w.base.sane there w.base.own) e);
+      handles_goes j (update_of p q place) (begun o (Step.Turn m)) b o m i msg xs w there (bag_apart (begun o (Step.Turn m)) i j msg w.base.sane there w.base.own) e);
   hears = λ m i is xs box none e. turned_by b o m j p q place i is xs (id_eq i j) refl box (h (Step.Turn m)) e;
   ticks = λ m xs net w is. inl (net_goes xs j (begun o (Step.Tick m)) w net (h (Step.Tick m)).stands is);
   delivers = λ a c k xs net w is. inl (net_goes xs j (begun o (Step.Deliver a c k)) w net (h (Step.Deliver a c k)).stands is);

@@ -7,6 +7,9 @@ use Rattle.dm_movelaws.proofs.Promise.Kept.{lines_told}
 use Rattle.dm_movelaws.proofs.Promise.Spots.{Stands, Spares, line_stands, label_stands, put_this, put_stands, packet_stands}
 use Rattle.dm_movelaws.proofs.Leading.{Behind, whatever_put, part_leads, next_of}
 use Rattle.dm_rule.specs.Rule as rule
+use Rattle.dm_movelaws.proofs.Names.{seen}
+use Rattle.dm_movelaws.proofs.Names.{ap, ◌∙◌, sym, Label, PlainWhat, Stage, to_kernel, moved, view_after, said_by, leaves_for, machine_in, machine_of, Target}
+use Rattle.dm_movelaws.proofs.Promise.Spots.{Fronts, about_stands, label_stands}
 
 -- a kernel's own message that was told of
 pub record Base (j : MsgId) (t : Told) (pt : Point) : Type 0 where
@@ -50,7 +53,7 @@ spares_quiet j v l e = grind (arith, nat_tests)
 says_fit : (pt next : Point) (l : Line) → touches l ≡ false → PairsFit pt.view → Steps pt (Says l) next → PairsFit next.view
 says_fit pt next l quiet h s =
     let k = said_by pt next l s in
-    subst (λ (x : Point). PairsFit x.view) k.is (fits_as pt.view (view_after pt.view l) (pair_same pt.view l quiet) h)
+    subst (λ (x : Point). PairsFit x.view) k.is (fits_as pt.view (seen pt.kernel pt.view l) (pair_same pt.view l quiet) h)
 
 fits_behind : (j : MsgId) (pt : Point) (p : Part) → NeedsPart j pt p → PairsFit pt.view → Behind (λ x. PairsFit x.view) pt p
 fits_behind j pt p need h = grind (arith, nat_tests, whatever_put, fits_as, pair_same, spares_quiet, fits_put)
@@ -80,7 +83,7 @@ line_behind j pt s l need sane own h step =
 part_stands : (j : MsgId) (t : Told) (pt next : Point) (p : Part) → NeedsPart j pt p → Base j t pt → Stands pt.view j → Steps pt p next → Stands next.view j
 part_stands j t pt next p need base h s =
     part_leads (λ x. Stands x.view j) (λ x a c n l f. packet_stands x.view a c n l j f) pt next p
-    (whatever_put (λ x. Stands x.view j) pt p (λ l is k step. line_behind j pt k l (subst (NeedsPart j pt) is need) base.sane base.own h step) (λ b i k q. put_stands pt.view pt.view.acting b i k q j base.fits h) h) s
+    (whatever_put (λ x. Stands x.view j) pt p (λ l is k step. about_stands (view_after pt.view l) (moved pt l k).view.topic j (line_behind j pt k l (subst (NeedsPart j pt) is need) base.sane base.own h step)) (λ b i k q. put_stands pt.view pt.view.acting b i k q j base.fits h) h) s
 
 -- the message itself is put again
 pub again_this : (j : MsgId) (t : Told) (pt next : Point) (b : ℕ) → Base j t pt → Steps pt (Again j b) next → Stands next.view j
@@ -161,7 +164,23 @@ forwards_goes j t pt a id k sender to h off =
     let l = Says (Line.Forwarded id to) in
     by_forwards (Goes j pt) a id k sender to (first_row j t pt l (Again id to ∷ []) h off refl) (first_row j t pt l (Again id to ∷ Owns MessageKind.Update sender (a (Sender id)).at ∷ []) h off refl)
 
-pub handles_goes : (j : MsgId) (t : Told) (pt : Point) (b : Boot) (o : Point) (m : ℕ) (id : MsgId) (msg : PlainMessage) (ps : List Part) → Waits j t pt → id_eq id j ≡ false → rule.handles b o m id msg ≡ Some ps → Goes j pt ps
-handles_goes j t pt b o m id msg ps h off e =
+-- a process is asked to move, and sets off: where it goes, the message said
+asks_goes : (j : MsgId) (t : Told) (pt : Point) (id : MsgId) (msg : PlainMessage) (to : ℕ) → Waits j t pt → pt.kernel.bag id ≡ Some msg → msg.what ≡ PlainWhat.Move to → Goes j pt (rule.says (Label.Asked id) ∷ leaves_for msg.to to)
+asks_goes j t pt id msg to h there what w is =
+    let l = Line.Label (Label.Asked id) in
+    let n = next_of pt (Says l) (leaves_for msg.to to) w is in
+    let k = said_by pt n.next l n.steps in
+    let base = base_says j t pt n.next l refl refl h.base n.steps in
+    let was : Stands (moved pt l k.kernel).view j = about_stands (view_after pt.view l) (machine_in (pt.kernel.bag id)) j (label_stands pt k.kernel (Label.Asked id) j h.base.sane k.step h.base.own h.stands) in
+    let stands : Stands n.next.view j = subst (λ (x : Point). Stands x.view j) k.is was in
+    let topic : Target to ≡ n.next.view.topic = sym (ap machine_of what) ∙ sym (ap machine_in there) ∙ ap (λ (x : Point). x.view.topic) k.is in
+    let first = Says (Line.Migration Stage.Frozen msg.to) in
+    let ps = Says (Line.Migration Stage.Asked msg.to) ∷ to_kernel MessageKind.Ask to ∷ [] in
+    let need : NeedsPart j n.next first = subst (Fronts n.next.view j) topic tt in
+    let o = next_of n.next first ps n.rest n.more in
+    inl (subst (λ (x : Point). Stands x.view j) (o.point ∙ n.point) (loose_stands ps j t o.next o.rest refl (part_base j t n.next o.next first need base o.steps) (part_stands j t n.next o.next first need base stands o.steps) o.more))
+
+pub handles_goes : (j : MsgId) (t : Told) (pt : Point) (b : Boot) (o : Point) (m : ℕ) (id : MsgId) (msg : PlainMessage) (ps : List Part) → Waits j t pt → pt.kernel.bag id ≡ Some msg → id_eq id j ≡ false → rule.handles b o m id msg ≡ Some ps → Goes j pt ps
+handles_goes j t pt b o m id msg ps h there off e =
     loose_handles (Goes j pt) (λ xs. all_loose xs ≡ true) quiet_loose (λ xs. loose_row j t pt xs h) b o m id msg ps (λ here. first_row j t pt (Says (Line.Queued id)) [] h off refl) (first_row j t pt (Says (Line.Held id)) [] h off refl)
-    (λ to moves at_. forwards_goes j t pt o.addresses id (plain_kind msg.what) msg.sender to h off) e
+    (λ to here what apart. asks_goes j t pt id msg to h there what) (λ to moves at_. forwards_goes j t pt o.addresses id (plain_kind msg.what) msg.sender to h off) e

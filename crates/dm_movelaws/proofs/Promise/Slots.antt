@@ -5,6 +5,9 @@ use Rattle.dm_movelaws.proofs.Names.{nat_tests, arith}
 use Rattle.dm_onekernel.specs.Manager as manage
 use Rattle.dm_onekernel.specs.Step as kernel
 use Rattle.dm_rule.specs.Addresses as addresses
+use Rattle.dm_rule.specs.Given as request
+use Rattle.dm_movelaws.proofs.Names.{landing_gets, board_gets}
+use Rattle.dm_movelaws.proofs.Names.{None, Some}
 
 abbrev pub holders : List Gets → List Holder
 holders [] = []
@@ -90,6 +93,15 @@ manager_takes_same s v w a b m u o = grind (arith, nat_tests, manager_sends_same
 takes_same : (s : OneKernel) (v w : View) (a b : Addresses) (id : MsgId) (o : Option PlainMessage) → holders (addresses.taking_gets s v a id o) ≡ holders (addresses.taking_gets s w b id o)
 takes_same s v w a b id o = grind (arith, nat_tests, manager_takes_same)
 
+-- requests to move
+follows_same : (a b : Addresses) (id : MsgId) (o : Option PlainMessage) → holders (request.follows a id o) ≡ holders (request.follows b id o)
+follows_same a b id None = refl
+follows_same a b id (Some m) = refl
+
+ends_same : (v w : View) (a b : Addresses) (id : MsgId) (o : Option Pid) → holders (request.ends_move v a id o) ≡ holders (request.ends_move w b id o)
+ends_same v w a b id None = refl
+ends_same v w a b id (Some p) = refl
+
 -- a row a label
 pub gives_same : (s : OneKernel) (v w : View) (a b : Addresses) (l : Label) → holders (gives s v a l) ≡ holders (gives s w b l)
-gives_same s v w a b l = grind (arith, nat_tests, sends_same, receives_same, serves_same, takes_same, creates_same)
+gives_same s v w a b l = grind (arith, nat_tests, sends_same, receives_same, serves_same, takes_same, creates_same, follows_same, ends_same)

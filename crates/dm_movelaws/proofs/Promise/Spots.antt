@@ -8,6 +8,7 @@ use Rattle.dm_movelaws.proofs.Names.{dropped_spots, put_spots, taken_calm, put_s
 use Rattle.dm_rule.proofs.Moves.Sent.{sent_off}
 use Rattle.dm_onekernel.specs.Step as kernel
 use Rattle.dm_rule.specs.View as view
+use Rattle.dm_movelaws.proofs.Names.{About, Target, aim, about_off}
 
 pub record Stands (v : View) (j : MsgId) : Type 0 where
   pub spot : Spot
@@ -32,6 +33,27 @@ first_stands v j f h = stands_as v (handled_first v) j (λ z. ap (times j) (firs
 handled_stands : (v : View) (i j : MsgId) → id_eq i j ≡ false → Stands v j → Stands (handled v i) j
 handled_stands v i j e h = stands_as v (handled v i) j (λ z. handled_spots v i j e z) h
 
+-- behind the line that a process is asked to move, what it takes is taken already
+abbrev pub Fronts : View → MsgId → About → Type 0
+Fronts v j (Target m) = ⊤
+Fronts v j a = Front v j
+
+pub fronts : (v : View) (j : MsgId) (a : About) → Front v j → Fronts v j a
+fronts v j (Target m) f = tt
+fronts v j _ f = f
+
+for_off : (v : View) (p : Pid) (to : ℕ) (z : Spot) → ids_at (view.frozen_for v p to) z ≡ ids_at v z
+for_off v p to (Queue m q) = refl
+for_off v p to _ = refl
+
+sets_stands : (v : View) (j : MsgId) (p : Pid) (a : About) → Fronts v j a → Stands v j → Stands (view.sets_off v p a) j
+sets_stands v j p (Target m) f h = stands_off v (view.sets_off v p (Target m)) j (λ z. for_off v p m z) h
+sets_stands v j p a f h = stands_off (handled_first v) (view.sets_off v p a) j (λ z. for_off (handled_first v) p (aim v a) z) (first_stands v j f h)
+
+-- the topic is no place
+pub about_stands : (v : View) (a : About) (j : MsgId) → Stands v j → Stands (view.about v a) j
+about_stands v a j h = stands_off v (view.about v a) j (λ z. about_off v a z) h
+
 -- what a line takes, where it takes something, is another message
 abbrev pub Spares : MsgId → View → Line → Type 0
 Spares j v (Line.Migration Stage.Asked p) = ⊤
@@ -43,6 +65,7 @@ Spares j v (Line.Updated i n) = id_eq i j ≡ false
 Spares j v (Line.Here i) = id_eq i j ≡ false
 Spares j v (Line.NoMove i) = id_eq i j ≡ false
 Spares j v (Line.Proto i) = id_eq i j ≡ false
+Spares j v (Line.Migration Stage.Frozen p) = Fronts v j v.topic
 Spares j v (Line.Migration s p) = Front v j
 Spares j v (Line.Lacks p a b) = Front v j
 Spares j v (Line.Stays p) = Front v j
@@ -116,7 +139,7 @@ line_stands v j (Line.Updated i n) e step_ h = handled_stands v i j e h
 line_stands v j (Line.Here i) e step_ h = handled_stands v i j e h
 line_stands v j (Line.NoMove i) e step_ h = handled_stands v i j e h
 line_stands v j (Line.Proto i) e step_ h = stands_off (handled v i) (view_after v (Line.Proto i)) j (λ z. proto_off (handled v i) (v.told i) z) (handled_stands v i j e h)
-line_stands v j (Line.Migration Stage.Frozen p) e step_ h = stands_off (handled_first v) (view_after v (Line.Migration Stage.Frozen p)) j (λ z. frozen_off v p z) (first_stands v j e h)
+line_stands v j (Line.Migration Stage.Frozen p) e step_ h = sets_stands v j p v.topic e h
 line_stands v j (Line.Migration Stage.Accepted p) e step_ h = stands_off (handled_first v) (view_after v (Line.Migration Stage.Accepted p)) j (λ z. accepted_off v p z) (first_stands v j e h)
 line_stands v j (Line.Migration Stage.StateTaken p) e step_ h = stands_off (handled_first v) (view_after v (Line.Migration Stage.StateTaken p)) j (λ z. state_off v p z) (first_stands v j e h)
 line_stands v j (Line.Migration Stage.MemoryTaken p) e step_ h = stands_off (handled_first v) (view_after v (Line.Migration Stage.MemoryTaken p)) j (λ z. memory_off v p z) (first_stands v j e h)
@@ -144,6 +167,7 @@ label_spots pt t (Label.Gone id) j h is own z = handled_spots pt.view id j (bag_
 label_spots pt t (Label.Took id) j h is own z = handled_spots pt.view id j (bag_apart pt t (Label.Took id) id j h is refl own) z
 label_spots pt t (Label.Created id p) j h is own z = ap (times j) (created_off pt.view id p z) ∙ handled_spots pt.view id j (bag_apart pt t (Label.Created id p) id j h is refl own) z
 label_spots pt t (Label.NoSpace id a b) j h is own z = handled_spots pt.view id j (bag_apart pt t (Label.NoSpace id a b) id j h is refl own) z
+label_spots pt t (Label.Asked id) j h is own z = handled_spots pt.view id j (bag_apart pt t (Label.Asked id) id j h is refl own) z
 label_spots pt t _ j h is own z = refl
 
 pub label_stands : (pt : Point) (t : OneKernel) (l : Label) (j : MsgId) → Sane pt → kernel.step pt.kernel l ≡ Some t → is_kernels j ≡ true → Stands pt.view j → Stands (view_after pt.view (Line.Label l)) j

@@ -6,6 +6,8 @@ use Rattle.dm_movelaws.proofs.Promise.Spots.{Stands, Front, Spares, sent_stands,
 use Rattle.dm_movelaws.proofs.Promise.Parts.{Goes, GoesOf, base_says, again_this, loose_stands, sends_stand, Waits, first_row, forwards_goes}
 use Rattle.dm_movelaws.proofs.Leading.{next_of}
 use Rattle.dm_rule.specs.Rule as rule
+use Rattle.dm_movelaws.proofs.Names.{answers_move, Outcome}
+use Rattle.dm_movelaws.proofs.Promise.Spots.{fronts}
 
 -- another is at the front of the acting machine's inbox
 pub record Other (j : MsgId) (pt : Point) (i : MsgId) : Type 0 where
@@ -34,7 +36,9 @@ hears_goes j t pt b o m i q ps are h k =
       told = λ p x is_about alive. record {
         accepted = λ ask. first_row j t pt (Says (Line.Migration Stage.Accepted p)) (to_kernel MessageKind.PullState home ∷ []) h k.front refl;
         lacks = λ slots blocks. first_row j t pt (Says (Line.Lacks p slots blocks)) (to_kernel MessageKind.Refuse home ∷ []) h k.front refl;
-        stays = λ kind. about (Line.Stays p) k.front;
+        stays = λ kind free. about (Line.Stays p) k.front;
+        stays_asked = λ kind n noted. first_row j t pt (Says (Line.Stays p)) (answers_move n.id Outcome.Stayed) h k.front refl;
+        restarted_asked = λ kind n noted. first_row j t pt (Says (Line.Migration Stage.Restarted p)) (answers_move n.id Outcome.Done) h k.front refl;
         state = proto MessageKind.State;
         next_chunk = proto MessageKind.PullState;
         last_chunk = first_row j t pt (Says (Line.Migration Stage.StateTaken p)) (to_kernel MessageKind.PullBlock home ∷ []) h k.front refl;
@@ -42,7 +46,7 @@ hears_goes j t pt b o m i q ps are h k =
         next_block = proto MessageKind.PullBlock;
         last_block = first_row j t pt (Says (Line.Migration Stage.MemoryTaken p)) (to_kernel MessageKind.AllTaken home ∷ []) h k.front refl;
         left = λ ids to leaves. sent_goes j t pt i p ids to (are p ∙ sym leaves.lists) h k;
-        restarted = λ kind. about (Line.Migration Stage.Restarted p) k.front;
+        restarted = λ kind free. about (Line.Migration Stage.Restarted p) k.front;
       };
       updated = λ kind. about (Line.Updated i (behind_count o.kernel o.addresses u.receiver (place_told u.about))) k.apart;
       updated_none = λ kind at_. about (Line.Updated i 0) k.apart;
@@ -51,7 +55,7 @@ hears_goes j t pt b o m i q ps are h k =
       coming = λ from at_. about (Line.Held i) k.apart;
       forwarded = λ to moves at_. forwards_goes j t pt o.addresses i u.kind manager to h k.apart;
       stays_here = λ at_. about (Line.Here i) k.apart;
-      frozen = λ to at_. first_row j t pt (Says (Line.Migration Stage.Frozen u.receiver)) (Says (Line.Migration Stage.Asked u.receiver) ∷ to_kernel MessageKind.Ask to ∷ []) h k.front refl;
+      frozen = λ to at_. first_row j t pt (Says (Line.Migration Stage.Frozen u.receiver)) (Says (Line.Migration Stage.Asked u.receiver) ∷ to_kernel MessageKind.Ask to ∷ []) h (fronts pt.view j pt.view.topic k.front) refl;
     })
 
 -- the update itself

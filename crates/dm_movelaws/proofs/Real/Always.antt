@@ -64,6 +64,7 @@ begins_real b pt d fit run h =
     record {
       within = line_within pt.kernel.machines pt.view (Line.Head d) (head_less pt.kernel.machines d fit) (record { known = λ m q some. run.found.known_within m q some; acting = run.kept.acting });
       fits = run.based.fits;
+      order = run.based.pending;
       rises = rises_same pt.kernel;
       kept = λ i t e. same i ∙ e;
       own = λ i t e mine. h.own i t (sym (same i) ∙ e) mine;

@@ -7,9 +7,11 @@ use Rattle.dm_movelaws.proofs.Names.{manager, pid_eq-same, alive-is, Step, to_ke
 use Rattle.dm_movelaws.proofs.Ends.Lines.{told_by}
 use Rattle.dm_movelaws.proofs.Leading.{Behind, sane_lead, All, Saying, net_says}
 use Rattle.dm_movelaws.proofs.Stages.Lines.{MildLine, AllMild}
-use Rattle.dm_movelaws.proofs.Stages.Hears.{round_mild, handles_mild}
+use Rattle.dm_movelaws.proofs.Stages.Hears.{round_mild}
 use Rattle.dm_rule.specs.View as view
 use Rattle.dm_rule.specs.Rule as rule
+use Rattle.dm_movelaws.proofs.Names.{topic_by, machine_in, machine_of, sets, InOrder}
+use Rattle.dm_movelaws.proofs.Names.{Loose, loose_handles}
 
 -- a row a line, seen from where its group begins
 abbrev pub LineReal : Point → Line → Type 0
@@ -79,7 +81,9 @@ hears_real b o m i q ps told here = by_hears (AllReal o) b o m i q ps (λ t is. 
       record {
         accepted = λ ask. (h, (tt, tt));
         lacks = λ slots blocks. (h, (tt, tt));
-        stays = λ kind. (tt, tt);
+        stays = λ kind free. (tt, tt);
+        stays_asked = λ kind n noted. (tt, (tt, (tt, tt)));
+        restarted_asked = λ kind n noted. (h, (tt, (tt, tt)));
         state = (tt, (tt, tt));
         next_chunk = (tt, (tt, tt));
         last_chunk = (h, (tt, tt));
@@ -87,7 +91,7 @@ hears_real b o m i q ps told here = by_hears (AllReal o) b o m i q ps (λ t is. 
         next_block = (tt, (tt, tt));
         last_block = (h, (tt, tt));
         left = λ ids to leaves. (h, sends_real o to ids (Says (Line.Migration Stage.Left p) ∷ to_kernel MessageKind.Restart i.from.home ∷ []) (h, (tt, tt)));
-        restarted = λ kind. (h, tt);
+        restarted = λ kind free. (h, tt);
       }
       );
   updated = λ kind. (tt, tt);
@@ -99,6 +103,15 @@ hears_real b o m i q ps told here = by_hears (AllReal o) b o m i q ps (λ t is. 
   stays_here = λ at_. (tt, tt);
   frozen = λ to at_. (let h = here m t.receiver at_.known in (h, (h, (tt, tt))));
 })
+
+-- what a turn says of a message of the bag
+real_loose : (o : Point) → Loose (AllReal o)
+real_loose o = record { none = tt; label = λ l ps h. (tt, h); routes = λ i ps h. (tt, h) }
+
+handles_real : (b : Boot) (o : Point) (m : ℕ) (i : MsgId) (msg : PlainMessage) (ps : List Part) → FrontTold o (Some i) → HereReal o → rule.handles b o m i msg ≡ Some ps → AllReal o ps
+handles_real b o m i msg ps told here e =
+    loose_handles (AllReal o) (AllReal o) (real_loose o) (λ qs h. h) b o m i msg ps (λ at_. (tt, tt)) (tt, tt) (λ to at_ what apart. (let h = here m msg.to at_.known in (tt, (h, (h, (tt, tt))))))
+    (λ to moves at_. by_forwards (AllReal o) o.addresses i (plain_kind msg.what) msg.sender to (told i refl, (tt, tt)) (told i refl, (tt, (tt, tt)))) e
 
 -- what stands in an inbox was told of
 abbrev pub InboxTold : Point → Type 0
@@ -114,7 +127,7 @@ migrates_real o q = by_migrates (AllReal o) o q (tt, tt) (tt, tt) (λ n off is. 
 pub outcome_real : (b : Boot) (o : Point) (d : Step) (ps : List Part) → InboxTold o → HereReal o → rule.outcome b o d ≡ Some ps → AllReal o ps
 outcome_real b o d ps told here = by_outcome (λ x. AllReal o) b o d ps (record {
   round = λ m xs box e. mild_real o None xs (λ i k. cc) (λ p. round_mild p None b o m (rule.first_runnable o.kernel (o.view.queue m) (o.view.ring m)) xs e);
-  handles = λ m i is msg xs box there e. mild_real o (Some i) xs (front_is o m i is told box) (λ p. handles_mild p b o m i msg xs e);
+  handles = λ m i is msg xs box there e. handles_real b o m i msg xs (front_is o m i is told box) here e;
   hears = λ m i is xs box none e. hears_real b o m i (o.view.told i) xs (front_is o m i is told box) here e;
   ticks = λ m. net_real o;
   delivers = λ a c k. net_real o;
@@ -141,10 +154,10 @@ about_rises s t a h e = grind (arith, nat_tests, real_rises)
 pub made_by : (a b : Option Life) → LifeGrows a b → is_some a ≡ true → is_some b ≡ true
 made_by a b g e = grind (arith, nat_tests, grown_none)
 
-step_rises : (r e : MsgId → ℕ) (s t : OneKernel) (o : Option Label) → kernel_after s o ≡ Some t → Sound r e s → KernelFits s → Rises s t × KernelFits t
-step_rises r e s t None is h fits = let f : s ≡ t = cc in subst (λ (u : OneKernel). Rises s u × KernelFits u) f (rises_same s, fits)
-step_rises r e s t (Some l) is h fits =
-    (record { machines = (step_constant s t l is).machines; made = λ q some. made_by (s.processes q) (t.processes q) ((after_step r e s t l is h).grown.lives q) some }, fits_step r e s t l is h fits)
+step_rises : (r e : MsgId → ℕ) (s t : OneKernel) (o : Option Label) → kernel_after s o ≡ Some t → Sound r e s → InOrder s.manager → KernelFits s → Rises s t × InOrder t.manager × KernelFits t
+step_rises r e s t None is h order fits = let f : s ≡ t = cc in subst (λ (u : OneKernel). Rises s u × InOrder u.manager × KernelFits u) f (rises_same s, order, fits)
+step_rises r e s t (Some l) is h order fits =
+    (record { machines = (step_constant s t l is).machines; made = λ q some. made_by (s.processes q) (t.processes q) ((after_step r e s t l is h).grown.lives q) some }, (step_constant s t l is).pending order, fits_step r e s t l is h order fits)
 
 has_made : (s : OneKernel) (q : Pid) (n : ℕ) (l : Option Life) → s.processes q ≡ l → has_bytes n l ≡ true → IsReal s q
 has_made s q n l is e = grind (arith, nat_tests)
@@ -162,14 +175,15 @@ receiver_real s i m PlainWhat.Gone e = subst (IsReal s) (sym e.0) (waits_made s 
 receiver_real s i m (PlainWhat.Create image links) e = let num = e.0 in let home = e.1 in Kernel num (grind (arith, nat_tests))
 receiver_real s i m (PlainWhat.Created child) e = subst (IsReal s) (sym e.0) (Server refl)
 receiver_real s i m PlainWhat.NoRoom e = subst (IsReal s) (sym e.0) (Server refl)
-receiver_real s i m (PlainWhat.Move machine) e = absurd e
-receiver_real s i m (PlainWhat.Moved outcome) e = absurd e
+receiver_real s i m (PlainWhat.Move machine) e = has_made s m.to 0 (s.processes m.to) refl e.0
+receiver_real s i m (PlainWhat.Moved outcome) e = subst (IsReal s) (sym e.0) (Server refl)
 receiver_real s i m _ e = has_made s m.to 0 (s.processes m.to) refl e
 
 -- what stands between the lines of a group that begins at o
 pub record Reals (o pt : Point) : Type 0 where
   pub within : Within pt.kernel.machines pt.view
   pub fits : KernelFits pt.kernel
+  pub order : InOrder pt.kernel.manager
   pub rises : Rises o.kernel pt.kernel
   pub kept : (i : MsgId) (t : Told) → o.view.told i ≡ Some t → pt.view.told i ≡ Some t
   pub own : (i : MsgId) (t : Told) → pt.view.told i ≡ Some t → is_kernels i ≡ true → i.from.home < pt.kernel.machines
@@ -195,7 +209,7 @@ told_at : (o pt : Point) (i : MsgId) (q : Option Told) (t : Told) → o.view.tol
 told_at o pt i q t is some h e = grind (arith, nat_tests)
 
 line_topic : (o pt : Point) (l : Line) → Receivers o → LineReal o l → Reals o pt → IsAboutReal pt.kernel (view_after pt.view l).topic
-line_topic o pt (Line.Migration Stage.Frozen p) known need h = real_rises o.kernel pt.kernel p h.rises need
+line_topic o pt (Line.Migration Stage.Frozen p) known need h = subst (IsAboutReal pt.kernel) (sym (sets pt.view p pt.view.topic).topic) (real_rises o.kernel pt.kernel p h.rises need)
 line_topic o pt (Line.Migration Stage.Accepted p) known need h = real_rises o.kernel pt.kernel p h.rises need
 line_topic o pt (Line.Migration Stage.StateTaken p) known need h = real_rises o.kernel pt.kernel p h.rises need
 line_topic o pt (Line.Migration Stage.MemoryTaken p) known need h = real_rises o.kernel pt.kernel p h.rises need
@@ -213,6 +227,20 @@ line_topic o pt (Line.Head d) known need h = absurd need
 line_topic o pt (Line.Put a b i k q) known need h = absurd need
 line_topic o pt _ known need h = h.topic
 
+-- where a process is asked to move, the group is about a machine
+machine_real : (s : OneKernel) (w : PlainWhat) → IsAboutReal s (machine_of w)
+machine_real s (PlainWhat.Move machine) = tt
+machine_real s _ = tt
+
+asked_real : (s : OneKernel) (o : Option PlainMessage) → IsAboutReal s (machine_in o)
+asked_real s None = tt
+asked_real s (Some m) = machine_real s m.what
+
+topic_real : (s : OneKernel) (a : About) (o : Option Label) → IsAboutReal s a → IsAboutReal s (topic_by s a o)
+topic_real s a None h = h
+topic_real s a (Some (Label.Asked i)) h = asked_real s (s.bag i)
+topic_real s a (Some _) h = h
+
 no_put : (o : Point) (l : Line) → LineReal o l → is_put l ≡ false
 no_put o l h = grind (arith, nat_tests)
 
@@ -224,16 +252,18 @@ line_reals o pt t l known need is sane h =
     let s = pt.kernel in
     let w = view_after pt.view l in
     let same : (i : MsgId) → w.told i ≡ pt.view.told i = told_by pt.view l (no_put o l need) in
-    let (rises, fits) = step_rises sane.r sane.e s t (label_of l) is sane.sound h.fits in
+    let (rises, order, fits) = step_rises sane.r sane.e s t (label_of l) is sane.sound h.order h.fits in
+    let within = line_within s.machines pt.view l (no_head o s.machines l need) h.within in
     record {
-      within = subst (λ (k : ℕ). Within k w) (sym rises.machines) (line_within s.machines pt.view l (no_head o s.machines l need) h.within);
+      within = subst (λ (k : ℕ). Within k (moved pt l t).view) (sym rises.machines) (record { known = within.known; acting = within.acting });
       fits = fits;
+      order = order;
       rises = rises_on o.kernel s t h.rises rises;
       kept = λ i u e. same i ∙ h.kept i u e;
       own = λ i u e mine. subst (λ (k : ℕ). i.from.home < k) (sym rises.machines) (h.own i u (sym (same i) ∙ e) mine);
       receiver = λ i u e other. real_rises s t u.receiver rises (h.receiver i u (sym (same i) ∙ e) other);
       about = λ i u e. about_rises s t u.about rises (h.about i u (sym (same i) ∙ e));
-      topic = about_rises s t w.topic rises (line_topic o pt l known need h);
+      topic = about_rises s t (moved pt l t).view.topic rises (topic_real s w.topic (label_of l) (line_topic o pt l known need h));
     }
 
 -- a put
@@ -255,6 +285,7 @@ put_reals o pt b i k q new h =
     record {
       within = line_within s.machines v (Line.Put v.acting b i k q) tt h.within;
       fits = h.fits;
+      order = h.order;
       rises = h.rises;
       kept = λ j t e. told_kept v v.acting b i k q j t (h.kept j t e);
       own = λ j t e mine. elim (put_or v v.acting b i k q j t e) [

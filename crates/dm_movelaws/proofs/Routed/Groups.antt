@@ -9,6 +9,7 @@ use Rattle.dm_movelaws.proofs.Leading.{Behind, whatever_put, sane_lead, All, Say
 use Rattle.dm_onekernel.specs.Step as kernel
 use Rattle.dm_rule.specs.View as view
 use Rattle.dm_rule.specs.Rule as rule
+use Rattle.dm_movelaws.proofs.Names.{bag_asked, bag_answered, answer_id}
 
 -- the message that goes by a label is one of these
 abbrev pub LineOuts : (MsgId → Type 0) → Line → Type 0
@@ -70,6 +71,8 @@ handles_outs P b o m id msg ps h q = by_handles (AllOuts P) b o m id msg ps (rec
   served = λ here mild. (just P id h, tt);
   answers = λ here mild i. (just P id h, (tt, tt));
   kills = λ here kills. (just P id h, drops_outs P (o.view.queue m msg.to) (q msg.to));
+  moved = λ here what. (just P id h, (nothing P, (tt, tt)));
+  sets_off = λ to here what apart. (just P id h, (tt, (tt, (tt, tt))));
   gone = λ ended. (just P id h, (tt, tt));
   dropped = λ ended. (just P id h, tt);
   leaving = λ to at_. (tt, tt);
@@ -83,7 +86,7 @@ outs_line P (Line.Label l) h = absurd h
 outs_line P _ h = tt
 
 hears_outs : (P : MsgId → Type 0) (b : Boot) (o : Point) (m : ℕ) (id : MsgId) (q : Option Told) (ps : List Part) → rule.hears b o m id q ≡ Some ps → AllOuts P ps
-hears_outs P b o m id q ps = hears_kept (AllOuts P) (record { none = tt; says = λ l ps h k. (outs_line P l h, k); again = λ i to ps k. (tt, k); owns = λ k q to ps h. (tt, h) }) b o m id q ps
+hears_outs P b o m id q ps = hears_kept (AllOuts P) (record { none = tt; says = λ l ps h k. (outs_line P l h, k); again = λ i to ps k. (tt, k); owns = λ k q to ps h. (tt, h); answers = λ i r. (nothing P, (tt, tt)) }) b o m id q ps
 
 -- deliveries, repeats and requests to move have none
 net_line : (P : MsgId → Type 0) (l : Line) → IsNetLine l → LineOuts P l
@@ -143,6 +146,8 @@ stays_or_goes r e s t (Label.Gone id) i is h there = stays_by e s t (Some id) _ 
 stays_or_goes r e s t (Label.Took id) i is h there = stays_by e s t (Some id) _ i (bag_took r e s t id is h).is there
 stays_or_goes r e s t (Label.Created id p) i is h there = stays_by e s t (Some id) _ i (bag_created r e s t id p is h) there
 stays_or_goes r e s t (Label.NoSpace id a b) i is h there = stays_by e s t (Some id) _ i (bag_no_space r e s t id a b is h) there
+stays_or_goes r e s t (Label.Asked id) i is h there = stays_by e s t (Some id) None i (bag_asked e s t id is) there
+stays_or_goes r e s t (Label.Answered id o) i is h there = stays_by e s t None (Some (answer_id id)) i (bag_answered r e s t id o is h) there
 
 -- a line that is no put
 same_told : (v : View) (l : Line) (i : MsgId) → is_put l ≡ false → IsTold v i → IsTold (view_after v l) i

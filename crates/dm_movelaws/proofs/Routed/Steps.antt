@@ -7,6 +7,7 @@ use Rattle.dm_onekernel.specs.Kernel as kernels
 use Rattle.dm_onekernel.specs.Pieces as pieces
 use Rattle.dm_onekernel.specs.Service as service
 use Rattle.dm_onekernel.specs.Step as step
+use Rattle.dm_movelaws.proofs.Names.{with_note}
 
 -- the sender of a message counts it: a living process, or a server
 abbrev pub has_sent : ℕ → Option Life → Bool
@@ -108,7 +109,9 @@ step_counts s t l = by_step (CountsSo s) s t l (record {
   receives = λ p id y is w c. (let v = step.goes_on (without_message s id) p y in counts_quiet s v (set_quiet s v p w.x (Alive y) w.alive (alive_fewer w.x y w.is.0) refl refl refl));
   refuses = λ p id c d y is w e. goes_counts s p w.x y w.alive w.is.0;
   dropped = λ id m y is w e. answers_counts s id None;
-  gone = λ id m y is w e. answers_counts s id (Some (answer_to m PlainWhat.Gone));
+  gone = λ id m y is w v e. answers_counts s id (Some (answer_to m v));
+  asked = λ id m x machine is w e. (let u = with_note (without_message s id) m.to (record { id = id; asker = m.sender }) in counts_quiet s u (quiet_same s u refl refl refl));
+  answered = λ id o p n is f. counts_quiet s (service.move_ended s id p n o) (quiet_same s (service.move_ended s id p n o) refl refl refl);
   stops = λ id m x b is w e. (let y = record x { stopped = b } in changed_counts s (service.changed s id m y) id m x y w.alive refl refl refl refl);
   kills = grind (arith, nat_tests, counts_quiet, set_quiet, ended_fewer);
   reads = λ id m x base len is w e. changed_counts s (with_sent (service.changed s id m x) (Some (answer_to m (PlainWhat.Block (take len (drop base x.memory)))))) id m x x w.alive refl refl refl refl;

@@ -6,12 +6,14 @@ use Rattle.dm_movelaws.proofs.Names.{LeadsBy, begun, begun_sane, Mark, marks, in
 use Rattle.dm_movelaws.proofs.Stages.Marks.{order-append, marks-append, marks_of, group_says}
 use Rattle.dm_movelaws.proofs.Stages.Spares.{mark_in, spares_same, spares_calm, Marked, none_marked}
 use Rattle.dm_movelaws.proofs.Stages.Lines.{AllMild, mild_marks, net_marks, TameAt, parts_spare}
-use Rattle.dm_movelaws.proofs.Stages.Hears.{round_mild, handles_mild, Hears, Calms, Freezes, freezes, server_mild, process_hears}
+use Rattle.dm_movelaws.proofs.Stages.Hears.{round_mild, handles_mild, Hears, Calms, Freezes, Handled, Spared, SetsOff, freezes, server_mild, process_hears}
 use Rattle.dm_movelaws.proofs.Stages.Rows.{about_others, plain_others, row_marked}
-use Rattle.dm_movelaws.proofs.Stages.Steps.{freezes_row, told_marked}
+use Rattle.dm_movelaws.proofs.Stages.Steps.{freezes_row, setting_row, told_marked}
 use Rattle.dm_onekernel.specs.Step as kernel
 use Rattle.dm_rule.specs.Rule as rule
 use Rattle.dm_rule.proofs.Groups as groups
+use Rattle.dm_movelaws.proofs.Names.{NothingElse, Label, Says, said_by, moved, calm_about, view_after, line_calm, part_sane, machine_in, machine_of, Target, Here}
+use Rattle.dm_movelaws.proofs.Leading.{next_of, line_fits}
 
 -- where the parts of a turn begin
 pub record Turning (o pt : Point) (m : ℕ) : Type 0 where
@@ -20,6 +22,7 @@ pub record Turning (o pt : Point) (m : ℕ) : Type 0 where
   pub state : State None pt
   pub phases : InPhases pt.view
   pub same : (q : Pid) → pt.view.known pt.view.acting q ≡ o.view.known m q
+  pub topic : pt.view.topic ≡ NothingElse
 
 abbrev MarkedBy : Point → Spelled → List Part → Type 0
 MarkedBy pt w ps = (p : Pid) → Marked pt.view w.point.view p (marks_of p ps)
@@ -48,7 +51,7 @@ process_marked o pt m i is t k ps w h front told plain known (Freezes here are) 
     let here_ = h.same q ∙ known ∙ here in
     subst (MarkedBy pt w) (sym are)
     (row_marked pt.view w.point.view q (λ p. marks_of p (freezes q to))
-    (freezes_row pt i is q to w (record { sane = h.sane; fits = h.fits; front = front; others = plain_others pt.view i t q told plain }) here_ (ap (spelled pt) (sym are) ∙ n)))
+    (freezes_row pt i is q to w (record { sane = h.sane; fits = h.fits; front = front; others = plain_others pt.view i t q told plain }) h.topic here_ (ap (spelled pt) (sym are) ∙ n)))
 
 hears_by : (b : Boot) (o pt : Point) (m : ℕ) (i : MsgId) (is : List MsgId) (t : Told) (c d g : Bool) (ps : List Part) (w : Spelled) → Turning o pt m → (t.receiver.num == 0) ≡ c → pt.view.inbox pt.view.acting ≡ i ∷ is → pt.view.told i ≡ Some t
     → (if c then rule.kernel_hears b o m i t.kind t.about else if d then server_told o i t t.kind else if g then server_told o i t t.kind else process_told o m i t (o.view.known m t.receiver)) ≡ Some ps → spelled pt ps ≡ Some w → MarkedBy pt w ps
@@ -72,6 +75,25 @@ front_tame pt i is msg sane state front there =
     let (t, told) = told_some (pt.view.told i) q (state.stands.told i q way) in
     record { what = t; told = told; plain = plain_in_bag pt i msg sane there t told }
 
+-- a message of the bag
+head_marked : (u v w : View) (p : Pid) (ms : List Mark) → Calm u v → Marked v w p ms → Marked u w p ms
+head_marked u v w p ms c m a b h k da db = m a b (calm_in u v p a c h) k da db
+
+handled_marked : (o pt : Point) (m : ℕ) (i : MsgId) (is : List MsgId) (msg : PlainMessage) (ps : List Part) (w : Spelled) → Turning o pt m → pt.view.inbox pt.view.acting ≡ i ∷ is → pt.kernel.bag i ≡ Some msg → Handled o m i msg ps → spelled pt ps ≡ Some w → MarkedBy pt w ps
+handled_marked o pt m i is msg ps w h box there (Spared mild) e p = mild_marked pt (Some i) ps w h.sane h.fits (tame_front pt.view i (front_tame pt i is msg h.sane h.state box there)) mild e p
+handled_marked o pt m i is msg ps w h box there (SetsOff to here what are) e p =
+    let q = msg.to in
+    let l = Line.Label (Label.Asked i) in
+    let n = next_of pt (Says l) (freezes q to) w (ap (spelled pt) (sym are) ∙ e) in
+    let k = said_by pt n.next l n.steps in
+    let calm : Calm pt.view n.next.view = subst (λ (x : Point). Calm pt.view x.view) k.is (calm_about pt.view (view_after pt.view l) (moved pt l k.kernel).view.topic (line_calm pt k.kernel l h.sane tt k.step)) in
+    let sane = part_sane pt n.next (Says l) n.steps.lines refl n.steps.are n.steps.leads h.sane in
+    let fits : PairsFit n.next.view = subst (λ (x : Point). PairsFit x.view) k.is (line_fits pt k.kernel l refl h.fits) in
+    let topic : n.next.view.topic ≡ Target to = sym (ap (λ (x : Point). x.view.topic) k.is) ∙ ap machine_in there ∙ ap machine_of what in
+    let known : n.next.view.known n.next.view.acting q ≡ Here = sym (ap (λ (x : Point). x.view.known x.view.acting q) k.is) ∙ h.same q ∙ here in
+    let row = row_marked n.next.view n.rest.point.view q (λ r. marks_of r (freezes q to)) (setting_row n.next q to n.rest sane fits topic known n.more) p in
+    subst (λ (xs : List Part). Marked pt.view w.point.view p (marks_of p xs)) (sym are) (subst (λ (x : Point). Marked pt.view x.view p (marks_of p (freezes q to))) n.point (head_marked pt.view n.next.view n.rest.point.view p (marks_of p (freezes q to)) calm row))
+
 turning : (o : Point) (m : ℕ) → Phased o → Turning o (begun o (Step.Turn m)) m
 turning o m h = grind (arith, nat_tests, groups.fits, begun_sane, groups.begun, groups.turn_off, head_calm)
 
@@ -92,7 +114,7 @@ outcome_marked b pt d ps w h is = by_outcome (λ x xs. (u : Spelled) → spelled
   handles = λ m i is msg xs box there e u. (
       let start = begun pt (Step.Turn m) in
       let t = turning pt m h in
-      mild_marked start (Some i) xs u t.sane t.fits (tame_front start.view i (front_tame start i is msg t.sane t.state box there)) (λ p. handles_mild p b pt m i msg xs e)
+      handled_marked pt start m i is msg xs u t box there (handles_mild b pt m i msg xs e)
       );
   hears = λ m i is xs box none e u. hears_marked b pt (begun pt (Step.Turn m)) m i is (pt.view.told i) xs u (turning pt m h) box refl e;
   ticks = λ m xs net u. net_marked (begun pt (Step.Tick m)) xs u net;
@@ -106,9 +128,6 @@ outcome_marked b pt d ps w h is = by_outcome (λ x xs. (u : Spelled) → spelled
 }) is w
 
 -- a group
-head_marked : (u v w : View) (p : Pid) (ms : List Mark) → Calm u v → Marked v w p ms → Marked u w p ms
-head_marked u v w p ms c m a b h k da db = m a b (calm_in u v p a c h) k da db
-
 pub group_marked : (b : Boot) (pt : Point) (d : Step) (w : Spelled) → group_of b pt d ≡ Some w → Phased pt → (p : Pid) → Marked pt.view w.point.view p (marks p w.lines)
 group_marked b pt d w e h p =
     let g = group_says b pt d w e in

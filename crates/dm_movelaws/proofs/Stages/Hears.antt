@@ -2,6 +2,8 @@
 use Rattle.dm_movelaws.proofs.Names.{◌≡◌, ℕ, List, [], ◌∷◌, refl, Some, Pid, MsgId, MessageKind, Line, Stage, Told, Known, Here, target_of, Point, Part, Says, to_kernel, forwards_on, process_told, server_told, Option, plain_kind}
 use Rattle.dm_movelaws.proofs.Names.{PlainMessage, Boot, goes_round, handles, Addresses, Loose, loose_round, loose_handles, by_forwards, nat_tests, arith}
 use Rattle.dm_movelaws.proofs.Stages.Lines.{AllMild}
+use Rattle.dm_movelaws.proofs.Names.{Label, PlainWhat}
+use Rattle.dm_rule.specs.Rule as rule
 
 mild_loose : (me : Pid) (front : Option MsgId) → Loose (AllMild me front)
 mild_loose me front = record { none = tt; label = λ l ps h. (tt, h); routes = λ i ps h. (tt, h) }
@@ -12,14 +14,19 @@ round_mild me front b pt m o ps e = loose_round (AllMild me front) (mild_loose m
 pub forwards_mild : (me : Pid) (a : Addresses) (id : MsgId) (k : MessageKind) (sender : Pid) (to : ℕ) → AllMild me (Some id) (forwards_on a id k sender to)
 forwards_mild me a id k sender to = by_forwards (AllMild me (Some id)) a id k sender to (refl, (tt, tt)) (refl, (tt, (tt, tt)))
 
-pub handles_mild : (me : Pid) (b : Boot) (pt : Point) (m : ℕ) (id : MsgId) (msg : PlainMessage) (ps : List Part) → handles b pt m id msg ≡ Some ps → AllMild me (Some id) ps
-handles_mild me b pt m id msg ps e =
-    loose_handles (AllMild me (Some id)) (AllMild me (Some id)) (mild_loose me (Some id)) (λ qs h. h) b pt m id msg ps (λ here. (refl, tt)) (refl, tt)
-    (λ to moves at_. forwards_mild me pt.addresses id (plain_kind msg.what) msg.sender to) e
-
 -- the parts that freeze a process
 abbrev pub freezes : Pid → ℕ → List Part
 freezes p to = Says (Line.Migration Stage.Frozen p) ∷ Says (Line.Migration Stage.Asked p) ∷ to_kernel MessageKind.Ask to ∷ []
+
+-- a message of the bag leaves all migrations as they are, or asks a process to move, which sets off
+pub data Handled (o : Point) (m : ℕ) (id : MsgId) (msg : PlainMessage) (ps : List Part) : Type 0 where
+  Spared : ((me : Pid) → AllMild me (Some id) ps) → Handled o m id msg ps
+  SetsOff : (to : ℕ) → o.view.known m msg.to ≡ Here → msg.what ≡ PlainWhat.Move to → ps ≡ rule.says (Label.Asked id) ∷ freezes msg.to to → Handled o m id msg ps
+
+pub handles_mild : (b : Boot) (o : Point) (m : ℕ) (id : MsgId) (msg : PlainMessage) (ps : List Part) → handles b o m id msg ≡ Some ps → Handled o m id msg ps
+handles_mild b o m id msg ps e =
+    loose_handles (Handled o m id msg) (λ xs. (me : Pid) → AllMild me (Some id) xs) (record { none = λ me. tt; label = λ l qs h me. (tt, h me); routes = λ i qs h me. (tt, h me) }) (λ qs h. Spared h) b o m id msg ps (λ here. Spared (λ me. (refl, tt))) (Spared (λ me. (refl, tt)))
+    (λ to here what apart. SetsOff to here.known what refl) (λ to moves at_. Spared (λ me. forwards_mild me o.addresses id (plain_kind msg.what) msg.sender to)) e
 
 pub data Hears (k : Known) (id : MsgId) (t : Told) (ps : List Part) : Type 0 where
   Calms : ((me : Pid) → AllMild me (Some id) ps) → Hears k id t ps

@@ -4,9 +4,10 @@ use Rattle.dm_movelaws.proofs.Names.{served_told, is_between, Point, label_of, k
 use Rattle.dm_movelaws.proofs.Names.{record_off, Tame, line_calm, plain_in_bag, Sane, ended_off, created_off, served_keeps, Mark, with_mark, other_than, Spelled, spelled, fits_put, fits_packet, touches, pair_same, packet_calm, fits_as}
 use Rattle.dm_movelaws.proofs.Names.{PairsFit, Sayable, part_sane, by_parts, Steps, PacketsKeep, nat_tests, arith}
 use Rattle.dm_movelaws.proofs.Stages.Marks.{mark_other, marks_of}
-use Rattle.dm_movelaws.proofs.Stages.Spares.{is_settled, Spares, spares_same, spares_calm, spares_trans, spares_put}
-use Rattle.dm_movelaws.proofs.Leading.{whatever_put, part_leads}
+use Rattle.dm_movelaws.proofs.Stages.Spares.{is_settled, Spares, spares_same, spares_calm, spares_trans, spares_put, spares_about}
+use Rattle.dm_movelaws.proofs.Leading.{whatever_put, part_leads, line_fits}
 use Rattle.dm_onekernel.specs.Step as kernel
+use Rattle.dm_movelaws.proofs.Names.{moved}
 
 -- what is said of the message at the front, and steps of another process that handle no message
 abbrev pub MildLine : Pid → Option MsgId → Line → Type 0
@@ -31,7 +32,7 @@ AllMild p o [] = ⊤
 AllMild p o (q ∷ ps) = Mild p o q × AllMild p o ps
 
 -- they don't mark it
-line_marks : (p : Pid) (o : Option MsgId) (l : Line) (ms : List Mark) → MildLine p o l → with_mark p l ms ≡ ms
+pub line_marks : (p : Pid) (o : Option MsgId) (l : Line) (ms : List Mark) → MildLine p o l → with_mark p l ms ≡ ms
 line_marks p o l ms h = grind (arith, nat_tests, mark_other, pid_eq-swap)
 
 pub mild_marks : (p : Pid) (o : Option MsgId) (ps : List Part) → AllMild p o ps → marks_of p ps ≡ []
@@ -123,7 +124,7 @@ part_spares : (p : Pid) (o : Option MsgId) (pt next : Point) (q : Part) → Sane
 part_spares p o pt next q h fits tame mild =
     part_leads (Spared p pt.view) (spared_packet p pt.view) pt next q
     (whatever_put (Spared p pt.view) pt q
-    (λ l is s step. let m = subst (Mild p o) is mild in (line_spares pt s l p o h tame m step, fits_as pt.view (view_after pt.view l) (pair_same pt.view l (mild_touches p o l m)) fits))
+    (λ l is s step. let m = subst (Mild p o) is mild in (spares_about pt.view (view_after pt.view l) (moved pt l s).view.topic p (line_spares pt s l p o h tame m step), line_fits pt s l (mild_touches p o l m) fits))
     (λ b i k r. (spares_put pt.view b i k r p fits, fits_put pt.view pt.view.acting b i k r fits)) (spares_same pt.view p, fits))
 
 sayable_of : (p : Pid) (o : Option MsgId) (q : Part) → Mild p o q → Sayable q

@@ -7,6 +7,8 @@ use Rattle.dm_movelaws.proofs.Stages.Marks.{open_after}
 use Rattle.dm_movelaws.proofs.Stages.Spares.{is_settled, mark_of, Spares, TokenOf, HasMark, token_mark, Marked, none_marked, some_marked}
 use Rattle.dm_movelaws.proofs.Stages.Lines.{AllMild, spares_line, same_spot, Kept, parts_spare}
 pub use Rattle.dm_rule.proofs.Phases.Put.{of_same}
+use Rattle.dm_movelaws.proofs.Names.{seen_none}
+use Rattle.dm_movelaws.proofs.Leading.{line_fits}
 
 -- the message at the front, of no other process's migration
 pub record Handling (pt : Point) (i : MsgId) (is : List MsgId) (q : Pid) : Type 0 where
@@ -75,14 +77,16 @@ owns_token pt k q r b w sane fits between topic e =
 pub line_sane : (pt : Point) (l : Line) → label_of l ≡ None → is_put l ≡ false → Sane pt → Sane (moved pt l pt.kernel)
 line_sane pt l none quiet h = sane_line pt (moved pt l pt.kernel) l quiet (ap (λ o. bind (kernel_after pt.kernel o) (λ s. Some (moved pt l s))) none) h
 
-pub line_fits : (pt : Point) (l : Line) → touches l ≡ false → PairsFit pt.view → PairsFit (view_after pt.view l)
-line_fits pt l calm h = fits_as pt.view (view_after pt.view l) (pair_same pt.view l calm) h
-
 -- a line that handles it, and parts that leave the others alone
 pub line_and_parts : (pt : Point) (p : Pid) (l : Line) (ps : List Part) (w : Spelled) → label_of l ≡ None → is_put l ≡ false → touches l ≡ false → Sane pt → PairsFit pt.view → Spares pt.view (view_after pt.view l) p → AllMild p None ps → spelled pt (Says l ∷ ps) ≡ Some w → Spares pt.view w.point.view p
 line_and_parts pt p l ps w none quiet calm sane fits first mild e =
     let n = line_next pt l ps w none e in
-    let start : Kept pt.view p None (moved pt l pt.kernel) = record { spares = first; sane = line_sane pt l none quiet sane; fits = line_fits pt l calm fits; tame = λ j k. cc } in
+    let start : Kept pt.view p None (moved pt l pt.kernel) = record {
+      spares = subst (λ (v : View). Spares pt.view v p) (sym (seen_none pt.kernel pt.view l none)) first;
+      sane = line_sane pt l none quiet sane;
+      fits = line_fits pt pt.kernel l calm fits;
+      tame = λ j k. cc;
+    } in
     subst (λ (x : Point). Spares pt.view x.view p) n.point (parts_spare p None ps pt.view (moved pt l pt.kernel) n.rest mild start n.more).spares
 
 -- what a group says of one process, and leaves of the others
@@ -105,7 +109,7 @@ answer pt i is q r l k b ns x w h none quiet calm off known topic between unmark
     let v = pt.view in
     let n = line_next pt l (Owns k r b ∷ []) w none e in
     let next = moved pt l pt.kernel in
-    let token : TokenOf w.point.view q k = subst (λ (y : Point). TokenOf y.view q k) n.point (owns_token next k q r b n.rest (line_sane pt l none quiet h.sane) (line_fits pt l calm h.fits) between topic n.more) in
+    let token : TokenOf w.point.view q k = subst (λ (y : Point). TokenOf y.view q k) n.point (owns_token next k q r b n.rest (line_sane pt l none quiet h.sane) (line_fits pt pt.kernel l calm h.fits) between (ap (λ (x : View). x.topic) (seen_none pt.kernel v l none) ∙ topic) n.more) in
     search (line_and_parts, first_spares, some_marked, token_mark)
 
 -- parts after parts

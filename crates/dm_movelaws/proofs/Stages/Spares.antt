@@ -4,6 +4,8 @@ use Rattle.dm_movelaws.proofs.Names.{Known, Unknown, Here, Frozen, Incoming, For
 use Rattle.dm_movelaws.proofs.Names.{token_in, told_between, IsIn, id_eq-is, PairsFit, put_told_off, Calm, between_of, put_spots, put_at, put_there, put_spot, rests_here, Mark, Reached, Lacking, in_order, eq_self, not_false, right_true}
 use Rattle.dm_movelaws.proofs.Names.{first_kept, kind_leaves, nat_tests, arith}
 use Rattle.dm_movelaws.proofs.Stages.Marks.{open_after}
+use Rattle.dm_movelaws.proofs.Names.{calm_about, calm_same, About}
+use Rattle.dm_rule.specs.View as view
 
 -- the last mark, by the message that is under way
 abbrev pub mark_of : MessageKind → Option Mark
@@ -41,6 +43,9 @@ spares_trans u v w p h k = grind (arith, nat_tests)
 
 pub spares_calm : (v w : View) (p : Pid) → Calm v w → Spares v w p
 spares_calm v w p c = grind (arith, nat_tests)
+
+pub spares_about : (v w : View) (a : About) (p : Pid) → Spares v w p → Spares v (view.about w a) p
+spares_about v w a p h = spares_trans v w (view.about w a) p h (spares_calm w (view.about w a) p (calm_about w w a (calm_same w)))
 
 pub spares_put : (v : View) (b : ℕ) (i : MsgId) (k : MessageKind) (q p : Pid) → PairsFit v → Spares v (after_put v v.acting b i k q) p
 spares_put v b i k q p fits =

@@ -8,7 +8,10 @@ use Rattle.dm_movelaws.proofs.Stages.Marks.{open_after, marks_of, mark_same, mar
 use Rattle.dm_movelaws.proofs.Stages.Spares.{is_settled, Spares, spares_same, TokenOf, HasMark, token_mark, here_mark, some_marked, mark_of, Marked}
 use Rattle.dm_movelaws.proofs.Stages.Lines.{AllMild, spares_line, same_spot, Kept, parts_spare}
 use Rattle.dm_movelaws.proofs.Stages.Hears.{freezes}
-use Rattle.dm_movelaws.proofs.Stages.Rows.{Handling, first_spares, owns_token, line_sane, line_fits, line_and_parts, Row, split, front_token, row_marked, answer}
+use Rattle.dm_movelaws.proofs.Stages.Rows.{Handling, first_spares, owns_token, line_sane, line_and_parts, Row, split, front_token, row_marked, answer}
+use Rattle.dm_movelaws.proofs.Leading.{line_fits, asker_known}
+use Rattle.dm_movelaws.proofs.Names.{sets, sets_off, View, Note, Outcome, NothingElse, tells_asker, answers_move, frozen_is, aim}
+use Rattle.dm_movelaws.proofs.Names.{PairsFit, Sane, Target, asked_off}
 
 -- a process is home again
 home_spares : (pt : Point) (i : MsgId) (is : List MsgId) (q p : Pid) (l : Line) → Handling pt i is q → pid_eq q p ≡ false → is_put l ≡ false → ((z : Spot) → ids_at (view_after pt.view l) z ≡ ids_at (released (home_again (handled_first pt.view) q) q) z)
@@ -23,15 +26,32 @@ home_spares pt i is q p l h apart quiet off known =
     (y, subst (λ n. 1 ≤ n) (sym (ap (times j) (off y))) s))
     (λ m e. ap is_settled (ap (λ (f : ℕ → Pid → Known). f m p) known ∙ record_off v.known v.acting q Here m p apart) ∙ e)
 
-home_known : (pt : Point) (l : Line) (w : Spelled) (q : Pid) → label_of l ≡ None → (view_after pt.view l).known ≡ at_record pt.view.known pt.view.acting q Here → spelled pt (Says l ∷ []) ≡ Some w → w.point.view.known pt.view.acting q ≡ Here
-home_known pt l w q none known e = grind (arith, nat_tests, line_next, said, at_record_at)
+-- its request is answered, if it followed one
+asker_marks : (p : Pid) (o : Option Note) (r : Outcome) → marks_of p (tells_asker o r) ≡ []
+asker_marks p None r = refl
+asker_marks p (Some n) r = refl
 
-pub comes_home : (pt : Point) (i : MsgId) (is : List MsgId) (q : Pid) (l : Line) (ns : List Mark) (x : Option Mark) (w : Spelled) → Handling pt i is q → label_of l ≡ None → is_put l ≡ false → touches l ≡ false → ((z : Spot) → ids_at (view_after pt.view l) z ≡ ids_at (released (home_again (handled_first pt.view) q) q) z)
+asker_mild : (p : Pid) (o : Option Note) (r : Outcome) → AllMild p None (tells_asker o r)
+asker_mild p None r = tt
+asker_mild p (Some n) r = (tt, (tt, tt))
+
+home_known : (pt : Point) (l : Line) (o : Option Note) (r : Outcome) (w : Spelled) (q : Pid) → label_of l ≡ None → (view_after pt.view l).known ≡ at_record pt.view.known pt.view.acting q Here → spelled pt (Says l ∷ tells_asker o r) ≡ Some w → w.point.view.known pt.view.acting q ≡ Here
+home_known pt l o r w q none known e =
+    let n = line_next pt l (tells_asker o r) w none e in
+    let a = pt.view.acting in
+    ap (λ (x : Point). x.view.known a q) (sym n.point)
+    ∙ asker_known a q Here o r (moved pt l pt.kernel) n.rest n.more (ap (λ (f : ℕ → Pid → Known). f a q) known ∙ at_record_at pt.view.known a q Here)
+
+pub comes_home : (pt : Point) (i : MsgId) (is : List MsgId) (q : Pid) (l : Line) (a : Option Note) (r : Outcome) (ns : List Mark) (x : Option Mark) (w : Spelled) → Handling pt i is q → label_of l ≡ None → is_put l ≡ false → touches l ≡ false
+    → ((z : Spot) → ids_at (view_after pt.view l) z ≡ ids_at (released (home_again (handled_first pt.view) q) q) z)
     → (view_after pt.view l).known ≡ at_record pt.view.known pt.view.acting q Here → ((p : Pid) → pid_eq q p ≡ false → with_mark p l [] ≡ []) → with_mark q l [] ≡ ns → HasMark pt.view q x → in_order x ns ≡ true → open_after x ns ≡ None
-    → spelled pt (Says l ∷ []) ≡ Some w → Row pt.view w.point.view q (λ p. with_mark p l [])
-comes_home pt i is q l ns x w h none quiet calm off known unmarked marked before order ends e = record {
-  others = λ p apart. (unmarked p apart, line_and_parts pt p l [] w none quiet calm h.sane h.fits (home_spares pt i is q p l h apart quiet off known) tt e);
-  mine = some_marked pt.view w.point.view q (with_mark q l []) ns x None marked before (here_mark w.point.view q pt.view.acting (home_known pt l w q none known e)) order ends;
+    → spelled pt (Says l ∷ tells_asker a r) ≡ Some w → Row pt.view w.point.view q (λ p. marks_of p (Says l ∷ tells_asker a r))
+comes_home pt i is q l a r ns x w h none quiet calm off known unmarked marked before order ends e = record {
+  others = λ p apart. (
+    ap (with_mark p l) (asker_marks p a r) ∙ unmarked p apart,
+    line_and_parts pt p l (tells_asker a r) w none quiet calm h.sane h.fits (home_spares pt i is q p l h apart quiet off known) (asker_mild p a r) e,
+  );
+  mine = some_marked pt.view w.point.view q (marks_of q (Says l ∷ tells_asker a r)) ns x None (ap (with_mark q l) (asker_marks q a r) ∙ marked) before (here_mark w.point.view q pt.view.acting (home_known pt l a r w q none known e)) order ends;
 }
 
 -- a process is frozen
@@ -41,8 +61,10 @@ frozen_unmarked p q to e = grind (arith, nat_tests, pid_eq-swap, mark_other)
 frozen_marked : (q : Pid) (to : ℕ) → marks_of q (freezes q to) ≡ Reached 1 ∷ Reached 2 ∷ []
 frozen_marked q to = mark_same q (Reached 1) (mark_for q q (Reached 2) []) ∙ ap (λ (ms : List Mark). Reached 1 ∷ ms) (mark_same q (Reached 2) [])
 
-pub freezes_row : (pt : Point) (i : MsgId) (is : List MsgId) (q : Pid) (to : ℕ) (w : Spelled) → Handling pt i is q → pt.view.known pt.view.acting q ≡ Here → spelled pt (freezes q to) ≡ Some w → Row pt.view w.point.view q (λ p. marks_of p (freezes q to))
-freezes_row pt i is q to w h here e =
+-- wherever its request stood, if the others are left alone
+pub sets_row : (pt : Point) (q : Pid) (to : ℕ) (w : Spelled) → Sane pt → PairsFit pt.view → pt.view.known pt.view.acting q ≡ Here → ((p : Pid) → pid_eq q p ≡ false → Spares pt.view (view_after pt.view (Line.Migration Stage.Frozen q)) p) → spelled pt (freezes q to) ≡ Some w
+    → Row pt.view w.point.view q (λ p. marks_of p (freezes q to))
+sets_row pt q to w sane fits here spared e =
     let v = pt.view in
     let l = Line.Migration Stage.Frozen q in
     let k = Line.Migration Stage.Asked q in
@@ -51,16 +73,28 @@ freezes_row pt i is q to w h here e =
     let n = line_next pt l ps w refl e in
     let last = moved next k next.kernel in
     let o = line_next next k (to_kernel MessageKind.Ask to ∷ []) n.rest refl n.more in
-    let sane_ = line_sane next k refl refl (line_sane pt l refl refl h.sane) in
-    let token : TokenOf w.point.view q MessageKind.Ask = subst (λ (y : Point). TokenOf y.view q MessageKind.Ask) (o.point ∙ n.point) (owns_token last MessageKind.Ask q (pid_of to 0) to o.rest sane_ (line_fits pt l refl h.fits) refl refl o.more) in
+    let sane_ = line_sane next k refl refl (line_sane pt l refl refl sane) in
+    let token : TokenOf w.point.view q MessageKind.Ask = subst (λ (y : Point). TokenOf y.view q MessageKind.Ask) (o.point ∙ n.point)
+    (owns_token last MessageKind.Ask q (pid_of to 0) to o.rest sane_ (line_fits next next.kernel k refl (line_fits pt pt.kernel l refl fits)) refl (sets v q v.topic).topic o.more) in
     record {
-      others = λ p apart. (
-        frozen_unmarked p q to apart,
-        line_and_parts pt p l ps w refl refl refl h.sane h.fits
-            (first_spares pt i is q p l h apart refl (λ z. frozen_off v q z ∙ first_off v i is h.front z) (λ m. record_off v.known v.acting q (Frozen (target_of (front_told v (v.inbox v.acting)))) m p apart)) (apart, (tt, tt)) e,
-      );
+      others = λ p apart. (frozen_unmarked p q to apart, line_and_parts pt p l ps w refl refl refl sane fits (spared p apart) (apart, (tt, tt)) e);
       mine = some_marked v w.point.view q (marks_of q (freezes q to)) (Reached 1 ∷ Reached 2 ∷ []) None (Some (Reached 2)) (frozen_marked q to) (here_mark v q v.acting here) (token_mark w.point.view q MessageKind.Ask token) refl refl;
     }
+
+pub freezes_row : (pt : Point) (i : MsgId) (is : List MsgId) (q : Pid) (to : ℕ) (w : Spelled) → Handling pt i is q → pt.view.topic ≡ NothingElse → pt.view.known pt.view.acting q ≡ Here → spelled pt (freezes q to) ≡ Some w → Row pt.view w.point.view q (λ p. marks_of p (freezes q to))
+freezes_row pt i is q to w h topic here =
+    let v = pt.view in
+    let l = Line.Migration Stage.Frozen q in
+    sets_row pt q to w h.sane h.fits here
+    (λ p apart. first_spares pt i is q p l h apart refl (λ z. frozen_off v q topic z ∙ first_off v i is h.front z) (λ m. ap (λ (f : ℕ → Pid → Known). f m p) (sets v q v.topic).known ∙ record_off v.known v.acting q (Frozen (aim v v.topic)) m p apart))
+
+-- behind the line that says that it is asked to move
+pub setting_row : (pt : Point) (q : Pid) (to : ℕ) (w : Spelled) → Sane pt → PairsFit pt.view → pt.view.topic ≡ Target to → pt.view.known pt.view.acting q ≡ Here → spelled pt (freezes q to) ≡ Some w → Row pt.view w.point.view q (λ p. marks_of p (freezes q to))
+setting_row pt q to w sane fits topic here =
+    let v = pt.view in
+    let l = Line.Migration Stage.Frozen q in
+    sets_row pt q to w sane fits here (λ p apart. spares_line v l p refl (λ j t z told b a st. same_spot v (view_after v l) j z (ap (times j) (asked_off v q to topic z)) st)
+    (λ m e. ap is_settled (ap (λ (f : ℕ → Pid → Known). f m p) (sets v q v.topic).known ∙ record_off v.known v.acting q (Frozen (aim v v.topic)) m p apart) ∙ e))
 
 -- its lists go on, and it leaves
 abbrev pub departs : Pid → ℕ → List MsgId → ℕ → List Part
@@ -102,12 +136,12 @@ departs_row pt i is q to ids from w h phases before e =
     let n = line_next pt l (sends_on to ids ++ end) w refl e in
     let next = moved pt l pt.kernel in
     let s = split (sends_on to ids) end next n.rest n.more in
-    let start : Kept next.view q None next = record { spares = spares_same next.view q; sane = line_sane pt l refl refl h.sane; fits = line_fits pt l refl h.fits; tame = λ j e. cc } in
+    let start : Kept next.view q None next = record { spares = spares_same next.view q; sane = line_sane pt l refl refl h.sane; fits = line_fits pt pt.kernel l refl h.fits; tame = λ j e. cc } in
     let kept = parts_spare q None (sends_on to ids) next.view next s.mid (only_sent q to ids) start s.first in
     let mid = s.mid.point in
     let last = moved mid k mid.kernel in
     let o = line_next mid k (to_kernel MessageKind.Restart from ∷ []) s.rest refl s.more in
-    let token : TokenOf w.point.view q MessageKind.Restart = subst (λ (y : Point). TokenOf y.view q MessageKind.Restart) (o.point ∙ s.point ∙ n.point) (owns_token last MessageKind.Restart q (pid_of from 0) from o.rest (line_sane mid k refl refl kept.sane) (line_fits mid k refl kept.fits) refl refl o.more) in
+    let token : TokenOf w.point.view q MessageKind.Restart = subst (λ (y : Point). TokenOf y.view q MessageKind.Restart) (o.point ∙ s.point ∙ n.point) (owns_token last MessageKind.Restart q (pid_of from 0) from o.rest (line_sane mid k refl refl kept.sane) (line_fits mid mid.kernel k refl kept.fits) refl refl o.more) in
     record {
       others = λ p apart. (
         departs_unmarked p q to ids from apart,
@@ -175,15 +209,17 @@ block_row pt i is t q true w h e = step_row pt i is t q (Line.Migration Stage.Me
 block_row pt i is t q false w h e = proto_row pt i is t q MessageKind.Memory MessageKind.PullBlock w h e refl refl refl
 
 -- it stays, and it is restarted
-stays_row : (pt : Point) (i : MsgId) (is : List MsgId) (t : Told) (q : Pid) (w : Spelled) → Heard pt i is t q → t.kind ≡ MessageKind.Refuse → spelled pt (Says (Line.Stays q) ∷ []) ≡ Some w → MarkedBy pt w (Says (Line.Stays q) ∷ [])
-stays_row pt i is t q w h e n p =
-    row_marked pt.view w.point.view q (λ r. mark_for r q Staying [])
-    (comes_home pt i is q (Line.Stays q) (Staying ∷ []) (Some Lacking) w h.at refl refl refl (λ z. refl) refl (λ r apart. unmarked q Staying r apart) (mark_same q Staying []) (heard_mark pt i is t q MessageKind.Refuse h e refl) refl refl n) p
+stays_row : (pt : Point) (i : MsgId) (is : List MsgId) (t : Told) (q : Pid) (a : Option Note) (w : Spelled) → Heard pt i is t q → t.kind ≡ MessageKind.Refuse → spelled pt (Says (Line.Stays q) ∷ tells_asker a Outcome.Stayed) ≡ Some w
+    → MarkedBy pt w (Says (Line.Stays q) ∷ tells_asker a Outcome.Stayed)
+stays_row pt i is t q a w h e n p =
+    row_marked pt.view w.point.view q (λ r. marks_of r (Says (Line.Stays q) ∷ tells_asker a Outcome.Stayed))
+    (comes_home pt i is q (Line.Stays q) a Outcome.Stayed (Staying ∷ []) (Some Lacking) w h.at refl refl refl (λ z. refl) refl (λ r apart. unmarked q Staying r apart) (mark_same q Staying []) (heard_mark pt i is t q MessageKind.Refuse h e refl) refl refl n) p
 
-restarted_row : (pt : Point) (i : MsgId) (is : List MsgId) (t : Told) (q : Pid) (w : Spelled) → Heard pt i is t q → t.kind ≡ MessageKind.Restart → spelled pt (Says (Line.Migration Stage.Restarted q) ∷ []) ≡ Some w → MarkedBy pt w (Says (Line.Migration Stage.Restarted q) ∷ [])
-restarted_row pt i is t q w h e n p =
-    row_marked pt.view w.point.view q (λ r. mark_for r q (Reached 8) [])
-    (comes_home pt i is q (Line.Migration Stage.Restarted q) (Reached 8 ∷ []) (Some (Reached 7)) w h.at refl refl refl (λ z. restarted_off pt.view q z) refl (λ r apart. unmarked q (Reached 8) r apart) (mark_same q (Reached 8) []) (heard_mark pt i is t q MessageKind.Restart h e refl) refl refl n) p
+restarted_row : (pt : Point) (i : MsgId) (is : List MsgId) (t : Told) (q : Pid) (a : Option Note) (w : Spelled) → Heard pt i is t q → t.kind ≡ MessageKind.Restart → spelled pt (Says (Line.Migration Stage.Restarted q) ∷ tells_asker a Outcome.Done) ≡ Some w
+    → MarkedBy pt w (Says (Line.Migration Stage.Restarted q) ∷ tells_asker a Outcome.Done)
+restarted_row pt i is t q a w h e n p =
+    row_marked pt.view w.point.view q (λ r. marks_of r (Says (Line.Migration Stage.Restarted q) ∷ tells_asker a Outcome.Done))
+    (comes_home pt i is q (Line.Migration Stage.Restarted q) a Outcome.Done (Reached 8 ∷ []) (Some (Reached 7)) w h.at refl refl refl (λ z. restarted_off pt.view q z) refl (λ r apart. unmarked q (Reached 8) r apart) (mark_same q (Reached 8) []) (heard_mark pt i is t q MessageKind.Restart h e refl) refl refl n) p
 
 -- all is taken
 leaves_row : (pt : Point) (i : MsgId) (is : List MsgId) (t : Told) (q : Pid) (ids : List MsgId) (k : Known) (parts : List Part) (w : Spelled) → Heard pt i is t q → t.kind ≡ MessageKind.AllTaken → leaves i q ids k ≡ Some parts → spelled pt parts ≡ Some w → MarkedBy pt w parts
@@ -196,11 +232,11 @@ leaves_row pt i is t q ids _ parts w h e f n = cc
 pub told_marked : (o pt : Point) (m : ℕ) (i : MsgId) (is : List MsgId) (t : Told) (q : Pid) (room : Bool × ℕ × ℕ) (x : PlainProcess) (k : MessageKind) (parts : List Part) (w : Spelled) → Heard pt i is t q → t.kind ≡ k → kernel_told o m i q room x k ≡ Some parts → spelled pt parts ≡ Some w
     → (p : Pid) → Marked pt.view w.point.view p (marks_of p parts)
 told_marked o pt m i is t q room x MessageKind.Ask parts w h e g n = given pt w (accepts i.from.home q room.0 room.1 room.2) parts g (λ s. asked_row pt i is t q room.0 room.1 room.2 w h e s) n
-told_marked o pt m i is t q room x MessageKind.Refuse parts w h e g n = given pt w (Says (Line.Stays q) ∷ []) parts g (λ s. stays_row pt i is t q w h e s) n
+told_marked o pt m i is t q room x MessageKind.Refuse parts w h e g n = given pt w (Says (Line.Stays q) ∷ tells_asker (o.kernel.notes q) Outcome.Stayed) parts g (λ s. stays_row pt i is t q (o.kernel.notes q) w h e s) n
 told_marked o pt m i is t q room x MessageKind.PullState parts w h e g n = given pt w (gives_piece i MessageKind.State) parts g (λ s. proto_row pt i is t q MessageKind.PullState MessageKind.State w h e refl refl refl s) n
 told_marked o pt m i is t q room x MessageKind.State parts w h e g n = given pt w (takes_chunk i q (o.view.asked q == chunks_of x)) parts g (λ s. chunk_row pt i is t q (o.view.asked q == chunks_of x) w h e s) n
 told_marked o pt m i is t q room x MessageKind.PullBlock parts w h e g n = given pt w (gives_piece i MessageKind.Memory) parts g (λ s. proto_row pt i is t q MessageKind.PullBlock MessageKind.Memory w h e refl refl refl s) n
 told_marked o pt m i is t q room x MessageKind.Memory parts w h e g n = given pt w (takes_block i q (o.view.asked q == pieces_of x)) parts g (λ s. block_row pt i is t q (o.view.asked q == pieces_of x) w h e s) n
 told_marked o pt m i is t q room x MessageKind.AllTaken parts w h e g n = leaves_row pt i is t q (o.view.queue m q ++ o.view.held m q) (o.view.known m q) parts w h e g n
-told_marked o pt m i is t q room x MessageKind.Restart parts w h e g n = given pt w (Says (Line.Migration Stage.Restarted q) ∷ []) parts g (λ s. restarted_row pt i is t q w h e s) n
+told_marked o pt m i is t q room x MessageKind.Restart parts w h e g n = given pt w (Says (Line.Migration Stage.Restarted q) ∷ tells_asker (o.kernel.notes q) Outcome.Done) parts g (λ s. restarted_row pt i is t q (o.kernel.notes q) w h e s) n
 told_marked o pt m i is t q room x _ parts w h e g n = cc

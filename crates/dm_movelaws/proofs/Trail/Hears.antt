@@ -7,6 +7,30 @@ use Rattle.dm_movelaws.proofs.Trail.Loose.{Walks, first_walks, loose_walks, upda
 use Rattle.dm_movelaws.proofs.Trail.Forwards.{leaves_walks}
 use Rattle.dm_rule.specs.Rule as rule
 use Rattle.dm_rule.proofs.Hearing as hearing
+use Rattle.dm_movelaws.proofs.Names.{None, Note, OneKernel, Known, label_of, kernel_after, moved, at_record, at_record_at, Said, said_by, answers_move, Outcome}
+use Rattle.dm_movelaws.proofs.Names.{slice_get, Label, Routes, aim, sets, leaves_for}
+use Rattle.dm_movelaws.proofs.Trail.Loose.{label_walks, places_same, routes_loose}
+use Rattle.dm_onekernel.specs.Pieces as pieces
+
+pub at_end : (pt : Point) (t : Trails) (p : Pid) → pt.view.known pt.view.acting p ≡ Here → Places pt.view t → slice_get (t p) (pt.view.moves p) ≡ Some pt.view.acting
+at_end pt t p here h = (h p).now pt.view.acting (ap is_held here)
+
+-- the end of a move is answered, where the process is
+pub answers_walks : (pt : Point) (t : Trails) (i : MsgId) (r : Outcome) → ((p : Pid) → pt.kernel.noted i ≡ Some p → pt.view.known pt.view.acting p ≡ Here) → Places pt.view t → Walks pt t (answers_move i r)
+answers_walks pt t i r here h =
+    label_walks pt t (Label.Answered i r) (Routes (pieces.answer_id i) ∷ []) (λ on. (
+      (λ p noted. at_end pt t p (here p noted) h),
+      tt,
+      places_same pt.view (view_after pt.view (Line.Label (Label.Answered i r))) t (λ m q. refl) (λ q. refl) h,
+    )) (routes_loose (pieces.answer_id i), tt)
+
+-- a process sets off
+pub freezes_walks : (pt : Point) (t : Trails) (p : Pid) (to : ℕ) → pt.view.known pt.view.acting p ≡ Here → Places pt.view t → Walks pt t (leaves_for p to)
+freezes_walks pt t p to here h =
+    let v = pt.view in
+    let set = sets v p v.topic in
+    first_walks (Line.Migration Stage.Frozen p) (Says (Line.Migration Stage.Asked p) ∷ to_kernel MessageKind.Ask to ∷ []) pt t
+    (λ sane on. (here, λ next s. subst (λ (z : Point). Places z.view t) s.is (places_held v (view_after v (Line.Migration Stage.Frozen p)) t p (Frozen (aim v v.topic)) set.known set.moves refl (ap is_held here) h))) (asked_loose p, to_between MessageKind.Ask to refl)
 
 -- a process moves, and a message of this kind is heard about it
 pub record Heard (pt : Point) (p : Pid) (k : MessageKind) : Type 0 where
@@ -52,19 +76,34 @@ restarted_places pt t p u h =
 restarts_walks : (pt : Point) (t : Trails) (p : Pid) → Heard pt p MessageKind.Restart → Places pt.view t → Walks pt t (Says (Line.Migration Stage.Restarted p) ∷ [])
 restarts_walks pt t p u h = grind (arith, nat_tests, first_walks, restarted_places)
 
-freezes_walks : (pt : Point) (t : Trails) (p : Pid) (to : ℕ) → pt.view.known pt.view.acting p ≡ Here → Places pt.view t → Walks pt t (Says (Line.Migration Stage.Frozen p) ∷ Says (Line.Migration Stage.Asked p) ∷ to_kernel MessageKind.Ask to ∷ [])
-freezes_walks pt t p to here h =
+-- who asked for the move is told
+answers_at : (pt : Point) (t : Trails) (p : Pid) (l : Line) (n : Note) (r : Outcome) → label_of l ≡ None → (view_after pt.view l).known ≡ at_record pt.view.known pt.view.acting p Here → (view_after pt.view l).acting ≡ pt.view.acting → pt.kernel.notes p ≡ Some n → Sane pt
+    → Places (moved pt l pt.kernel).view t → (next : Point) → Said pt l next → Walks next t (answers_move n.id r)
+answers_at pt t p l n r none known acting noted sane places next s =
+    let same : pt.kernel ≡ s.kernel = (let e : Some pt.kernel ≡ Some s.kernel = sym (ap (kernel_after pt.kernel) none) ∙ s.step in cc) in
+    let here : (view_after pt.view l).known (view_after pt.view l).acting p ≡ Here =
+    ap (λ (m : ℕ). (view_after pt.view l).known m p) acting ∙ ap (λ (f : ℕ → Pid → Known). f pt.view.acting p) known ∙ at_record_at pt.view.known pt.view.acting p Here in
+    let walks : Walks (moved pt l pt.kernel) t (answers_move n.id r) = answers_walks (moved pt l pt.kernel) t n.id r (λ q e.
+    let same_ : p ≡ q = (let f : Some p ≡ Some q = sym (sane.sound.notes.noted p n noted) ∙ e in cc) in
+    subst (λ (x : Pid). (view_after pt.view l).known (view_after pt.view l).acting x ≡ Here) same_ here) places in
+    subst (λ (z : Point). Walks z t (answers_move n.id r)) s.is (subst (λ (u : OneKernel). Walks (moved pt l u) t (answers_move n.id r)) same walks)
+
+stays_asked : (pt : Point) (t : Trails) (p : Pid) (n : Note) → Heard pt p MessageKind.Refuse → pt.kernel.notes p ≡ Some n → Places pt.view t → Walks pt t (Says (Line.Stays p) ∷ answers_move n.id Outcome.Stayed)
+stays_asked pt t p n u noted h =
     let v = pt.view in
-    let x = Frozen (target_of (front_told v (v.inbox v.acting))) in
-    first_walks (Line.Migration Stage.Frozen p) (Says (Line.Migration Stage.Asked p) ∷ to_kernel MessageKind.Ask to ∷ []) pt t
-    (λ sane on. (here, λ next s. subst (λ (z : Point). Places z.view t) s.is (places_held v (view_after v (Line.Migration Stage.Frozen p)) t p x refl refl refl (ap is_held here) h))) (asked_loose p, to_between MessageKind.Ask to refl)
+    let had : is_held (v.known v.acting p) ≡ true = ap (λ (m : ℕ). is_held (v.known m p)) u.acts ∙ ap is_held (source_holds v p MessageKind.Refuse u.s u.d u.o u.phase refl) in
+    λ sane on. (record { k = MessageKind.Refuse; s = u.s; d = u.d; o = u.o; phase = u.phase; off = refl }, λ next s. answers_at pt t p (Line.Stays p) n Outcome.Stayed refl refl refl noted sane (places_held v (view_after v (Line.Stays p)) t p Here refl refl refl had h) next (said_by pt next (Line.Stays p) s))
+
+restarts_asked : (pt : Point) (t : Trails) (p : Pid) (n : Note) → Heard pt p MessageKind.Restart → pt.kernel.notes p ≡ Some n → Places pt.view t → Walks pt t (Says (Line.Migration Stage.Restarted p) ∷ answers_move n.id Outcome.Done)
+restarts_asked pt t p n u noted h =
+    λ sane on. (record { k = MessageKind.Restart; s = u.s; d = u.d; o = u.o; phase = u.phase; off = refl }, λ next s. answers_at pt t p (Line.Migration Stage.Restarted p) n Outcome.Done refl refl refl noted sane (restarted_places pt t p u h) next (said_by pt next (Line.Migration Stage.Restarted p) s))
 
 abbrev AnotherHeard : Point → Point → Trails → ℕ → MsgId → Told → Type 0
 AnotherHeard pt o t m id v = hearing.Heard (Walks pt t) o m id v
 
-pub hears_walks : (pt : Point) (b : Boot) (o : Point) (t : Trails) (m : ℕ) (id : MsgId) (u : Told) (ps : List Part) → ((p : Pid) → both_lists pt.view p ≡ o.view.queue m p ++ o.view.held m p) → pt.view.known pt.view.acting u.receiver ≡ o.view.known m u.receiver
+pub hears_walks : (pt : Point) (b : Boot) (o : Point) (t : Trails) (m : ℕ) (id : MsgId) (u : Told) (ps : List Part) → ((p : Pid) → both_lists pt.view p ≡ o.view.queue m p ++ o.view.held m p) → ((p : Pid) (n : Note) → o.kernel.notes p ≡ Some n → pt.kernel.notes p ≡ Some n) → pt.view.known pt.view.acting u.receiver ≡ o.view.known m u.receiver
     → ((p : Pid) → u.about ≡ Of p → is_between u.kind ≡ true → Heard pt p u.kind) → ((to c : ℕ) → o.view.known m u.receiver ≡ Forward to c → Walks pt t (forwards_on o.addresses id u.kind manager to)) → Places pt.view t → rule.hears b o m id (Some u) ≡ Some ps → Walks pt t ps
-hears_walks pt b o t m id u ps same known kernels forwards h =
+hears_walks pt b o t m id u ps same notes known kernels forwards h =
     let home = id.from.home in
     let proto : (k : MessageKind) → AllLoose (to_kernel k home ∷ []) → Walks pt t (Says (Line.Proto id) ∷ to_kernel k home ∷ []) = λ k loose. loose_walks (Says (Line.Proto id) ∷ to_kernel k home ∷ []) pt t (proto_loose id, loose) h in
     let one : (l : Line) → Loose (Says l) → Walks pt t (Says l ∷ []) = λ l loose. loose_walks (Says l ∷ []) pt t (loose, tt) h in
@@ -76,7 +115,9 @@ hears_walks pt b o t m id u ps same known kernels forwards h =
           record {
             accepted = λ ask. accepts_walks pt t home p (at MessageKind.Ask ask refl) h;
             lacks = λ slots blocks. loose_walks (Says (Line.Lacks p slots blocks) ∷ to_kernel MessageKind.Refuse home ∷ []) pt t (lacks_loose p slots blocks, to_between MessageKind.Refuse home refl) h;
-            stays = λ kind. stays_walks pt t p (at MessageKind.Refuse kind refl) h;
+            stays = λ kind free. stays_walks pt t p (at MessageKind.Refuse kind refl) h;
+            stays_asked = λ kind n noted. stays_asked pt t p n (at MessageKind.Refuse kind refl) (notes p n noted) h;
+            restarted_asked = λ kind n noted. restarts_asked pt t p n (at MessageKind.Restart kind refl) (notes p n noted) h;
             state = proto MessageKind.State (to_between MessageKind.State home refl);
             next_chunk = proto MessageKind.PullState (to_between MessageKind.PullState home refl);
             last_chunk = loose_walks (Says (Line.Migration Stage.StateTaken p) ∷ to_kernel MessageKind.PullBlock home ∷ []) pt t (state_loose p, to_between MessageKind.PullBlock home refl) h;
@@ -86,7 +127,7 @@ hears_walks pt b o t m id u ps same known kernels forwards h =
             left = λ ids to leaves.
                 (let k = at MessageKind.AllTaken leaves.kind refl in
                 subst (λ (js : List MsgId). Walks pt t (left_parts id p js to)) (same p ∙ sym leaves.lists) (leaves_walks pt t id p (Frozen to) k.s k.d k.o k.phase k.acts h k.for_it));
-            restarted = λ kind. restarts_walks pt t p (at MessageKind.Restart kind refl) h;
+            restarted = λ kind free. restarts_walks pt t p (at MessageKind.Restart kind refl) h;
           }
           );
       updated = λ kind. one (Line.Updated id (behind_count o.kernel o.addresses u.receiver (place_told u.about))) (updated_loose id (behind_count o.kernel o.addresses u.receiver (place_told u.about)));

@@ -9,6 +9,7 @@ use Rattle.dm_movelaws.proofs.Leading.{Behind, whatever_put, part_leads}
 use Rattle.dm_rule.proofs.Trails.Along.{AllFit}
 use Rattle.dm_onekernel.specs.Step as kernel
 use Rattle.dm_rule.specs.Rule as rule
+use Rattle.dm_movelaws.proofs.Names.{seen}
 
 -- each of these lines fits where the ones before lead, and behind the last each process is placed
 abbrev pub AllGood : Point → Trails → List Line → Type 0
@@ -151,7 +152,10 @@ to_between k m b = (between_loose k m (λ pt. gives_between pt.kernel pt.view pt
 
 -- lines that say nothing of where processes are
 pub line_loose : (l : Line) → ((pt : Point) (t : Trails) → Sane pt → Treads pt t → LineFits pt t l) → ((v : View) (t : Trails) → Places v t → Places (view_after v l) (trails_after v t l)) → Loose (Says l)
-line_loose l fits leaves = grind (arith, nat_tests, said_by)
+line_loose l fits leaves = record {
+  fits = fits;
+  leaves = λ pt next t s h. (let k = said_by pt next l s in subst (λ (q : Point). Places q.view (trails_after pt.view t l)) k.is (places_same (view_after pt.view l) (seen pt.kernel pt.view l) (trails_after pt.view t l) (λ m q. refl) (λ q. refl) (leaves pt.view t h)));
+}
 
 proto_moves : (v : View) (o : Option Told) → (after_proto v o).moves ≡ v.moves
 proto_moves v o = grind (arith, nat_tests)
@@ -226,7 +230,7 @@ label_fits pt t l sane said known = record { named = λ i m there. sane.sound.en
 
 -- a label and then parts that fit anywhere
 pub label_walks : (pt : Point) (t : Trails) (l : Label) (ps : List Part) → (Treads pt t → SaidOn (IsOn t) pt.kernel pt.view pt.addresses l × KnownFits pt t l × Places (view_after pt.view (Line.Label l)) t) → AllLoose ps → Walks pt t (rule.says l ∷ ps)
-label_walks pt t l ps need loose = first_walks (Line.Label l) ps pt t (λ sane on. let k = need on in (label_fits pt t l sane k.0 k.1, λ next s. subst (λ (q : Point). Places q.view t) s.is k.2)) loose
+label_walks pt t l ps need loose = first_walks (Line.Label l) ps pt t (λ sane on. let k = need on in (label_fits pt t l sane k.0 k.1, λ next s. subst (λ (q : Point). Places q.view t) s.is (places_same (view_after pt.view (Line.Label l)) (seen pt.kernel pt.view (Line.Label l)) t (λ m q. refl) (λ q. refl) k.2))) loose
 
 pub dropped_loose : (i : MsgId) → Loose (rule.says (Label.Dropped i))
 dropped_loose i =

@@ -7,6 +7,8 @@ use Rattle.dm_rulelaws.proofs.Found.Core.{IsReal}
 use Rattle.dm_movelaws.proofs.After.{keeps_always}
 use Rattle.dm_onekernel.specs.Step as kernel
 use Rattle.dm_rule.specs.View as view
+use Rattle.dm_movelaws.proofs.Names.{sets}
+use Rattle.dm_movelaws.proofs.Names.{machine_in, topic_by, seen, PlainMessage, Option, None, Some, Label, label_of, About}
 
 -- a process that leaves a machine, or has left it
 abbrev passes : Known → Bool
@@ -60,7 +62,10 @@ head_made : (s : OneKernel) (v : View) (d : Step) (p : Pid) (m c : ℕ) → (vie
 head_made s v d p m c e = grind (arith, nat_tests, no_place)
 
 stage_made : (s : OneKernel) (v : View) (q : Pid) (k : Stage) (p : Pid) (m c : ℕ) → Passing s v → (view.after_stage v q k).topic ≡ view.Place p m c → WasMade s p
-stage_made s v q k p m c h e = grind (arith, nat_tests, no_of)
+stage_made s v q Stage.Asked p m c h e = h.topic p m c e
+stage_made s v q Stage.Restarted p m c h e = h.topic p m c e
+stage_made s v q Stage.Frozen p m c h e = no_of (WasMade s p) q p m c (sym (sets v q v.topic).topic ∙ e)
+stage_made s v q _ p m c h e = no_of (WasMade s p) q p m c e
 
 line_made : (s : OneKernel) (v : View) (l : Line) → Passing s v → (p : Pid) (m c : ℕ) → (view_after v l).topic ≡ view.Place p m c → WasMade s p
 line_made s v (Line.Head d) h p m c e = head_made s v d p m c e
@@ -99,10 +104,23 @@ served_known s v i o h m p e = grind (arith, nat_tests, killed_or, set_known)
 put_told : (v : View) (a b : ℕ) (i : MsgId) (k : MessageKind) (q : Pid) (s : OneKernel) (j : MsgId) (u : Told) (p : Pid) (m c : ℕ) → Passing s v → (view.after_put v a b i k q).told j ≡ Some u → u.about ≡ view.Place p m c → WasMade s p
 put_told v a b i k q s j u p m c h e f = grind (arith, nat_tests)
 
+-- where an asked process goes is no place of another
+machine_no : (o : Option PlainMessage) (p : Pid) (m c : ℕ) → machine_in o ≡ view.Place p m c → ⊥
+machine_no o p m c e = grind (arith, nat_tests)
+
+topic_place : (s : OneKernel) (a : About) (o : Option Label) (p : Pid) (m c : ℕ) → topic_by s a o ≡ view.Place p m c → a ≡ view.Place p m c
+topic_place s a None p m c e = e
+topic_place s a (Some (Label.Asked id)) p m c e = absurd (machine_no (s.bag id) p m c e)
+topic_place s a (Some _) p m c e = e
+
+passing_seen : (s t : OneKernel) (v : View) (l : Line) → Passing t (view_after v l) → Passing t (seen s v l)
+passing_seen s t v l h = record { known = h.known; told = h.told; topic = λ p m c e. h.topic p m c (topic_place s (view_after v l).topic (label_of l) p m c e) }
+
 passing_loud : Loud (λ pt. Passing pt.kernel pt.view)
 passing_loud = record {
   rides = grind (arith, nat_tests, put_told);
-  quiet = grind (arith, nat_tests, line_passing, goes_by, same_known);
+  quiet = λ pt w t l e s told alike sane is h. passing_seen pt.kernel t pt.view l
+      (line_passing pt t l (goes_by pt t (label_of l) sane is) (same_known pt.kernel pt.view (view_after pt.view l) (ap (λ (x : View). x.known) e ∙ s.known) h) (ap (λ (x : View). x.told) e ∙ told) h);
   ran = λ pt t p k here alike sane is h. line_passing pt t (Line.Label (Label.Ran p k)) (goes_label pt t (Label.Ran p k) sane is) h.known refl h;
   receive = λ pt t p id here alike sane is h. line_passing pt t (Line.Label (Label.Receive p id)) (goes_label pt t (Label.Receive p id) sane is) h.known refl h;
   refuse = λ pt t p id c here alike sane is h. line_passing pt t (Line.Label (Label.Refuse p id c)) (goes_label pt t (Label.Refuse p id c) sane is) h.known refl h;

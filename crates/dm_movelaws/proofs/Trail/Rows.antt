@@ -9,17 +9,15 @@ use Rattle.dm_movelaws.proofs.Trail.Placed.{is_held, Placed, Places, Learnt, pla
 use Rattle.dm_movelaws.proofs.Trail.Loose.{Walks, AllLoose, loose_walks, places_same, label_fits, label_walks, routes_loose, idle_loose, queued_loose, held_loose, dropped_loose, drops_loose, AllGood, parts_good, owns_leave, no_child_loose}
 use Rattle.dm_movelaws.proofs.Trail.Loose.{pinned_loose, net_loose}
 use Rattle.dm_movelaws.proofs.Trail.Forwards.{forwards_walks}
-use Rattle.dm_movelaws.proofs.Trail.Hears.{Heard, hears_walks}
+use Rattle.dm_movelaws.proofs.Trail.Hears.{Heard, hears_walks, answers_walks, freezes_walks, at_end}
 use Rattle.dm_onekernel.specs.Pieces as pieces
 use Rattle.dm_rule.specs.Rule as rule
+use Rattle.dm_movelaws.proofs.Names.{Stage, to_kernel, Frozen, answers_move, leaves_for, Outcome, aim, sets, asked_noted}
 
 -- a process that runs
 end_walks : (pt : Point) (t : Trails) (p : Pid) (queue : List MsgId) (y : Why) → pt.view.known pt.view.acting p ≡ Here → Places pt.view t → Walks pt t (rule.says (Label.End p y) ∷ rule.drop_parts queue)
 end_walks pt t p queue y here h =
     label_walks pt t (Label.End p y) (rule.drop_parts queue) (λ on. (tt, here, places_held pt.view (view_after pt.view (Line.Label (Label.End p y))) t p Ended refl refl refl (ap is_held here) h)) (drops_loose queue)
-
-at_end : (pt : Point) (t : Trails) (p : Pid) → pt.view.known pt.view.acting p ≡ Here → Places pt.view t → slice_get (t p) (pt.view.moves p) ≡ Some pt.view.acting
-at_end pt t p here h = (h p).now pt.view.acting (ap is_held here)
 
 runs_stops : (pt : Point) (t : Trails) (p : Pid) (queue : List MsgId) → pt.view.known pt.view.acting p ≡ Here → Places pt.view t → Stops (Walks pt t) p queue
 runs_stops pt t p queue here h = record {
@@ -109,6 +107,19 @@ drop_walks pt t id h = loose_walks (rule.says (Label.Dropped id) ∷ []) pt t (d
 pub or_first : (a b : Bool) → a ≡ true → (a || b) ≡ true
 or_first a b e = grind (arith, nat_tests)
 
+-- a process is asked to move
+asks_walks : (pt : Point) (t : Trails) (id : MsgId) (k : PlainMessage) (ps : List Part) → Front pt t id k → pt.view.known pt.view.acting k.to ≡ Here
+    → ((q : Point) → ((p : Pid) → q.kernel.noted id ≡ Some p → q.view.known q.view.acting p ≡ Here) → q.view.known q.view.acting k.to ≡ Here → Places q.view t → Walks q t ps) → Walks pt t (rule.says (Label.Asked id) ∷ ps)
+asks_walks pt t id k ps f here rest = λ sane on. (
+  label_fits pt t (Label.Asked id) sane tt tt,
+  (λ next s.
+      let l = Line.Label (Label.Asked id) in
+      let g = said_by pt next l s in
+      let mid = moved pt l g.kernel in
+      subst (λ (z : Point). Walks z t ps) g.is (rest mid (λ p noted. (let e : k.to ≡ p = (let f_ : Some k.to ≡ Some p = sym (asked_noted pt.kernel g.kernel id k g.step f.there) ∙ noted in cc) in subst (λ (x : Pid). pt.view.known pt.view.acting x ≡ Here) e here)) here
+      (places_same pt.view mid.view t (λ m q. refl) (λ q. refl) f.places))),
+)
+
 pub handles_walks : (pt : Point) (b : Boot) (o : Point) (t : Trails) (m : ℕ) (id : MsgId) (k : PlainMessage) (ps : List Part) → Front pt t id k → Unborn pt.view (pid_of m (first_number + o.kernel.made m)) → pt.view.known pt.view.acting k.to ≡ o.view.known m k.to
     → ((to c : ℕ) → o.view.known m k.to ≡ Forward to c → Walks pt t (forwards_on o.addresses id (plain_kind k.what) k.sender to)) → rule.handles b o m id k ≡ Some ps → Walks pt t ps
 handles_walks pt b o t m id k ps f born known forwards = by_handles (Walks pt t) b o m id k ps (record {
@@ -119,6 +130,8 @@ handles_walks pt b o t m id k ps f born known forwards = by_handles (Walks pt t)
   served = λ to mild. served_walks pt t id k [] f (known ∙ to.known) tt;
   answers = λ to mild i. served_walks pt t id k (Routes i ∷ []) f (known ∙ to.known) (routes_loose i, tt);
   kills = λ to kills. served_walks pt t id k (rule.drop_parts (o.view.queue m k.to)) f (known ∙ to.known) (drops_loose (o.view.queue m k.to));
+  moved = λ to what. asks_walks pt t id k (answers_move id Outcome.Done) f (known ∙ to.known) (λ q noted here h. answers_walks q t id Outcome.Done noted h);
+  sets_off = λ x to what apart. asks_walks pt t id k (leaves_for k.to x) f (known ∙ to.known) (λ q noted here h. freezes_walks q t k.to x here h);
   gone = λ to. gone_walks pt t id k f;
   dropped = λ to. drop_walks pt t id f.places;
   leaving = λ n to. loose_walks (Says (Line.Held id) ∷ []) pt t (held_loose id, tt) f.places;
@@ -179,7 +192,7 @@ own_walks b o t m i is ps start h at front there e =
     let (u, told) = told_there (o.view.told i) stands.1 in
     let own : is_kernels i ≡ true = front_kernels pt i is start.state front there in
     let placed : Places pt.view t = places_same o.view pt.view t (λ n q. refl) (λ q. refl) at in
-    hears_walks pt b o t m i u ps (λ p. refl) refl (λ p about between. heard o m i is u p start h front told about between)
+    hears_walks pt b o t m i u ps (λ p. refl) (λ p n e. e) refl (λ p about between. heard o m i is u p start h front told about between)
     (λ to c e. forwards_walks pt t i u manager to c told e placed (λ yes_ on. on.own.sender i u own told (moves_back u.kind (h.real i u told own).1 yes_))) placed (ap (rule.hears b o m i) (sym told) ∙ e)
 
 -- a directive to move a process

@@ -48,7 +48,7 @@ forwards_shape o c id k sender to = by_forwards (Shape o) c id k sender to (Quie
 
 pub handles_shape : (b : Boot) (o : Point) (m : ℕ) (id : MsgId) (msg : PlainMessage) (ps : List Part) → rule.handles b o m id msg ≡ Some ps → Shape o ps
 handles_shape b o m id msg ps e =
-    loose_handles (Shape o) AllQuiet quiet_loose (λ xs. Quiet) b o m id msg ps (λ here. Quiet (refl, tt)) (Quiet (refl, tt)) (λ to moves at_. forwards_shape o o.addresses id (plain_kind msg.what) msg.sender to) e
+    loose_handles (Shape o) AllQuiet quiet_loose (λ xs. Quiet) b o m id msg ps (λ here. Quiet (refl, tt)) (Quiet (refl, tt)) (λ to here what apart. Quiet (refl, (refl, (refl, (tt, tt))))) (λ to moves at_. forwards_shape o o.addresses id (plain_kind msg.what) msg.sender to) e
 
 -- a kernel's own message
 sends_quiet : (to : ℕ) (ids : List MsgId) (ps : List Part) → AllQuiet ps → AllQuiet (sends_on to ids ++ ps)
