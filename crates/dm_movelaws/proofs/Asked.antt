@@ -4,3 +4,4 @@ pub mod Rows
 pub mod Kernel
 pub mod Always
 pub mod Said
+pub mod Causes

@@ -1,12 +1,11 @@
 -- The count of an address that a process or a server has doesn't fall until a step gives it a new one.
 use Rattle.dm_movelaws.proofs.Names.{◌≡◌, ℕ, ◌≤◌, ◌||◌, Bool, true, false, List, [], ◌∷◌, refl, ap, ◌∙◌, sym, subst, arith, nat_tests, Option, Some, Pid, Place, MsgId, MessageKind, OneKernel, bind-is, Line, Addresses, Holder, Receiver}
 use Rattle.dm_movelaws.proofs.Names.{Sender, Gets, holder_eq, given, gives, belongs_to, leads_to, forwards, all_follow, own_gives, first_gives, updated, addresses_after, Point, label_of, kernel_after, moved, after_line, after, View, Told}
-use Rattle.dm_movelaws.proofs.Names.{is_owned, gives_to, is_filled, in_next, refilled, CountsStay, CountsKept, Updated, Sort, sort_of, own_given}
+use Rattle.dm_movelaws.proofs.Names.{is_owned, gives_to, is_filled, in_next, refilled, CountsStay, CountsKept, Updated, Sort, sort_of, own_given, AskedBy}
 use Rattle.dm_movelaws.proofs.After.{group_after}
 use Rattle.dm_movelaws.proofs.Updates.Always.{updates_always}
 use Rattle.dm_movelaws.proofs.Promise.Before.{neither as either, not_given}
 use Rattle.dm_rule.specs.View as view
-use Rattle.dm_movelaws.proofs.Names.{AskedBy}
 
 abbrev count_of : Addresses → Holder → ℕ
 count_of a h = (a h).moves

@@ -2,9 +2,8 @@
 use Rattle.dm_movelaws.proofs.Names.{◌≡◌, ℕ, ◌==◌, Bool, true, false, List, [], ◌∷◌, length, refl, ap, ◌∙◌, subst, ⊤, if◌then◌else◌, Some, Pid, MsgId, MessageKind, plain_kind, PlainMessage, OneKernel, bind-is, Line, Load, Told, own_id}
 use Rattle.dm_movelaws.proofs.Names.{Receiver, Point, label_of, kernel_after, moved, after, Part, Says, Routes, Again, Owns, Transmits, Spelled, puts, goes_out, packet_line, spelled, Steps, said_by, PacketsKeep, by_parts, AllSayable}
 use Rattle.dm_movelaws.proofs.Names.{Sayable, Sane, part_sane, lines_of, IsNetLine, IsNet, by_net, touches, Pair, AllFit, Boot, Step, turns_fit, resends_net, arrives_net, slice_get, migrates, migrates_fit, bind, behind, ◌++◌, nat_tests}
-use Rattle.dm_movelaws.proofs.Names.{arith}
+use Rattle.dm_movelaws.proofs.Names.{arith, Label, Option, None, Note, Outcome, Known, View, About, PairsFit, fits_as, pair_same, view_after, tells_asker, answers_move}
 use Rattle.dm_rule.specs.Rule as rule
-use Rattle.dm_movelaws.proofs.Names.{Label, Option, None, Note, Outcome, Known, View, About, PairsFit, fits_as, pair_same, view_after, tells_asker, answers_move}
 use Rattle.dm_rule.specs.View as view
 
 -- a put and its packet

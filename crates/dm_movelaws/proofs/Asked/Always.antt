@@ -1,7 +1,7 @@
 -- Wherever the rule leads, each request to move is asked once at most, and answered as often where nothing is on its way.
-use Rattle.dm_movelaws.proofs.Names.{◌≡◌, ℕ, ◌+◌, Bool, true, false, List, [], ◌∷◌, refl, ap, ◌∙◌, sym, arith, if◌then◌else◌, Option, None, Some, Pid, MsgId, Label, Line, Point, Boot, first_point, labels, label_of, with_label, after_replay, start, start-sound}
-use Rattle.dm_movelaws.proofs.Names.{in_bag, Note, IsQuiet, notes_always_agree, count}
-use Rattle.dm_movelaws.specs.Asked.{AnsweredAlways, asks_move, answers_move}
+use Rattle.dm_movelaws.proofs.Names.{◌≡◌, ℕ, ◌+◌, Bool, true, false, List, [], ◌∷◌, refl, ap, ◌∙◌, sym, arith, if◌then◌else◌, Option, None, Some, Pid, MsgId, Label, Line, Point, Boot, first_point, labels, label_of, with_label, after_replay}
+use Rattle.dm_movelaws.proofs.Names.{start, start-sound, in_bag, Note, IsQuiet, notes_always_agree, count, AnsweredAlways, asks_move}
+use Rattle.dm_movelaws.specs.Asked.{answers_move}
 use Rattle.dm_movelaws.proofs.Asked.Kernel.{asked_by, answered_by, of_labels, one_for, run_counts, counted_start}
 use Rattle.dm_movelaws.proofs.At.RestAlways.{at_rest_always}
 use Rattle.dm_movelaws.proofs.Open.Moves.{leads_of, run_after}

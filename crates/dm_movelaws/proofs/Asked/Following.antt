@@ -1,9 +1,7 @@
 -- A process follows a request to move only while it moves.
 use Rattle.dm_movelaws.proofs.Names.{◌≡◌, ℕ, ◌==◌, Bool, true, false, refl, ap, ◌∙◌, sym, subst, inl, inr, if◌then◌else◌, Option, None, Some, is_some, cases_Bool, false≢true, Pid, MsgId, MessageKind, Boot, Life, Alive, PlainProcess, Point}
-use Rattle.dm_movelaws.proofs.Names.{View, Known, Unknown, Here, Phase, Nowhere, Rests, Over, Moves, knows, is_here, is_over, is_unknown, IsIn, first_point, is_server, agrees, eq_self, run_always, run_start, Both, both_start, Phased, nat_tests, arith}
-use Rattle.dm_movelaws.specs.Asked.{FollowsWhileMoving}
-use Rattle.dm_onekernel.specs.Kernel.{Note}
-use Rattle.dm_rulelaws.proofs.Runs.{Based}
+use Rattle.dm_movelaws.proofs.Names.{View, Known, Unknown, Here, Phase, Nowhere, Rests, Over, Moves, knows, is_here, is_over, is_unknown, IsIn, first_point, is_server, agrees, eq_self, run_always, run_start, Both, both_start, Phased}
+use Rattle.dm_movelaws.proofs.Names.{nat_tests, arith, FollowsWhileMoving, Note, Based}
 use Rattle.dm_movelaws.proofs.Ends.Moving.{moving_in}
 use Rattle.dm_movelaws.proofs.Open.Moves.{leads_of}
 

@@ -1,13 +1,9 @@
 -- Requests to move, by the steps of the kernel without machines: each is asked once at most, and answered where nobody follows it any more; and what its answer says was said.
-use Rattle.dm_movelaws.proofs.Names.{◌≡◌, ◌⊎◌, ℕ, ◌+◌, ◌≤◌, Bool, true, false, List, [], ◌∷◌, ◌++◌, length, is_some, refl, ap, ◌∙◌, sym, subst, inl, inr, arith, nat_tests, if◌then◌else◌, cases_Bool, false≢true, take, drop, Option, None, Some, Pid}
-use Rattle.dm_movelaws.proofs.Names.{MsgId, id_eq, id_eq-is, id_eq-same, id_of, Label, OneKernel, PlainMessage, PlainWhat, Outcome, Note, with_note, without_note, without_message, with_sent, answer_id, answer_to, in_bag, entry, reception, replay, bind, bind-is}
-use Rattle.dm_movelaws.proofs.Names.{Sound, KernelFits, ServerSends, board_takes_lem, manager_takes_lem, lands-is, after_step, fits_step, by_step, not_true, append_assoc, ascends, asked_noted, came, stayed, View, switchboard, manager}
+use Rattle.dm_movelaws.proofs.Names.{◌≡◌, ◌⊎◌, ℕ, ◌+◌, ◌≤◌, Bool, true, false, List, [], ◌∷◌, ◌++◌, length, is_some, refl, ap, ◌∙◌, sym, subst, inl, inr, arith, nat_tests, if◌then◌else◌, cases_Bool, false≢true, take, drop, Option, None}
+use Rattle.dm_movelaws.proofs.Names.{Some, Pid, MsgId, id_eq, id_eq-is, id_eq-same, id_of, Label, OneKernel, PlainMessage, PlainWhat, Outcome, Note, with_note, without_note, without_message, with_sent, answer_id, answer_to, in_bag, entry}
+use Rattle.dm_movelaws.proofs.Names.{reception, replay, bind, bind-is, Sound, KernelFits, ServerSends, board_takes_lem, manager_takes_lem, lands-is, after_step, fits_step, by_step, not_true, append_assoc, ascends, asked_noted, came, stayed}
+use Rattle.dm_movelaws.proofs.Names.{View, switchboard, manager, is_none, ◌&&◌, Notes-agree, ends_move-is, note-is, Follows}
 use Rattle.dm_laws.proofs.Entered.{asks}
-use Rattle.std.specs.Option.{is_none}
-use Rattle.dm_movelaws.proofs.Names.{◌&&◌}
-use Rattle.dm_laws.proofs.Notes.{Notes-agree}
-use Rattle.dm_laws.proofs.Servers.{ends_move-is, note-is}
-use Rattle.dm_rule.proofs.Changes.{Follows}
 use Rattle.dm_movelaws.proofs.Promise.Before.{step_pending}
 use Rattle.dm_movelaws.proofs.Pending.Pairs.{unnoted_in}
 use Rattle.dm_onekernel.specs.Pieces as pieces

@@ -1,14 +1,12 @@
 -- The parts of a group, by what they say of requests to move: none is asked or answered; a process comes here, and its request is answered; a process is asked that is here already, or sets off.
-use Rattle.dm_movelaws.proofs.Names.{◌≡◌, ℕ, ◌+◌, ◌==◌, Bool, true, false, List, [], ◌∷◌, ◌++◌, refl, ap, ◌∙◌, sym, subst, if◌then◌else◌, Option, None, Some, false≢true, Pid, pid_of, pid_eq, MsgId, MessageKind, Stage, Outcome, Boot, manager}
-use Rattle.dm_movelaws.proofs.Names.{Label, OneKernel, PlainMessage, PlainWhat, Note, with_note, without_note, without_message, with_sent, first_number, Step, Line, Told, Here, Addresses, Point, label_of, kernel_after, moved, Part, Says, Routes}
-use Rattle.dm_movelaws.proofs.Names.{Again, Owns, Transmits, Spelled, spelled, outcome, sends_on, to_kernel, forwards_on, answers_move, leaves_for, migrates, IsNetLine, IsNet, by_round, by_handles, by_hears, by_forwards, by_migrates, by_outcome, by_step}
-use Rattle.dm_movelaws.proofs.Names.{bind, bind-is, said_by, plain_kind, nat_tests, arith, answer_id, asked_noted}
+use Rattle.dm_movelaws.proofs.Names.{◌≡◌, ℕ, ◌+◌, ◌==◌, Bool, true, false, List, [], ◌∷◌, ◌++◌, refl, ap, ◌∙◌, sym, subst, if◌then◌else◌, Option, None, Some, false≢true, Pid, pid_of, pid_eq, MsgId, MessageKind, Stage, Outcome, Boot}
+use Rattle.dm_movelaws.proofs.Names.{manager, Label, OneKernel, PlainMessage, PlainWhat, Note, with_note, without_note, without_message, with_sent, first_number, Step, Line, Told, Here, Addresses, Point, label_of, kernel_after, moved, Part}
+use Rattle.dm_movelaws.proofs.Names.{Says, Routes, Again, Owns, Transmits, Spelled, spelled, outcome, sends_on, to_kernel, forwards_on, answers_move, leaves_for, migrates, IsNetLine, IsNet, by_round, by_handles, by_hears, by_forwards}
+use Rattle.dm_movelaws.proofs.Names.{by_migrates, by_outcome, by_step, bind, bind-is, said_by, plain_kind, nat_tests, arith, answer_id, asked_noted, ends_move-is, begun, asks}
 use Rattle.dm_movelaws.proofs.Leading.{All, Saying, Behind, whatever_put, parts_lead, net_says, next_of}
-use Rattle.dm_laws.proofs.Servers.{ends_move-is}
 use Rattle.dm_onekernel.specs.Service as service
 use Rattle.dm_onekernel.specs.Step as kernel
 use Rattle.dm_rule.specs.Rule as rule
-use Rattle.dm_movelaws.proofs.Names.{begun, asks}
 
 -- a step by which a process follows a request to move, or has followed it
 abbrev pub marks_note : Option Label → Bool
@@ -196,7 +194,7 @@ answers_notes pt id r q p w noted e =
     let k = said_by pt n.next l n.steps in
     ap (λ (x : Point). x.kernel.notes p) (sym n.point) ∙ plain_notes p (Routes (answer_id id) ∷ []) n.next n.rest (tt, tt) n.more ∙ ap (λ (x : Point). x.kernel.notes p) (sym k.is) ∙ answered_notes pt.kernel k.kernel id r q p noted k.step
 
-end_label : (q : Pid) (r : Outcome) (l : Line) → EndLine q r l → label_of l ≡ None
+pub end_label : (q : Pid) (r : Outcome) (l : Line) → EndLine q r l → label_of l ≡ None
 end_label q Outcome.Done l e = ap label_of e
 end_label q Outcome.Stayed l e = ap label_of e
 end_label q Outcome.Ended l e = absurd e
@@ -218,6 +216,14 @@ here_notes pt id m p w there off e =
     ap (λ (y : Point). y.kernel.notes p) (sym x.point) ∙ answers_notes x.next id Outcome.Done m.to p x.rest (ap (λ (u : OneKernel). u.noted id) (sym same) ∙ asked_noted pt.kernel k.kernel id m k.step there) x.more
     ∙ ap (λ (c : Bool). if c then None else x.next.kernel.notes p) off ∙ ap (λ (u : OneKernel). u.notes p) (sym same) ∙ asked_notes pt.kernel k.kernel id m p there k.step
     ∙ ap (λ (c : Bool). if c then Some (record { id = id; asker = m.sender }) else pt.kernel.notes p) off
+
+pub here_gone : (pt : Point) (id : MsgId) (m : PlainMessage) (p : Pid) (w : Spelled) → pt.kernel.bag id ≡ Some m → pid_eq m.to p ≡ true → spelled pt (rule.says (Label.Asked id) ∷ answers_move id Outcome.Done) ≡ Some w → w.point.kernel.notes p ≡ None
+here_gone pt id m p w there same e =
+    let l = Line.Label (Label.Asked id) in
+    let x = next_of pt (Says l) (answers_move id Outcome.Done) w e in
+    let k = said_by pt x.next l x.steps in
+    let to = ap (λ (y : Point). y.kernel) k.is in
+    ap (λ (y : Point). y.kernel.notes p) (sym x.point) ∙ answers_notes x.next id Outcome.Done m.to p x.rest (ap (λ (u : OneKernel). u.noted id) (sym to) ∙ asked_noted pt.kernel k.kernel id m k.step there) x.more ∙ ap (λ (c : Bool). if c then None else x.next.kernel.notes p) same
 
 pub leaves_notes : (pt : Point) (id : MsgId) (m : PlainMessage) (to : ℕ) (p : Pid) (w : Spelled) → pt.kernel.bag id ≡ Some m → spelled pt (rule.says (Label.Asked id) ∷ leaves_for m.to to) ≡ Some w → w.point.kernel.notes p ≡ noted_if m.to p (Some (record { id = id; asker = m.sender })) (pt.kernel.notes p)
 leaves_notes pt id m to p w there e =

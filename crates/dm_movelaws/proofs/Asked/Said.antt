@@ -1,12 +1,9 @@
 -- What the answer to a request to move says was said: that the request was answered so, or that its receiver had ended.
-use Rattle.dm_movelaws.proofs.Names.{◌≡◌, ◌⊎◌, ℕ, ◌+◌, Bool, true, false, List, [], ◌∷◌, ◌++◌, length, refl, ap, ◌∙◌, sym, subst, inl, inr, take, drop, false≢true, Option, None, Some, Pid, MsgId, id_of, Label, OneKernel, PlainMessage, PlainWhat}
-use Rattle.dm_movelaws.proofs.Names.{Outcome, Note, Line, Boot, Point, first_point, without_note, without_message, with_sent, answer_id, answer_to, entry, reception, replay, bind-is, Sound, KernelFits, ServerSends, board_takes_lem, manager_takes_lem, lands-is}
-use Rattle.dm_movelaws.proofs.Names.{after_step, fits_step, by_step, append_assoc, append-nil, ascends, came, stayed, View, switchboard, manager, labels, label_of, with_label, after_replay, start, start-sound, first_view}
-use Rattle.dm_movelaws.specs.Asked.{MovedIsSaid, IsSaidOf}
+use Rattle.dm_movelaws.proofs.Names.{◌≡◌, ◌⊎◌, ℕ, ◌+◌, Bool, true, false, List, [], ◌∷◌, ◌++◌, length, refl, ap, ◌∙◌, sym, subst, inl, inr, take, drop, false≢true, Option, None, Some, Pid, MsgId, id_of, Label, OneKernel, PlainMessage}
+use Rattle.dm_movelaws.proofs.Names.{PlainWhat, Outcome, Note, Line, Boot, Point, first_point, without_note, without_message, with_sent, answer_id, answer_to, entry, reception, replay, bind-is, Sound, KernelFits, ServerSends}
+use Rattle.dm_movelaws.proofs.Names.{board_takes_lem, manager_takes_lem, lands-is, after_step, fits_step, by_step, append_assoc, append-nil, ascends, came, stayed, View, switchboard, manager, labels, label_of, with_label, after_replay}
+use Rattle.dm_movelaws.proofs.Names.{start, start-sound, first_view, arith, nat_tests, MovedIsSaid, IsSaidOf, note-is, Follows, start_fits}
 use Rattle.dm_laws.proofs.Entered.{asks}
-use Rattle.dm_laws.proofs.Servers.{note-is}
-use Rattle.dm_rule.proofs.Changes.{Follows}
-use Rattle.dm_rulelaws.proofs.Fits.Start.{start_fits}
 use Rattle.dm_movelaws.proofs.Promise.Before.{step_pending}
 use Rattle.dm_movelaws.proofs.Open.Moves.{run_after}
 use Rattle.dm_onekernel.specs.Pieces as pieces
@@ -147,18 +144,18 @@ label_is : (x : Line) (l : Label) → label_of x ≡ Some l → x ≡ Line.Label
 label_is (Line.Label k) l e = let f : k ≡ l = cc in ap Line.Label f
 label_is _ l e = cc
 
+line_on : (x : Line) (ls : List Line) (l : Label) → LineOf l ls → LineOf l (x ∷ ls)
+line_on x ls l h = record { earlier = x ∷ h.earlier; later = h.later; is = ap (λ (ys : List Line). x ∷ ys) h.is }
+
+line_by : (x : Line) (ls : List Line) (l : Label) (behind : List Label) → ((xs : List Label) → labels ls ≡ xs ++ l ∷ behind → LineOf l ls) → (o : Option Label) → label_of x ≡ o → (xs : List Label) → with_label o (labels ls) ≡ xs ++ l ∷ behind → LineOf l (x ∷ ls)
+line_by x ls l behind more None is xs f = line_on x ls l (more xs f)
+line_by x ls l behind more (Some k) is [] f = let g : k ≡ l = cc in record { earlier = []; later = ls; is = ap (λ (y : Line). y ∷ ls) (label_is x l (is ∙ ap Some g)) }
+line_by x ls l behind more (Some k) is (y ∷ xs) f = line_on x ls l (more xs (let g : labels ls ≡ xs ++ l ∷ behind = cc in g))
+
 line_of : (ls : List Line) (l : Label) (before behind : List Label) → labels ls ≡ before ++ l ∷ behind → LineOf l ls
 line_of [] l [] behind e = cc
 line_of [] l (k ∷ before) behind e = cc
-line_of (x ∷ ls) l before behind e = by_label (label_of x) refl before e
-  where
-    on : LineOf l ls → LineOf l (x ∷ ls)
-    on h = record { earlier = x ∷ h.earlier; later = h.later; is = ap (λ (ys : List Line). x ∷ ys) h.is }
-
-    by_label : (o : Option Label) → label_of x ≡ o → (xs : List Label) → with_label o (labels ls) ≡ xs ++ l ∷ behind → LineOf l (x ∷ ls)
-    by_label None is xs f = on (line_of ls l xs behind f)
-    by_label (Some k) is [] f = let g : k ≡ l = cc in record { earlier = []; later = ls; is = ap (λ (y : Line). y ∷ ls) (label_is x l (is ∙ ap Some g)) }
-    by_label (Some k) is (y ∷ xs) f = on (line_of ls l xs behind (let g : labels ls ≡ xs ++ l ∷ behind = cc in g))
+line_of (x ∷ ls) l before behind e = line_by x ls l behind (λ xs f. line_of ls l xs behind f) (label_of x) refl before e
 
 -- wherever the rule leads
 pub moved_is_said : MovedIsSaid

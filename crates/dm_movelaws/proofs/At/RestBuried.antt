@@ -1,10 +1,9 @@
 -- Where a process has ended nothing comes to its queue: each group keeps it.
 use Rattle.dm_movelaws.proofs.Names.{◌≡◌, ℕ, ◌+◌, Bool, true, false, List, [], ◌∷◌, ◌++◌, refl, ap, ◌∙◌, sym, subst, false≢true, Option, None, Some, Pid, MsgId, Boot, Label, Line, Stage, PlainProcess, Life, Alive, OneKernel, Step}
 use Rattle.dm_movelaws.proofs.Names.{LifeGrows, after_step, Spelled, is_away, Point, kernel_after, label_of, group_of, at_record, without_id, without_front, View, Told, Known, Unknown, Here, Frozen, Incoming, Ended, handled, receiver_of}
-use Rattle.dm_movelaws.proofs.Names.{served_told, view_after, target_of, front_told, front_of, gone_to, Phased, Sane, KnownStands, group_keeps, Loud, keeps_by, set_all, killed_or, nat_tests, arith}
+use Rattle.dm_movelaws.proofs.Names.{served_told, view_after, target_of, front_told, front_of, gone_to, Phased, Sane, KnownStands, group_keeps, Loud, keeps_by, set_all, killed_or, nat_tests, arith, aim, sets}
 use Rattle.dm_onekernel.specs.Step as kernel
 use Rattle.dm_rule.specs.View as view
-use Rattle.dm_movelaws.proofs.Names.{aim, sets}
 
 abbrev pub Knows : Type 0
 Knows = ℕ → Pid → Known

@@ -1,13 +1,11 @@
 -- A process ends only where a group says so.
 use Rattle.dm_movelaws.proofs.Names.{◌≡◌, ℕ, ◌+◌, Bool, true, false, List, [], ◌∷◌, refl, ap, ◌∙◌, sym, false≢true, Option, None, Some, Pid, MsgId, MessageKind, plain_kind, Label, Step, Line, Stage, migrates, Part, Says, Routes, Spelled}
 use Rattle.dm_movelaws.proofs.Names.{spelled, Point, at_record, View, Told, Known, Here, Ended, view_after, handled, receiver_of, IsNetLine, IsNet, set_all, by_migrates, ◌++◌, ⊤, PlainMessage, Boot, manager, Addresses, forwards_on}
-use Rattle.dm_movelaws.proofs.Names.{sends_on, is_kill, Sane, by_hears, by_round, by_handles, by_forwards, queued_known, held_known, forwarded_known, proto_known, nat_tests, arith}
+use Rattle.dm_movelaws.proofs.Names.{sends_on, is_kill, Sane, by_hears, by_round, by_handles, by_forwards, queued_known, held_known, forwarded_known, proto_known, nat_tests, arith, aim, sets, seen, Frozen}
 use Rattle.dm_movelaws.proofs.At.RestBuried.{Knows}
 use Rattle.dm_movelaws.proofs.Leading.{Behind, whatever_put, parts_lead, net_says, All, Saying}
 use Rattle.dm_rule.specs.View as view
 use Rattle.dm_rule.specs.Rule as rule
-use Rattle.dm_movelaws.proofs.Names.{aim, sets, seen}
-use Rattle.dm_movelaws.proofs.Names.{Frozen}
 
 -- no process ends by such a line
 abbrev pub is_ending : Line → Bool

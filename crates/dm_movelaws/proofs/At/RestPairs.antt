@@ -1,11 +1,10 @@
 -- No message goes from a machine that there isn't.
 use Rattle.dm_movelaws.proofs.Names.{◌≡◌, ℕ, ◌<◌, ◌≤◌, Bool, true, false, List, [], ◌∷◌, ◌++◌, length, refl, subst, arith, if◌then◌else◌, nat_tests, Some, Pid, MsgId, MessageKind, Boot, IsValid, Step, Line, Load, IsStep, Leads, Part}
 use Rattle.dm_movelaws.proofs.Names.{Spelled, spelled, Point, first_point, moved, group_of, at_pair, View, Pair, view_after, after_head, after_put, IsNetLine, group_is, acting_label, touches, pair_same, taken_pair, acting_taken}
-use Rattle.dm_movelaws.proofs.Names.{proto_acting, queued_acting, held_acting, forwarded_acting}
+use Rattle.dm_movelaws.proofs.Names.{proto_acting, queued_acting, held_acting, forwarded_acting, sets, seen, topic_by, label_of}
 use Rattle.dm_movelaws.proofs.Leading.{All, Behind, whatever_put, parts_lead, Saying, outcome_says}
 use Rattle.dm_movelaws.proofs.After.{keeps_always}
 use Rattle.dm_rule.specs.View as view
-use Rattle.dm_movelaws.proofs.Names.{sets, seen, topic_by, label_of}
 
 pub record Routed (n : ℕ) (v : View) : Type 0 where
   pub acting : v.acting < n

@@ -1,6 +1,6 @@
 -- Wherever the rule leads, each directive to move a process has at most one end, and one where nothing is on its way.
 use Rattle.dm_movelaws.proofs.Names.{◌≡◌, ℕ, ◌+◌, List, [], ◌∷◌, length, refl, ap, subst, arith, Pid, MsgId, Boot, IsValid, Step, Line, IsStep, Point, first_point, IsQuiet, first_view, fits, LeadsBy, Both, both_start, both_group, run_start}
-use Rattle.dm_movelaws.proofs.Names.{run_group, asks, ends, count, EndsAlways, nat_tests}
+use Rattle.dm_movelaws.proofs.Names.{run_group, asks, ends, count, EndsAlways, nat_tests, own_ends, ◌∙◌}
 use Rattle.dm_movelaws.proofs.Ends.Lines.{Extends}
 use Rattle.dm_movelaws.proofs.Ends.Moving.{moving_in, waits_or}
 use Rattle.dm_movelaws.proofs.Ends.Open.{Opens}
@@ -8,10 +8,8 @@ use Rattle.dm_movelaws.proofs.Ends.Parts.{count-append}
 use Rattle.dm_movelaws.proofs.Ends.Groups.{group_balance}
 use Rattle.dm_movelaws.proofs.Ends.Sources.{Sources, group_acts}
 use Rattle.dm_movelaws.proofs.Ends.Quiet.{quiet_stays, quiet_empty}
-use Rattle.dm_movelaws.specs.Ends.{own_ends}
 use Rattle.dm_movelaws.proofs.Ends.Own.{owned, owned_zero, own-append, leads_next}
 use Rattle.dm_movelaws.proofs.Asked.Following.{noted_moves}
-use Rattle.dm_movelaws.proofs.Names.{◌∙◌}
 
 -- how many moves are under way that no process asked for
 abbrev moving_at : (b : Boot) (pt : Point) → Both b pt → Pid → ℕ
@@ -36,7 +34,7 @@ none_ran p b pt ls ids h sources opens none = record {
   sum = (let a : count (asks p) ls ≡ 0 = ap (count (asks p)) none in let c : own_ends pt.view.told p ls ≡ 0 = ap (own_ends pt.view.told p) none in omega (arith, a, c));
 }
 
-step_for : (b : Boot) (pt : Point) (d : Step) → Both b pt → IsStep pt.kernel.machines d → IsStep (length b.machines) d
+pub step_for : (b : Boot) (pt : Point) (d : Step) → Both b pt → IsStep pt.kernel.machines d → IsStep (length b.machines) d
 step_for b pt d h fit = subst (λ (n : ℕ). IsStep n d) h.run.based.machines fit
 
 ran : (p : Pid) (b : Boot) (es : List Step) (pt end : Point) (ls : List Line) (ids : List MsgId) → IsValid b → (h : Both b pt) → Sources (length b.machines) pt.view → Opens p pt.view ids → LeadsBy b pt es ls end → Ran p b pt end ls (length ids + moving_at b pt h p)

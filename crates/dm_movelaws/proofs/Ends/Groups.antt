@@ -2,7 +2,8 @@
 use Rattle.dm_movelaws.proofs.Names.{◌≡◌, ℕ, ◌+◌, Bool, true, List, [], ◌∷◌, length, refl, ap, ◌∙◌, sym, subst, inl, inr, arith, if◌then◌else◌, Option, Some, cases_Bool, Pid, pid_eq, MsgId, MessageKind, Boot, Step, Line, Child, migrates}
 use Rattle.dm_movelaws.proofs.Names.{View, Told, after_head, after_put, view_after, own_id, Point, Part, Says, Owns, Spelled, behind, spelled, group_of, IsNet, front_way, Phased, told_some, put_spots, put_at, head_calm, put_there, put_spot}
 use Rattle.dm_movelaws.proofs.Names.{InPhases, calm_phases, PairsFit, PacketsKeep, put_told_off, said, Sane, KnownStands, Begins, begins, WalksOf, loose_walks, begun, begun_sane, turned, resting, round_walks, handles_walks, asks, ends}
-use Rattle.dm_movelaws.proofs.Names.{count, first_none, by_migrates, by_outcome, group_is, None, false, label_of, nat_tests}
+use Rattle.dm_movelaws.proofs.Names.{count, first_none, by_migrates, by_outcome, group_is, None, false, label_of, nat_tests, seen_none, Note, Outcome, PlainMessage, PlainWhat, Label, Stage, Target, Frozen, Known, Here, to_kernel}
+use Rattle.dm_movelaws.proofs.Names.{leaves_for, answers_move, said_by, part_sane, machine_in, machine_of, sets, aim, asked_off, moved, is_moving, Walks, fits_as, pid_eq-is, pid_eq-same, own_ends, ◌&&◌}
 use Rattle.dm_movelaws.proofs.Ends.Lines.{is_migrate, Extends, Still, plain_in_bag, own_untold, smooth_same, Tame, still_same}
 use Rattle.dm_movelaws.proofs.Ends.Net.{head_smooth, net_level, net_asks, net_ends}
 use Rattle.dm_movelaws.proofs.Ends.Parts.{packet_smooth, one_if, zero_if, parts_count, round_quiet, handles_quiet}
@@ -12,9 +13,6 @@ use Rattle.dm_movelaws.proofs.Ends.Rows.{Turn, Comes, line_alone, quiet_row, and
 use Rattle.dm_movelaws.proofs.Ends.Hears.{ComesOf, hears_comes}
 use Rattle.dm_movelaws.proofs.Leading.{next_of, part_leads}
 use Rattle.dm_rule.specs.Rule as rule
-use Rattle.dm_movelaws.proofs.Names.{seen_none}
-use Rattle.dm_movelaws.proofs.Names.{Note, Outcome, None, PlainMessage, PlainWhat, Label, Stage, Target, Frozen, Known, Here, to_kernel, leaves_for, answers_move, said_by, part_sane, machine_in, machine_of, sets, aim, asked_off, moved, is_moving, Walks, fits_as, pid_eq-is, pid_eq-same}
-use Rattle.dm_movelaws.specs.Ends.{own_ends}
 use Rattle.dm_movelaws.proofs.Ends.Own.{OwnBalance, owned, owned_zero, own_count, own_same, own_is, kept_own, end_ends, asker_here, head_still, asks_silent}
 use Rattle.dm_movelaws.proofs.Ends.Parts.{Rest, rest_packet, rest_behind, Handled, Quiets, SetsOff, part_count, unit_if}
 use Rattle.dm_movelaws.proofs.Ends.Rows.{line_then, other_still, pid_swap}
@@ -23,7 +21,6 @@ use Rattle.dm_movelaws.proofs.Ends.Moving.{here_stays}
 use Rattle.dm_movelaws.proofs.Asked.Rows.{Row, Plain, Ends, IsHere, Leaves, outcome_row, plain_notes, ends_notes, here_notes, leaves_notes}
 use Rattle.dm_movelaws.proofs.Asked.Rows.{AllUnmarked, IsUnmarked, net_unmarked}
 use Rattle.dm_movelaws.proofs.Leading.{net_says}
-use Rattle.dm_movelaws.proofs.Names.{◌&&◌}
 
 abbrev begun_phases : (pt : Point) (d : Step) → InPhases pt.view → InPhases (begun pt d).view
 begun_phases pt d h = calm_phases pt.view (after_head pt.view d) (head_calm pt.view d) h

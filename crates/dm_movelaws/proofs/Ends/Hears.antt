@@ -4,7 +4,8 @@ use Rattle.dm_movelaws.proofs.Names.{manager, bind, pid_eq-is, Line, Addresses, 
 use Rattle.dm_movelaws.proofs.Names.{Frozen, Forward, Ended, view_after, handled, handled_first, receiver_of, target_of, front_told, Point, moved, Part, Says, Again, Owns, Spelled, spelled, kernel_hears, hears, Spot, Inbox, ids_at}
 use Rattle.dm_movelaws.proofs.Names.{first_off, line_next, fits_put, pair_same, handled_spots, held_known, forwarded_spots, forwarded_known, put_spots, put_there, put_spot, InPhases, fits_as, PairsFit, sane_line, part_sane, AllLoose}
 use Rattle.dm_movelaws.proofs.Names.{loose_walks, turned, is_moving, is_for, frozen_off, ◌+◌, ◌++◌, ⊤, pid_of, PlainProcess, accepts, takes_chunk, takes_block, sends_on, chunks_of, pieces_of, Incoming, rejoins, front_of, gone_to}
-use Rattle.dm_movelaws.proofs.Names.{is_between, parts, at_record_off, due, Walks, asks, ends, accepted_off, state_off, memory_off, lacks_off, left_off, leaves, label_of, is_put, touches, nat_tests}
+use Rattle.dm_movelaws.proofs.Names.{is_between, parts, at_record_off, due, Walks, asks, ends, accepted_off, state_off, memory_off, lacks_off, left_off, leaves, label_of, is_put, touches, nat_tests, sets, aim, at_record, Note, Outcome}
+use Rattle.dm_movelaws.proofs.Names.{tells_asker, answers_move, restarted_off, times}
 use Rattle.dm_movelaws.proofs.Ends.Lines.{is_migrate, asks_for, kind_not, Smooth, Still, smooth_trans, told_by, Tame, Foreign, still_by, smooth_still, moves_none}
 use Rattle.dm_movelaws.proofs.Ends.Parts.{AllQuiet, Rest, rest_packet, Settled, parts_settle, quiet_count, quiet_asks, told_quiet, one_if, zero_if, first_off as first_off_and}
 use Rattle.dm_movelaws.proofs.Ends.Moving.{moving_in, waits_moves, here_stays, still_moves, not_false, target_waits}
@@ -14,9 +15,7 @@ use Rattle.dm_movelaws.proofs.Ends.Rows.{due_moves, about_same}
 use Rattle.dm_movelaws.proofs.Ends.Sends.{smooth_moves, held_smooth, again_told, all_sent, sent_smooth, sends_count, sent_begins, handled_smooth, rejoins_smooth}
 use Rattle.dm_movelaws.proofs.Leading.{next_of, part_leads}
 use Rattle.dm_rule.specs.View as view
-use Rattle.dm_movelaws.proofs.Names.{sets, aim, at_record, Note, Outcome, tells_asker, answers_move, None}
 use Rattle.dm_movelaws.proofs.Leading.{asker_known}
-use Rattle.dm_movelaws.proofs.Names.{restarted_off, times}
 
 abbrev pub ComesOf : Pid → (pt : Point) → InPhases pt.view → Option (List Part) → Type 0
 ComesOf p pt h None = ⊤

@@ -2,12 +2,11 @@
 use Rattle.dm_movelaws.proofs.Names.{◌≡◌, false, refl, ap, ◌∙◌, sym, subst, ⊤, Option, Some, Pid, pid_eq, MsgId, MessageKind, Stage, Label, OneKernel, Line, View, Told, view_after, handled, receiver_of, Point, label_of, kernel_after, times}
 use Rattle.dm_movelaws.proofs.Names.{out_of, gone_in, served_keeps, ended_off, serving_off, created_off, Sane, handled_spots, queued_spots, held_spots, dropped_spots, forwarded_spots, received_spots, and_false, ℕ, ◌&&◌, Bool, at_record}
 use Rattle.dm_movelaws.proofs.Names.{Known, Here, Ended, pid_eq-is, parts, eq_is, queued_known, held_known, dropped_known, forwarded_known, Needs, NeedsLabel, Serves, killed_or, is_moving, ends, nat_tests, arith, ◌≤◌, true, false≢true}
-use Rattle.dm_movelaws.proofs.Names.{id_eq, plain_kind, PlainMessage, PlainWhat, id_eq-is, Spot, ids_at, standing, is_put, hushed, not_true}
+use Rattle.dm_movelaws.proofs.Names.{id_eq, plain_kind, PlainMessage, PlainWhat, id_eq-is, Spot, ids_at, standing, is_put, hushed, not_true, about_off, About}
 use Rattle.dm_onekernel.specs.Step as kernel
 use Rattle.dm_rule.specs.View as view
 pub use Rattle.dm_rule.proofs.Moves.Rows.{proto_off}
 pub use Rattle.dm_rulelaws.proofs.Found.Parts.{own_fresh as own_untold}
-use Rattle.dm_movelaws.proofs.Names.{about_off, About}
 
 abbrev pub is_migrate : MessageKind → Bool
 is_migrate MessageKind.Migrate = true

@@ -1,12 +1,11 @@
 -- Heads, deliveries and ticks leave all requests to move a process under way.
 use Rattle.dm_movelaws.proofs.Names.{◌≡◌, ℕ, ◌+◌, ◌≤◌, ◌==◌, ◌&&◌, Bool, true, false, not, filter, List, [], ◌∷◌, ◌++◌, refl, ap, sym, subst, inl, inr, arith, if◌then◌else◌, slice_get, Option, None, Some, cases_Bool, Pid, MsgId, Step, Line}
 use Rattle.dm_movelaws.proofs.Names.{at_machine, at_pair, View, Pair, Told, view_after, after_head, taken_id, with_pair, Point, Part, Spelled, spelled, Spot, Queue, Held, Inbox, Untaken, times, untaken, ids_at, standing, times-append}
-use Rattle.dm_movelaws.proofs.Names.{one_of, parts, eq_is, eq_self, at_place, past_place, pair_keeps, IsNetLine, IsNet, early_off, acked_off, turn_off, tick_off, deliver_off, migrate_off, asks, ends, PacketsKeep, nat_tests}
+use Rattle.dm_movelaws.proofs.Names.{one_of, parts, eq_is, eq_self, at_place, past_place, pair_keeps, IsNetLine, IsNet, early_off, acked_off, turn_off, tick_off, deliver_off, migrate_off, asks, ends, PacketsKeep, nat_tests, moved}
 use Rattle.dm_movelaws.proofs.Ends.Lines.{Somewhere, Smooth, Still, smooth_same, smooth_trans, smooth_still, moves_none, still_trans}
 use Rattle.dm_movelaws.proofs.Ends.Parts.{packet_smooth, part_count, none_count}
 use Rattle.dm_movelaws.proofs.Leading.{Saying, net_says, net_lead}
 pub use Rattle.dm_rule.proofs.Moves.Lists.{zero_cases}
-use Rattle.dm_movelaws.proofs.Names.{moved}
 use Rattle.dm_movelaws.proofs.Ends.Lines.{smooth_about}
 
 pub head_smooth : (p : Pid) (v : View) (s : Step) → Smooth p v (after_head v s)

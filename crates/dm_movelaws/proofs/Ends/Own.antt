@@ -1,9 +1,7 @@
 -- Ends of moves that no process asked for: those that no answer to a request follows.
-use Rattle.dm_movelaws.proofs.Names.{◌≡◌, ℕ, ◌+◌, ◌≤◌, ◌&&◌, Bool, true, false, not, List, [], ◌∷◌, ◌++◌, length, refl, ap, ◌∙◌, sym, subst, arith, nat_tests, if◌then◌else◌, Option, None, Some, Pid, pid_eq, MsgId, Stage, Outcome, Note, Boot}
-use Rattle.dm_movelaws.proofs.Names.{Label, Step, Line, View, Told, Known, Here, Point, Part, Says, Routes, Again, Owns, Transmits, Spelled, spelled, lines_of, answers_move, LeadsBy, group_of, group_is, is_moving, asks, ends, by_parts, view_after, moved}
-use Rattle.dm_movelaws.proofs.Names.{after_head, said_by, MessageKind, Load}
-use Rattle.dm_movelaws.specs.Ends.{own_ends, is_answered_next, is_answer_by}
-use Rattle.dm_rule.specs.Acts.{act_of}
+use Rattle.dm_movelaws.proofs.Names.{◌≡◌, ℕ, ◌+◌, ◌≤◌, ◌&&◌, Bool, true, false, not, List, [], ◌∷◌, ◌++◌, length, refl, ap, ◌∙◌, sym, subst, arith, nat_tests, if◌then◌else◌, Option, None, Some, Pid, pid_eq, MsgId, Stage, Outcome, Note}
+use Rattle.dm_movelaws.proofs.Names.{Boot, Label, Step, Line, View, Told, Known, Here, Point, Part, Says, Routes, Again, Owns, Transmits, Spelled, spelled, lines_of, answers_move, LeadsBy, group_of, group_is, is_moving, asks, ends}
+use Rattle.dm_movelaws.proofs.Names.{by_parts, view_after, moved, after_head, said_by, MessageKind, Load, own_ends, is_answered_next, is_answer_by, act_of}
 use Rattle.dm_rule.specs.Rule as rule
 use Rattle.dm_movelaws.proofs.Leading.{All, Saying, lines_are, asker_known}
 use Rattle.dm_movelaws.proofs.Ends.Lines.{Extends, Still}
@@ -33,7 +31,7 @@ own_step f p pt x ps ls zs is e n = grind (arith, nat_tests, lines_are)
 pub own_is : (f : MsgId → Option Told) (p : Pid) (ps : List Part) (pt : Point) (w : Spelled) → spelled pt ps ≡ Some w → (own_ends f p w.lines ≡ own_count f p ps) × (is_answered_next w.lines ≡ is_answer_part ps)
 own_is f p = by_parts (λ ps pt w. (own_ends f p w.lines ≡ own_count f p ps) × (is_answered_next w.lines ≡ is_answer_part ps)) (λ pt. (refl, refl)) (λ x ps pt next ls z lines leads rest. own_step f p pt x ps ls z.lines lines rest.0 rest.1)
 
-unmarked_answer : (l : Line) → IsUnmarked l → is_answer_by (act_of l) ≡ false
+pub unmarked_answer : (l : Line) → IsUnmarked l → is_answer_by (act_of l) ≡ false
 unmarked_answer l h = grind (arith, nat_tests)
 
 unmarked_next : (ps : List Part) → AllUnmarked ps → is_answer_part ps ≡ false

@@ -2,16 +2,14 @@
 use Rattle.dm_movelaws.proofs.Names.{◌≡◌, ℕ, ◌+◌, ◌&&◌, Bool, false, List, [], ◌∷◌, ◌++◌, refl, ap, ◌∙◌, sym, subst, arith, ⊤, if◌then◌else◌, Option, None, Some, Pid, pid_eq, MsgId, MessageKind, plain_kind, Line, Load, View, Told}
 use Rattle.dm_movelaws.proofs.Names.{view_after, own_id, after_put, Point, Part, Says, Routes, Again, Owns, Transmits, Spelled, lines_of, spelled, touches, pair_same, PairsFit, put_told_off, fits_as, fits_put, fits_packet, Sane, Sayable}
 use Rattle.dm_movelaws.proofs.Names.{part_sane, put_spots, put_at, Needs, NeedsPart, Walks, Steps, asks, ends, count, packet_off, by_parts, PacketsKeep, OneKernel, label_of, kernel_after, nat_tests, PlainMessage, Boot, Loose, loose_round}
-use Rattle.dm_movelaws.proofs.Names.{loose_handles, by_forwards, goes_round, handles}
+use Rattle.dm_movelaws.proofs.Names.{loose_handles, by_forwards, goes_round, handles, moved, About, PlainWhat, Label, Here, leaves_for}
 use Rattle.dm_movelaws.proofs.Ends.Lines.{asks_for, is_migrate, plain_not, Extends, Smooth, Still, Plain, smooth_same, smooth_trans, smooth_others, moves_none, plain_in_bag, own_untold, Tame, QuietLine, tame_plain, line_smooth}
 use Rattle.dm_movelaws.proofs.Ends.Lines.{still_same, still_trans, line_still, quiet_ends}
 use Rattle.dm_movelaws.proofs.Leading.{All, Behind, part_leads, lines_are, fits_about}
 use Rattle.dm_rule.specs.View as view
 use Rattle.dm_rule.specs.Rule as rule
 pub use Rattle.dm_rule.proofs.Phases.Lines.{first_kept}
-use Rattle.dm_movelaws.proofs.Names.{moved, About, PlainWhat}
 use Rattle.dm_movelaws.proofs.Ends.Lines.{smooth_about}
-use Rattle.dm_movelaws.proofs.Names.{Label, Here, leaves_for}
 
 -- a put of a message that is no request to move this process
 first_plain : (p : Pid) (o : Option Told) (k : MessageKind) (q : Pid) (a : view.About) (t : Told) → Some (view.first_told o (record { kind = k; receiver = q; about = a })) ≡ Some t → (is_migrate k && pid_eq p q) ≡ false → ((u : Told) → o ≡ Some u → asks_for p u ≡ false)

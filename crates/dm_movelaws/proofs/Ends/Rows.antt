@@ -2,7 +2,7 @@
 use Rattle.dm_movelaws.proofs.Names.{◌≡◌, ℕ, ◌==◌, Bool, true, false, List, [], ◌∷◌, ap, ◌∙◌, sym, subst, arith, if◌then◌else◌, Option, None, Some, false≢true, Pid, pid_eq, MsgId, MessageKind, id_eq, Label, OneKernel, bind, pid_eq-is}
 use Rattle.dm_movelaws.proofs.Names.{pid_eq-same, Line, View, Told, Of, Known, view_after, handled_first, Point, label_of, kernel_after, moved, after_line, Part, Says, Spelled, spelled, is_between, at_record, Spot, Inbox, times, ids_at}
 use Rattle.dm_movelaws.proofs.Names.{standing, is_put, not_true, at_record_at, at_record_off, first_off, line_next, touches, pair_same, due, front_gone, handled_spots, InPhases, fits_as, State, PairsFit, said, Sane, sane_line, Walks}
-use Rattle.dm_movelaws.proofs.Names.{is_moving, asks, ends, nat_tests}
+use Rattle.dm_movelaws.proofs.Names.{is_moving, asks, ends, nat_tests, seen_none, NothingElse}
 use Rattle.dm_movelaws.proofs.Ends.Lines.{is_migrate, asks_for, kind_not, Somewhere, Smooth, Still, Plain, smooth_trans, hushed_smooth, told_by, stands_as, stands_was, told_one, still_trans}
 use Rattle.dm_movelaws.proofs.Ends.Parts.{AllQuiet, Settled, settled_same, parts_settle, one_if, zero_if, quiet_count, quiet_asks}
 use Rattle.dm_movelaws.proofs.Ends.Moving.{moving_in, still_moves}
@@ -10,7 +10,6 @@ use Rattle.dm_movelaws.proofs.Ends.Open.{Opens, IsOpen, Closes, Balance, level_b
 pub use Rattle.dm_rule.proofs.Phases.Answers.{about_same}
 pub use Rattle.dm_rulelaws.proofs.Goes.Always.{stands_first as front_one}
 pub use Rattle.dm_rule.proofs.Phases.Pieces.{and_false as and_off}
-use Rattle.dm_movelaws.proofs.Names.{seen_none, NothingElse}
 use Rattle.dm_movelaws.proofs.Leading.{line_fits}
 
 -- behind the head of a turn: the message at the front, and all that stands there

@@ -1,10 +1,9 @@
 -- Messages come only from machines that there are; and what was told stays.
 use Rattle.dm_movelaws.proofs.Names.{◌≡◌, ℕ, ◌<◌, ◌≤◌, ◌==◌, Bool, true, false, List, [], refl, ◌∙◌, subst, arith, Option, Some, Pid, MsgId, MessageKind, Boot, Step, id_eq-is, Line, at_pair, IsStep, View, Pair, Told, view_after, after_head}
-use Rattle.dm_movelaws.proofs.Names.{after_put, Point, Part, Spelled, spelled, group_of, group_is, IsNetLine, is_put, eq_is, touches, pair_same, taken_pair, put_at, PacketsKeep, put_told_off, begun, nat_tests}
+use Rattle.dm_movelaws.proofs.Names.{after_put, Point, Part, Spelled, spelled, group_of, group_is, IsNetLine, is_put, eq_is, touches, pair_same, taken_pair, put_at, PacketsKeep, put_told_off, begun, nat_tests, moved, About}
 use Rattle.dm_movelaws.proofs.Ends.Lines.{Extends, told_by}
 use Rattle.dm_movelaws.proofs.Ends.Parts.{first_kept}
 use Rattle.dm_movelaws.proofs.Leading.{All, Behind, whatever_put, parts_lead, Saying, outcome_says}
-use Rattle.dm_movelaws.proofs.Names.{moved, About}
 use Rattle.dm_rule.specs.View as view
 
 -- nothing was routed from another machine

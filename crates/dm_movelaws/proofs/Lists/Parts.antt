@@ -1,11 +1,9 @@
 -- No message is queued for a server: each line keeps it, where what it queues is for a process.
 use Rattle.dm_movelaws.proofs.Names.{◌≡◌, ℕ, true, false, List, [], ◌∷◌, refl, ap, ◌∙◌, sym, subst, ⊤, Option, None, Some, Pid, MsgId, MessageKind, plain_kind, Label, bind-is, Step, Line, Stage, Part, Spelled, lines_of, spelled, Point}
 use Rattle.dm_movelaws.proofs.Names.{after_line, after, at_record, View, Told, view_after, handled, receiver_of, IsNetLine, IsNet, is_put, hushed, line_view, is_server, set_all, killed_or, told_kept, by_parts, Boot, Addresses, forwards_on}
-use Rattle.dm_movelaws.proofs.Names.{migrates, hears, by_migrates, IsHeardLine, Kept, kept_forward, hears_kept, PlainMessage, goes_round, handles, Loose, loose_round, loose_handles, nat_tests, arith}
+use Rattle.dm_movelaws.proofs.Names.{migrates, hears, by_migrates, IsHeardLine, Kept, kept_forward, hears_kept, PlainMessage, goes_round, handles, Loose, loose_round, loose_handles, nat_tests, arith, sets, seen}
 use Rattle.dm_movelaws.proofs.Leading.{All, lines_are, Saying, net_says}
 use Rattle.dm_rule.specs.View as view
-use Rattle.dm_movelaws.proofs.Names.{sets}
-use Rattle.dm_movelaws.proofs.Names.{seen}
 
 -- what is queued is so
 abbrev pub LineOk : (MsgId → Type 0) → Line → Type 0

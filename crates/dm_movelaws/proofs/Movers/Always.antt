@@ -2,13 +2,12 @@
 use Rattle.dm_movelaws.proofs.Names.{◌≡◌, ℕ, ◌+◌, ◌==◌, true, false, List, [], ◌∷◌, refl, ap, ◌∙◌, sym, subst, arith, Option, None, Some, nat_tests, Pid, MsgId, id_of, plain_kind, PlainMessage, PlainWhat, Direction, Boot, Label}
 use Rattle.dm_movelaws.proofs.Names.{PlainProcess, PlainStatus, Moving, Life, Alive, OneKernel, answer_id, is_of_memory, replay, Step, Point, labels, entry, reception, in_bag, is_piece, pending_of, One, after_step, Sound, bind-is}
 use Rattle.dm_movelaws.proofs.Names.{piece_fits, status_awaits, awaits, WhatFits, KernelFits, based_always, both, fits_step, group_replay, Based, asks_piece, answers_piece, AsksFor, AnswersFor, HasEnded, HasPiece, MoversHavePieces, Spelled}
-use Rattle.dm_movelaws.proofs.Names.{group_of}
+use Rattle.dm_movelaws.proofs.Names.{group_of, InOrder, step_constant}
 use Rattle.dm_movelaws.specs.Movers.{Moves}
 use Rattle.dm_movelaws.proofs.Movers.Says.{other_end, Begins, StatusSays, Says, AllSay}
 use Rattle.dm_movelaws.proofs.Movers.Rows.{GoneEnded, step_gone, memory_end, step_says}
 use Rattle.dm_movelaws.proofs.After.{keeps_always}
 use Rattle.dm_onekernel.specs.Step as kernel
-use Rattle.dm_movelaws.proofs.Names.{InOrder, step_constant}
 
 -- a run
 replay_says : (ls : List Label) (r e : MsgId → ℕ) (s t : OneKernel) → replay s ls ≡ Some t → KernelFits s → InOrder s.manager → Sound r e s → AllSay s × GoneEnded s → AllSay t × GoneEnded t

@@ -1,8 +1,8 @@
 -- Each step keeps what the messages of data moves say.
-use Rattle.dm_movelaws.proofs.Names.{◌≡◌, ◌⊎◌, ℕ, Bool, true, false, length, take, drop, refl, ap, ◌∙◌, sym, subst, inl, inr, ⊤, if◌then◌else◌, Option, None, Some, Pid, PlainLink, MsgId, PlainMessage, PlainWhat, Direction, Row}
-use Rattle.dm_movelaws.proofs.Names.{instruction, switchboard, manager, Label, Reply, Why, PlainProcess, PlainStatus, Alive, OneKernel, with_process, with_sent, Called, Sends, CallNumber, answer_to, first_failed, without_message}
-use Rattle.dm_movelaws.proofs.Names.{is_of_memory, pending_of, ServerSends, board_takes_lem, manager_takes_lem, lands-is, Sound, bind-is, KernelFits, by_step, Lives, Life, is_piece, Grown, LifeGrows, stayed, came, HasEnded, nat_tests}
-use Rattle.dm_movelaws.proofs.Names.{arith}
+use Rattle.dm_movelaws.proofs.Names.{◌≡◌, ◌⊎◌, ℕ, Bool, true, false, length, take, drop, refl, ap, ◌∙◌, sym, subst, inl, inr, ⊤, if◌then◌else◌, Option, None, Some, Pid, PlainLink, MsgId, PlainMessage, PlainWhat, Direction, Row, instruction}
+use Rattle.dm_movelaws.proofs.Names.{switchboard, manager, Label, Reply, Why, PlainProcess, PlainStatus, Alive, OneKernel, with_process, with_sent, Called, Sends, CallNumber, answer_to, first_failed, without_message, is_of_memory}
+use Rattle.dm_movelaws.proofs.Names.{pending_of, ServerSends, board_takes_lem, manager_takes_lem, lands-is, Sound, bind-is, KernelFits, by_step, Lives, Life, is_piece, Grown, LifeGrows, stayed, came, HasEnded, nat_tests, arith, answer_id}
+use Rattle.dm_movelaws.proofs.Names.{Outcome, without_note}
 use Rattle.dm_movelaws.proofs.Movers.Says.{other_end, AllSay, same_says, still_says, fresh_says, ended_says, out_says, other_says, answer_says, Requests, request_says, Begins}
 use Rattle.dm_rule.proofs.Names.{begun}
 use Rattle.dm_onekernel.specs.Kernel.{Ended}
@@ -10,7 +10,6 @@ use Rattle.dm_onekernel.specs.Calls as calls
 use Rattle.dm_onekernel.specs.Pieces as pieces
 use Rattle.dm_onekernel.specs.Service as service
 use Rattle.dm_onekernel.specs.Step as kernel
-use Rattle.dm_movelaws.proofs.Names.{answer_id, Outcome, without_note}
 
 -- what a call sends: no message of a data move, or the request for its first piece
 abbrev CallSends : Pid → Called → Type 0

@@ -2,12 +2,11 @@
 use Rattle.dm_movelaws.proofs.Names.{ap, is_some, false≢true, length, Load, Stage, Label, Mark, Reached, Staying, with_mark, mark_for, left_open, sends_on, to_kernel, gives_piece, forwards_on, updates, left_parts, IsNet, IsNetLine, by_net}
 use Rattle.dm_movelaws.proofs.Names.{by_hears, by_forwards, answers_move, leaves_for, Outcome, ◌≡◌, ◌⊎◌, ℕ, ◌==◌, Bool, true, false, List, [], ◌∷◌, ◌++◌, refl, ◌∙◌, sym, subst, inl, inr, ⊤, if◌then◌else◌, Option, None, Some, Pid, pid_eq}
 use Rattle.dm_movelaws.proofs.Names.{MsgId, MessageKind, plain_kind, Boot, switchboard, manager, bind-is, Step, Line, Receiver, process_told, server_told, migrates, Part, Says, Routes, Again, Owns, Transmits, Spelled, lines_of, puts}
-use Rattle.dm_movelaws.proofs.Names.{goes_out, packet_line, spelled, Point, label_of, group_of, Told, About, Known, own_id, marks, by_migrates, IsHeardLine, kernel_kept, by_parts, by_group, by_outcome, moved}
+use Rattle.dm_movelaws.proofs.Names.{goes_out, packet_line, spelled, Point, label_of, group_of, Told, About, Known, own_id, marks, by_migrates, IsHeardLine, kernel_kept, by_parts, by_group, by_outcome, moved, PlainMessage}
 use Rattle.dm_rule.specs.Rule as rule
 use Rattle.dm_movelaws.proofs.Stages.Marks.{open_after, open-append, marks-append}
 use Rattle.dm_movelaws.proofs.Stages.Lines.{AllMild, line_marks}
 use Rattle.dm_movelaws.proofs.Stages.Hears.{round_mild, handles_mild, Handled, Spared, SetsOff}
-use Rattle.dm_movelaws.proofs.Names.{PlainMessage}
 
 -- where a process's migration is open, a line is no step of the kernel without machines
 abbrev pub Shut : Pid → Option Mark → List Line → Type 0

@@ -81,11 +81,11 @@ group_at b pt d w p (Moves k s t id) earlier g l run h e split begun = moving_at
 group_at b pt d w p _ earlier g l run h e split begun = resting_at b pt d w p earlier g l e split begun
 
 -- a line is among the first lines or among the others
-data Lies (xs ys earlier later : List Line) (l : Line) : Type 0 where
+pub data Lies (xs ys earlier later : List Line) (l : Line) : Type 0 where
   First : (g : List Line) → xs ≡ earlier ++ l ∷ g → Lies xs ys earlier later l
   Later : (between : List Line) → earlier ≡ xs ++ between → ys ≡ between ++ l ∷ later → Lies xs ys earlier later l
 
-lies : (xs ys earlier later : List Line) (l : Line) → xs ++ ys ≡ earlier ++ l ∷ later → Lies xs ys earlier later l
+pub lies : (xs ys earlier later : List Line) (l : Line) → xs ++ ys ≡ earlier ++ l ∷ later → Lies xs ys earlier later l
 lies [] ys earlier later l e = Later earlier refl e
 lies (x ∷ xs) ys [] later l e = First xs (let f : x ≡ l = cc in ap (λ (z : Line). z ∷ xs) f)
 lies (x ∷ xs) ys (z ∷ earlier) later l e = next (lies xs ys earlier later l (let f : xs ++ ys ≡ earlier ++ l ∷ later = cc in f))
@@ -98,7 +98,7 @@ lies (x ∷ xs) ys (z ∷ earlier) later l e = next (lies xs ys earlier later l 
     next (Later between f g) = Later between (ap (λ (v : Line). v ∷ earlier) (sym same) ∙ ap (λ (vs : List Line). x ∷ vs) f) g
 
 -- a run
-none_there : (earlier later : List Line) (l : Line) → [] ≡ earlier ++ l ∷ later → ⊥
+pub none_there : (earlier later : List Line) (l : Line) → [] ≡ earlier ++ l ∷ later → ⊥
 none_there [] later l e = cc
 none_there (x ∷ earlier) later l e = cc
 

@@ -2,7 +2,7 @@
 use Rattle.dm_movelaws.proofs.Names.{◌≡◌, ◌⊎◌, ℕ, ◌+◌, ◌<◌, ◌≤◌, ◌==◌, Bool, true, false, List, [], ◌∷◌, ◌++◌, length, is_some, refl, ap, ◌∙◌, subst, inl, inr, arith, if◌then◌else◌, Option, None, Some, cases_Bool, false≢true, nat_tests}
 use Rattle.dm_movelaws.proofs.Names.{Pid, PlainLink, MsgId, id_of, plain_kind, PlainMessage, PlainWhat, switchboard, manager, Boot, Label, Manager, Pending, OneKernel, with_sent, without_message, replay, entry, reception, after_step}
 use Rattle.dm_movelaws.proofs.Names.{ServerSends, board_takes_lem, manager_takes_lem, Sound, bind-is, Step, ascends, Point, View, still_pending, WhatFits, KernelFits, based_always, fits_step, group_replay, Based, is_pending, HasOne}
-use Rattle.dm_movelaws.proofs.Names.{IsOfPending, PendingHasOne, Spelled, group_of, PendingAscends}
+use Rattle.dm_movelaws.proofs.Names.{IsOfPending, PendingHasOne, Spelled, group_of, PendingAscends, requests, Outcome, in_bag, answer_id, sym, nat_lt, PendingKind, IsPending, kind_eq, asked_by, answered_by, sort_of}
 use Rattle.dm_movelaws.proofs.Pending.Pairs.{is_request, Neither, neither, Pair, answer_of, Ones, off_both, out_ones, put_ones, from_other, took_pair, asked_pair}
 use Rattle.dm_movelaws.proofs.Pending.Steps.{label_ones}
 use Rattle.dm_movelaws.proofs.Promise.Before.{step_pending}
@@ -11,12 +11,7 @@ use Rattle.dm_onekernel.specs.Manager as manage
 use Rattle.dm_onekernel.specs.Service as service
 use Rattle.dm_onekernel.specs.Step as kernel
 use Rattle.dm_onekernel.specs.Switchboard as board
-use Rattle.dm_movelaws.proofs.Names.{requests}
-use Rattle.dm_movelaws.proofs.Names.{Outcome, in_bag, answer_id, sym, nat_lt, entry}
-use Rattle.dm_onekernel.specs.declared.request.PendingKind.{PendingKind}
-use Rattle.dm_rulelaws.specs.Fits.{IsPending, is_for, kind_eq}
-use Rattle.dm_movelaws.specs.Pending.{asked_by, answered_by}
-use Rattle.dm_message.specs.Sorts.{sort_of}
+use Rattle.dm_rulelaws.specs.Fits.{is_for}
 use Rattle.dm_movelaws.proofs.Pending.Pairs.{PairAt, is_answer}
 use Rattle.dm_laws.proofs.Entered.{asks}
 

@@ -1,15 +1,10 @@
 -- Under a pending request's number there is the request or its answer: what keeps that.
 use Rattle.dm_movelaws.proofs.Names.{◌≡◌, ℕ, ◌<◌, ◌==◌, ◌&&◌, Bool, true, false, is_some, refl, ap, ◌∙◌, sym, subst, inl, inr, arith, if◌then◌else◌, Option, None, Some, cases_Bool, false≢true, nat_tests, pid_eq, MsgId, id_eq, id_of}
 use Rattle.dm_movelaws.proofs.Names.{bool_eq, PlainMessage, PlainWhat, manager, Pending, OneKernel, with_sent, answer_id, answer_to, without_message, id_eq-is, id_eq-same, ServerSends, Sound, not_counted, ascends, numbered_from, not_true}
-use Rattle.dm_movelaws.proofs.Names.{parts, is_pending, out_off, sent_off, manager_took}
+use Rattle.dm_movelaws.proofs.Names.{parts, is_pending, out_off, sent_off, manager_took, Pid, Note, with_note, without_note, Notes-agree, ⊤, ◌≤◌, counts}
 use Rattle.dm_laws.proofs.Entered.{asks}
 use Rattle.dm_onekernel.specs.Manager as manage
 pub use Rattle.dm_rule.proofs.Trails.Spares.{and_no as and_false}
-use Rattle.dm_movelaws.proofs.Names.{Pid, Note, with_note, without_note}
-use Rattle.dm_laws.proofs.Notes.{Notes-agree}
-use Rattle.dm_movelaws.proofs.Names.{⊤}
-use Rattle.dm_movelaws.proofs.Names.{◌≤◌}
-use Rattle.dm_laws.proofs.Entered.{counts}
 
 -- a request to make a process or to move one, and an answer to one
 abbrev pub is_request : PlainWhat → Bool

@@ -1,6 +1,6 @@
 -- Each step of a process or of its kernel keeps one message under each pending request's number.
 use Rattle.dm_movelaws.proofs.Names.{◌≡◌, ℕ, Bool, true, false, refl, ap, ◌∙◌, take, drop, if◌then◌else◌, None, Some, Pid, pid_eq, MsgId, PlainMessage, PlainWhat, manager, Label, bind, PlainProcess, Alive, OneKernel, with_sent, answer_to}
-use Rattle.dm_movelaws.proofs.Names.{without_message, is_dropped, is_of_memory, lands-is, Sound, not_server, bind-is, length, id_of, by_step, is_served, nat_tests, arith}
+use Rattle.dm_movelaws.proofs.Names.{without_message, is_dropped, is_of_memory, lands-is, Sound, not_server, bind-is, length, id_of, by_step, is_served, nat_tests, arith, Note, Outcome, answer_id, Follows, note-is, sym}
 use Rattle.dm_laws.proofs.Entered.{asks}
 use Rattle.dm_movelaws.proofs.Pending.Pairs.{is_request, Neither, neither, Ones, out_ones, put_ones, from_other, answered_ones, made_ones, Off}
 use Rattle.dm_onekernel.specs.Pieces as pieces
@@ -9,11 +9,7 @@ use Rattle.dm_onekernel.specs.Service as service
 use Rattle.dm_onekernel.specs.Step as kernel
 use Rattle.dm_onekernel.specs.Manager as manage
 use Rattle.dm_onekernel.specs.Switchboard as board
-use Rattle.dm_movelaws.proofs.Names.{Note, Outcome, answer_id}
 use Rattle.dm_movelaws.proofs.Pending.Pairs.{is_answer, noted_ones, unnoted_ones}
-use Rattle.dm_rule.proofs.Changes.{Follows}
-use Rattle.dm_laws.proofs.Servers.{note-is}
-use Rattle.dm_movelaws.proofs.Names.{sym}
 
 -- what a process receives is a user message
 completes_if : (p : Pid) (x : PlainProcess) (m : PlainMessage) (stopped : Bool) (c : receiving.Completed) → (if stopped then None else receiving.completes_status p x m x.status) ≡ Some c → Neither m.what

@@ -1,14 +1,13 @@
 -- Each group leaves an update that is under way standing somewhere, or says that it was handled, and nothing else.
 use Rattle.dm_movelaws.proofs.Names.{◌≡◌, ◌⊎◌, ℕ, Bool, true, false, List, [], ◌∷◌, refl, ap, ◌∙◌, sym, subst, inl, inr, Option, None, Some, false≢true, Pid, Place, MsgId, MessageKind, id_eq, plain_kind, PlainMessage, PlainWhat, Boot}
-use Rattle.dm_movelaws.proofs.Names.{id_eq-is, Step, Line, Told, is_kernels, Point, Part, Spelled, spelled, migrates, group_of, not_kernels, not_true, IsNet, fits, under_way, kernels_by, Phased, PairsFit, Sane, begun, begun_sane}
-use Rattle.dm_movelaws.proofs.Names.{update_of, by_migrates, by_outcome, group_is, nat_tests, arith}
+use Rattle.dm_movelaws.proofs.Names.{id_eq-is, Step, Line, Told, is_kernels, Point, Part, Spelled, spelled, migrates, group_of, not_kernels, not_true, IsNet, fits, under_way, kernels_by, Phased, PairsFit, Sane, begun, begun_sane, update_of}
+use Rattle.dm_movelaws.proofs.Names.{by_migrates, by_outcome, group_is, nat_tests, arith, topic_by, label_of, view_after}
 use Rattle.dm_movelaws.proofs.Promise.Kept.{told_stays}
 use Rattle.dm_movelaws.proofs.Promise.Spots.{Stands, packet_stands, head_stands, net_stands}
 use Rattle.dm_movelaws.proofs.Promise.Parts.{all_loose, GoesOf, Waits, loose_row, round_goes, handles_goes, Goes}
 use Rattle.dm_movelaws.proofs.Leading.{net_lead}
 use Rattle.dm_movelaws.proofs.Promise.Told.{hears_goes, hears_this}
 use Rattle.dm_rule.specs.Rule as rule
-use Rattle.dm_movelaws.proofs.Names.{topic_by, label_of, view_after}
 use Rattle.dm_movelaws.proofs.Promise.Spots.{about_stands}
 
 -- no message of the bag is an update

@@ -2,13 +2,11 @@
 use Rattle.dm_movelaws.proofs.Names.{◌≡◌, ◌⊎◌, ℕ, ◌≤◌, ◌&&◌, Bool, true, false, List, [], ◌∷◌, ◌++◌, refl, ap, ◌∙◌, sym, subst, inl, inr, arith, ⊤, Option, None, Some, cases_Bool, Pid, MsgId, MessageKind, plain_kind, id_eq, id_eq-is}
 use Rattle.dm_movelaws.proofs.Names.{id_eq-same, Line, Stage, View, Told, is_kernels, view_after, Point, label_of, kernel_after, Part, Says, Again, Owns, Spelled, spelled, times, sends_on, is_put, not_true, parts, touches, pair_same}
 use Rattle.dm_movelaws.proofs.Names.{fits_as, PairsFit, fits_put, fits_packet, Sane, Sayable, part_sane, Steps, said_by, OneKernel, PlainMessage, Boot, Addresses, Sender, forwards_on, Loose, loose_round, loose_handles, by_forwards}
-use Rattle.dm_movelaws.proofs.Names.{nat_tests}
+use Rattle.dm_movelaws.proofs.Names.{nat_tests, seen, Label, PlainWhat, to_kernel, moved, leaves_for, machine_in, machine_of, Target}
 use Rattle.dm_movelaws.proofs.Promise.Kept.{lines_told}
 use Rattle.dm_movelaws.proofs.Promise.Spots.{Stands, Spares, line_stands, label_stands, put_this, put_stands, packet_stands}
 use Rattle.dm_movelaws.proofs.Leading.{Behind, whatever_put, part_leads, next_of}
 use Rattle.dm_rule.specs.Rule as rule
-use Rattle.dm_movelaws.proofs.Names.{seen}
-use Rattle.dm_movelaws.proofs.Names.{ap, ◌∙◌, sym, Label, PlainWhat, Stage, to_kernel, moved, view_after, said_by, leaves_for, machine_in, machine_of, Target}
 use Rattle.dm_movelaws.proofs.Promise.Spots.{Fronts, about_stands, label_stands}
 
 -- a kernel's own message that was told of

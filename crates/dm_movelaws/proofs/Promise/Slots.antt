@@ -1,13 +1,11 @@
 -- Which holders a label gives an address to doesn't rest on the addresses that there are.
 use Rattle.dm_movelaws.proofs.Names.{◌≡◌, ℕ, ◌+◌, Bool, List, [], ◌∷◌, ◌++◌, map, refl, ap, ◌∙◌, sym, ◌||◌, Option, Pid, Place, PlainLink, first_empty, MsgId, PlainMessage, PlainWhat, Label, PlainProcess, OneKernel, View, Addresses, Holder}
 use Rattle.dm_movelaws.proofs.Names.{Slot, Enclosed, Gets, gives, holder_eq, encloses, enclosed_from, sends_what, receives_links, receives_what, slot_after, child_links, creates_what, manager_tells, manager_sends, gives_to, manager_gets}
-use Rattle.dm_movelaws.proofs.Names.{nat_tests, arith}
+use Rattle.dm_movelaws.proofs.Names.{nat_tests, arith, landing_gets, board_gets, None, Some}
 use Rattle.dm_onekernel.specs.Manager as manage
 use Rattle.dm_onekernel.specs.Step as kernel
 use Rattle.dm_rule.specs.Addresses as addresses
 use Rattle.dm_rule.specs.Given as request
-use Rattle.dm_movelaws.proofs.Names.{landing_gets, board_gets}
-use Rattle.dm_movelaws.proofs.Names.{None, Some}
 
 abbrev pub holders : List Gets → List Holder
 holders [] = []

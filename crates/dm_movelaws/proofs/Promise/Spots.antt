@@ -4,11 +4,10 @@ use Rattle.dm_movelaws.proofs.Names.{handled_first, released, receiver_of, Spot,
 use Rattle.dm_movelaws.proofs.Names.{home_off, proto_off, frozen_off, accepted_off, state_off, memory_off, lacks_off, left_off, restarted_off, handled_spots, queued_spots, held_spots, forwarded_spots, ◌⊎◌, Bool, true, not, filter}
 use Rattle.dm_movelaws.proofs.Names.{if◌then◌else◌, Option, None, Some, false≢true, MessageKind, OneKernel, id_eq-is, id_eq-same, Step, Load, Told, NothingElse, is_kernels, after_head, taken_id, held_for, Point, out_of, not_kernels}
 use Rattle.dm_movelaws.proofs.Names.{gone_in, at_record_at, not_true, one_of, PairsFit, served_keeps, serving_off, created_off, IsNetLine, early_off, acked_off, turn_off, tick_off, deliver_off, migrate_off, emptied, both_lists, both_times}
-use Rattle.dm_movelaws.proofs.Names.{dropped_spots, put_spots, taken_calm, put_spot, put_there, Sane, packet_off, received_spots, ended_off, nat_tests}
+use Rattle.dm_movelaws.proofs.Names.{dropped_spots, put_spots, taken_calm, put_spot, put_there, Sane, packet_off, received_spots, ended_off, nat_tests, About, Target, aim, about_off}
 use Rattle.dm_rule.proofs.Moves.Sent.{sent_off}
 use Rattle.dm_onekernel.specs.Step as kernel
 use Rattle.dm_rule.specs.View as view
-use Rattle.dm_movelaws.proofs.Names.{About, Target, aim, about_off}
 
 pub record Stands (v : View) (j : MsgId) : Type 0 where
   pub spot : Spot

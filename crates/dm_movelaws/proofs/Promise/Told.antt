@@ -1,12 +1,11 @@
 -- A turn that handles a kernel's own message leaves another standing; an update that it handles goes on, or that is said alone.
 use Rattle.dm_movelaws.proofs.Names.{◌≡◌, ◌⊎◌, ℕ, ◌≤◌, Bool, false, List, [], ◌∷◌, ◌++◌, length, refl, ap, ◌∙◌, sym, subst, inl, inr, if◌then◌else◌, Option, Some, Pid, Place, MsgId, MessageKind, Stage, id_eq, Boot, manager, Line, Told}
 use Rattle.dm_movelaws.proofs.Names.{Known, Unknown, Here, Forward, Ended, Point, Part, Says, Again, Spelled, spelled, times, to_kernel, sends_on, process_told, both_lists, said_by, update_of, last_point, by_hears, behind_count, place_told}
-use Rattle.dm_movelaws.proofs.Names.{nat_tests, arith}
+use Rattle.dm_movelaws.proofs.Names.{nat_tests, arith, answers_move, Outcome}
 use Rattle.dm_movelaws.proofs.Promise.Spots.{Stands, Front, Spares, sent_stands, held_this}
 use Rattle.dm_movelaws.proofs.Promise.Parts.{Goes, GoesOf, base_says, again_this, loose_stands, sends_stand, Waits, first_row, forwards_goes}
 use Rattle.dm_movelaws.proofs.Leading.{next_of}
 use Rattle.dm_rule.specs.Rule as rule
-use Rattle.dm_movelaws.proofs.Names.{answers_move, Outcome}
 use Rattle.dm_movelaws.proofs.Promise.Spots.{fronts}
 
 -- another is at the front of the acting machine's inbox

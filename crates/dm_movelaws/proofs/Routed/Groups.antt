@@ -3,13 +3,12 @@ use Rattle.dm_movelaws.proofs.Names.{◌≡◌, ◌⊎◌, ℕ, true, false, is_
 use Rattle.dm_movelaws.proofs.Names.{id_eq-is, Sound, Step, Line, Part, Spelled, Point, label_of, kernel_after, moved, group_of, Inbox, Queue, View, Told, view_after, BagStep, out_of, bag_sends, bag_ran, bag_call, bag_wait, bag_out}
 use Rattle.dm_movelaws.proofs.Names.{bag_end, bag_refuse, bag_receive, bag_dropped, bag_gone, bag_no_space, bag_created, bag_served, bag_took, group_is, stands_right, is_put, hushed, hidden, put_told_off, Sane, outcome_sayable, Rides}
 use Rattle.dm_movelaws.proofs.Names.{begun, begun_sane, Run, Sayable, nat_tests, ◌≤◌, ⊤, migrates, times, IsNetLine, IsNet, first_is, times_self, times_more, by_migrates, IsHeardLine, hears_kept, by_round, by_handles, by_forwards}
-use Rattle.dm_movelaws.proofs.Names.{by_outcome}
+use Rattle.dm_movelaws.proofs.Names.{by_outcome, bag_asked, bag_answered, answer_id}
 use Rattle.dm_movelaws.proofs.Routed.Steps.{is_sent, step_counts}
 use Rattle.dm_movelaws.proofs.Leading.{Behind, whatever_put, sane_lead, All, Saying, net_says}
 use Rattle.dm_onekernel.specs.Step as kernel
 use Rattle.dm_rule.specs.View as view
 use Rattle.dm_rule.specs.Rule as rule
-use Rattle.dm_movelaws.proofs.Names.{bag_asked, bag_answered, answer_id}
 
 -- the message that goes by a label is one of these
 abbrev pub LineOuts : (MsgId → Type 0) → Line → Type 0

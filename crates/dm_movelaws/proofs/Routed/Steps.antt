@@ -1,13 +1,12 @@
 -- A step of the kernel without machines counts no message as sent that it doesn't put into the bag.
 use Rattle.dm_movelaws.proofs.Names.{◌≡◌, ◌⊎◌, ℕ, ◌+◌, Bool, true, false, is_some, nat_lt, length, refl, ap, ◌∙◌, sym, inl, arith, if◌then◌else◌, take, drop, Option, None, Some, false≢true, nat_tests, Pid, pid_eq, MsgId, id_of}
 use Rattle.dm_movelaws.proofs.Names.{PlainMessage, PlainWhat, Label, Why, switchboard, manager, PlainProcess, Life, Alive, OneKernel, with_process, with_sent, answer_to, without_message, pid_eq-is, id_eq-same, Sent, sent_at, ServerSends}
-use Rattle.dm_movelaws.proofs.Names.{board_takes_lem, manager_takes_lem, lands-is, Sent-from, name_is, by_step}
+use Rattle.dm_movelaws.proofs.Names.{board_takes_lem, manager_takes_lem, lands-is, Sent-from, name_is, by_step, with_note}
 use Rattle.dm_onekernel.specs.Kernel.{Ended}
 use Rattle.dm_onekernel.specs.Kernel as kernels
 use Rattle.dm_onekernel.specs.Pieces as pieces
 use Rattle.dm_onekernel.specs.Service as service
 use Rattle.dm_onekernel.specs.Step as step
-use Rattle.dm_movelaws.proofs.Names.{with_note}
 
 -- the sender of a message counts it: a living process, or a server
 abbrev pub has_sent : ℕ → Option Life → Bool

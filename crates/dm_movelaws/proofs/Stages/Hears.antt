@@ -1,8 +1,7 @@
 -- What a process or a server says of a kernel's own message leaves all migrations as they are, or freezes the process.
 use Rattle.dm_movelaws.proofs.Names.{◌≡◌, ℕ, List, [], ◌∷◌, refl, Some, Pid, MsgId, MessageKind, Line, Stage, Told, Known, Here, target_of, Point, Part, Says, to_kernel, forwards_on, process_told, server_told, Option, plain_kind}
-use Rattle.dm_movelaws.proofs.Names.{PlainMessage, Boot, goes_round, handles, Addresses, Loose, loose_round, loose_handles, by_forwards, nat_tests, arith}
+use Rattle.dm_movelaws.proofs.Names.{PlainMessage, Boot, goes_round, handles, Addresses, Loose, loose_round, loose_handles, by_forwards, nat_tests, arith, Label, PlainWhat}
 use Rattle.dm_movelaws.proofs.Stages.Lines.{AllMild}
-use Rattle.dm_movelaws.proofs.Names.{Label, PlainWhat}
 use Rattle.dm_rule.specs.Rule as rule
 
 mild_loose : (me : Pid) (front : Option MsgId) → Loose (AllMild me front)

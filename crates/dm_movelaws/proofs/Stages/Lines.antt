@@ -1,13 +1,12 @@
 -- Lines that leave the migration of a process as it is.
-use Rattle.dm_movelaws.proofs.Names.{◌≡◌, ℕ, ◌≤◌, true, false, List, [], ◌∷◌, refl, ap, ◌∙◌, sym, subst, ⊤, Option, Some, Pid, pid_eq, MsgId, Stage, Label, OneKernel, Line, at_record, View, Told, Known, Of, view_after, handled}
-use Rattle.dm_movelaws.proofs.Names.{served_told, is_between, Point, label_of, kernel_after, Part, Says, Transmits, Spot, times, standing, pid_eq-swap, out_of, IsNetLine, IsNet, is_put, hushed, gone_in, left_off, Plain, handled_spots}
-use Rattle.dm_movelaws.proofs.Names.{record_off, Tame, line_calm, plain_in_bag, Sane, ended_off, created_off, served_keeps, Mark, with_mark, other_than, Spelled, spelled, fits_put, fits_packet, touches, pair_same, packet_calm, fits_as}
-use Rattle.dm_movelaws.proofs.Names.{PairsFit, Sayable, part_sane, by_parts, Steps, PacketsKeep, nat_tests, arith}
+use Rattle.dm_movelaws.proofs.Names.{◌≡◌, ℕ, ◌≤◌, true, false, List, [], ◌∷◌, refl, ap, ◌∙◌, sym, subst, ⊤, Option, Some, Pid, pid_eq, MsgId, Stage, Label, OneKernel, Line, at_record, View, Told, Known, Of, view_after, handled, served_told}
+use Rattle.dm_movelaws.proofs.Names.{is_between, Point, label_of, kernel_after, Part, Says, Transmits, Spot, times, standing, pid_eq-swap, out_of, IsNetLine, IsNet, is_put, hushed, gone_in, left_off, Plain, handled_spots, record_off, Tame}
+use Rattle.dm_movelaws.proofs.Names.{line_calm, plain_in_bag, Sane, ended_off, created_off, served_keeps, Mark, with_mark, other_than, Spelled, spelled, fits_put, fits_packet, touches, pair_same, packet_calm, fits_as, PairsFit, Sayable}
+use Rattle.dm_movelaws.proofs.Names.{part_sane, by_parts, Steps, PacketsKeep, nat_tests, arith, moved}
 use Rattle.dm_movelaws.proofs.Stages.Marks.{mark_other, marks_of}
 use Rattle.dm_movelaws.proofs.Stages.Spares.{is_settled, Spares, spares_same, spares_calm, spares_trans, spares_put, spares_about}
 use Rattle.dm_movelaws.proofs.Leading.{whatever_put, part_leads, line_fits}
 use Rattle.dm_onekernel.specs.Step as kernel
-use Rattle.dm_movelaws.proofs.Names.{moved}
 
 -- what is said of the message at the front, and steps of another process that handle no message
 abbrev pub MildLine : Pid → Option MsgId → Line → Type 0

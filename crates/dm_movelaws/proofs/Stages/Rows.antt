@@ -2,12 +2,11 @@
 use Rattle.dm_movelaws.proofs.Names.{◌≡◌, ℕ, ◌≤◌, Bool, true, false, List, [], ◌∷◌, ◌++◌, refl, ap, ◌∙◌, sym, subst, inl, inr, arith, if◌then◌else◌, Option, None, Some, cases_Bool, false≢true, Pid, pid_eq, MsgId, MessageKind, id_eq, bind}
 use Rattle.dm_movelaws.proofs.Names.{Line, Load, View, Told, Of, own_id, view_after, handled, is_between, Point, label_of, kernel_after, moved, Part, Says, Owns, Spelled, behind, spelled, Spot, Inbox, times, ids_at, id_eq-is, id_eq-same}
 use Rattle.dm_movelaws.proofs.Names.{pid_eq-is, pid_eq-same, is_put, not_true, line_next, one_of, touches, pair_same, onward, handled_spots, packet_calm, put_at, put_there, put_spot, fits_as, PairsFit, puts_next, said, Sane, sane_line}
-use Rattle.dm_movelaws.proofs.Names.{Mark, with_mark, in_order, first_none, nat_tests}
+use Rattle.dm_movelaws.proofs.Names.{Mark, with_mark, in_order, first_none, nat_tests, seen_none}
 use Rattle.dm_movelaws.proofs.Stages.Marks.{open_after}
 use Rattle.dm_movelaws.proofs.Stages.Spares.{is_settled, mark_of, Spares, TokenOf, HasMark, token_mark, Marked, none_marked, some_marked}
 use Rattle.dm_movelaws.proofs.Stages.Lines.{AllMild, spares_line, same_spot, Kept, parts_spare}
 pub use Rattle.dm_rule.proofs.Phases.Put.{of_same}
-use Rattle.dm_movelaws.proofs.Names.{seen_none}
 use Rattle.dm_movelaws.proofs.Leading.{line_fits}
 
 -- the message at the front, of no other process's migration

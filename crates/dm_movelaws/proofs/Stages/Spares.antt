@@ -2,9 +2,8 @@
 use Rattle.dm_movelaws.proofs.Names.{◌≡◌, ℕ, ◌≤◌, ◌==◌, ◌&&◌, Bool, true, false, not, List, [], refl, ap, ◌∙◌, sym, subst, inl, inr, if◌then◌else◌, Option, None, Some, cases_Bool, false≢true, Pid, MsgId, MessageKind, id_eq, View, Told, Of}
 use Rattle.dm_movelaws.proofs.Names.{Known, Unknown, Here, Frozen, Incoming, Forward, after_put, Spot, standing, is_between, is_restart, is_early, is_away, is_here, is_over, kind_comes, knows, Phase, Nowhere, Rests, Over, Moves, is_due}
 use Rattle.dm_movelaws.proofs.Names.{token_in, told_between, IsIn, id_eq-is, PairsFit, put_told_off, Calm, between_of, put_spots, put_at, put_there, put_spot, rests_here, Mark, Reached, Lacking, in_order, eq_self, not_false, right_true}
-use Rattle.dm_movelaws.proofs.Names.{first_kept, kind_leaves, nat_tests, arith}
+use Rattle.dm_movelaws.proofs.Names.{first_kept, kind_leaves, nat_tests, arith, calm_about, calm_same, About}
 use Rattle.dm_movelaws.proofs.Stages.Marks.{open_after}
-use Rattle.dm_movelaws.proofs.Names.{calm_about, calm_same, About}
 use Rattle.dm_rule.specs.View as view
 
 -- the last mark, by the message that is under way

@@ -3,15 +3,14 @@ use Rattle.dm_movelaws.proofs.Names.{◌≡◌, ℕ, ◌≤◌, true, false, Lis
 use Rattle.dm_movelaws.proofs.Names.{Frozen, view_after, handled_first, released, target_of, front_told, to_kernel, sends_on, is_between, Point, label_of, moved, Part, Says, Spelled, spelled, Spot, Queue, Held, Inbox, Untaken, times}
 use Rattle.dm_movelaws.proofs.Names.{ids_at, standing, pid_eq-swap, is_put, at_record_at, first_off, home_again, home_off, frozen_off, line_next, touches, handled_spots, record_off, InPhases, queued_plain, held_plain, said, Mark, Reached}
 use Rattle.dm_movelaws.proofs.Names.{mark_for, with_mark, in_order, released_on, nat_tests, arith, ◌==◌, Bool, PlainProcess, Incoming, handled, front_of, accepts, gives_piece, takes_chunk, takes_block, kernel_told, chunks_of, pieces_of}
-use Rattle.dm_movelaws.proofs.Names.{Owns, accepted_off, state_off, memory_off, lacks_off, proto_off, restarted_off, proto_known, Lacking, Staying, leaves}
+use Rattle.dm_movelaws.proofs.Names.{Owns, accepted_off, state_off, memory_off, lacks_off, proto_off, restarted_off, proto_known, Lacking, Staying, leaves, sets, sets_off, View, Note, Outcome, NothingElse, tells_asker, answers_move}
+use Rattle.dm_movelaws.proofs.Names.{frozen_is, aim, PairsFit, Sane, Target, asked_off}
 use Rattle.dm_movelaws.proofs.Stages.Marks.{open_after, marks_of, mark_same, mark_other, marks_sent}
 use Rattle.dm_movelaws.proofs.Stages.Spares.{is_settled, Spares, spares_same, TokenOf, HasMark, token_mark, here_mark, some_marked, mark_of, Marked}
 use Rattle.dm_movelaws.proofs.Stages.Lines.{AllMild, spares_line, same_spot, Kept, parts_spare}
 use Rattle.dm_movelaws.proofs.Stages.Hears.{freezes}
 use Rattle.dm_movelaws.proofs.Stages.Rows.{Handling, first_spares, owns_token, line_sane, line_and_parts, Row, split, front_token, row_marked, answer}
 use Rattle.dm_movelaws.proofs.Leading.{line_fits, asker_known}
-use Rattle.dm_movelaws.proofs.Names.{sets, sets_off, View, Note, Outcome, NothingElse, tells_asker, answers_move, frozen_is, aim}
-use Rattle.dm_movelaws.proofs.Names.{PairsFit, Sane, Target, asked_off}
 
 -- a process is home again
 home_spares : (pt : Point) (i : MsgId) (is : List MsgId) (q p : Pid) (l : Line) → Handling pt i is q → pid_eq q p ≡ false → is_put l ≡ false → ((z : Spot) → ids_at (view_after pt.view l) z ≡ ids_at (released (home_again (handled_first pt.view) q) q) z)

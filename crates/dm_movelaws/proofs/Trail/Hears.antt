@@ -1,14 +1,13 @@
 -- What a turn says of a kernel's own message fits the trails.
 use Rattle.dm_movelaws.proofs.Names.{◌≡◌, ℕ, ◌+◌, ◌≤◌, Bool, true, List, [], ◌∷◌, ◌++◌, refl, ap, ◌∙◌, sym, subst, false≢true, if◌then◌else◌, Option, Some, Pid, MsgId, MessageKind, Line, Stage, Boot, manager, pid_eq-same, Told, Of, Here}
 use Rattle.dm_movelaws.proofs.Names.{Frozen, Incoming, Forward, target_of, front_told, front_of, view_after, Receiver, Point, Part, Says, to_kernel, forwards_on, Moves, IsIn, is_between, receiver_in, sender_in, times, Trails, both_lists}
-use Rattle.dm_movelaws.proofs.Names.{Sane, Named, source_holds, destination_expects, by_hears, place_told, behind_count, left_parts, nat_tests, arith}
+use Rattle.dm_movelaws.proofs.Names.{Sane, Named, source_holds, destination_expects, by_hears, place_told, behind_count, left_parts, nat_tests, arith, None, Note, OneKernel, Known, label_of, kernel_after, moved, at_record, at_record_at}
+use Rattle.dm_movelaws.proofs.Names.{Said, said_by, answers_move, Outcome, slice_get, Label, Routes, aim, sets, leaves_for}
 use Rattle.dm_movelaws.proofs.Trail.Placed.{is_held, Places, placed_comes, placed_restarts, places_set, places_held, moves_held, moves_comes, moves_forward}
 use Rattle.dm_movelaws.proofs.Trail.Loose.{Walks, first_walks, loose_walks, updated_loose, here_loose, no_move_loose, held_loose, lacks_loose, proto_loose, to_between, asked_loose, state_loose, memory_loose, Loose, AllLoose}
 use Rattle.dm_movelaws.proofs.Trail.Forwards.{leaves_walks}
 use Rattle.dm_rule.specs.Rule as rule
 use Rattle.dm_rule.proofs.Hearing as hearing
-use Rattle.dm_movelaws.proofs.Names.{None, Note, OneKernel, Known, label_of, kernel_after, moved, at_record, at_record_at, Said, said_by, answers_move, Outcome}
-use Rattle.dm_movelaws.proofs.Names.{slice_get, Label, Routes, aim, sets, leaves_for}
 use Rattle.dm_movelaws.proofs.Trail.Loose.{label_walks, places_same, routes_loose}
 use Rattle.dm_onekernel.specs.Pieces as pieces
 

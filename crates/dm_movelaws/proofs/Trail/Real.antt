@@ -2,13 +2,12 @@
 use Rattle.dm_movelaws.proofs.Names.{◌≡◌, ℕ, ◌+◌, ◌==◌, Bool, true, false, not, filter, is_some, List, refl, ap, ◌∙◌, sym, subst, inl, inr, cases_Bool, false≢true, Option, None, Some, Pid, Place, MsgId, MessageKind, Boot, Label, IsValid}
 use Rattle.dm_movelaws.proofs.Names.{Life, OneKernel, Step, after_step, Line, Stage, Leads, Spelled, Point, first_point, kernel_after, group_of, at_record, View, Told, About, NothingElse, Of, Known, Here, Frozen, Forward, Ended, view_after}
 use Rattle.dm_movelaws.proofs.Names.{handled, receiver_of, served_told, hushed, grown_none, Phased, queued_known, held_known, dropped_known, start_known, Sane, label_topic, is_server, KnownStands, group_keeps, Loud, keeps_by, set_all}
-use Rattle.dm_movelaws.proofs.Names.{killed_or, named_real, Both, is_made, IsNamed, ByHolder, ByOwn, ByRequest, ByUpdate, ByForward, queued_topic, held_topic, taken_topic, or_first, run_always, nat_tests, arith}
+use Rattle.dm_movelaws.proofs.Names.{killed_or, named_real, Both, is_made, IsNamed, ByHolder, ByOwn, ByRequest, ByUpdate, ByForward, queued_topic, held_topic, taken_topic, or_first, run_always, nat_tests, arith, sets, machine_in, topic_by}
+use Rattle.dm_movelaws.proofs.Names.{seen, PlainMessage, label_of}
 use Rattle.dm_rulelaws.proofs.Found.Core.{IsReal}
 use Rattle.dm_movelaws.proofs.After.{keeps_always}
 use Rattle.dm_onekernel.specs.Step as kernel
 use Rattle.dm_rule.specs.View as view
-use Rattle.dm_movelaws.proofs.Names.{sets}
-use Rattle.dm_movelaws.proofs.Names.{machine_in, topic_by, seen, PlainMessage, Option, None, Some, Label, label_of, About}
 
 -- a process that leaves a machine, or has left it
 abbrev passes : Known → Bool

@@ -4,7 +4,7 @@ use Rattle.dm_movelaws.proofs.Names.{PlainMessage, Boot, Why, first_number, View
 use Rattle.dm_movelaws.proofs.Names.{ReceivedAt, ended_on, is_fixed, Unborn, said_by, Stops, by_round, by_handles, StoodOnTrail, nat_tests, ◌≤◌, inl, inr, PutFits, manager, Step, Of, is_kernels, own_id, after_head, front_of, Child, Sender}
 use Rattle.dm_movelaws.proofs.Names.{to_of, sender_of, Spelled, IsIn, is_between, group_of, Inbox, Queue, Held, times, standing, both_lists, both_times, front_kernels, Phased, due, outcome_sayable, Named, Links, child_is, migrate_to}
 use Rattle.dm_movelaws.proofs.Names.{migrate_from, Treads, line_treads, KnownStands, Begins, begins, begun, begun_sane, turned, unborn, FoundBy, KnowsAt, moves_back, own_outside, own_fresh, told_there, about_same, stands_first, queued_for}
-use Rattle.dm_movelaws.proofs.Names.{told_for, either, fixed_home, by_migrates, migrates, by_outcome, by_group}
+use Rattle.dm_movelaws.proofs.Names.{told_for, either, fixed_home, by_migrates, migrates, by_outcome, by_group, Stage, to_kernel, Frozen, answers_move, leaves_for, Outcome, aim, sets, asked_noted}
 use Rattle.dm_movelaws.proofs.Trail.Placed.{is_held, Placed, Places, Learnt, placed_held, places_set, places_held}
 use Rattle.dm_movelaws.proofs.Trail.Loose.{Walks, AllLoose, loose_walks, places_same, label_fits, label_walks, routes_loose, idle_loose, queued_loose, held_loose, dropped_loose, drops_loose, AllGood, parts_good, owns_leave, no_child_loose}
 use Rattle.dm_movelaws.proofs.Trail.Loose.{pinned_loose, net_loose}
@@ -12,7 +12,6 @@ use Rattle.dm_movelaws.proofs.Trail.Forwards.{forwards_walks}
 use Rattle.dm_movelaws.proofs.Trail.Hears.{Heard, hears_walks, answers_walks, freezes_walks, at_end}
 use Rattle.dm_onekernel.specs.Pieces as pieces
 use Rattle.dm_rule.specs.Rule as rule
-use Rattle.dm_movelaws.proofs.Names.{Stage, to_kernel, Frozen, answers_move, leaves_for, Outcome, aim, sets, asked_noted}
 
 -- a process that runs
 end_walks : (pt : Point) (t : Trails) (p : Pid) (queue : List MsgId) (y : Why) → pt.view.known pt.view.acting p ≡ Here → Places pt.view t → Walks pt t (rule.says (Label.End p y) ∷ rule.drop_parts queue)
