@@ -1,6 +1,6 @@
 -- What the manager does with a message, row by row: whatever holds where each row leads holds of what it does.
-use Rattle.dm_rulelaws.proofs.Names.{◌≡◌, ℕ, ◌+◌, ◌*◌, ◌==◌, ◌&&◌, Bool, true, false, List, ◌∷◌, ◌++◌, length, refl, subst, nat_lt, if◌then◌else◌, Option, None, Some, Pid, PlainLink, PlainMessage, PlainWhat, Pending, Manager, Outcome}
-use Rattle.dm_rulelaws.proofs.Names.{PendingKind, code_of_outcome, []}
+use Rattle.dm_rulelaws.proofs.Names.{◌≡◌, ℕ, ◌+◌, ◌*◌, ◌==◌, ◌&&◌, Bool, true, false, List, [], ◌∷◌, ◌++◌, length, refl, subst, nat_lt, if◌then◌else◌, Option, None, Some, Pid, PlainLink, PlainMessage, PlainWhat, Pending, Manager, Outcome}
+use Rattle.dm_rulelaws.proofs.Names.{PendingKind, code_of_outcome}
 use Rattle.dm_onekernel.specs.Manager as manage
 
 -- a user message with these links

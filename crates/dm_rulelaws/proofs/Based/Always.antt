@@ -1,5 +1,5 @@
 -- All that the kernel without machines and the lines say of processes and of what waits for them holds wherever the rule leads.
-use Rattle.dm_rulelaws.proofs.Names.{None, ◌≡◌, List, ◌∷◌, refl, ◌∙◌, subst, Some, Boot, IsValid, Step, IsStep, Leads, Spelled, Point, first_point, labels, group_of, phased_start, phased_group, []}
+use Rattle.dm_rulelaws.proofs.Names.{None, ◌≡◌, List, [], ◌∷◌, refl, ◌∙◌, subst, Some, Boot, IsValid, Step, IsStep, Leads, Spelled, Point, first_point, labels, group_of, phased_start, phased_group}
 use Rattle.dm_rulelaws.proofs.Based.Noted.{noted_start, noted_group}
 use Rattle.dm_rulelaws.proofs.Fits.Start.{start_fits}
 use Rattle.dm_rulelaws.proofs.RunLabels.{group_replay, replay_fits}

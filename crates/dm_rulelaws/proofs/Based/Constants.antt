@@ -1,6 +1,6 @@
 -- The format, the images and the number of machines of the kernel without machines never change, and the manager's pending
 -- requests stay in order.
-use Rattle.dm_rulelaws.proofs.Names.{◌≡◌, List, ◌∷◌, ◌∙◌, subst, Some, OneKernel, replay, Step, Boot, Spelled, Point, labels, group_of, Label, bind-is, []}
+use Rattle.dm_rulelaws.proofs.Names.{◌≡◌, List, [], ◌∷◌, ◌∙◌, subst, Some, OneKernel, replay, Step, Boot, Spelled, Point, labels, group_of, Label, bind-is}
 use Rattle.dm_onekernel.specs.Step as kernel
 use Rattle.dm_rulelaws.proofs.Fits.Constants.{Constant, same, step_constant}
 use Rattle.dm_rulelaws.proofs.RunLabels.{group_replay}

@@ -1,8 +1,8 @@
 -- What machines know of processes agrees with the kernel without machines: each group keeps it.
-use Rattle.dm_rulelaws.proofs.Names.{◌≡◌, ◌≢◌, ℕ, ◌+◌, ◌==◌, ◌&&◌, Bool, true, false, List, ◌∷◌, ◌++◌, is_some, refl, ap, ◌∙◌, sym, subst, inl, inr, arith, if◌then◌else◌, cases_Bool, false≢true, nat_tests, Option, None, Some, Pid, pid_eq}
-use Rattle.dm_rulelaws.proofs.Names.{MsgId, Boot, Label, Line, Stage, PlainProcess, Life, Alive, OneKernel, Step, pid_eq-is, bind-is, completing, Spelled, Point, group_of, at_machine, at_record, without, moved_back, View, Told, Known}
-use Rattle.dm_rulelaws.proofs.Names.{Unknown, Here, Frozen, Incoming, Forward, handled, handled_first, receiver_of, front_of, gone_to, served_told, rejoins, view_after, is_away, is_here, at_machine_at, Phased, is_kill, Sane, is_server}
-use Rattle.dm_rulelaws.proofs.Names.{KnownStands, agrees, server_at, rings, turns_here, aim, sets, at_hand-is, bind, []}
+use Rattle.dm_rulelaws.proofs.Names.{◌≡◌, ◌≢◌, ℕ, ◌+◌, ◌==◌, ◌&&◌, Bool, true, false, List, [], ◌∷◌, ◌++◌, is_some, refl, ap, ◌∙◌, sym, subst, inl, inr, arith, if◌then◌else◌, cases_Bool, false≢true, nat_tests, Option, None, Some, Pid}
+use Rattle.dm_rulelaws.proofs.Names.{pid_eq, MsgId, Boot, Label, Line, Stage, PlainProcess, Life, Alive, OneKernel, Step, pid_eq-is, bind-is, completing, Spelled, Point, group_of, at_machine, at_record, without, moved_back, View, Told}
+use Rattle.dm_rulelaws.proofs.Names.{Known, Unknown, Here, Frozen, Incoming, Forward, handled, handled_first, receiver_of, front_of, gone_to, served_told, rejoins, view_after, is_away, is_here, at_machine_at, Phased, is_kill, Sane}
+use Rattle.dm_rulelaws.proofs.Names.{is_server, KnownStands, agrees, server_at, rings, turns_here, aim, sets, at_hand-is, bind}
 use Rattle.dm_onekernel.specs.Step as kernel
 use Rattle.dm_rule.specs.View.{Ended}
 use Rattle.dm_rule.specs.View as view

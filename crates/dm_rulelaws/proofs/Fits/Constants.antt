@@ -1,7 +1,7 @@
 -- The format, the images and the number of machines of the kernel without machines never change, and the manager's pending
 -- requests stay in order.
-use Rattle.dm_rulelaws.proofs.Names.{take, drop, by_step, ◌≡◌, ℕ, ◌+◌, ◌++◌, true, List, ◌∷◌, length, refl, Option, None, Some, Pid, MsgId, PlainMessage, PlainWhat, Label, Why, Ended, Life, OneKernel, Manager, Pending, PlainLink, ascends}
-use Rattle.dm_rulelaws.proofs.Names.{ascends_more, ascends_last, ascends_without, PlainProcess, answer_to, without_message, PendingKind, answer_id, code_of_outcome, without_note, []}
+use Rattle.dm_rulelaws.proofs.Names.{take, drop, by_step, ◌≡◌, ℕ, ◌+◌, ◌++◌, true, List, [], ◌∷◌, length, refl, Option, None, Some, Pid, MsgId, PlainMessage, PlainWhat, Label, Why, Ended, Life, OneKernel, Manager, Pending, PlainLink}
+use Rattle.dm_rulelaws.proofs.Names.{ascends, ascends_more, ascends_last, ascends_without, PlainProcess, answer_to, without_message, PendingKind, answer_id, code_of_outcome, without_note}
 use Rattle.dm_onekernel.specs.Kernel as kernels
 use Rattle.dm_onekernel.specs.Manager as manage
 use Rattle.dm_onekernel.specs.Pieces as pieces

@@ -1,7 +1,7 @@
 -- A process that is made, or not for want of room, keeps that all fits.
-use Rattle.dm_rulelaws.proofs.Names.{◌≡◌, ℕ, zero, suc, ◌+◌, ◌-◌, true, List, ◌∷◌, ◌++◌, length, map, replicate, refl, ap, ◌∙◌, sym, subst, is_some, nat_le, arith, Option, None, Some, false≢true, nat_tests, Pid, pid_of, PlainLink, MsgId}
-use Rattle.dm_rulelaws.proofs.Names.{PlainMessage, PlainWhat, BootImage, first_number, slots_of, Format, Life, Alive, OneKernel, with_process, with_sent, answer_id, answer_to, without_message, begun, Sound, Each, Lives, has_bytes, LinkFits}
-use Rattle.dm_rulelaws.proofs.Names.{SlotFits, ProcessFits, awaits, IsPending, WhatFits, KernelFits, PendingKind, []}
+use Rattle.dm_rulelaws.proofs.Names.{◌≡◌, ℕ, zero, suc, ◌+◌, ◌-◌, true, List, [], ◌∷◌, ◌++◌, length, map, replicate, refl, ap, ◌∙◌, sym, subst, is_some, nat_le, arith, Option, None, Some, false≢true, nat_tests, Pid, pid_of, PlainLink}
+use Rattle.dm_rulelaws.proofs.Names.{MsgId, PlainMessage, PlainWhat, BootImage, first_number, slots_of, Format, Life, Alive, OneKernel, with_process, with_sent, answer_id, answer_to, without_message, begun, Sound, Each, Lives, has_bytes}
+use Rattle.dm_rulelaws.proofs.Names.{LinkFits, SlotFits, ProcessFits, awaits, IsPending, WhatFits, KernelFits, PendingKind}
 use Rattle.dm_onekernel.specs.Service as service
 use Rattle.dm_rulelaws.proofs.Fits.Rises.{Becomes, carries, set_fits, set_at, out_fits, put_fits, pending_on}
 

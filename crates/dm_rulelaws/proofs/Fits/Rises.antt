@@ -1,7 +1,7 @@
 -- What fits goes on fitting as long as processes are only made, end, and keep their memory.
-use Rattle.dm_rulelaws.proofs.Names.{◌≡◌, ℕ, ◌+◌, ◌≤◌, ◌&&◌, ◌||◌, Bool, true, false, List, ◌∷◌, length, refl, ap, ◌∙◌, sym, subst, inl, inr, arith, if◌then◌else◌, Option, None, Some, cases_Bool, Pid, pid_eq, PlainLink, MsgId, PlainMessage}
-use Rattle.dm_rulelaws.proofs.Names.{PlainWhat, PlainProcess, PlainStatus, Life, Alive, Ended, NamedLink, Pending, OneKernel, with_process, with_sent, without_message, pid_eq-is, pid_eq-same, stayed, came, Each, Lives, has_bytes, is_server}
-use Rattle.dm_rulelaws.proofs.Names.{takes_users, gives_no_right, LinkFits, SlotFits, move_fits, ProcessFits, awaits, IsPending, WhatFits, KernelFits, is_for, NoteFits, PendingFits, Manager, Note, PendingKind, nat_lt, []}
+use Rattle.dm_rulelaws.proofs.Names.{◌≡◌, ℕ, ◌+◌, ◌≤◌, ◌&&◌, ◌||◌, Bool, true, false, List, [], ◌∷◌, length, refl, ap, ◌∙◌, sym, subst, inl, inr, arith, if◌then◌else◌, Option, None, Some, cases_Bool, Pid, pid_eq, PlainLink, MsgId}
+use Rattle.dm_rulelaws.proofs.Names.{PlainMessage, PlainWhat, PlainProcess, PlainStatus, Life, Alive, Ended, NamedLink, Pending, OneKernel, with_process, with_sent, without_message, pid_eq-is, pid_eq-same, stayed, came, Each, Lives}
+use Rattle.dm_rulelaws.proofs.Names.{has_bytes, is_server, takes_users, gives_no_right, LinkFits, SlotFits, move_fits, ProcessFits, awaits, IsPending, WhatFits, KernelFits, is_for, NoteFits, PendingFits, Manager, Note, PendingKind, nat_lt}
 use Rattle.dm_onekernel.specs.Manager as manage
 pub use Rattle.dm_rule.proofs.Homes.Servers.{and-both as both}
 pub use Rattle.dm_line.proofs.Below.{both_true as two}

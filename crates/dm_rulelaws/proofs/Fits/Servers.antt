@@ -1,7 +1,7 @@
 -- What the servers do keeps that all fits.
-use Rattle.dm_rulelaws.proofs.Names.{◌≡◌, ℕ, zero, suc, ◌+◌, ◌==◌, ◌&&◌, Bool, true, false, List, ◌∷◌, ◌++◌, length, refl, ap, ◌∙◌, sym, subst, nat_lt, arith, ⊤, if◌then◌else◌, slice_get, Option, None, Some, nat_tests, Pid, PlainLink}
+use Rattle.dm_rulelaws.proofs.Names.{◌≡◌, ℕ, zero, suc, ◌+◌, ◌==◌, ◌&&◌, Bool, true, false, List, [], ◌∷◌, ◌++◌, length, refl, ap, ◌∙◌, sym, subst, nat_lt, arith, ⊤, if◌then◌else◌, slice_get, Option, None, Some, nat_tests, Pid, PlainLink}
 use Rattle.dm_rulelaws.proofs.Names.{MsgId, PlainMessage, PlainWhat, manager, NamedLink, Pending, Manager, OneKernel, with_sent, without_message, id_eq-same, stayed, out_at, Sound, Each, Lives, has_bytes, LinkFits, awaits, WhatFits}
-use Rattle.dm_rulelaws.proofs.Names.{KernelFits, id_of, IsPending, nat_le, SlotFits, is_for, kind_eq, PendingFits, ascends, numbered_from, pid_of, answer_id, Note, PendingKind, code_of_outcome, cases_Bool, in_bag, inl, inr, []}
+use Rattle.dm_rulelaws.proofs.Names.{KernelFits, id_of, IsPending, nat_le, SlotFits, is_for, kind_eq, PendingFits, ascends, numbered_from, pid_of, answer_id, Note, PendingKind, code_of_outcome, cases_Bool, in_bag, inl, inr}
 use Rattle.dm_onekernel.specs.Switchboard as board
 use Rattle.dm_onekernel.specs.Manager as manage
 use Rattle.dm_onekernel.specs.Service as service

@@ -1,7 +1,7 @@
 -- Each label of a process keeps that all fits.
 use Rattle.dm_rulelaws.proofs.Names.{◌≡◌, ℕ, Bool, true, length, subst, arith, None, Some, Pid, MsgId, Label, PlainMessage, PlainWhat, bind, PlainProcess, PlainStatus, Ready, Alive, OneKernel, with_sent, pending_of, bind-is, Lives}
-use Rattle.dm_rulelaws.proofs.Names.{status_awaits, WhatFits, KernelFits, zero, suc, ◌+◌, ◌≤◌, false, List, ◌∷◌, refl, ap, ◌∙◌, sym, nat_le, ⊤, if◌then◌else◌, Option, common_steps, PlainLink, first_empty, Row, instruction, Regs}
-use Rattle.dm_rulelaws.proofs.Names.{KeepsLengths, instruction-lengths, Reply, Waiting, written_at, at_hand-is, Runs, Each, has_bytes, LinkFits, SlotFits, move_fits, ProcessFits, running_is, []}
+use Rattle.dm_rulelaws.proofs.Names.{status_awaits, WhatFits, KernelFits, zero, suc, ◌+◌, ◌≤◌, false, List, [], ◌∷◌, refl, ap, ◌∙◌, sym, nat_le, ⊤, if◌then◌else◌, Option, common_steps, PlainLink, first_empty, Row, instruction, Regs}
+use Rattle.dm_rulelaws.proofs.Names.{KeepsLengths, instruction-lengths, Reply, Waiting, written_at, at_hand-is, Runs, Each, has_bytes, LinkFits, SlotFits, move_fits, ProcessFits, running_is}
 use Rattle.dm_onekernel.specs.Step as kernel
 use Rattle.dm_rulelaws.proofs.Fits.Rises.{Rises, Each-on, link_on, users_on, move_on, Becomes, set_fits, set_at, set_rises, put_fits}
 use Rattle.dm_rulelaws.proofs.Fits.Calls.{Goes, SentFits, Requests, CallFits, call_fits, slots_set}

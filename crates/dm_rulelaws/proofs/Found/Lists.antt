@@ -1,8 +1,8 @@
 -- Each line leaves messages where they stood, moves them within a machine, or brings one.
-use Rattle.dm_rulelaws.proofs.Names.{◌≡◌, ◌⊎◌, ℕ, zero, suc, ◌+◌, ◌≤◌, ◌==◌, Bool, true, false, not, filter, List, ◌∷◌, ◌++◌, refl, sym, subst, inl, inr, arith, ⊤, if◌then◌else◌, drop, Option, None, Some, Pid, MsgId, MessageKind, Label}
+use Rattle.dm_rulelaws.proofs.Names.{◌≡◌, ◌⊎◌, ℕ, zero, suc, ◌+◌, ◌≤◌, ◌==◌, Bool, true, false, not, filter, List, [], ◌∷◌, ◌++◌, refl, sym, subst, inl, inr, arith, ⊤, if◌then◌else◌, drop, Option, None, Some, Pid, MsgId, MessageKind, Label}
 use Rattle.dm_rulelaws.proofs.Names.{Step, id_eq-is, id_eq-same, Line, Stage, at_machine, at_pair, at_record, without_id, without_front, View, Pair, Told, About, Of, view_after, after_head, after_label, after_put, after_taken, after_stage}
 use Rattle.dm_rulelaws.proofs.Names.{after_proto, follows_up, asks_on, handled, handled_first, queued_for, held_for, dropped_for, forwarded_for, rejoins, served_told, kills, receiver_of, taken_id, oldest, routed_on, Spot, Queue, Held}
-use Rattle.dm_rulelaws.proofs.Names.{Inbox, Untaken, times, untaken, standing, eq_is, parts, at_place, pair_keeps, times-append, machine_of, Target, []}
+use Rattle.dm_rulelaws.proofs.Names.{Inbox, Untaken, times, untaken, standing, eq_is, parts, at_place, pair_keeps, times-append, machine_of, Target}
 use Rattle.dm_rule.specs.View as view
 use Rattle.dm_rulelaws.proofs.Based.Sets.{set_all, without_fewer, front_fewer, last_of}
 

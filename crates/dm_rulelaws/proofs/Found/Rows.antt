@@ -1,9 +1,9 @@
 -- What each row of a turn needs: processes that run, messages of the bag, and messages of kernels.
-use Rattle.dm_rulelaws.proofs.Names.{◌≡◌, ℕ, ◌+◌, List, ◌∷◌, ap, ◌∙◌, subst, Option, None, Some, Pid, pid_of, MsgId, plain_kind, Label, PlainMessage, Boot, first_number, PlainProcess, Line, Forward, Point, moved, Part, Says, Routes}
+use Rattle.dm_rulelaws.proofs.Names.{◌≡◌, ℕ, ◌+◌, List, [], ◌∷◌, ap, ◌∙◌, subst, Option, None, Some, Pid, pid_of, MsgId, plain_kind, Label, PlainMessage, Boot, first_number, PlainProcess, Line, Forward, Point, moved, Part, Says, Routes}
 use Rattle.dm_rulelaws.proofs.Names.{forwards_on, Stops, by_round, by_handles, ◌/◌, ◌<◌, ◌==◌, Bool, true, false, ◌++◌, length, refl, ◌||◌, if◌then◌else◌, pid_eq, MessageKind, Stage, switchboard, manager, bind, Told, About, Of, Known}
 use Rattle.dm_rulelaws.proofs.Names.{Unknown, Here, target_of, front_of, to_kernel, accepts, takes_chunk, takes_block, leaves, chunks_of, pieces_of, kernel_told, here_told, ended_told, process_told, server_told, is_between, is_fixed}
 use Rattle.dm_rulelaws.proofs.Names.{own_gives, own_id, goes_between, is_own, PlainWhat, Outcome, Note, OneKernel, machine_in, Target, answers_move, leaves_for, aim, label_of, kernel_after, at_record, at_record_at, tells_asker, sym, inr}
-use Rattle.dm_rulelaws.proofs.Names.{View, []}
+use Rattle.dm_rulelaws.proofs.Names.{View}
 use Rattle.dm_rule.specs.Point.{machine_of}
 use Rattle.dm_rulelaws.proofs.Fits.Serves.{asked_noted}
 use Rattle.dm_rulelaws.proofs.Found.Lines.{NeedsLine}

@@ -1,6 +1,6 @@
 -- Laws of runs, from what holds at their start and is kept by each group.
-use Rattle.dm_rulelaws.proofs.Names.{◌≡◌, ℕ, ◌≤◌, true, List, ◌∷◌, ap, subst, is_some, nat_le, arith, nat_tests, None, Some, MsgId, Boot, IsValid, Step, is_for_home, Spelled, Point, first_point, group_of, IsStep, IsStill, Leads, Home}
-use Rattle.dm_rulelaws.proofs.Names.{home_start, stands, home_group, none_replaced, kernels_fresh, GoesOnAlways, KnownAlways, for_home, AskNone, []}
+use Rattle.dm_rulelaws.proofs.Names.{◌≡◌, ℕ, ◌≤◌, true, List, [], ◌∷◌, ap, subst, is_some, nat_le, arith, nat_tests, None, Some, MsgId, Boot, IsValid, Step, is_for_home, Spelled, Point, first_point, group_of, IsStep, IsStill, Leads, Home}
+use Rattle.dm_rulelaws.proofs.Names.{home_start, stands, home_group, none_replaced, kernels_fresh, GoesOnAlways, KnownAlways, for_home, AskNone}
 use Rattle.dm_rulelaws.proofs.Fits.Rises.{both}
 use Rattle.dm_rulelaws.proofs.Runs.{Run}
 use Rattle.dm_rulelaws.proofs.Own.Told.{OwnTold}

@@ -1,8 +1,8 @@
 -- As long as nothing moves, messages of one sender to one process on one channel are received in the order in which they were sent.
-use Rattle.dm_rulelaws.proofs.Names.{◌≡◌, suc, Bool, true, false, List, ◌∷◌, ◌++◌, refl, ap, ◌∙◌, sym, subst, arith, Option, Some, false≢true, Pid, MsgId, id_of, Boot, IsValid, Label, OneKernel, bind, start, replay, Step, Line, Spelled}
+use Rattle.dm_rulelaws.proofs.Names.{◌≡◌, suc, Bool, true, false, List, [], ◌∷◌, ◌++◌, refl, ap, ◌∙◌, sym, subst, arith, Option, Some, false≢true, Pid, MsgId, id_of, Boot, IsValid, Label, OneKernel, bind, start, replay, Step, Line, Spelled}
 use Rattle.dm_rulelaws.proofs.Names.{Point, first_point, labels, moved, first_view, LeadsBy, ReceivesInOrder, AreStill, ℕ, ◌+◌, ◌≤◌, ◌==◌, nat_lt, inl, inr, if◌then◌else◌, None, cases_Bool, nat_tests, pid_eq, id_eq, PlainMessage, PlainWhat}
 use Rattle.dm_rulelaws.proofs.Names.{on_mask, switchboard, manager, Life, in_bag, counts, is_counted, pid_eq-same, id_eq-is, id_eq-same, after_step, spelled, without_id, times, untaken, View, after_label, Each, channel_in, is_for_home}
-use Rattle.dm_rulelaws.proofs.Names.{are_for_home, About, NothingElse, begins, marked, homes_of, Sane, AskNone, []}
+use Rattle.dm_rulelaws.proofs.Names.{are_for_home, About, NothingElse, begins, marked, homes_of, Sane, AskNone}
 use Rattle.dm_rule.specs.View as view
 use Rattle.dm_rulelaws.proofs.RunLabels.{labels-append, replay-append, group_replay}
 use Rattle.dm_rulelaws.proofs.Goes.Parts.{said, Shape, Quiet, Takes, Goes, Reception, not_receive, no_receive, sane_by, AsksNone, unasked}

@@ -1,14 +1,13 @@
 -- No kernel sends what is told back when it is forwarded.
-use Rattle.dm_rulelaws.proofs.Names.{◌≡◌, ◌⊎◌, ℕ, ◌==◌, true, false, List, ◌∷◌, refl, ap, ◌∙◌, sym, subst, is_some, arith, length, inl, inr, ⊤, take, drop, Option, None, Some, false≢true, nat_tests, Pid, PlainLink, MsgId, plain_kind}
+use Rattle.dm_rulelaws.proofs.Names.{◌≡◌, ◌⊎◌, ℕ, ◌==◌, true, false, List, [], ◌∷◌, refl, ap, ◌∙◌, sym, subst, is_some, arith, length, inl, inr, ⊤, take, drop, Option, None, Some, false≢true, nat_tests, Pid, PlainLink, MsgId, plain_kind}
 use Rattle.dm_rulelaws.proofs.Names.{PlainMessage, PlainWhat, Label, switchboard, manager, Switchboard, Manager, OneKernel, with_sent, answer_to, without_message, Made, came, stayed, lands-is, Sound, is_told_back, by_step, is_server}
-use Rattle.dm_rulelaws.proofs.Names.{code_of_outcome, answer_id, without_note, ◌++◌, Pending, Note, []}
+use Rattle.dm_rulelaws.proofs.Names.{code_of_outcome, answer_id, without_note, ◌++◌, Pending, Note, ◌+◌}
 use Rattle.dm_onekernel.specs.Pieces as pieces
 use Rattle.dm_onekernel.specs.Switchboard as board
 use Rattle.dm_onekernel.specs.Manager as manage
 use Rattle.dm_onekernel.specs.Service as service
 use Rattle.dm_onekernel.specs.Step as step
 use Rattle.dm_rulelaws.proofs.Takes.{by_manager, by_over}
-use Rattle.dm_rulelaws.proofs.Names.{◌+◌}
 
 abbrev IsSent : PlainMessage → Type 0
 IsSent x = is_told_back (plain_kind x.what) ≡ true → (x.sender.num == 0) ≡ false

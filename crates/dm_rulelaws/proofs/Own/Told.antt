@@ -1,7 +1,7 @@
 -- What was told of kernels' own messages, and who sends what is told back.
 use Rattle.dm_rulelaws.proofs.Names.{◌≡◌, ◌==◌, ◌&&◌, ◌||◌, Bool, true, false, not, refl, ap, ◌∙◌, sym, Some, false≢true, Pid, MsgId, MessageKind, plain_kind, PlainMessage, is_told_back, is_between, Point, About, Target, Of, Told}
-use Rattle.dm_rulelaws.proofs.Names.{is_kernels, is_server, is_fixed, second, Sort, sort_of, arith, nat_tests, ℕ, List, ◌∷◌, ◌++◌, ⊤, if◌then◌else◌, Option, None, pid_of, Line, Stage, Addresses, Sender, to_kernel, forwards_on, accepts}
-use Rattle.dm_rulelaws.proofs.Names.{takes_chunk, takes_block, gives_piece, sends_on, label_of, Part, Says, Routes, Again, Owns, Transmits, View, Known, Forward, view_after, handled, receiver_of, tells_between, Label, leaves_for, []}
+use Rattle.dm_rulelaws.proofs.Names.{is_kernels, is_server, is_fixed, second, Sort, sort_of, arith, nat_tests, ℕ, List, [], ◌∷◌, ◌++◌, ⊤, if◌then◌else◌, Option, None, pid_of, Line, Stage, Addresses, Sender, to_kernel, forwards_on, accepts}
+use Rattle.dm_rulelaws.proofs.Names.{takes_chunk, takes_block, gives_piece, sends_on, label_of, Part, Says, Routes, Again, Owns, Transmits, View, Known, Forward, view_after, handled, receiver_of, tells_between, Label, leaves_for}
 use Rattle.dm_rule.specs.View.{Place}
 use Rattle.dm_rule.specs.View as view
 

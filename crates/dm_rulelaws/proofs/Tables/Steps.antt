@@ -1,8 +1,8 @@
 -- Each label of a process keeps the number of link slots, and so does what its kernel is asked.
 use Rattle.dm_rulelaws.proofs.Names.{◌≡◌, ℕ, ◌+◌, ◌-◌, ◌==◌, ◌&&◌, Bool, true, false, length, take, drop, refl, ap, ◌∙◌, subst, nat_le, ⊤, if◌then◌else◌, None, Some, Pid, MsgId, Label, PlainMessage, PlainWhat, Direction, Row, instruction}
-use Rattle.dm_rulelaws.proofs.Names.{Reply, Why, bind, PlainProcess, PlainStatus, Moving, Alive, OneKernel, answer_to, without_message, bind-is, begun, by_step, zero, suc, ◌≤◌, List, ◌∷◌, filter_map, nat_lt, arith, slice_set, cons_option}
-use Rattle.dm_rulelaws.proofs.Names.{Option, nat_tests, length-take, PlainLink, first_empty, link_at, Waiting, reg, Called, Replies, Sends, Waits, Outputs, Ends, map, replicate, length-append, length-map, length-replicate, BootImage}
-use Rattle.dm_rulelaws.proofs.Names.{Format, slots_of, Manager, with_sent, slots_with, running_is, at_hand-is, without_note, answer_id, Outcome, ◌++◌, code_of_outcome, []}
+use Rattle.dm_rulelaws.proofs.Names.{Reply, Why, bind, PlainProcess, PlainStatus, Moving, Alive, OneKernel, answer_to, without_message, bind-is, begun, by_step, zero, suc, ◌≤◌, List, [], ◌∷◌, filter_map, nat_lt, arith, slice_set}
+use Rattle.dm_rulelaws.proofs.Names.{cons_option, Option, nat_tests, length-take, PlainLink, first_empty, link_at, Waiting, reg, Called, Replies, Sends, Waits, Outputs, Ends, map, replicate, length-append, length-map, length-replicate}
+use Rattle.dm_rulelaws.proofs.Names.{BootImage, Format, slots_of, Manager, with_sent, slots_with, running_is, at_hand-is, without_note, answer_id, Outcome, ◌++◌, code_of_outcome}
 use Rattle.dm_onekernel.specs.Calls as calls
 use Rattle.dm_onekernel.specs.Pieces as pieces
 use Rattle.dm_onekernel.specs.Receiving as receiving
