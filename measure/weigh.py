@@ -2,16 +2,17 @@
 """weigh.py [TOP]: what the law book weighs, in the repository whose top is TOP (default: the folder above this one).
 
 Prints, one a line: lines of proof in the five law crates, lines of proof that import, files that name a kind of message and a
-line of a run that stand for all of their sort (`CallOff`, `Pinned`), lines of definitions behind the program's clause without
-imports, the rows among them that say nothing, and lemmas that nothing reaches; then lines by crate. With --lemmas it lists the
-lemmas that nothing reaches, with --twice those whose statement another crate has too."""
+line of a run that stand for all of their sort (`CallOff`, `Pinned`), lines of definitions behind the clauses of the command `run`
+and of the whole program (imports, comments and empty lines aren't counted), the rows among them that say nothing, and lemmas that
+nothing reaches; then lines by crate. With --lemmas it lists the lemmas that nothing reaches, with --twice those whose statement
+another crate has too."""
 import collections, os, re, sys
 sys.dont_write_bytecode = True
 sys.path.insert(0, os.path.dirname(os.path.abspath(__file__)))
 from lawbook import Book, reach
 
 LAWS = ("dm_rule", "dm_rulelaws", "dm_places", "dm_mirror", "dm_movelaws")
-CLAUSES = ("entry.rt", "program.rt")
+CLAUSES = {"the command run": ("dm_commands/src/run.rt",), "the program": ("dm_program/src/entry.rt", "dm_program/src/program.rt")}
 NOTHING = re.compile(r"^\s*[a-z_].* = (?:None|false|\[\]|⊥|⊤|v|s|a|x|tt)$")
 
 
@@ -37,10 +38,11 @@ def unreached(book, edges):
     return sorted((d for p in lemmas for d in book.modules[p].own if d not in seen), key=str)
 
 
-def behind(book, edges):
-    """Definitions that the clause of the whole program stands on."""
-    roots = {d for d in book.cited(lambda f: "dm_program/src/" in f and f.endswith(CLAUSES)) if d.module.part == "specs"}
-    return [d for d in reach({d: {x for x in ds if x.module.part == "specs"} for d, ds in edges.items()}, roots)]
+def behind(book, edges, files):
+    """Lines of the definitions that the clauses in these files stand on."""
+    roots = {d for d in book.cited(lambda f: f.endswith(files)) if d.module.part == "specs"}
+    found = reach({d: {x for x in ds if x.module.part == "specs"} for d, ds in edges.items()}, roots)
+    return [line for d in found for line in d.text() if line.strip() and not line.strip().startswith("--")]
 
 
 def twice(book):
@@ -62,15 +64,16 @@ def main():
     edges = book.graph()
     proofs = [m for m in book.modules.values() if m.part == "proofs"]
     specs = [m for m in book.modules.values() if m.part == "specs"]
-    lost, clause = unreached(book, edges), behind(book, edges)
-    body = [line for d in clause for line in d.text() if line.strip()]
+    lost = unreached(book, edges)
     print(f"{lines([m for m in proofs if m.crate in LAWS]):7}  lines of proof in {', '.join(LAWS)}")
     print(f"{imports(proofs):7}  lines of proof that import")
     for word in ("CallOff", "Pinned"):
         print(f"{naming(proofs, word):7}  files of proof that name {word}")
         print(f"{naming(specs, word):7}  files of definitions that name {word}")
-    print(f"{len(body):7}  lines of definitions behind the program's clause, without imports")
-    print(f"{sum(bool(NOTHING.match(line)) for line in body):7}  of these, rows that say nothing")
+    for what, files in CLAUSES.items():
+        body = behind(book, edges, files)
+        print(f"{len(body):7}  lines of definitions behind the clauses of {what}")
+        print(f"{sum(bool(NOTHING.match(line)) for line in body):7}  of these, rows that say nothing")
     print(f"{len(lost):7}  lemmas that nothing reaches")
     print(f"{sum(len(ds) - 1 for ds in twice(book).values()):7}  lemmas whose statement another crate has too")
     print(f"\n{'crate':16}{'defs':>8}{'proofs':>8}{'files':>8}{'imports':>8}{'lost':>8}")

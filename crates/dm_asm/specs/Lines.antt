@@ -1,19 +1,6 @@
 -- Lines and words.
 use Rattle.std.specs.Prelude.{ℕ, Bool, ◌==◌, ◌||◌, if◌then◌else◌, not, List, [], ◌∷◌, length, filter}
-
--- an item before the first of some lists
-abbrev pub before_first : ℕ → List (List ℕ) → List (List ℕ)
-before_first c [] = (c ∷ []) ∷ []
-before_first c (w ∷ ws) = (c ∷ w) ∷ ws
-
--- a list cut behind each item that passes a test, without these items
-abbrev pub cut : (ℕ → Bool) → List ℕ → List (List ℕ)
-cut test [] = []
-cut test (c ∷ cs) = if test c then [] ∷ cut test cs else before_first c (cut test cs)
-
--- a line feed
-abbrev pub is_line_feed : ℕ → Bool
-is_line_feed c = c == 10
+use Rattle.dm_memory.specs.Cuts.{cut, ends_line}
 
 -- a semicolon
 abbrev pub is_semicolon : ℕ → Bool
@@ -25,7 +12,7 @@ separates c = (c == 32) || (c == 9) || (c == 13) || (c == 44)
 
 -- the lines of a text
 unfoldable pub source_lines : List ℕ → List (List ℕ)
-source_lines text = cut is_line_feed text
+source_lines text = cut ends_line text
 
 -- a line up to its comment
 abbrev pub without_comment : List ℕ → List ℕ

@@ -2,15 +2,12 @@
 use Rattle.std.specs.Prelude.{ℕ, Bool, true, false, ◌==◌, ◌&&◌, ◌||◌, nat_lt, nat_le, ◌+◌, ◌-◌, ◌*◌, if◌then◌else◌, not, Option, Some, None, List, [], ◌∷◌, length, drop, slice_index}
 use Rattle.std.specs.Option.{option_and_then}
 use Rattle.std.specs.List.{list_all}
-
--- a decimal digit
-abbrev pub is_decimal_digit : ℕ → Bool
-is_decimal_digit c = nat_le 48 c && nat_le c 57
+use Rattle.dm_memory.specs.Cuts.{is_digit}
 
 -- the value of a digit of a number to the base 10 or 16
 abbrev pub digit : Bool → ℕ → Option ℕ
 digit hex c =
-    if is_decimal_digit c then Some (c - 48)
+    if is_digit c then Some (c - 48)
     else (if hex && nat_le 97 c && nat_le c 102 then Some (c - 87)
     else (if hex && nat_le 65 c && nat_le c 70 then Some (c - 55) else None))
 
@@ -33,19 +30,19 @@ literal_value word = if is_hex word then number_going_on true 0 (drop 2 word) el
 
 -- the register that a word names: r0 to r15
 abbrev pub register_of : List ℕ → Option ℕ
-register_of (r ∷ d ∷ []) = if (r == 114) && is_decimal_digit d then Some (d - 48) else None
+register_of (r ∷ d ∷ []) = if (r == 114) && is_digit d then Some (d - 48) else None
 register_of (r ∷ t ∷ d ∷ []) =
     if (r == 114) && (t == 49) && nat_le 48 d && nat_le d 53 then Some (10 + (d - 48)) else None
 register_of _ = None
 
 -- a small letter, a digit or an underscore
 abbrev pub is_name_part : ℕ → Bool
-is_name_part c = (nat_le 97 c && nat_le c 122) || is_decimal_digit c || (c == 95)
+is_name_part c = (nat_le 97 c && nat_le c 122) || is_digit c || (c == 95)
 
 -- a label: 1 to 16 of these, the first no digit
 abbrev pub is_label_name : List ℕ → Bool
 is_label_name word =
-    nat_lt 0 (length word) && nat_le (length word) 16 && not (is_decimal_digit (slice_index word 0)) && list_all is_name_part word
+    nat_lt 0 (length word) && nat_le (length word) 16 && not (is_digit (slice_index word 0)) && list_all is_name_part word
 
 -- whether a word that may be a label is one: it begins with a letter or an underscore
 abbrev pub begins_name : List ℕ → Bool

@@ -1,5 +1,5 @@
 -- The values of operands, one after the other.
-use Rattle.std.specs.Prelude.{ℕ, ◌==◌, ◌&&◌, nat_lt, nat_le, ◌+◌, ◌-◌, ◌/◌, ◌%◌, if◌then◌else◌, Option, Some, None, Result, Ok, Err, List, [], ◌∷◌}
+use Rattle.std.specs.Prelude.{ℕ, ◌==◌, ◌&&◌, nat_lt, nat_le, ◌+◌, ◌-◌, ◌/◌, ◌%◌, if◌then◌else◌, Option, ok_or, Result, Ok, Err, List, [], ◌∷◌}
 use Rattle.dm_asm.specs.declared.forms.Shape.{Shape}
 use Rattle.dm_asm.specs.declared.forms.Shape.TheVariants.{RegisterValue, TwoRegisters, ThreeRegisters, Access, Jump, Branch, Call}
 use Rattle.dm_asm.specs.declared.labels.Place.{Place}
@@ -8,29 +8,18 @@ use Rattle.dm_asm.specs.declared.refusals.Why.TheVariants.{BadRegister, BadNumbe
 use Rattle.dm_asm.specs.Numbers.{begins_name, literal_value, register_of}
 use Rattle.dm_asm.specs.Refusals.{◌>>=◌}
 
--- a register that must be there
-abbrev pub wanted_register : Option ℕ → Result ℕ Why
-wanted_register None = Err BadRegister
-wanted_register (Some r) = Ok r
-
 -- a number that is at most so large
 abbrev pub within_range : ℕ → ℕ → Result ℕ Why
 within_range most n = if nat_le n most then Ok n else Err OutOfRange
 
 -- a number that must be there, and at most so large
 abbrev pub wanted_number : ℕ → Option ℕ → Result ℕ Why
-wanted_number most None = Err BadNumber
-wanted_number most (Some n) = within_range most n
-
--- the value of a label that must be there, at most so large
-abbrev pub wanted_label : ℕ → Option Place → Result ℕ Why
-wanted_label most None = Err UnknownLabel
-wanted_label most (Some place) = within_range most place.address
+wanted_number most n = ok_or n BadNumber >>= within_range most
 
 -- a number or a label
 unfoldable pub operand_value : (List ℕ → Option Place) → ℕ → List ℕ → Result ℕ Why
 operand_value places most word =
-    if begins_name word then wanted_label most (places word) else wanted_number most (literal_value word)
+    if begins_name word then ok_or (places word) UnknownLabel >>= (λ place. within_range most place.address) else wanted_number most (literal_value word)
 
 -- how many words it is from behind an instruction to a target, as a byte: -128 to 127
 abbrev pub distance : ℕ → ℕ → Result ℕ Why
@@ -39,14 +28,9 @@ distance at target =
     then (if ((target - (at + 4)) % 4 == 0) && nat_lt (target - (at + 4)) 512 then Ok ((target - (at + 4)) / 4) else Err OutOfRange)
     else (if ((at + 4 - target) % 4 == 0) && nat_le (at + 4 - target) 512 then Ok (256 - (at + 4 - target) / 4) else Err OutOfRange)
 
--- the distance to a label that must be there
-abbrev pub wanted_distance : ℕ → Option Place → Result ℕ Why
-wanted_distance at None = Err UnknownLabel
-wanted_distance at (Some place) = distance at place.address
-
 -- the distance to a label
 unfoldable pub distance_of : (List ℕ → Option Place) → ℕ → List ℕ → Result ℕ Why
-distance_of places at word = if begins_name word then wanted_distance at (places word) else Err BadNumber
+distance_of places at word = if begins_name word then ok_or (places word) UnknownLabel >>= (λ place. distance at place.address) else Err BadNumber
 
 -- the value of the next word, and the words behind it
 abbrev pub next_operand : (List ℕ → Result ℕ Why) → List (List ℕ) → Result (ℕ × List (List ℕ)) Why
@@ -57,7 +41,7 @@ next_operand value (w ∷ ws) = do
 
 -- a register
 unfoldable pub register : List (List ℕ) → Result (ℕ × List (List ℕ)) Why
-register ws = next_operand (λ w. wanted_register (register_of w)) ws
+register ws = next_operand (λ w. ok_or (register_of w) BadRegister) ws
 
 -- a number that is at most so large
 unfoldable pub number_operand : ℕ → List (List ℕ) → Result (ℕ × List (List ℕ)) Why

@@ -1,5 +1,5 @@
 -- The lines and addresses of the labels.
-use Rattle.std.specs.Prelude.{ℕ, Bool, false, ◌==◌, ◌&&◌, nat_le, ◌+◌, ◌-◌, if◌then◌else◌, Option, Some, None, is_some, List, [], ◌∷◌, length, take, slice_index}
+use Rattle.std.specs.Prelude.{ℕ, Bool, false, ◌==◌, ◌&&◌, nat_le, ◌+◌, ◌-◌, if◌then◌else◌, Option, Some, None, is_some, unwrap_or, option_map, List, [], ◌∷◌, length, take, slice_index}
 use Rattle.std.specs.Str.{bytes_eq}
 use Rattle.dm_asm.specs.declared.forms.Form.{Form}
 use Rattle.dm_asm.specs.declared.forms.Form.TheVariants.{Instruction, Word, Byte, Zero}
@@ -51,14 +51,9 @@ statement_size (w ∷ ws) = form_size (form_of w) ws
 unfoldable pub line_size : List ℕ → ℕ
 line_size line = statement_size (behind_label (source_words (without_comment line)))
 
--- whether a label has this name
-abbrev pub label_is_named : Option (List ℕ) → List ℕ → Bool
-label_is_named None name = false
-label_is_named (Some label) name = bytes_eq name label
-
 -- whether a line has this label
 unfoldable pub has_label : List ℕ → List ℕ → Bool
-has_label line name = label_is_named (label_of_words (source_words (without_comment line))) name
+has_label line name = unwrap_or (option_map (bytes_eq name) (label_of_words (source_words (without_comment line)))) false
 
 -- the first of two, if any
 abbrev pub first_of : Option Place → Option Place → Option Place

@@ -25,8 +25,7 @@ abbrev pub ◌>>=◌ : {A B : Type 0} → Result A Why → (A → Result B Why) 
 
 -- bytes behind others
 abbrev pub bytes_behind : List ℕ → Result (List ℕ) Why → Result (List ℕ) Why
-bytes_behind bytes (Ok more) = Ok (bytes ++ more)
-bytes_behind bytes (Err why) = Err why
+bytes_behind bytes more = more >>= λ m. Ok (bytes ++ m)
 
 -- a stop is for want of memory
 abbrev pub IsWant : Stop → Type 0

@@ -1,5 +1,5 @@
 -- The bytes of a line.
-use Rattle.std.specs.Prelude.{ℕ, Bool, false, ◌==◌, not, nat_lt, ◌^◌, ◌-◌, if◌then◌else◌, Option, Some, None, Result, Ok, Err, List, [], ◌∷◌, length, replicate}
+use Rattle.std.specs.Prelude.{ℕ, Bool, false, ◌==◌, not, nat_lt, ◌^◌, ◌-◌, if◌then◌else◌, Option, Some, None, unwrap_or, option_map, option_and_then, Result, Ok, Err, List, [], ◌∷◌, length, replicate}
 use Rattle.dm_processor.specs.declared.opcodes.Opcode.{Opcode}
 use Rattle.dm_processor.specs.Opcodes.{opcode_number}
 use Rattle.dm_processor.specs.Instructions.{word_bytes}
@@ -61,13 +61,11 @@ statement_bytes places at twice (w ∷ ws) = named_bytes places at twice (form_o
 
 -- whether the first line with a label is another than this
 abbrev pub is_elsewhere : ℕ → Option Place → Bool
-is_elsewhere line None = false
-is_elsewhere line (Some place) = not (place.line == line)
+is_elsewhere line place = unwrap_or (option_map (λ p. not (p.line == line)) place) false
 
 -- whether a line's label, if any, is defined before
 abbrev pub is_twice : (List ℕ → Option Place) → ℕ → Option (List ℕ) → Bool
-is_twice places line None = false
-is_twice places line (Some name) = is_elsewhere line (places name)
+is_twice places line label = is_elsewhere line (option_and_then places label)
 
 -- the bytes of a line at an address
 unfoldable pub line_bytes : (List ℕ → Option Place) → ℕ → ℕ → List ℕ → Result (List ℕ) Why

@@ -1,6 +1,7 @@
 //! Instructions and directives by their words.
 ghost use Rattle.std.specs.Prelude.{◌≡◌};
-ghost use Rattle.dm_asm.specs.Forms.{form_of, opcode_named, opcode_word, operand_count, shape_of};
+ghost use Rattle.dm_processor.specs.Opcodes.{opcode_word};
+ghost use Rattle.dm_asm.specs.Forms.{form_of, opcode_named, operand_count, shape_of};
 
 use dm_processor::Opcode;
 

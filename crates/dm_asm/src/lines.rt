@@ -1,11 +1,12 @@
 //! Lines and words.
 ghost use Rattle.std.specs.Prelude.{◌≡◌, ◌+◌, ◌<◌, ◌∷◌, [], IfNone, IfSome, length, not, Some};
 ghost use Rattle.std.specs.List.{position};
-ghost use Rattle.dm_asm.specs.Lines.{is_line_feed, is_semicolon, separates, source_lines, source_words, without_comment};
+ghost use Rattle.dm_memory.specs.Cuts.{ends_line};
+ghost use Rattle.dm_asm.specs.Lines.{is_semicolon, separates, source_lines, source_words, without_comment};
 
 /// Where the first line of a text ends.
 fn line_end(text: &[u8]) -> Option<usize>
-    ensures { result ≡ position is_line_feed text.now }
+    ensures { result ≡ position ends_line text.now }
 {
     text.iter().position(|c| *c == b'\n')
 }

@@ -1,8 +1,9 @@
 -- What the tables of a boot file build, where no rule is broken.
-use Rattle.std.specs.Prelude.{ℕ, ◌+◌, ◌==◌, Bool, true, false, List, [], ◌∷◌, ◌++◌, codes, slice_get, Some, None, if◌then◌else◌}
+use Rattle.std.specs.Prelude.{ℕ, ◌+◌, ◌==◌, Bool, true, false, List, [], ◌∷◌, ◌++◌, codes, slice_get, Some, None, unwrap_or, if◌then◌else◌}
 use Rattle.std.specs.declared.option.Option.{Option}
 use Rattle.toml.specs.Data.{Data, Items, no_items, item}
 use Rattle.dm_link.specs.declared.Pid.{Pid}
+use Rattle.dm_link.specs.declared.Area.{Area}
 use Rattle.dm_link.specs.declared.Link.{Link}
 use Rattle.dm_link.specs.declared.Kind.{Kind}
 use Rattle.dm_link.specs.declared.Kind.TheVariants.{General, Reply}
@@ -14,7 +15,7 @@ use Rattle.dm_onekernel.specs.declared.boot.BootImage.{BootImage}
 use Rattle.dm_onekernel.specs.declared.boot.BootProcess.{BootProcess}
 use Rattle.dm_onekernel.specs.declared.boot.Boot.{Boot}
 use Rattle.dm_onekernel.specs.Boot.{first_number, starting_at, switchboard, manager}
-use Rattle.dm_boot.specs.Tables.{has_value, is_text, text_at, text_or_empty, truth_at, number_at, or_zero, items_at, map_items, element_place}
+use Rattle.dm_boot.specs.Tables.{has_value, is_text, text_at, truth_at, number_at, or_zero, items_at, map_items, element_place}
 use Rattle.dm_boot.specs.Text.{bytes_of_image, is_switchboard, is_manager}
 
 -- the tables of the machines, the images and the processes
@@ -37,12 +38,9 @@ quantum_of d = number_at 16 1 1000 (codes "quantum") d
 abbrev pub format_number : Data → Option ℕ
 format_number d = number_at 1 1 2 (codes "format") d
 
-abbrev pub format_with : ℕ → Format
-format_with n = if n == 2 then Two else One
-
 -- which limits hold
 unfoldable pub format_of : Data → Format
-format_of d = format_with (or_zero (format_number d))
+format_of d = if or_zero (format_number d) == 2 then Two else One
 
 -- the room of a machine
 abbrev pub slots_in : Data → Option ℕ
@@ -63,7 +61,7 @@ image_blocks t = number_at 1 1 256 (codes "blocks") t
 
 -- what the memory of an image's processes starts with
 unfoldable pub image_of : Data → BootImage
-image_of t = record { bytes = text_or_empty (bytes_of_image (text_at (codes "text") t)); blocks = or_zero (image_blocks t) }
+image_of t = record { bytes = unwrap_or (bytes_of_image (text_at (codes "text") t)) []; blocks = or_zero (image_blocks t) }
 
 abbrev pub images_of : Data → List BootImage
 images_of d = map_items image_of (image_tables d)
@@ -122,35 +120,25 @@ abbrev pub len_in : ℕ → Data → Option ℕ
 len_in most t = number_at 0 0 most (codes "len") t
 
 abbrev pub kind_with : Bool → Kind
-kind_with true = Reply
-kind_with false = General
+kind_with reply = if reply then Reply else General
 
 -- a link to a process where it starts
+abbrev pub link_at : Pid → Kind → ℕ → ℕ → Area → Link
+link_at p kind code channel area =
+    record { addr = record { pid = p; at = p.home; moves = 0 }; kind = kind; to_kernel = false; code = code; channel = channel; area = area }
+
+-- the link to a process that a table says
 unfoldable pub link_to : Pid → Data → Link
-link_to p t = record {
-  addr = record { pid = p; at = p.home; moves = 0 };
-  kind = kind_with (truth_at (codes "reply") t);
-  to_kernel = false;
-  code = or_zero (code_in 4294967295 t);
-  channel = or_zero (channel_in t);
-  area = record {
-    base = or_zero (base_in 65536 t);
-    len = or_zero (len_in 65536 t);
-    read = truth_at (codes "read") t;
-    write = truth_at (codes "write") t;
-  };
-}
+link_to p t = link_at p (kind_with (truth_at (codes "reply") t)) (or_zero (code_in 4294967295 t)) (or_zero (channel_in t)) (record {
+  base = or_zero (base_in 65536 t);
+  len = or_zero (len_in 65536 t);
+  read = truth_at (codes "read") t;
+  write = truth_at (codes "write") t;
+})
 
 -- a general link to the manager with the number of a child, which counts from 1 in the order of the file
 unfoldable pub link_of_control : ℕ → Link
-link_of_control child = record {
-  addr = record { pid = manager; at = 0; moves = 0 };
-  kind = General;
-  to_kernel = false;
-  code = child;
-  channel = 0;
-  area = record { base = 0; len = 0; read = false; write = false };
-}
+link_of_control child = link_at manager General child 0 (record { base = 0; len = 0; read = false; write = false })
 
 -- the link controls a child
 abbrev pub is_control : Data → Bool

@@ -11,32 +11,9 @@ use Rattle.dm_boot.specs.declared.rules.BootRule.{BootRule}
 use Rattle.dm_boot.specs.declared.rules.BootRule.TheVariants.{Document, TopKeys, Settings, MachineCount, MachineKeys, MachineRoom, ImageCount, ImageKeys, ImageName, ImageBlocks, ImageText, ImageBytes, ProcessKeys, ProcessName, ProcessMachine, ProcessImage, ProcessRoom, LinkCount, LinkTarget, LinkLimits}
 use Rattle.dm_boot.specs.declared.rules.TableRule.{TableRule}
 use Rattle.dm_boot.specs.declared.rules.TableRule.TheVariants as of_tables
-use Rattle.dm_boot.specs.Tables.{has_only, is_integer, is_text, is_truth, is_array, is_table, has_value, may_have, text_at, truth_at, or_zero, count, all_items, first_failing, element_place, named, is_place, items_at}
+use Rattle.dm_boot.specs.Tables.{has_only, is_integer, is_text, is_truth, is_array, is_table, holds, has_value, may_have, text_at, truth_at, or_zero, count, all_items, first_failing, element_place, named, is_place, items_at}
 use Rattle.dm_boot.specs.Text.{is_boot_name, is_server_name, bytes_of_image}
 use Rattle.dm_boot.specs.Build.{machine_tables, image_tables, process_tables, link_tables, numbers_of, quantum_of, format_number, format_of, slots_in, blocks_in, machines_of, image_blocks, image_of, images_of, machine_number, image_place, start_of, starts_of, code_in, channel_in, base_in, len_in, is_control}
-
--- the number of a rule
-unfoldable pub rule_number : BootRule → ℕ
-rule_number Document = 1
-rule_number TopKeys = 2
-rule_number Settings = 3
-rule_number MachineCount = 4
-rule_number MachineKeys = 5
-rule_number MachineRoom = 6
-rule_number ImageCount = 7
-rule_number ImageKeys = 8
-rule_number ImageName = 9
-rule_number ImageBlocks = 10
-rule_number ImageText = 11
-rule_number ImageBytes = 12
-rule_number ProcessKeys = 13
-rule_number ProcessName = 14
-rule_number ProcessMachine = 15
-rule_number ProcessImage = 16
-rule_number ProcessRoom = 17
-rule_number LinkCount = 18
-rule_number LinkTarget = 19
-rule_number LinkLimits = 20
 
 -- an array of tables, or nothing
 unfoldable pub may_have_tables : List ℕ → Data → Bool
@@ -123,16 +100,15 @@ has_process_name ts i t = has_own_name ts i t && not (is_server_name (text_at (c
 
 -- a machine of the file
 abbrev pub is_below : ℕ → Option ℕ → Bool
-is_below n None = false
-is_below n (Some m) = nat_lt m n
+is_below n m = holds (λ k. nat_lt k n) m
 
 unfoldable pub has_machine : Data → Data → Bool
 has_machine d t = is_below (count (machine_tables d)) (machine_number t)
 
 -- there is a free slot on this machine after these processes, and so many free blocks
 abbrev pub fits_machine : Option BootMachine → ℕ → ℕ → ℕ → Bool
-fits_machine None taken_slots taken_blocks blocks = false
-fits_machine (Some m) taken_slots taken_blocks blocks = nat_lt taken_slots m.slots && nat_le (taken_blocks + blocks) m.blocks
+fits_machine machine taken_slots taken_blocks blocks =
+    holds (λ m. nat_lt taken_slots m.slots && nat_le (taken_blocks + blocks) m.blocks) machine
 
 -- a process fits its machine with the earlier ones
 unfoldable pub fits_after : List BootMachine → List BootImage → List BootProcess → BootProcess → Bool
@@ -183,55 +159,42 @@ is_limited d l =
     && (if is_control l || is_server_name (text_at (codes "to") l) then is_plain l
     else is_some (code_in 4294967295 l) && has_area (memory_size_of d (text_at (codes "to") l)) l)
 
--- what element i of those that a rule speaks of must be
-unfoldable pub keeps : BootRule → Data → ℕ → Data → Bool
-keeps Document d i t = true
-keeps TopKeys d i t = is_top t
-keeps Settings d i t = has_good_settings t
-keeps MachineCount d i t = has_good_machine_count t
-keeps MachineKeys d i t = is_machine t
-keeps MachineRoom d i t = has_good_room t
-keeps ImageCount d i t = has_good_image_count t
-keeps ImageKeys d i t = is_image t
-keeps ImageName d i t = has_own_name (image_tables d) i t
-keeps ImageBlocks d i t = is_some (image_blocks t)
-keeps ImageText d i t = assembles t
-keeps ImageBytes d i t = image_fits (image_of t)
-keeps ProcessKeys d i t = is_process t
-keeps ProcessName d i t = has_process_name (process_tables d) i t
-keeps ProcessMachine d i t = has_machine d t
-keeps ProcessImage d i t = is_some (image_place d t)
-keeps ProcessRoom d i t = has_place d i t
-keeps LinkCount d i t = has_link_count d t
-keeps LinkTarget d i t = all_items (has_target d) (link_tables t)
-keeps LinkLimits d i t = all_items (is_limited d) (link_tables t)
-
 -- the top table alone
 abbrev pub only : Data → Items
 only d = item d no_items
 
--- what a rule speaks of: the top table, each machine, each image or each process
+-- each rule: its number; what it speaks of, which is the top table, each machine, each image or each process; and what element i of
+-- those must be
+abbrev pub rule_row : BootRule → ℕ × (Data → Items) × (Data → ℕ → Data → Bool)
+rule_row Document = (1, only, λ d i t. true)
+rule_row TopKeys = (2, only, λ d i t. is_top t)
+rule_row Settings = (3, only, λ d i t. has_good_settings t)
+rule_row MachineCount = (4, only, λ d i t. has_good_machine_count t)
+rule_row MachineKeys = (5, machine_tables, λ d i t. is_machine t)
+rule_row MachineRoom = (6, machine_tables, λ d i t. has_good_room t)
+rule_row ImageCount = (7, only, λ d i t. has_good_image_count t)
+rule_row ImageKeys = (8, image_tables, λ d i t. is_image t)
+rule_row ImageName = (9, image_tables, λ d i t. has_own_name (image_tables d) i t)
+rule_row ImageBlocks = (10, image_tables, λ d i t. is_some (image_blocks t))
+rule_row ImageText = (11, image_tables, λ d i t. assembles t)
+rule_row ImageBytes = (12, image_tables, λ d i t. image_fits (image_of t))
+rule_row ProcessKeys = (13, process_tables, λ d i t. is_process t)
+rule_row ProcessName = (14, process_tables, λ d i t. has_process_name (process_tables d) i t)
+rule_row ProcessMachine = (15, process_tables, λ d i t. has_machine d t)
+rule_row ProcessImage = (16, process_tables, λ d i t. is_some (image_place d t))
+rule_row ProcessRoom = (17, process_tables, λ d i t. has_place d i t)
+rule_row LinkCount = (18, process_tables, λ d i t. has_link_count d t)
+rule_row LinkTarget = (19, process_tables, λ d i t. all_items (has_target d) (link_tables t))
+rule_row LinkLimits = (20, process_tables, λ d i t. all_items (is_limited d) (link_tables t))
+
+unfoldable pub rule_number : BootRule → ℕ
+rule_number rule = (rule_row rule).0
+
 unfoldable pub subjects : BootRule → Data → Items
-subjects Document d = only d
-subjects TopKeys d = only d
-subjects Settings d = only d
-subjects MachineCount d = only d
-subjects MachineKeys d = machine_tables d
-subjects MachineRoom d = machine_tables d
-subjects ImageCount d = only d
-subjects ImageKeys d = image_tables d
-subjects ImageName d = image_tables d
-subjects ImageBlocks d = image_tables d
-subjects ImageText d = image_tables d
-subjects ImageBytes d = image_tables d
-subjects ProcessKeys d = process_tables d
-subjects ProcessName d = process_tables d
-subjects ProcessMachine d = process_tables d
-subjects ProcessImage d = process_tables d
-subjects ProcessRoom d = process_tables d
-subjects LinkCount d = process_tables d
-subjects LinkTarget d = process_tables d
-subjects LinkLimits d = process_tables d
+subjects rule d = (rule_row rule).1 d
+
+unfoldable pub keeps : BootRule → Data → ℕ → Data → Bool
+keeps rule d i t = (rule_row rule).2 d i t
 
 -- the first place where a rule is broken
 unfoldable pub broken_at : BootRule → Data → Option ℕ

@@ -1,5 +1,5 @@
 -- What tables of the boot file hold at their keys.
-use Rattle.std.specs.Prelude.{ℕ, ◌+◌, ◌==◌, ◌&&◌, Bool, true, false, nat_le, ℤ, pos, negsuc, List, [], ◌∷◌, codes, Some, None, if◌then◌else◌}
+use Rattle.std.specs.Prelude.{ℕ, ◌+◌, ◌==◌, ◌&&◌, Bool, true, false, nat_le, ℤ, pos, negsuc, List, [], ◌∷◌, codes, Some, None, unwrap_or, option_map, option_and_then, if◌then◌else◌}
 use Rattle.std.specs.List.{list_any}
 use Rattle.std.specs.Option.{is_some}
 use Rattle.std.specs.Str.{bytes_eq}
@@ -37,14 +37,9 @@ abbrev pub is_table : Data → Bool
 is_table d = is_some (as_table d)
 
 -- there is a value, and it passes a test
-abbrev pub holds : (Data → Bool) → Option Data → Bool
+abbrev pub holds : {A : Type 0} → (A → Bool) → Option A → Bool
 holds test None = false
 holds test (Some d) = test d
-
--- there is no value, or it passes a test
-abbrev pub may_hold : (Data → Bool) → Option Data → Bool
-may_hold test None = true
-may_hold test (Some d) = test d
 
 -- the key has a value of this type
 abbrev pub has_value : (Data → Bool) → List ℕ → Data → Bool
@@ -52,20 +47,11 @@ has_value test key d = holds test (get key d)
 
 -- the key is missing, or has a value of this type
 abbrev pub may_have : (Data → Bool) → List ℕ → Data → Bool
-may_have test key d = may_hold test (get key d)
-
--- a text; empty where there is none
-abbrev pub text_or_empty : Option (List ℕ) → List ℕ
-text_or_empty None = []
-text_or_empty (Some text) = text
-
-abbrev pub text_of : Option Data → List ℕ
-text_of None = []
-text_of (Some d) = text_or_empty (as_str d)
+may_have test key d = unwrap_or (option_map test (get key d)) true
 
 -- the text at a key; empty where there is none
 abbrev pub text_at : List ℕ → Data → List ℕ
-text_at key d = text_of (get key d)
+text_at key d = unwrap_or (option_and_then as_str (get key d)) []
 
 -- the text of a table that has this key alone, where it has a text
 abbrev pub lone_member : List ℕ → Members → Option (List ℕ)
@@ -77,18 +63,9 @@ abbrev pub lone_text : List ℕ → Data → Option (List ℕ)
 lone_text key (table ms) = lone_member key ms
 lone_text key _ = None
 
--- a truth; false where there is none
-abbrev pub truth_or_false : Option Bool → Bool
-truth_or_false None = false
-truth_or_false (Some b) = b
-
-abbrev pub truth_of : Option Data → Bool
-truth_of None = false
-truth_of (Some d) = truth_or_false (as_bool d)
-
 -- the truth at a key; false where there is none
 abbrev pub truth_at : List ℕ → Data → Bool
-truth_at key d = truth_of (get key d)
+truth_at key d = unwrap_or (option_and_then as_bool (get key d)) false
 
 -- a number, where it lies within these bounds
 abbrev pub in_range : ℕ → ℕ → ℤ → Option ℕ
@@ -96,8 +73,7 @@ in_range least most (pos n) = if nat_le least n && nat_le n most then Some n els
 in_range least most (negsuc n) = None
 
 abbrev pub integer_in : ℕ → ℕ → Option ℤ → Option ℕ
-integer_in least most None = None
-integer_in least most (Some z) = in_range least most z
+integer_in least most z = option_and_then (in_range least most) z
 
 -- an integer within these bounds, or this number where there is no value
 abbrev pub number_or : ℕ → ℕ → ℕ → Option Data → Option ℕ
@@ -110,18 +86,11 @@ number_at default least most key d = number_or default least most (get key d)
 
 -- a number; 0 where there is none
 abbrev pub or_zero : Option ℕ → ℕ
-or_zero None = 0
-or_zero (Some n) = n
+or_zero n = unwrap_or n 0
 
--- the elements of an array; none where there is no array
-abbrev pub elements_of : Option Data → Items
-elements_of None = no_items
-elements_of (Some (array ds)) = ds
-elements_of (Some _) = no_items
-
--- the elements of the array at a key
+-- the elements of the array at a key; none where there is no array
 unfoldable pub items_at : List ℕ → Data → Items
-items_at key d = elements_of (get key d)
+items_at key d = unwrap_or (option_and_then as_array (get key d)) no_items
 
 -- how many elements
 abbrev pub count : Items → ℕ
@@ -157,14 +126,9 @@ unfoldable pub element_place : List ℕ → Items → Option ℕ
 element_place name ds = element_place_from 0 name ds
 
 -- the first element with this name
-abbrev pub element_at : Option ℕ → Items → Option Data
-element_at None ds = None
-element_at (Some k) ds = get_item k ds
-
 unfoldable pub named : List ℕ → Items → Option Data
-named name ds = element_at (element_place name ds) ds
+named name ds = option_and_then (λ k. get_item k ds) (element_place name ds)
 
 -- a name stands first at this place
 abbrev pub is_place : ℕ → Option ℕ → Bool
-is_place i None = false
-is_place i (Some k) = k == i
+is_place i place = holds (λ k. k == i) place

@@ -3,10 +3,7 @@ use Rattle.std.specs.Prelude.{ℕ, ◌==◌, ◌&&◌, ◌||◌, Bool, nat_le, L
 use Rattle.std.specs.List.{list_all}
 use Rattle.std.specs.Str.{bytes_eq}
 use Rattle.std.specs.declared.option.Option.{Option}
-use Rattle.std.specs.declared.option.Option.TheVariants.{None, Some}
-use Rattle.std.specs.declared.result.Result.{Result}
-use Rattle.std.specs.declared.result.Result.TheVariants.{Ok, Err}
-use Rattle.dm_asm.specs.declared.refusals.Why.{Why}
+use Rattle.std.specs.Result.{result_ok}
 use Rattle.dm_asm.specs.Assembled.{assembled}
 
 -- `a` to `z`, `0` to `9`, or `_`
@@ -27,11 +24,6 @@ is_manager name = bytes_eq name (codes "manager")
 unfoldable pub is_server_name : List ℕ → Bool
 is_server_name name = is_switchboard name || is_manager name
 
--- what the assembler makes of a text, if it makes something
-abbrev pub bytes_made : Result (List ℕ) (ℕ × Why) → Option (List ℕ)
-bytes_made (Ok bytes) = Some bytes
-bytes_made (Err e) = None
-
 -- the bytes of an image: what the assembler makes of its text
 unfoldable pub bytes_of_image : List ℕ → Option (List ℕ)
-bytes_of_image text = bytes_made (assembled text)
+bytes_of_image text = result_ok (assembled text)

@@ -1,5 +1,6 @@
 -- What is left to do of the directives, and the elementary one that follows.
 use Rattle.std.specs.Prelude.{ℕ, zero, suc, ◌+◌, Bool, true, false, ◌==◌, if◌then◌else◌, List, [], ◌∷◌, ◌++◌}
+pub use Rattle.std.specs.Option.{option_or as or}
 use Rattle.std.specs.declared.option.Option.{Option}
 use Rattle.std.specs.declared.option.Option.TheVariants.{None, Some}
 use Rattle.dm_schedule.specs.declared.Step.{Step}
@@ -72,10 +73,6 @@ next_turn takes t (m ∷ ms) = if takes m then next_and_left (step.Turn m) (reco
 abbrev pub in_pass : (ℕ → Bool) → Todo → Option (Step × List Two) → Option Next
 in_pass mail t (Some d) = next_and_left d.0 (record t { pairs = d.1 })
 in_pass mail t None = next_turn (takes_turn t.pass mail) t t.machines
-
-abbrev pub or : {A : Type 0} → Option A → Option A → Option A
-or None y = y
-or (Some x) y = Some x
 
 abbrev pub begin_pass : ℕ → (ℕ → ℕ → Option ℕ) → (ℕ → Bool) → Pass → List Directive → Option Next
 begin_pass machines first mail p ds = in_pass mail (pass_begun machines p ds) (next_delivery first (pairs_of (below machines) (below machines)))

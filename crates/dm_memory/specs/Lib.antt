@@ -1,3 +1,4 @@
 pub mod Args
 pub mod Clap
+pub mod Cuts
 pub mod Toml

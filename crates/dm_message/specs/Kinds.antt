@@ -1,70 +1,21 @@
 -- The kinds of message: the word and the number of each.
-use Rattle.std.specs.Prelude.{◌≡◌, ⊤, ℕ, List, [], ◌∷◌, ◌==◌, Option, None, Some, codes}
+use Rattle.std.specs.Prelude.{◌≡◌, ⊤, ℕ, List, [], ◌∷◌, ◌==◌, Option, None, Some}
 use Rattle.std.specs.List.{find}
 use Rattle.dm_message.specs.declared.What.{What}
 use Rattle.dm_message.specs.declared.What.TheVariants as what
 use Rattle.dm_message.specs.Plain as plain
 use Rattle.dm_message.specs.Plain.{PlainWhat}
+use Rattle.dm_message.specs.Sorts.{kind_row}
 use Rattle.dm_message.specs.declared.kind.MessageKind.{MessageKind}
 use Rattle.dm_message.specs.declared.kind.MessageKind.TheVariants as kind
 
 -- the word in printed lines
 abbrev pub word_of : MessageKind → List ℕ
-word_of kind.User = codes "user"
-word_of kind.Stop = codes "stop"
-word_of kind.Resume = codes "resume"
-word_of kind.Kill = codes "kill"
-word_of kind.Read = codes "read"
-word_of kind.Write = codes "write"
-word_of kind.Block = codes "block"
-word_of kind.Written = codes "written"
-word_of kind.Gone = codes "gone"
-word_of kind.Create = codes "create"
-word_of kind.Created = codes "created"
-word_of kind.NoRoom = codes "noroom"
-word_of kind.Migrate = codes "migrate"
-word_of kind.Update = codes "update"
-word_of kind.Ask = codes "ask"
-word_of kind.Refuse = codes "refuse"
-word_of kind.PullState = codes "pullstate"
-word_of kind.State = codes "state"
-word_of kind.PullBlock = codes "pullblock"
-word_of kind.Memory = codes "memory"
-word_of kind.AllTaken = codes "alltaken"
-word_of kind.Restart = codes "restart"
-word_of kind.Move = codes "move"
-word_of kind.Moved = codes "moved"
-word_of kind.CallOff = codes "calloff"
-word_of kind.Bury = codes "bury"
+word_of k = (kind_row k).1
 
 -- the number in packets
 abbrev pub number_of : MessageKind → ℕ
-number_of kind.User = 1
-number_of kind.Stop = 2
-number_of kind.Resume = 3
-number_of kind.Kill = 4
-number_of kind.Read = 5
-number_of kind.Write = 6
-number_of kind.Block = 7
-number_of kind.Written = 8
-number_of kind.Gone = 9
-number_of kind.Create = 10
-number_of kind.Created = 11
-number_of kind.NoRoom = 12
-number_of kind.Migrate = 13
-number_of kind.Update = 14
-number_of kind.Ask = 15
-number_of kind.Refuse = 16
-number_of kind.PullState = 17
-number_of kind.State = 18
-number_of kind.PullBlock = 19
-number_of kind.Memory = 20
-number_of kind.AllTaken = 21
-number_of kind.Restart = 22
-number_of kind.Move = 23
-number_of kind.Moved = 24
-number_of kind.CallOff = 25
-number_of kind.Bury = 26
+number_of k = (kind_row k).0
 
 abbrev pub all_kinds : List MessageKind
 all_kinds =

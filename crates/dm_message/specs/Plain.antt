@@ -1,5 +1,5 @@
 -- Messages without places: what a message means, wherever the processes are that it names.
-use Rattle.std.specs.Prelude.{ℕ, List, map}
+use Rattle.std.specs.Prelude.{ℕ, List, map, option_map}
 use Rattle.std.specs.declared.option.Option.{Option}
 use Rattle.std.specs.declared.option.Option.TheVariants.{None, Some}
 use Rattle.dm_link.specs.declared.Pid.{Pid}
@@ -43,18 +43,7 @@ plain_what (what.Created pid) = Some (Created pid)
 plain_what what.NoRoom = Some NoRoom
 plain_what (what.Move machine) = Some (Move machine)
 plain_what (what.Moved outcome) = Some (Moved outcome)
-plain_what (what.Migrate machine) = None
-plain_what (what.Update about) = None
-plain_what (what.Ask pid blocks moves size asker) = None
-plain_what (what.Refuse pid slots blocks) = None
-plain_what (what.PullState pid chunk) = None
-plain_what (what.State pid chunk last bytes) = None
-plain_what (what.PullBlock pid block) = None
-plain_what (what.Memory pid block bytes) = None
-plain_what (what.AllTaken pid) = None
-plain_what (what.Restart pid) = None
-plain_what (what.CallOff pid) = None
-plain_what (what.Bury pid) = None
+plain_what w = None
 
 -- a message: its name, who is to get it, who sent it, and what it says
 pub record PlainMessage : Type 0 where
@@ -65,8 +54,7 @@ pub record PlainMessage : Type 0 where
 
 -- the message with this plain meaning
 abbrev pub with_what : Message → Option PlainWhat → Option PlainMessage
-with_what m None = None
-with_what m (Some w) = Some (record { id = m.id; to = m.to.pid; sender = m.sender.pid; what = w })
+with_what m w = option_map (λ what. record { id = m.id; to = m.to.pid; sender = m.sender.pid; what = what }) w
 
 -- a message of the program without places, if it is one that the kernel without machines has
 abbrev pub plain_message : Message → Option PlainMessage

@@ -1,4 +1,5 @@
--- What sort of message each kind is, a row a kind. What holds of some kinds is said of their sorts elsewhere, and what has no row there is of no such sort.
+-- The kinds of message, a row a kind: the number, the word and the sort of each. What holds of some kinds is said of their sorts elsewhere, and what has no row there is of no such sort.
+use Rattle.std.specs.Prelude.{ℕ, List, codes}
 use Rattle.dm_message.specs.declared.kind.MessageKind.{MessageKind}
 use Rattle.dm_message.specs.declared.kind.MessageKind.TheVariants as kind
 
@@ -37,30 +38,34 @@ pub data Sort : Type 0 where
   -- nothing sends these yet: from kernel to kernel
   Unsent : Sort
 
+-- each kind: its number in packets, its word in printed lines, and its sort
+abbrev pub kind_row : MessageKind → ℕ × List ℕ × Sort
+kind_row kind.User = (1, codes "user", Letter)
+kind_row kind.Stop = (2, codes "stop", Holds)
+kind_row kind.Resume = (3, codes "resume", Holds)
+kind_row kind.Kill = (4, codes "kill", Kills)
+kind_row kind.Read = (5, codes "read", PieceAsked)
+kind_row kind.Write = (6, codes "write", PieceAsked)
+kind_row kind.Block = (7, codes "block", PieceAnswered)
+kind_row kind.Written = (8, codes "written", PieceAnswered)
+kind_row kind.Gone = (9, codes "gone", PieceAnswered)
+kind_row kind.Create = (10, codes "create", MakingAsked)
+kind_row kind.Created = (11, codes "created", MakingAnswered)
+kind_row kind.NoRoom = (12, codes "noroom", MakingAnswered)
+kind_row kind.Migrate = (13, codes "migrate", Request)
+kind_row kind.Update = (14, codes "update", Notice)
+kind_row kind.Ask = (15, codes "ask", Between Ask)
+kind_row kind.Refuse = (16, codes "refuse", Between Refuse)
+kind_row kind.PullState = (17, codes "pullstate", Between PullState)
+kind_row kind.State = (18, codes "state", Between State)
+kind_row kind.PullBlock = (19, codes "pullblock", Between PullBlock)
+kind_row kind.Memory = (20, codes "memory", Between Memory)
+kind_row kind.AllTaken = (21, codes "alltaken", Between AllTaken)
+kind_row kind.Restart = (22, codes "restart", Between Restart)
+kind_row kind.Move = (23, codes "move", MoveAsked)
+kind_row kind.Moved = (24, codes "moved", MoveAnswered)
+kind_row kind.CallOff = (25, codes "calloff", Unsent)
+kind_row kind.Bury = (26, codes "bury", Unsent)
+
 abbrev pub sort_of : MessageKind → Sort
-sort_of kind.User = Letter
-sort_of kind.Stop = Holds
-sort_of kind.Resume = Holds
-sort_of kind.Kill = Kills
-sort_of kind.Read = PieceAsked
-sort_of kind.Write = PieceAsked
-sort_of kind.Block = PieceAnswered
-sort_of kind.Written = PieceAnswered
-sort_of kind.Gone = PieceAnswered
-sort_of kind.Create = MakingAsked
-sort_of kind.Created = MakingAnswered
-sort_of kind.NoRoom = MakingAnswered
-sort_of kind.Migrate = Request
-sort_of kind.Update = Notice
-sort_of kind.Ask = Between Ask
-sort_of kind.Refuse = Between Refuse
-sort_of kind.PullState = Between PullState
-sort_of kind.State = Between State
-sort_of kind.PullBlock = Between PullBlock
-sort_of kind.Memory = Between Memory
-sort_of kind.AllTaken = Between AllTaken
-sort_of kind.Restart = Between Restart
-sort_of kind.Move = MoveAsked
-sort_of kind.Moved = MoveAnswered
-sort_of kind.CallOff = Unsent
-sort_of kind.Bury = Unsent
+sort_of k = (kind_row k).2

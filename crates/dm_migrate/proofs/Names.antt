@@ -2,7 +2,6 @@
 pub use Rattle.std.proofs.Common.{ap₂, slice_index_or}
 pub use Rattle.std.proofs.lemmas.List.{length-take, map-append, take_at, take_min, take_rest}
 pub use Rattle.std.proofs.lemmas.List.Elements.{All-append, All-cons, All-map}
-pub use Rattle.std.specs.Vec.{vec_capacity, vec_len}
 pub use Rattle.std.specs.Vec.Iter.{into_iter_items}
 pub use Rattle.std.specs.declared.result.Result.{Result}
 pub use Rattle.std.specs.declared.result.Result.TheVariants.{Err, Ok}
@@ -11,7 +10,7 @@ pub use Rattle.dm_processor.proofs.Names.{◌++◌, ◌+◌, ◌-◌, ◌/◌, �
 pub use Rattle.dm_message.specs.Plain.{PlainWhat, plain_message, plain_what, with_what}
 pub use Rattle.dm_message.specs.declared.Asker.{Asker}
 pub use Rattle.dm_message.specs.declared.What.{What}
-pub use Rattle.dm_linktable.proofs.Names.{map, subst}
+pub use Rattle.dm_linktable.proofs.Names.{map, subst, vec_capacity, vec_len}
 pub use Rattle.dm_process.proofs.Names.{Message, min}
 pub use Rattle.dm_statebytes.proofs.Lawful.{shell_is_lawful}
 pub use Rattle.dm_statebytes.proofs.Names.{All, FitsShell, IfOk, IsLawfulMessage, IsLawfulProcess, IsLawfulShell, IsLawfulStatus, IsMachine, Process, if◌then◌else◌, length-drop, nat_lt, shell_of, shell_of_bytes, ◌⊎◌}
@@ -19,8 +18,8 @@ pub use Rattle.dm_statebytes.proofs.Shells.{shell_again}
 pub use Rattle.dm_statebytes.proofs.Sizes.{lawful_size}
 pub use Rattle.dm_statebytes.specs.declared.Shell.{Shell}
 pub use Rattle.dm_statebytes.specs.declared.StateBytesError.{StateBytesError}
-pub use Rattle.dm_migrate.specs.Arrival.{Arrival, IsNextChunk, IsNextPiece, IsStateFor, after_block, after_chunk, pull, restarted, revived, revived_from, with_chunk, with_piece}
-pub use Rattle.dm_migrate.specs.Coming.{IsComing, IsStage, Parts, come_of, memory_come, state_come}
+pub use Rattle.dm_migrate.specs.Arrival.{Arrival, IsNextChunk, IsNextPiece, IsStateFor, after_block, after_chunk, memory_come, pull, restarted, revived, revived_from, state_come, with_chunk, with_piece}
+pub use Rattle.dm_migrate.specs.Coming.{IsComing, IsStage, Parts, come_of}
 pub use Rattle.dm_migrate.specs.Departure.{CanMove, Departure, sent_on}
 pub use Rattle.dm_migrate.specs.Pieces.{HasBlock, HasChunk, block_bytes, block_of, chunk_bytes, chunk_of, is_last, state_of}
 pub use Rattle.dm_migrate.specs.Way.{ArrivesWhole, ComesByPieces, Goes, HasPiece, coming, count_of_pieces, moved, piece_for}

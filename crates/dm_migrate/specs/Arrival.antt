@@ -57,6 +57,17 @@ pull p (Chunk k) = what.PullState p k
 pull p (Block k) = what.PullBlock p k
 pull p Nothing = what.AllTaken p
 
+-- the state bytes that have come
+abbrev pub state_come : Wanted → List ℕ → List ℕ
+state_come (Chunk k) state = take (512 * k) state
+state_come wanted state = state
+
+-- the memory that has come
+abbrev pub memory_come : Wanted → List ℕ → List ℕ
+memory_come (Chunk k) memory = []
+memory_come (Block k) memory = take (256 * k) memory
+memory_come Nothing memory = memory
+
 -- the state bytes are of a process of this name, size and count of moves
 pub record IsStateFor (a : Arrival) (state : List ℕ) : Type 0 where
   pub size : length state ≡ a.size

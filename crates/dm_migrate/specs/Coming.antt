@@ -1,12 +1,12 @@
 -- How an arriving process is kept: with room for all of it, filled from the front.
-use Rattle.std.specs.Prelude.{◌⊎◌, ◌≡◌, ℕ, ◌*◌, ◌/◌, ◌<◌, ◌≤◌, List, [], length, take}
+use Rattle.std.specs.Prelude.{◌⊎◌, ◌≡◌, ℕ, ◌*◌, ◌/◌, ◌<◌, ◌≤◌, List, length}
 use Rattle.std.specs.declared.option.Option.{Option}
 use Rattle.dm_link.specs.declared.Pid.{Pid}
 use Rattle.dm_message.specs.declared.Asker.{Asker}
 use Rattle.dm_message.specs.declared.Message.{Message}
 use Rattle.dm_migrate.specs.declared.arriving.Wanted.{Wanted}
 use Rattle.dm_migrate.specs.declared.arriving.Wanted.TheVariants.{Chunk, Block, Nothing}
-use Rattle.dm_migrate.specs.Arrival.{Arrival, IsStateFor}
+use Rattle.dm_migrate.specs.Arrival.{Arrival, IsStateFor, memory_come, state_come}
 
 -- as many state bytes, and as much memory, as there will be
 pub record Parts : Type 0 where
@@ -19,18 +19,7 @@ pub record Parts : Type 0 where
   pub wanted : Wanted
   pub held : List Message
 
--- the state bytes that have come
-abbrev pub state_come : Wanted → List ℕ → List ℕ
-state_come (Chunk k) state = take (512 * k) state
-state_come (Block k) state = state
-state_come Nothing state = state
-
--- the memory that has come
-abbrev pub memory_come : Wanted → List ℕ → List ℕ
-memory_come (Chunk k) memory = []
-memory_come (Block k) memory = take (256 * k) memory
-memory_come Nothing memory = memory
-
+-- what has come of these parts
 abbrev pub come_of : Parts → Arrival
 come_of a =
     record {

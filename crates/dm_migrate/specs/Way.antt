@@ -12,24 +12,25 @@ use Rattle.dm_migrate.specs.declared.answer.Asked.TheVariants.{Accepted}
 use Rattle.dm_migrate.specs.declared.arriving.Wanted.{Wanted}
 use Rattle.dm_migrate.specs.declared.arriving.Wanted.TheVariants.{Chunk, Block, Nothing}
 use Rattle.dm_migrate.specs.Answer.{Answers, IsAskOfProcess}
-use Rattle.dm_migrate.specs.Arrival.{Arrival, IsNextPiece, after_block, after_chunk, expected, pull, restarted, with_piece}
-use Rattle.dm_migrate.specs.Coming.{come_of}
+use Rattle.dm_migrate.specs.Arrival.{Arrival, IsNextPiece, after_block, after_chunk, expected, memory_come, pull, restarted, state_come, with_piece}
 use Rattle.dm_migrate.specs.Departure.{ask_of}
 use Rattle.dm_migrate.specs.Pieces.{HasBlock, HasChunk, block_of, chunk_of, is_last, state_of}
 
 -- what has come of a process where this is asked for, and these messages are held
 abbrev pub coming : Process → Option Asker → List Message → Wanted → Arrival
 coming p asker held wanted =
-    come_of (record {
+    record {
       pid = p.pid;
+      blocks = length p.memory / 256;
       moves = p.moves;
+      size = length (state_of p);
       asker = asker;
       cap = length p.table;
-      state = state_of p;
-      memory = p.memory;
+      state = state_come wanted (state_of p);
+      memory = memory_come wanted p.memory;
       wanted = wanted;
       held = held;
-    })
+    }
 
 -- the process where it has come to
 abbrev pub moved : Process → Process

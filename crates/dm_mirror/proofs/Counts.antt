@@ -1,30 +1,17 @@
 -- No count is too great: each is at most what the boot file has, and one for each message that was routed.
-pub mod FewRouted
-pub mod Own
-pub mod Acting
 pub mod Pairs
-pub mod Still
-pub mod Sorts
 pub mod AtEnds
-pub mod Moves
-pub mod Start
 pub mod Waiting
 use Rattle.dm_mirror.proofs.Names.{◌≡◌, inl, inr, ℕ, ◌+◌, ◌<◌, ◌≤◌, true, List, [], ◌∷◌, length, nat_le, refl, ap, ◌∙◌, sym, subst, arith, Some, nat_tests, Pid, Boot, IsValid, OneKernel, Step, Line, Stage, Known, ascends, IsStep, Leads}
 use Rattle.dm_mirror.proofs.Names.{Part, Says, Spelled, spelled, Point, first_point, moved, group_of, at_pid, at_record, View, actor, view_after, GroupIs, group_is, said, says_next, both, Both, RunGoes, RunStarts, both_group, both_start}
 use Rattle.dm_mirror.proofs.Names.{Run}
 use Rattle.dm_onekernel.specs.Kernel.{Pending}
-use Rattle.dm_mirror.proofs.Counts.AtEnds.{BearEnds, Ends, PutsOne, Under, bear_ends, ends, ends_before, own_puts, under_more}
-use Rattle.dm_mirror.proofs.Counts.FewRouted.{CountsFew}
-use Rattle.dm_mirror.proofs.Counts.Moves.{MovesFew, moves_put, moves_restart, moves_still, puts_total}
-use Rattle.dm_mirror.proofs.Counts.Own.{OwnFew, PairsWithin, own_group}
-use Rattle.dm_mirror.proofs.Counts.Pairs.{within_group}
-use Rattle.dm_mirror.proofs.Counts.Sorts.{Bears, FrontRestarts, Pays, Restarts, Sort, SortIf, outcome_sort}
-use Rattle.dm_mirror.proofs.Counts.Start.{first_count, moves_start, own_start, pairs_start, under_start}
-use Rattle.dm_mirror.proofs.Counts.Still.{line_still}
-use Rattle.dm_mirror.proofs.Counts.Waiting.{Routed, routed_group, routed_start, waiting_few}
+use Rattle.dm_mirror.proofs.Counts.AtEnds.{BearEnds, Ends, PutsOne, Under, bear_ends, ends, ends_before, own_puts, under_more, Bears, FrontRestarts, Pays, Restarts, Sort, SortIf, outcome_sort}
+use Rattle.dm_mirror.proofs.Counts.Pairs.{within_group, OwnFew, PairsWithin, own_group, line_still, CountsFew}
+use Rattle.dm_mirror.proofs.Counts.Waiting.{Routed, routed_group, routed_start, waiting_few, first_count, moves_start, own_start, pairs_start, under_start, MovesFew, moves_put, moves_restart, moves_still}
 use Rattle.dm_mirror.proofs.Machines.{few_machines, machines_group, some_machine}
 use Rattle.dm_mirror.proofs.Raises.{sent_of}
-use Rattle.dm_mirror.proofs.Totals.{Grows, grows_on, line_grows, total, total_grows, total_most}
+use Rattle.dm_mirror.proofs.Totals.{Grows, grows_on, line_grows, total, total_grows, total_most, total_adds}
 
 -- what the counts of a run are below
 pub record Few (n : ℕ) (pt : Point) : Type 0 where
@@ -46,7 +33,7 @@ paid_rises n pt end within h moves =
       under = elim h.under [
         | inl u ↦ under_more (first_count + total pt.view n) (first_count + total end.view n) end.kernel (omega (arith, more)) u
         | inr u ↦
-            let adds = puts_total n pt.view end.view h.grows u.1 within in
+            let adds : total pt.view n + 1 ≤ total end.view n = grind (arith, nat_tests, total_adds, h.grows, u.1) in
             under_more (first_count + total pt.view n + 1) (first_count + total end.view n) end.kernel (omega (arith, adds)) u.0
       ];
       moves = moves_still n pt.view end.view h.grows h.still moves;
@@ -55,7 +42,7 @@ paid_rises n pt end within h moves =
 own_rises : (n : ℕ) (pt start end : Point) → start.kernel ≡ pt.kernel → Grows pt.view start.view → start.view.moves ≡ pt.view.moves → BearEnds start end → PutsOne start.view end.view → PairsWithin n end.view → Under (first_count + total pt.view n) pt.kernel → MovesFew n pt.view → Rises n end
 own_rises n pt start end kernel grows same h puts within under moves =
     let first = total_grows pt.view start.view n grows in
-    let adds = puts_total n start.view end.view h.grows puts within in
+    let adds : total start.view n + 1 ≤ total end.view n = grind (arith, nat_tests, total_adds, h.grows) in
     record {
       under = under_more (first_count + total pt.view n) (first_count + total end.view n) end.kernel (omega (arith, first, adds)) (subst (Under (first_count + total pt.view n)) (sym (h.kernel ∙ kernel)) under);
       moves = moves_put n pt.view end.view (omega (arith, first, adds)) (h.moves ∙ same) moves;
@@ -78,12 +65,10 @@ head_moves : (pt : Point) (d : Step) → (begun pt d).view.moves ≡ pt.view.mov
 head_moves pt d = (line_still pt.view (Line.Head d) refl).moves
 
 head_known : (v : View) (d : Step) → (view_after v (Line.Head d)).known ≡ v.known
-head_known v (Step.Turn m) = refl
-head_known v _ = refl
+head_known v d = grind (arith, nat_tests)
 
 head_acting : (v : View) (d : Step) → (view_after v (Line.Head d)).acting ≡ actor d
-head_acting v (Step.Turn m) = refl
-head_acting v _ = refl
+head_acting v d = grind (arith, nat_tests)
 
 -- what a machine says of a process that restarts
 record Restarted (u : View) (p : Pid) (end : Point) (kernel : OneKernel) : Type 0 where

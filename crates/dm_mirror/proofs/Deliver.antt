@@ -1,37 +1,23 @@
 -- The delivery of a packet, world against point: a machine may take what comes, and does with it what the rule says.
-pub mod Ends
-pub mod Kept
 pub mod Events
-pub mod Stood
 pub mod Stands
-pub mod Follows
 pub mod Moves
-pub mod Arrives
-pub mod Takes
-pub mod Lets
-pub mod Reads
 pub mod Goes
-pub mod Counts
-pub mod Readable
-pub mod Sent
 pub mod Outs
-pub mod Keeps
 use Rattle.dm_mirror.proofs.Names.{◌≡◌, ◌≢◌, ℕ, ◌+◌, ◌^◌, ◌<◌, ◌≤◌, ◌⊎◌, ◌==◌, nat_le, nat_lt, Bool, true, false, List, [], ◌∷◌, length, refl, ap, ◌∙◌, sym, subst, inl, inr, arith, if◌then◌else◌, slice_get, option_map, Ok, All, Option}
 use Rattle.dm_mirror.proofs.Names.{None, Some, cases_Bool, eqb_tells, nat_tests, All-drop, Message, IsLawfulMessage, Packet, Step, Line, packet_of, spelling, Data, Ack, load_at, MayCome-stands, bytes_at, after_mark, Boot, IsValid, bind}
 use Rattle.dm_mirror.proofs.Names.{Part, Spelled, spelled, Point, moved, headed, kept_from, more, Run, Placed, MayAct, WorldState, acted, arrives, delivers, reads, world_step, MayDeliver, MayRead, CountsStand, History, StandsWith, line_of}
 use Rattle.dm_mirror.proofs.Names.{load_of, GoesOn, IsNet, arrives_net}
-use Rattle.dm_stream.specs.Packets as stream
 use Rattle.dm_stream.specs.Packets.{Load}
+use Rattle.dm_stream.specs.Packets as stream
 use Rattle.dm_line.specs.declared.line.Load.TheVariants as load
 use Rattle.dm_rule.specs.Rule as group
 use Rattle.dm_node.specs.Acts as node
 use Rattle.dm_node.specs.Out as out
-use Rattle.dm_mirror.proofs.Deliver.Ends.{PairIs, ends_of, stream_with}
 use Rattle.dm_mirror.proofs.Deliver.Moves.{back_pair, there_pair}
-use Rattle.dm_mirror.proofs.Deliver.Arrives.{begun, nothing_stands}
-use Rattle.dm_mirror.proofs.Deliver.Reads.{IsReadAs, ReadsAs, bytes_are, bytes_for, lines_are, load_is, reads_ack}
-use Rattle.dm_mirror.proofs.Deliver.Counts.{Same, arrives_sent, counts_on, net_same}
-use Rattle.dm_mirror.proofs.Deliver.Goes.{Comes, acked_comes, early_comes, old_comes, taken_comes}
+use Rattle.dm_mirror.proofs.Deliver.Goes.{Comes, acked_comes, early_comes, old_comes, taken_comes, IsReadAs, ReadsAs, bytes_are, bytes_for, lines_are, load_is, reads_ack, Same, arrives_sent, counts_on, net_same, few}
+use Rattle.dm_mirror.proofs.Deliver.Events.{PairIs, ends_of, stream_with}
+use Rattle.dm_mirror.proofs.Deliver.Outs.{begun, nothing_stands}
 
 module _ (b : Boot) (w : WorldState) (pt : Point) (l : Placed) (h : History) (a c k : ℕ) (s : StandsWith b w pt l h) (counted : CountsStand w pt) (a_in : a < pt.kernel.machines) (c_in : c < pt.kernel.machines) (apart : a ≢ c) where
   there : PairIs b l a c (ends_of w h a c) (w.wires a c) (pt.view.pair a c)
@@ -129,9 +115,6 @@ module _ (b : Boot) (w : WorldState) (pt : Point) (l : Placed) (h : History) (a 
   goes_of : (o : Option (stream.Packet Message)) → slice_get (h.packets a c) k ≡ o → a < 16 → c < 16 → ReadsAs w h a c k → GoesOn b w pt (Step.Deliver a c k)
   goes_of None is low_a low_c readable = goes_none is
   goes_of (Some p) is low_a low_c readable = goes_with p p.load low_a low_c is refl readable
-
-few : (b : Boot) (m n : ℕ) → IsValid b → n ≡ length b.machines → m < n → m < 16
-few b m n valid are lt = let most : nat_le (length b.machines) 16 ≡ true = valid.few_machines in grind (arith, nat_tests)
 
 -- a delivery
 pub deliver_goes : (b : Boot) (w : WorldState) (pt : Point) (l : Placed) (h : History) (a c k : ℕ) → IsValid b → Run b pt → StandsWith b w pt l h → CountsStand w pt → a < pt.kernel.machines → c < pt.kernel.machines → a ≢ c

@@ -1,8 +1,3 @@
 -- Lemmas of the family End, by file.
-pub mod Lists
 pub mod Servers
-pub mod Lines
-pub mod Where
-pub mod Records
 pub mod Processes
-pub mod May

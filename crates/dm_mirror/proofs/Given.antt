@@ -1,23 +1,24 @@
 -- What the laws rest on.
-use Rattle.dm_mirror.proofs.Names.{◌≡◌, ℕ, ◌<◌, ◌≤◌, true, List, length, ap, ◌∙◌, sym, subst, inl, nat_le, arith, option_map, Some, nat_tests, length-map, Pid, IsMachine, plain_link, Boot, IsValid, slots_of, Alive, plain_process}
-use Rattle.dm_mirror.proofs.Names.{PlainProcess, Step, Leads, Point, first_point, run_always, run_group, run_start, format_always, tables_always, Placed, MayStep, AreWhole, WorldState, EndIsSaid, EndMay, RunGoesOn, StepsStand, Steps}
-use Rattle.dm_mirror.proofs.Names.{History, Stands, StandsWith, RanGoesOn, alive-is}
+use Rattle.dm_mirror.proofs.Names.{◌≡◌, ℕ, ◌<◌, true, List, length, ap, ◌∙◌, sym, subst, inl, nat_le, arith, option_map, Some, nat_tests, length-map, Pid, IsMachine, plain_link, Boot, IsValid, slots_of, Alive, plain_process, PlainProcess}
+use Rattle.dm_mirror.proofs.Names.{Step, Leads, Point, first_point, run_always, run_group, run_start, format_always, tables_always, Placed, MayStep, AreWhole, WorldState, EndIsSaid, EndMay, RunGoesOn, StepsStand, Steps, History, Stands}
+use Rattle.dm_mirror.proofs.Names.{StandsWith, RanGoesOn, alive-is, ◌==◌, [], ◌∷◌, ◌++◌, refl, Inbox, tells_right_always, is_server, GroupNeeds, group_needs, places_follow_by, PlacesFollow, or_second}
+use Rattle.dm_mirror.proofs.Names.{MsgId, OneKernel, PlainMessage, id_of, manager}
+use Rattle.dm_message.specs.Plain.{PlainWhat}
+use Rattle.dm_rulelaws.specs.Fits.{WhatFits}
 use Rattle.dm_onekernel.specs.Step as kernel
-use Rattle.dm_mirror.proofs.Come.All.{Around}
 use Rattle.dm_mirror.proofs.Counts.{counts_few}
 use Rattle.dm_mirror.proofs.Deliver.{OthersLawful, deliver_goes, may_deliver}
-use Rattle.dm_mirror.proofs.Deliver.Readable.{reads_as}
-use Rattle.dm_mirror.proofs.End.May.{FewAlways, end_may_by}
-use Rattle.dm_mirror.proofs.Ending.{end_is_said_by}
 use Rattle.dm_mirror.proofs.Follow.Asks.{asks_turn}
-use Rattle.dm_mirror.proofs.Going.{run_goes_on_by}
-use Rattle.dm_mirror.proofs.Single.{ran_goes_on_by}
-use Rattle.dm_mirror.proofs.Machines.{machines_are}
-use Rattle.dm_mirror.proofs.Made.{made_always}
+use Rattle.dm_mirror.proofs.Going.{run_goes_on_by, leads_last}
+use Rattle.dm_mirror.proofs.Single.{ran_goes_on_by, end_is_said_by}
+use Rattle.dm_mirror.proofs.Machines.{machines_are, made_always}
 use Rattle.dm_mirror.proofs.May.{all_lawful, may_step_migrate, may_step_turn, may_step_tick}
 use Rattle.dm_mirror.proofs.Ticks.{tick_goes}
 use Rattle.dm_mirror.proofs.TurnAll.{turns_all}
-use Rattle.dm_mirror.proofs.Whole.{move_goes, turn_goes}
+use Rattle.dm_mirror.proofs.Deliver.Goes.{reads_as}
+use Rattle.dm_mirror.proofs.TurnSteps.{move_goes, turn_goes}
+use Rattle.dm_mirror.proofs.Come.Answers.{Around}
+use Rattle.dm_mirror.proofs.End.Processes.{FewAlways, end_may_by}
 
 -- each living process has as many slots as the boot file's format gives
 abbrev pub TablesAlways : Type 0
@@ -45,18 +46,12 @@ turn_stands tables b es w pt m valid leads ((l, h, st), sent) lt may whole =
     (turns_all b m pt l (λ n. (w.nodes n).kernel.records) (w.nodes m).kernel (search
     (made_always b es pt valid leads, sent m within, around_of tables b es w pt l h valid leads st)))
 
-few : (b : Boot) (m : ℕ) → IsValid b → m < length b.machines → m ≤ 15
-few b m valid lt = let most : nat_le (length b.machines) 16 ≡ true = valid.few_machines in grind (arith, nat_tests)
-
-some : (m n : ℕ) → m < n → 0 < n
-some m n lt = omega (arith, lt)
-
 move_stands : (b : Boot) (es : List Step) (w : WorldState) (pt : Point) (p : Pid) (m : ℕ) → IsValid b → Leads b (first_point b) es pt → Stands b w pt → m < length b.machines → MayStep b w (Step.Migrate p m) → Steps b w pt (Step.Migrate p m)
 move_stands b es w pt p m valid leads ((l, h, st), sent) lt may =
     let both = run_always b es pt valid leads in
-    let first = below b es pt 0 leads (some m (length b.machines) lt) in
+    let first = below b es pt 0 leads (omega (arith, lt)) in
     let node = st.nodes 0 first in
-    let machine : IsMachine m = few b m valid lt in
+    let machine : IsMachine m = let most : nat_le (length b.machines) 16 ≡ true = valid.few_machines in grind (arith, nat_tests) in
     move_goes run_group b w pt l h p m valid both.run both.own may.1.kernel.here machine st sent first (below b es pt m leads lt)
     (asks_turn b pt l (λ n. (w.nodes n).kernel.records) (w.nodes 0).kernel p m (search (sent 0 first)))
 
@@ -103,3 +98,28 @@ end_may = end_may_by few_always
 
 pub end_is_said : EndIsSaid
 end_is_said = end_is_said_by (λ b es pt valid leads. (run_always b es pt valid leads).run)
+
+-- Wherever the rule leads, a kernel with places goes along.
+
+-- a request to move is one of the manager's messages
+asked_by_manager : (s : OneKernel) (i : MsgId) (x : PlainMessage) (machine : ℕ) → x.what ≡ PlainWhat.Move machine → WhatFits s i x x.what → i ≡ id_of manager i.n
+asked_by_manager s i x machine is fits =
+    let f = subst (WhatFits s i x) is fits in
+    let from = f.4.from in
+    let answer = f.3 in
+    λ c. record { from = from c; n = i.n; answer = answer c }
+
+-- the rule leads here
+abbrev Reached : Boot → Point → Type 0
+Reached b pt = (es : List Step) × Leads b (first_point b) es pt
+
+needs : (b : Boot) (pt : Point) → IsValid b → Reached b pt → GroupNeeds pt
+needs b pt valid (es, leads) =
+    let run = (run_always b es pt valid leads).run in
+    group_needs pt run.based.pending run.based.unmoved (tells_right_always b es pt valid leads) run.found.told
+    (λ i m t stands told server. run.found.fixed i (Inbox m) t stands told (or_second (t.receiver.num == 0) (is_server t.receiver) server))
+    (λ i x machine there is. asked_by_manager pt.kernel i x machine is (run.based.fits.messages i x there))
+
+pub places_follow : PlacesFollow
+places_follow b es pt valid leads =
+    places_follow_by b (Reached b) (λ p h. needs b p valid h) (λ p d w fit is h. (h.0 ++ d ∷ [], leads_last b h.0 (first_point b) p d w h.1 fit is)) es pt valid ([], refl) leads

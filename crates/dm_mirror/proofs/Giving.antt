@@ -1,14 +1,14 @@
 -- A message is given to the stream of a pair, and goes out at once or waits.
-use Rattle.dm_mirror.proofs.Names.{◌≡◌, ◌≢◌, ℕ, ◌+◌, ◌<◌, ◌≤◌, ◌==◌, ◌&&◌, Bool, true, false, [], ◌∷◌, ◌++◌, length, refl, ap, ◌∙◌, sym, subst, arith, if◌then◌else◌, Some, eqb-true, nat_tests, length-append, Pid, Message, MessageKind}
+use Rattle.dm_mirror.proofs.Names.{◌≡◌, ◌≢◌, ℕ, ◌+◌, ◌<◌, ◌≤◌, ◌==◌, ◌&&◌, Bool, false, [], ◌∷◌, ◌++◌, length, refl, ap, ◌∙◌, sym, subst, arith, if◌then◌else◌, Some, eqb-true, nat_tests, length-append, Pid, Message, MessageKind}
 use Rattle.dm_mirror.proofs.Names.{IsLawfulMessage, Sending, due, given_count, with_given, with_sent, Receiving, Stream, Boot, NodeState, with_sender, at_machine, at_pair, Pair, View, after_packet, after_put, routed_on, Point, Placed}
 use Rattle.dm_mirror.proofs.Names.{WorldState, History, NodeStands, PairStands, StandsWith, stream_of}
 use Rattle.dm_stream.specs.Packets.{Load}
 use Rattle.dm_stream.specs.Stream.{is_worn}
 use Rattle.dm_line.specs.declared.line.Load.TheVariants as load
-use Rattle.dm_mirror.proofs.Streams.{Joined, given_length, is_given, joined, pair_stands, put_back, went_out}
-use Rattle.dm_mirror.proofs.Stays.{apart_is, at_here, at_again, at_other, both_false, node_same, nodes_are, pair_here, pair_other, pairs_are}
-use Rattle.dm_mirror.proofs.Route.Core.{CoreStands}
+use Rattle.dm_mirror.proofs.Streams.{Joined, given_length, is_given, joined, pair_stands, put_back, went_out, apart_is, at_here, at_again, at_other, node_same, nodes_are, pair_here, pair_other, pairs_are}
 use Rattle.dm_mirror.proofs.Puts.{Senders, ids_same, one_sender, point_put, stands_put, with_put, world_put}
+use Rattle.dm_mirror.proofs.Route.Puts.{CoreStands}
+use Rattle.dm_mirror.proofs.Kernel.Sets.{left_off as both_false}
 
 -- a machine with other streams
 pub node_streams : (b : Boot) (pt : Point) (l : Placed) (m : ℕ) (n : NodeState) (senders : ℕ → Sending Message) (receivers : ℕ → Receiving Message) → NodeStands b pt l m n → NodeStands b pt l m (record n { senders = senders; receivers = receivers })
@@ -40,8 +40,7 @@ routed_apart : (m c : ℕ) (p : Pair) (x : Message) → (m == c) ≡ false → r
 routed_apart m c p x e = λ i. record p { ids = p.ids ++ x.id ∷ []; taken = if e i then p.taken + 1 else p.taken; gone = if e i then p.gone + 1 else p.gone; acked = if e i then p.acked + 1 else p.acked }
 
 pub more_if : (b : Boot) (f : ℕ → ℕ → Pair) (m c a d : ℕ) (p : Pair) (t : Bool) → ((m == a) && (c == d)) ≡ t → length p.ids ≤ b.numbers → length (f a d).ids ≤ b.numbers → length (if t then p else f a d).ids ≤ b.numbers
-more_if b f m c a d p true e more old = more
-more_if b f m c a d p false e more old = old
+more_if b f m c a d p t e more old = grind (arith, nat_tests)
 
 -- the pair counts one more, and may
 pub one_more : (b : Boot) (p : Pair) (x : Message) → length p.ids ≤ b.numbers → length p.ids ≢ b.numbers → length (p.ids ++ x.id ∷ []) ≤ b.numbers
@@ -111,8 +110,7 @@ module _ (b : Boot) (pt : Point) (l : Placed) (w : WorldState) (h : History) (m 
 
 -- the records of machines stay
 pub same_records : (w : WorldState) (m : ℕ) (n : NodeState) (d : ℕ) (t : Bool) → (m == d) ≡ t → n.kernel.records ≡ (w.nodes m).kernel.records → (if t then n else w.nodes d).kernel.records ≡ (w.nodes d).kernel.records
-same_records w m n d true e same = same ∙ ap (λ (z : ℕ). (w.nodes z).kernel.records) (eqb-true m d e)
-same_records w m n d false e same = refl
+same_records w m n d t e same = grind (arith, nat_tests, eqb-true)
 
 -- and it goes out
 abbrev pub node_went : WorldState → ℕ → ℕ → Message → NodeState

@@ -1,14 +1,15 @@
 -- A run of the world begins, and goes on directive by directive.
 use Rattle.dm_mirror.proofs.Names.{◌≡◌, ℕ, List, [], ◌∷◌, ◌++◌, length, refl, ap, ◌∙◌, sym, subst, append_assoc, arith, Some, append-nil, All-nil, Boot, IsValid, start, replay, received_once, Step, Directive, Line, Todo, Next, all_of}
 use Rattle.dm_mirror.proofs.Names.{next_step, IsKept, IsRun, IsStep, Leads, Spelled, Point, first_point, labels, group_of, stands_once_always, group_replay, labels-append, replay-append, WorldState, IsTwo, joined, GoesOn, RunStands}
-use Rattle.dm_mirror.proofs.Names.{StepsStand, RunBegins, RunGoesOn, AreReadBack, gave, MayStep}
+use Rattle.dm_mirror.proofs.Names.{StepsStand, RunBegins, RunGoesOn, AreReadBack, gave, MayStep, zero, suc, Bool, if◌then◌else◌, option_map, Option, None, Pass, Two, begin_pass, below, following, in_pass, next_delivery, next_directive}
+use Rattle.dm_mirror.proofs.Names.{next_pass, next_turn, or, pairs_of, pass_begun, settles, undelivered, has_mail, is_quiet, next_and_left, nat_tests}
 use Rattle.dm_world.specs.Next as world
-use Rattle.dm_mirror.proofs.Deliver.Keeps.{first_readable}
 use Rattle.dm_mirror.proofs.May.{acts_start, acts_step}
 use Rattle.dm_mirror.proofs.Next.{NextFits, machines_stay, next_fits, next_is_said}
 use Rattle.dm_mirror.proofs.Readable.{readable_step}
 use Rattle.dm_mirror.proofs.Starting.{start_stands}
 use Rattle.dm_mirror.proofs.Staying.{kernel_stays}
+use Rattle.dm_mirror.proofs.Deliver.Outs.{first_readable}
 
 pub run_begins : RunBegins
 run_begins b ds valid fit = record {
@@ -76,3 +77,68 @@ run_goes_on_by steps b ds gs pt left w n valid r is =
     let fits = next_fits (length b.machines) (world.world_undelivered w) (world.world_has_mail w) (world.world_is_quiet (length b.machines) w) left n r.todo is in
     let (may, does) = steps b r.steps w pt n.step valid r.leads r.stands r.able r.readable fits.step in
     record { may = may; steps = does; on = λ g. goes_on b ds gs pt left w n valid machines r due fits may g }
+
+-- A run of directives is a run of more of them, as far as it has come.
+
+-- with more directives behind
+abbrev pub behind : List Directive → Todo → Todo
+behind more t = record t { directives = t.directives ++ more }
+
+abbrev pub next_behind : List Directive → Next → Next
+next_behind more n = record { step = n.step; left = behind more n.left }
+
+turn_or_behind : (more : List Directive) (t : Todo) (m : ℕ) (ms : List ℕ) (b : Bool) (o p : Option Next) → p ≡ option_map (next_behind more) o
+    → (if b then next_and_left (Step.Turn m) (record (behind more t) { pairs = []; machines = ms }) else p) ≡ option_map (next_behind more) (if b then next_and_left (Step.Turn m) (record t { pairs = []; machines = ms }) else o)
+turn_or_behind more t m ms b o p e = grind (arith, nat_tests)
+
+turn_behind : (takes : ℕ → Bool) (more : List Directive) (t : Todo) (ms : List ℕ) → next_turn takes (behind more t) ms ≡ option_map (next_behind more) (next_turn takes t ms)
+turn_behind takes more t [] = refl
+turn_behind takes more t (m ∷ ms) = turn_or_behind more t m ms (takes m) (next_turn takes t ms) (next_turn takes (behind more t) ms) (turn_behind takes more t ms)
+
+pass_behind : (mail : ℕ → Bool) (more : List Directive) (t : Todo) (o : Option (Step × List Two)) → in_pass mail (behind more t) o ≡ option_map (next_behind more) (in_pass mail t o)
+pass_behind mail more t o = grind (arith, nat_tests, turn_behind)
+
+begin_behind : (machines : ℕ) (first : ℕ → ℕ → Option ℕ) (mail : ℕ → Bool) (p : Pass) (ds more : List Directive) → begin_pass machines first mail p (ds ++ more) ≡ option_map (next_behind more) (begin_pass machines first mail p ds)
+begin_behind machines first mail p ds more = pass_behind mail more (pass_begun machines p ds) (next_delivery first (pairs_of (below machines) (below machines)))
+
+-- an equation under `Some` is kept
+kept_behind : (more : List Directive) (o p : Option Next) (n : Next) → p ≡ option_map (next_behind more) o → o ≡ Some n → p ≡ Some (next_behind more n)
+kept_behind more o p n e f = e ∙ ap (option_map (next_behind more)) f
+
+or_behind : (more : List Directive) (a b p q : Option Next) (n : Next) → p ≡ option_map (next_behind more) a → (b ≡ Some n → q ≡ Some (next_behind more n)) → or a b ≡ Some n → or p q ≡ Some (next_behind more n)
+or_behind more a b p q n e f is = grind (arith, nat_tests, option_map)
+
+settles_behind : (quiet : Bool) (more : List Directive) (a b p q : Option Next) (n : Next) → p ≡ option_map (next_behind more) a → (b ≡ Some n → q ≡ Some (next_behind more n)) → settles quiet a b ≡ Some n → settles quiet p q ≡ Some (next_behind more n)
+settles_behind quiet more a b p q n e f is = grind (arith, nat_tests, or_behind)
+
+directive_behind : (machines : ℕ) (first : ℕ → ℕ → Option ℕ) (mail : ℕ → Bool) (quiet : Bool) (ds more : List Directive) (n : Next) → next_directive machines first mail quiet ds ≡ Some n → next_directive machines first mail quiet (ds ++ more) ≡ Some (next_behind more n)
+directive_behind machines first mail quiet [] more n e = cc
+directive_behind machines first mail quiet (Directive.One s ∷ ds) more n e = ap (option_map (next_behind more)) e
+directive_behind machines first mail quiet (Directive.Round ∷ ds) more n e = kept_behind more _ _ n (begin_behind machines first mail (Pass.Round 0) ds more) e
+directive_behind machines first mail quiet (Directive.Spin zero ∷ ds) more n e = directive_behind machines first mail quiet ds more n e
+directive_behind machines first mail quiet (Directive.Spin (suc k) ∷ ds) more n e = kept_behind more _ _ n (begin_behind machines first mail (Pass.Round k) ds more) e
+directive_behind machines first mail quiet (Directive.Settle ∷ ds) more n e =
+    settles_behind quiet more (begin_pass machines first mail Pass.Settle ds) (next_directive machines first mail quiet ds) (begin_pass machines first mail Pass.Settle (ds ++ more)) (next_directive machines first mail quiet (ds ++ more)) n
+    (begin_behind machines first mail Pass.Settle ds more) (directive_behind machines first mail quiet ds more n) e
+
+later_behind : (machines : ℕ) (first : ℕ → ℕ → Option ℕ) (mail : ℕ → Bool) (quiet : Bool) (p : Pass) (ds more : List Directive) (n : Next) → next_pass machines first mail quiet p ds ≡ Some n → next_pass machines first mail quiet p (ds ++ more) ≡ Some (next_behind more n)
+later_behind machines first mail quiet p ds more n e = grind (arith, nat_tests, directive_behind, kept_behind, begin_behind)
+
+unless_behind : (over : Bool) (more : List Directive) (o p : Option Next) → p ≡ option_map (next_behind more) o → (if over then None else p) ≡ option_map (next_behind more) (if over then None else o)
+unless_behind over more o p e = grind (arith, nat_tests)
+
+-- what follows is the same with more directives behind
+pub following_behind : (machines : ℕ) (first : ℕ → ℕ → Option ℕ) (mail : ℕ → Bool) (quiet : Bool) (t : Todo) (more : List Directive) (n : Next) → following machines first mail quiet t ≡ Some n → following machines first mail quiet (behind more t) ≡ Some (next_behind more n)
+following_behind machines first mail quiet t more n is = search (or_behind, unless_behind, pass_behind, later_behind)
+
+pub run_behind : (b : Boot) (gs : List (List Line)) (pt end : Point) (t left : Todo) (more : List Directive) → IsRun b pt t gs end left → IsRun b pt (behind more t) gs end (behind more left)
+run_behind b [] pt end t left more (e, f) = (e, ap (behind more) f)
+run_behind b (g ∷ gs) pt end t left more (n, w, next, is, said, kept, rest) = (
+  next_behind more n,
+  w,
+  following_behind pt.kernel.machines (undelivered pt.view) (has_mail pt.view) (is_quiet pt.kernel.machines pt.view) t more n next,
+  is,
+  said,
+  kept,
+  run_behind b gs w.point end n.left left more rest,
+)

@@ -1,11 +1,10 @@
 -- A message that is routed to its own machine comes into the inbox at once.
-use Rattle.dm_mirror.proofs.Names.{◌≡◌, ◌≢◌, ℕ, ◌+◌, ◌<◌, ◌==◌, ◌&&◌, Bool, true, false, List, [], ◌∷◌, ◌++◌, length, refl, ap, ◌∙◌, sym, subst, arith, if◌then◌else◌, Option, Some, eqb-true, eq-eqb, nat_tests, length-append, map-append}
-use Rattle.dm_mirror.proofs.Names.{All-push, Pid, Message, MsgId, MessageKind, IsLawfulMessage, Boot, IsLawfulState, KernelState, NodeState, with_message, at_machine, Pair, View, after_put, routed_on, Point, Placed, WorldState, AreMessages}
-use Rattle.dm_mirror.proofs.Names.{History, NodeStands}
-use Rattle.dm_mirror.proofs.Route.Core.{CoreStands}
-use Rattle.dm_mirror.proofs.Streams.{pair_stays}
-use Rattle.dm_mirror.proofs.Stays.{at_here, at_other, kernel_box, nodes_are, pair_here, pair_other}
+use Rattle.dm_mirror.proofs.Names.{◌≡◌, ◌≢◌, ℕ, ◌+◌, ◌<◌, ◌==◌, ◌&&◌, Bool, List, [], ◌∷◌, ◌++◌, length, refl, ap, ◌∙◌, sym, subst, arith, if◌then◌else◌, Option, Some, eqb-true, eq-eqb, nat_tests, length-append, map-append, All-push, Pid}
+use Rattle.dm_mirror.proofs.Names.{Message, MsgId, MessageKind, IsLawfulMessage, Boot, IsLawfulState, KernelState, NodeState, with_message, at_machine, Pair, View, after_put, routed_on, Point, Placed, WorldState, AreMessages, History}
+use Rattle.dm_mirror.proofs.Names.{NodeStands}
+use Rattle.dm_mirror.proofs.Streams.{pair_stays, at_here, at_other, kernel_box, nodes_are, pair_here, pair_other}
 use Rattle.dm_mirror.proofs.Giving.{more_if, one_more}
+use Rattle.dm_mirror.proofs.Route.Puts.{CoreStands}
 
 -- one message more
 messages_more : (bag : MsgId → Option Message) (ids : List MsgId) (xs : List Message) (x : Message) → bag x.id ≡ Some x → AreMessages bag ids xs → AreMessages bag (ids ++ x.id ∷ []) (xs ++ x ∷ [])
@@ -16,11 +15,7 @@ lawful_more k x lawful h = record { records = h.records; room = h.room; inbox = 
 
 -- what the new state of a machine leaves as it was
 part_if : {Y : Type 0} (g : NodeState → Y) (f : ℕ → NodeState) (m a : ℕ) (n : NodeState) (t : Bool) → (m == a) ≡ t → g n ≡ g (f m) → g (if t then n else f a) ≡ g (f a)
-part_if g f m a n true e is = is ∙ ap (λ (z : ℕ). g (f z)) (eqb-true m a e)
-part_if g f m a n false e is = refl
-
-apart_home : (m a d : ℕ) → a ≢ d → ((m == a) && (m == d)) ≡ false
-apart_home m a d e = grind (arith, nat_tests)
+part_if g f m a n t e is = grind (arith, nat_tests, eqb-true)
 
 abbrev pub node_home : NodeState → Message → NodeState
 node_home n x = record (with_message n x) { home = n.home + 1 }
@@ -64,7 +59,7 @@ module _ (b : Boot) (pt : Point) (l : Placed) (w : WorldState) (h : History) (m 
               out = refl;
               back = refl;
               wire = refl;
-              pair = pair_other pt.view.pair m m _ a d (apart_home m a d differ);
+              pair = pair_other pt.view.pair m m _ a d (grind (arith, nat_tests));
             }) (st.pairs a d few less differ);
         counts = λ a d. more_if b pt.view.pair m m a d (routed_on m m (pt.view.pair m m) x.id) ((m == a) && (m == d)) refl (one_more b (pt.view.pair m m) x (st.counts m m) full) (st.counts a d);
       }

@@ -1,4 +1,2 @@
 -- Lemmas of the family Kernel, by file.
 pub mod Sets
-pub mod Labels
-pub mod Goes

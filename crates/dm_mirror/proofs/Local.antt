@@ -1,14 +1,14 @@
 -- A directive acts on one machine.
 use Rattle.dm_mirror.proofs.Names.{◌≡◌, ℕ, zero, suc, ◌+◌, ◌==◌, ◌&&◌, Bool, true, false, List, [], ◌∷◌, map, refl, ap, ◌∙◌, sym, subst, arith, ⊤, if◌then◌else◌, Option, None, Some, Result, Err, nat_tests, append-nil, All-nil, Message}
-use Rattle.dm_mirror.proofs.Names.{Packet, Line, PacketError, packet_of, Sent, bytes_at, after_mark, Data, Ack, Boot, Step, KernelState, Turned, Pid, NodeState, here, Acted, Acts, Goes, StaysAt, asks_move_stays, WorldState, Said}
-use Rattle.dm_mirror.proofs.Names.{acted, arrives, reads, delivers, world_step, IsFresh, PutsFrom, marked_by, ActsLocally, SamePacket, unnumbered, DoesSame, ReadsLocally, NothingComes}
+use Rattle.dm_mirror.proofs.Names.{Packet, Line, PacketError, packet_of, Sent, bytes_at, after_mark, Data, Ack, Boot, Step, KernelState, Turned, Pid, NodeState, here, Acted, Acts, Goes, StaysAt, asks_move_stays, WorldState, Said, acted}
+use Rattle.dm_mirror.proofs.Names.{arrives, reads, delivers, world_step, IsFresh, PutsFrom, marked_by, ActsLocally, SamePacket, unnumbered, DoesSame, ReadsLocally, NothingComes}
 use Rattle.std.specs.declared.result.Result.TheVariants.{Ok}
 use Rattle.dm_wire.specs.Sent.{marked}
 use Rattle.dm_stream.specs.Packets.{Load}
+use Rattle.dm_world.specs.World.{Says, turned}
 use Rattle.dm_kernel.specs.Turn as kernel
 use Rattle.dm_kernel.specs.Asking as asking
 use Rattle.dm_node.specs.Acts as machine
-use Rattle.dm_world.specs.World.{Says, turned}
 use Rattle.dm_mirror.proofs.LocalLines.{acted_unnumbered, acted_exact, marked_long}
 use Rattle.dm_mirror.proofs.Outs.{IsFrom, ActsFrom, acts_from, tick_from, arrives_from, packets_to, all_fresh, spoken_off, spoken_on}
 
@@ -83,17 +83,13 @@ marked_none (p ∷ ps) zero e = cc
 marked_none (p ∷ ps) (suc k) e = ap (λ (qs : List Sent). p ∷ qs) (marked_none ps k e)
 
 mark_by : (wires : ℕ → ℕ → List Sent) (a c k x y : ℕ) (b : Bool) → ((a == x) && (c == y)) ≡ b → bytes_at (wires a c) k ≡ None → (if b then marked (wires x y) k else wires x y) ≡ wires x y
-mark_by wires a c k x y true e none = grind (arith, nat_tests, marked_none)
-mark_by wires a c k x y false e none = refl
-
-mark_none : (wires : ℕ → ℕ → List Sent) (a c k x y : ℕ) → bytes_at (wires a c) k ≡ None → after_mark wires a c k x y ≡ wires x y
-mark_none wires a c k x y none = mark_by wires a c k x y ((a == x) && (c == y)) refl none
+mark_by wires a c k x y b e none = grind (arith, nat_tests, marked_none)
 
 nothing_puts : (w : WorldState) (a c k : ℕ) → bytes_at (w.wires a c) k ≡ None → PutsFrom c (λ y. []) (marked_by (Step.Deliver a c k) w) (record w { groups = w.groups + 1 })
 nothing_puts w a c k none = record {
   nodes = λ n apart. refl;
-  others = λ x y apart. sym (mark_none w.wires a c k x y none);
-  own = λ y. sym (append-nil (after_mark w.wires a c k c y) ∙ mark_none w.wires a c k c y none);
+  others = λ x y apart. sym (mark_by w.wires a c k x y ((a == x) && (c == y)) refl none);
+  own = λ y. sym (append-nil (after_mark w.wires a c k c y) ∙ mark_by w.wires a c k c y ((a == c) && (c == y)) refl none);
   fresh = λ y. All-nil IsFresh;
   groups = refl;
 }

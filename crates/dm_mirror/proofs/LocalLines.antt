@@ -1,6 +1,6 @@
 -- The lines that a machine says hang on the wires only by the numbers of its packets.
-use Rattle.dm_mirror.proofs.Names.{◌≡◌, ℕ, Bool, true, false, List, [], ◌∷◌, ◌++◌, length, map, refl, ap, ◌∙◌, sym, arith, if◌then◌else◌, length-append, Packet, Load, spelling, Sent, is_pair, Step, Line, Out, Sends, Acted, with_packet, nat_tests}
-use Rattle.dm_mirror.proofs.Names.{spoken, WorldState, acted, AsLong, marked_by, unnumbered, length_marked}
+use Rattle.dm_mirror.proofs.Names.{◌≡◌, ℕ, Bool, List, [], ◌∷◌, ◌++◌, length, map, refl, ap, ◌∙◌, sym, arith, if◌then◌else◌, length-append, Packet, spelling, Sent, is_pair, Step, Line, Out, Sends, Acted, with_packet, nat_tests, spoken}
+use Rattle.dm_mirror.proofs.Names.{WorldState, acted, AsLong, marked_by, unnumbered, length_marked}
 use Rattle.dm_wire.specs.Sent.{just_put, marked}
 use Rattle.dm_wire.specs.Wire.{after_put}
 use Rattle.dm_node.specs.declared.out.Out.TheVariants.{Says}
@@ -12,8 +12,7 @@ Wires = ℕ → ℕ → List Sent
 
 -- but for the numbers
 packet_unnumbered : (v w : Wires) (p : Packet) → unnumbered (packet_line v p) ≡ unnumbered (packet_line w p)
-packet_unnumbered v w (Packet.Data a c k m) = refl
-packet_unnumbered v w (Packet.Ack a c k) = refl
+packet_unnumbered v w p = grind (arith, nat_tests)
 
 spoken_unnumbered : (v w : Wires) (outs : List Out) → map unnumbered (spoken v outs).lines ≡ map unnumbered (spoken w outs).lines
 spoken_unnumbered v w [] = refl
@@ -30,8 +29,7 @@ abbrev Long : ℕ → Wires → Wires → Type 0
 Long m v w = (c : ℕ) → length (v m c) ≡ length (w m c)
 
 put_by : (xs ys : List Sent) (bytes : List ℕ) (here : Bool) → length xs ≡ length ys → length (if here then xs ++ just_put bytes ∷ [] else xs) ≡ length (if here then ys ++ just_put bytes ∷ [] else ys)
-put_by xs ys bytes true e = let f = length-append xs (just_put bytes ∷ []) in let g = length-append ys (just_put bytes ∷ []) in omega (arith, e, f, g)
-put_by xs ys bytes false e = e
+put_by xs ys bytes here e = grind (arith, nat_tests, length-append)
 
 put_long : (m : ℕ) (v w : Wires) (a c : ℕ) (bytes : List ℕ) → Long m v w → Long m (after_put v a c bytes) (after_put w a c bytes)
 put_long m v w a c bytes h n = put_by (v m n) (w m n) bytes (is_pair a c m n) (h n)
@@ -41,8 +39,7 @@ packet_long m v w (Packet.Data a c k x) h = put_long m v w a c (spelling (Packet
 packet_long m v w (Packet.Ack a c k) h = put_long m v w a c (spelling (Packet.Ack a c k)) h
 
 packet_same : (m : ℕ) (v w : Wires) (p : Packet) (outs : List Out) → AreFrom m (Sends p ∷ outs) → Long m v w → packet_line v p ≡ packet_line w p
-packet_same m v w (Packet.Data a c k x) outs from h = grind (arith, nat_tests)
-packet_same m v w (Packet.Ack a c k) outs from h = grind (arith, nat_tests)
+packet_same m v w p outs from h = grind (arith, nat_tests)
 
 spoken_same : (m : ℕ) (v w : Wires) (outs : List Out) → AreFrom m outs → Long m v w → (spoken v outs).lines ≡ (spoken w outs).lines
 spoken_same m v w [] from h = refl
@@ -55,8 +52,7 @@ pub acted_exact : (w u : WorldState) (e : Step) (m : ℕ) (d : Acted) → IsFrom
 acted_exact w u e m d from long = ap (λ (ls : List Line). Line.Head e ∷ ls) (spoken_same m u.wires w.wires d.outs from.outs long)
 
 mark_by : (ps : List Sent) (k : ℕ) (here : Bool) → length (if here then marked ps k else ps) ≡ length ps
-mark_by ps k true = length_marked ps k
-mark_by ps k false = refl
+mark_by ps k here = grind (arith, nat_tests, length_marked)
 
 pub marked_long : (m : ℕ) (e : Step) (w u : WorldState) → AsLong m w u → AsLong m (marked_by e w) (marked_by e u)
 marked_long m (Step.Deliver a c k) w u h = λ n. mark_by (u.wires m n) k (is_pair a c m n) ∙ h n ∙ sym (mark_by (w.wires m n) k (is_pair a c m n))

@@ -1,10 +1,6 @@
 -- Where the world stands for a point, each machine may take a turn or a tick, and ask a process to move; and each machine may act, from the start on.
-pub mod Have
-pub mod Front
-pub mod Process
 pub mod Own
 pub mod OwnKernel
-pub mod OwnRows
 pub mod Turns
 use Rattle.dm_mirror.proofs.Names.{◌≡◌, ℕ, ◌+◌, ◌^◌, ◌<◌, ◌≤◌, ◌==◌, Bool, true, false, List, [], ◌∷◌, length, refl, ap, sym, subst, arith, if◌then◌else◌, IsSome, All, Option, None, Some, Result, Err, nat_tests, All-nil, Message}
 use Rattle.dm_mirror.proofs.Names.{IsLawfulMessage, Packet, Line, PacketError, packet_of, Data, Ack, bytes_at, after_mark, Boot, IsValid, Step, Leads, Point, first_point, OwnTold, Run, Placed, IsLawfulState, KernelState, Turned}
@@ -13,13 +9,12 @@ use Rattle.dm_mirror.proofs.Names.{turn_may, Said, WorldState, acted, arrives, d
 use Rattle.std.specs.declared.result.Result.TheVariants.{Ok}
 use Rattle.dm_stream.specs.Packets.{Load}
 use Rattle.dm_kernel.specs.State.{own_id}
-use Rattle.dm_kernel.specs.Turn as kernel
-use Rattle.dm_node.specs.Acts as node
 use Rattle.dm_node.specs.May.{MayTurn}
 use Rattle.dm_world.specs.World.{Says, turned}
-use Rattle.dm_mirror.proofs.Counts.FewRouted.{CountsFew}
-use Rattle.dm_mirror.proofs.Machines.{few_machines, machines_are, some_machine}
-use Rattle.dm_mirror.proofs.Made.{made_always}
+use Rattle.dm_kernel.specs.Turn as kernel
+use Rattle.dm_node.specs.Acts as node
+use Rattle.dm_mirror.proofs.Machines.{few_machines, machines_are, some_machine, made_always}
+use Rattle.dm_mirror.proofs.Counts.Pairs.{CountsFew}
 use Rattle.dm_mirror.proofs.May.Turns as turns
 
 -- all that stands about the machine
@@ -54,10 +49,6 @@ may_turn b es w pt m valid leads run told counts ((l, h, st), sent) acts lt =
 pub may_step_turn : (b : Boot) (es : List Step) (w : WorldState) (pt : Point) (m : ℕ) → IsValid b → Leads b (first_point b) es pt → Run b pt → OwnTold pt → CountsFew pt → Stands b w pt → AllMayAct b w → m < length b.machines → MayStep b w (Step.Turn m)
 may_step_turn b es w pt m valid leads run told counts stands acts lt = let k = may_turn b es w pt m valid leads run told counts stands acts lt in (lt, k.0, k.1)
 
--- a process is to move: the machine with the servers can send one more message
-servers_are : (v w : Option Servers) → v ≡ w → IsSome w → IsSome v
-servers_are v w e h = subst (λ (o : Option Servers). IsSome o) (sym e) h
-
 pub may_step_migrate : (b : Boot) (es : List Step) (w : WorldState) (pt : Point) (p : Pid) (m : ℕ) → IsValid b → Leads b (first_point b) es pt → CountsFew pt → Stands b w pt → AllMayAct b w → m < length b.machines → MayStep b w (Step.Migrate p m)
 may_step_migrate b es w pt p m valid leads counts ((l, h, st), sent) acts lt =
     let are = machines_are b es pt leads in
@@ -68,7 +59,7 @@ may_step_migrate b es w pt p m valid leads counts ((l, h, st), sent) acts lt =
     let same = sent 0 within in
     let few = counts.own 0 in (
       lt,
-      (search (acts.each 0 (omega (arith, some)), arith, same, few, servers_are (w.nodes 0).kernel.servers (servers_at l 0) node.kernel.servers refl)),
+      (search (acts.each 0 (omega (arith, some)), arith, same, few, subst (λ (o : Option Servers). IsSome o) (sym node.kernel.servers) refl)),
       node.lawful,
     )
 
@@ -81,7 +72,7 @@ pub all_lawful : (b : Boot) (w : WorldState) (m : ℕ) → AllMayAct b w → m <
 all_lawful b w m acts lt c small = (acts.each m lt).unacked c small
 
 -- where a run begins
-few_numbers : (b : Boot) → IsValid b → b.numbers < 2 ^ 32
+pub few_numbers : (b : Boot) → IsValid b → b.numbers < 2 ^ 32
 few_numbers b valid = let k = valid.most_numbers in let n : b.numbers ≤ 1048576 = grind (arith, nat_tests) in omega (arith, n)
 
 pub acts_start : (b : Boot) → IsValid b → AllMayAct b (first_world b)
@@ -105,10 +96,6 @@ turned_may : (b : Boot) (w : WorldState) (e : Step) (m : ℕ) (a : Acts) (s : Sa
 turned_may b w e m (Goes d) s is h acts = acted_may b w e m d s (let f : acted w e m d ≡ s = cc in f) h acts
 turned_may b w e m (Worn from to) s is h acts = cc
 
-abbrev here_in : ℕ → Option Turned → ℕ
-here_in n None = n
-here_in n (Some t) = t.state.here
-
 turn_stays : (b : Boot) (w : WorldState) (m : ℕ) (o : Option Turned) (s : Said) → KernelsStay → IsValid b → kernel.turn b (w.nodes m).kernel ≡ o → turned w (Step.Turn m) m (node.turns (w.nodes m) o) ≡ Some (Says s)
     → MayTurn b (w.nodes m) → IsLawfulState (w.nodes m).kernel → AllMayAct b w → AllMayAct b s.state
 turn_stays b w m None s stays valid e is may lawful acts = cc
@@ -118,12 +105,10 @@ turn_stays b w m (Some t) s stays valid e is may lawful acts =
 
 -- and where it asks a process to move
 told_here : (s : KernelState) (p : Pid) (r : Result Message MoveError) (t : Turned) → told_to_move s p r ≡ Some t → t.state.here ≡ s.here
-told_here s p (Err MoveError.Unknown) t e = sym (ap (λ (o : Option Turned). here_in s.here o) e)
-told_here s p _ t e = sym (ap (λ (o : Option Turned). here_in s.here o) e)
+told_here s p r t e = grind (arith, nat_tests)
 
 manager_here : (s : KernelState) (p : Pid) (m : ℕ) (o : Option Servers) (t : Turned) → asks_manager s p m o ≡ Some t → t.state.here ≡ s.here
-manager_here s p m None t e = cc
-manager_here s p m (Some v) t e = told_here s p (moves_child v.manager.children p m (own_id s)) t e
+manager_here s p m o t e = grind (arith, nat_tests, told_here)
 
 ask_stays : (b : Boot) (w : WorldState) (p : Pid) (m : ℕ) (o : Option Turned) (s : Said) → asks_move (w.nodes 0).kernel p m ≡ o → turned w (Step.Migrate p m) 0 (node.turns (w.nodes 0) o) ≡ Some (Says s) → m < 16 → MayAskMove (w.nodes 0) → IsLawfulState (w.nodes 0).kernel → AllMayAct b w → AllMayAct b s.state
 ask_stays b w p m None s e is to may lawful acts = cc

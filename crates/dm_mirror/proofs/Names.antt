@@ -1,5 +1,4 @@
 -- What the proofs of this crate name of what lies below it.
-pub use Rattle.std.proofs.Math.Path.{fun_ext}
 pub use Rattle.std.proofs.lemmas.List.{drop-drop, drop-map}
 pub use Rattle.dm_link.specs.Places.{kernel_at as kernel_of}
 pub use Rattle.dm_records.proofs.Names.{Bool, IsSome, Option, Pid, Some, ap, arith, common_steps, cond, false, if◌then◌else◌, pid_eq, refl, sym, true, ◌∙◌, ◌≡◌}
@@ -8,38 +7,33 @@ pub use Rattle.dm_processor.proofs.Names.{List, Row, [], drop, drop-append-le, i
 pub use Rattle.dm_room.proofs.Names.{HasTaken, slice_get}
 pub use Rattle.dm_room.specs.Room.{with_released}
 pub use Rattle.dm_wire.proofs.Cursor.{length_marked}
-pub use Rattle.dm_wire.proofs.Names.{Sent}
+pub use Rattle.dm_wire.proofs.Names.{Sent, inl, inr}
 pub use Rattle.dm_stream.proofs.Follows.{MayCome-stands}
 pub use Rattle.dm_stream.proofs.Lists.{drop-more, get-drop}
-pub use Rattle.dm_stream.proofs.Names.{Ack, Acknowledge, Data, Deliver, DeliverBack, Event, Give, GoAgain, GoOut, OtherAck, OtherData, Receiving, Sending, Stream, TakeKept, cases_Bool, due, given_count, goes_again, happens, inl, inr}
-pub use Rattle.dm_stream.proofs.Names.{is_some, just_put, kept_once, kept_under, max, moved_up, nat_lt, next, outstanding, place, slice_get_within, subst, window, ◌≢◌, ◌⊎◌}
+pub use Rattle.dm_stream.proofs.Names.{Ack, Acknowledge, Data, Deliver, DeliverBack, Event, Give, GoAgain, GoOut, OtherAck, OtherData, Receiving, Sending, Stream, TakeKept, cases_Bool, due, given_count, goes_again, happens, is_some}
+pub use Rattle.dm_stream.proofs.Names.{just_put, kept_once, kept_under, marked, max, moved_up, nat_lt, next, outstanding, place, slice_get_within, subst, window, ◌≢◌, ◌⊎◌}
 pub use Rattle.dm_stream.proofs.Places.{place-kept_other, place-kept_same, place-moved_up}
 pub use Rattle.dm_stream.proofs.Together.{StreamStands-happens, StreamStands-start}
 pub use Rattle.dm_stream.specs.Packets.{load_in}
 unfoldable pub use Rattle.dm_stream.specs.Packets.{load_at}
 pub use Rattle.dm_stream.specs.Receiving.{advanced}
 pub use Rattle.dm_message.specs.Kinds.{IsKindOfPlain}
-pub use Rattle.dm_linktable.proofs.Names.{Link, Ok, count_by, eqb, length-map, link_at, map, slot_is_behind, ◌&&◌, ◌==◌}
-pub use Rattle.dm_packet.proofs.Coded.{packet_kind_is}
-pub use Rattle.dm_packet.proofs.Fields.{machine_is}
+pub use Rattle.dm_linktable.proofs.Names.{Link, Ok, count_by, length-map, link_at, map, slot_is_behind, ◌&&◌, ◌==◌}
 pub use Rattle.dm_packet.proofs.Names.{Addr, All, All-push, IfSome, IsLawfulMessage, IsMachine, IsRoute, Message, MessageKind, MsgId, What, append-nil, append_assoc, eq-eqb, eqb-true, flat_map, flat_map-cons, kind_of, length-append}
-pub use Rattle.dm_packet.proofs.Names.{machine, message, nat_le, not, number, numbered_message, only_packet, opening, other_machine, packet_kind, spell_message, version, ◌>>=◌}
+pub use Rattle.dm_packet.proofs.Names.{message, nat_le, not, only_packet, spell_message, ◌>>=◌}
 pub use Rattle.dm_packet.proofs.Packets.{packet_again}
 unfoldable pub use Rattle.dm_packet.specs.Packets.{packet_of, read_rest, spelling}
-pub use Rattle.dm_packet.specs.declared.front.Opening.{Opening}
-pub use Rattle.dm_packet.specs.declared.front.PacketKind.{PacketKind}
 pub use Rattle.dm_process.proofs.Names.{first_on, is_on, without_first_on}
-pub use Rattle.dm_process.specs.Begun.{begun_process}
 pub use Rattle.dm_process.specs.Process.{status_is_runnable}
 pub use Rattle.dm_linkupdate.proofs.Names.{IsLawfulProcess, IsLawfulStatus, None, Process, Status, applied}
-pub use Rattle.dm_statebytes.proofs.Names.{Direction, IsField, IsField-both, IsField-for, IsField-made, IsField-number, IsField-tested, PacketError, Regs, guard_ok, length-drop, mask_of, shell_of, spell_slot, spell_status}
+pub use Rattle.dm_statebytes.proofs.Names.{Direction, IsField-number, PacketError, Regs, begun_process, guard_ok, length-drop, shell_of, spell_slot, spell_status}
 pub use Rattle.dm_statebytes.proofs.Sizes.{numbers_size}
-unfoldable pub use Rattle.dm_statebytes.specs.Shell.{registers}
+unfoldable pub use Rattle.dm_statebytes.specs.Shell.{registers, shell_spelling}
 pub use Rattle.dm_migrate.proofs.Names.{All-append, All-cons, Arrival, CanMove, ComesByPieces, Departure, Err, HasBlock, HasChunk, HasPiece, IsNextPiece, PlainWhat, Result, Shell, after_block, after_chunk, block_of, chunk_of, coming}
 pub use Rattle.dm_migrate.proofs.Names.{is_last, map-append, plain_message, plain_what, pull, restarted, sent_on, state_of, with_piece, with_what}
 pub use Rattle.dm_migrate.proofs.Way.{by_pieces}
 pub use Rattle.dm_migrate.specs.Answer.{IsAskOfProcess}
-pub use Rattle.dm_switchboard.proofs.Imports.{ArrayVec, Board, Named, is_general, named_is_behind, plain_board, plain_link, plain_named, switchboard}
+pub use Rattle.dm_switchboard.proofs.Imports.{ArrayVec, Board, Named, named_is_behind, plain_board, plain_link, plain_named, switchboard}
 pub use Rattle.dm_switchboard.proofs.Plain.{plain_request}
 pub use Rattle.dm_procman.proofs.Names.{Boot, BootProcess, IsForManager, IsValid, Managing, PlainLink, answer_over, at_home, child_named, control_link, manager, message_to, moves_child, pending_is_behind, pending_request, plain_child}
 pub use Rattle.dm_procman.proofs.Names.{plain_manager, plain_pending, process_is_valid, processes_are_valid, slice_get-map, starting_at, tells_to_move, ◌||◌}
@@ -48,40 +42,38 @@ pub use Rattle.dm_laws.proofs.Counted.{is_of_memory}
 pub use Rattle.dm_laws.proofs.Names.{Alive, BootImage, Called, Label, Life, Manager, Moving, OneKernel, PlainMessage, PlainProcess, PlainStatus, Ready, Reply, Switchboard, Waiting, Why, answer_id, answer_to, bind, entry, false≢true}
 pub use Rattle.dm_laws.proofs.Names.{first_failed, first_life, first_number, id_eq, id_of, life_at, option_map, pid_of, reception, replay, start, when, with_process, without_message, ⊤}
 pub use Rattle.dm_laws.proofs.Runs.{reached, received_once}
-pub use Rattle.dm_laws.proofs.Servers.{board_takes_lem, manager_takes_lem}
+pub use Rattle.dm_laws.proofs.Servers.{board_takes_lem, why_ended-is as ended_is, manager_takes_lem}
 pub use Rattle.dm_laws.proofs.Sound.{not_counted}
-pub use Rattle.dm_laws.proofs.Steps.{Completing, after_ran}
+pub use Rattle.dm_laws.proofs.Steps.{after_ran}
 pub use Rattle.dm_datamove.proofs.Names.{All-nil, IsAnswerOf, IsAwaited, IsWithin, Landing, after_serving, answer, answer_of, answer_with, piece_of, plain_landed, plain_process, plain_status, serving_answer, written_at}
 pub use Rattle.dm_syscall.proofs.Names.{All-drop, Completion, Rest, length-written, plain_called, plain_completed, receive_refusals, reply_code, what_is_on}
 pub use Rattle.dm_syscall.specs.Plainly.{plain_sent}
 pub use Rattle.dm_line.proofs.Below.{all_same}
 pub use Rattle.dm_line.proofs.Names.{all_below, eqb_tells}
-pub use Rattle.dm_line.specs.Todo.{following, pass_begun}
-pub use Rattle.dm_line.specs.declared.end_line.Doing.{Doing}
+pub use Rattle.dm_line.specs.Todo.{following, next_and_left, pass_begun}
 pub use Rattle.dm_line.specs.declared.end_line.Standing.{Standing}
 pub use Rattle.dm_rule.proofs.Bags.{bag_none, cases_zero}
 pub use Rattle.dm_rule.proofs.Groups.{GroupIs, stands_once_always}
 pub use Rattle.dm_rule.proofs.Homes.Lines.{acting_label}
 pub use Rattle.dm_rule.proofs.Letters.{letter_of}
 pub use Rattle.dm_rule.proofs.Moves.Sent.{fits_packet, fits_put}
-pub use Rattle.dm_rule.proofs.Names.{About, Addresses, Again, Child, Directive, Ended, Fault, Forward, Frozen, Gets, Held, Here, HomeStands, Inbox, Incoming, IsIn, IsStep, IsToken, Known, LandsSo, Leads, Line, Load, Made, Moves, Name}
-pub use Rattle.dm_rule.proofs.Names.{NamedLink, Next, Nexts, NothingElse, Nowhere, Of, Over, Owns, Pair, Part, Phase, Place, Point, Queue, Receiver, Rests, Room, Routes, Says, Sender, ServerSends, Slot, Sort, Sound, Spelled, Spot, Stage}
-pub use Rattle.dm_rule.proofs.Names.{StandsAsBag, StandsNowhere, StandsOnce, StandsOutside, StandsRight, Step, Todo, Told, Transmits, Unknown, Untaken, View, actor, addresses_after, after, after_label, after_line, after_packet, after_proto}
-pub use Rattle.dm_rule.proofs.Names.{after_put, after_step, alive-is, all_of, ascends, at_id, at_least, at_machine, at_pair, at_pid, at_record, begins, behind_count, bind-is, child_number, chunks_of, comes_to, counts, counts_process}
-pub use Rattle.dm_rule.proofs.Names.{dropped_for, ended_told, filter, first_gives, first_point, first_view, fits, forward_about, forwarded_for, forwards_on, free_room, front_of, front_told, gets, given, goes_out, gone_after, gone_to}
-pub use Rattle.dm_rule.proofs.Names.{group_of, handled, has, has_mail, headed, hears, here_told, id_eq-is, id_eq-same, id_eq-swap, ids_at, is_apart, is_away, is_between, is_counted, is_due, is_early, is_here, is_kernels, is_quiet}
-pub use Rattle.dm_rule.proofs.Names.{is_restart, is_told_back, kept_from, kernel_after, kernel_hears, kernel_told, kind_comes, known_at, knows, label_of, lands-is, left_true, less, lines_of, marked, migrates, migrates_child, more, moved}
-pub use Rattle.dm_rule.proofs.Names.{moved_back, next_step, nexts, not_server, numbers_from, oldest, outcome, own_given, own_gives, own_id, packet_line, pair_is_quiet, pid_eq-is, pid_eq-same, pieces_of, place_of, place_of_child, place_told}
-pub use Rattle.dm_rule.proofs.Names.{plain_kind, process_told, puts, queued_for, receiver_in, receiver_of, repeats, resends, right_true, ring_at, routed_on, sender_in, sends_on, server_told, slice_get_cases, slots_of, slots_with, sort_of}
-pub use Rattle.dm_rule.proofs.Names.{spelled, standing, takes_block, takes_chunk, taking_parts, target_of, times, to_kernel, to_of, token_in, told_between, unentered, unmoved, untaken, updates, view_after, when-is, with_pair, without}
-pub use Rattle.dm_rule.proofs.Names.{without_first, without_front, without_id}
+pub use Rattle.dm_rule.proofs.Names.{About, Addresses, Again, Child, Completing, Directive, Ended, Fault, Forward, Frozen, Gets, Held, Here, HomeStands, Inbox, Incoming, IsIn, IsStep, IsToken, Known, LandsSo, Leads, Line, Load, Made, Moves}
+pub use Rattle.dm_rule.proofs.Names.{Name, NamedLink, Next, Nexts, NothingElse, Nowhere, Of, Over, Owns, Pair, Part, Phase, Place, Point, Queue, Receiver, Rests, Room, Routes, Says, Sender, SentLoad, ServerSends, Slot, Sort, Sound, Spelled}
+pub use Rattle.dm_rule.proofs.Names.{Spot, Stage, StandsAsBag, StandsNowhere, StandsOnce, StandsOutside, StandsRight, Step, Todo, Told, Transmits, Unknown, Untaken, View, actor, addresses_after, after, after_label, after_line, after_packet}
+pub use Rattle.dm_rule.proofs.Names.{after_proto, after_put, after_step, alive-is, all_of, ascends, at_id, at_least, at_machine, at_pair, at_pid, at_record, begins, behind, behind_count, bind-is, child_number, chunks_of, comes_to}
+pub use Rattle.dm_rule.proofs.Names.{completing, counts, counts_process, dropped_for, ended, ended_told, filter, first_gives, first_point, first_view, fits, forward_about, forwarded_for, forwards_on, free_room, front_of, front_told, gets}
+pub use Rattle.dm_rule.proofs.Names.{given, goes_out, gone_after, gone_to, group_of, handled, has, has_mail, headed, hears, here_told, id_eq-is, id_eq-same, id_eq-swap, ids_at, is_apart, is_away, is_between, is_counted, is_dropped, is_due}
+pub use Rattle.dm_rule.proofs.Names.{is_early, is_here, is_kernels, is_over, is_quiet, is_restart, is_told_back, kept_from, kernel_after, kernel_hears, kernel_told, kind_comes, known_at, knows, label_of, lands-is, left_true, less, lines_of}
+pub use Rattle.dm_rule.proofs.Names.{migrates, migrates_child, more, moved, moved_back, next_step, nexts, not_server, numbers_from, oldest, outcome, own_given, own_gives, own_id, packet_line, pair_is_quiet, pid_eq-is, pid_eq-same}
+pub use Rattle.dm_rule.proofs.Names.{pieces_of, place_of, place_of_child, place_told, plain_kind, process_told, puts, queued_for, receiver_in, receiver_of, repeats, resends, right_true, ring_at, routed_on, sender_in, sends_on, server_told}
+pub use Rattle.dm_rule.proofs.Names.{slice_get_cases, slots_of, slots_with, sort_of, spelled, standing, takes_block, takes_chunk, taking_parts, target_of, times, to_kernel, to_of, token_in, told_between, unentered, unmoved, untaken}
+pub use Rattle.dm_rule.proofs.Names.{updates, view_after, when-is, with_pair, without, without_first, without_front, without_id}
 pub use Rattle.dm_rule.proofs.Pairs.{Pairs, pair_home, pair_stands, pairs_stand_always}
 pub use Rattle.dm_rule.proofs.Pairs.Comes.{less-right, more-is}
 pub use Rattle.dm_rule.proofs.Pairs.Lines.{AllFit, forwarded_pair, held_pair, label_pair, onward, pair_same, proto_pair, queued_pair, stage_pair, taken_pair, touches}
 pub use Rattle.dm_rule.proofs.Pairs.Migrating.{migrates_fit}
 pub use Rattle.dm_rule.proofs.Pairs.Stand.{two_of}
 pub use Rattle.dm_rule.proofs.Pairs.Turns.{turns_fit}
-pub use Rattle.dm_rule.proofs.Phases.Hears.{zero_num}
 pub use Rattle.dm_rule.proofs.Phases.Lines.{home_full, put_spots, queued_spots}
 pub use Rattle.dm_rule.proofs.Phases.Pieces.{and_false}
 pub use Rattle.dm_rule.proofs.Phases.Put.{first_none, last_there, of_same, put_spot, put_there}
@@ -93,9 +85,9 @@ pub use Rattle.dm_rule.proofs.Telling.{plain_not, tells_right_always}
 pub use Rattle.dm_rule.proofs.Trails.Steps.{expects_is, holds_is}
 pub use Rattle.dm_rule.proofs.Trails.Within.{forwarded_acting, held_acting, queued_acting}
 pub use Rattle.dm_rule.proofs.Turns.{machine_same}
-pub use Rattle.dm_rule.specs.Ends.{Stood, first_with, stood_at}
+pub use Rattle.dm_rule.specs.Ends.{Stood, first_with, standing_of, stood_at}
 pub use Rattle.dm_rule.specs.Good.{IsKept, first_undelivered, undelivered}
-pub use Rattle.dm_rule.specs.Migrating.{link_size, links_size, state_size, status_size}
+pub use Rattle.dm_rule.specs.Migrating.{link_size, links_size, status_size}
 pub use Rattle.dm_rule.specs.Phases.{is_unknown, kind_leaves}
 pub use Rattle.dm_rule.specs.Rule.{and, blocks_of, taken_at, taken_by, taken_of_home, takes_room}
 pub use Rattle.dm_rule.specs.View.{serving}
@@ -123,9 +115,9 @@ pub use Rattle.dm_kernel.proofs.LawfulRows.{of_known}
 pub use Rattle.dm_kernel.proofs.LawfulStart.{opened_lawful, opened_may}
 pub use Rattle.dm_kernel.proofs.Making.{image_fits}
 pub use Rattle.dm_kernel.proofs.Names.{All-head, All-tail, Block, BootMachine, Chunk, FitsBoardWhat, FitsEnded, FitsHere, FitsKernel, FitsKnown, FitsManager, FitsManagerWhat, FrontMay, IsLawfulPair, IsLawfulPart, IsLawfulState}
-pub use Rattle.dm_kernel.proofs.Names.{IsLawfulTurned, IsSuch, KernelState, MayHandle, MayRestart, MayTurn, MoveError, Nothing, Taken, Turned, Wanted, accepts, all_sent_on, ask_of, asks_manager, asks_move, blocks_at, blocks_of_image}
-pub use Rattle.dm_kernel.proofs.Names.{board_follows, board_handles, child_of, empty, ended_handles, expected, forwards_and, free_blocks, free_slots, freezes, frozen, frozen_of, gives_piece, handles, here_handles, image_is_valid}
-pub use Rattle.dm_kernel.proofs.Names.{images_are_valid, incoming_of, kernel_at, kernel_handles, links_are_valid, makes, manager_follows, manager_handles, next_pid, opened, own, process_handles, process_named, restarts, restarts_as}
+pub use Rattle.dm_kernel.proofs.Names.{IsLawfulTurned, IsSuch, KernelKnown, KernelState, MayHandle, MayRestart, MayTurn, MoveError, Nothing, Taken, Turned, Wanted, accepts, all_sent_on, ask_of, asks_manager, asks_move, begins_process}
+pub use Rattle.dm_kernel.proofs.Names.{blocks_at, blocks_of_image, board_handles, child_of, empty, ended_handles, expected, forwards_and, free_blocks, free_slots, freezes, frozen, frozen_of, gives_piece, handles, here_handles}
+pub use Rattle.dm_kernel.proofs.Names.{image_is_valid, images_are_valid, incoming_of, kernel_at, kernel_handles, leaves, links_are_valid, makes, manager_handles, next_pid, opened, own, process_handles, process_named, restarts, restarts_as}
 pub use Rattle.dm_kernel.proofs.Names.{room_of, stays, takes_piece, told_to_move, took_piece, turn, turned, turns, update_of, with_all, with_child, with_here, with_record, with_reserved, without_process}
 pub use Rattle.dm_kernel.proofs.Opening.{room_from}
 pub use Rattle.dm_kernel.proofs.Serving.{call_keeps, ran_keeps}
@@ -147,18 +139,18 @@ pub use Rattle.dm_rulelaws.proofs.Fits.Start.{get_some}
 pub use Rattle.dm_rulelaws.proofs.Found.Groups.{told_there}
 pub use Rattle.dm_rulelaws.proofs.Found.Lists.{more_front}
 pub use Rattle.dm_rulelaws.proofs.Goes.Always.{front, goes_on, own_by, stands_first}
-pub use Rattle.dm_rulelaws.proofs.Goes.Front.{ForOther, ForOthers, ForProcess, ForWhom, Front, begun, for_whom, home_of, is_manager, served_is, told_receiver}
+pub use Rattle.dm_rulelaws.proofs.Goes.Front.{ForOthers, ForWhom, Front, begun, for_whom, home_of, is_manager, served_is, told_receiver}
 pub use Rattle.dm_rulelaws.proofs.Goes.Own.{apart_is, is_it, source_knows}
 pub use Rattle.dm_rulelaws.proofs.Goes.Process.{alive_of, ended_of, gone_is}
 pub use Rattle.dm_rulelaws.proofs.Goes.Runs.{Both, RunGoes, RunStarts, both_group, both_start}
 pub use Rattle.dm_rulelaws.proofs.Goes.Servers.{can_handle, pending_is, server_fixed}
-pub use Rattle.dm_rulelaws.proofs.Goes.Serves.{reply_same}
+pub use Rattle.dm_rulelaws.proofs.Goes.Serves.{reply_same, running_of}
 pub use Rattle.dm_rulelaws.proofs.Goes.Turns.{Droppable, IsFor, droppable_on, dropped_is, queue_drops, user_dropped}
 pub use Rattle.dm_rulelaws.proofs.Names.{AllSayable, InPhases, IsNet, IsNetLine, IsPending, IsRun, LeadsBy, Phased, Sane, Sayable, StandsAsBag-elsewhere, StandsAsBag-one, Target, WhatFits, about_same, agrees, arrives_net, at_record_at}
-pub use Rattle.dm_rulelaws.proofs.Names.{awaits, bag_created, bag_gone, bag_no_space, bag_served, by_hears, completing, eq_is, eq_self, goes_between, group_is, has_bytes, has_no_queue, has_nothing_held, hushed, if_some-is, inbox_is}
-pub use Rattle.dm_rulelaws.proofs.Names.{is_dropped, is_fixed, is_of_source, is_put, is_server, kernels_fresh, labels, least_of, letters, machine_of, not_false, not_first, not_true, out_off, outcome_sayable, pair_keeps, part_sane}
-pub use Rattle.dm_rulelaws.proofs.Names.{piece_fits, proto_acting, put_at, put_told_off, resends_net, rests_here, rings, sane_line, served_id, stands_right, status_awaits, times-append, token_at, token_is, told_some, why_code, zero_if}
-pub use Rattle.dm_rulelaws.proofs.Own.Told.{OwnTold, is_place, is_process, is_target, own_server, own_sort}
+pub use Rattle.dm_rulelaws.proofs.Names.{awaits, bag_created, bag_gone, bag_no_space, bag_served, by_hears, eq_is, eq_self, goes_between, group_is, has_bytes, has_no_queue, has_nothing_held, hushed, if_some-is, inbox_is, is_fixed}
+pub use Rattle.dm_rulelaws.proofs.Names.{is_of_source, is_put, is_server, kernels_fresh, labels, least_of, letters, machine_of, not_false, not_first, not_true, out_off, outcome_sayable, pair_keeps, part_sane, piece_fits, proto_acting}
+pub use Rattle.dm_rulelaws.proofs.Names.{put_at, put_told_off, resends_net, rests_here, rings, sane_line, served_id, stands_right, status_awaits, times-append, token_at, token_is, told_some, why_code, zero_if}
+pub use Rattle.dm_rulelaws.proofs.Own.Told.{OwnTold, is_place, is_target, own_server, own_sort}
 pub use Rattle.dm_rulelaws.proofs.Queued.{IsQueued}
 pub use Rattle.dm_rulelaws.proofs.RunLabels.{after_replay, group_replay, labels-append, replay-append}
 pub use Rattle.dm_rulelaws.proofs.Runs.{Run}
@@ -166,16 +158,17 @@ pub use Rattle.dm_rulelaws.proofs.RunsAlways.{run_always, run_group, run_start}
 pub use Rattle.dm_rulelaws.proofs.Tables.Always.{format_always, tables_always}
 pub use Rattle.dm_node.proofs.Here.{StaysAt, asks_move_stays, turn_stays}
 pub use Rattle.dm_node.proofs.Names.{Acted, Acts, All-get_or, Arrived, Early, FreezesWhole, Goes, Halt, MayAct, MayArrive, MayAskMove, NodeState, Old, Packet, Servers, Worn, acknowledges, acts, after_arrival, after_next, again, all_out}
-pub use Rattle.dm_node.proofs.Names.{arrival, asked_lawful, before, behind, comes_in, count_out, counts_out, first_out, fresh_receiving, fresh_sender, fresh_sending, get_or_from_slice_get, gives, here, is_worn, lets_next, none_waits}
-pub use Rattle.dm_node.proofs.Names.{numbered, put_line, routes, routes_away, routes_home, sends_due, takes_next, then_, then_acknowledges, tick, turn_lawful, with_acked, with_given, with_message, with_receiver, with_sender, with_sent}
+pub use Rattle.dm_node.proofs.Names.{arrival, asked_lawful, before, comes_in, count_out, counts_out, first_out, fresh_receiving, fresh_sender, fresh_sending, get_or_from_slice_get, gives, here, is_worn, lets_next, none_waits, numbered}
+pub use Rattle.dm_node.proofs.Names.{put_line, routes, routes_away, routes_home, sends_due, takes_next, then_, then_acknowledges, tick, turn_lawful, with_acked, with_given, with_message, with_receiver, with_sender, with_sent}
 pub use Rattle.dm_node.proofs.Staying.{MayAfter, arrives_may, turn_may}
 pub use Rattle.dm_node.specs.Acts.{sends}
 unfoldable pub use Rattle.dm_node.specs.Acts.{lets_go, takes_kept}
 pub use Rattle.dm_node.specs.May.{FitsLoad}
+pub use Rattle.dm_node.specs.Out.{packet_of_load}
 pub use Rattle.dm_node.specs.Wired.{says}
 pub use Rattle.dm_world.proofs.Names.{AreReadBack, EndLine, MayDeliver, MayRead, MayStep, Out, Pass, Said, Sends, Spoken, Two, WorldState, acted, after_mark, arrives, awaited_lines, begin_pass, below, bytes_at, delivers, drop_all}
-pub use Rattle.dm_world.proofs.Names.{each_machine, first_awaited, first_had, first_says, first_unseen, gave_bytes, gave_read, gave_some, here_or_later, home_with, in_pass, is_over, is_pair, lines_in, list_line, memory_lines, names_of}
-pub use Rattle.dm_world.proofs.Names.{next_delivery, next_directive, next_pass, next_turn, or, pairs_of, pairs_with, reads, record_lines, record_queue, settles, slice_get_past, spoken, takes_turn, with_packet, world_step}
+pub use Rattle.dm_world.proofs.Names.{each_machine, first_awaited, first_had, first_says, first_unseen, gave_bytes, gave_read, gave_some, here_or_later, home_with, in_pass, is_pair, lines_in, list_line, names_of, next_delivery}
+pub use Rattle.dm_world.proofs.Names.{next_directive, next_pass, next_turn, or, pairs_of, pairs_with, reads, record_lines, record_queue, settles, slice_get_past, spoken, takes_turn, with_packet, world_step}
 pub use Rattle.dm_world.specs.Ends.{HasPlainEnd, alive_lines, come_lines, come_whole, held_for}
 pub use Rattle.dm_world.specs.Readable.{IsReadable, NodeReads, SenderReads, WiresRead, gave}
 pub use Rattle.dm_world.specs.Whole.{AreWhole}
@@ -187,7 +180,7 @@ pub use Rattle.dm_mirror.specs.Made.{MadeStands}
 pub use Rattle.dm_mirror.specs.Own.{AllOwnStand, OwnStands, about_of, told_of}
 pub use Rattle.dm_mirror.specs.Ran.{Ran, RanBegins, RanGoesOn, RunIsRan, ones}
 pub use Rattle.dm_mirror.specs.Run.{GoesOn, RunStands, Steps, StopsWorn, joined}
-pub use Rattle.dm_mirror.specs.Stands.{AreMessages, ComesStand, CountsStand, HereStands, History, KernelStands, KnownStands, LeavesStand, NodeStands, PairStands, RoomStands, Stands, StandsWith, bytes_of, line_of, load_of, servers_at}
-pub use Rattle.dm_mirror.specs.Stands.{stream_of}
+pub use Rattle.dm_mirror.specs.Stands.{AreMessages, ComesStand, CountsStand, HereStands, History, KernelStands, KnownStands, LeavesStand, NodeStands, PairStands, RoomStands, Stands, StandsWith, bytes_of, line_of, load_of, message_id}
+pub use Rattle.dm_mirror.specs.Stands.{servers_at, stream_of}
 pub use Rattle.dm_mirror.specs.Todo.{IsDirective, IsTodo, IsTwo}
 pub use Rattle.dm_mirror.specs.Tokens.{AllRecords, Carries, IsAsked, TokenStands, TokensStand, Wants, chunks, destination_of}

@@ -1,10 +1,10 @@
 -- Which directive comes next is what the printed lines say; it is for the machines that there are.
 use Rattle.dm_mirror.proofs.Names.{◌≡◌, ◌≢◌, ℕ, zero, suc, ◌+◌, ◌<◌, ◌≤◌, ◌==◌, Bool, true, false, List, [], ◌∷◌, map, length, refl, ap, ◌∙◌, sym, subst, arith, ⊤, if◌then◌else◌, All, Option, None, Some, nat_tests, All-nil, All-cons}
 use Rattle.dm_mirror.proofs.Names.{All-head, All-tail, All-append, All-push, Message, Boot, IsValid, Step, Directive, Pass, Two, Todo, Next, below, pairs_with, pairs_of, pass_begun, here_or_later, next_delivery, takes_turn, next_turn}
-use Rattle.dm_mirror.proofs.Names.{in_pass, or, begin_pass, settles, next_directive, next_pass, is_over, following, first_undelivered, IsStep, Leads, Point, first_point, has_mail, is_quiet, based_always, Placed, WorldState, first_unseen}
-use Rattle.dm_mirror.proofs.Names.{History, PairStands, Stands, bytes_of, line_of, IsTwo, IsDirective, IsTodo, NextIsSaid}
+use Rattle.dm_mirror.proofs.Names.{in_pass, or, begin_pass, settles, next_directive, next_pass, following, first_undelivered, IsStep, Leads, Point, first_point, has_mail, is_quiet, based_always, Placed, WorldState, first_unseen, History}
+use Rattle.dm_mirror.proofs.Names.{PairStands, Stands, bytes_of, line_of, IsTwo, IsDirective, IsTodo, NextIsSaid, next_and_left}
+use Rattle.dm_world.proofs.Names.{is_over}
 use Rattle.dm_stream.specs.Packets as stream
-use Rattle.dm_line.specs.Todo.{next_and_left}
 use Rattle.dm_rule.specs.Good as rule
 use Rattle.dm_world.specs.Next as world
 use Rattle.dm_mirror.proofs.QuietSaid.{mail_same, quiet_same}
@@ -105,9 +105,7 @@ directive_same machines f g mail mail' quiet _ first same = refl
 
 later_same : (machines : ℕ) (f g : ℕ → ℕ → Option ℕ) (mail mail' : ℕ → Bool) (quiet : Bool) (p : Pass) (ds : List Directive) → Agrees machines f g → SameMail machines mail mail'
     → next_pass machines f mail quiet p ds ≡ next_pass machines g mail' quiet p ds
-later_same machines f g mail mail' quiet (Pass.Round zero) ds first same = directive_same machines f g mail mail' quiet ds first same
-later_same machines f g mail mail' quiet (Pass.Round (suc k)) ds first same = begin_same machines f g mail mail' (Pass.Round k) ds first same
-later_same machines f g mail mail' quiet Pass.Settle ds first same = grind (arith, nat_tests, begin_same, directive_same)
+later_same machines f g mail mail' quiet p ds first same = grind (arith, nat_tests, directive_same, begin_same)
 
 following_same : (machines : ℕ) (f g : ℕ → ℕ → Option ℕ) (mail mail' : ℕ → Bool) (quiet : Bool) (t : Todo) → Agrees machines f g → SameMail machines mail mail' → All (IsTwo machines) t.pairs → All (IsBelow machines) t.machines
     → following machines f mail quiet t ≡ following machines g mail' quiet t

@@ -1,20 +1,19 @@
 -- How a boot file numbers its processes: those of each home from the first number on, in the order of the file.
-use Rattle.dm_mirror.proofs.Names.{◌≡◌, ◌≢◌, inl, inr, ℕ, ◌+◌, ◌<◌, ◌≤◌, ◌==◌, Bool, true, false, List, [], ◌∷◌, ◌++◌, length, refl, ap, ◌∙◌, sym, subst, is_some, nat_le, nat_lt, arith, ◌&&◌, if◌then◌else◌, slice_get, Option, None, Some}
-use Rattle.dm_mirror.proofs.Names.{cases_Bool, false≢true, nat_tests, Pid, pid_of, pid_eq, Process, BootImage, BootProcess, Boot, starting_at, slots_of, links_are_valid, processes_are_valid, process_is_valid, process_named, Life, bind}
-use Rattle.dm_mirror.proofs.Names.{first_life, life_at, started, started_at, pid_eq-is, both, get_some}
+use Rattle.dm_mirror.proofs.Names.{◌≡◌, inl, inr, ℕ, ◌+◌, ◌<◌, ◌≤◌, ◌==◌, Bool, true, false, List, [], ◌∷◌, ◌++◌, length, refl, ap, ◌∙◌, sym, subst, is_some, nat_le, nat_lt, arith, ◌&&◌, if◌then◌else◌, slice_get, Option, None, Some}
+use Rattle.dm_mirror.proofs.Names.{cases_Bool, nat_tests, Pid, pid_of, pid_eq, Process, BootImage, BootProcess, Boot, starting_at, slots_of, links_are_valid, processes_are_valid, process_is_valid, process_named, Life, bind, first_life}
+use Rattle.dm_mirror.proofs.Names.{life_at, started, started_at, pid_eq-is, both, get_some, ◌||◌, map, option_map, plain_link, IsValid, switchboard, manager, Alive, first_point, Known, known_at, is_server, servers_known}
+use Rattle.dm_laws.proofs.Names.{begun}
 
 -- the processes of a list by name
 life_if : (b : Boot) (p : BootProcess) (c : Bool) (o : Option BootProcess) (x : Option Life) → x ≡ bind o (first_life b) → (if c then first_life b p else x) ≡ bind (if c then Some p else o) (first_life b)
-life_if b p true o x e = refl
-life_if b p false o x e = e
+life_if b p c o x e = grind (arith, nat_tests)
 
 pub life_named : (b : Boot) (ps : List BootProcess) (q : Pid) → life_at b ps q ≡ bind (process_named q ps) (first_life b)
 life_named b [] q = refl
 life_named b (p ∷ ps) q = life_if b p (pid_eq p.pid q) (process_named q ps) (life_at b ps q) (life_named b ps q)
 
 started_if : (b : Boot) (p : BootProcess) (c : Bool) (o : Option BootProcess) (x : Option Process) → x ≡ bind o (started b) → (if c then started b p else x) ≡ bind (if c then Some p else o) (started b)
-started_if b p true o x e = refl
-started_if b p false o x e = e
+started_if b p c o x e = grind (arith, nat_tests)
 
 pub started_named : (b : Boot) (ps : List BootProcess) (q : Pid) → started_at b ps q ≡ bind (process_named q ps) (started b)
 started_named b [] q = refl
@@ -29,8 +28,7 @@ pub record Listed (b : Boot) (earlier : List BootProcess) (p : BootProcess) (ps 
   pub rest : processes_are_valid b (earlier ++ p ∷ []) ps ≡ true
 
 pub some_of : {X : Type 0} (o : Option X) → is_some o ≡ true → (x : X) × (o ≡ Some x)
-some_of None e = absurd (false≢true e)
-some_of (Some x) e = (x, refl)
+some_of o e = grind (arith, nat_tests)
 
 pub listed : (b : Boot) (earlier : List BootProcess) (p : BootProcess) (ps : List BootProcess) → processes_are_valid b earlier (p ∷ ps) ≡ true → Listed b earlier p ps
 listed b earlier p ps h =
@@ -57,8 +55,7 @@ number_of b earlier p ps q k is = sym (ap (λ (v : Pid). v.num) is) ∙ k.number
 
 -- a number below those that are left is none of theirs
 apart_by : (b : Boot) (earlier : List BootProcess) (p : BootProcess) (ps : List BootProcess) (q : Pid) (c : Bool) → pid_eq p.pid q ≡ c → Listed b earlier p ps → q.num < 3 + starting_at q.home earlier → pid_eq p.pid q ≡ false
-apart_by b earlier p ps q false e k low = e
-apart_by b earlier p ps q true e k low = absurd (let n = number_of b earlier p ps q k (pid_eq-is p.pid q e) in omega (arith, low, n))
+apart_by b earlier p ps q c e k low = grind (arith, nat_tests, number_of, pid_eq-is)
 
 pub none_below : (b : Boot) (earlier ps : List BootProcess) (q : Pid) → processes_are_valid b earlier ps ≡ true → q.num < 3 + starting_at q.home earlier → process_named q ps ≡ None
 none_below b earlier [] q h low = refl
@@ -105,10 +102,6 @@ named_is b earlier (p ∷ ps) q x h is =
     let k = listed b earlier p ps h in
     named_if b earlier p ps q x (pid_eq p.pid q) refl k is (named_is b (earlier ++ p ∷ []) ps q x k.rest)
 
--- each number that a home has given is a process's
-past_one : (b : Boot) (earlier : List BootProcess) (p : BootProcess) (ps : List BootProcess) (home n : ℕ) → Listed b earlier p ps → pid_eq p.pid (pid_of home (3 + n)) ≡ false → starting_at home earlier ≤ n → starting_at home (earlier ++ p ∷ []) ≤ n
-past_one b earlier p ps home n k apart least = grind (arith, nat_tests, starting-last)
-
 pub named_all : (b : Boot) (earlier ps : List BootProcess) (home n : ℕ) → processes_are_valid b earlier ps ≡ true → starting_at home earlier ≤ n → n < starting_at home earlier + starting_at home ps → is_some (process_named (pid_of home (3 + n)) ps) ≡ true
 named_all b earlier [] home n h least most = absurd (omega (arith, least, most))
 named_all b earlier (p ∷ ps) home n h least most = elim (cases_Bool (pid_eq p.pid (pid_of home (3 + n)))) [
@@ -117,5 +110,45 @@ named_all b earlier (p ∷ ps) home n h least most = elim (cases_Bool (pid_eq p.
       let k = listed b earlier p ps h in
       let more = starting-last home earlier p in
       ap (λ (c : Bool). is_some (if c then Some p else process_named (pid_of home (3 + n)) ps)) apart
-      ∙ named_all b (earlier ++ p ∷ []) ps home n k.rest (past_one b earlier p ps home n k apart least) (omega (arith, most, more))
+      ∙ named_all b (earlier ++ p ∷ []) ps home n k.rest (grind (arith, nat_tests, starting-last)) (omega (arith, most, more))
 ]
+
+-- What machines know at the start: the home of each process of the boot file has it, and nobody else knows anything of it.
+
+-- a process is here while it lives
+abbrev pub known_of_life : Option Life → Known
+known_of_life None = Known.Unknown
+known_of_life (Some (Alive x)) = Known.Here
+known_of_life (Some (Life.Ended y)) = Known.Ended
+
+alive_first : (b : Boot) (p : BootProcess) (i : BootImage) → slice_get b.images p.image ≡ Some i → known_of_life (first_life b p) ≡ Known.Here
+alive_first b p i there = ap (λ (o : Option BootImage). known_of_life (option_map (λ (image : BootImage). Alive (begun b.format image (map plain_link p.links))) o)) there
+
+known_first : (b : Boot) (earlier ps : List BootProcess) (m : ℕ) (q : Pid) → processes_are_valid b earlier ps ≡ true → known_at ps m q ≡ (if q.home == m then (if is_server q then Known.Here else known_of_life (life_at b ps q)) else Known.Unknown)
+known_first b earlier [] m q h = servers_known q m (is_server q) refl
+known_first b earlier (p ∷ ps) m q h = elim (cases_Bool (pid_eq p.pid q)) [
+  | inl same ↦
+      let k = listed b earlier p ps h in
+      let is : p.pid ≡ q = pid_eq-is p.pid q same in
+      let number : q.num ≡ 3 + starting_at q.home earlier = sym (ap (λ (v : Pid). v.num) is) ∙ k.number ∙ ap (λ (v : Pid). 3 + starting_at v.home earlier) is in
+      let server : is_server q ≡ false = (let e : pid_eq q switchboard ≡ false = grind (arith, nat_tests) in let d : pid_eq q manager ≡ false = grind (arith, nat_tests) in ap (λ (c : Bool). c || pid_eq q manager) e ∙ d) in
+      let life : known_of_life (life_at b (p ∷ ps) q) ≡ Known.Here = ap (λ (c : Bool). known_of_life (if c then first_life b p else life_at b ps q)) same ∙ alive_first b p k.image k.there in
+      let rest = known_first b (earlier ++ p ∷ []) ps m q k.rest in
+      ap (λ (c : Bool). if c && (p.pid.home == m) then Known.Here else known_at ps m q) same
+      ∙ ap (λ (v : Pid). if v.home == m then Known.Here else known_at ps m q) is
+      ∙ here_or (q.home == m) (known_at ps m q) (if is_server q then Known.Here else known_of_life (life_at b ps q)) rest
+      ∙ ap (λ (v : Known). if q.home == m then v else Known.Unknown) (sym life)
+      ∙ ap (λ (c : Bool). if q.home == m then (if c then Known.Here else known_of_life (life_at b (p ∷ ps) q)) else Known.Unknown) (sym server)
+  | inr apart ↦
+      let k = listed b earlier p ps h in
+      ap (λ (c : Bool). if c && (p.pid.home == m) then Known.Here else known_at ps m q) apart ∙ known_first b (earlier ++ p ∷ []) ps m q k.rest
+      ∙ ap (λ (c : Bool). if q.home == m then (if is_server q then Known.Here else known_of_life (if c then first_life b p else life_at b ps q)) else Known.Unknown) (sym apart)
+]
+  where
+    here_or : (c : Bool) (x y : Known) → x ≡ (if c then y else Known.Unknown) → (if c then Known.Here else x) ≡ (if c then Known.Here else Known.Unknown)
+    here_or true x y e = refl
+    here_or false x y e = e
+
+pub first_known : (b : Boot) (m : ℕ) (q : Pid) → IsValid b → (first_point b).view.known m q ≡ (if q.home == m then (if is_server q then Known.Here else known_of_life (bind (process_named q b.processes) (first_life b))) else Known.Unknown)
+first_known b m q valid =
+    known_first b [] b.processes m q valid.processes ∙ ap (λ (o : Option Life). if q.home == m then (if is_server q then Known.Here else known_of_life o) else Known.Unknown) (life_named b b.processes q)

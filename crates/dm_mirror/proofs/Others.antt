@@ -1,13 +1,13 @@
 -- A turn on one machine leaves the kernels of the others as they stand, and each pair.
-use Rattle.dm_mirror.proofs.Names.{◌≡◌, ◌≢◌, ℕ, zero, suc, ◌+◌, ◌≤◌, ◌==◌, Bool, true, not, List, [], ◌∷◌, map, refl, ap, ◌∙◌, sym, subst, is_some, inl, inr, arith, if◌then◌else◌, drop, take, slice_get, Option, None, Some, eqb_tells, Pid, nat_tests}
-use Rattle.dm_mirror.proofs.Names.{pid_of, Message, MsgId, Record, Process, Receiving, kept_under, Sending, Boot, first_number, id_eq-same, Point, Room, and, blocks_of, has, takes_room, taken_at, taken_by, taken_of_home, Queue, Held, Inbox}
-use Rattle.dm_mirror.proofs.Names.{Untaken, times, standing, Pair, Placed, KernelState, room_of, WorldState, AreMessages, HereStands, KnownStands, RoomStands, servers_at, KernelStands, History, PairStands}
+use Rattle.dm_mirror.proofs.Names.{◌≡◌, ◌≢◌, ℕ, zero, suc, ◌+◌, ◌≤◌, ◌==◌, true, not, List, refl, ap, ◌∙◌, sym, subst, is_some, inl, inr, arith, if◌then◌else◌, drop, take, slice_get, Option, None, Some, eqb_tells, Pid, nat_tests, pid_of}
+use Rattle.dm_mirror.proofs.Names.{Message, MsgId, Record, Process, Receiving, kept_under, Sending, Boot, first_number, Point, Room, and, blocks_of, has, takes_room, taken_at, taken_by, taken_of_home, Queue, Held, Inbox, Untaken, times}
+use Rattle.dm_mirror.proofs.Names.{standing, Pair, Placed, KernelState, room_of, WorldState, AreMessages, HereStands, KnownStands, RoomStands, servers_at, KernelStands, History, PairStands}
+pub use Rattle.dm_rule.proofs.QuietTests.{eq_not as apart_tells}
 use Rattle.dm_stream.specs.Order as order
 use Rattle.dm_onekernel.specs.Step as kernel
 use Rattle.dm_rule.specs.View as view
 use Rattle.dm_kernel.specs.State as machine
 use Rattle.dm_mirror.proofs.Turning.{Elsewhere, has_process}
-pub use Rattle.dm_rule.proofs.QuietTests.{eq_not as apart_tells}
 use Rattle.dm_mirror.proofs.Kernel.Sets.{map_same as messages_same}
 
 pub messages_stay : (f g : MsgId → Option Message) (ids : List MsgId) (ms : List Message) → ((i : MsgId) → 1 ≤ times i ids → g i ≡ f i) → AreMessages f ids ms → AreMessages g ids ms
@@ -38,14 +38,8 @@ none_taken pt n p k e z = grind (arith, nat_tests)
 taken_life : (pt next : Point) (n : ℕ) (p : Pid) → next.view.known n p ≡ pt.view.known n p → next.kernel.processes p ≡ pt.kernel.processes p → taken_by next n p ≡ taken_by pt n p
 taken_life pt next n p known life = λ i. record { slots = takes_room (known i); blocks = if takes_room (known i) == 0 then 0 else blocks_of (kernel.alive (life i)) }
 
-taken_none : (pt next : Point) (n : ℕ) (p : Pid) (k : view.Known) → pt.view.known n p ≡ k → next.view.known n p ≡ pt.view.known n p → takes_room k ≡ 0 → taken_by next n p ≡ taken_by pt n p
-taken_none pt next n p k e known z = none_taken next n p k (known ∙ e) z ∙ sym (none_taken pt n p k e z)
-
 taken_stays : (pt next : Point) (n : ℕ) (p : Pid) (k : view.Known) → pt.view.known n p ≡ k → next.view.known n p ≡ pt.view.known n p → (has_process k ≡ true → next.kernel.processes p ≡ pt.kernel.processes p) → taken_by next n p ≡ taken_by pt n p
-taken_stays pt next n p view.Here e known life = taken_life pt next n p known (life refl)
-taken_stays pt next n p (view.Frozen to) e known life = taken_life pt next n p known (life refl)
-taken_stays pt next n p (view.Incoming from) e known life = taken_life pt next n p known (life refl)
-taken_stays pt next n p any_ e known life = taken_none pt next n p any_ e known refl
+taken_stays pt next n p k e known life = grind (arith, nat_tests, taken_life, none_taken)
 
 -- processes that are made now are known to no other machine
 pub record MadeHere (m n : ℕ) (pt next : Point) : Type 0 where

@@ -1,10 +1,10 @@
 -- What a machine sends goes from it, and what that puts on the wires.
-use Rattle.dm_mirror.proofs.Names.{◌≡◌, ◌≢◌, ℕ, zero, suc, ◌==◌, ◌&&◌, Bool, true, false, List, [], ◌∷◌, ◌++◌, refl, ap, ◌∙◌, sym, subst, append_assoc, arith, ⊤, if◌then◌else◌, All, Option, None, Some, nat_tests, append-nil, All-nil}
-use Rattle.dm_mirror.proofs.Names.{All-cons, All-append, Message, Packet, Line, spelling, Sent, Data, Ack, Sending, window, due, outstanding, with_given, with_sent, with_acked, arrival, after_arrival, next, after_next, Arrived}
-use Rattle.dm_mirror.proofs.Names.{NodeState, here, with_sender, with_message, with_receiver, Out, Sends, Acted, Acts, Goes, Worn, behind, then_, acts, routes, routes_home, routes_away, gives, sends, sends_due, put_line, is_worn}
-use Rattle.dm_mirror.proofs.Names.{none_waits, count_out, again, first_out, all_out, acknowledges, before, takes_next, takes_kept, then_acknowledges, comes_in, lets_next, lets_go, with_packet, spoken, IsFresh}
+use Rattle.dm_mirror.proofs.Names.{◌≡◌, ◌≢◌, ℕ, zero, suc, ◌==◌, Bool, true, false, List, [], ◌∷◌, ◌++◌, refl, ap, ◌∙◌, sym, subst, append_assoc, arith, ⊤, if◌then◌else◌, All, Option, None, Some, nat_tests, append-nil, All-nil, All-cons}
+use Rattle.dm_mirror.proofs.Names.{All-append, Message, Packet, Line, spelling, Sent, Data, Ack, Sending, window, due, outstanding, with_given, with_sent, with_acked, arrival, after_arrival, next, after_next, Arrived, NodeState, here}
+use Rattle.dm_mirror.proofs.Names.{with_sender, with_message, with_receiver, Out, Sends, Acted, Acts, Goes, Worn, then_, acts, routes, routes_home, routes_away, gives, sends, sends_due, put_line, is_worn, none_waits, count_out, again}
+use Rattle.dm_mirror.proofs.Names.{first_out, all_out, acknowledges, before, takes_next, takes_kept, then_acknowledges, comes_in, lets_next, lets_go, with_packet, spoken, IsFresh}
+use Rattle.dm_node.proofs.Names.{behind}
 use Rattle.dm_wire.specs.Sent.{just_put}
-use Rattle.dm_wire.specs.Wire.{after_put}
 use Rattle.dm_stream.specs.Packets.{Load}
 use Rattle.dm_stream.specs.declared.receiver.Arrived.TheVariants.{Taken}
 use Rattle.dm_kernel.specs.declared.part.Part.{Part}
@@ -155,24 +155,14 @@ all_fresh c [] = All-nil IsFresh
 all_fresh c (Says l ∷ outs) = all_fresh c outs
 all_fresh c (Sends p ∷ outs) = All-append IsFresh (if to_of p == c then just_put (spelling p) ∷ [] else []) (packets_to c outs) (fresh_one (to_of p == c) (spelling p)) (all_fresh c outs)
 
--- a packet on the wires
-put_off : (packets : ℕ → ℕ → List Sent) (a b : ℕ) (bytes : List ℕ) (x y : ℕ) → x ≢ a → after_put packets a b bytes x y ≡ packets x y
-put_off packets a b bytes x y apart = grind (arith, nat_tests)
-
 put_by : (packets : ℕ → ℕ → List Sent) (a b : ℕ) (bytes : List ℕ) (y : ℕ) (c : Bool) → (if c then packets a y ++ just_put bytes ∷ [] else packets a y) ≡ packets a y ++ (if c then just_put bytes ∷ [] else [])
-put_by packets a b bytes y true = refl
-put_by packets a b bytes y false = sym (append-nil (packets a y))
-
-put_on : (packets : ℕ → ℕ → List Sent) (a b : ℕ) (bytes : List ℕ) (y : ℕ) → after_put packets a b bytes a y ≡ packets a y ++ (if b == y then just_put bytes ∷ [] else [])
-put_on packets a b bytes y = grind (arith, nat_tests, put_by)
+put_by packets a b bytes y c = grind (arith, nat_tests, append-nil)
 
 packet_off : (wires : ℕ → ℕ → List Sent) (p : Packet) (x y : ℕ) → x ≢ from_of p → with_packet wires p x y ≡ wires x y
-packet_off wires (Packet.Data a b k m) x y apart = put_off wires a b (spelling (Packet.Data a b k m)) x y apart
-packet_off wires (Packet.Ack a b k) x y apart = put_off wires a b (spelling (Packet.Ack a b k)) x y apart
+packet_off wires p x y apart = grind (arith, nat_tests)
 
 packet_on : (wires : ℕ → ℕ → List Sent) (p : Packet) (y : ℕ) → with_packet wires p (from_of p) y ≡ wires (from_of p) y ++ (if to_of p == y then just_put (spelling p) ∷ [] else [])
-packet_on wires (Packet.Data a b k m) y = put_on wires a b (spelling (Packet.Data a b k m)) y
-packet_on wires (Packet.Ack a b k) y = put_on wires a b (spelling (Packet.Ack a b k)) y
+packet_on wires p y = grind (arith, nat_tests, put_by)
 
 -- the wires behind what a machine gives
 pub spoken_off : (m : ℕ) (outs : List Out) (wires : ℕ → ℕ → List Sent) (x y : ℕ) → AreFrom m outs → x ≢ m → (spoken wires outs).wires x y ≡ wires x y

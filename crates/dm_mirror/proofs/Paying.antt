@@ -1,7 +1,7 @@
 -- Where a turn raises a count, it routes a message.
 use Rattle.dm_mirror.proofs.Names.{◌≡◌, ◌⊎◌, inl, inr, ℕ, ◌+◌, ◌==◌, Bool, true, false, List, [], ◌∷◌, length, refl, ap, ◌∙◌, sym, subst, arith, ⊤, if◌then◌else◌, slice_get, Option, None, Some, Pid, pid_eq, pid_of, MsgId, Why, PlainMessage}
 use Rattle.dm_mirror.proofs.Names.{PlainWhat, instruction, Boot, BootImage, Label, first_number, switchboard, manager, bind, PlainProcess, PlainStatus, Ready, Waiting, Moving, Alive, OneKernel, answer_id, alive-is, Line, Point, label_of}
-use Rattle.dm_mirror.proofs.Names.{kernel_after, Part, Says, Routes, Again, Owns, Transmits, IsNetLine, IsNet, Addresses, Sender, is_told_back, forwards_on, plain_kind, MessageKind}
+use Rattle.dm_mirror.proofs.Names.{kernel_after, Part, Says, Routes, Again, Owns, Transmits, IsNetLine, IsNet, Addresses, Sender, is_told_back, forwards_on, plain_kind, MessageKind, nat_tests}
 use Rattle.dm_onekernel.specs.Calls as calls
 use Rattle.dm_onekernel.specs.Pieces as pieces
 use Rattle.dm_onekernel.specs.Receiving as receiving
@@ -10,10 +10,9 @@ use Rattle.dm_onekernel.specs.Manager as manage
 use Rattle.dm_onekernel.specs.Step as kernel
 use Rattle.dm_rule.specs.Rule as rule
 use Rattle.dm_rule.specs.View as view
-use Rattle.dm_mirror.proofs.Counts.Still.{is_free}
 use Rattle.dm_mirror.proofs.Raises.{Within, ran_raises, call_raises, send_raises, wait_raises, out_raises, end_raises, receive_raises, refuse_raises}
-use Rattle.dm_mirror.proofs.RaisesServed.{landed_raise, served_raise, sent_raise, dropped_raises, gone_raises, no_space_raises, served_raises}
-use Rattle.dm_mirror.proofs.RaisesMade.{board_raise, manager_raise, took_raise, took_raises, created_makes}
+use Rattle.dm_mirror.proofs.RaisesMade.{board_raise, manager_raise, took_raise, took_raises, created_makes, landed_raise, served_raise, sent_raise, dropped_raises, gone_raises, no_space_raises, served_raises}
+use Rattle.dm_mirror.proofs.Counts.Pairs.{is_free}
 
 -- nothing is left but one message to route
 abbrev pub RoutesOne : List Part → Type 0
@@ -226,22 +225,10 @@ mute_paid (Transmits a c l ∷ ps) s h = mute_paid ps s h
 
 -- deliveries and ticks are no steps
 net_label : (l : Line) → IsNetLine l → label_of l ≡ None
-net_label (Line.Taken a c n) is = refl
-net_label (Line.Old a c n) is = refl
-net_label (Line.Early a c n) is = refl
-net_label (Line.Acked a c n) is = refl
-net_label Line.Nothing is = refl
-net_label (Line.Resent n c) is = refl
-net_label _ is = absurd is
+net_label l is = grind (arith, nat_tests)
 
 net_free : (l : Line) → IsNetLine l → is_free l ≡ true
-net_free (Line.Taken a c n) is = refl
-net_free (Line.Old a c n) is = refl
-net_free (Line.Early a c n) is = refl
-net_free (Line.Acked a c n) is = refl
-net_free Line.Nothing is = refl
-net_free (Line.Resent n c) is = refl
-net_free _ is = absurd is
+net_free l is = grind (arith, nat_tests)
 
 pub net_paid : (ps : List Part) (s : OneKernel) → IsNet ps → Paid s ps
 net_paid [] s is = tt

@@ -1,16 +1,14 @@
 -- A packet goes on the wire of a pair: the world has it, and so have the lines.
-use Rattle.dm_mirror.proofs.Names.{◌≡◌, ◌≢◌, ℕ, ◌+◌, ◌≤◌, ◌==◌, ◌&&◌, Bool, true, false, List, [], ◌∷◌, ◌++◌, length, refl, ap, ◌∙◌, sym, subst, if◌then◌else◌, Option, Some, eqb-true, eq-eqb, length-map, Message, Sending, Stream, spelling, arith, nat_tests}
-use Rattle.dm_mirror.proofs.Names.{Boot, bind, NodeState, Out, Sends, Spoken, spoken, says, with_packet, Line, at_machine, at_pair, Load, Spot, Queue, Untaken, standing, times, About, Pair, View, after_packet, begins, pair_keeps, MsgId}
-use Rattle.dm_mirror.proofs.Names.{Part, Spelled, lines_of, spelled, Point, after, two_of, Placed, WorldState, History, NodeStands, PairStands, StandsWith, load_of, stream_of}
-use Rattle.dm_stream.specs.Packets as stream
-use Rattle.dm_wire.specs.Sent as wire
+use Rattle.dm_mirror.proofs.Names.{◌≡◌, ◌≢◌, ℕ, ◌+◌, ◌≤◌, ◌==◌, ◌&&◌, Bool, false, List, [], ◌∷◌, ◌++◌, length, refl, ap, ◌∙◌, sym, subst, if◌then◌else◌, Some, eqb-true, eq-eqb, length-map, Message, Sending, Stream, spelling, arith}
+use Rattle.dm_mirror.proofs.Names.{nat_tests, Boot, NodeState, Out, Sends, Spoken, spoken, says, with_packet, Line, at_machine, at_pair, Load, Spot, standing, About, Pair, View, after_packet, begins, pair_keeps, MsgId, Part, Spelled}
+use Rattle.dm_mirror.proofs.Names.{lines_of, spelled, Point, after, two_of, Placed, WorldState, History, NodeStands, PairStands, StandsWith, load_of, stream_of, packet_of_load, behind}
 use Rattle.dm_wire.specs.Wire.{after_put}
 use Rattle.dm_node.specs.declared.out.Out.TheVariants.{Says}
-use Rattle.dm_node.specs.Out.{packet_of_load}
 use Rattle.dm_node.specs.Wired.{packet_line}
-use Rattle.dm_rule.specs.Parts.{behind}
-use Rattle.dm_mirror.proofs.Streams.{Joined, pair_stands, pair_stays, with_back, with_bytes, with_line}
-use Rattle.dm_mirror.proofs.Stays.{apart_is, at_here, at_other, both_false, mirrors_same, node_same, nodes_are, pair_here, pair_other, pairs_are, swapped, tokens_same}
+use Rattle.dm_stream.specs.Packets as stream
+use Rattle.dm_wire.specs.Sent as wire
+use Rattle.dm_mirror.proofs.Streams.{Joined, pair_stands, pair_stays, with_back, with_bytes, with_line, apart_is, at_here, at_other, mirrors_same, node_same, nodes_are, pair_here, pair_other, pairs_are, swapped, tokens_same}
+use Rattle.dm_mirror.proofs.Kernel.Sets.{left_off as both_false}
 
 -- the parts of a group, one after the other
 pub spelled_on : (pt next : Point) (p : Part) (ls : List Line) (ps : List Part) (w : Spelled) → lines_of pt p ≡ Some ls → after pt ls ≡ Some next → spelled next ps ≡ Some w → spelled pt (p ∷ ps) ≡ Some (behind ls w)
@@ -27,27 +25,21 @@ spoken-append wires (Sends p ∷ xs) ys = ap (says (packet_line wires p)) (spoke
 
 -- the wire with a packet of this load
 pub wires_put : (wires : ℕ → ℕ → List wire.Sent) (a c : ℕ) (l : stream.Load Message) (x y : ℕ) → with_packet wires (packet_of_load a c l) x y ≡ after_put wires a c (spelling (packet_of_load a c l)) x y
-wires_put wires a c (stream.Data n m) x y = refl
-wires_put wires a c (stream.Ack n) x y = refl
-
-wire_here : (wires : ℕ → ℕ → List wire.Sent) (a c : ℕ) (l : stream.Load Message) → with_packet wires (packet_of_load a c l) a c ≡ with_bytes a c (wires a c) l
-wire_here wires a c l = grind (arith, nat_tests, wires_put, eq-eqb)
+wires_put wires a c l x y = grind (arith, nat_tests)
 
 wire_other : (wires : ℕ → ℕ → List wire.Sent) (a c : ℕ) (l : stream.Load Message) (x y : ℕ) → ((a == x) && (c == y)) ≡ false → with_packet wires (packet_of_load a c l) x y ≡ wires x y
 wire_other wires a c l x y e = wires_put wires a c l x y ∙ ap (λ (t : Bool). if t then wires x y ++ wire.just_put (spelling (packet_of_load a c l)) ∷ [] else wires x y) e
 
 -- the line is the same
 pub line_put : (wires : ℕ → ℕ → List wire.Sent) (a c k : ℕ) (l : stream.Load Message) → length (wires a c) ≡ k → packet_line wires (packet_of_load a c l) ≡ Line.Packet a c k (load_of l)
-line_put wires a c k (stream.Data n m) e = ap (λ (z : ℕ). Line.Packet a c z (Load.Data n)) e
-line_put wires a c k (stream.Ack n) e = ap (λ (z : ℕ). Line.Packet a c z (Load.Ack n)) e
+line_put wires a c k l e = grind (arith, nat_tests)
 
 pub wire_length : (b : Boot) (pt : Point) (l : Placed) (w : WorldState) (h : History) (a c : ℕ) → PairStands b pt l w h a c → length (w.wires a c) ≡ length (pt.view.pair a c).wire
 wire_length b pt l w h a c s = ap length s.bytes ∙ length-map (h.packets a c) _ ∙ sym (ap length (sym s.packets) ∙ length-map (h.packets a c) _)
 
 -- a pair that is set has the messages that it had
 pub ids_if : (f : ℕ → ℕ → Pair) (a c : ℕ) (p : Pair) (x y : ℕ) (t : Bool) → ((a == x) && (c == y)) ≡ t → p.ids ≡ (f a c).ids → (if t then p else f x y).ids ≡ (f x y).ids
-ids_if f a c p x y true e same = let k = two_of a c x y e in same ∙ (λ i. (f (k.0 i) (k.1 i)).ids)
-ids_if f a c p x y false e same = refl
+ids_if f a c p x y t e same = grind (arith, nat_tests, two_of)
 
 pub ids_same : (f : ℕ → ℕ → Pair) (a c : ℕ) (p : Pair) → p.ids ≡ (f a c).ids → (x y : ℕ) → (at_pair f a c p x y).ids ≡ (f x y).ids
 ids_same f a c p same x y = ids_if f a c p x y ((a == x) && (c == y)) refl same
@@ -62,13 +54,10 @@ pub same_senders : (w : WorldState) (m c : ℕ) → Senders w m c w.nodes ((w.no
 same_senders w m c = record { here = refl; others = λ a d e. refl; receivers = λ a d. refl }
 
 sender_if : (f : ℕ → NodeState) (m c : ℕ) (n : NodeState) (s : Sending Message) (a d : ℕ) (t u : Bool) → (m == a) ≡ t → (c == d) ≡ u → n.senders ≡ at_machine (f m).senders c s → (t && u) ≡ false → (if t then n else f a).senders d ≡ (f a).senders d
-sender_if f m c n s a d true true e g is off = cc
-sender_if f m c n s a d true false e g is off = (λ i. is i d) ∙ at_other (f m).senders c s d g ∙ (λ i. (f (eqb-true m a e i)).senders d)
-sender_if f m c n s a d false u e g is off = refl
+sender_if f m c n s a d t u e g is off = grind (arith, nat_tests, at_other, eqb-true)
 
 receiver_if : (f : ℕ → NodeState) (m : ℕ) (n : NodeState) (a d : ℕ) (t : Bool) → (m == d) ≡ t → n.receivers ≡ (f m).receivers → (if t then n else f d).receivers a ≡ (f d).receivers a
-receiver_if f m n a d true e is = (λ i. is i a) ∙ (λ i. (f (eqb-true m d e i)).receivers a)
-receiver_if f m n a d false e is = refl
+receiver_if f m n a d t e is = grind (arith, nat_tests, eqb-true)
 
 pub one_sender : (w : WorldState) (m c : ℕ) (n : NodeState) (s : Sending Message) → n.senders ≡ at_machine (w.nodes m).senders c s → n.receivers ≡ (w.nodes m).receivers → Senders w m c (at_machine w.nodes m n) s
 one_sender w m c n s is same = record {
@@ -103,7 +92,7 @@ pairs_put b pt l w h m c nodes s ld apart senders there back =
       given = refl;
       out = pair_here h.packets m c _;
       back = pair_other h.packets m c _ c m off;
-      wire = wire_here w.wires m c ld;
+      wire = grind (arith, nat_tests, wires_put, eq-eqb);
       pair = pair_here pt.view.pair m c _;
     }) there)
     (pair_stands b (point_put pt m c ld) l (world_put w m c nodes ld) (with_put h m c ld) c m (with_back (stream_of w h c m) ld) (w.wires c m) (pt.view.pair c m) (record {
@@ -127,8 +116,7 @@ pairs_put b pt l w h m c nodes s ld apart senders there back =
 
 -- a packet moves no message
 pub put_standing : (v : View) (a c : ℕ) (ld : Load) (i : MsgId) (z : Spot) → standing (after_packet v a c ld) i z ≡ standing v i z
-put_standing v a c ld i (Untaken d e) = ap (times i) (pair_keeps v.pair a c (with_line (v.pair a c) ld) refl d e)
-put_standing v a c ld i _ = refl
+put_standing v a c ld i z = grind (arith, nat_tests, pair_keeps)
 
 -- the world stands for the point behind the packet
 pub stands_put : (b : Boot) (pt : Point) (l : Placed) (w : WorldState) (h : History) (m c : ℕ) (nodes : ℕ → NodeState) (s : Sending Message) (ld : stream.Load Message) → m ≢ c → Senders w m c nodes s
@@ -149,8 +137,7 @@ stands_put b pt l w h m c nodes s ld apart senders others records here there bac
     }
 
 begins_standing : (v : View) (m : ℕ) (a : About) (i : MsgId) (z : Spot) → standing (begins v m a) i z ≡ standing v i z
-begins_standing v m a i (Queue n p) = refl
-begins_standing v m a i _ = refl
+begins_standing v m a i z = grind (arith, nat_tests)
 
 -- behind the head of a directive the world stands
 pub stands_begins : (b : Boot) (w : WorldState) (pt : Point) (l : Placed) (h : History) (m : ℕ) (a : About) → StandsWith b w pt l h → StandsWith b (record w { groups = w.groups + 1 }) (record pt { view = begins pt.view m a }) l h

@@ -1,10 +1,8 @@
 -- Whether anything is on its way, and whether a machine has mail, is what the printed lines say.
-use Rattle.dm_mirror.proofs.Names.{◌≡◌, ◌≢◌, ℕ, suc, ◌-◌, ◌<◌, ◌≤◌, ◌==◌, ◌&&◌, Bool, true, false, not, List, map, length, nat_lt, refl, ap, ◌∙◌, sym, subst, arith, ◌||◌, Some, nat_tests, length-map, Message, MsgId, Boot, IsValid, Step}
-use Rattle.dm_mirror.proofs.Names.{all_below, all_same, Leads, HomeStands, Point, first_point, has_mail, is_quiet, pair_is_quiet, Pair, pairs_stand_always, passes_quiet, quiet_passes, Placed, WorldState, MailIsSaid, QuietIsSaid, History}
-use Rattle.dm_mirror.proofs.Names.{PairStands, Stands, StandsWith}
-use Rattle.std.proofs.Common.{length-drop}
+use Rattle.dm_mirror.proofs.Names.{◌≡◌, ◌≢◌, ℕ, suc, ◌<◌, ◌==◌, ◌&&◌, Bool, true, false, not, List, map, length, nat_lt, refl, ap, ◌∙◌, sym, subst, arith, ◌||◌, Some, nat_tests, length-map, Message, MsgId, Boot, IsValid, Step, all_below}
+use Rattle.dm_mirror.proofs.Names.{all_same, Leads, HomeStands, Point, first_point, has_mail, is_quiet, pair_is_quiet, Pair, pairs_stand_always, passes_quiet, quiet_passes, Placed, WorldState, MailIsSaid, QuietIsSaid, History, PairStands}
+use Rattle.dm_mirror.proofs.Names.{Stands, StandsWith}
 use Rattle.dm_world.specs.Next as world
-use Rattle.dm_mirror.specs.Stands.{message_id}
 use Rattle.dm_mirror.proofs.Machines.{machines_are}
 
 -- as many messages as names
@@ -18,22 +16,14 @@ mail_same b w pt l h m small s = ap (nat_lt 0) (as_many l.bag Some (pt.view.inbo
 home_quiet : (p : Pair) → HomeStands p → pair_is_quiet true p ≡ true
 home_quiet p h = let e = h.taken in let f : (p.taken == length p.ids) ≡ true = grind (arith, nat_tests) in ap (λ (t : Bool). t && true) f
 
--- between different machines nothing is on its way exactly where the sender keeps nothing
-kept_quiet : (k taken acked n : ℕ) → acked ≤ taken → taken ≤ n → k ≡ n - acked → (k == 0) ≡ ((taken == n) && (acked == n))
-kept_quiet k taken acked n h g e = grind (arith, nat_tests)
-
-pair_quiet : (b : Boot) (w : WorldState) (pt : Point) (l : Placed) (h : History) (a c : ℕ) → PairStands b pt l w h a c → (length ((w.nodes a).senders c).unacked == 0) ≡ (((pt.view.pair a c).taken == length (pt.view.pair a c).ids) && ((pt.view.pair a c).acked == length (pt.view.pair a c).ids))
-pair_quiet b w pt l h a c p = grind (arith, nat_tests, length-map, length-drop, kept_quiet)
-
 heard_same : (b : Boot) (w : WorldState) (pt : Point) (l : Placed) (h : History) (a c : ℕ) (same : Bool) → (a == c) ≡ same → (same ≡ true → HomeStands (pt.view.pair a c)) → (same ≡ false → PairStands b pt l w h a c)
     → (same || (length ((w.nodes a).senders c).unacked == 0)) ≡ pair_is_quiet same (pt.view.pair a c)
-heard_same b w pt l h a c true e home apart = sym (home_quiet (pt.view.pair a c) (home refl))
-heard_same b w pt l h a c false e home apart = pair_quiet b w pt l h a c (apart refl)
+heard_same b w pt l h a c same e home apart = grind (arith, nat_tests, home_quiet, length-map)
 
 is_home : (v : ℕ → ℕ → Pair) (a c : ℕ) → (a == c) ≡ true → HomeStands (v a a) → HomeStands (v a c)
 is_home v a c e h = let same : a ≡ c = grind (arith, nat_tests) in subst (λ (k : ℕ). HomeStands (v a k)) same h
 
-not_same : (a c : ℕ) → (a == c) ≡ false → a ≢ c
+pub not_same : (a c : ℕ) → (a == c) ≡ false → a ≢ c
 not_same a c e = grind (arith, nat_tests)
 
 pub quiet_same : (b : Boot) (es : List Step) (w : WorldState) (pt : Point) → IsValid b → Leads b (first_point b) es pt → Stands b w pt → world.world_is_quiet (length b.machines) w ≡ is_quiet (length b.machines) pt.view

@@ -1,6 +1,6 @@
 -- How much a step of the kernel without machines raises its counts, and which processes there are behind it: what processes say.
-use Rattle.dm_mirror.proofs.Names.{◌≡◌, ℕ, ◌+◌, ◌≤◌, Bool, true, false, refl, ap, ◌∙◌, sym, subst, is_some, arith, length, if◌then◌else◌, Option, None, Some, Pid, pid_eq, MsgId, Label, Called, Reply, Why, bind, PlainProcess, PlainStatus, nat_tests}
-use Rattle.dm_mirror.proofs.Names.{Ready, Life, Alive, Switchboard, Manager, OneKernel, with_process, without_message, pid_eq-is, bind-is, when-is, Nexts, nexts, alive-is, Completing, completing}
+use Rattle.dm_mirror.proofs.Names.{◌≡◌, ℕ, ◌+◌, ◌≤◌, Bool, true, refl, ap, ◌∙◌, subst, is_some, arith, length, if◌then◌else◌, Option, None, Some, Pid, pid_eq, MsgId, Label, Called, Reply, Why, bind, PlainProcess, PlainStatus, nat_tests}
+use Rattle.dm_mirror.proofs.Names.{Life, Alive, Switchboard, Manager, OneKernel, with_process, without_message, pid_eq-is, bind-is, when-is, Nexts, nexts, alive-is, Completing, completing}
 use Rattle.dm_onekernel.specs.Kernel.{Ended, with_sent}
 use Rattle.dm_onekernel.specs.Receiving as receiving
 use Rattle.dm_onekernel.specs.Step as step
@@ -50,12 +50,10 @@ bag_raises s t processes made board manager machines =
 
 -- a process is set
 set_sent : (s : OneKernel) (p q : Pid) (life : Life) (k : ℕ) (c : Bool) → pid_eq p q ≡ c → sent_of (Some life) ≤ sent_of (s.processes p) + k → sent_of (if c then Some life else s.processes q) ≤ sent_of (s.processes q) + k
-set_sent s p q life k true e le = subst (λ (v : Pid). sent_of (Some life) ≤ sent_of (s.processes v) + k) (pid_eq-is p q e) le
-set_sent s p q life k false e le = omega arith
+set_sent s p q life k c e le = grind (arith, nat_tests, pid_eq-is)
 
 set_lives : (s : OneKernel) (p q : Pid) (life : Life) (c : Bool) → pid_eq p q ≡ c → is_some (s.processes p) ≡ true → is_some (if c then Some life else s.processes q) ≡ is_some (s.processes q)
-set_lives s p q life true e there = sym (ap (λ (v : Pid). is_some (s.processes v)) (sym (pid_eq-is p q e)) ∙ there)
-set_lives s p q life false e there = refl
+set_lives s p q life c e there = grind (arith, nat_tests, pid_eq-is)
 
 pub set_raises : (s t : OneKernel) (p : Pid) (x : PlainProcess) (life : Life) (k : ℕ) → s.processes p ≡ Some (Alive x) → sent_of (Some life) ≤ x.sent + k → ((q : Pid) → t.processes q ≡ (with_process s p life).processes q) → ((h : ℕ) → t.made h ≡ s.made h)
     → t.switchboard ≡ s.switchboard → t.manager ≡ s.manager → t.machines ≡ s.machines → Raises k s t
@@ -83,21 +81,16 @@ goes_raises s t p x y e is sent = subst (Raises 0 s) e (set_raises s (step.goes_
 
 -- the rows of processes
 stopped_is : (y : PlainProcess) (c : Bool) (x : PlainProcess) → (if c then None else Some y) ≡ Some x → y ≡ x
-stopped_is y true x e = cc
-stopped_is y false x e = cc
+stopped_is y c x e = grind (arith, nat_tests)
 
 ready_is : (y : PlainProcess) (st : PlainStatus) (x : PlainProcess) → step.if_ready y st ≡ Some x → y ≡ x
-ready_is y Ready x e = stopped_is y y.stopped x e
-ready_is y _ x e = cc
-
-runs_alive : (s : OneKernel) (p : Pid) (x : PlainProcess) → step.running s p ≡ Some x → s.processes p ≡ Some (Alive x)
-runs_alive s p x e = grind (arith, nat_tests, bind-is, alive-is, ready_is)
+ready_is y st x e = grind (arith, nat_tests, stopped_is)
 
 pub ran_raises : (s t : OneKernel) (p : Pid) (k : ℕ) → step.step s (Label.Ran p k) ≡ Some t → Raises 0 s t
 ran_raises s t p k is =
     let (x, running, rest) = bind-is (step.running s p) (λ v. bind (step.plain_steps k (step.machine_of v)) (λ m. Some (step.goes_on s p (step.with_machine v m)))) t is in
     let (m, plain, last) = bind-is (step.plain_steps k (step.machine_of x)) (λ m. Some (step.goes_on s p (step.with_machine x m))) t rest in
-    goes_raises s t p x (step.with_machine x m) (let e : step.goes_on s p (step.with_machine x m) ≡ t = cc in e) (runs_alive s p x running) refl
+    goes_raises s t p x (step.with_machine x m) (let e : step.goes_on s p (step.with_machine x m) ≡ t = cc in e) (grind (arith, nat_tests, bind-is, alive-is, ready_is)) refl
 
 replies_raise : (s t : OneKernel) (p : Pid) (n : ℕ) (c : Reply) (next : step.Trap) → Nexts s p next → step.replies s p n c next ≡ Some t → Raises 0 s t
 replies_raise s t p n c (step.Calls number (Called.Replies reply y)) w is =

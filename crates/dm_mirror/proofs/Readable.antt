@@ -2,12 +2,12 @@
 use Rattle.dm_mirror.proofs.Names.{◌≡◌, ℕ, ◌+◌, List, [], ◌∷◌, refl, subst, Option, None, Some, Result, Err, Packet, Line, PacketError, packet_of, Data, Ack, bytes_at, after_mark, Boot, Step, Turned, Acts, Goes, Worn, StaysAt}
 use Rattle.dm_mirror.proofs.Names.{asks_move_stays, turn_stays, WorldState, Said, acted, delivers, reads, world_step, MayDeliver, MayRead, MayStep, AreReadBack, IsReadable, gave, gave_bytes, gave_read, gave_some}
 use Rattle.std.specs.declared.result.Result.TheVariants.{Ok}
+use Rattle.dm_world.specs.World.{Says, turned}
 use Rattle.dm_kernel.specs.Asking as asking
 use Rattle.dm_kernel.specs.Turn as kernel
 use Rattle.dm_node.specs.Acts as node
 use Rattle.dm_node.specs.May as node_may
-use Rattle.dm_world.specs.World.{Says, turned}
-use Rattle.dm_mirror.proofs.Deliver.Keeps.{arrival_readable, tick_readable, turn_readable}
+use Rattle.dm_mirror.proofs.Deliver.Outs.{arrival_readable, tick_readable, turn_readable}
 
 -- a turn, or what the manager tells a process
 acts_readable : (w : WorldState) (e : Step) (m : ℕ) (t : Turned) (a : Acts) (s : Said) → t.state.here ≡ (w.nodes m).kernel.here → node.acts (record (w.nodes m) { kernel = t.state }) t.parts ≡ a → turned w e m (Some a) ≡ Some (Says s)

@@ -9,9 +9,6 @@ home_apart home n p h e = h (ap (λ (q : Pid). q.home) e)
 number_apart : (home n : ℕ) (p : Pid) → n ≢ p.num → pid_of home n ≢ p
 number_apart home n p h e = h (ap (λ (q : Pid). q.num) e)
 
-number_same : (p : Pid) (n : ℕ) → p.num ≡ n → pid_of p.home n ≡ p
-number_same p n e = λ i. record { home = p.home; num = sym e i }
-
 -- the first processes of a home take the same
 same_home : (pt next : Point) (m home n : ℕ) → ((k : ℕ) → k < n → taken_by next m (pid_of home (first_number + k)) ≡ taken_by pt m (pid_of home (first_number + k)))
     → taken_of_home next m home n ≡ taken_of_home pt m home n
@@ -32,8 +29,7 @@ same_homes pt next m (suc home) f = λ i. and (same_homes pt next m home (λ k h
 -- two points whose machine m has the same of each process take the same there
 pub taken_same : (pt next : Point) (m : ℕ) → next.kernel.machines ≡ pt.kernel.machines → ((h : ℕ) → next.kernel.made h ≡ pt.kernel.made h)
     → ((p : Pid) → taken_by next m p ≡ taken_by pt m p) → taken_at next m next.kernel.machines ≡ taken_at pt m pt.kernel.machines
-taken_same pt next m machines made same =
-    ap (taken_at next m) machines ∙ same_homes pt next m pt.kernel.machines (λ home h. same_made pt next m home (made home) (λ n. same (pid_of home n)))
+taken_same pt next m machines made same = grind (arith, nat_tests, same_homes, same_made)
 
 -- n takes y where o took x
 record Changed (o n x y : Room) : Type 0 where
@@ -72,7 +68,7 @@ changed_home pt next m p zero first below others = absurd (omega (arith, first, 
 changed_home pt next m p (suc n) first below others =
     elim (eqb_tells p.num (first_number + n)) [
       | inl e ↦
-          let same : pid_of p.home (first_number + n) ≡ p = number_same p (first_number + n) e.1 in
+          let same : pid_of p.home (first_number + n) ≡ p = λ i. record { home = p.home; num = sym e.1 i } in
           changed_second (taken_by pt m (pid_of p.home (first_number + n))) (taken_by next m (pid_of p.home (first_number + n))) (taken_by pt m p) (taken_by next m p)
           (taken_of_home pt m p.home n) (taken_of_home next m p.home n)
           (changed_itself (taken_by pt m (pid_of p.home (first_number + n))) (taken_by next m (pid_of p.home (first_number + n))) (taken_by pt m p) (taken_by next m p) (ap (taken_by pt m) same) (ap (taken_by next m) same))

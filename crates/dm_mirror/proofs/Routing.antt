@@ -1,21 +1,22 @@
 -- A message that is routed: the machine and the rule do the same, or both stop where the pair is full.
 use Rattle.dm_mirror.proofs.Names.{◌≡◌, ◌≢◌, ℕ, ◌+◌, ◌-◌, ◌<◌, ◌≤◌, ◌==◌, ◌&&◌, nat_lt, Bool, true, false, List, [], ◌∷◌, ◌++◌, length, refl, ap, ◌∙◌, sym, subst, arith, inl, inr, if◌then◌else◌, slice_get, Option, None, Some, eqb-true}
-use Rattle.dm_mirror.proofs.Names.{nat_tests, Message, kind_of, IsLawfulMessage, Sending, due, given_count, numbered, with_given, Boot, NodeState, here, Out, Sends, Acts, Goes, Worn, behind, gives, is_worn, none_waits, put_line, routes}
+use Rattle.dm_mirror.proofs.Names.{nat_tests, Message, kind_of, IsLawfulMessage, Sending, due, given_count, numbered, with_given, Boot, NodeState, here, Out, Sends, Acts, Goes, Worn, gives, is_worn, none_waits, put_line, routes}
 use Rattle.dm_mirror.proofs.Names.{routes_away, routes_home, sends_due, Line, or, after_put, view_after, goes_out, Point, moved, at_machine, PairsFit, Sane, is_full, worn_in, Placed, WorldState, History, PairStands, StandsWith, AllRecords}
+use Rattle.dm_mirror.proofs.Names.{map, OneKernel, bind, bind-is, Two, Spelled, spelled, label_of, kernel_after, after_line, after, View, full_pair, is_put, AllSayable, sane_line, Sent, acts, says, spoken, packet_of_load}
+use Rattle.dm_node.proofs.Names.{behind}
 use Rattle.dm_stream.specs.Packets.{Load}
 use Rattle.dm_node.specs.declared.out.Out.TheVariants.{Says}
-use Rattle.dm_node.specs.Out.{packet_of_load}
+use Rattle.dm_kernel.specs.declared.part.Part.{Part}
 use Rattle.dm_line.specs.declared.line.Load.TheVariants as load
 use Rattle.dm_rule.specs.Parts as rule
-use Rattle.dm_mirror.proofs.Route.Goes.{RouteGoes, RouteOn, RouteWorn, with_acted}
-use Rattle.dm_mirror.proofs.Stays.{apart_is}
 use Rattle.dm_mirror.proofs.Puts.{point_put, wire_length, with_put}
 use Rattle.dm_mirror.proofs.Giving.{with_gift, count_given, node_gave, node_went, same_records, stands_gave, stands_went, world_gave}
 use Rattle.dm_mirror.proofs.Turning.{Route, MayPut, message_of, rule_part_of}
-use Rattle.dm_mirror.proofs.Route.Core.{CoreStands, core_more, core_of}
-use Rattle.dm_mirror.proofs.Route.Puts.{after_route, route_more, route_there, stands_routed}
-use Rattle.dm_mirror.proofs.Putting.{line_put, lines_put, packet_with, part_is, put_end, put_point}
+use Rattle.dm_mirror.proofs.Route.Puts.{after_route, route_more, route_there, stands_routed, RouteGoes, RouteOn, RouteWorn, with_acted, CoreStands, core_more, core_of}
 use Rattle.dm_mirror.proofs.Home.{node_home, stands_home}
+use Rattle.dm_mirror.proofs.Streams.{apart_is}
+use Rattle.dm_mirror.proofs.Join.{line_put, lines_put, part_is, put_end, put_point}
+use Rattle.dm_mirror.proofs.Route.Parts.{Next, next_of}
 
 -- what the machine does, by its tests
 route_if : (n : NodeState) (x : Message) (t : Bool) → (x.to.at == here n) ≡ t → routes n x ≡ (if t then routes_home n x (n.home == n.numbers) else routes_away n x.to.at x (n.senders x.to.at))
@@ -27,14 +28,10 @@ home_if n x u e f = route_if n x true e ∙ ap (routes_home n x) f
 away_if : (n : NodeState) (x : Message) (u : Bool) → (x.to.at == here n) ≡ false → is_worn (n.senders x.to.at) ≡ u → routes n x ≡ (if u then Worn (here n) x.to.at else gives n x.to.at x (n.senders x.to.at) (none_waits (n.senders x.to.at)))
 away_if n x u e f = route_if n x false e ∙ ap (λ (t : Bool). if t then Worn (here n) x.to.at else gives n x.to.at x (n.senders x.to.at) (none_waits (n.senders x.to.at))) f
 
--- the machine's tests of the window are the rule's
-window_same : (g a : ℕ) → nat_lt (g - a) 8 ≡ nat_lt g (a + 8)
-window_same g a = grind (arith, nat_tests)
-
 goes_same : (b : Boot) (pt : Point) (l : Placed) (w : WorldState) (h : History) (m c : ℕ) → PairStands b pt l w h m c → goes_out (pt.view.pair m c) ≡ (none_waits ((w.nodes m).senders c) && nat_lt ((w.nodes m).senders c).gone (((w.nodes m).senders c).acked + 8))
 goes_same b pt l w h m c s =
     (λ i. (sym s.gone i == sym (count_given b pt l w h m c s) i) && nat_lt (sym s.gone i - sym s.acked i) 8)
-    ∙ ap (λ (t : Bool). none_waits ((w.nodes m).senders c) && t) (window_same ((w.nodes m).senders c).gone ((w.nodes m).senders c).acked)
+    ∙ ap (λ (t : Bool). none_waits ((w.nodes m).senders c) && t) (grind (arith, nat_tests))
 
 get_last : (xs : List Message) (x : Message) (k : ℕ) → k ≡ length xs → slice_get (xs ++ x ∷ []) k ≡ Some x
 get_last xs x k e = ap (slice_get (xs ++ x ∷ [])) e ∙ last xs
@@ -42,10 +39,6 @@ get_last xs x k e = ap (slice_get (xs ++ x ∷ [])) e ∙ last xs
     last : (ys : List Message) → slice_get (ys ++ x ∷ []) (length ys) ≡ Some x
     last [] = refl
     last (y ∷ ys) = last ys
-
--- the new message is due, or the window is full
-due_new : (s : Sending Message) (x : Message) → none_waits s ≡ true → nat_lt s.gone (s.acked + 8) ≡ true → due (with_given s x) ≡ Some (s.gone, x)
-due_new s x none win = grind (arith, nat_tests, slice_get, get_last)
 
 due_none : (s : Sending Message) (x : Message) → nat_lt s.gone (s.acked + 8) ≡ false → due (with_given s x) ≡ None
 due_none s x win = ap (λ (t : Bool). if t then numbered s.gone (slice_get (s.unacked ++ x ∷ []) (s.gone - s.acked)) else None) win
@@ -56,9 +49,7 @@ worn_first numbers pt m c x home out ls full = grind (arith, nat_tests)
 
 -- and a put on a pair that isn't full is none
 pub worn_past : (numbers : ℕ) (pt : Point) (m c : ℕ) (x : Message) (home out : Bool) (ls : List Line) → is_full numbers pt.view m c ≡ false → worn_in numbers pt.view (lines_put pt m c x home out ++ ls) ≡ worn_in numbers (put_end pt m c x home out).view ls
-worn_past numbers pt m c x true out ls open_ = ap (λ (t : Bool). or (if t then Some (record { from = m; to = c }) else None) (worn_in numbers (view_after pt.view (line_put m c x)) ls)) open_
-worn_past numbers pt m c x false false ls open_ = ap (λ (t : Bool). or (if t then Some (record { from = m; to = c }) else None) (worn_in numbers (view_after pt.view (line_put m c x)) ls)) open_
-worn_past numbers pt m c x false true ls open_ = ap (λ (t : Bool). or (if t then Some (record { from = m; to = c }) else None) (worn_in numbers (view_after pt.view (line_put m c x)) (packet_with pt m c ∷ ls))) open_
+worn_past numbers pt m c x home out ls open_ = grind (arith, nat_tests)
 
 -- a pair that isn't full
 not_full : (numbers : ℕ) (pt : Point) (m c : ℕ) → length (pt.view.pair m c).ids ≤ numbers → length (pt.view.pair m c).ids ≢ numbers → is_full numbers pt.view m c ≡ false
@@ -219,7 +210,7 @@ module _ (b : Boot) (w : WorldState) (pt : Point) (l : Placed) (h : History) (m 
         go false v none win = waits (goes false v none win) (is false none)
         go true false none win = waits (goes true false none win) (is true none ∙ ap sent (due_none ((w.nodes m).senders x.to.at) x win))
         go true true none win =
-            let next_due = due_new ((w.nodes m).senders x.to.at) x none win in
+            let next_due : due (with_given ((w.nodes m).senders x.to.at) x) ≡ Some (((w.nodes m).senders x.to.at).gone, x) = grind (arith, nat_tests, slice_get, get_last) in
             goes_away none (goes true true none win) next_due (is true none ∙ ap sent next_due)
 
   at_home : (t : Bool) → x.to.at ≡ m → (x.to.at == here (w.nodes m)) ≡ true → ((w.nodes m).home == (w.nodes m).numbers) ≡ t → RouteGoes b w pt l m r
@@ -252,3 +243,56 @@ module _ (b : Boot) (w : WorldState) (pt : Point) (l : Placed) (h : History) (m 
   -- a message that machine m routes, the machine that acts
   pub route_goes : RouteGoes b w pt l m r
   route_goes = route_by (x.to.at == here (w.nodes m)) refl
+
+-- Lines and then parts: what a machine gives, what the wires have of it, and what the rule spells.
+
+-- what a machine gives
+none_behind : (a : Acts) → behind [] a ≡ a
+none_behind a = grind (arith, nat_tests)
+
+one_behind : (o : Out) (outs : List Out) (a : Acts) → behind (o ∷ []) (behind outs a) ≡ behind (o ∷ outs) a
+one_behind o outs a = grind (arith, nat_tests)
+
+pub acts_say : (n : NodeState) (ls : List Line) (ps : List Part) → acts n (map Part.Says ls ++ ps) ≡ behind (map Out.Says ls) (acts n ps)
+acts_say n [] ps = sym (none_behind (acts n ps))
+acts_say n (l ∷ ls) ps = ap (behind (Out.Says l ∷ [])) (acts_say n ls ps) ∙ one_behind (Out.Says l) (map Out.Says ls) (acts n ps)
+
+-- what is printed of it, and what the wires have
+pub spoken_says : (wires : ℕ → ℕ → List Sent) (ls : List Line) (outs : List Out) → spoken wires (map Out.Says ls ++ outs) ≡ record { lines = ls ++ (spoken wires outs).lines; wires = (spoken wires outs).wires }
+spoken_says wires [] outs = refl
+spoken_says wires (l ∷ ls) outs = ap (says l) (spoken_says wires ls outs)
+
+-- a line that is no put wears nothing out
+pub no_put : (numbers : ℕ) (v : View) (l : Line) → is_put l ≡ false → full_pair numbers v l ≡ None
+no_put numbers v l e = grind (arith, nat_tests)
+
+-- such lines wear no pair out
+pub worn_behind : (numbers : ℕ) (ls : List Line) (pt next : Point) (ms : List Line) (ps : List rule.Part) → AllSayable (map rule.Says ls ++ ps) → after pt ls ≡ Some next
+    → worn_in numbers pt.view (ls ++ ms) ≡ worn_in numbers next.view ms
+worn_behind numbers [] pt next ms ps fits comes = let same : pt ≡ next = cc in ap (λ (n : Point). worn_in numbers n.view ms) same
+worn_behind numbers (l ∷ ls) pt next ms ps fits comes =
+    let (n, one, more) = bind-is (after_line pt l) (λ (n : Point). after n ls) next comes in
+    let (s, there, is) = bind-is (kernel_after pt.kernel (label_of l)) (λ (s : OneKernel). Some (moved pt l s)) n one in
+    let same : moved pt l s ≡ n = cc in
+    ap (λ (o : Option Two). or o (worn_in numbers (view_after pt.view l) (ls ++ ms))) (no_put numbers pt.view l fits.0)
+    ∙ ap (λ (k : Point). worn_in numbers k.view (ls ++ ms)) same
+    ∙ worn_behind numbers ls n next ms ps fits.1 more
+
+-- and leave what was told as it was
+pub says_sane : (ls : List Line) (pt next : Point) (ps : List rule.Part) → AllSayable (map rule.Says ls ++ ps) → after pt ls ≡ Some next → Sane pt → Sane next
+says_sane [] pt next ps fits comes h = let same : pt ≡ next = cc in subst Sane same h
+says_sane (l ∷ ls) pt next ps fits comes h =
+    let (n, one, more) = bind-is (after_line pt l) (λ (n : Point). after n ls) next comes in
+    says_sane ls n next ps fits.1 more (sane_line pt n l fits.0 one h)
+
+-- what follows the lines is spelled from where they lead
+pub says_rest : (ls : List Line) (pt next : Point) (ps : List rule.Part) (w : Spelled) → spelled pt (map rule.Says ls ++ ps) ≡ Some w → after pt ls ≡ Some next → (v : Spelled) × (spelled next ps ≡ Some v) × (rule.behind ls v ≡ w)
+says_rest [] pt next ps w e comes = let same : pt ≡ next = cc in (w, ap (λ (n : Point). spelled n ps) (sym same) ∙ e, refl)
+says_rest (l ∷ ls) pt next ps w e comes =
+    let (n, one, more) = bind-is (after_line pt l) (λ (n : Point). after n ls) next comes in
+    let k : Next pt (rule.Says l) (map rule.Says ls ++ ps) w = next_of pt (rule.Says l) (map rule.Says ls ++ ps) w e in
+    let lines : l ∷ [] ≡ k.lines = (let f : Some (l ∷ []) ≡ Some k.lines = k.is in cc) in
+    let place : Some n ≡ Some k.next = sym (ap (λ (o : Option Point). bind o (λ (z : Point). after z [])) one) ∙ ap (after pt) lines ∙ k.leads in
+    let same : n ≡ k.next = cc in
+    let (v, is, whole) = says_rest ls n next ps k.rest (ap (λ (z : Point). spelled z (map rule.Says ls ++ ps)) same ∙ k.on) more in
+    (v, is, ap (rule.behind (l ∷ [])) whole ∙ ap (λ (xs : List Line). rule.behind xs k.rest) lines ∙ k.whole)

@@ -1,13 +1,12 @@
 -- The process that a turn serves, and what serving it gives by the machine and by the rule.
-use Rattle.dm_mirror.proofs.Names.{◌≡◌, ◌≢◌, ℕ, ◌+◌, ◌≤◌, ◌&&◌, Bool, true, false, List, [], ◌∷◌, ◌++◌, map, length, refl, ap, ◌∙◌, sym, subst, inl, inr, arith, if◌then◌else◌, Option, None, Some, cases_Bool, false≢true, Pid, pid_eq, nat_tests}
+use Rattle.dm_mirror.proofs.Names.{◌≡◌, ◌≢◌, ℕ, ◌+◌, ◌≤◌, ◌&&◌, Bool, true, false, List, [], ◌∷◌, ◌++◌, map, length, refl, ap, ◌∙◌, sym, subst, inl, inr, arith, if◌then◌else◌, Option, Some, cases_Bool, false≢true, Pid, pid_eq, nat_tests}
 use Rattle.dm_mirror.proofs.Names.{Message, MsgId, id_eq, PlainMessage, Process, Record, Boot, Alive, OneKernel, plain_process, id_eq-is, pid_eq-same, Sound, Line, Point, after, moved_back, Spot, Queue, times, standing, StandsOutside}
-use Rattle.dm_mirror.proofs.Names.{StandsRight, View, receiver_of, is_kernels, once_at, Droppable, IsFor, Placed, Mirrors, with_queue, KernelState, Turned, with_here, AllOwnStand, MadeStands, AreMessages, KernelStands}
+use Rattle.dm_mirror.proofs.Names.{StandsRight, View, receiver_of, once_at, Droppable, IsFor, Placed, Mirrors, with_queue, KernelState, Turned, with_here, AllOwnStand, MadeStands, AreMessages, KernelStands}
 use Rattle.dm_kernel.specs.declared.part.Part.{Part}
 use Rattle.dm_rule.specs.Parts as rule
 use Rattle.dm_mirror.proofs.Turning.{routed, rule_routed, are_still, IsSent}
-use Rattle.dm_mirror.proofs.Kernel.Sets.{Leaves, is_queue_of, off_if, on_if, eq_self, queue_of_others, inbox_stands}
-use Rattle.dm_mirror.proofs.Kernel.Goes.{LivesHere, goes_stands}
-use Rattle.dm_mirror.proofs.Serve.Drops.{AreAlone}
+use Rattle.dm_mirror.proofs.Kernel.Sets.{Leaves, is_queue_of, off_if, on_if, eq_self, queue_of_others, inbox_stands, LivesHere, goes_stands}
+use Rattle.dm_mirror.proofs.Serve.Runs.{AreAlone}
 
 -- process p of machine m, as the machine has it, at a point behind the head of a turn
 pub record Served (b : Boot) (m : ℕ) (pt : Point) (l : Placed) (k : KernelState) (p : Pid) (x : Process) : Type 0 where
@@ -72,12 +71,10 @@ is_for s p (j ∷ js) i h least = elim (cases_Bool (id_eq i j)) [
 
 -- a message that stands at a spot stands nowhere else
 outside_elsewhere : (c : Bool) (f : Spot → ℕ) (x y : Spot) → 1 ≤ f x → y ≢ x → StandsOutside c f → f y ≡ 0
-outside_elsewhere true f x y least apart h = grind (arith, nat_tests, once_at)
-outside_elsewhere false f x y least apart h = h y
+outside_elsewhere c f x y least apart h = grind (arith, nat_tests, once_at)
 
 right_elsewhere : (i : MsgId) (o : Option PlainMessage) (f : Spot → ℕ) (x y : Spot) → 1 ≤ f x → y ≢ x → StandsRight i o f → f y ≡ 0
-right_elsewhere i None f x y least apart h = outside_elsewhere (is_kernels i) f x y least apart h
-right_elsewhere i (Some u) f x y least apart h = (once_at f x h least).1 y apart
+right_elsewhere i o f x y least apart h = grind (arith, nat_tests, outside_elsewhere, once_at)
 
 pub queue_alone : (m : ℕ) (p : Pid) (s : OneKernel) (v : View) → ((i : MsgId) → StandsRight i (s.bag i) (standing v i)) → AreAlone (is_queue_of m p) v (v.queue m p)
 queue_alone m p s v kept j least i spot off there = elim (cases_Bool (id_eq j i)) [

@@ -1,15 +1,20 @@
 -- Elementary directives, one by one.
 use Rattle.dm_mirror.proofs.Names.{◌≡◌, ℕ, List, [], ◌∷◌, ◌++◌, length, refl, ap, ◌∙◌, sym, subst, arith, map-append, All-nil, Boot, IsValid, received_once, Step, Directive, Line, Todo, all_of, next_step, undelivered, IsKept, IsRun, IsStep}
-use Rattle.dm_mirror.proofs.Names.{Leads, has_mail, is_quiet, Point, first_point, stands_once_always, WorldState, MayStep, AreReadBack, gave, IsTwo, IsTodo, GoesOn, StepsStand, ones, Ran, RanBegins, RanGoesOn, RunIsRan}
-use Rattle.dm_mirror.proofs.Behind.{run_behind}
-use Rattle.dm_mirror.proofs.Deliver.Keeps.{first_readable}
-use Rattle.dm_mirror.proofs.Going.{leads_last, replays_last, run_last}
-use Rattle.dm_mirror.proofs.Machines.{machines_group}
+use Rattle.dm_mirror.proofs.Names.{Leads, has_mail, is_quiet, Point, first_point, stands_once_always, WorldState, MayStep, AreReadBack, gave, IsTwo, IsTodo, GoesOn, StepsStand, ones, Ran, RanBegins, RanGoesOn, RunIsRan, ◌+◌, ◌<◌, nat_tests}
+use Rattle.dm_mirror.proofs.Names.{pid_of, first_number, EndLine, each_machine, list_line, first_with, pair_home, Run, Placed, History, StandsWith, MadeStands, EndIsSaid, standing_of}
+use Rattle.dm_rule.specs.Ends as rule
+use Rattle.dm_rule.specs.Spots as spots
+use Rattle.dm_world.specs.Ends as world
+use Rattle.dm_mirror.proofs.Going.{leads_last, replays_last, run_last, run_behind}
+use Rattle.dm_mirror.proofs.Machines.{machines_group, made_always}
 use Rattle.dm_mirror.proofs.May.{acts_start, acts_step}
 use Rattle.dm_mirror.proofs.Next.{machines_stay, next_fits}
 use Rattle.dm_mirror.proofs.Readable.{readable_step}
 use Rattle.dm_mirror.proofs.Starting.{start_stands}
 use Rattle.dm_mirror.proofs.Staying.{kernel_stays}
+use Rattle.dm_mirror.proofs.Deliver.Outs.{first_readable}
+use Rattle.dm_mirror.proofs.End.Processes.{IsOfHome, holding_said, no_server, process_said, queue_said}
+use Rattle.dm_mirror.proofs.End.Servers.{servers_said, stream_said, homes_same, machines_same, names_are}
 
 pub ran_begins : RanBegins
 ran_begins b valid = record {
@@ -71,3 +76,89 @@ run_is_ran b ds gs pt left w valid fit r =
       k.steps,
       (search),
     )
+
+-- Where everything stands at the end is what the printed lines say.
+
+-- all that is used of a run
+record Final (b : Boot) (w : WorldState) (pt : Point) (l : Placed) (h : History) : Type 0 where
+  stands : StandsWith b w pt l h
+  run : Run b pt
+  made : MadeStands pt.kernel
+  some : 0 < pt.kernel.machines
+
+of_home : (b : Boot) (w : WorldState) (pt : Point) (l : Placed) (h : History) (home n : ℕ) → home < pt.kernel.machines → Final b w pt l h → IsOfHome b w pt l h (pid_of home (first_number + n))
+of_home b w pt l h home n below f = record { stands = f.stands; run = f.run; server = no_server home n }
+
+made_same : (b : Boot) (w : WorldState) (pt : Point) (l : Placed) (h : History) (m : ℕ) → m < pt.kernel.machines → Final b w pt l h → (w.nodes m).kernel.made ≡ pt.kernel.made m
+made_same b w pt l h m below f = (f.stands.nodes m below).kernel.made
+
+processes_said : (b : Boot) (w : WorldState) (pt : Point) (l : Placed) (h : History) → Final b w pt l h
+    → world.homes_with w (world.process_lines pt.kernel.machines w) pt.kernel.machines ≡ rule.each_process pt (λ p. rule.process_lines pt p (pt.kernel.processes p))
+processes_said b w pt l h f =
+    homes_same w pt (world.process_lines pt.kernel.machines w) (λ p. rule.process_lines pt p (pt.kernel.processes p)) pt.kernel.machines (λ m below. made_same b w pt l h m below f)
+    (λ home n below fewer. process_said b w pt l h (pid_of home (first_number + n)) (of_home b w pt l h home n below f) (f.made.all home n below fewer))
+
+queues_said : (b : Boot) (w : WorldState) (pt : Point) (l : Placed) (h : History) → Final b w pt l h → world.homes_with w (world.queue_of pt.kernel.machines w) pt.kernel.machines ≡ rule.queue_lines pt
+queues_said b w pt l h f =
+    homes_same w pt (world.queue_of pt.kernel.machines w) (λ p. rule.queue_at pt.view p (first_with standing_of pt.view p pt.kernel.machines)) pt.kernel.machines (λ m below. made_same b w pt l h m below f)
+    (λ home n below fewer. queue_said b w pt l h (pid_of home (first_number + n)) (of_home b w pt l h home n below f) (f.made.all home n below fewer))
+
+-- the servers are on machine 0
+servers_there : (b : Boot) (w : WorldState) (pt : Point) (l : Placed) (h : History) → Final b w pt l h → world.server_lines (w.nodes 0).kernel.servers ≡ rule.server_lines pt
+servers_there b w pt l h f = grind (arith, nat_tests, servers_said)
+
+inboxes_said : (b : Boot) (w : WorldState) (pt : Point) (l : Placed) (h : History) → Final b w pt l h
+    → each_machine (λ m. list_line (EndLine.Inbox m) (world.names_of (w.nodes m).kernel.inbox)) pt.kernel.machines ≡ rule.inbox_lines pt
+inboxes_said b w pt l h f =
+    machines_same (λ m. list_line (EndLine.Inbox m) (world.names_of (w.nodes m).kernel.inbox)) (λ m. list_line (EndLine.Inbox m) (pt.view.inbox m)) pt.kernel.machines
+    (λ m below. ap (list_line (EndLine.Inbox m)) (names_are l.bag (pt.view.inbox m) (w.nodes m).kernel.inbox (λ i x there. (f.stands.mirrors.places.message i x there).id) ((f.stands.nodes m below).kernel.inbox)))
+
+streams_said : (b : Boot) (w : WorldState) (pt : Point) (l : Placed) (h : History) → Final b w pt l h
+    → each_machine (λ a. each_machine (λ c. world.stream_line w a c) pt.kernel.machines) pt.kernel.machines ≡ rule.stream_lines pt
+streams_said b w pt l h f =
+    machines_same (λ a. each_machine (λ c. world.stream_line w a c) pt.kernel.machines) (λ a. each_machine (λ c. list_line (EndLine.Stream a c) (spots.untaken (pt.view.pair a c))) pt.kernel.machines) pt.kernel.machines
+    (λ a from. machines_same (λ c. world.stream_line w a c) (λ c. list_line (EndLine.Stream a c) (spots.untaken (pt.view.pair a c))) pt.kernel.machines
+    (λ c to. stream_said b pt l w h a c (pair_home pt.view a f.run.based.phased.pairs) (λ apart. f.stands.pairs a c from to apart)))
+
+holdings_said : (b : Boot) (w : WorldState) (pt : Point) (l : Placed) (h : History) → Final b w pt l h
+    → each_machine (λ m. world.homes_with w (world.held_line w m) pt.kernel.machines) pt.kernel.machines ≡ rule.holding_lines pt
+holdings_said b w pt l h f =
+    machines_same (λ m. world.homes_with w (world.held_line w m) pt.kernel.machines) (λ m. rule.each_process pt (λ p. list_line (EndLine.Holding m p) (pt.view.held m p))) pt.kernel.machines
+    (λ m below. homes_same w pt (world.held_line w m) (λ p. list_line (EndLine.Holding m p) (pt.view.held m p)) pt.kernel.machines (λ k less. made_same b w pt l h k less f)
+    (λ home n less fewer. holding_said b w pt l h (pid_of home (first_number + n)) m (of_home b w pt l h home n less f) below))
+
+-- all lines, part by part
+abbrev ending : List EndLine → List EndLine → List EndLine → List EndLine → List EndLine → List EndLine → ℕ → List EndLine
+ending ps ss qs hs is ts groups = EndLine.Final ∷ ps ++ ss ++ qs ++ hs ++ is ++ ts ++ EndLine.Groups groups ∷ []
+
+end_same : (b : Boot) (w : WorldState) (pt : Point) (l : Placed) (h : History) → Final b w pt l h → world.end_lines pt.kernel.machines w ≡ rule.end_lines pt
+end_same b w pt l h f =
+    let n = pt.kernel.machines in
+    let ps = rule.each_process pt (λ p. rule.process_lines pt p (pt.kernel.processes p)) in
+    let ss = rule.server_lines pt in
+    let qs = world.homes_with w (world.queue_of n w) n in
+    let hs = each_machine (λ m. world.homes_with w (world.held_line w m) n) n in
+    let is = each_machine (λ m. list_line (EndLine.Inbox m) (world.names_of (w.nodes m).kernel.inbox)) n in
+    let ts = each_machine (λ a. each_machine (λ c. world.stream_line w a c) n) n in
+    ap (λ (ls : List EndLine). ending ls (world.server_lines (w.nodes 0).kernel.servers) qs hs is ts w.groups) (processes_said b w pt l h f)
+    ∙ (ap (λ (ls : List EndLine). ending ps ls qs hs is ts w.groups) (servers_there b w pt l h f)
+    ∙ (ap (λ (ls : List EndLine). ending ps ss ls hs is ts w.groups) (queues_said b w pt l h f)
+    ∙ (ap (λ (ls : List EndLine). ending ps ss (rule.queue_lines pt) ls is ts w.groups) (holdings_said b w pt l h f)
+    ∙ (ap (λ (ls : List EndLine). ending ps ss (rule.queue_lines pt) (rule.holding_lines pt) ls ts w.groups) (inboxes_said b w pt l h f)
+    ∙ (ap (λ (ls : List EndLine). ending ps ss (rule.queue_lines pt) (rule.holding_lines pt) (rule.inbox_lines pt) ls w.groups) (streams_said b w pt l h f)
+    ∙ ap (ending ps ss (rule.queue_lines pt) (rule.holding_lines pt) (rule.inbox_lines pt) (rule.stream_lines pt)) f.stands.groups)))))
+
+-- where the world stands for a point
+pub end_is : (b : Boot) (w : WorldState) (pt : Point) (l : Placed) (h : History) → IsValid b → Run b pt → MadeStands pt.kernel → StandsWith b w pt l h → world.end_lines (length b.machines) w ≡ rule.end_lines pt
+end_is b w pt l h valid run made stands =
+    let machines = run.based.machines in
+    let least = valid.some_machines in
+    let some : 0 < pt.kernel.machines = grind (arith, nat_tests) in
+    ap (λ (n : ℕ). world.end_lines n w) (sym machines) ∙ end_same b w pt l h (record { stands = stands; run = run; made = made; some = some })
+
+-- all that holds wherever the rule leads
+abbrev pub RunAlways : Type 0
+RunAlways = (b : Boot) (es : List Step) (pt : Point) → IsValid b → Leads b (first_point b) es pt → Run b pt
+
+pub end_is_said_by : RunAlways → EndIsSaid
+end_is_said_by runs b es w pt valid leads ((l, h, stands), counts) = end_is b w pt l h valid (runs b es pt valid leads) (made_always b es pt valid leads) stands

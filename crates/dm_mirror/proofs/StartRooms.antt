@@ -1,12 +1,9 @@
 -- What the processes of a boot file take of each machine.
-use Rattle.dm_mirror.proofs.Names.{◌≡◌, inl, inr, ℕ, zero, suc, ◌+◌, ◌*◌, ◌/◌, ◌<◌, ◌≤◌, ◌==◌, Bool, true, false, List, [], ◌∷◌, ◌++◌, length, refl, ap, ◌∙◌, sym, arith, if◌then◌else◌, slice_get, map, common_steps, Option, None, Some}
-use Rattle.dm_mirror.proofs.Names.{cases_Bool, nat_tests, Pid, pid_of, pid_eq, plain_link, BootImage, BootProcess, Boot, IsValid, starting_at, blocks_at, blocks_of_image, image_is_valid, processes_are_valid, process_named, Life, Alive}
-use Rattle.dm_mirror.proofs.Names.{bind, first_life, memory_of, image_fits, first_point, Room, and, blocks_of, taken_at, taken_by, taken_of_home, takes_room, Known, is_server}
-use Rattle.dm_onekernel.specs.Start.{begun}
-use Rattle.dm_onekernel.specs.Step as kernel
-use Rattle.dm_mirror.proofs.StartKnown.{known_of_life, first_known}
-use Rattle.dm_mirror.proofs.Numbering.{Listed, listed, named_is, none_again, life_named, one_if, starting-last}
-pub use Rattle.dm_mirror.proofs.Made.{first_alive}
+use Rattle.dm_mirror.proofs.Names.{◌≡◌, inl, inr, ℕ, zero, suc, ◌+◌, ◌*◌, ◌/◌, ◌<◌, ◌≤◌, ◌==◌, Bool, true, false, List, [], ◌∷◌, ◌++◌, length, refl, ap, ◌∙◌, sym, arith, if◌then◌else◌, slice_get, common_steps, Option, None, Some}
+use Rattle.dm_mirror.proofs.Names.{cases_Bool, nat_tests, Pid, pid_of, pid_eq, BootImage, BootProcess, Boot, IsValid, starting_at, blocks_at, blocks_of_image, image_is_valid, processes_are_valid, process_named, bind, first_life, memory_of}
+use Rattle.dm_mirror.proofs.Names.{image_fits, first_point, Room, and, taken_at, taken_by, taken_of_home, Known, is_server}
+use Rattle.dm_mirror.proofs.Numbering.{Listed, listed, named_is, none_again, life_named, one_if, starting-last, known_of_life, first_known}
+pub use Rattle.dm_mirror.proofs.Machines.{first_alive}
 
 abbrev nothing : Room
 nothing = record { slots = 0; blocks = 0 }
@@ -29,8 +26,7 @@ first_mine b m q p valid on named =
 
 -- a process elsewhere takes nothing
 taken_off : (b : Boot) (m : ℕ) (q : Pid) → IsValid b → (q.home == m) ≡ false → taken_by (first_point b) m q ≡ nothing
-taken_off b m q valid off =
-    ap (λ (k : Known). record { slots = takes_room k; blocks = if takes_room k == 0 then 0 else blocks_of (kernel.alive ((first_point b).kernel.processes q)) }) (first_apart b m q valid off)
+taken_off b m q valid off = grind (arith, nat_tests, first_apart)
 
 home_off : (b : Boot) (m home n : ℕ) → IsValid b → (home == m) ≡ false → taken_of_home (first_point b) m home n ≡ nothing
 home_off b m home zero valid off = refl
@@ -38,7 +34,7 @@ home_off b m home (suc n) valid off =
     ap (λ r. and r (taken_by (first_point b) m (pid_of home (3 + n)))) (home_off b m home n valid off) ∙ ap (and nothing) (taken_off b m (pid_of home (3 + n)) valid off)
 
 -- a process here takes a slot, and the blocks of its image
-memory_blocks : (i : BootImage) → image_is_valid i ≡ true → length (memory_of i) / 256 ≡ i.blocks
+pub memory_blocks : (i : BootImage) → image_is_valid i ≡ true → length (memory_of i) / 256 ≡ i.blocks
 memory_blocks i valid = let e : length (memory_of i) ≡ 256 * i.blocks = grind (arith, common_steps, nat_tests) in omega (arith, e)
 
 taken_on : (b : Boot) (m : ℕ) (q : Pid) (p : BootProcess) → IsValid b → (q.home == m) ≡ true → process_named q b.processes ≡ Some p → taken_by (first_point b) m q ≡ record { slots = 1; blocks = blocks_of_image (slice_get b.images p.image) }

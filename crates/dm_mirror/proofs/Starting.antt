@@ -1,22 +1,110 @@
--- The world as the boot file has it stands for the first point.
-use Rattle.dm_mirror.proofs.Names.{◌≡◌, ℕ, zero, suc, ◌-◌, ◌^◌, ◌<◌, ◌≤◌, ◌==◌, Bool, true, false, List, [], ◌∷◌, length, map, replicate, refl, ap, ◌∙◌, sym, subst, is_some, nat_lt, arith, ◌||◌, if◌then◌else◌, slice_get, Option, None, Some}
-use Rattle.dm_mirror.proofs.Names.{nat_tests, All-nil, Pid, pid_eq, Message, IsLawfulMessage, Process, Sending, fresh_sending, fresh_receiving, kept_under, place, StreamStands-start, BootImage, BootMachine, BootProcess, Boot, IsValid}
-use Rattle.dm_mirror.proofs.Names.{process_named, switchboard, manager, bind, first_life, KernelState, child_of, empty, opened, room_of, with_all, with_child, opened_lawful, Record, fresh_sender, placed_start, started, start_mirrors}
-use Rattle.dm_mirror.proofs.Names.{first_point, Known, is_server, first_world, History, KernelStands, KnownStands, PairStands, StartStands}
+-- What a machine has as the boot file has it, field by field.
+use Rattle.dm_mirror.proofs.Names.{◌≡◌, ℕ, zero, suc, ◌-◌, ◌<◌, ◌==◌, Bool, true, false, List, [], ◌∷◌, length, map, replicate, refl, ap, ◌∙◌, sym, subst, is_some, nat_lt, arith, if◌then◌else◌, slice_get, Option, None, Some, nat_tests}
+use Rattle.dm_mirror.proofs.Names.{All-nil, Pid, pid_eq, Message, IsLawfulMessage, Process, Sending, fresh_sending, fresh_receiving, kept_under, place, StreamStands-start, BootImage, BootMachine, BootProcess, Boot, IsValid, process_named}
+use Rattle.dm_mirror.proofs.Names.{bind, first_life, KernelState, child_of, empty, opened, room_of, with_all, with_child, opened_lawful, Record, fresh_sender, placed_start, started, start_mirrors, first_point, Known, is_server, first_world}
+use Rattle.dm_mirror.proofs.Names.{History, KernelStands, KnownStands, PairStands, StartStands, ◌+◌, ◌++◌, append_assoc, append-nil, starting_at, blocks_at, blocks_of_image, processes_are_valid, pid_eq-is, ring_at, begins_process}
+use Rattle.dm_mirror.proofs.Names.{KernelKnown}
+use Rattle.dm_records.specs.declared.record.Record.TheVariants.{Here}
 use Rattle.dm_stream.specs.Order as order
-use Rattle.dm_kernel.specs.Begun.{begins_process}
-use Rattle.dm_mirror.proofs.Numbering.{named_is, none_below, started_named}
-use Rattle.dm_mirror.proofs.Opening.{first_here, first_record, first_started, opens_all}
-use Rattle.dm_mirror.proofs.StartKnown.{known_of_life, first_known}
+use Rattle.dm_mirror.proofs.Numbering.{named_is, none_below, started_named, known_of_life, first_known, listed, none_again, one_if}
 use Rattle.dm_mirror.proofs.StartRooms.{first_alive, first_taken}
+use Rattle.dm_mirror.proofs.Machines.{few_machines as few}
+use Rattle.dm_mirror.proofs.May.{few_numbers as small}
+
+-- what machine m knows of a process that the file may name
+abbrev pub first_here : Option Process → Option KernelKnown
+first_here None = None
+first_here (Some x) = Some (Here x)
+
+abbrev pub first_record : Boot → ℕ → Pid → Option BootProcess → Option KernelKnown → Option KernelKnown
+first_record b m q None before = before
+first_record b m q (Some p) before = if q.home == m then first_here (started b p) else before
+
+-- machine m after these processes have begun on it
+pub record Opens (b : Boot) (m : ℕ) (ps : List BootProcess) (s t : KernelState) : Type 0 where
+  pub here : t.here ≡ m
+  pub records : (q : Pid) → t.records q ≡ first_record b m q (process_named q ps) (s.records q)
+  pub ring : t.ring ≡ s.ring ++ ring_at ps m
+  pub inbox : t.inbox ≡ s.inbox
+  pub made : t.made ≡ s.made + starting_at m ps
+  pub slots : t.room.slots ≡ s.room.slots
+  pub blocks : t.room.blocks ≡ s.room.blocks
+  pub taken_slots : t.room.taken_slots ≡ s.room.taken_slots + starting_at m ps
+  pub taken_blocks : t.room.taken_blocks ≡ s.room.taken_blocks + blocks_at m b.images ps
+  pub servers : t.servers ≡ s.servers
+
+-- a record that is set
+set_record : (b : Boot) (m : ℕ) (p : BootProcess) (x : Process) (q : Pid) (c d : Bool) (before : Option KernelKnown) → pid_eq p.pid q ≡ c → (p.pid.home == m) ≡ true → first_here (started b p) ≡ Some (Here x)
+    → (if c then Some (Here x) else before) ≡ first_record b m q (if c then Some p else None) before
+set_record b m p x q c d before is home e = grind (arith, nat_tests, pid_eq-is)
+
+off_record : (b : Boot) (m : ℕ) (p : BootProcess) (q : Pid) (c : Bool) (before : Option KernelKnown) → pid_eq p.pid q ≡ c → (p.pid.home == m) ≡ false → before ≡ first_record b m q (if c then Some p else None) before
+off_record b m p q c before is home = grind (arith, nat_tests, pid_eq-is)
+
+-- one of them
+pub first_started : (b : Boot) (p : BootProcess) (i : BootImage) → slice_get b.images p.image ≡ Some i → first_here (started b p) ≡ Some (Here (child_of b p.pid i p.links))
+first_started b p i there = search
+
+abbrev blocks_if : Bool → ℕ → ℕ
+blocks_if c n = if c then n else 0
+
+begin_on : (b : Boot) (m : ℕ) (p : BootProcess) (i : BootImage) (s : KernelState) (c : Bool) → (p.pid.home == m) ≡ c → s.here ≡ m → slice_get b.images p.image ≡ Some i
+    → Opens b m (p ∷ []) s (if c then with_child s p.pid (child_of b p.pid i p.links) i.blocks else s)
+begin_on b m p i s true home here there =
+    let blocks : blocks_of_image (slice_get b.images p.image) ≡ i.blocks = ap blocks_of_image there in
+    let one : one_if (p.pid.home == m) ≡ 1 = ap one_if home in
+    let many : blocks_if (p.pid.home == m) (blocks_of_image (slice_get b.images p.image)) ≡ i.blocks = ap (λ (t : Bool). blocks_if t (blocks_of_image (slice_get b.images p.image))) home ∙ blocks in
+    search (set_record, child_of, pid_eq, s.records, first_started, sym (ap (λ (t : Bool). s.ring ++ (if t then p.pid ∷ [] else [])) home), arith, one, many)
+begin_on b m p i s false home here there =
+    let one : one_if (p.pid.home == m) ≡ 0 = ap one_if home in
+    let many : blocks_if (p.pid.home == m) (blocks_of_image (slice_get b.images p.image)) ≡ 0 = ap (λ (t : Bool). blocks_if t (blocks_of_image (slice_get b.images p.image))) home in
+    search (off_record, pid_eq, s.records, sym (ap (λ (t : Bool). s.ring ++ (if t then p.pid ∷ [] else [])) home ∙ append-nil s.ring), arith, one, many)
+
+begin_one : (b : Boot) (m : ℕ) (p : BootProcess) (i : BootImage) (s : KernelState) → s.here ≡ m → slice_get b.images p.image ≡ Some i → Opens b m (p ∷ []) s (begins_process b s p (slice_get b.images p.image))
+begin_one b m p i s here there =
+    subst (λ (o : Option BootImage). Opens b m (p ∷ []) s (begins_process b s p o)) (sym there)
+    (subst (λ (n : ℕ). Opens b m (p ∷ []) s (if p.pid.home == n then with_child s p.pid (child_of b p.pid i p.links) i.blocks else s)) (sym here)
+    (begin_on b m p i s (p.pid.home == m) refl here there))
+
+-- and then the others
+records_then : (b : Boot) (m : ℕ) (q : Pid) (p : BootProcess) (c : Bool) (o : Option BootProcess) (before mid after : Option KernelKnown) → (c ≡ true → o ≡ None)
+    → mid ≡ first_record b m q (if c then Some p else None) before → after ≡ first_record b m q o mid → after ≡ first_record b m q (if c then Some p else o) before
+records_then b m q p c o before mid after none e f = grind (arith, nat_tests)
+
+ring_then : (p : BootProcess) (ps : List BootProcess) (m : ℕ) (c : Bool) → (if c then p.pid ∷ [] else []) ++ ring_at ps m ≡ (if c then p.pid ∷ ring_at ps m else ring_at ps m)
+ring_then p ps m c = grind (arith, nat_tests)
+
+pub opens_all : (b : Boot) (m : ℕ) (earlier ps : List BootProcess) (s : KernelState) → processes_are_valid b earlier ps ≡ true → s.here ≡ m → Opens b m ps s (with_all b s ps)
+opens_all b m earlier [] s h here = search (sym (append-nil s.ring), arith)
+opens_all b m earlier (p ∷ ps) s h here =
+    let k = listed b earlier p ps h in
+    let u = begins_process b s p (slice_get b.images p.image) in
+    let one = begin_one b m p k.image s here k.there in
+    let rest = opens_all b m (earlier ++ p ∷ []) ps u k.rest one.here in
+    let made = one.made in let made_ = rest.made in
+    let slots = one.taken_slots in let slots_ = rest.taken_slots in
+    let blocks = one.taken_blocks in let blocks_ = rest.taken_blocks in
+    record {
+      here = rest.here;
+      records = λ q. records_then b m q p (pid_eq p.pid q) (process_named q ps) (s.records q) (u.records q) ((with_all b u ps).records q) (λ same. none_again b earlier p ps q k same) (one.records q) (rest.records q);
+      ring = rest.ring ∙ ap (λ r. r ++ ring_at ps m) one.ring ∙ append_assoc s.ring (if p.pid.home == m then p.pid ∷ [] else []) (ring_at ps m) ∙ ap (λ r. s.ring ++ r) (ring_then p ps m (p.pid.home == m));
+      inbox = rest.inbox ∙ one.inbox;
+      made = omega (arith, made, made_);
+      slots = rest.slots ∙ one.slots;
+      blocks = rest.blocks ∙ one.blocks;
+      taken_slots = omega (arith, slots, slots_);
+      taken_blocks = omega (arith, blocks, blocks_);
+      servers = rest.servers ∙ one.servers;
+    }
+
+-- The world as the boot file has it stands for the first point.
 
 -- what is known of a process of the file that begins here
 abbrev first_said : Boot → Option BootProcess → Known
 first_said b o = known_of_life (bind o (first_life b))
 
 started_is : (o : Option Process) (x : Process) → first_here o ≡ Some (Record.Here x) → o ≡ Some x
-started_is None x e = cc
-started_is (Some y) x e = cc
+started_is o x e = grind (arith, nat_tests)
 
 known_named : (b : Boot) (m : ℕ) (q : Pid) (o : Option BootProcess) → (q.home == m) ≡ true → process_named q b.processes ≡ o → IsValid b → KnownStands (first_point b) (placed_start b) q [] [] (first_said b o) (first_record b m q o None)
 known_named b m q None on e valid = tt
@@ -30,8 +118,7 @@ known_named b m q (Some p) on e valid =
     (subst (λ r. KnownStands (first_point b) (placed_start b) q [] [] Known.Here r) (sym here) (([], there), refl))
 
 apart_record : (b : Boot) (m : ℕ) (q : Pid) (o : Option BootProcess) → (q.home == m) ≡ false → first_record b m q o None ≡ None
-apart_record b m q None off = refl
-apart_record b m q (Some p) off = ap (λ (c : Bool). if c then first_here (started b p) else None) off
+apart_record b m q o off = grind (arith, nat_tests)
 
 abbrev known_if : Boot → Pid → Bool → Bool → Known
 known_if b q c d = if c then (if d then Known.Here else first_said b (process_named q b.processes)) else Known.Unknown
@@ -55,12 +142,10 @@ no_server_named b m q valid server = ap (λ o. first_record b m q o None) (none_
 
 -- the room
 empty_slots : (o : Option BootMachine) → (room_of o).taken_slots ≡ 0
-empty_slots None = refl
-empty_slots (Some r) = refl
+empty_slots o = grind (arith, nat_tests)
 
 empty_blocks : (o : Option BootMachine) → (room_of o).taken_blocks ≡ 0
-empty_blocks None = refl
-empty_blocks (Some r) = refl
+empty_blocks o = grind (arith, nat_tests)
 
 kernel_first : (b : Boot) (m : ℕ) → IsValid b → m < length b.machines → KernelStands b (first_point b) (placed_start b) m (opened b m)
 kernel_first b m valid lt =
@@ -82,29 +167,18 @@ kernel_first b m valid lt =
 
 -- no kernel has sent a message of its own
 sent_if : (b : Boot) (p : BootProcess) (i : BootImage) (s : KernelState) (c : Bool) → (if c then with_child s p.pid (child_of b p.pid i p.links) i.blocks else s).sent ≡ s.sent
-sent_if b p i s true = refl
-sent_if b p i s false = refl
+sent_if b p i s c = grind (arith, nat_tests)
 
 sent_one : (b : Boot) (p : BootProcess) (s : KernelState) (o : Option BootImage) → (begins_process b s p o).sent ≡ s.sent
-sent_one b p s None = refl
-sent_one b p s (Some i) = sent_if b p i s (p.pid.home == s.here)
+sent_one b p s o = grind (arith, nat_tests, sent_if)
 
 sent_all : (b : Boot) (ps : List BootProcess) (s : KernelState) → (with_all b s ps).sent ≡ s.sent
 sent_all b [] s = refl
 sent_all b (p ∷ ps) s = sent_all b ps (begins_process b s p (slice_get b.images p.image)) ∙ sent_one b p s (slice_get b.images p.image)
 
-sent_first : (b : Boot) (m : ℕ) → (opened b m).sent ≡ 0
-sent_first b m = sent_all b b.processes (empty b m)
-
 -- the streams
 abbrev no_history : History
 no_history = record { given = λ a c. []; packets = λ a c. [] }
-
-few : (b : Boot) → IsValid b → length b.machines ≤ 16
-few b valid = let k = valid.few_machines in grind (arith, nat_tests)
-
-small : (b : Boot) → IsValid b → b.numbers < 2 ^ 32
-small b valid = let k = valid.most_numbers in let n : b.numbers ≤ 1048576 = grind (arith, nat_tests) in omega (arith, n)
 
 kept_nones : (k i : ℕ) → place (replicate {A = Option Message} k None) i ≡ None
 kept_nones zero i = refl
@@ -112,8 +186,7 @@ kept_nones (suc k) zero = refl
 kept_nones (suc k) (suc i) = kept_nones k i
 
 kept_if : (c : Bool) (o : Option Message) → o ≡ None → is_some (if c then None else o) ≡ false
-kept_if true o e = refl
-kept_if false o e = ap is_some e
+kept_if c o e = grind (arith, nat_tests)
 
 none_kept : (n : ℕ) → is_some (kept_under (fresh_receiving {M = Message}) n) ≡ false
 none_kept n = kept_if (nat_lt n 0) (place (replicate 8 None) (n - 0)) (kept_nones 8 (n - 0))
@@ -145,5 +218,5 @@ start_stands b valid = (
       tokens = λ p i t z told between about stands. cc;
     },
   ),
-  λ m lt. sent_first b m,
+  λ m lt. sent_all b b.processes (empty b m),
 )

@@ -1,14 +1,15 @@
 -- An event of a stream, and what stands of its pair of machines behind it.
-use Rattle.dm_mirror.proofs.Names.{◌≡◌, ℕ, ◌+◌, ◌<◌, ◌≤◌, nat_lt, Bool, true, false, List, [], ◌∷◌, ◌++◌, length, map, take, drop, is_some, refl, ap, ◌∙◌, sym, subst, arith, if◌then◌else◌, All, Option, None, Some, nat_tests, map-append}
-use Rattle.dm_mirror.proofs.Names.{drop-append-le, length-map, All-push, Message, MsgId, IsLawfulMessage, Sending, due, outstanding, numbered, with_given, with_sent, kept_under, Stream, Give, GoOut, GoAgain, OtherData, goes_again}
-use Rattle.dm_mirror.proofs.Names.{StreamStands-happens, spelling, Boot, Load, Pair, gone_after, Point, has, Placed, WorldState, AreMessages, History, PairStands, bytes_of, line_of, load_of, stream_of}
-use Rattle.dm_stream.specs.Packets as stream
+use Rattle.dm_mirror.proofs.Names.{◌≡◌, ℕ, ◌+◌, ◌<◌, ◌≤◌, nat_lt, Bool, true, false, List, [], ◌∷◌, ◌++◌, length, map, drop, is_some, refl, ap, ◌∙◌, sym, subst, arith, if◌then◌else◌, All, Option, None, Some, nat_tests, map-append}
+use Rattle.dm_mirror.proofs.Names.{drop-append-le, length-map, All-push, Message, MsgId, IsLawfulMessage, due, outstanding, numbered, with_given, with_sent, kept_under, Stream, Give, GoOut, GoAgain, OtherData, goes_again}
+use Rattle.dm_mirror.proofs.Names.{StreamStands-happens, spelling, Boot, Load, Pair, gone_after, Point, has, Placed, WorldState, AreMessages, History, PairStands, bytes_of, line_of, load_of, stream_of, zero, suc, ◌==◌, ◌&&◌, slice_get}
+use Rattle.dm_mirror.proofs.Names.{eqb-true, eq-eqb, Pid, pid_of, first_number, KernelState, room_of, NodeState, at_machine, at_pair, Spot, standing, View, and, taken_at, taken_by, taken_of_home, Mirrors, incoming_of, KernelStands}
+use Rattle.dm_mirror.proofs.Names.{NodeStands, RoomStands, AllRecords, Carries, TokensStand, destination_of, two_of, packet_of_load, SentLoad, message_id}
 use Rattle.dm_stream.specs.Stream.{gives, goes_out, is_worn}
+pub use Rattle.dm_rule.proofs.QuietTests.{eq_not as apart_is}
+use Rattle.dm_stream.specs.Packets as stream
 use Rattle.dm_stream.specs.Order as order
 use Rattle.dm_wire.specs.Sent as wire
-use Rattle.dm_node.specs.Out.{packet_of_load}
-use Rattle.dm_rule.specs.View.{SentLoad}
-use Rattle.dm_mirror.specs.Stands.{message_id}
+use Rattle.dm_kernel.specs.State as machine
 
 -- what stands of a pair, over its stream, the bytes on its wire, and what the lines say of it
 pub record Joined (b : Boot) (bag : MsgId → Option Message) (a c : ℕ) (s : Stream Message) (sent : List wire.Sent) (p : Pair) : Type 0 where
@@ -41,12 +42,9 @@ pub record Has (pt : Point) (w : WorldState) (h : History) (a c : ℕ) (s : Stre
   pub wire : w.wires a c ≡ sent
   pub pair : pt.view.pair a c ≡ p
 
-stream_is : (pt : Point) (w : WorldState) (h : History) (a c : ℕ) (s : Stream Message) (sent : List wire.Sent) (p : Pair) → Has pt w h a c s sent p → s.taken ≡ take s.receiver.count s.given → stream_of w h a c ≡ s
-stream_is pt w h a c s sent p e taken = grind (arith, nat_tests)
-
 pub pair_stands : (b : Boot) (pt : Point) (l : Placed) (w : WorldState) (h : History) (a c : ℕ) (s : Stream Message) (sent : List wire.Sent) (p : Pair) → Has pt w h a c s sent p → Joined b l.bag a c s sent p → PairStands b pt l w h a c
 pair_stands b pt l w h a c s sent p e j =
-    let whole : stream_of w h a c ≡ s = stream_is pt w h a c s sent p e j.stream.in_order.taken in
+    let whole : stream_of w h a c ≡ s = grind (arith, nat_tests, j.stream.in_order.taken) in
     pair_of b pt l w h a c (subst (λ (z : Stream Message). Joined b l.bag a c z (w.wires a c) (pt.view.pair a c)) (sym whole) (subst (λ (z : List wire.Sent). Joined b l.bag a c s z (pt.view.pair a c)) (sym e.wire) (subst (λ (z : Pair). Joined b l.bag a c s sent z) (sym e.pair) j)))
 
 -- a pair that is as it was
@@ -108,18 +106,10 @@ is_given b bag a c s sent p x fresh there lawful j = search (
 
 -- the message that is due goes out, with the next number
 numbered_is : (n k : ℕ) (o : Option Message) (x : Message) → numbered k o ≡ Some (n, x) → n ≡ k
-numbered_is n k None x e = cc
-numbered_is n k (Some y) x e = grind (arith, nat_tests)
+numbered_is n k o x e = grind (arith, nat_tests)
 
 due_if : (n k : ℕ) (o : Option Message) (x : Message) (t : Bool) → (if t then numbered k o else None) ≡ Some (n, x) → (t ≡ true) × (n ≡ k)
-due_if n k o x true e = (refl, numbered_is n k o x e)
-due_if n k o x false e = cc
-
-pub due_is : (s : Sending Message) (n : ℕ) (x : Message) → due s ≡ Some (n, x) → n ≡ s.gone
-due_is s n x e = (due_if n s.gone _ x _ e).1
-
-pub outstanding_is : (s : Sending Message) (k n : ℕ) (x : Message) → outstanding s k ≡ Some (n, x) → (n ≡ s.acked + k) × (n < s.gone)
-outstanding_is s k n x e = grind (arith, nat_tests, due_if, nat_lt)
+due_if n k o x t e = grind (arith, nat_tests, numbered_is)
 
 pub gone_next : (n g : ℕ) → n ≡ g → g + 1 ≡ gone_after (Load.Data n) g
 gone_next n g e = grind (arith, nat_tests)
@@ -131,7 +121,7 @@ pub went_out : (b : Boot) (bag : MsgId → Option Message) (a c : ℕ) (s : Stre
     → Joined b bag a c (record s { sender = with_sent s.sender; out = s.out ++ stream.just_put (stream.Data n x) ∷ [] }) (with_bytes a c sent (stream.Data n x)) (with_line p (Load.Data n))
 went_out b bag a c s sent p n x next j = search (
   subst (λ (z : Option (ℕ × Message)). order.StreamStands (goes_out s z)) next (StreamStands-happens s GoOut j.stream),
-  ap (λ (g : ℕ). g + 1) j.gone ∙ gone_next n p.gone (due_is s.sender n x next ∙ j.gone),
+  ap (λ (g : ℕ). g + 1) j.gone ∙ gone_next n p.gone ((due_if n s.sender.gone _ x _ next).1 ∙ j.gone),
   lines_put s.out (stream.Data n x) p.wire j.packets,
   bytes_put a c s.out (stream.Data n x) sent j.bytes,
 )
@@ -141,15 +131,110 @@ pub went_again : (b : Boot) (bag : MsgId → Option Message) (a c : ℕ) (s : St
     → Joined b bag a c (with_out s (stream.Data n x)) (with_bytes a c sent (stream.Data n x)) (with_line p (Load.Data n))
 went_again b bag a c s sent p k n x out j = search (
   subst (λ (z : Option (ℕ × Message)). order.StreamStands (goes_again s z)) out (StreamStands-happens s (GoAgain k) j.stream),
-  j.gone ∙ gone_again n p.gone (let f = outstanding_is s.sender k n x out in omega (arith, f.1, j.gone)),
+  j.gone ∙ gone_again n p.gone (let f : (n ≡ s.sender.acked + k) × (n < s.sender.gone) = grind (arith, nat_tests, due_if, nat_lt) in omega (arith, f.1, j.gone)),
   lines_put s.out (stream.Data n x) p.wire j.packets,
   bytes_put a c s.out (stream.Data n x) sent j.bytes,
 )
 
--- a packet on the wire back leaves all but that wire
-back_put : (b : Boot) (bag : MsgId → Option Message) (a c : ℕ) (s : Stream Message) (sent : List wire.Sent) (p : Pair) (l : stream.Load Message) → order.StreamStands (with_back s l) → Joined b bag a c s sent p → Joined b bag a c (with_back s l) sent p
-back_put b bag a c s sent p l stands j = search
-
 -- data of the stream the other way
 pub put_back : (b : Boot) (bag : MsgId → Option Message) (a c : ℕ) (s : Stream Message) (sent : List wire.Sent) (p : Pair) (n : ℕ) (x : Message) → Joined b bag a c s sent p → Joined b bag a c (with_back s (stream.Data n x)) sent p
-put_back b bag a c s sent p n x j = back_put b bag a c s sent p (stream.Data n x) (StreamStands-happens s (OtherData n x) j.stream) j
+put_back b bag a c s sent p n x j = search (StreamStands-happens s (OtherData n x) j.stream)
+
+-- What a line of a pair leaves of the machines, of the other pairs and of the kernel with places.
+
+-- a value that is set
+module _ {X : Type 0} where
+  pub at_here : (f : ℕ → X) (m : ℕ) (x : X) → at_machine f m x m ≡ x
+  at_here f m x = ap (λ (t : Bool). if t then x else f m) (eq-eqb m m refl)
+
+  pub at_other : (f : ℕ → X) (m : ℕ) (x : X) (d : ℕ) → (m == d) ≡ false → at_machine f m x d ≡ f d
+  at_other f m x d e = ap (λ (t : Bool). if t then x else f d) e
+
+  again_if : (t : Bool) (x y z : X) → (if t then y else if t then x else z) ≡ (if t then y else z)
+  again_if t x y z = grind (arith, nat_tests)
+
+  pub at_again : (f : ℕ → X) (m : ℕ) (x y : X) → at_machine (at_machine f m x) m y ≡ at_machine f m y
+  at_again f m x y = λ i. λ d. again_if (m == d) x y (f d) i
+
+  same_if : (f : ℕ → X) (m d : ℕ) (t : Bool) → (m == d) ≡ t → (if t then f m else f d) ≡ f d
+  same_if f m d t e = grind (arith, nat_tests, eqb-true)
+
+  -- set to what it was
+  pub at_same : (f : ℕ → X) (m : ℕ) → at_machine f m (f m) ≡ f
+  at_same f m = λ i. λ d. same_if f m d (m == d) refl i
+
+  pub pair_here : (f : ℕ → ℕ → X) (a c : ℕ) (x : X) → at_pair f a c x a c ≡ x
+  pair_here f a c x = ap (λ (t : Bool). if t && (c == c) then x else f a c) (eq-eqb a a refl) ∙ ap (λ (t : Bool). if t then x else f a c) (eq-eqb c c refl)
+
+  pub pair_other : (f : ℕ → ℕ → X) (a c : ℕ) (x : X) (d e : ℕ) → ((a == d) && (c == e)) ≡ false → at_pair f a c x d e ≡ f d e
+  pair_other f a c x d e is = ap (λ (t : Bool). if t then x else f d e) is
+
+pub swapped : (s t : Bool) → (s && t) ≡ false → (t && s) ≡ false
+swapped s t e = grind (arith, nat_tests)
+
+-- the point with this view, but for what machines know of processes, rings, queues and held messages
+abbrev pub with_view : Point → View → Point
+with_view pt v = record pt { view = record v { known = pt.view.known; ring = pt.view.ring; queue = pt.view.queue; held = pt.view.held; moves = pt.view.moves } }
+
+module _ (b : Boot) (pt : Point) (l : Placed) (v : View) where
+  home_same : (m home k : ℕ) → taken_of_home (with_view pt v) m home k ≡ taken_of_home pt m home k
+  home_same m home zero = refl
+  home_same m home (suc k) = ap (λ r. and r (taken_by pt m (pid_of home (first_number + k)))) (home_same m home k)
+
+  taken_same : (m n : ℕ) → taken_at (with_view pt v) m n ≡ taken_at pt m n
+  taken_same m zero = refl
+  taken_same m (suc n) = λ i. and (taken_same m n i) (home_same m n (pt.kernel.made n) i)
+
+  room_same : (m : ℕ) (k : KernelState) → RoomStands k.room (room_of (slice_get b.machines m)) (taken_at pt m pt.kernel.machines)
+      → RoomStands k.room (room_of (slice_get b.machines m)) (taken_at (with_view pt v) m pt.kernel.machines)
+  room_same m k h = subst (λ r. RoomStands k.room (room_of (slice_get b.machines m)) r) (sym (taken_same m pt.kernel.machines)) h
+
+  -- the kernel with this inbox
+  pub kernel_box : (m : ℕ) (k : KernelState) (box : List Message) → AreMessages l.bag (v.inbox m) box → KernelStands b pt l m k → KernelStands b (with_view pt v) l m (record k { inbox = box })
+  kernel_box m k box e h = search (h.known, room_same m k h.room)
+
+  pub kernel_same : (m : ℕ) (k : KernelState) → v.inbox m ≡ pt.view.inbox m → KernelStands b pt l m k → KernelStands b (with_view pt v) l m k
+  kernel_same m k e h = kernel_box m k k.inbox (subst (λ (is : List MsgId). AreMessages l.bag is k.inbox) (sym e) h.inbox) h
+
+  pub node_same : (m : ℕ) (n : NodeState) → v.inbox m ≡ pt.view.inbox m → (v.pair m m).ids ≡ (pt.view.pair m m).ids → NodeStands b pt l m n → NodeStands b (with_view pt v) l m n
+  node_same m n e own h = search (kernel_same m n.kernel e h.kernel, h.home ∙ ap length (sym own))
+
+  pub mirrors_same : Mirrors pt.kernel pt.view pt.addresses l → Mirrors pt.kernel (with_view pt v).view pt.addresses l
+  mirrors_same h = record {
+    plain = h.plain;
+    places = record {
+      process = λ p x there. (let k = h.places.process p x there in record { pid = k.pid; moves = k.moves; slots = k.slots; owner = k.owner });
+      message = h.places.message;
+      name = h.places.name;
+      child = h.places.child;
+      answer = h.places.answer;
+    };
+  }
+
+  -- machine m has this state, and the others have theirs
+  pub nodes_are : (m : ℕ) (f g : ℕ → NodeState) → ((d : ℕ) → (m == d) ≡ false → g d ≡ f d) → ((d : ℕ) → (m == d) ≡ false → v.inbox d ≡ pt.view.inbox d) → ((d : ℕ) → (m == d) ≡ false → (v.pair d d).ids ≡ (pt.view.pair d d).ids)
+      → NodeStands b (with_view pt v) l m (g m) → (d : ℕ) → NodeStands b pt l d (f d) → NodeStands b (with_view pt v) l d (g d)
+  nodes_are m f g others boxes own here d h = is d (m == d) refl h
+    where
+      is : (d : ℕ) (t : Bool) → (m == d) ≡ t → NodeStands b pt l d (f d) → NodeStands b (with_view pt v) l d (g d)
+      is d true e h = subst (λ (z : ℕ). NodeStands b (with_view pt v) l z (g z)) (eqb-true m d e) here
+      is d false e h = subst (λ (z : NodeState). NodeStands b (with_view pt v) l d z) (sym (others d e)) (node_same d (f d) (boxes d e) (own d e) h)
+
+-- the pairs of m and c stand, and the others are as they were
+pub pairs_are : (b : Boot) (pt next : Point) (l : Placed) (w after : WorldState) (h later : History) (m c : ℕ) → PairStands b next l after later m c → PairStands b next l after later c m
+    → ((a d : ℕ) → ((m == a) && (c == d)) ≡ false → ((c == a) && (m == d)) ≡ false → Stays pt w h next after later a d) → (a d : ℕ) → PairStands b pt l w h a d → PairStands b next l after later a d
+pairs_are b pt next l w after h later m c there back others a d s = is ((m == a) && (c == d)) ((c == a) && (m == d)) refl refl
+  where
+    is : (t u : Bool) → ((m == a) && (c == d)) ≡ t → ((c == a) && (m == d)) ≡ u → PairStands b next l after later a d
+    is true u e f = let k = two_of m c a d e in subst (λ (z : ℕ). PairStands b next l after later z d) k.0 (subst (λ (z : ℕ). PairStands b next l after later m z) k.1 there)
+    is false true e f = let k = two_of c m a d f in subst (λ (z : ℕ). PairStands b next l after later z d) k.0 (subst (λ (z : ℕ). PairStands b next l after later c z) k.1 back)
+    is false false e f = pair_stays b pt next l w after h later a d (others a d e f) s
+
+-- the messages of migrations under way carry the same, where nothing that they are read by changes
+pub tokens_same : (v u : View) (l : Placed) (r s : AllRecords) → ((i : MsgId) → u.told i ≡ v.told i) → ((p : Pid) → u.asked p ≡ v.asked p) → ((i : MsgId) (z : Spot) → standing u i z ≡ standing v i z) → ((d : ℕ) → s d ≡ r d)
+    → TokensStand v l r → TokensStand u l s
+tokens_same v u l r s told asked spots records h p i t z is between about st =
+    let k = h p i t z (sym (told i) ∙ is) between about (subst (λ (n : ℕ). 1 ≤ n) (spots i z) st) in
+    let d : ℕ = destination_of i t in
+    search
+    (subst (λ (n : ℕ). Carries p k.process n (incoming_of (s d p)) k.message.what) (sym (asked p)) (subst (λ (f : Pid → Option machine.KernelKnown). Carries p k.process (v.asked p) (incoming_of (f p)) k.message.what) (sym (records d)) k.carries))

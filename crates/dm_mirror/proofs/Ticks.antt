@@ -2,17 +2,15 @@
 use Rattle.dm_mirror.proofs.Names.{◌≡◌, ◌≢◌, ℕ, zero, suc, ◌+◌, ◌-◌, ◌<◌, ◌≤◌, ◌==◌, nat_lt, Bool, true, false, List, [], ◌∷◌, ◌++◌, length, refl, ap, ◌∙◌, sym, subst, arith, if◌then◌else◌, slice_get, Option, None, Some, nat_tests}
 use Rattle.dm_mirror.proofs.Names.{append-nil, length-drop, map-append, Message, Data, outstanding, numbered, Stream, Boot, bind, Step, Load, NodeState, here, Out, Sends, again, all_out, count_out, counts_out, first_out, sends, tick}
 use Rattle.dm_mirror.proofs.Names.{spoken, Line, View, NothingElse, after_packet, begins, Part, Transmits, Spelled, spelled, Point, headed, numbers_from, repeats, resends, Placed, WorldState, acted, at_machine, CountsStand, History}
-use Rattle.dm_mirror.proofs.Names.{PairStands, StandsWith, stream_of, GoesOn}
+use Rattle.dm_mirror.proofs.Names.{PairStands, StandsWith, stream_of, GoesOn, packet_of_load, behind}
 use Rattle.std.proofs.lemmas.List.{append_assoc}
 use Rattle.dm_stream.specs.Order as order
-use Rattle.dm_node.specs.Out.{packet_of_load}
 use Rattle.dm_rule.specs.Parts as rule
-use Rattle.dm_rule.specs.Parts.{behind}
 use Rattle.dm_rule.specs.Rule as rules
-use Rattle.dm_mirror.proofs.Streams.{joined, put_back, went_again}
-use Rattle.dm_mirror.proofs.Stays.{at_same, node_same}
+use Rattle.dm_mirror.proofs.Streams.{joined, put_back, went_again, at_same, node_same}
 use Rattle.dm_mirror.proofs.Puts.{ids_same, line_put, same_senders, spelled_on, spoken-append, stands_begins, stands_put, wire_length}
-use Rattle.dm_mirror.proofs.Deliver.Lets.{given_at as get_there}
+use Rattle.dm_mirror.proofs.Deliver.Moves.{given_at as get_there}
+use Rattle.dm_mirror.proofs.QuietSaid.{not_same as apart_of}
 
 pub stands_begun : (b : Boot) (w : WorldState) (pt : Point) (l : Placed) (h : History) (m : ℕ) → StandsWith b w pt l h → StandsWith b (record w { groups = w.groups + 1 }) (record pt { view = begins pt.view m NothingElse }) l h
 stands_begun b w pt l h m st = stands_begins b w pt l h m NothingElse st
@@ -71,9 +69,6 @@ again_one b l w pt h m c k n x apart small less out st =
     } in
     subst (λ (z : ℕ). Again b l w pt (Sends (packet_of_load z c (Data n x)) ∷ []) (Transmits m c (Load.Data n) ∷ [])) (sym (st.nodes m small).kernel.here) is
 
-apart_of : (m c : ℕ) → (m == c) ≡ false → m ≢ c
-apart_of m c e = grind (arith, nat_tests)
-
 -- the numbers one after the other
 numbers_next : (n k : ℕ) → numbers_from n (suc k) ≡ numbers_from n k ++ (n + k) ∷ []
 numbers_next n zero = ap (λ (z : ℕ). z ∷ []) (omega arith)
@@ -122,8 +117,7 @@ module _ (b : Boot) (l : Placed) (w : WorldState) (m : ℕ) where
       subst (λ (p : ℕ × ℕ). Again b l w pt outs (repeats m c (numbers_from p.0 (p.1 - p.0)))) (λ i. (acked apart i, gone apart i)) (first_on pt h c apart small less st (count_out ((w.nodes m).senders c)) (omega arith))
 
   count_if : (pt : Point) (h : History) (c : ℕ) (t : Bool) → (m == c) ≡ t → m < pt.kernel.machines → c < pt.kernel.machines → StandsWith b w pt l h → (if t then 0 else count_out ((w.nodes m).senders c)) ≡ (if t then 0 else (pt.view.pair m c).gone - (pt.view.pair m c).acked)
-  count_if pt h c true e small less st = refl
-  count_if pt h c false e small less st = let p = st.pairs m c small less (apart_of m c e) in λ i. p.gone i - p.acked i
+  count_if pt h c t e small less st = grind (arith, nat_tests, apart_of)
 
 -- what is out to the first n machines, as the rule has it for the lines before
 all_on : (b : Boot) (l : Placed) (w : WorldState) (m : ℕ) (pt : Point) (h : History) → m < pt.kernel.machines → StandsWith b w pt l h → (n : ℕ) → n ≤ pt.kernel.machines → Again b l w pt (all_out (w.nodes m) n) (resends pt.view m n)

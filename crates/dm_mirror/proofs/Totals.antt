@@ -1,8 +1,9 @@
 -- How many messages were routed, pair by pair and in all: no line takes any away, and a route adds one.
-use Rattle.dm_mirror.proofs.Names.{◌≡◌, inl, inr, ℕ, zero, suc, ◌+◌, ◌*◌, ◌<◌, ◌≤◌, ◌==◌, ◌&&◌, Bool, true, false, not, filter, List, [], ◌∷◌, ◌++◌, length, refl, ap, ◌∙◌, subst, arith, if◌then◌else◌, cases_Bool, nat_tests, Pid, MsgId}
-use Rattle.dm_mirror.proofs.Names.{MessageKind, Step, Line, at_pair, View, Pair, view_after, handled, eq_is, queued_pair, held_pair, forwarded_pair, taken_pair, label_pair, stage_pair, proto_pair}
-use Rattle.dm_rule.specs.View as view
+use Rattle.dm_mirror.proofs.Names.{◌≡◌, inl, inr, ℕ, zero, suc, ◌+◌, ◌*◌, ◌<◌, ◌≤◌, ◌==◌, false, not, filter, [], ◌∷◌, ◌++◌, length, refl, ap, subst, arith, cases_Bool, nat_tests, Pid, MsgId, MessageKind, Step, Line, at_pair, View, Pair}
+use Rattle.dm_mirror.proofs.Names.{view_after, handled, eq_is, queued_pair, held_pair, forwarded_pair, taken_pair, label_pair, stage_pair, proto_pair}
 use Rattle.dm_rule.proofs.Lines.{parts}
+use Rattle.dm_rule.specs.View as view
+use Rattle.dm_mirror.proofs.RaisesMade.{append-longer}
 
 -- how many messages were routed from a to c
 abbrev pub ids_of : View → ℕ → ℕ → ℕ
@@ -17,24 +18,17 @@ grows_same v w e = record { ids = λ a c. let f : ids_of w a c ≡ ids_of v a c 
 pub grows_on : (u v w : View) → Grows u v → Grows v w → Grows u w
 grows_on u v w h k = record { ids = λ a c. omega (arith, h.ids a c, k.ids a c) }
 
-pair_grows : (f : ℕ → ℕ → Pair) (a b : ℕ) (p : Pair) → length (f a b).ids ≤ length p.ids → (c d : ℕ) → length (f c d).ids ≤ length (at_pair f a b p c d).ids
-pair_grows f a b p le c d = grind (arith, nat_tests, parts, eq_is)
-
 set_grows : (v w : View) (a b : ℕ) (p : Pair) → w.pair ≡ at_pair v.pair a b p → length (v.pair a b).ids ≤ length p.ids → Grows v w
 set_grows v w a b p e le = record {
   ids = λ c d.
       let f : ids_of w c d ≡ length (at_pair v.pair a b p c d).ids = ap (λ (q : ℕ → ℕ → Pair). length (q c d).ids) e in
-      let g = pair_grows v.pair a b p le c d in
+      let g : length (v.pair c d).ids ≤ length (at_pair v.pair a b p c d).ids = grind (arith, nat_tests, parts, eq_is) in
       omega (arith, f, g);
 }
 
 head_grows : (v : View) (d : Step) → Grows v (view.after_head v d)
 head_grows v (Step.Deliver a c k) = set_grows v (view.after_head v (Step.Deliver a c k)) a c (view.marked (v.pair a c) k) refl (omega arith)
 head_grows v any_ = grows_same v (view.after_head v any_) refl
-
-append-longer : {A : Type 0} (xs : List A) (y : A) → length (xs ++ y ∷ []) ≡ length xs + 1
-append-longer [] y = refl
-append-longer (x ∷ xs) y = omega (arith, append-longer xs y)
 
 pub line_grows : (v : View) (l : Line) → Grows v (view_after v l)
 line_grows v (Line.Head d) = head_grows v d

@@ -1,24 +1,24 @@
 -- A turn, or a directive to move a process: the machine says and routes what the rule spells, or stops worn.
 use Rattle.dm_mirror.proofs.Names.{◌≡◌, ℕ, ◌+◌, ◌<◌, ◌≤◌, ◌==◌, List, [], ◌∷◌, ◌++◌, length, map, refl, ap, ◌∙◌, sym, subst, inl, inr, All, Option, Some, cases_Bool, eqb-true, All-head, All-tail, Boot, OneKernel, bind, bind-is, Step, Line}
 use Rattle.dm_mirror.proofs.Names.{Stage, Out, Spelled, spelled, Point, after_line, moved, group_of, headed, outcome, at_machine, standing, About, Pair, begins, worn_in, PairsFit, AllSayable, Sane, outcome_sayable, sane_line, machine_of}
-use Rattle.dm_mirror.proofs.Names.{Run, Placed, Mirrors, lines_keep, IsLawfulPart, IsLawfulTurned, NodeState, Acts, Goes, Worn, behind, acts, Spoken, spoken, WorldState, acted, world_step, GoesOn, StopsWorn, Steps, CountsStand, History}
-use Rattle.dm_mirror.proofs.Names.{StandsWith}
+use Rattle.dm_mirror.proofs.Names.{Run, Placed, Mirrors, lines_keep, IsLawfulPart, IsLawfulTurned, NodeState, Acts, Goes, Worn, acts, Spoken, spoken, WorldState, acted, world_step, GoesOn, StopsWorn, Steps, CountsStand, History, StandsWith}
+use Rattle.dm_mirror.proofs.Names.{Pid, IsMachine, IsValid, NothingElse, Target, goes_on, RunGoes, OwnTold, asks_move, MayTurn, turn, asked_lawful, turn_lawful}
+use Rattle.dm_node.proofs.Names.{behind}
 use Rattle.std.proofs.lemmas.List.{append_assoc}
-use Rattle.dm_rule.specs.Parts as rule
 use Rattle.dm_rule.proofs.Groups.{fits}
 use Rattle.dm_kernel.specs.declared.part.Part.{Part}
+use Rattle.dm_world.specs.World.{turned}
+use Rattle.dm_rule.specs.Parts as rule
 use Rattle.dm_kernel.specs.State as machine
 use Rattle.dm_node.specs.Acts as node
-use Rattle.dm_world.specs.World.{turned}
-use Rattle.dm_mirror.proofs.Turning.{Route, Late, Nothing, Leaves, Turns, late_parts, late_point, late_rule_parts, part_of, rule_part_of}
-use Rattle.dm_mirror.proofs.Stays.{at_again, at_here, at_other}
+use Rattle.dm_mirror.proofs.Turning.{Route, Late, Nothing, Leaves, Turns, late_parts, late_point, late_rule_parts, part_of, rule_part_of, TurnsAt}
 use Rattle.dm_mirror.proofs.Puts.{stands_begins}
-use Rattle.dm_mirror.proofs.Route.Late.{late_pair}
 use Rattle.dm_mirror.proofs.Route.List.{AreLawful, IsLawfulLate, Going, RoutesOn, RoutesWorn, late_acting, late_count, late_kernel, routes_go}
-use Rattle.dm_mirror.proofs.Saying.{acts_say, says_rest, says_sane, spoken_says, worn_behind}
 use Rattle.dm_mirror.proofs.Others.{MadeHere}
-use Rattle.dm_mirror.proofs.Join.{turned_here, turned_records, turned_stands, with_kernel, with_turned}
-use Rattle.dm_mirror.proofs.Within.{made_here, stands_within}
+use Rattle.dm_mirror.proofs.Join.{turned_here, turned_records, turned_stands, with_kernel, with_turned, made_here, stands_within}
+use Rattle.dm_mirror.proofs.Route.Puts.{late_pair}
+use Rattle.dm_mirror.proofs.Streams.{at_again, at_here, at_other}
+use Rattle.dm_mirror.proofs.Routing.{acts_say, says_rest, says_sane, spoken_says, worn_behind}
 
 -- what is routed is lawful
 said_lawful : (ls : List Line) (ps : List Part) → All IsLawfulPart (map Part.Says ls ++ ps) → All IsLawfulPart ps
@@ -197,3 +197,23 @@ module _ (b : Boot) (w : WorldState) (pt : Point) (l : Placed) (h : History) (m 
     | inl k ↦ inl (goes k)
     | inr k ↦ inr (wears k)
   ]
+
+-- A turn, and a directive to move a process: the machine does what the rule says, or stops worn.
+
+-- a turn of machine m from where the world stands
+pub turn_goes : RunGoes → (b : Boot) (w : WorldState) (pt : Point) (l : Placed) (h : History) (m : ℕ) → IsValid b → Run b pt → OwnTold pt → MayTurn b (w.nodes m).kernel → StandsWith b w pt l h → CountsStand w pt → m < pt.kernel.machines
+    → TurnsAt b m pt l (λ n. (w.nodes n).kernel.records) (w.nodes m).kernel → Steps b w pt (Step.Turn m)
+turn_goes goes b w pt l h m valid run own may stands sent below t =
+    let (group, due) = goes_on b pt (Step.Turn m) valid run own below in
+    turn_steps b w pt l h m (Step.Turn m) (turn b (w.nodes m).kernel) NothingElse (record { head = refl; happens = refl }) run stands sent below t
+    (turn_lawful b (w.nodes m).kernel (record { state = t.state; parts = map Part.Says t.says ++ map part_of t.routes ++ late_parts t.late }) valid.images may (stands.nodes m below).lawful t.turn)
+    group due (goes b pt (Step.Turn m) group valid below due run own)
+
+-- the manager, on machine 0, is told to move a process
+pub move_goes : RunGoes → (b : Boot) (w : WorldState) (pt : Point) (l : Placed) (h : History) (p : Pid) (to : ℕ) → IsValid b → Run b pt → OwnTold pt → (w.nodes 0).kernel.here < 16 → IsMachine to → StandsWith b w pt l h → CountsStand w pt → 0 < pt.kernel.machines
+    → to < pt.kernel.machines → Turns b 0 (Step.Migrate p to) (asks_move (w.nodes 0).kernel p to) pt (moved pt (Line.Head (Step.Migrate p to)) pt.kernel) l (λ n. (w.nodes n).kernel.records) (w.nodes 0).kernel → Steps b w pt (Step.Migrate p to)
+move_goes goes b w pt l h p to valid run own here machine stands sent below within t =
+    let (group, due) = goes_on b pt (Step.Migrate p to) valid run own within in
+    turn_steps b w pt l h 0 (Step.Migrate p to) (asks_move (w.nodes 0).kernel p to) (Target to) (record { head = refl; happens = refl }) run stands sent below t
+    (asked_lawful (w.nodes 0).kernel p to (record { state = t.state; parts = map Part.Says t.says ++ map part_of t.routes ++ late_parts t.late }) here machine (stands.nodes 0 below).lawful t.turn)
+    group due (goes b pt (Step.Migrate p to) group valid within due run own)

@@ -78,7 +78,7 @@ abbrev pub numbered_message : Field (ℕ × Message)
 numbered_message = both (number 4) (λ _. message)
 
 abbrev pub spell_rest : Packet → List ℕ
-spell_rest (Data from to seq m) = numbered_message.spell (seq, m)
+spell_rest (Data from to seq m) = (number 4).spell seq ++ spell_message m
 spell_rest (Ack from to count) = (number 4).spell count
 
 -- the one spelling of a packet

@@ -114,17 +114,11 @@ outcome_field = coded outcome_coded code_of_outcome bad.Limit
 -- the one spelling of what a message carries
 unfoldable pub spell_what : What → List ℕ
 spell_what (what.User code channel body links) = user.spell (code, (channel, (body.items, links.items)))
-spell_what what.Stop = []
-spell_what what.Resume = []
-spell_what what.Kill = []
 spell_what (what.Read base len) = read.spell (base, len)
 spell_what (what.Write base bytes) = write.spell (base, bytes.items)
 spell_what (what.Block bytes) = (bytes_within 1 256).spell bytes.items
-spell_what what.Written = []
-spell_what what.Gone = []
 spell_what (what.Create image links) = create.spell (image, links.items)
 spell_what (what.Created p) = pid.spell p
-spell_what what.NoRoom = []
 spell_what (what.Migrate m) = machine.spell m
 spell_what (what.Update about) = addr.spell about
 spell_what (what.Ask p blocks moves size who) = ask.spell (p, (blocks, (moves, (size, who))))
@@ -139,6 +133,7 @@ spell_what (what.Move m) = machine.spell m
 spell_what (what.Moved end) = outcome_field.spell end
 spell_what (what.CallOff p) = pid.spell p
 spell_what (what.Bury p) = pid.spell p
+spell_what w = []
 
 -- what is read, put into a message
 abbrev pub read_as : {X : Type 0} → Field X → (X → What) → List ℕ → Result (What × List ℕ) PacketError

@@ -8,6 +8,7 @@ use Rattle.dm_processor.specs.declared.registers.Stepped.TheVariants as stepped
 use Rattle.dm_processor.specs.declared.opcodes.Opcode.{Opcode}
 use Rattle.dm_processor.specs.declared.opcodes.Opcode.TheVariants.{Li, Lih, Mov, Add, Sub, Mul, And, Or, Xor, Shl, Shr, Lw, Sw, Lb, Sb, Jmp, Beq, Bne, Bltu, Sys}
 use Rattle.dm_processor.specs.Opcodes.{opcode_of}
+pub use Rattle.dm_processor.specs.Opcodes.{register_fields}
 
 -- what an instruction comes to: new registers and memory, a call of the kernel, or a fault that changes nothing
 pub data Row : Type 0 where
@@ -92,29 +93,6 @@ effect Beq regs m a b c = branch_row (register_at regs a == register_at regs b) 
 effect Bne regs m a b c = branch_row (not (register_at regs a == register_at regs b)) regs m c
 effect Bltu regs m a b c = branch_row (nat_lt (register_at regs a) (register_at regs b)) regs m c
 effect Sys regs m a b c = Calls c (past regs)
-
--- how many of an instruction's last three bytes name registers, from the first on
-abbrev pub register_fields : Opcode → ℕ
-register_fields Li = 1
-register_fields Lih = 1
-register_fields Mov = 2
-register_fields Add = 3
-register_fields Sub = 3
-register_fields Mul = 3
-register_fields And = 3
-register_fields Or = 3
-register_fields Xor = 3
-register_fields Shl = 3
-register_fields Shr = 3
-register_fields Lw = 2
-register_fields Sw = 2
-register_fields Lb = 2
-register_fields Sb = 2
-register_fields Jmp = 0
-register_fields Beq = 2
-register_fields Bne = 2
-register_fields Bltu = 2
-register_fields Sys = 0
 
 -- whether the bytes that name registers name some
 abbrev pub names_registers : ℕ → ℕ → ℕ → ℕ → Bool

@@ -1,7 +1,7 @@
 //! One step of the machine.
 ghost use Rattle.std.specs.Prelude.{◌≡◌, ◌*◌, ◌%◌, ◌^◌, nat_lt, true};
-ghost use Rattle.dm_processor.specs.Instructions.{DoesRow, effect, immediate, instruction, names_registers, operation_row, register_fields};
-ghost use Rattle.dm_processor.specs.Opcodes.{opcode_of};
+ghost use Rattle.dm_processor.specs.Instructions.{DoesRow, effect, immediate, instruction, names_registers, operation_row};
+ghost use Rattle.dm_processor.specs.Opcodes.{opcode_of, register_fields};
 
 use crate::opcodes::Opcode;
 use crate::operations::{address, fetch, load_byte, load_word, store_byte, store_word};

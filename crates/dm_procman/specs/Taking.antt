@@ -1,5 +1,6 @@
 -- What the process manager does with a message, with the places that addresses, links and messages lead to.
 use Rattle.std.specs.Prelude.{ℕ, zero, suc, Bool, ◌+◌, ◌*◌, ◌==◌, ◌&&◌, nat_lt, if◌then◌else◌, List, [], ◌∷◌, ◌++◌, length, slice_get, IsSome}
+use Rattle.std.specs.List.{find}
 use Rattle.std.specs.declared.option.Option.{Option}
 use Rattle.std.specs.declared.option.Option.TheVariants.{None, Some}
 use Rattle.dm_link.specs.declared.Pid.{Pid}
@@ -105,8 +106,7 @@ has_number n r = r.n == n
 
 -- the request of a number, and the others
 abbrev pub pending_request : ℕ → List Pending → Option Pending
-pending_request n [] = None
-pending_request n (r ∷ rs) = if r.n == n then Some r else pending_request n rs
+pending_request n pending = find (λ r. r.n == n) pending
 
 abbrev pub without_pending : ℕ → List Pending → List Pending
 without_pending n [] = []

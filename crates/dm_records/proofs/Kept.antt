@@ -1,5 +1,5 @@
 -- A process that has a record keeps one where a record is set.
-use Rattle.dm_records.proofs.Names.{◌≡◌, Bool, true, false, cond, if◌then◌else◌, IsSome, ◌∙◌, ap, arith, refl, rules, sym, common_steps, is_at, Option, Some, Pid, pid_cmp, pid_eq, in_place}
+use Rattle.dm_records.proofs.Names.{◌≡◌, Bool, true, false, cond, if◌then◌else◌, IsSome, ◌∙◌, ap, arith, refl, rules, sym, common_steps, is_at, Option, Some, Pid, pid_cmp, pid_eq, option_flatten}
 
 one_of : {R : Type 0} (same : Bool) (x : R) (o : Option R) → IsSome o → IsSome (if same then Some x else o)
 one_of true x o s = search rules
@@ -14,13 +14,13 @@ same_at p q = grind (arith, common_steps)
 pid_same : (p q : Pid) → pid_eq p q ≡ true → p ≡ q
 pid_same p q h = grind (arith, common_steps)
 
-in_chosen : {R : Type 0} (same : Bool) (n o : Option (Option R)) (w : Option R) → n ≡ cond same (Some w) o → in_place n ≡ (if same then w else in_place o)
-in_chosen true n o w e = ap in_place e
-in_chosen false n o w e = ap in_place e
+in_chosen : {R : Type 0} (same : Bool) (n o : Option (Option R)) (w : Option R) → n ≡ cond same (Some w) o → option_flatten n ≡ (if same then w else option_flatten o)
+in_chosen true n o w e = ap option_flatten e
+in_chosen false n o w e = ap option_flatten e
 
 -- what stands in a place that is set, and in the others
 pub in_set : {R : Type 0} (old : Pid → Option (Option R)) (n : Option (Option R)) (p q : Pid) (w : Option R) → n ≡ cond (is_at (pid_cmp p) q) (Some w) (old q)
-    → in_place n ≡ (if pid_eq p q then w else in_place (old q))
+    → option_flatten n ≡ (if pid_eq p q then w else option_flatten (old q))
 in_set old n p q w e = in_chosen (pid_eq p q) n (old q) w (e ∙ ap (λ (b : Bool). cond b (Some w) (old q)) (same_at p q))
 
 as_it_was : {R : Type 0} (same : Bool) (n o : Option R) → (same ≡ true → n ≡ o) → (if same then n else o) ≡ o
@@ -29,6 +29,6 @@ as_it_was false n o e = refl
 
 -- a place that is set as it was
 pub in_same : {R : Type 0} (old : Pid → Option (Option R)) (n : Option (Option R)) (p q : Pid) (w : Option R) → old p ≡ Some w → n ≡ cond (is_at (pid_cmp p) q) (Some w) (old q)
-    → in_place n ≡ in_place (old q)
+    → option_flatten n ≡ option_flatten (old q)
 in_same old n p q w is e =
-    in_set old n p q w e ∙ as_it_was (pid_eq p q) w (in_place (old q)) (λ same. sym (ap in_place is) ∙ ap (λ (r : Pid). in_place (old r)) (pid_same p q same))
+    in_set old n p q w e ∙ as_it_was (pid_eq p q) w (option_flatten (old q)) (λ same. sym (ap option_flatten is) ∙ ap (λ (r : Pid). option_flatten (old r)) (pid_same p q same))

@@ -1,5 +1,6 @@
 -- What a machine's records say, as a function of the process.
-use Rattle.std.specs.Prelude.{if◌then◌else◌, IsSome}
+use Rattle.std.specs.Prelude.{if◌then◌else◌, IsSome, option_and_then}
+use Rattle.std.specs.Option.{option_flatten}
 use Rattle.std.specs.declared.option.Option.{Option}
 use Rattle.std.specs.declared.option.Option.TheVariants.{None, Some}
 use Rattle.std.specs.BTreeMap.{get}
@@ -11,14 +12,9 @@ use Rattle.dm_records.specs.declared.record.Whereabouts.{Whereabouts}
 use Rattle.dm_records.specs.declared.record.Whereabouts.TheVariants as where_
 use Rattle.dm_records.specs.declared.records.Records.{Records}
 
--- what stands in a place, where there is one
-abbrev pub in_place : {R : Type 0} → Option (Option R) → Option R
-in_place None = None
-in_place (Some entry) = entry
-
 -- the record of a process
 unfoldable pub at : {H L A E : Type 0} → Records H L A E → Pid → Option (Record H L A E)
-at records q = in_place (get pid_cmp records.places q)
+at records q = option_flatten (get pid_cmp records.places q)
 
 -- a process has a place, with its record or without
 unfoldable pub HasPlace : {H L A E : Type 0} → Records H L A E → Pid → Type 0
@@ -43,26 +39,17 @@ whereabouts_of (Ended why) = where_.Ended
 -- the process, where it is here
 abbrev pub process_of : {H L A E : Type 0} → Record H L A E → Option H
 process_of (Here process) = Some process
-process_of (Frozen leaving) = None
-process_of (Incoming arriving) = None
-process_of (Forward machine moves) = None
-process_of (Ended why) = None
+process_of entry = None
 
 -- the process, where it leaves
 abbrev pub leaving_of : {H L A E : Type 0} → Record H L A E → Option L
-leaving_of (Here process) = None
 leaving_of (Frozen leaving) = Some leaving
-leaving_of (Incoming arriving) = None
-leaving_of (Forward machine moves) = None
-leaving_of (Ended why) = None
+leaving_of entry = None
 
 -- what has come of the process, where parts have come
 abbrev pub arriving_of : {H L A E : Type 0} → Record H L A E → Option A
-arriving_of (Here process) = None
-arriving_of (Frozen leaving) = None
 arriving_of (Incoming arriving) = Some arriving
-arriving_of (Forward machine moves) = None
-arriving_of (Ended why) = None
+arriving_of entry = None
 
 -- the same of a record that there may be
 abbrev pub here_of : {H L A E : Type 0} → Option (Record H L A E) → Option H
@@ -74,8 +61,7 @@ frozen_of None = None
 frozen_of (Some entry) = leaving_of entry
 
 abbrev pub incoming_of : {H L A E : Type 0} → Option (Record H L A E) → Option A
-incoming_of None = None
-incoming_of (Some entry) = arriving_of entry
+incoming_of entry = option_and_then arriving_of entry
 
 -- each process that had a record has one
 abbrev pub Grows : {H L A E : Type 0} → (Pid → Option (Record H L A E)) → (Pid → Option (Record H L A E)) → Type 0

@@ -40,12 +40,7 @@ HasTaken room blocks = (0 < room.taken_slots) × (blocks ≤ room.taken_blocks)
 -- one slot and these blocks more are taken
 abbrev pub with_reserved : Taken → ℕ → Taken
 with_reserved room blocks =
-    record {
-      slots = room.slots;
-      blocks = room.blocks;
-      taken_slots = room.taken_slots + 1;
-      taken_blocks = room.taken_blocks + blocks;
-    }
+    record room { taken_slots = room.taken_slots + 1; taken_blocks = room.taken_blocks + blocks }
 
 -- one slot and these blocks are free again
 abbrev pub with_released : Taken → ℕ → Taken

@@ -17,7 +17,6 @@ use Rattle.dm_rule.specs.Rule as rule
 use Rattle.dm_rule.proofs.Bags.{served_id, landed_id, board_id, manager_id, took_id, id_in, bag_ran, bag_call, bag_sends, bag_wait, bag_out, bag_end, bag_receive, bag_refuse, bag_dropped, bag_served, bag_gone, bag_asked, bag_took}
 use Rattle.dm_rule.proofs.Bags.{bag_created, bag_no_space}
 use Rattle.dm_rule.proofs.States.{State, says_next, said, State-at, by_label, by_line, PairsFit}
-use Rattle.dm_rule.proofs.Bags.{BagStep}
 use Rattle.dm_rule.proofs.Turns.{served_keeps, serving_off, created_off, quiet_label, front_label, dropped_off, dropped_told, front_unqueued, all_dropped, ended_off, gone_out}
 use Rattle.dm_rule.proofs.Letters.{letters, letter_of}
 use Rattle.dm_rule.proofs.Said.{fits_as, one_line, line_and_route}

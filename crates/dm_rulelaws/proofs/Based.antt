@@ -3,13 +3,10 @@ pub mod Needs
 pub mod Rows
 pub mod Groups
 pub mod Constants
-pub mod Lives
 pub mod Loud
 pub mod Sets
-pub mod Lists
 pub mod Queues
 pub mod Unmoved
-pub mod Rings
 pub mod Known
 pub mod Noted
 pub mod Start

@@ -42,12 +42,7 @@ none_more [] e = refl
 none_more (x ∷ xs) e = absurd (omega (arith, e))
 
 decided : (b : Boot) (gs hs more : List (List Line)) (end fin : Point) (left rest : Todo) → hs ≡ gs ++ more → more ≡ [] → IsRun b end left more fin rest → (gs ≡ hs) × (end ≡ fin) × (left ≡ rest)
-decided b gs hs more end fin left rest is none run =
-    let (at, same) : (end ≡ fin) × (left ≡ rest) = subst (λ (xs : List (List Line)). IsRun b end left xs fin rest) none run in
-    (sym (is ∙ ap (λ (xs : List (List Line)). gs ++ xs) none ∙ append_nothing gs), at, same)
+decided b gs hs more end fin left rest is none run = search (arith, append_nothing)
 
 pub rule_decides : RuleDecides
-rule_decides b pt t gs hs end fin left rest r s same =
-    let (more, is, run) = shorter_begins b pt t gs hs end fin left rest r s (omega (arith, same)) in
-    let long : length hs ≡ length gs + length more = ap length is ∙ length_more gs more in
-    decided b gs hs more end fin left rest is (none_more more (omega (arith, long, same))) run
+rule_decides b pt t gs hs end fin left rest r s same = search (arith, shorter_begins, length_more, decided, none_more)

@@ -1,7 +1,6 @@
 -- Lemmas of the family Fits, by file.
 pub mod Rises
 pub mod Calls
-pub mod Receives
 pub mod Steps
 pub mod Serves
 pub mod Creates

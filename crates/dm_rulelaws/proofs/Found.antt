@@ -1,18 +1,13 @@
 -- Lemmas of the family Found, by file.
 pub mod Steps
-pub mod Made
-pub mod Spares
 pub mod Lists
 pub mod Places
-pub mod Held
 pub mod Core
 pub mod Labels
 pub mod Puts
-pub mod Given
 pub mod Lines
 pub mod Parts
 pub mod Rows
-pub mod Hears
 pub mod Forward
 pub mod Real
 pub mod Groups

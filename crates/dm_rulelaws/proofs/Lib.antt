@@ -1,5 +1,7 @@
 pub mod Names
 pub mod Queued
+pub mod Takes
+pub mod Calling
 pub mod Fits
 pub mod Tables
 pub mod Found

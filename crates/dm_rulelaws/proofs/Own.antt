@@ -1,5 +1,4 @@
 -- Lemmas of the family Own, by file.
 pub mod Told
-pub mod Fits
 pub mod Senders
 pub mod Groups

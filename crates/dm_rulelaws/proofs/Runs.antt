@@ -1,6 +1,6 @@
 -- All that holds wherever the rule leads, migrations included.
-use Rattle.dm_rulelaws.proofs.Based.Noted.{Away}
 use Rattle.dm_rulelaws.proofs.Names.{◌≡◌, ℕ, ◌≤◌, true, length, None, Some, Pid, MsgId, Boot, ascends, Point, times, Told, Phased, KernelFits, Found, ListsStand, KnownStands}
+use Rattle.dm_rulelaws.proofs.Based.Noted.{Away}
 use Rattle.dm_rulelaws.proofs.Queued.{IsQueued}
 use Rattle.dm_rulelaws.proofs.Found.Always.{FoundBy}
 

@@ -13,7 +13,9 @@ pub run_start : RunStarts
 run_start b valid = run_by b (first_point b) (based_start b valid) (found_start b valid)
 
 pub run_group : RunGoes
-run_group b pt d w valid fit is h own = run_by b w.point (based_group b pt d w fit is h.based) (found_group b pt d w fit is h.based.phased h.kept)
+run_group b pt d w valid fit is h own =
+    let based = based_group b pt d w fit is h.based in
+    run_by b w.point based (found_group b pt d w fit is h.based.phased h.based.held based.held h.kept)
 
 -- wherever the rule leads
 pub run_always : (b : Boot) (es : List Step) (pt : Point) → IsValid b → Leads b (first_point b) es pt → Both b pt

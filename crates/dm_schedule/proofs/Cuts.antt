@@ -1,6 +1,6 @@
 -- Cutting a text at its line feeds, and a line at its blanks.
 use Rattle.dm_schedule.proofs.Names.{ℕ, zero, suc, Bool, true, false, not, ◌==◌, ◌&&◌, nat_lt, ◌≡◌, ◌+◌, ◌-◌, ◌<◌, ◌≤◌, List, [], ◌∷◌, length, take, drop, get_or, length-drop, add-zero, refl, ap, sym, ◌∙◌, arith, position, position_or_len}
-use Rattle.dm_schedule.proofs.Names.{Some, None, if◌then◌else◌, take_all, length-take-le, get_or-drop, nat_tests, drop-length, position-Some, ends_line, is_return, line_ends, lines, is_blank, pieces_between_blanks, words, onto_first}
+use Rattle.dm_schedule.proofs.Names.{Some, None, if◌then◌else◌, take_all, length-take-le, get_or-drop, nat_tests, drop-length, position-Some, ends_line, is_return, line_ends, lines, is_blank, cut, words, onto_first}
 
 -- by the first item, where the first that passes would stand behind the end
 none_passes-first : (test : ℕ → Bool) (x : ℕ) (xs : List ℕ) (k : ℕ) (b : Bool) → test x ≡ b → length (x ∷ xs) ≤ position_or_len test (x ∷ xs) → k < length (x ∷ xs) → (length xs ≤ position_or_len test xs → (k : ℕ) → k < length xs → test (get_or xs k 0) ≡ false) → test (get_or (x ∷ xs) k 0) ≡ false
@@ -43,21 +43,21 @@ drop-more x xs i =
     ap (λ (k : ℕ). drop k (x ∷ xs)) e
 
 -- behind the first blank, the rest is cut
-pieces_between_blanks-at : (xs : List ℕ) (i : ℕ) → i < length xs → is_blank (get_or xs i 0) ≡ true → ((k : ℕ) → k < i → is_blank (get_or xs k 0) ≡ false) → pieces_between_blanks xs ≡ take i xs ∷ pieces_between_blanks (drop (i + 1) xs)
+pieces_between_blanks-at : (xs : List ℕ) (i : ℕ) → i < length xs → is_blank (get_or xs i 0) ≡ true → ((k : ℕ) → k < i → is_blank (get_or xs k 0) ≡ false) → cut is_blank xs ≡ take i xs ∷ cut is_blank (drop (i + 1) xs)
 pieces_between_blanks-at [] i h p q = absurd (omega arith)
 pieces_between_blanks-at (x ∷ xs) zero h p q = rw p refl
 pieces_between_blanks-at (x ∷ xs) (suc i) h p q =
-    let e : pieces_between_blanks xs ≡ take i xs ∷ pieces_between_blanks (drop (i + 1) xs) = pieces_between_blanks-at xs i (omega arith) p (λ k l. q (suc k) (omega arith)) in
+    let e : cut is_blank xs ≡ take i xs ∷ cut is_blank (drop (i + 1) xs) = pieces_between_blanks-at xs i (omega arith) p (λ k l. q (suc k) (omega arith)) in
     let f : is_blank x ≡ false = q 0 (omega arith) in
     let g : drop (suc i + 1) (x ∷ xs) ≡ drop (i + 1) xs = drop-more x xs i in
     rw (f, e, g) refl
 
 -- without a blank, there is one piece
-pieces_between_blanks-none : (x : ℕ) (xs : List ℕ) → ((k : ℕ) → k < length (x ∷ xs) → is_blank (get_or (x ∷ xs) k 0) ≡ false) → pieces_between_blanks (x ∷ xs) ≡ (x ∷ xs) ∷ []
+pieces_between_blanks-none : (x : ℕ) (xs : List ℕ) → ((k : ℕ) → k < length (x ∷ xs) → is_blank (get_or (x ∷ xs) k 0) ≡ false) → cut is_blank (x ∷ xs) ≡ (x ∷ xs) ∷ []
 pieces_between_blanks-none x [] q = let f : is_blank x ≡ false = q 0 (omega arith) in rw f refl
 pieces_between_blanks-none x (y ∷ xs) q =
     let f : is_blank x ≡ false = q 0 (omega arith) in
-    let e : pieces_between_blanks (y ∷ xs) ≡ (y ∷ xs) ∷ [] = pieces_between_blanks-none y xs (λ k l. q (suc k) (omega arith)) in
+    let e : cut is_blank (y ∷ xs) ≡ (y ∷ xs) ∷ [] = pieces_between_blanks-none y xs (λ k l. q (suc k) (omega arith)) in
     rw (f, e) refl
 
 -- a blank before the words

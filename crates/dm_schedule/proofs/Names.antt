@@ -7,8 +7,9 @@ pub use Rattle.std.proofs.lemmas.List.{append-nil, get_or-drop, length-take-le, 
 pub use Rattle.std.proofs.lemmas.List.Quantifiers.{position-Some}
 pub use Rattle.std.specs.List.{position, position_or_len}
 pub use Rattle.std.specs.Prelude.{Err, None, Ok, Option, Some, if◌then◌else◌, option_to_list}
+pub use Rattle.dm_memory.specs.Cuts.{cut, ends_line, onto_first}
 unfoldable pub use Rattle.dm_schedule.specs.Keywords.{keyword_of}
-pub use Rattle.dm_schedule.specs.Lines.{ends_line, is_blank, is_return, line_ends, onto_first, pieces_between_blanks}
+pub use Rattle.dm_schedule.specs.Lines.{is_blank, is_return, line_ends}
 unfoldable pub use Rattle.dm_schedule.specs.Lines.{lines, words}
 pub use Rattle.dm_schedule.specs.Numbers.{going_on}
 unfoldable pub use Rattle.dm_schedule.specs.Numbers.{number_of_word, process_of}

@@ -9,20 +9,6 @@ use Rattle.dm_schedule.specs.declared.keywords.Keyword.TheVariants.{Turn, Tick, 
 abbrev pub keywords : List Keyword
 keywords = Turn ∷ Tick ∷ Deliver ∷ Migrate ∷ Round ∷ Spin ∷ Settle ∷ []
 
--- the word that a keyword is
-abbrev pub word_of_keyword : Keyword → List ℕ
-word_of_keyword Turn = codes "turn"
-word_of_keyword Tick = codes "tick"
-word_of_keyword Deliver = codes "deliver"
-word_of_keyword Migrate = codes "migrate"
-word_of_keyword Round = codes "round"
-word_of_keyword Spin = codes "spin"
-word_of_keyword Settle = codes "settle"
-
--- the keyword that a word is, if it is one
-unfoldable pub keyword_of : List ℕ → Option Keyword
-keyword_of word = find (λ k. bytes_eq word (word_of_keyword k)) keywords
-
 -- what an operand is: a machine, a process, the place of a packet, or a number of rounds
 pub data Operand : Type 0 where
   Machine : Operand
@@ -30,12 +16,22 @@ pub data Operand : Type 0 where
   Packet : Operand
   Rounds : Operand
 
--- the operands of each keyword
+-- each keyword: the word that it is, and its operands
+abbrev pub keyword_row : Keyword → List ℕ × List Operand
+keyword_row Turn = (codes "turn", Machine ∷ [])
+keyword_row Tick = (codes "tick", Machine ∷ [])
+keyword_row Deliver = (codes "deliver", Machine ∷ Machine ∷ Packet ∷ [])
+keyword_row Migrate = (codes "migrate", Process ∷ Machine ∷ [])
+keyword_row Round = (codes "round", [])
+keyword_row Spin = (codes "spin", Rounds ∷ [])
+keyword_row Settle = (codes "settle", [])
+
+abbrev pub word_of_keyword : Keyword → List ℕ
+word_of_keyword k = (keyword_row k).0
+
 abbrev pub operands : Keyword → List Operand
-operands Turn = Machine ∷ []
-operands Tick = Machine ∷ []
-operands Deliver = Machine ∷ Machine ∷ Packet ∷ []
-operands Migrate = Process ∷ Machine ∷ []
-operands Round = []
-operands Spin = Rounds ∷ []
-operands Settle = []
+operands k = (keyword_row k).1
+
+-- the keyword that a word is, if it is one
+unfoldable pub keyword_of : List ℕ → Option Keyword
+keyword_of word = find (λ k. bytes_eq word (word_of_keyword k)) keywords

@@ -1,14 +1,6 @@
 -- Lines and words.
 use Rattle.std.specs.Prelude.{ℕ, Bool, false, ◌==◌, ◌&&◌, ◌||◌, if◌then◌else◌, not, List, [], ◌∷◌, length, filter}
-
--- a byte before the first of some pieces
-abbrev pub onto_first : ℕ → List (List ℕ) → List (List ℕ)
-onto_first c [] = (c ∷ []) ∷ []
-onto_first c (w ∷ ws) = (c ∷ w) ∷ ws
-
--- a line feed
-abbrev pub ends_line : ℕ → Bool
-ends_line c = c == 10
+pub use Rattle.dm_memory.specs.Cuts.{cut, ends_line, onto_first}
 
 -- a carriage return
 abbrev pub is_return : ℕ → Bool
@@ -30,11 +22,6 @@ lines (c ∷ cs) =
 abbrev pub is_blank : ℕ → Bool
 is_blank c = (c == 32) || (c == 9)
 
--- the pieces of a line between its blanks
-abbrev pub pieces_between_blanks : List ℕ → List (List ℕ)
-pieces_between_blanks [] = []
-pieces_between_blanks (c ∷ cs) = if is_blank c then [] ∷ pieces_between_blanks cs else onto_first c (pieces_between_blanks cs)
-
--- the words of a line: its pieces that aren't empty
+-- the words of a line: its pieces between blanks that aren't empty
 unfoldable pub words : List ℕ → List (List ℕ)
-words line = filter (λ word. not (length word == 0)) (pieces_between_blanks line)
+words line = filter (λ word. not (length word == 0)) (cut is_blank line)

@@ -1,13 +1,10 @@
 -- Numbers and names of processes as they are written.
 use Rattle.std.specs.Prelude.{ℕ, Bool, ◌==◌, ◌&&◌, nat_le, ◌+◌, ◌-◌, ◌*◌, if◌then◌else◌, Option, Some, None, List, [], ◌∷◌, length, take, drop}
 use Rattle.std.specs.List.{position}
-use Rattle.std.specs.Option.{option_and_then}
+use Rattle.std.specs.Option.{option_and_then, option_map}
 use Rattle.dm_link.specs.Names.{pid_of}
 use Rattle.dm_link.specs.declared.Pid.{Pid}
-
--- a decimal digit
-abbrev pub is_digit : ℕ → Bool
-is_digit c = nat_le 48 c && nat_le c 57
+use Rattle.dm_memory.specs.Cuts.{is_digit}
 
 -- the number that begins with n and goes on with these digits
 abbrev pub going_on : ℕ → List ℕ → Option ℕ
@@ -20,9 +17,7 @@ number_of_word word = if nat_le 1 (length word) && nat_le (length word) 10 then 
 
 -- the name that two numbers make, if both are there
 abbrev pub pid_from_numbers : Option ℕ → Option ℕ → Option Pid
-pid_from_numbers None num = None
-pid_from_numbers (Some home) None = None
-pid_from_numbers (Some home) (Some num) = Some (pid_of home num)
+pid_from_numbers home num = option_and_then (λ h. option_map (pid_of h) num) home
 
 -- a point
 abbrev pub is_point : ℕ → Bool

@@ -23,28 +23,13 @@ abbrev pub within : {A : Type 0} → (A → Bool) → Option A → Result A Line
 within fits None = Err NotANumber
 within fits (Some x) = if fits x then Ok x else Err OutOfRange
 
--- a machine: below the number of machines
-abbrev pub machine_in : ℕ → List ℕ → Result ℕ LineFault
-machine_in machines word = within (λ m. nat_lt m machines) (number_of_word word)
-
--- a process: its home is below the number of machines, its number below 2^32
-abbrev pub process_in : ℕ → List ℕ → Result Pid LineFault
-process_in machines word = within (λ p. nat_lt p.home machines && nat_le p.num 4294967295) (process_of word)
-
--- the place of a packet: below 2^32
-abbrev pub packet_in : List ℕ → Result ℕ LineFault
-packet_in word = within (λ k. nat_le k 4294967295) (number_of_word word)
-
--- a number of rounds: 1 to 65,536
-abbrev pub rounds_in : List ℕ → Result ℕ LineFault
-rounds_in word = within (λ n. nat_le 1 n && nat_le n 65536) (number_of_word word)
-
--- the value of an operand that is written as a word, with so many machines
+-- the value of an operand that is written as a word, with so many machines: a machine is below their number; so is the home of a
+-- process, whose number is below 2^32; the place of a packet is below 2^32; and there are 1 to 65,536 rounds
 abbrev pub value_of : ℕ → (o : Operand) → List ℕ → Result (Value o) LineFault
-value_of machines Machine word = machine_in machines word
-value_of machines Process word = process_in machines word
-value_of machines Packet word = packet_in word
-value_of machines Rounds word = rounds_in word
+value_of machines Machine word = within (λ m. nat_lt m machines) (number_of_word word)
+value_of machines Process word = within (λ p. nat_lt p.home machines && nat_le p.num 4294967295) (process_of word)
+value_of machines Packet word = within (λ k. nat_le k 4294967295) (number_of_word word)
+value_of machines Rounds word = within (λ n. nat_le 1 n && nat_le n 65536) (number_of_word word)
 
 -- what follows a value, or the fault in its place
 infixl 10 ◌>>=◌

@@ -1,6 +1,8 @@
 //! The operands of directives.
-ghost use Rattle.std.specs.Prelude.{◌≡◌};
-ghost use Rattle.dm_schedule.specs.Operands.{machine_in, packet_in, process_in, rounds_in};
+ghost use Rattle.std.specs.Prelude.{◌≡◌, ◌&&◌, nat_le};
+ghost use Rattle.dm_schedule.specs.Keywords.{Machine, Process};
+ghost use Rattle.dm_schedule.specs.Numbers.{number_of_word};
+ghost use Rattle.dm_schedule.specs.Operands.{value_of, within};
 
 use crate::LineFault;
 use crate::numbers::{number, process_numbers};
@@ -11,7 +13,7 @@ const MOST_ROUNDS: u64 = 65_536;
 
 /// The machine that a word is.
 pub fn machine(machines: u8, word: &[u8]) -> Result<u8, LineFault>
-    ensures { result ≡ machine_in machines word.now }
+    ensures { result ≡ value_of machines Machine word.now }
 {
     match number(word) {
         None => Err(LineFault::NotANumber),
@@ -22,7 +24,7 @@ pub fn machine(machines: u8, word: &[u8]) -> Result<u8, LineFault>
 
 /// The process that a word is.
 pub fn process(machines: u8, word: &[u8]) -> Result<Pid, LineFault>
-    ensures { result ≡ process_in machines word.now }
+    ensures { result ≡ value_of machines Process word.now }
 {
     match process_numbers(word) {
         None => Err(LineFault::NotANumber),
@@ -36,7 +38,7 @@ pub fn process(machines: u8, word: &[u8]) -> Result<Pid, LineFault>
 
 /// The place of a packet that a word is.
 pub fn packet(word: &[u8]) -> Result<u64, LineFault>
-    ensures { result ≡ packet_in word.now }
+    ensures { result ≡ within (λ k. nat_le k 4294967295) (number_of_word word.now) }
 {
     match number(word) {
         None => Err(LineFault::NotANumber),
@@ -47,7 +49,7 @@ pub fn packet(word: &[u8]) -> Result<u64, LineFault>
 
 /// The number of rounds that a word is.
 pub fn rounds(word: &[u8]) -> Result<u32, LineFault>
-    ensures { result ≡ rounds_in word.now }
+    ensures { result ≡ within (λ n. nat_le 1 n && nat_le n 65536) (number_of_word word.now) }
 {
     match number(word) {
         None => Err(LineFault::NotANumber),

@@ -18,9 +18,6 @@ abbrev pub rule_of : PacketError → StateBytesError
 rule_of bad.Missing = carry.Missing
 rule_of bad.Version = carry.Version
 rule_of bad.Machine = carry.Machine
-rule_of bad.Flags = carry.Flags
 rule_of bad.Limit = carry.Limit
 rule_of bad.Trailing = carry.Trailing
-rule_of bad.PacketKind = carry.Flags
-rule_of bad.MessageKind = carry.Flags
-rule_of bad.Answer = carry.Flags
+rule_of rule = carry.Flags

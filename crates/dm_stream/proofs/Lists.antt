@@ -1,5 +1,5 @@
 -- Lists that grow at the end.
-use Rattle.dm_stream.proofs.Names.{◌≡◌, ℕ, zero, suc, ◌+◌, ◌-◌, List, [], ◌∷◌, ◌++◌, length, take, drop, slice_get, Some, None, is_some, if◌then◌else◌, refl, ap, arith, inl, inr, ◌⊎◌}
+use Rattle.dm_stream.proofs.Names.{◌≡◌, ℕ, zero, suc, ◌+◌, ◌-◌, List, [], ◌∷◌, ◌++◌, length, take, drop, slice_get, Some, None, is_some, if◌then◌else◌, refl, ap, arith}
 
 -- what stood in the list stands there still
 pub get-longer : {X : Type 0} (xs ys : List X) (k : ℕ) → slice_get (xs ++ ys) k ≡ (if is_some (slice_get xs k) then slice_get xs k else slice_get ys (k - length xs))

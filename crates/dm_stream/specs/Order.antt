@@ -1,8 +1,8 @@
 -- What holds of a stream, whatever the network loses, repeats or reorders.
-use Rattle.std.specs.Prelude.{◌≡◌, ℕ, ◌+◌, ◌^◌, ◌-◌, ◌<◌, ◌≤◌, ◌⊎◌, length, take, drop, slice_get, Some, None, IsSome}
-use Rattle.dm_stream.specs.Sending.{window, due, given_count}
-use Rattle.dm_stream.specs.Receiving.{kept_under, next}
-use Rattle.dm_stream.specs.Packets.{Data, Ack, load_at, HasData, HasCome, HasAck, HasHeard, HasNotCome, IsDelivered}
+use Rattle.std.specs.Prelude.{◌≡◌, ℕ, ◌+◌, ◌^◌, ◌-◌, ◌<◌, ◌≤◌, ◌⊎◌, length, take, drop, slice_get, Some, IsSome}
+use Rattle.dm_stream.specs.Sending.{window, given_count}
+use Rattle.dm_stream.specs.Receiving.{kept_under}
+use Rattle.dm_stream.specs.Packets.{Data, Ack, load_at, HasData, HasCome, HasHeard, HasNotCome}
 use Rattle.dm_stream.specs.Stream.{Stream}
 
 module _ {M : Type 0} where
@@ -60,32 +60,3 @@ module _ {M : Type 0} where
   -- a number that has gone out has a packet that was never delivered, or was taken, or is kept
   abbrev pub IsUnderWayOrThere : Stream M → ℕ → Type 0
   IsUnderWayOrThere w n = HasNotCome w.out n ⊎ IsThere w n
-
-  -- all that was taken is acknowledged: an acknowledgement of the last count was sent; where nothing was taken, none need be
-  abbrev pub IsAnswered : Stream M → Type 0
-  IsAnswered w = (w.receiver.count ≡ 0) ⊎ HasAck w.back w.receiver.count
-
-  -- and it was delivered
-  abbrev pub IsAnswerHeard : Stream M → Type 0
-  IsAnswerHeard w = (w.receiver.count ≡ 0) ⊎ HasHeard w.back w.receiver.count
-
-  -- nothing is under way: no message is due, none that is kept is next, some packet of each message that went out has been
-  -- delivered, and an acknowledgement of all that was taken
-  pub record IsAtRest (w : Stream M) : Type 0 where
-    pub none_due : due w.sender ≡ None
-    pub none_next : next w.receiver ≡ None
-    pub all_came : (n : ℕ) → n < w.sender.gone → HasCome w.out n
-    pub count_heard : IsAnswerHeard w
-
-  -- each machine has done its part, and each packet of both wires was delivered
-  pub record IsAllDelivered (w : Stream M) : Type 0 where
-    pub none_due : due w.sender ≡ None
-    pub none_next : next w.receiver ≡ None
-    pub answered : IsAnswered w
-    pub out : IsDelivered w.out
-    pub back : IsDelivered w.back
-
-  -- all that was given is taken and acknowledged
-  pub record IsAllThere (w : Stream M) : Type 0 where
-    pub taken : w.taken ≡ w.given
-    pub acked : w.sender.acked ≡ length w.given

@@ -1,5 +1,5 @@
 -- The packets on the wire from one machine to another: a list that only grows, with a mark for what was delivered.
-use Rattle.std.specs.Prelude.{◌≡◌, ℕ, zero, suc, ◌<◌, Bool, true, false, List, [], ◌∷◌, length, slice_get, Option, Some, None}
+use Rattle.std.specs.Prelude.{◌≡◌, ℕ, zero, suc, ◌<◌, Bool, true, false, List, [], ◌∷◌, length, slice_get, Option, Some, None, option_map}
 
 -- what a packet carries: a message with its number, or the count of an acknowledgement
 pub data Load (M : Type 0) : Type 0 where
@@ -26,8 +26,7 @@ module _ {M : Type 0} where
   marked (p ∷ wire) (suc k) = p ∷ marked wire k
 
   abbrev pub load_in : Option (Packet M) → Option (Load M)
-  load_in None = None
-  load_in (Some p) = Some p.load
+  load_in o = option_map (λ p. p.load) o
 
   abbrev pub delivered_in : Option (Packet M) → Bool
   delivered_in None = false

@@ -1,5 +1,6 @@
 -- The receiving side of a stream: messages are taken in the order of their numbers, and early ones are kept.
 use Rattle.std.specs.Prelude.{◌≡◌, ℕ, ◌+◌, ◌-◌, ◌<◌, nat_lt, ◌==◌, if◌then◌else◌, List, [], ◌∷◌, ◌++◌, length, drop, replicate, slice_get, slice_set, Option, Some, None, is_some, count_by, refl}
+use Rattle.std.specs.Option.{option_flatten}
 use Rattle.std.specs.Coded.{Coded, code_by, coded×, coded_list, coded_option, coded_ℕ}
 use Rattle.dm_stream.specs.declared.receiver.Arrived.{Arrived}
 use Rattle.dm_stream.specs.declared.receiver.Arrived.TheVariants.{Taken, Old, Early}
@@ -19,13 +20,9 @@ module _ {M : Type 0} where
   abbrev pub fresh_receiving : Receiving M
   fresh_receiving = record { count = 0; kept = replicate 8 None }
 
-  abbrev pub join : Option (Option M) → Option M
-  join None = None
-  join (Some x) = x
-
   -- the message that is kept at this place
   abbrev pub place : List (Option M) → ℕ → Option M
-  place kept i = join (slice_get kept i)
+  place kept i = option_flatten (slice_get kept i)
 
   -- the message that is kept under this number
   abbrev pub kept_under : Receiving M → ℕ → Option M

@@ -1,5 +1,5 @@
 -- The sending side of a stream: messages are numbered from 0 in the order in which they are given.
-use Rattle.std.specs.Prelude.{ℕ, ◌+◌, ◌-◌, ◌^◌, ◌<◌, ◌≤◌, max, nat_lt, if◌then◌else◌, List, [], ◌∷◌, ◌++◌, length, drop, slice_get, Option, Some, None, refl}
+use Rattle.std.specs.Prelude.{ℕ, ◌+◌, ◌-◌, ◌^◌, ◌<◌, ◌≤◌, max, nat_lt, if◌then◌else◌, List, [], ◌∷◌, ◌++◌, length, drop, slice_get, Option, None, refl, option_map}
 use Rattle.std.specs.Coded.{Coded, code_by, coded×, coded_list, coded_ℕ}
 
 -- at most so many messages have gone out and aren't acknowledged yet
@@ -41,8 +41,7 @@ module _ {M : Type 0} where
     pub small : s.numbers < 2 ^ 32
 
   abbrev pub numbered : ℕ → Option M → Option (ℕ × M)
-  numbered n None = None
-  numbered n (Some m) = Some (n, m)
+  numbered n o = option_map (λ m. (n, m)) o
 
   -- the next message that may go out, with its number
   abbrev pub due : Sending M → Option (ℕ × M)

@@ -1,6 +1,7 @@
 //! What holds of a stream after each event, and so over every schedule.
 ghost use Rattle.std.specs.Prelude.{List, Some, ◌<◌, ◌≡◌, ◌^◌, ℕ};
-ghost use Rattle.dm_stream.specs.Order.{IsAllDelivered, IsAllThere, IsAtRest, IsInOrder, IsUnderWayOrThere, MayCome, StreamStands};
+ghost use Rattle.dm_stream.specs.Order.{IsInOrder, IsUnderWayOrThere, MayCome, StreamStands};
+ghost use Rattle.dm_stream.specs.Rest.{IsAllDelivered, IsAllThere, IsAtRest};
 ghost use Rattle.dm_stream.specs.Packets.{Load, load_at};
 ghost use Rattle.dm_stream.specs.Stream.{Event, Stream, happens, run, start};
 

@@ -33,8 +33,7 @@ doing_words (doing.Moving dir owner base own left) =
 
 -- whether a process is stopped
 abbrev pub go_word : Bool → List ℕ
-go_word true = codes "stopped"
-go_word false = codes "go"
+go_word stopped = if stopped then codes "stopped" else codes "go"
 
 -- 0 to 9, a to f
 abbrev pub hex_digit : ℕ → ℕ

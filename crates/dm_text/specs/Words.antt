@@ -1,5 +1,5 @@
 -- The words that many lines have: names of processes and messages.
-use Rattle.std.specs.Prelude.{ℕ, Bool, true, false, codes, List, [], ◌++◌}
+use Rattle.std.specs.Prelude.{ℕ, Bool, if◌then◌else◌, codes, List, [], ◌++◌}
 use Rattle.std.specs.Fmt.{decimal}
 use Rattle.dm_link.specs.declared.Pid.{Pid}
 use Rattle.dm_message.specs.declared.MsgId.{MsgId}
@@ -9,8 +9,7 @@ abbrev pub pid_word : Pid → List ℕ
 pid_word p = decimal p.home ++ codes "." ++ decimal p.num
 
 abbrev pub mark : Bool → List ℕ
-mark true = codes "!"
-mark false = []
+mark answer = if answer then codes "!" else []
 
 -- a message is written m.n#k, and the answer to it m.n#k!
 abbrev pub id_word : MsgId → List ℕ

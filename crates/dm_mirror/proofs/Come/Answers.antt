@@ -1,37 +1,35 @@
 -- A machine is asked to take a process: there is room for it, or what is free is said.
-use Rattle.dm_mirror.proofs.Names.{◌≡◌, ◌≢◌, ℕ, ◌+◌, ◌/◌, ◌<◌, ◌==◌, ◌&&◌, Bool, true, false, nat_le, List, [], length, map, refl, ap, ◌∙◌, sym, subst, inl, inr, arith, if◌then◌else◌, slice_get, Option, None, Some, cases_Bool, false≢true}
-use Rattle.dm_mirror.proofs.Names.{All-nil, Pid, pid_eq, Message, MsgId, What, Record, Line, Stage, MessageKind, kind_of, IsLawfulMessage, Process, Taken, free_blocks, free_slots, with_reserved, incoming_of, Chunk, expected, CanMove}
-use Rattle.dm_mirror.proofs.Names.{HasChunk, state_of, coming, Boot, BootMachine, slots_of, plain_process, PlainProcess, pid_eq-is, pid_eq-same, kernel_told, Moves, kind_comes, knows, kind_leaves, Point, Room, fits, free_room, taken_at}
-use Rattle.dm_mirror.proofs.Names.{taken_by, at_pid, at_record, Known, Unknown, Frozen, Incoming, Forward, front_of, without_first, is_server, has_nothing_held, Placed, room_of, accepts, with_expected, kernel_handles, KernelState}
-use Rattle.dm_mirror.proofs.Names.{KnownStands, KernelStands, RoomStands, AllRecords, Carries, source_knows, and_false}
+use Rattle.dm_mirror.proofs.Names.{◌≡◌, ◌≢◌, ℕ, ◌+◌, ◌/◌, ◌<◌, ◌==◌, ◌&&◌, Bool, true, false, nat_le, List, [], length, map, refl, ap, ◌∙◌, sym, subst, arith, if◌then◌else◌, slice_get, Option, None, Some, false≢true, All-nil, Pid, pid_eq}
+use Rattle.dm_mirror.proofs.Names.{Message, MsgId, What, Record, Line, Stage, MessageKind, kind_of, IsLawfulMessage, Process, Taken, free_blocks, free_slots, with_reserved, incoming_of, Chunk, expected, CanMove, HasChunk, state_of, coming}
+use Rattle.dm_mirror.proofs.Names.{Boot, slots_of, plain_process, PlainProcess, pid_eq-same, kernel_told, Moves, kind_comes, knows, kind_leaves, Point, Room, fits, free_room, taken_at, taken_by, at_pid, at_record, Known, Unknown, Frozen}
+use Rattle.dm_mirror.proofs.Names.{Incoming, Forward, front_of, without_first, is_server, has_nothing_held, Placed, room_of, accepts, with_expected, kernel_handles, KernelState, KnownStands, KernelStands, RoomStands, AllRecords, Carries}
+use Rattle.dm_mirror.proofs.Names.{source_knows, and_false, is_of_source, nat_tests}
 use Rattle.dm_room.specs.Room as room_
 use Rattle.dm_onekernel.specs.Step as kernel
 use Rattle.dm_rule.specs.Migrating as rule_moves
 use Rattle.dm_rule.specs.Rule as rule
 use Rattle.dm_kernel.specs.State as machine
 use Rattle.dm_mirror.proofs.Come.Frames.{Arrives, Comes, arrives}
-use Rattle.dm_mirror.proofs.Come.Handled.{after_accepted, after_lacks, comes_known, first_gone, outcome_kernel, turn_kernel}
-use Rattle.dm_mirror.proofs.Come.Pieces.{room_kept}
+use Rattle.dm_mirror.proofs.Come.Pieces.{room_kept, after_lacks, comes_known, first_gone, outcome_kernel, turn_kernel, turns_memory, turns_state}
 use Rattle.dm_mirror.proofs.Come.Turns.{come_point, come_view, eq_off, eq_self, known_same, turns_answer}
 use Rattle.dm_mirror.proofs.Rooms.{taken_changed}
 use Rattle.dm_mirror.proofs.Turning.{TurnsAt}
-use Rattle.dm_mirror.proofs.Handle.Frames.{pid_apart as pid_off}
-use Rattle.dm_mirror.proofs.Handle.Makes.{free_of as free_as}
+use Rattle.dm_mirror.proofs.Handle.Taking.{pid_apart as pid_off, some_same}
+use Rattle.dm_mirror.proofs.Come.Restarts.{turns_restart}
+use Rattle.dm_mirror.proofs.Handle.Kills.{free_of as free_as}
 
 room_as : (t : Taken) (r : Room) (n : ℕ) → (free_slots t ≡ r.slots) × (free_blocks t ≡ r.blocks) → room_.has_room t n ≡ rule.has_room r n
 room_as t r n h = λ i. nat_le 1 (h.0 i) && nat_le n (h.1 i)
 
 -- the machine that it leaves holds it back
 frozen_is : (d : ℕ) (n : Known) → kind_leaves MessageKind.Ask d n ≡ true → (to : ℕ) × (n ≡ Frozen to)
-frozen_is d (Frozen to) e = (to, refl)
-frozen_is d _ e = absurd (false≢true e)
+frozen_is d n e = grind (arith, nat_tests)
 
 frozen_unknown : (to : ℕ) → Frozen to ≢ Unknown
 frozen_unknown to e = cc
 
 leaves_by : (pt : Point) (l : Placed) (p : Pid) (queue held_ : List MsgId) (to : ℕ) (r : Option machine.KernelKnown) → KnownStands pt l p queue held_ (Frozen to) r → (x : Process) × (q : List Message) × (l.processes p ≡ Some (record x { queue = q })) × CanMove x
-leaves_by pt l p queue held_ to (Some (Record.Frozen d)) h = (d.process, h.here.0.0, h.here.0.1, h.whole)
-leaves_by pt l p queue held_ to _ h = absurd h
+leaves_by pt l p queue held_ to r h = grind (arith, nat_tests)
 
 -- whatever waits for it
 pub without_queue : (x : Process) → CanMove x → CanMove (record x { queue = [] })
@@ -43,9 +41,6 @@ without_queue x h = record {
   most = h.most;
 }
 
-same_process : (x z : Process) → Some x ≡ Some z → x ≡ z
-same_process x z e = cc
-
 leaves_where : (b : Boot) (m : ℕ) (pt : Point) (l : Placed) (k : KernelState) (y : Message) (p : Pid) (a : Arrives b m pt l k y p) → kind_of y.what ≡ MessageKind.Ask → (to : ℕ) × (pt.view.known a.source p ≡ Frozen to)
 leaves_where b m pt l k y p a is =
     frozen_is m (pt.view.known a.source p)
@@ -54,7 +49,7 @@ leaves_where b m pt l k y p a is =
 can_by : (b : Boot) (pt : Point) (l : Placed) (s to : ℕ) (z : KernelState) (p : Pid) (x : Process) → pt.view.known s p ≡ Frozen to → is_server p ≡ false → KernelStands b pt l s z → l.processes p ≡ Some x → CanMove (record x { queue = [] })
 can_by b pt l s to z p x frozen server stands there =
     let (w, q, is, whole) = leaves_by pt l p (pt.view.queue s p) (pt.view.held s p) to (z.records p) (subst (λ (n : Known). KnownStands pt l p (pt.view.queue s p) (pt.view.held s p) n (z.records p)) frozen (stands.known p server)) in
-    let same : record w { queue = q } ≡ x = same_process (record w { queue = q }) x (sym is ∙ there) in
+    let same : record w { queue = q } ≡ x = some_same (record w { queue = q }) x (sym is ∙ there) in
     subst (λ (u : Process). CanMove (record u { queue = [] })) same (without_queue w whole)
 
 pub can_come : (b : Boot) (m : ℕ) (pt : Point) (l : Placed) (records : AllRecords) (k : KernelState) (y : Message) (p : Pid) → Comes b m pt l records k y p → (a : Arrives b m pt l k y p) → kind_of y.what ≡ MessageKind.Ask
@@ -101,9 +96,6 @@ record_self f m p x = ap (λ (d : Bool). if d && pid_eq p p then x else f m p) (
 
 record_off : (f : ℕ → Pid → Known) (m n : ℕ) (p q : Pid) (x : Known) → pid_eq p q ≡ false → at_record f m p x n q ≡ f n q
 record_off f m n p q x off = ap (λ (d : Bool). if d then x else f n q) (and_false (m == n) (pid_eq p q) off)
-
-record_away : (f : ℕ → Pid → Known) (m n : ℕ) (p q : Pid) (x : Known) → n ≢ m → at_record f m p x n q ≡ f n q
-record_away f m n p q x off = ap (λ (d : Bool). if d && pid_eq p q then x else f n q) (eq_off m n off)
 
 -- what the process takes here then
 taken_then : (b : Boot) (m : ℕ) (pt : Point) (l : Placed) (records : AllRecords) (k : KernelState) (y : Message) (p : Pid) (c : Comes b m pt l records k y p) (a : Arrives b m pt l k y p) (box : List MsgId) (from : ℕ) (asked : Pid → ℕ) → Absent (pt.view.known m p)
@@ -171,10 +163,10 @@ accepts_row b m pt l records k y p c a is handles some_ whole table =
       outcome = outcome_kernel b m pt l records k y p c a _
           (ap (kernel_told pt m y.id p (fits r (length x.memory / 256)) (plain_process x)) is
           ∙ ap (λ (d : Bool). Some (rule_moves.accepts y.id.from.home p d r.slots r.blocks)) some_);
-      after = after_accepted pt m p;
+      after = refl;
       is_box = first_gone y.id c.ids (v.inbox m) c.box;
       known_off = λ n q off. record_off v.known m n p q (Incoming from) off;
-      known_away = λ n q off. record_away v.known m n p q (Incoming from) off;
+      known_away = λ n q off. ap (λ (d : Bool). if d && pid_eq p q then (Incoming from) else v.known n q) (eq_off m n off);
       asked_off = λ q off. ap (λ (d : Bool). if d then 1 else v.asked q) off;
       here = refl;
       records_off = λ q off. ap (λ (d : Bool). if d then Some (Record.Incoming new) else k.records q) off;
@@ -220,3 +212,20 @@ turns_ask b m pt l records k y p q blocks moves size asker c e nodes tables =
     ∙ ap (λ (z : Pid). accepts b s y z (length x.memory / 256) x.moves (length (state_of x)) None (room_.has_room k.room (length x.memory / 256))) a.named
     ∙ ap (accepts b s y p (length x.memory / 256) x.moves (length (state_of x)) None) room)
     refl (can_come b m pt l records k y p c a is nodes) (tables x a.there)
+
+-- A turn that handles what the machine that a process leaves tells the machine that it comes to.
+
+-- what a machine must know beside the message: what each machine has, and how large the tables of processes are
+pub record Around (b : Boot) (pt : Point) (l : Placed) : Type 0 where
+  pub nodes : (n : ℕ) → n < pt.kernel.machines → (z : KernelState) × KernelStands b pt l n z
+  pub tables : (p : Pid) (x : Process) → l.processes p ≡ Some x → length x.table ≡ slots_of b.format
+
+by_what : (b : Boot) (m : ℕ) (pt : Point) (l : Placed) (records : AllRecords) (k : KernelState) (y : Message) (p : Pid) (w : What) → y.what ≡ w → is_of_source (kind_of w) ≡ true → Comes b m pt l records k y p → Around b pt l → TurnsAt b m pt l records k
+by_what b m pt l records k y p (What.Ask q blocks moves size asker) e is c r = turns_ask b m pt l records k y p q blocks moves size asker c e r.nodes (r.tables p)
+by_what b m pt l records k y p (What.State q chunk last bytes) e is c r = turns_state b m pt l records k y p q chunk last bytes c e
+by_what b m pt l records k y p (What.Memory q block bytes) e is c r = turns_memory b m pt l records k y p q block bytes c e
+by_what b m pt l records k y p (What.Restart q) e is c r = turns_restart b m pt l records k y p q c e
+by_what b m pt l records k y p _ e is c r = absurd (false≢true is)
+
+pub turns_come : (b : Boot) (m : ℕ) (pt : Point) (l : Placed) (records : AllRecords) (k : KernelState) (y : Message) (p : Pid) → Comes b m pt l records k y p → Around b pt l → TurnsAt b m pt l records k
+turns_come b m pt l records k y p c r = by_what b m pt l records k y p y.what refl c.of_source c r

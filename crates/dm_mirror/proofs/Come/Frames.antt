@@ -1,12 +1,14 @@
 -- A message about a process that comes to a machine, at the front of its inbox: what is known then.
-use Rattle.dm_mirror.proofs.Names.{◌≡◌, ℕ, ◌+◌, ◌≤◌, ◌||◌, Bool, true, false, List, ◌∷◌, refl, ap, ◌∙◌, sym, subst, inl, inr, is_some, arith, if◌then◌else◌, option_map, Option, None, Some, false≢true, nat_tests, Pid, pid_eq, pid_of}
-use Rattle.dm_mirror.proofs.Names.{kernel_at, Message, MsgId, MessageKind, id_of, kind_of, PlainMessage, plain_message, Process, incoming_of, Boot, manager, switchboard, Life, Alive, OneKernel, bind, plain_process, PlainProcess, Made}
-use Rattle.dm_mirror.proofs.Names.{id_eq-same, is_between, is_of_source, Moves, IsIn, receiver_in, sender_in, told_between, Point, Spot, Inbox, StandsOnce, StandsOutside, standing, times, Of, Told, is_kernels, stands_right, not_kernels}
-use Rattle.dm_mirror.proofs.Names.{token_is, token_at, is_server, Run, Placed, Mirrors, KernelState, MadeStands, AllOwnStand, OwnStands, about_of, told_of, AreMessages, KernelStands, AllRecords, Carries, TokensStand, destination_of}
-use Rattle.dm_mirror.proofs.Names.{inbox_is, about_same}
-use Rattle.dm_onekernel.specs.Kernel.{Ended}
+use Rattle.dm_mirror.proofs.Names.{◌≡◌, ℕ, ◌+◌, ◌≤◌, Bool, true, false, List, ◌∷◌, refl, ap, ◌∙◌, sym, subst, inl, inr, is_some, arith, if◌then◌else◌, option_map, Option, None, Some, false≢true, nat_tests, Pid, pid_of, kernel_at, Message}
+use Rattle.dm_mirror.proofs.Names.{MsgId, MessageKind, kind_of, PlainMessage, plain_message, Process, incoming_of, Boot, OneKernel, bind, plain_process, Made, id_eq-same, is_between, is_of_source, Moves, IsIn, receiver_in, sender_in}
+use Rattle.dm_mirror.proofs.Names.{told_between, Point, Spot, Inbox, StandsOnce, StandsOutside, standing, times, Of, Told, is_kernels, stands_right, not_kernels, token_is, token_at, is_server, Run, Placed, Mirrors, KernelState, MadeStands}
+use Rattle.dm_mirror.proofs.Names.{AllOwnStand, OwnStands, about_of, told_of, AreMessages, KernelStands, AllRecords, Carries, TokensStand, destination_of, inbox_is, about_same, ◌*◌, ◌/◌, ◌<◌, ◌==◌, not, [], length, map, nat_lt, nat_le}
+use Rattle.dm_mirror.proofs.Names.{flat_map, length-append, flat_map-cons, Link, plain_link, Status, Shell, registers, shell_of, spell_status, spell_slot, numbers_size, Chunk, Block, Nothing, after_block, after_chunk, is_last, state_of}
+use Rattle.dm_mirror.proofs.Names.{HasPiece, plain_status, chunks_of, link_size, links_size, pieces_of, status_size, IsAsked, chunks, shell_spelling}
+use Rattle.dm_rule.proofs.QuietTests.{eq_is}
 use Rattle.dm_onekernel.specs.Step as kernel
 use Rattle.dm_mirror.proofs.Leave.Goes.{life_some as alive_made}
+use Rattle.dm_mirror.proofs.Handle.Taking.{some_same}
 
 -- machine m, with kernel k, has at its inbox's front message y, which the machine that process p leaves sends
 pub record Comes (b : Boot) (m : ℕ) (pt : Point) (l : Placed) (records : AllRecords) (k : KernelState) (y : Message) (p : Pid) : Type 0 where
@@ -54,9 +56,6 @@ pub record Arrives (b : Boot) (m : ℕ) (pt : Point) (l : Placed) (k : KernelSta
 pub times_self : (i : MsgId) (is : List MsgId) → times i (i ∷ is) ≡ 1 + times i is
 times_self i is = ap (λ (c : Bool). (if c then 1 else 0) + times i is) (id_eq-same i)
 
-pub front_stands : (pt : Point) (m : ℕ) (i : MsgId) (is : List MsgId) → pt.view.inbox m ≡ i ∷ is → 1 ≤ standing pt.view i (Inbox m)
-front_stands pt m i is box = grind (arith, nat_tests, times_self)
-
 -- an own message stands nowhere else
 once_of : (c : Bool) (f : Spot → ℕ) (z : Spot) → c ≡ true → 1 ≤ f z → StandsOutside c f → StandsOnce f
 once_of true f z e least h = elim h [
@@ -83,24 +82,8 @@ fresh_own b pt l i run mirrors own mine untold = by_bag (l.bag i) refl
     by_bag None e = e
     by_bag (Some x) e = absurd (by_plain x e (plain_message x) refl)
 
--- the next message of a machine's kernel
-pub next_untold : (b : Boot) (pt : Point) (m : ℕ) → Run b pt → pt.view.told (id_of (pid_of m 0) (pt.view.count m)) ≡ None
-next_untold b pt m run = run.based.phased.state.numbered m (pt.view.count m) (omega arith)
-
 no_server : (s : OneKernel) (p : Pid) → Made s → is_some (s.processes p) ≡ true → is_server p ≡ false
 no_server s p h there = grind (arith, nat_tests)
-
-the_told : (t u : Told) → Some t ≡ Some u → t ≡ u
-the_told t u e = cc
-
-the_message : (x z : Message) → Some x ≡ Some z → x ≡ z
-the_message x z e = cc
-
-receiver_source : (k : MessageKind) (s d : ℕ) → is_of_source k ≡ true → receiver_in k s d ≡ d
-receiver_source k s d e = ap (λ (c : Bool). if c then d else s) e
-
-sender_source : (k : MessageKind) (s d : ℕ) → is_of_source k ≡ true → sender_in k s d ≡ s
-sender_source k s d e = ap (λ (c : Bool). if c then s else d) e
 
 -- what is known of it
 record Token (pt : Point) (m : ℕ) (y : Message) (p : Pid) : Type 0 where
@@ -116,16 +99,16 @@ token_of b m pt y p run between of_source about told first =
     let h = run.based.phased.phases in
     let (q, j, s, d, of_q, phase) = token_is v h y.id (told_of y) (Inbox m) told between first in
     let token = token_at v q (h.of q) j s d y.id phase (h.each q) in
-    let t : told_between q j s d ≡ told_of y = the_told (told_between q j s d) (told_of y) (sym token.told ∙ told) in
+    let t : told_between q j s d ≡ told_of y = some_same (told_between q j s d) (told_of y) (sym token.told ∙ told) in
     let kind_is : j ≡ kind_of y.what = ap (λ (z : Told). z.kind) t in
     let same : q ≡ p = about_same q p (sym of_q ∙ about) in
     let source : is_of_source j ≡ true = ap is_of_source kind_is ∙ of_source in
-    let here : m ≡ d = inbox_is m (sender_in j s d) (receiver_in j s d) (token.ways (Inbox m) first) ∙ receiver_source j s d source in
+    let here : m ≡ d = inbox_is m (sender_in j s d) (receiver_in j s d) (token.ways (Inbox m) first) ∙ ap (λ (c : Bool). if c then d else s) source in
     record {
       source = s;
       phase = subst (λ (n : ℕ). IsIn v p (Moves (kind_of y.what) s n (Some y.id))) (sym here) (subst (λ (i : MessageKind). IsIn v p (Moves i s d (Some y.id))) kind_is (subst (λ (r : Pid). IsIn v r (Moves j s d (Some y.id))) same (subst (IsIn v q) phase (h.each q))));
-      to = sym (ap (λ (z : Told). z.receiver) t) ∙ ap (λ (n : ℕ). pid_of n 0) (receiver_source j s d source ∙ sym here);
-      from = token.from ∙ ap (λ (n : ℕ). pid_of n 0) (sender_source j s d source);
+      to = sym (ap (λ (z : Told). z.receiver) t) ∙ ap (λ (n : ℕ). pid_of n 0) (ap (λ (c : Bool). if c then d else s) source ∙ sym here);
+      from = token.from ∙ ap (λ (n : ℕ). pid_of n 0) (ap (λ (c : Bool). if c then s else d) source);
     }
 
 destination_is : (m : ℕ) (y : Message) → is_of_source (kind_of y.what) ≡ true → y.to.pid ≡ pid_of m 0 → destination_of y.id (told_of y) ≡ m
@@ -134,10 +117,10 @@ destination_is m y of_source to = ap (λ (c : Bool). if c then y.to.pid.home els
 pub arrives : (b : Boot) (m : ℕ) (pt : Point) (l : Placed) (records : AllRecords) (k : KernelState) (y : Message) (p : Pid) → Comes b m pt l records k y p → Arrives b m pt l k y p
 arrives b m pt l records k y p c =
     let stood : OwnStands pt.view y.id y = c.own y.id y c.there c.plain in
-    let first = front_stands pt m y.id c.ids c.box in
+    let first : 1 ≤ standing pt.view y.id (Inbox m) = grind (arith, nat_tests, times_self, c.box) in
     let t = token_of b m pt y p c.run c.between c.of_source c.about stood.told first in
     let token = c.tokens p y.id (told_of y) (Inbox m) stood.told c.between c.about first in
-    let same : token.message ≡ y = the_message token.message y (sym token.is ∙ c.there) in
+    let same : token.message ≡ y = some_same token.message y (sym token.is ∙ c.there) in
     let records_is : records (destination_of y.id (told_of y)) p ≡ k.records p = ap (λ (n : ℕ). records n p) (destination_is m y c.of_source t.to) ∙ (λ i. c.mine i p) in
     let alive : kernel.alive (pt.kernel.processes p) ≡ Some (plain_process token.process) = c.mirrors.plain.processes p ∙ ap (option_map plain_process) token.there in
     let is_made = alive_made (pt.kernel.processes p) (plain_process token.process) alive in
@@ -148,3 +131,64 @@ arrives b m pt l records k y p c =
       (c.mirrors.places.process p token.process token.there).pid,
       no_server pt.kernel p c.run.based.phased.sane.sound.made is_made,
     )
+
+-- How many pieces a process that moves has, by its bytes and by the rule, and which of them is asked for next.
+
+-- the bytes of a status, of the links, and of what stands before them
+status_length : (size : ℕ) (s : Status) → length (spell_status size s) ≡ 1 + status_size (plain_status s)
+status_length size s = grind (arith, nat_tests)
+
+slot_length : (o : Option Link) → length (spell_slot o) ≡ link_size (option_map plain_link o)
+slot_length o = grind (arith, nat_tests)
+
+slots_length : (xs : List (Option Link)) → length (flat_map spell_slot xs) ≡ links_size (map (option_map plain_link) xs)
+slots_length [] = omega arith
+slots_length (x ∷ xs) =
+    let one : length (flat_map spell_slot (x ∷ xs)) ≡ length (spell_slot x) + length (flat_map spell_slot xs) = ap length (flat_map-cons spell_slot x xs) ∙ length-append (spell_slot x) (flat_map spell_slot xs) in
+    omega (arith, one, slot_length x, slots_length xs)
+
+registers_length : (xs : List ℕ) → length xs ≡ 16 → length (registers.spell xs) ≡ 64
+unfolding registers
+registers_length xs e = omega (arith, e, numbers_size xs)
+
+shell_length : (s : Shell) → length s.regs.r ≡ 16 → length (shell_spelling s) ≡ 102 + status_size (plain_status s.status) + links_size (map (option_map plain_link) s.table)
+unfolding shell_spelling
+shell_length s sixteen = grind (arith, nat_tests, flat_map, length-append, registers_length, status_length, slots_length)
+
+pub chunks_same : (x : Process) → length x.regs.r ≡ 16 → chunks x ≡ chunks_of (plain_process x)
+chunks_same x sixteen = ap (λ (n : ℕ). (n + 511) / 512) (shell_length (shell_of x) sixteen)
+
+least_of : (a c : ℕ) → nat_le a c ≡ true → a ≤ c
+least_of a c e = grind (arith, nat_tests)
+
+-- a chunk is the last where as many were asked for as there are
+pub chunk_count : (last : Bool) (n k size : ℕ) → nat_le size (512 * (k + 1)) ≡ last → n ≡ k + 1 → 512 * k < size → (n == (size + 511) / 512) ≡ last
+chunk_count last n k size e asked there = grind (arith, nat_tests, least_of, eq_is)
+
+pub chunk_last : (x : Process) (n k : ℕ) → length x.regs.r ≡ 16 → IsAsked x n (Chunk k) → (n == chunks_of (plain_process x)) ≡ is_last (state_of x) k
+chunk_last x n k sixteen asked =
+    ap (λ (c : ℕ). n == c) (sym (chunks_same x sixteen)) ∙ chunk_count (is_last (state_of x) k) n k (length (state_of x)) refl asked.0 asked.1
+
+-- what is asked for then
+chunk_next : (last : Bool) (x : Process) (n k : ℕ) → nat_le (length (state_of x)) (512 * (k + 1)) ≡ last → IsAsked x n (Chunk k) → HasPiece x (after_chunk k last) → IsAsked x (n + 1) (after_chunk k last)
+chunk_next true x n k e asked there =
+    let f : chunks x ≡ k + 1 = (let g = least_of (length (state_of x)) (512 * (k + 1)) e in let h = asked.1 in omega (arith, g, h)) in
+    (omega (arith, f, asked.0), there)
+chunk_next false x n k e asked there = (omega (arith, asked.0), there)
+
+pub asked_after_chunk : (x : Process) (n k : ℕ) → IsAsked x n (Chunk k) → HasPiece x (after_chunk k (is_last (state_of x) k)) → IsAsked x (n + 1) (after_chunk k (is_last (state_of x) k))
+asked_after_chunk x n k asked there = chunk_next (is_last (state_of x) k) x n k refl asked there
+
+-- a block is the last where as many pieces were asked for as there are
+pub block_count : (more : Bool) (n j chunks blocks : ℕ) → nat_lt (j + 1) blocks ≡ more → n ≡ chunks + j + 1 → j < blocks → (n == chunks + blocks) ≡ not more
+block_count more n j chunks blocks e asked there = grind (arith, nat_tests, eq_is)
+
+pub block_last : (x : Process) (n j : ℕ) → length x.regs.r ≡ 16 → length x.memory ≡ 256 * (length x.memory / 256) → IsAsked x n (Block j) → (n == pieces_of (plain_process x)) ≡ not (nat_lt (j + 1) (length x.memory / 256))
+block_last x n j sixteen whole asked = grind (arith, nat_tests, chunks_same, block_count, nat_lt)
+
+block_next : (more : Bool) (x : Process) (n j : ℕ) → IsAsked x n (Block j) → HasPiece x (if more then Block (j + 1) else Nothing) → IsAsked x (n + 1) (if more then Block (j + 1) else Nothing)
+block_next true x n j asked there = (omega (arith, asked.0), there)
+block_next false x n j asked there = tt
+
+pub asked_after_block : (x : Process) (n j : ℕ) → IsAsked x n (Block j) → HasPiece x (after_block j (length x.memory / 256)) → IsAsked x (n + 1) (after_block j (length x.memory / 256))
+asked_after_block x n j asked there = block_next (nat_lt (j + 1) (length x.memory / 256)) x n j asked there

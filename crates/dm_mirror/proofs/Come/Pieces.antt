@@ -1,40 +1,94 @@
--- A piece comes of a process that comes, and the next is asked for, or all is said to have come.
+-- What a machine and the rule do with a message about a process that comes, and where the lines of it lead.
 use Rattle.dm_mirror.proofs.Names.{◌≡◌, ℕ, ◌/◌, Bool, true, false, List, [], ◌∷◌, length, refl, ap, ◌∙◌, sym, subst, if◌then◌else◌, slice_get, Option, None, Some, Pid, pid_eq, Message, MsgId, kind_of, plain_what, Process, Record}
-use Rattle.dm_mirror.proofs.Names.{incoming_of, with_record, Wanted, Chunk, Nothing, Arrival, pull, with_piece, CanMove, coming, Boot, OneKernel, bind, plain_process, pid_eq-same, Line, Addresses, goes_between, own_gives}
-use Rattle.dm_mirror.proofs.Names.{kernel_told, to_kernel, Part, is_between, is_early, is_of_source, Point, after, fits, free_room, taken_at, Incoming, Known, Of, View, Placed, enclosed, room_of, piece_line, takes_piece, took_piece}
-use Rattle.dm_mirror.proofs.Names.{kernel_handles, KernelState, about_of, ComesStand, KnownStands, RoomStands, AllRecords, Carries, IsAsked}
+use Rattle.dm_mirror.proofs.Names.{incoming_of, Wanted, Chunk, Nothing, Arrival, pull, with_piece, CanMove, coming, Boot, OneKernel, bind, plain_process, pid_eq-same, Line, Addresses, goes_between, own_gives, kernel_told, to_kernel, Part}
+use Rattle.dm_mirror.proofs.Names.{is_between, is_early, is_of_source, Point, after, fits, free_room, taken_at, Incoming, Known, Of, View, Placed, enclosed, room_of, piece_line, takes_piece, took_piece, kernel_handles, KernelState}
+use Rattle.dm_mirror.proofs.Names.{about_of, ComesStand, KnownStands, RoomStands, AllRecords, Carries, IsAsked, ◌+◌, ◌==◌, MessageKind, Step, Stage, arith, nat_tests, kind_comes, outcome, at_pid, without_front, About, without_first, Turned}
+use Rattle.dm_mirror.proofs.Names.{turn, apart_is, expects_is, not, nat_lt, What, Block, after_chunk, block_of, chunk_of, is_last, state_of, ComesByPieces, by_pieces, chunks_of, pieces_of, takes_block, takes_chunk, Wants}
 use Rattle.dm_kernel.specs.declared.part.Part.TheVariants as part
 use Rattle.dm_kernel.specs.State as machine
-use Rattle.dm_mirror.proofs.Come.Frames.{Arrives, Comes}
-use Rattle.dm_mirror.proofs.Come.Handled.{known_incoming, outcome_kernel, turn_kernel}
-use Rattle.dm_mirror.proofs.Come.Turns.{come_point, come_view, turns_answer}
+use Rattle.dm_mirror.proofs.Come.Frames.{Arrives, Comes, arrives, asked_after_block, asked_after_chunk, block_last, chunk_last}
+use Rattle.dm_mirror.proofs.Come.Turns.{come_point, come_view, turns_answer, eq_self}
 use Rattle.dm_mirror.proofs.Rooms.{taken_same}
 use Rattle.dm_mirror.proofs.Turning.{TurnsAt, begun}
+use Rattle.dm_mirror.proofs.Kernel.Sets.{on_if as if_true}
+use Rattle.dm_mirror.proofs.Follow.Fronts.{front_gone, set_self}
+use Rattle.dm_mirror.proofs.Handle.Taking.{some_same}
+
+pub turn_kernel : (b : Boot) (m : ℕ) (pt : Point) (l : Placed) (records : AllRecords) (k : KernelState) (y : Message) (p : Pid) (c : Comes b m pt l records k y p) (a : Arrives b m pt l k y p) (o : Option Turned) → kernel_handles b (record k { inbox = c.rest }) y y.what ≡ o → turn b k ≡ o
+turn_kernel b m pt l records k y p c a o e = grind (arith, nat_tests, if_true)
+
+pub outcome_kernel : (b : Boot) (m : ℕ) (pt : Point) (l : Placed) (records : AllRecords) (k : KernelState) (y : Message) (p : Pid) (c : Comes b m pt l records k y p) (a : Arrives b m pt l k y p) (o : Option (List Part))
+    → kernel_told pt m y.id p (fits (free_room b pt m) (length a.process.memory / 256)) (plain_process a.process) (kind_of y.what) ≡ o → outcome b pt (Step.Turn m) ≡ o
+outcome_kernel b m pt l records k y p c a o e = search if_true
+
+pub comes_known : (b : Boot) (m : ℕ) (pt : Point) (l : Placed) (k : KernelState) (y : Message) (p : Pid) (a : Arrives b m pt l k y p) → kind_comes (kind_of y.what) a.source (pt.view.known m p) ≡ true
+comes_known b m pt l k y p a = grind (arith, nat_tests, apart_is, eq_self)
+
+pub known_incoming : (b : Boot) (m : ℕ) (pt : Point) (l : Placed) (k : KernelState) (y : Message) (p : Pid) (a : Arrives b m pt l k y p) → is_early (kind_of y.what) ≡ false → pt.view.known m p ≡ Incoming a.source
+known_incoming b m pt l k y p a late = expects_is (kind_of y.what) a.source (pt.view.known m p) late (comes_known b m pt l k y p a)
+
+-- it expects the process
+pub record Expects (l : Placed) (p : Pid) (held_ : List MsgId) (r : Option machine.KernelKnown) : Type 0 where
+  pub arrival : Arrival
+  pub is : r ≡ Some (Record.Incoming arrival)
+  pub comes_ : ComesStand l p held_ arrival
+
+expects_by : (pt : Point) (l : Placed) (p : Pid) (queue held_ : List MsgId) (s : ℕ) (r : Option machine.KernelKnown) → KnownStands pt l p queue held_ (Incoming s) r → Expects l p held_ r
+expects_by pt l p queue held_ s (Some (Record.Incoming a)) h = record { arrival = a; is = refl; comes_ = h }
+expects_by pt l p queue held_ s _ h = absurd h
+
+pub expects : (b : Boot) (m : ℕ) (pt : Point) (l : Placed) (records : AllRecords) (k : KernelState) (y : Message) (p : Pid) (c : Comes b m pt l records k y p) (a : Arrives b m pt l k y p) → is_early (kind_of y.what) ≡ false → Expects l p (pt.view.held m p) (k.records p)
+expects b m pt l records k y p c a late =
+    expects_by pt l p (pt.view.queue m p) (pt.view.held m p) a.source (k.records p)
+    (subst (λ (n : Known). KnownStands pt l p (pt.view.queue m p) (pt.view.held m p) n (k.records p)) (known_incoming b m pt l k y p a late) (c.stands.known p a.server))
+
+pub first_gone : (i : MsgId) (is xs : List MsgId) → xs ≡ i ∷ is → without_first xs ≡ is
+first_gone i is xs e = ap without_first e
+
+-- where the lines lead
+pub after_state_taken : (pt : Point) (m : ℕ) (p : Pid) → after (begun pt m) (Line.Migration Stage.StateTaken p ∷ []) ≡ Some (come_point pt (come_view pt.view m p (without_first (pt.view.inbox m)) pt.view.known (at_pid pt.view.asked p (pt.view.asked p + 1))))
+after_state_taken pt m p = refl
+
+pub after_memory_taken : (pt : Point) (m : ℕ) (p : Pid) → after (begun pt m) (Line.Migration Stage.MemoryTaken p ∷ []) ≡ Some (come_point pt (come_view pt.view m p (without_first (pt.view.inbox m)) pt.view.known pt.view.asked))
+after_memory_taken pt m p = refl
+
+pub after_lacks : (pt : Point) (m : ℕ) (p : Pid) (slots blocks : ℕ) → after (begun pt m) (Line.Lacks p slots blocks ∷ []) ≡ Some (come_point pt (come_view pt.view m p (without_first (pt.view.inbox m)) pt.view.known pt.view.asked))
+after_lacks pt m p slots blocks = refl
+
+-- a piece that isn't the last
+pub after_piece : (pt : Point) (m : ℕ) (p q : Pid) (i : MsgId) (k : MessageKind) → (k ≡ MessageKind.State) → pt.view.told i ≡ Some (record { kind = k; receiver = q; about = Of p })
+    → after (begun pt m) (Line.Proto i ∷ []) ≡ Some (come_point pt (come_view pt.view m p (without_front i (pt.view.inbox m)) pt.view.known (at_pid pt.view.asked p (pt.view.asked p + 1))))
+after_piece pt m p q i k is told = grind (arith, nat_tests)
+
+pub after_block : (pt : Point) (m : ℕ) (p q : Pid) (i : MsgId) (k : MessageKind) → (k ≡ MessageKind.Memory) → pt.view.told i ≡ Some (record { kind = k; receiver = q; about = Of p })
+    → after (begun pt m) (Line.Proto i ∷ []) ≡ Some (come_point pt (come_view pt.view m p (without_front i (pt.view.inbox m)) pt.view.known (at_pid pt.view.asked p (pt.view.asked p + 1))))
+after_block pt m p q i k is told = grind (arith, nat_tests)
+
+-- what was told of it
+pub told_about : (b : Boot) (m : ℕ) (pt : Point) (l : Placed) (records : AllRecords) (k : KernelState) (y : Message) (p : Pid) → Comes b m pt l records k y p → Arrives b m pt l k y p
+    → pt.view.told y.id ≡ Some (record { kind = kind_of y.what; receiver = y.to.pid; about = Of p })
+told_about b m pt l records k y p c a = a.told ∙ ap (λ (x : About). Some (record { kind = kind_of y.what; receiver = y.to.pid; about = x })) c.about
+
+-- A piece comes of a process that comes, and the next is asked for, or all is said to have come.
 
 -- what asks for a piece, or says that all has come
 pull_between : (p : Pid) (w : Wanted) → is_between (kind_of (pull p w)) ≡ true
-pull_between p (Chunk k) = refl
-pull_between p _ = refl
+pull_between p w = grind (arith, nat_tests)
 
 pull_replies : (p : Pid) (w : Wanted) → is_of_source (kind_of (pull p w)) ≡ false
-pull_replies p (Chunk k) = refl
-pull_replies p _ = refl
+pull_replies p w = grind (arith, nat_tests)
 
 pull_about : (p : Pid) (w : Wanted) → about_of (pull p w) ≡ Of p
-pull_about p (Chunk k) = refl
-pull_about p _ = refl
+pull_about p w = grind (arith, nat_tests)
 
 pull_plain : (p : Pid) (w : Wanted) → plain_what (pull p w) ≡ None
-pull_plain p (Chunk k) = refl
-pull_plain p _ = refl
+pull_plain p w = grind (arith, nat_tests)
 
 pull_encloses : (p : Pid) (w : Wanted) → enclosed (pull p w) ≡ []
-pull_encloses p (Chunk k) = refl
-pull_encloses p _ = refl
+pull_encloses p w = grind (arith, nat_tests)
 
 pull_gives : (p : Pid) (w : Wanted) (s : OneKernel) (v : View) (a : Addresses) (i : MsgId) (q : Pid) → own_gives s v a i q (kind_of (pull p w)) ≡ goes_between v i q
-pull_gives p (Chunk k) s v a i q = refl
-pull_gives p _ s v a i q = refl
+pull_gives p w s v a i q = grind (arith, nat_tests)
 
 pull_carries : (p : Pid) (x : Process) (n : ℕ) (held : List Message) (w : Wanted) → x.pid ≡ p → IsAsked x n w → Carries p x n (Some (coming x None held w)) (pull x.pid w)
 pull_carries p x n held Nothing named asked = (named, refl)
@@ -67,12 +121,6 @@ pub record Piece (b : Boot) (m : ℕ) (pt : Point) (l : Placed) (records : AllRe
   pub asked_off : (q : Pid) → pid_eq p q ≡ false → asked q ≡ pt.view.asked q
   pub is_asked : IsAsked a.process (asked p) wanted
 
-set_self : (f : Pid → Option machine.KernelKnown) (p : Pid) (r : machine.KernelKnown) → with_record f p r p ≡ Some r
-set_self f p r = ap (λ (d : Bool). if d then Some r else f p) (pid_eq-same p)
-
-set_off : (f : Pid → Option machine.KernelKnown) (p q : Pid) (r : machine.KernelKnown) → pid_eq p q ≡ false → with_record f p r q ≡ f q
-set_off f p q r off = ap (λ (d : Bool). if d then Some r else f q) off
-
 pub turns_piece : (b : Boot) (m : ℕ) (pt : Point) (l : Placed) (records : AllRecords) (k : KernelState) (y : Message) (p : Pid) (c : Comes b m pt l records k y p) (a : Arrives b m pt l k y p) → Piece b m pt l records k y p c a → TurnsAt b m pt l records k
 turns_piece b m pt l records k y p c a h =
     let s = record k { inbox = c.rest } in
@@ -98,7 +146,7 @@ turns_piece b m pt l records k y p c a h =
       known_away = λ n q off. refl;
       asked_off = h.asked_off;
       here = refl;
-      records_off = λ q off. set_off k.records p q (Record.Incoming now) off;
+      records_off = λ q off. ap (λ (d : Bool). if d then Some (Record.Incoming now) else k.records q) off;
       ring = refl;
       inbox = refl;
       made = refl;
@@ -118,3 +166,124 @@ turns_piece b m pt l records k y p c a h =
       carries = subst (λ (o : Option machine.KernelKnown). Carries p a.process (h.asked p) (incoming_of o) (pull a.process.pid h.wanted)) (sym (set_self k.records p (Record.Incoming now)))
           (pull_carries p a.process (h.asked p) h.arrival.held h.wanted a.named h.is_asked);
     })
+
+-- A chunk of the state of a process that comes, and a block of its memory.
+
+-- what has come before, where this is asked for
+pub record Before (b : Boot) (m : ℕ) (pt : Point) (l : Placed) (k : KernelState) (y : Message) (p : Pid) (a : Arrives b m pt l k y p) (w : Wanted) : Type 0 where
+  pub arrival : Arrival
+  pub is : k.records p ≡ Some (Record.Incoming arrival)
+  pub comes_ : ComesStand l p (pt.view.held m p) arrival
+  pub whole : CanMove (record a.process { queue = [] })
+  pub pieces : arrival ≡ coming a.process None arrival.held w
+
+pub before : (b : Boot) (m : ℕ) (pt : Point) (l : Placed) (records : AllRecords) (k : KernelState) (y : Message) (p : Pid) (c : Comes b m pt l records k y p) (a : Arrives b m pt l k y p) (w : Wanted) → is_early (kind_of y.what) ≡ false → Wants (incoming_of (k.records p)) w → Before b m pt l k y p a w
+before b m pt l records k y p c a w late wants =
+    let e = expects b m pt l records k y p c a late in
+    let h = e.comes_ in
+    let same : h.process ≡ a.process = some_same h.process a.process (sym h.there ∙ a.there) in
+    let is_wanted : e.arrival.wanted ≡ w = subst (λ (o : Option machine.KernelKnown). Wants (incoming_of o) w) e.is wants in
+    search (subst (λ (z : Process). CanMove (record z { queue = [] })) same h.whole, h.pieces ∙ (λ i. coming (same i) None e.arrival.held (is_wanted i)))
+
+asked_more : (f : Pid → ℕ) (p : Pid) (n : ℕ) → at_pid f p n p ≡ n
+asked_more f p n = ap (λ (d : Bool). if d then n else f p) (pid_eq-same p)
+
+asked_others : (f : Pid → ℕ) (p q : Pid) (n : ℕ) → pid_eq p q ≡ false → at_pid f p n q ≡ f q
+asked_others f p q n off = ap (λ (d : Bool). if d then n else f q) off
+
+-- a chunk, the last or another
+state_by : (b : Boot) (m : ℕ) (pt : Point) (l : Placed) (records : AllRecords) (k : KernelState) (y : Message) (p : Pid) (c : Comes b m pt l records k y p) (a : Arrives b m pt l k y p) (chunk : ℕ) (h : Before b m pt l k y p a (Chunk chunk)) (d : Bool)
+    → kind_of y.what ≡ MessageKind.State → kernel_handles b (record k { inbox = c.rest }) y y.what ≡ bind (incoming_of (k.records p)) (takes_piece (record k { inbox = c.rest }) y p)
+    → with_piece h.arrival y.what ≡ Some (coming a.process None h.arrival.held (after_chunk chunk d)) → IsAsked a.process (pt.view.asked p + 1) (after_chunk chunk d) → (pt.view.asked p == chunks_of (plain_process a.process)) ≡ d → TurnsAt b m pt l records k
+state_by b m pt l records k y p c a chunk h true is takes took asked test =
+    let v = pt.view in
+    turns_piece b m pt l records k y p c a (search (
+      ap is_early is,
+      at_pid v.asked p (v.asked p + 1),
+      ap (kernel_told pt m y.id p (fits (free_room b pt m) (length a.process.memory / 256)) (plain_process a.process)) is ∙ ap (λ (e : Bool). Some (takes_chunk y.id p e)) test,
+      after_state_taken pt m p,
+      first_gone y.id c.ids (v.inbox m) c.box,
+      asked_others,
+      subst (λ (n : ℕ). IsAsked a.process n (Block 0)) (sym (asked_more v.asked p (v.asked p + 1))) asked,
+    ))
+state_by b m pt l records k y p c a chunk h false is takes took asked test =
+    let v = pt.view in
+    turns_piece b m pt l records k y p c a (search (
+      ap is_early is,
+      at_pid v.asked p (v.asked p + 1),
+      ap (kernel_told pt m y.id p (fits (free_room b pt m) (length a.process.memory / 256)) (plain_process a.process)) is ∙ ap (λ (e : Bool). Some (takes_chunk y.id p e)) test,
+      after_piece pt m p y.to.pid y.id (kind_of y.what) is (told_about b m pt l records k y p c a),
+      front_gone y.id c.ids (v.inbox m) c.box,
+      asked_others,
+      subst (λ (n : ℕ). IsAsked a.process n (Chunk (chunk + 1))) (sym (asked_more v.asked p (v.asked p + 1))) asked,
+    ))
+
+chunk_pid : (q r : Pid) (i j : ℕ) (d e : Bool) (f g : _) → What.State q i d f ≡ What.State r j e g → q ≡ r
+chunk_pid q r i j d e f g is = cc
+
+pub turns_state : (b : Boot) (m : ℕ) (pt : Point) (l : Placed) (records : AllRecords) (k : KernelState) (y : Message) (p : Pid) (q : Pid) (chunk : ℕ) (last : Bool) (bytes : _) → Comes b m pt l records k y p → y.what ≡ What.State q chunk last bytes → TurnsAt b m pt l records k
+turns_state b m pt l records k y p q chunk last bytes c e =
+    let a = arrives b m pt l records k y p c in
+    let x = a.process in
+    let s = record k { inbox = c.rest } in
+    let carried = subst (λ (w : What). Carries p x (pt.view.asked p) (incoming_of (k.records p)) w) e a.carries in
+    let is : kind_of y.what ≡ MessageKind.State = ap kind_of e in
+    let h = before b m pt l records k y p c a (Chunk chunk) (ap is_early is) carried.2 in
+    let pieces : ComesByPieces (record x { queue = [] }) None h.arrival.held = by_pieces (record x { queue = [] }) None h.arrival.held h.whole in
+    let named : q ≡ p = chunk_pid q x.pid chunk chunk last (is_last (state_of x) chunk) bytes _ carried.0 ∙ a.named in
+    let content : y.what ≡ chunk_of x.pid (state_of x) chunk = e ∙ carried.0 in
+    state_by b m pt l records k y p c a chunk h (is_last (state_of x) chunk) is
+    (ap (kernel_handles b s y) e ∙ ap (λ (z : Pid). bind (incoming_of (k.records z)) (takes_piece s y z)) named)
+    ((λ i. with_piece (h.pieces i) (content i)) ∙ pieces.chunk_taken chunk carried.1.1)
+    (asked_after_chunk x (pt.view.asked p) chunk carried.1 (pieces.after_chunk chunk carried.1.1))
+    (chunk_last x (pt.view.asked p) chunk h.whole.lawful.registers carried.1)
+
+-- a block, another or the last
+memory_by : (b : Boot) (m : ℕ) (pt : Point) (l : Placed) (records : AllRecords) (k : KernelState) (y : Message) (p : Pid) (c : Comes b m pt l records k y p) (a : Arrives b m pt l k y p) (block : ℕ) (h : Before b m pt l k y p a (Block block)) (more : Bool)
+    → kind_of y.what ≡ MessageKind.Memory → kernel_handles b (record k { inbox = c.rest }) y y.what ≡ bind (incoming_of (k.records p)) (takes_piece (record k { inbox = c.rest }) y p)
+    → with_piece h.arrival y.what ≡ Some (coming a.process None h.arrival.held (if more then Block (block + 1) else Nothing)) → IsAsked a.process (pt.view.asked p + 1) (if more then Block (block + 1) else Nothing)
+    → (pt.view.asked p == pieces_of (plain_process a.process)) ≡ not more → (block + 1 == 0) ≡ false → TurnsAt b m pt l records k
+memory_by b m pt l records k y p c a block h true is takes took asked test later =
+    let v = pt.view in
+    turns_piece b m pt l records k y p c a (search (
+      ap is_early is,
+      at_pid v.asked p (v.asked p + 1),
+      ap (λ (e : Bool). if e then Line.Migration Stage.StateTaken p else Line.Proto y.id) later,
+      ap (kernel_told pt m y.id p (fits (free_room b pt m) (length a.process.memory / 256)) (plain_process a.process)) is ∙ ap (λ (e : Bool). Some (takes_block y.id p e)) test,
+      after_block pt m p y.to.pid y.id (kind_of y.what) is (told_about b m pt l records k y p c a),
+      front_gone y.id c.ids (v.inbox m) c.box,
+      asked_others,
+      subst (λ (n : ℕ). IsAsked a.process n (Block (block + 1))) (sym (asked_more v.asked p (v.asked p + 1))) asked,
+    ))
+memory_by b m pt l records k y p c a block h false is takes took asked test later =
+    let v = pt.view in
+    turns_piece b m pt l records k y p c a (search (
+      ap is_early is,
+      ap (kernel_told pt m y.id p (fits (free_room b pt m) (length a.process.memory / 256)) (plain_process a.process)) is ∙ ap (λ (e : Bool). Some (takes_block y.id p e)) test,
+      after_memory_taken pt m p,
+      first_gone y.id c.ids (v.inbox m) c.box,
+    ))
+
+block_pid : (q r : Pid) (i j : ℕ) (f g : _) → What.Memory q i f ≡ What.Memory r j g → q ≡ r
+block_pid q r i j f g is = cc
+
+pub turns_memory : (b : Boot) (m : ℕ) (pt : Point) (l : Placed) (records : AllRecords) (k : KernelState) (y : Message) (p : Pid) (q : Pid) (block : ℕ) (bytes : _) → Comes b m pt l records k y p → y.what ≡ What.Memory q block bytes → TurnsAt b m pt l records k
+turns_memory b m pt l records k y p q block bytes c e =
+    let a = arrives b m pt l records k y p c in
+    let x = a.process in
+    let s = record k { inbox = c.rest } in
+    let carried = subst (λ (w : What). Carries p x (pt.view.asked p) (incoming_of (k.records p)) w) e a.carries in
+    let is : kind_of y.what ≡ MessageKind.Memory = ap kind_of e in
+    let h = before b m pt l records k y p c a (Block block) (ap is_early is) carried.2 in
+    let pieces : ComesByPieces (record x { queue = [] }) None h.arrival.held = by_pieces (record x { queue = [] }) None h.arrival.held h.whole in
+    let named : q ≡ p = block_pid q x.pid block block bytes _ carried.0 ∙ a.named in
+    let content : y.what ≡ block_of x.pid x.memory block = e ∙ carried.0 in
+    memory_by b m pt l records k y p c a block h (nat_lt (block + 1) (length x.memory / 256)) is
+    (ap (kernel_handles b s y) e ∙ ap (λ (z : Pid). bind (incoming_of (k.records z)) (takes_piece s y z)) named)
+    ((λ i. with_piece (h.pieces i) (content i)) ∙ pieces.block_taken block carried.1.1)
+    (asked_after_block x (pt.view.asked p) block carried.1 (pieces.after_block block carried.1.1))
+    (block_last x (pt.view.asked p) block h.whole.lawful.registers (grind (arith, nat_tests, h.whole.lawful)) carried.1)
+    (not_first block)
+  where
+    not_first : (n : ℕ) → (n + 1 == 0) ≡ false
+    not_first n = grind (arith, nat_tests)

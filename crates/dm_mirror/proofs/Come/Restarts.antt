@@ -1,22 +1,22 @@
 -- A process that has come goes on: it is here, at the ring's back, and what was held for it comes before the inbox.
-use Rattle.dm_mirror.proofs.Names.{◌≡◌, ◌≢◌, ◌⊎◌, ℕ, ◌+◌, ◌/◌, ◌≤◌, ◌==◌, ◌&&◌, Bool, true, false, List, [], ◌∷◌, ◌++◌, length, map, refl, ap, ◌∙◌, sym, subst, inl, inr, arith, if◌then◌else◌, slice_get, Option, None, Some, cases_Bool, nat_tests}
+use Rattle.dm_mirror.proofs.Names.{◌≡◌, ◌≢◌, ◌⊎◌, ℕ, ◌+◌, ◌/◌, ◌≤◌, ◌==◌, Bool, true, false, List, [], ◌∷◌, ◌++◌, length, map, refl, ap, ◌∙◌, sym, subst, inl, inr, arith, if◌then◌else◌, slice_get, Option, None, Some, cases_Bool, nat_tests}
 use Rattle.dm_mirror.proofs.Names.{false≢true, Pid, pid_eq, Message, MsgId, What, Record, Line, Stage, Part, MessageKind, kind_of, Process, incoming_of, with_record, Nothing, restarted, ComesByPieces, by_pieces, Boot, bind, plain_process}
-use Rattle.dm_mirror.proofs.Names.{pid_eq-is, pid_eq-same, kernel_told, Moves, kind_comes, is_away, is_early, knows, kind_leaves, Point, moved, Room, fits, free_room, taken_at, taken_by, at_machine, at_record, Spot, Held, Inbox, standing, times}
-use Rattle.dm_mirror.proofs.Names.{Known, Unknown, Here, Frozen, Incoming, Forward, Ended, Of, View, without_first, once_at, times-append, is_server, has_no_queue, Placed, restarted_mirrors, mirrors_view, room_of, restarts, restarts_as}
-use Rattle.dm_mirror.proofs.Names.{kernel_handles, KernelState, AreMessages, KnownStands, KernelStands, RoomStands, AllRecords, Carries, TokensStand, destination_of, and_false, least_of, at_record_at}
+use Rattle.dm_mirror.proofs.Names.{pid_eq-is, pid_eq-same, kernel_told, Moves, is_away, is_early, knows, kind_leaves, Point, moved, Room, fits, free_room, taken_at, taken_by, at_machine, at_record, Spot, Held, Inbox, standing, times, Known}
+use Rattle.dm_mirror.proofs.Names.{Unknown, Here, Frozen, Incoming, Forward, Ended, Of, View, without_first, once_at, times-append, is_server, has_no_queue, Placed, restarted_mirrors, mirrors_view, room_of, restarts, restarts_as}
+use Rattle.dm_mirror.proofs.Names.{kernel_handles, KernelState, AreMessages, KnownStands, RoomStands, AllRecords, Carries, TokensStand, destination_of, and_false, least_of, at_record_at}
+use Rattle.dm_places.specs.PlacedStep.{with_process}
 use Rattle.dm_migrate.specs.Way as way
 use Rattle.dm_onekernel.specs.Step as kernel
 use Rattle.dm_rule.specs.Rule as group
-use Rattle.dm_places.specs.PlacedStep.{with_process}
 use Rattle.dm_kernel.specs.declared.part.Part.TheVariants as part
 use Rattle.dm_kernel.specs.State as machine
-use Rattle.dm_mirror.proofs.Come.Bytes.{before}
 use Rattle.dm_mirror.proofs.Come.Frames.{Arrives, Comes, arrives, own_once}
-use Rattle.dm_mirror.proofs.Come.Handled.{first_gone, known_incoming, outcome_kernel, turn_kernel}
-use Rattle.dm_mirror.proofs.Come.Turns.{come_view, eq_off, fewer, gone, machine_off, machine_self, others_known}
+use Rattle.dm_mirror.proofs.Come.Turns.{come_view, eq_off, fewer, gone, machine_self, others_known}
 use Rattle.dm_mirror.proofs.Rooms.{taken_same}
 use Rattle.dm_mirror.proofs.Turning.{Nothing as NoLate, TurnsAt, begun, has_process}
 use Rattle.dm_mirror.proofs.Leave.Stays.{messages_append as are_both}
+use Rattle.dm_mirror.proofs.Come.Pieces.{first_gone, known_incoming, outcome_kernel, turn_kernel, before}
+use Rattle.dm_mirror.proofs.Handle.Taking.{machine_off, record_off as record_away}
 
 abbrev pub back_point : Point → ℕ → Pid → Point
 back_point pt m p = moved (begun pt m) (Line.Migration Stage.Restarted p) pt.kernel
@@ -37,9 +37,6 @@ known_apart pt next l placed p queue held_ k r same bag life h = absurd h
 record_off : {X : Type 0} (f : ℕ → Pid → X) (m n : ℕ) (p q : Pid) (x : X) → pid_eq p q ≡ false → at_record f m p x n q ≡ f n q
 record_off f m n p q x off = ap (λ (d : Bool). if d then x else f n q) (and_false (m == n) (pid_eq p q) off)
 
-record_away : {X : Type 0} (f : ℕ → Pid → X) (m n : ℕ) (p q : Pid) (x : X) → n ≢ m → at_record f m p x n q ≡ f n q
-record_away f m n p q x off = ap (λ (d : Bool). if d && pid_eq p q then x else f n q) (eq_off m n off)
-
 set_off : {X : Type 0} (f : Pid → X) (p q : Pid) (x : X) → pid_eq p q ≡ false → (if pid_eq p q then x else f q) ≡ f q
 set_off f p q x off = ap (λ (d : Bool). if d then x else f q) off
 
@@ -48,21 +45,13 @@ set_self f p x = ap (λ (d : Bool). if d then x else f p) (pid_eq-same p)
 
 -- no other machine has the process
 forward_only : (d : ℕ) (n : Known) → kind_leaves MessageKind.Restart d n ≡ true → has_process n ≡ false
-forward_only d (Frozen to) e = absurd (false≢true e)
-forward_only d Here e = absurd (false≢true e)
-forward_only d (Incoming from) e = absurd (false≢true e)
-forward_only d _ e = refl
+forward_only d n e = grind (arith, nat_tests)
 
 away_only : (n : Known) → is_away n ≡ true → has_process n ≡ false
-away_only Here e = absurd (false≢true e)
-away_only (Frozen to) e = absurd (false≢true e)
-away_only (Incoming from) e = absurd (false≢true e)
-away_only _ e = refl
+away_only n e = grind (arith, nat_tests)
 
 elsewhere_by : (s d n : ℕ) (i : Option MsgId) (k : Known) (at_source at_destination : Bool) → (s == n) ≡ at_source → (d == n) ≡ at_destination → at_destination ≡ false → knows (Moves MessageKind.Restart s d i) n k ≡ true → has_process k ≡ false
-elsewhere_by s d n i k true at_destination e f off h = forward_only d k (sym (ap (λ (t : Bool). if t then kind_leaves MessageKind.Restart d k else if d == n then kind_comes MessageKind.Restart s k else is_away k) e) ∙ h)
-elsewhere_by s d n i k false at_destination e f off h =
-    away_only k (sym (ap (λ (t : Bool). if t then kind_leaves MessageKind.Restart d k else if d == n then kind_comes MessageKind.Restart s k else is_away k) e ∙ ap (λ (t : Bool). if t then kind_comes MessageKind.Restart s k else is_away k) (f ∙ off)) ∙ h)
+elsewhere_by s d n i k at_source at_destination e f off h = grind (arith, nat_tests, forward_only, away_only)
 
 not_elsewhere : (b : Boot) (m : ℕ) (pt : Point) (l : Placed) (k : KernelState) (y : Message) (p : Pid) (a : Arrives b m pt l k y p) (n : ℕ) → kind_of y.what ≡ MessageKind.Restart → n ≢ m → has_process (pt.view.known n p) ≡ false
 not_elsewhere b m pt l k y p a n is apart = grind (arith, nat_tests, elsewhere_by, eq_off)
@@ -72,19 +61,15 @@ back_box : (v : View) (m : ℕ) (p : Pid) (i : MsgId) (is : List MsgId) → v.in
 back_box v m p i is box = ap (λ (xs : List MsgId). v.held m p ++ xs) (machine_self v.inbox m (without_first (v.inbox m)) ∙ first_gone i is (v.inbox m) box)
 
 held_fewer : (v : View) (m n : ℕ) (p q : Pid) (j : MsgId) (d : Bool) → times j (if d then [] else v.held n q) ≤ times j (v.held n q)
-held_fewer v m n p q j true = omega arith
-held_fewer v m n p q j false = omega arith
+held_fewer v m n p q j d = grind (arith, nat_tests)
 
 inbox_back : (v : View) (m n : ℕ) (p : Pid) (j : MsgId) (d : Bool) → (m == n) ≡ d
     → times j (if d then v.held m p ++ at_machine v.inbox m (without_first (v.inbox m)) m else at_machine v.inbox m (without_first (v.inbox m)) n) ≤ times j (at_machine v.inbox m (without_first (v.inbox m)) n) + times j (v.held m p)
-inbox_back v m n p j true e = grind (arith, nat_tests, times-append, machine_self)
-inbox_back v m n p j false e = omega arith
+inbox_back v m n p j d e = grind (arith, nat_tests, times-append, machine_self)
 
 back_standing : (pt : Point) (m : ℕ) (p : Pid) (j : MsgId) (z : Spot)
     → standing (back_point pt m p).view j z ≤ standing (come_view pt.view m p (without_first (pt.view.inbox m)) pt.view.known pt.view.asked) j z + standing pt.view j (Held m p)
-back_standing pt m p j (Held n q) = let f = held_fewer pt.view m n p q j ((m == n) && pid_eq p q) in omega (arith, f)
-back_standing pt m p j (Inbox n) = inbox_back pt.view m n p j (m == n) refl
-back_standing pt m p j _ = omega arith
+back_standing pt m p j z = grind (arith, nat_tests, held_fewer, inbox_back)
 
 -- the tokens of other processes
 tokens_back : (b : Boot) (m : ℕ) (pt : Point) (l : Placed) (records : AllRecords) (k : KernelState) (y : Message) (p : Pid) (c : Comes b m pt l records k y p) (a : Arrives b m pt l k y p) (o : Option Process) (s : KernelState) → ((q : Pid) → pid_eq p q ≡ false → s.records q ≡ k.records q)
@@ -159,9 +144,6 @@ taken_back b m pt l k y p a incoming = taken_same pt (back_point pt m p) m refl 
       | inr off ↦ ap (λ (n : Known). takes_as n (group.blocks_of (kernel.alive (pt.kernel.processes q)))) (record_off pt.view.known m m p q Here off)
     ]
 
-no_server_back : (b : Boot) (m : ℕ) (pt : Point) (l : Placed) (k s : KernelState) (y : Message) (p : Pid) → Arrives b m pt l k y p → KernelStands b pt l m k → (r : Pid) → is_server r ≡ true → ((z : Pid) → pid_eq p z ≡ false → s.records z ≡ k.records z) → s.records r ≡ None
-no_server_back b m pt l k s y p a stands r server others = grind (arith, nat_tests, pid_eq-is)
-
 pub turns_restart : (b : Boot) (m : ℕ) (pt : Point) (l : Placed) (records : AllRecords) (k : KernelState) (y : Message) (p : Pid) (q : Pid) → Comes b m pt l records k y p → y.what ≡ What.Restart q → TurnsAt b m pt l records k
 turns_restart b m pt l records k y p q c e =
     let v = pt.view in
@@ -182,6 +164,11 @@ turns_restart b m pt l records k y p q c e =
     let stands = c.stands in
     let there : state.records p ≡ Some (Record.Here (way.moved x)) = set_self k.records p (Some (Record.Here (way.moved x))) in
     let others : (r : Pid) → pid_eq p r ≡ false → state.records r ≡ k.records r = λ r off. set_off k.records p r (Some (Record.Here (way.moved x))) off in
+    let boxes : (n : ℕ) → n ≢ m → at_machine front m (v.held m p ++ front m) n ≡ v.inbox n = λ n off. machine_off front m n (v.held m p ++ front m) off ∙ machine_off v.inbox m n (without_first (v.inbox m)) off in
+    let processes : (n : ℕ) (r : Pid) → n ≢ m → has_process (v.known n r) ≡ true → placed.processes r ≡ l.processes r = λ n r off has. elim (cases_Bool (pid_eq p r)) [
+      | inl same ↦ absurd (false≢true (sym (not_elsewhere b m pt l k y p a n is off) ∙ ap (λ (z : Pid). has_process (v.known n z)) (pid_eq-is p r same) ∙ has))
+      | inr apart ↦ set_off l.processes p r (Some (way.moved x)) apart
+    ] in
     record {
       state = state;
       says = Line.Migration Stage.Restarted p ∷ [];
@@ -201,7 +188,7 @@ turns_restart b m pt l records k y p q c e =
       kernel = record {
         here = stands.here;
         known = λ r server. known_back b m pt l records k y p c a state r incoming there others server;
-        no_server = λ r server. no_server_back b m pt l k state y p a stands r server others;
+        no_server = λ r server. grind (arith, nat_tests, pid_eq-is);
         ring = ap (λ ring. ring ++ p ∷ []) stands.ring ∙ sym (machine_self v.ring m (v.ring m ++ p ∷ []));
         inbox =
             subst (λ (is : List MsgId). AreMessages l.bag is (h.arrival.held ++ c.rest)) (sym (machine_self front m (v.held m p ++ front m) ∙ back_box v m p y.id c.ids c.box))
@@ -211,29 +198,7 @@ turns_restart b m pt l records k y p q c e =
         servers = stands.servers;
       };
       sent = λ count. omega (arith, count);
-      elsewhere = record {
-        acting = refl;
-        groups = refl;
-        pair = λ d f. refl;
-        inbox = λ n off. machine_off front m n (v.held m p ++ front m) off ∙ machine_off v.inbox m n (without_first (v.inbox m)) off;
-        ring = λ n off. machine_off v.ring m n (v.ring m ++ p ∷ []) off;
-        known = λ n r off. record_away v.known m n p r Here off;
-        queue = λ n r off. refl;
-        held = λ n r off. record_away v.held m n p r [] off;
-        count = λ n. refl;
-        told = refl;
-        machines = refl;
-        made = λ n off. refl;
-        process = λ n r off has. elim (cases_Bool (pid_eq p r)) [
-          | inl same ↦ absurd (false≢true (sym (not_elsewhere b m pt l k y p a n is off) ∙ ap (λ (z : Pid). has_process (v.known n z)) (pid_eq-is p r same) ∙ has))
-          | inr apart ↦ set_off l.processes p r (Some (way.moved x)) apart
-        ];
-        ended = λ n r off has. refl;
-        life = λ n r off has. refl;
-        bag = λ i z f least. refl;
-        board = λ off. refl;
-        manager = λ off. refl;
-      };
+      elsewhere = search (boxes, machine_off, record_away, processes);
       may = tt;
       late_may = tt;
       single = omega arith;

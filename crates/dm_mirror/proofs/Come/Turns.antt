@@ -3,13 +3,14 @@ use Rattle.dm_mirror.proofs.Names.{◌≡◌, ◌≢◌, ℕ, ◌+◌, ◌≤◌
 use Rattle.dm_mirror.proofs.Names.{pid_eq, pid_of, place_of, kernel_at, Message, MsgId, What, id_of, kind_of, plain_what, with_what, Record, Step, Part, incoming_of, Boot, id_eq-same, pid_eq-is, Line, Addresses, Gets, Receiver, Sender}
 use Rattle.dm_mirror.proofs.Names.{given, goes_between, own_gives, unmoved, to_kernel, is_between, is_of_source, Point, after, outcome, taken_at, at_machine, Spot, Inbox, standing, times, Known, Unknown, Here, Frozen, Incoming, Forward}
 use Rattle.dm_mirror.proofs.Names.{Ended, Of, View, once_at, is_server, Placed, enclosed, mirrors_view, room_of, KernelState, own, turn, about_of, told_of, KnownStands, RoomStands, AllRecords, Carries, TokensStand, destination_of, eq_is}
+pub use Rattle.dm_rule.proofs.Lines.{eq_self, at_machine_at as machine_self}
 use Rattle.dm_kernel.specs.declared.part.Part.TheVariants as part
 use Rattle.dm_kernel.specs.State as machine
-use Rattle.dm_mirror.proofs.Come.Frames.{Arrives, Comes, fresh_own, next_untold, own_once, times_self}
+use Rattle.dm_mirror.proofs.Come.Frames.{Arrives, Comes, fresh_own, own_once, times_self}
 use Rattle.dm_mirror.proofs.Turning.{IsCarried, MayOwn, Nothing, Own, TurnsAt, begun}
-pub use Rattle.dm_rule.proofs.Lines.{eq_self}
-pub use Rattle.dm_rule.proofs.Lines.{at_machine_at as machine_self}
-pub use Rattle.dm_mirror.proofs.End.Where.{off as eq_off}
+pub use Rattle.dm_mirror.proofs.End.Servers.{off as eq_off}
+use Rattle.dm_mirror.proofs.Handle.Taking.{machine_off, stands_set}
+use Rattle.dm_mirror.proofs.Leave.Fronts.{untold_next as next_untold}
 
 -- the view behind the line: the message is handled, and what is known of p here and asked for of it may be new
 abbrev pub come_view : View → ℕ → Pid → List MsgId → (ℕ → Pid → Known) → (Pid → ℕ) → View
@@ -28,23 +29,15 @@ known_same pt v l p queue held (Forward at_ moves) (Some (Record.Forward to coun
 known_same pt v l p queue held Ended (Some (Record.Ended y)) h = h
 known_same pt v l p queue held k r h = absurd h
 
-pub machine_off : {X : Type 0} (f : ℕ → X) (m n : ℕ) (x : X) → n ≢ m → at_machine f m x n ≡ f n
-machine_off f m n x apart = ap (λ (c : Bool). if c then x else f n) (eq_off m n apart)
-
 -- the handled message is gone, and no other has come
 fewer_at : (f : ℕ → List MsgId) (m n : ℕ) (i j : MsgId) (is box : List MsgId) → f m ≡ i ∷ is → box ≡ is → (c : Bool) → (m == n) ≡ c → times j (if c then box else f n) ≤ times j (f n)
-fewer_at f m n i j is box e b true same = grind (arith, nat_tests, eq_is)
-fewer_at f m n i j is box e b false off = omega arith
+fewer_at f m n i j is box e b c same = grind (arith, nat_tests, eq_is)
 
 pub fewer : (v : View) (m : ℕ) (p : Pid) (is box : List MsgId) (known : ℕ → Pid → Known) (asked : Pid → ℕ) (i j : MsgId) (z : Spot) → v.inbox m ≡ i ∷ is → box ≡ is → standing (come_view v m p box known asked) j z ≤ standing v j z
-fewer v m p is box known asked i j (Inbox n) e b = fewer_at v.inbox m n i j is box e b (m == n) refl
-fewer v m p is box known asked i j _ e b = omega arith
-
-none_behind : (i : MsgId) (is : List MsgId) → times i (i ∷ is) ≡ 1 → times i is ≡ 0
-none_behind i is e = let f = times_self i is in omega (arith, e, f)
+fewer v m p is box known asked i j z e b = grind (arith, nat_tests, fewer_at)
 
 gone_at : (v : View) (m n : ℕ) (i : MsgId) (is box : List MsgId) → v.inbox m ≡ i ∷ is → box ≡ is → standing v i (Inbox m) ≡ 1 → ((z : Spot) → z ≢ Inbox m → standing v i z ≡ 0) → (c : Bool) → (m == n) ≡ c → times i (if c then box else v.inbox n) ≡ 0
-gone_at v m n i is box e b one others true same = ap (times i) b ∙ none_behind i is (ap (times i) (sym e) ∙ one)
+gone_at v m n i is box e b one others true same = ap (times i) b ∙ (let f = times_self i is in omega (arith, ap (times i) (sym e) ∙ one, f))
 gone_at v m n i is box e b one others false off = others (Inbox n) (λ s. let f : n ≡ m = inbox_same n m s in false≢true (sym off ∙ ap (λ (j : ℕ). m == j) f ∙ eq_self m))
   where
     inbox_same : (a d : ℕ) → Inbox a ≡ Inbox d → a ≡ d
@@ -97,8 +90,7 @@ pub record Answer (b : Boot) (m : ℕ) (pt : Point) (l : Placed) (records : AllR
 
 -- the records of all machines then
 pub others_known : (records : AllRecords) (m n : ℕ) (s : KernelState) (k : KernelState) (q : Pid) → records m ≡ k.records → s.records q ≡ k.records q → (c : Bool) → (m == n) ≡ c → (if c then s.records else records n) q ≡ records n q
-others_known records m n s k q mine same true e = same ∙ (λ i. sym mine i q) ∙ ap (λ (j : ℕ). records j q) (eq_is m n e)
-others_known records m n s k q mine same false e = refl
+others_known records m n s k q mine same c e = grind (arith, nat_tests, eq_is)
 
 -- the token that was handled was the only one of its process, and those of others carry what they carried
 pub tokens_kept : (b : Boot) (m : ℕ) (pt : Point) (l : Placed) (records : AllRecords) (k : KernelState) (y : Message) (p : Pid) (c : Comes b m pt l records k y p) (a : Arrives b m pt l k y p) (box : List MsgId) (known : ℕ → Pid → Known) (asked : Pid → ℕ) (s : KernelState)
@@ -123,22 +115,6 @@ tokens_kept b m pt l records k y p c a box known asked s is_box asked_off record
           search
           (subst (λ (o : Option machine.KernelKnown). Carries q h.process (asked q) (incoming_of o) h.message.what) (sym r) (subst (λ (j : ℕ). Carries q h.process j (incoming_of (records n q)) h.message.what) (sym (asked_off q off)) h.carries))
     ]
-
-known_by : (b : Boot) (m : ℕ) (pt : Point) (l : Placed) (records : AllRecords) (k : KernelState) (y : Message) (p : Pid) (c : Comes b m pt l records k y p) (a : Arrives b m pt l k y p) (h : Answer b m pt l records k y p c a) (q : Pid) → is_server q ≡ false
-    → KnownStands (come_point pt (come_view pt.view m p h.box h.known h.asked)) l q (pt.view.queue m q) (pt.view.held m q) (h.known m q) (h.state.records q)
-known_by b m pt l records k y p c a h q server =
-    let v = come_view pt.view m p h.box h.known h.asked in
-    let next = come_point pt v in
-    elim (cases_Bool (pid_eq p q)) [
-      | inl same ↦ subst (λ (z : Pid). KnownStands next l z (pt.view.queue m z) (pt.view.held m z) (h.known m z) (h.state.records z)) (pid_eq-is p q same) h.mine
-      | inr off ↦
-          subst (KnownStands next l q (pt.view.queue m q) (pt.view.held m q) (h.known m q)) (sym (h.records_off q off))
-          (subst (λ (z : Known). KnownStands next l q (pt.view.queue m q) (pt.view.held m q) z (k.records q)) (sym (h.known_off m q off))
-          (known_same pt v l q (pt.view.queue m q) (pt.view.held m q) (pt.view.known m q) (k.records q) (c.stands.known q server)))
-    ]
-
-server_by : (b : Boot) (m : ℕ) (pt : Point) (l : Placed) (records : AllRecords) (k : KernelState) (y : Message) (p : Pid) (c : Comes b m pt l records k y p) (a : Arrives b m pt l k y p) (h : Answer b m pt l records k y p c a) (q : Pid) → is_server q ≡ true → h.state.records q ≡ None
-server_by b m pt l records k y p c a h q server = grind (arith, nat_tests, pid_eq-is)
 
 -- the next message of the kernel may be put
 may_answer : (b : Boot) (m : ℕ) (pt : Point) (l : Placed) (records : AllRecords) (k : KernelState) (y : Message) (p : Pid) (c : Comes b m pt l records k y p) (a : Arrives b m pt l k y p) (h : Answer b m pt l records k y p c a)
@@ -180,6 +156,7 @@ turns_answer b m pt l records k y p c a h =
     let x = own k y.sender h.what in
     let stands = c.stands in
     let sender : y.sender ≡ kernel_at y.id.from.home = a.sender in
+    let keeps : is_server p ≡ true → h.state.records p ≡ k.records p = λ is. absurd (false≢true (sym a.server ∙ is)) in
     record {
       state = h.state;
       says = h.line ∷ [];
@@ -191,15 +168,8 @@ turns_answer b m pt l records k y p c a h =
       after = h.after;
       placed = l;
       mirrors = mirrors_view pt.kernel pt.view v pt.addresses l refl c.mirrors;
-      kernel = search (
-        h.here ∙ stands.here,
-        known_by b m pt l records k y p c a h,
-        server_by b m pt l records k y p c a h,
-        h.ring ∙ stands.ring,
-        ap (map l.bag) (machine_self pt.view.inbox m h.box ∙ h.is_box) ∙ c.others ∙ ap (map Some) (sym h.inbox),
-        h.made ∙ stands.made,
-        h.servers ∙ stands.servers,
-      );
+      kernel = stands_set b pt next l l m k h.state p (search (h.here, h.records_off, h.known_off, h.mine, keeps)) stands (h.ring ∙ stands.ring)
+          (ap (map l.bag) (machine_self pt.view.inbox m h.box ∙ h.is_box) ∙ c.others ∙ ap (map Some) (sym h.inbox)) (h.made ∙ stands.made) h.room (h.servers ∙ stands.servers);
       sent = λ e. let f = h.sent in omega (arith, e, f);
       elsewhere = search (machine_off, h.known_away);
       may = (may_answer b m pt l records k y p c a h, tt);

@@ -1,16 +1,233 @@
--- Only pairs of machines that there are have messages.
+-- Which lines leave what has moved, comes or has gone on.
 use Rattle.dm_mirror.proofs.Names.{◌≡◌, ◌≢◌, ◌⊎◌, inl, inr, ℕ, ◌+◌, ◌<◌, ◌≤◌, ◌==◌, ◌&&◌, Bool, true, false, List, [], ◌∷◌, ◌++◌, length, drop, filter, not, refl, ap, ◌∙◌, sym, subst, arith, if◌then◌else◌, slice_get, Option, None, Some}
 use Rattle.dm_mirror.proofs.Names.{cases_Bool, false≢true, nat_tests, Pid, MsgId, MessageKind, plain_kind, PlainMessage, Boot, id_eq-same, bind-is, Step, Line, Load, Receiver, IsStep, Part, Says, Routes, Again, Owns, Transmits, Spelled}
-use Rattle.dm_mirror.proofs.Names.{goes_out, packet_line, puts, spelled, Point, after, moved, group_of, Spot, Untaken, standing, times, View, Pair, after_put, at_least, gone_after, is_kernels, marked, oldest, own_id, view_after, routed_on}
-use Rattle.dm_mirror.proofs.Names.{with_pair, migrates, to_of, machine_of, Pairs, pair_stands, IsNet, IsNetLine, arrives_net, group_is, resends_net, stands_right, AllFit, onward, pair_same, migrates_fit, turns_fit, said, says_next}
-use Rattle.dm_mirror.proofs.Names.{transmits_next, Run, told_there, cases_zero, own_by, taken_pair}
-use Rattle.dm_rule.specs.Rule as rule
-use Rattle.dm_mirror.proofs.Counts.Acting.{line_acting}
-use Rattle.dm_mirror.proofs.Counts.Own.{PairsWithin}
-use Rattle.dm_mirror.proofs.Totals.{ids_of}
+use Rattle.dm_mirror.proofs.Names.{goes_out, packet_line, puts, spelled, Point, after, moved, group_of, Spot, Untaken, standing, times, View, Pair, after_put, gone_after, is_kernels, oldest, own_id, view_after, routed_on, with_pair}
+use Rattle.dm_mirror.proofs.Names.{migrates, to_of, machine_of, Pairs, pair_stands, IsNet, IsNetLine, arrives_net, group_is, resends_net, stands_right, AllFit, onward, pair_same, migrates_fit, turns_fit, said, says_next, transmits_next}
+use Rattle.dm_mirror.proofs.Names.{Run, told_there, cases_zero, own_by, taken_pair, OneKernel, after_line, kernel_after, label_of, is_own, hushed, is_put, pid_eq, Stage, Label, at_record, About, Known, Told, handled, first_number, Alive}
+use Rattle.dm_mirror.proofs.Names.{PlainProcess, touches, proto_acting, queued_acting, held_acting, forwarded_acting, acting_label}
+use Rattle.dm_rule.proofs.Names.{marked}
 use Rattle.dm_rule.proofs.Lines.{parts}
 pub use Rattle.dm_rule.proofs.Lines.{eq_is as same_of}
+use Rattle.dm_rule.specs.Rule as rule
+use Rattle.dm_rule.specs.View as view
+use Rattle.dm_mirror.proofs.Totals.{ids_of, Grows, line_grows, put_adds, total, total_adds, total_grows}
 pub use Rattle.dm_mirror.proofs.Puts.{ids_if as set_ids}
+
+-- a process comes, has gone on or moves again by these alone
+abbrev pub is_free : Line → Bool
+is_free (Line.Migration Stage.Accepted p) = false
+is_free (Line.Migration Stage.Left p) = false
+is_free (Line.Migration Stage.Restarted p) = false
+is_free _ = true
+
+-- no step of the kernel, and no process has moved
+abbrev pub bears : Line → Bool
+bears (Line.Label x) = false
+bears (Line.Migration Stage.Restarted p) = false
+bears _ = true
+
+pub record Still (v w : View) : Type 0 where
+  pub moves : w.moves ≡ v.moves
+  pub incoming : (m : ℕ) (p : Pid) (s : ℕ) → w.known m p ≡ view.Incoming s → v.known m p ≡ view.Incoming s
+  pub forward : (m : ℕ) (p : Pid) (k j : ℕ) → w.known m p ≡ view.Forward k j → v.known m p ≡ view.Forward k j
+
+pub still_on : (u v w : View) → Still u v → Still v w → Still u w
+still_on u v w h k = record { moves = k.moves ∙ h.moves; incoming = λ m p s e. h.incoming m p s (k.incoming m p s e); forward = λ m p c j e. h.forward m p c j (k.forward m p c j e) }
+
+record Same (v w : View) : Type 0 where
+  moves : w.moves ≡ v.moves
+  known : w.known ≡ v.known
+
+still_same : (v w : View) → Same v w → Still v w
+still_same v w h = record {
+  moves = h.moves;
+  incoming = λ m p s e. sym (ap (λ (f : ℕ → Pid → Known). f m p) h.known) ∙ e;
+  forward = λ m p k j e. sym (ap (λ (f : ℕ → Pid → Known). f m p) h.known) ∙ e;
+}
+
+pub still_self : (v : View) → Still v v
+still_self v = still_same v v (record { moves = refl; known = refl })
+
+-- one machine knows something else of a process
+abbrev is_gone : Known → Bool
+is_gone (view.Incoming from) = true
+is_gone (view.Forward at_ moves) = true
+is_gone _ = false
+
+set_known : (f : ℕ → Pid → Known) (x y : Known) (m : ℕ) (p : Pid) (c : Bool) → is_gone x ≡ false → is_gone y ≡ true → (if c then x else f m p) ≡ y → f m p ≡ y
+set_known f x y m p c e g is = grind (arith, nat_tests)
+
+still_set : (v w : View) (a : ℕ) (q : Pid) (x : Known) → w.moves ≡ v.moves → w.known ≡ at_record v.known a q x → is_gone x ≡ false → Still v w
+still_set v w a q x moves known e = record {
+  moves = moves;
+  incoming = λ m p s is. set_known v.known x (view.Incoming s) m p ((a == m) && pid_eq q p) e refl (sym (ap (λ (f : ℕ → Pid → Known). f m p) known) ∙ is);
+  forward = λ m p k j is. set_known v.known x (view.Forward k j) m p ((a == m) && pid_eq q p) e refl (sym (ap (λ (f : ℕ → Pid → Known). f m p) known) ∙ is);
+}
+
+dropped_same : (v : View) (i : MsgId) (o : Option Pid) → Same v (view.dropped_for v i o)
+dropped_same v i None = record { moves = refl; known = refl }
+dropped_same v i (Some p) = record { moves = refl; known = refl }
+
+queued_same : (v : View) (i : MsgId) (o : Option Pid) → Same v (view.queued_for v i o)
+queued_same v i None = record { moves = refl; known = refl }
+queued_same v i (Some p) = record { moves = refl; known = refl }
+
+held_same : (v : View) (i : MsgId) (o : Option Pid) → Same v (view.held_for v i o)
+held_same v i None = record { moves = refl; known = refl }
+held_same v i (Some p) = record { moves = refl; known = refl }
+
+forwarded_same : (v : View) (o : Option Pid) → Same v (view.forwarded_for v o)
+forwarded_same v None = record { moves = refl; known = refl }
+forwarded_same v (Some p) = record { moves = refl; known = refl }
+
+taken_same : (v : View) (b : ℕ) (o : Option MsgId) → Same v (view.taken_id v b o)
+taken_same v b None = record { moves = refl; known = refl }
+taken_same v b (Some i) = record { moves = refl; known = refl }
+
+asks_same : (v : View) (a : About) → Same v (view.asks_on v a)
+asks_same v (view.Place p at_ moves) = record { moves = refl; known = refl }
+asks_same v _ = record { moves = refl; known = refl }
+
+follows_same : (v : View) (a : About) (k : MessageKind) → Same v (view.follows_up v a k)
+follows_same v a MessageKind.State = asks_same v a
+follows_same v a MessageKind.Memory = asks_same v a
+follows_same v a _ = record { moves = refl; known = refl }
+
+proto_same : (v : View) (o : Option Told) → Same v (view.after_proto v o)
+proto_same v None = record { moves = refl; known = refl }
+proto_same v (Some t) = let h = follows_same v t.about t.kind in record { moves = h.moves; known = h.known }
+
+kills_still : (v : View) (p : Pid) (k : MessageKind) → Still v (view.kills k v (Some p))
+kills_still v p MessageKind.Kill = still_set v (view.ended v p) v.acting p view.Ended refl refl refl
+kills_still v p _ = still_same v v (record { moves = refl; known = refl })
+
+served_still : (v : View) (o : Option Told) → Still v (view.served_told v o)
+served_still v None = still_same v v (record { moves = refl; known = refl })
+served_still v (Some t) = kills_still v t.receiver t.kind
+
+head_still : (v : View) (d : Step) → Still v (view.after_head v d)
+head_still v (Step.Turn m) = still_same v (view.after_head v (Step.Turn m)) (record { moves = refl; known = refl })
+head_still v any_ = still_same v (view.after_head v any_) (record { moves = refl; known = refl })
+
+label_still : (v : View) (l : Label) → Still v (view.after_label v l)
+label_still v (Label.End p y) = still_set v (view.after_label v (Label.End p y)) v.acting p view.Ended refl refl refl
+label_still v (Label.Dropped i) = still_same v (view.after_label v (Label.Dropped i)) (let h = dropped_same (handled v i) i (view.receiver_of (v.told i)) in record { moves = h.moves; known = h.known })
+label_still v (Label.Served i) = let h = served_still (handled v i) (v.told i) in record { moves = h.moves; incoming = h.incoming; forward = h.forward }
+label_still v (Label.Created i p) = still_set v (view.after_label v (Label.Created i p)) v.acting p view.Here refl refl refl
+label_still v any_ = still_same v (view.after_label v any_) (record { moves = refl; known = refl })
+
+pub line_still : (v : View) (l : Line) → is_free l ≡ true → Still v (view_after v l)
+line_still v (Line.Head d) e = head_still v d
+line_still v (Line.Label x) e = label_still v x
+line_still v (Line.Taken a b n) e = still_same v (view_after v (Line.Taken a b n)) (let h = taken_same (view.with_pair v a b (record (v.pair a b) { taken = (v.pair a b).taken + 1; kept = filter (λ k. not (k == n)) (v.pair a b).kept })) b (view.oldest (v.pair a b)) in record { moves = h.moves; known = h.known })
+line_still v (Line.Queued i) e = still_same v (view_after v (Line.Queued i)) (let h = queued_same (handled v i) i (view.receiver_of (v.told i)) in record { moves = h.moves; known = h.known })
+line_still v (Line.Held i) e = still_same v (view_after v (Line.Held i)) (let h = held_same (handled v i) i (view.receiver_of (v.told i)) in record { moves = h.moves; known = h.known })
+line_still v (Line.Forwarded i m) e = still_same v (view_after v (Line.Forwarded i m)) (let h = forwarded_same (handled v i) (view.receiver_of (v.told i)) in record { moves = h.moves; known = h.known })
+line_still v (Line.Migration Stage.Frozen p) e = still_set v (view_after v (Line.Migration Stage.Frozen p)) v.acting p (view.Frozen (view.target_of (view.front_told v (v.inbox v.acting)))) refl refl refl
+line_still v (Line.Migration Stage.Asked p) e = still_same v (view_after v (Line.Migration Stage.Asked p)) (record { moves = refl; known = refl })
+line_still v (Line.Migration Stage.Accepted p) e = absurd (false≢true e)
+line_still v (Line.Migration Stage.StateTaken p) e = still_same v (view_after v (Line.Migration Stage.StateTaken p)) (record { moves = refl; known = refl })
+line_still v (Line.Migration Stage.MemoryTaken p) e = still_same v (view_after v (Line.Migration Stage.MemoryTaken p)) (record { moves = refl; known = refl })
+line_still v (Line.Migration Stage.Left p) e = absurd (false≢true e)
+line_still v (Line.Migration Stage.Restarted p) e = absurd (false≢true e)
+line_still v (Line.Stays p) e = still_set v (view_after v (Line.Stays p)) v.acting p view.Here refl refl refl
+line_still v (Line.Proto i) e = still_same v (view_after v (Line.Proto i)) (let h = proto_same (handled v i) (v.told i) in record { moves = h.moves; known = h.known })
+line_still v any_ e = still_same v (view_after v any_) (record { moves = refl; known = refl })
+
+pub line_moves : (v : View) (l : Line) → bears l ≡ true → (view_after v l).moves ≡ v.moves
+line_moves v l e = grind (arith, nat_tests)
+
+-- No count is too great.
+
+pub record CountsFew (pt : Point) : Type 0 where
+  pub sent : (p : Pid) (x : PlainProcess) → pt.kernel.processes p ≡ Some (Alive x) → x.sent < 4294967295
+  pub board : pt.kernel.switchboard.sent < 4294967295
+  pub manager : pt.kernel.manager.sent < 4294967295
+  pub children : length pt.kernel.manager.children < 4294967295
+  pub made : (home : ℕ) → first_number + pt.kernel.made home < 4294967295
+  -- what an update looks through
+  pub names : length pt.kernel.switchboard.names < 2147483648
+  pub managed : length pt.kernel.manager.children + length pt.kernel.manager.pending < 2147483648
+  -- the messages of a machine's own kernel, how often a process has moved, and what waits for one
+  pub own : (m : ℕ) → pt.view.count m < 4294967295
+  pub moves : (p : Pid) → pt.view.moves p < 4294967295
+  pub waiting : (m : ℕ) (p : Pid) → length (pt.view.queue m p) + length (pt.view.held m p) < 4294967295
+
+-- The acting machine stays, but for heads and what comes over wires.
+
+stage_acting : (v : View) (p : Pid) (s : Stage) → (view.after_stage v p s).acting ≡ v.acting
+stage_acting v p s = grind (arith, nat_tests)
+
+pub line_acting : (v : View) (l : Line) → touches l ≡ false → (view_after v l).acting ≡ v.acting
+line_acting v l e = grind (arith, nat_tests, acting_label, queued_acting, held_acting, forwarded_acting, stage_acting, proto_acting)
+
+-- A machine's kernel counts no more messages of its own than were routed in all.
+
+-- only pairs of the first n machines have messages
+abbrev pub PairsWithin : ℕ → View → Type 0
+PairsWithin n v = (a c : ℕ) → 1 ≤ ids_of v a c → (a < n) × (c < n)
+
+pub within_before : (n : ℕ) (v w : View) → Grows v w → PairsWithin n w → PairsWithin n v
+within_before n v w g h = λ a c some. h a c (let k = g.ids a c in omega (arith, some, k))
+
+-- what each line keeps, each group keeps
+pub after_keeps : (P : View → Type 0) → ((v : View) (l : Line) → P v → P (view_after v l)) → (ls : List Line) (pt next : Point) → after pt ls ≡ Some next → P pt.view → P next.view
+after_keeps P keep [] pt next e h = let f : pt ≡ next = cc in subst (λ (q : Point). P q.view) f h
+after_keeps P keep (l ∷ ls) pt next e h =
+    let (mid, first, rest) = bind-is (after_line pt l) (λ n. after n ls) next e in
+    let (s, is, last) = bind-is (kernel_after pt.kernel (label_of l)) (λ (s : OneKernel). Some (moved pt l s)) mid first in
+    let f : moved pt l s ≡ mid = cc in
+    after_keeps P keep ls mid next rest (subst (λ (q : Point). P q.view) f (keep pt.view l h))
+
+pub parts_keep : (P : View → Type 0) → ((v : View) (l : Line) → P v → P (view_after v l)) → (ps : List Part) (pt : Point) (w : Spelled) → spelled pt ps ≡ Some w → P pt.view → P w.point.view
+parts_keep P keep [] pt w e h = subst (λ (q : Point). P q.view) (said pt w e) h
+parts_keep P keep (p ∷ ps) pt w e h =
+    let o = onward pt p ps w e in
+    subst (λ (q : Point). P q.view) o.end (parts_keep P keep ps o.next o.rest o.on (after_keeps P keep o.lines pt o.next o.leads h))
+
+pub group_keeps : (P : View → Type 0) → ((v : View) (l : Line) → P v → P (view_after v l)) → (b : Boot) (pt : Point) (d : Step) (w : Spelled) → group_of b pt d ≡ Some w → P pt.view → P w.point.view
+group_keeps P keep b pt d w e h =
+    let g = group_is b pt d w e in
+    subst (λ (q : Point). P q.view) g.point (parts_keep P keep g.parts (moved pt (Line.Head d) pt.kernel) g.rest g.said (keep pt.view (Line.Head d) h))
+
+-- a put counts at most one
+abbrev pub OwnFew : ℕ → View → Type 0
+OwnFew n v = PairsWithin n v → (m : ℕ) → v.count m ≤ total v n
+
+at_machine_most : (f : ℕ → ℕ) (home m : ℕ) (c : Bool) → (home == m) ≡ c → (if c then f home + 1 else f m) ≤ f m + 1
+at_machine_most f home m c e = grind (arith, nat_tests)
+
+count_if : (f : ℕ → ℕ) (home m : ℕ) (own : Bool) → (if own then (λ (k : ℕ). if home == k then f home + 1 else f k) else f) m ≤ f m + 1
+count_if f home m own = grind (arith, nat_tests, at_machine_most)
+
+pub put_total : (n : ℕ) (v : View) (a b : ℕ) (i : MsgId) (k : MessageKind) (q : Pid) → PairsWithin n (after_put v a b i k q) → total v n + 1 ≤ total (after_put v a b i k q) n
+put_total n v a b i k q within =
+    let w = after_put v a b i k q in
+    let adds = put_adds v a b i k q in
+    let g = line_grows v (Line.Put a b i k q) in
+    let at_ = within a b (omega (arith, adds)) in
+    total_adds v w n a b g at_.0 at_.1 (omega (arith, adds))
+
+still_own : (n : ℕ) (v : View) (l : Line) → is_put l ≡ false → OwnFew n v → OwnFew n (view_after v l)
+still_own n v l off h = λ within m.
+    let g = line_grows v l in
+    let count : (view_after v l).count m ≡ v.count m = ap (λ (f : ℕ → ℕ). f m) (hushed v l off).count in
+    let few = h (within_before n v (view_after v l) g within) m in
+    let more = total_grows v (view_after v l) n g in
+    omega (arith, count, few, more)
+
+line_own : (top : ℕ) (v : View) (l : Line) → OwnFew top v → OwnFew top (view_after v l)
+line_own top v (Line.Put a b i k q) h = λ within m.
+    let few = h (within_before top v (after_put v a b i k q) (line_grows v (Line.Put a b i k q)) within) m in
+    let one = count_if v.count i.from.home m (is_own i (v.told i)) in
+    let more = put_total top v a b i k q within in
+    omega (arith, few, one, more)
+line_own top v any_ h = still_own top v any_ refl h
+
+pub own_group : (n : ℕ) (b : Boot) (pt : Point) (d : Step) (w : Spelled) → group_of b pt d ≡ Some w → OwnFew n pt.view → OwnFew n w.point.view
+own_group n b pt d w e h = group_keeps (OwnFew n) (line_own n) b pt d w e h
+
+-- Only pairs of machines that there are have messages.
 
 -- a pair that had no message before has it from the acting machine, which it goes to at once, or it isn't taken yet
 pub record Fresh (u : View) (m : ℕ) (v : View) : Type 0 where
@@ -27,19 +244,10 @@ fresh_same u m v w acting pair h = record {
 }
 
 set_taken : (f : ℕ → ℕ → Pair) (a b : ℕ) (p : Pair) (c d : ℕ) (t : Bool) → ((a == c) && (b == d)) ≡ t → (a ≢ b → p.taken ≡ (f a b).taken) → c ≢ d → (if t then p else f c d).taken ≡ (f c d).taken
-set_taken f a b p c d true e h off =
-    let k = parts (a == c) (b == d) e in
-    let x = same_of a c k.0 in
-    let y = same_of b d k.1 in
-    h (λ same. off (sym x ∙ same ∙ y)) ∙ ap (λ (g : ℕ). (f g b).taken) x ∙ ap (λ (g : ℕ). (f c g).taken) y
-set_taken f a b p c d false e h off = refl
+set_taken f a b p c d t e h off = grind (arith, nat_tests, parts, same_of)
 
 put_taken : (v : View) (a b : ℕ) (i : MsgId) → a ≢ b → (routed_on a b (v.pair a b) i).taken ≡ (v.pair a b).taken
-put_taken v a b i off = by (a == b) refl
-  where
-    by : (c : Bool) → (a == b) ≡ c → (if c then (v.pair a b).taken + 1 else (v.pair a b).taken) ≡ (v.pair a b).taken
-    by true e = absurd (off (same_of a b e))
-    by false e = refl
+put_taken v a b i off = grind (arith, nat_tests, same_of)
 
 -- either way a pair's messages came before, or from the acting machine
 fresh_by : (u : View) (m : ℕ) (v w : View) (a : ℕ) → Fresh u m v → w.acting ≡ v.acting → a ≡ m → ((c d : ℕ) → c ≢ d → (w.pair c d).taken ≡ (v.pair c d).taken) → ((c d : ℕ) → c ≢ a → ids_of w c d ≡ ids_of v c d) → Fresh u m w
@@ -67,8 +275,7 @@ fresh_by u m v w a h acting from taken others =
     }
 
 set_other : (f : ℕ → ℕ → Pair) (a b : ℕ) (p : Pair) (c d : ℕ) (t : Bool) → (a == c) ≡ t → c ≢ a → (if t && (b == d) then p else f c d).ids ≡ (f c d).ids
-set_other f a b p c d true e off = absurd (off (sym (same_of a c e)))
-set_other f a b p c d false e off = refl
+set_other f a b p c d t e off = grind (arith, nat_tests, same_of)
 
 pub fresh_put : (u : View) (m : ℕ) (v : View) (b : ℕ) (i : MsgId) (k : MessageKind) (q : Pid) → Fresh u m v → Fresh u m (after_put v v.acting b i k q)
 fresh_put u m v b i k q h =
@@ -163,15 +370,7 @@ fresh_within b u m n end machines small run h within = λ a c some.
     ]
 
 pub net_ids : (v : View) (l : Line) → IsNetLine l → (a c : ℕ) → ((view_after v l).pair a c).ids ≡ (v.pair a c).ids
-net_ids v (Line.Taken a b n) h c d =
-    let p : Pair = record (v.pair a b) { taken = (v.pair a b).taken + 1; kept = filter (λ k. not (k == n)) (v.pair a b).kept } in
-    ap (λ (f : ℕ → ℕ → Pair). (f c d).ids) (taken_pair (with_pair v a b p) b (oldest (v.pair a b))) ∙ set_ids v.pair a b p c d ((a == c) && (b == d)) refl refl
-net_ids v (Line.Early a b n) h c d = set_ids v.pair a b (record (v.pair a b) { kept = n ∷ filter (λ k. not (k == n)) (v.pair a b).kept }) c d ((a == c) && (b == d)) refl refl
-net_ids v (Line.Acked a b n) h c d = set_ids v.pair b a (record (v.pair b a) { acked = at_least (v.pair b a).acked n }) c d ((b == c) && (a == d)) refl refl
-net_ids v (Line.Old a b n) h c d = refl
-net_ids v Line.Nothing h c d = refl
-net_ids v (Line.Resent m n) h c d = refl
-net_ids v _ h c e = absurd h
+net_ids v l h a c = grind (arith, nat_tests, taken_pair, set_ids)
 
 net_parts : (ps : List Part) (pt : Point) (w : Spelled) → IsNet ps → spelled pt ps ≡ Some w → (a c : ℕ) → (w.point.view.pair a c).ids ≡ (pt.view.pair a c).ids
 net_parts [] pt w h e a c = ap (λ (q : Point). (q.view.pair a c).ids) (sym (said pt w e))

@@ -1,11 +1,18 @@
 -- What waits for a process was routed: it is no more than all that was.
 use Rattle.dm_mirror.proofs.Names.{◌≡◌, ◌≢◌, inl, inr, ℕ, zero, suc, ◌+◌, ◌<◌, ◌≤◌, ◌==◌, ◌&&◌, Bool, true, false, List, [], ◌∷◌, ◌++◌, length, is_some, refl, ap, ◌∙◌, sym, subst, arith, if◌then◌else◌, Option, Some, cases_Bool, false≢true}
-use Rattle.dm_mirror.proofs.Names.{nat_tests, Pid, id_eq, MsgId, MessageKind, Boot, id_eq-is, id_eq-same, Step, Line, Spelled, Point, group_of, Held, Queue, standing, times, View, Pair, Told, after_put, first_told, first_view, gone_after}
-use Rattle.dm_mirror.proofs.Names.{marked, routed_on, view_after, hushed, is_put, pair_same, StandsAsBag-elsewhere, StandsAsBag-one, times-append, letters, Run, cases_zero, last_there}
+use Rattle.dm_mirror.proofs.Names.{nat_tests, Pid, id_eq, MsgId, MessageKind, Boot, id_eq-is, id_eq-same, Step, Line, Spelled, Point, group_of, Held, Queue, standing, times, View, Pair, Told, after_put, first_told, first_view, routed_on}
+use Rattle.dm_mirror.proofs.Names.{view_after, hushed, is_put, pair_same, StandsAsBag-elsewhere, StandsAsBag-one, times-append, letters, Run, cases_zero, last_there, ◌*◌, ◌||◌, map, option_map, slice_get, None, pid_eq, plain_link}
+use Rattle.dm_mirror.proofs.Names.{BootImage, BootProcess, IsValid, manager, processes_are_valid, starting_at, switchboard, Alive, life_at, first_point, Known, known_at, room_from, pid_eq-is, Phase, Rests, kind_comes, is_between, knows}
+use Rattle.dm_mirror.proofs.Names.{kind_leaves, at_pid, at_record, rests_here, InPhases, stands_first}
+use Rattle.dm_laws.proofs.Names.{begun}
 use Rattle.std.proofs.Common.{length-append}
-use Rattle.dm_mirror.proofs.Counts.Own.{PairsWithin, group_keeps}
-use Rattle.dm_mirror.proofs.Counts.Pairs.{net_ids, same_of, set_ids}
-use Rattle.dm_mirror.proofs.Totals.{from_one, ids_of, sum_to, total}
+use Rattle.dm_mirror.proofs.Counts.Pairs.{net_ids, same_of, set_ids, PairsWithin, group_keeps, OwnFew, Still}
+use Rattle.dm_mirror.proofs.Totals.{from_one, ids_of, sum_to, total, sum_more, Grows, total_grows}
+use Rattle.dm_mirror.proofs.Counts.AtEnds.{Under, FrontRestarts}
+use Rattle.dm_mirror.proofs.Machines.{few_machines}
+use Rattle.dm_mirror.proofs.Numbering.{listed, one_if}
+use Rattle.dm_mirror.proofs.Raises.{sent_of}
+use Rattle.dm_mirror.proofs.May.OwnKernel.{is_moved}
 
 -- whatever was told of was routed
 pub record IsRouted (v : View) (i : MsgId) : Type 0 where
@@ -17,17 +24,10 @@ abbrev pub Routed : View → Type 0
 Routed v = (i : MsgId) → is_some (v.told i) ≡ true → IsRouted v i
 
 head_ids : (v : View) (d : Step) (x y : ℕ) → ((view_after v (Line.Head d)).pair x y).ids ≡ (v.pair x y).ids
-head_ids v (Step.Deliver a c k) x y = set_ids v.pair a c (marked (v.pair a c) k) x y ((a == x) && (c == y)) refl refl
-head_ids v _ x y = refl
+head_ids v d x y = grind (arith, nat_tests, set_ids)
 
 line_ids : (v : View) (l : Line) → is_put l ≡ false → (x y : ℕ) → ((view_after v l).pair x y).ids ≡ (v.pair x y).ids
-line_ids v (Line.Head d) e x y = head_ids v d x y
-line_ids v (Line.Put a b i k q) e x y = absurd (false≢true (sym e))
-line_ids v (Line.Packet a b k l) e x y = set_ids v.pair a b (record (v.pair a b) { gone = gone_after l (v.pair a b).gone; wire = (v.pair a b).wire ++ record { load = l; delivered = false } ∷ [] }) x y ((a == x) && (b == y)) refl refl
-line_ids v (Line.Taken a b n) e x y = net_ids v (Line.Taken a b n) tt x y
-line_ids v (Line.Early a b n) e x y = net_ids v (Line.Early a b n) tt x y
-line_ids v (Line.Acked a b n) e x y = net_ids v (Line.Acked a b n) tt x y
-line_ids v any_ e x y = ap (λ (f : ℕ → ℕ → Pair). (f x y).ids) (pair_same v any_ refl)
+line_ids v l e x y = grind (arith, nat_tests, head_ids, set_ids, net_ids, pair_same)
 
 still_routed : (v : View) (l : Line) → is_put l ≡ false → Routed v → Routed (view_after v l)
 still_routed v l off h = λ i told.
@@ -40,8 +40,7 @@ more_times : (j i : MsgId) (ids : List MsgId) → times j ids ≤ times j (ids +
 more_times j i ids = let e = times-append j ids (i ∷ []) in omega (arith, e)
 
 put_more : (f : ℕ → ℕ → Pair) (a b : ℕ) (i j : MsgId) (c d : ℕ) (t : Bool) → ((a == c) && (b == d)) ≡ t → 1 ≤ times j (f c d).ids → 1 ≤ times j (if t then routed_on a b (f a b) i else f c d).ids
-put_more f a b i j c d true e least = grind (arith, nat_tests, same_of, more_times)
-put_more f a b i j c d false e least = least
+put_more f a b i j c d t e least = grind (arith, nat_tests, same_of, more_times)
 
 put_there : (f : ℕ → ℕ → Pair) (a b : ℕ) (i : MsgId) → 1 ≤ times i (if (a == a) && (b == b) then routed_on a b (f a b) i else f a b).ids
 put_there f a b i = grind (arith, nat_tests, last_there)
@@ -134,9 +133,6 @@ from_machine v n a = list_to n (λ c. (v.pair a c).ids)
 abbrev all_ids : View → ℕ → List MsgId
 all_ids v n = list_to n (from_machine v n)
 
-all_length : (v : View) (n : ℕ) → length (all_ids v n) ≡ total v n
-all_length v n = list_length n (from_machine v n) (from_one v n) (λ a. list_length n (λ c. (v.pair a c).ids) (ids_of v a) (λ c. refl))
-
 some_times : (i : MsgId) (ids : List MsgId) → 1 ≤ times i ids → 1 ≤ length ids
 some_times i [] least = absurd (omega (arith, least))
 some_times i (x ∷ xs) least = omega arith
@@ -186,5 +182,163 @@ waiting_few b pt n run within routed m p =
     let ys = pt.view.held m p in
     let long = length-append xs ys in
     let most = length_by (xs ++ ys) (all_ids pt.view n) (λ i. let e = times-append i xs ys in let k = waits_among b pt n m p i run within routed in omega (arith, e, k)) in
-    let all = all_length pt.view n in
+    let all = list_length n (from_machine pt.view n) (from_one pt.view n) (λ a. list_length n (λ c. (pt.view.pair a c).ids) (ids_of pt.view a) (λ c. refl)) in
     omega (arith, long, most, all)
+
+-- No process has moved more often than messages were routed in all.
+
+-- and one that may restart where it comes has moved less often
+pub record MovesFew (n : ℕ) (v : View) : Type 0 where
+  pub moves : (p : Pid) → v.moves p ≤ total v n
+  pub moving : (p : Pid) (d s k j : ℕ) → v.known d p ≡ Known.Incoming s → v.known s p ≡ Known.Forward k j → v.moves p + 1 ≤ total v n
+
+-- a group that moves nothing
+pub moves_still : (n : ℕ) (v w : View) → Grows v w → Still v w → MovesFew n v → MovesFew n w
+moves_still n v w g s h =
+    let more = total_grows v w n g in
+    record {
+      moves = λ p. let e = ap (λ (f : Pid → ℕ). f p) s.moves in let few = h.moves p in omega (arith, e, few, more);
+      moving = λ p d c k j at_d at_s. let e = ap (λ (f : Pid → ℕ). f p) s.moves in let few = h.moving p d c k j (s.incoming d p c at_d) (s.forward c p k j at_s) in omega (arith, e, few, more);
+    }
+
+pub moves_put : (n : ℕ) (v w : View) → total v n + 1 ≤ total w n → w.moves ≡ v.moves → MovesFew n v → MovesFew n w
+moves_put n v w more same h = record {
+  moves = λ p. let e = ap (λ (f : Pid → ℕ). f p) same in let few = h.moves p in omega (arith, e, few, more);
+  moving = λ p d c k j at_d at_s. let e = ap (λ (f : Pid → ℕ). f p) same in let few = h.moves p in omega (arith, e, few, more);
+}
+
+-- a process restarts
+forward_at : (d : ℕ) (n : Known) → kind_leaves MessageKind.Restart d n ≡ true → (k : ℕ) × (j : ℕ) × (n ≡ Known.Forward k j)
+forward_at d n e = grind (arith, nat_tests)
+
+incoming_from : (s : ℕ) (n : Known) → kind_comes MessageKind.Restart s n ≡ true → n ≡ Known.Incoming s
+incoming_from s n e = grind (arith, nat_tests)
+
+may_move : (b : Boot) (pt : Point) (m : ℕ) (p : Pid) (n : ℕ) → Run b pt → FrontRestarts pt m p → MovesFew n pt.view → pt.view.moves p + 1 ≤ total pt.view n
+may_move b pt m p n run f h =
+    let c = is_moved b pt m f.id f.told p run f.told_is (ap is_between f.kind_is) f.about (stands_first pt.view m f.id f.rest f.box) in
+    let (k, j, at_s) = forward_at c.d (pt.view.known c.s p) (ap (λ (x : MessageKind). kind_leaves x c.d (pt.view.known c.s p)) (sym f.kind_is) ∙ c.source) in
+    let at_d = incoming_from c.s (pt.view.known c.d p) (ap (λ (x : MessageKind). kind_comes x c.s (pt.view.known c.d p)) (sym f.kind_is) ∙ c.destination) in
+    h.moving p c.d c.s k j at_d at_s
+
+rests_alone : (v : View) (m d s : ℕ) (p : Pid) → InPhases v → v.known m p ≡ Known.Here → v.known d p ≡ Known.Incoming s → ⊥
+rests_alone v m d s p h here incoming =
+    let rests : h.of p ≡ Rests m = rests_here (h.of p) m (sym (ap (knows (h.of p) m) here) ∙ (h.each p).known m) in
+    let known : knows (Rests m) d (Known.Incoming s) ≡ true = sym (ap (λ (f : Phase). knows f d (Known.Incoming s)) rests) ∙ sym (ap (knows (h.of p) d) incoming) ∙ (h.each p).known d in
+    false≢true (sym (either (m == d)) ∙ known)
+  where
+    either : (c : Bool) → (if c then false else false) ≡ false
+    either true = refl
+    either false = refl
+
+moves_at : (f : Pid → ℕ) (p q : Pid) (n : ℕ) (c : Bool) → pid_eq p q ≡ c → f p + 1 ≤ n → f q ≤ n → (if c then f p + 1 else f q) ≤ n
+moves_at f p q n c e le other = grind (arith, nat_tests)
+
+known_here : (f : ℕ → Pid → Known) (m : ℕ) (p : Pid) → at_record f m p Known.Here m p ≡ Known.Here
+known_here f m p = ap (λ (c : Bool). if c then Known.Here else f m p) (let t : ((m == m) && pid_eq p p) ≡ true = grind (arith, nat_tests) in t)
+
+moving_by : (n m : ℕ) (v w : View) (p q : Pid) (d s k j : ℕ) (c : Bool) → pid_eq p q ≡ c → total v n ≤ total w n → w.moves ≡ at_pid v.moves p (v.moves p + 1) → w.known ≡ at_record v.known m p Known.Here → InPhases w → MovesFew n v
+    → w.known d q ≡ Known.Incoming s → w.known s q ≡ Known.Forward k j → w.moves q + 1 ≤ total w n
+moving_by n m v w p q d s k j true e more moves known phases h at_d at_s =
+    let same = pid_eq-is p q e in
+    let here : w.known m q ≡ Known.Here = ap (w.known m) (sym same) ∙ ap (λ (f : ℕ → Pid → Known). f m p) known ∙ known_here v.known m p in
+    absurd (rests_alone w m d s q phases here at_d)
+moving_by n m v w p q d s k j false e more moves known phases h at_d at_s = grind (arith, nat_tests)
+
+pub moves_restart : (b : Boot) (pt : Point) (m n : ℕ) (p : Pid) (w : View) → Run b pt → FrontRestarts pt m p → total pt.view n ≤ total w n → w.moves ≡ at_pid pt.view.moves p (pt.view.moves p + 1) → w.known ≡ at_record pt.view.known m p Known.Here → InPhases w → MovesFew n pt.view → MovesFew n w
+moves_restart b pt m n p w run f more moves known phases h =
+    let v = pt.view in
+    let mine = may_move b pt m p n run f h in
+    record {
+      moves = λ q.
+          let e = ap (λ (g : Pid → ℕ). g q) moves in
+          let few = moves_at v.moves p q (total v n) (pid_eq p q) refl mine (h.moves q) in
+          omega (arith, e, few, more);
+      moving = λ q d s k j at_d at_s. moving_by n m v w p q d s k j (pid_eq p q) refl more moves known phases h at_d at_s;
+    }
+
+-- No count is too great at the start.
+
+-- where a run begins
+first_of_home : (b : Boot) (m : ℕ) → IsValid b → m < length b.machines → starting_at m b.processes ≤ 64
+first_of_home b m valid lt = let k = (room_from b m valid lt).made in omega (arith, k)
+
+starting_one : (m : ℕ) (p : BootProcess) (ps : List BootProcess) → starting_at m ps ≤ starting_at m (p ∷ ps)
+starting_one m p ps = omega arith
+
+-- the processes of all machines
+all_processes : (b : Boot) (earlier ps : List BootProcess) → processes_are_valid b earlier ps ≡ true → length ps ≤ sum_to (length b.machines) (λ m. starting_at m ps)
+all_processes b earlier [] h = omega arith
+all_processes b earlier (p ∷ ps) h =
+    let k = listed b earlier p ps h in
+    let home = k.home in
+    let rest = all_processes b (earlier ++ p ∷ []) ps k.rest in
+    let mine : starting_at p.pid.home ps + 1 ≤ starting_at p.pid.home (p ∷ ps) = (let e : (p.pid.home == p.pid.home) ≡ true = grind (arith, nat_tests) in let f : one_if (p.pid.home == p.pid.home) ≡ 1 = ap one_if e in omega (arith, f)) in
+    let more = sum_more (length b.machines) (λ m. starting_at m ps) (λ m. starting_at m (p ∷ ps)) p.pid.home (λ m. starting_one m p ps) home mine in
+    omega (arith, rest, more)
+
+sum_within : (n k : ℕ) (f : ℕ → ℕ) → n ≤ k → ((i : ℕ) → i < k → f i ≤ 64) → sum_to n f ≤ n * 64
+sum_within zero k f le h = omega arith
+sum_within (suc n) k f le h = let r = sum_within n k f (omega (arith, le)) h in let one = h n (omega (arith, le)) in omega (arith, r, one)
+
+starting_few : (m : ℕ) (ps : List BootProcess) → starting_at m ps ≤ length ps
+starting_few m [] = omega arith
+starting_few m (p ∷ ps) = let h = starting_few m ps in one_few (p.pid.home == m) (starting_at m ps) (length ps) h
+  where
+    one_few : (c : Bool) (k n : ℕ) → k ≤ n → (if c then 1 else 0) + k ≤ suc n
+    one_few true k n le = omega (arith, le)
+    one_few false k n le = omega (arith, le)
+
+none_sent : (b : Boot) (ps : List BootProcess) (p : Pid) → sent_of (life_at b ps p) ≡ 0
+none_sent b [] p = refl
+none_sent b (q ∷ qs) p = by (pid_eq q.pid p) (slice_get b.images q.image) (none_sent b qs p)
+  where
+    by : (c : Bool) (o : Option BootImage) → sent_of (life_at b qs p) ≡ 0 → sent_of (if c then option_map (λ image. Alive (begun b.format image (map plain_link q.links))) o else life_at b qs p) ≡ 0
+    by true None e = refl
+    by true (Some i) e = refl
+    by false o e = e
+
+children_few : (ps : List BootProcess) → length (map (λ (p : BootProcess). p.pid) ps) ≡ length ps
+children_few [] = refl
+children_few (p ∷ ps) = let h = children_few ps in omega (arith, h)
+
+-- 16 machines have at most 64 processes each
+abbrev pub first_count : ℕ
+first_count = 1024
+
+pub under_start : (b : Boot) (n : ℕ) → IsValid b → Under (first_count + total (first_view b) n) (first_point b).kernel
+under_start b n valid =
+    let few : length b.processes ≤ 1024 = grind (arith, nat_tests, all_processes, sum_within, first_of_home, few_machines) in
+    let children = children_few b.processes in
+    record {
+      sent = λ p. let e = none_sent b b.processes p in omega (arith, e);
+      board = omega arith;
+      manager = omega arith;
+      children = omega (arith, few, children);
+      made = λ h. let k = starting_few h b.processes in omega (arith, few, k);
+      names = omega arith;
+    }
+
+pub pairs_start : (b : Boot) (n : ℕ) → PairsWithin n (first_view b)
+pairs_start b n = λ a c some. absurd (omega (arith, some))
+
+pub own_start : (b : Boot) (n : ℕ) → OwnFew n (first_view b)
+own_start b n = λ within m. omega arith
+
+-- nothing comes at first
+abbrev comes_now : Known → Bool
+comes_now (Known.Incoming from) = true
+comes_now _ = false
+
+start_if : (c : Bool) (k : Known) → comes_now k ≡ false → comes_now (if c then Known.Here else k) ≡ false
+start_if c k e = grind (arith, nat_tests)
+
+none_comes : (ps : List BootProcess) (m : ℕ) (q : Pid) → comes_now (known_at ps m q) ≡ false
+none_comes [] m q = start_if ((m == 0) && (pid_eq q switchboard || pid_eq q manager)) Known.Unknown refl
+none_comes (p ∷ ps) m q = start_if (pid_eq p.pid q && (p.pid.home == m)) (known_at ps m q) (none_comes ps m q)
+
+pub moves_start : (b : Boot) (n : ℕ) → MovesFew n (first_view b)
+moves_start b n = record {
+  moves = λ p. omega arith;
+  moving = λ p d s k j at_d at_s. absurd (false≢true (sym (none_comes b.processes d p) ∙ ap comes_now at_d));
+}

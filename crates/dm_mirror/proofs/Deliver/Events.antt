@@ -1,21 +1,149 @@
--- What each event of a stream makes of a pair: the ends of its stream, its wire, and what the lines say of it.
-use Rattle.dm_mirror.proofs.Names.{◌≡◌, ℕ, zero, suc, ◌+◌, ◌-◌, ◌<◌, max, false, List, [], ◌∷◌, ◌++◌, map, drop, refl, ap, ◌∙◌, sym, subst, arith, slice_get, option_map, Option, None, Some, nat_tests, map-append, slice_get-map, Message}
-use Rattle.dm_mirror.proofs.Names.{MsgId, spelling, due, with_acked, with_sent, kept_once, advanced, next, Data, Ack, just_put, load_at, Stream, GoOut, Deliver, TakeKept, Acknowledge, DeliverBack, OtherAck, OtherData, happens}
-use Rattle.dm_mirror.proofs.Names.{MayCome-stands, get-drop, drop-more, Sent, Boot, Pair, at_least, gone_after, has, Placed, AreMessages, bytes_of, line_of}
-use Rattle.dm_packet.specs.declared.Packet.TheVariants as packet
-use Rattle.dm_stream.specs.Packets.{Packet, Load, marked}
+-- Both ends of a pair's stream, its wire and what the lines say of it, as values; and a stream's events on them.
+use Rattle.dm_mirror.proofs.Names.{◌≡◌, ℕ, zero, suc, ◌+◌, ◌-◌, ◌<◌, max, false, List, [], ◌∷◌, ◌++◌, map, drop, refl, ap, ◌∙◌, sym, subst, arith, slice_get, option_map, Option, Some, nat_tests, map-append, slice_get-map, Message, MsgId}
+use Rattle.dm_mirror.proofs.Names.{spelling, due, with_acked, with_sent, kept_once, advanced, next, Data, Ack, just_put, load_at, Stream, GoOut, Deliver, TakeKept, Acknowledge, DeliverBack, OtherAck, OtherData, happens, MayCome-stands}
+use Rattle.dm_mirror.proofs.Names.{get-drop, drop-more, Sent, Boot, Pair, at_least, gone_after, has, Placed, AreMessages, bytes_of, line_of, take, is_some, All, IsLawfulMessage, Sending, Receiving, kept_under, Event, StreamStands-happens}
+use Rattle.dm_mirror.proofs.Names.{Point, WorldState, History, PairStands, ◌≤◌, ◌==◌, ◌&&◌, ◌||◌, Bool, not, filter, nat_lt, length, if◌then◌else◌, moved_up, arrival, after_arrival, after_next, Old, Early, place-moved_up, place-kept_same}
+use Rattle.dm_mirror.proofs.Names.{place-kept_other, eq_not, message_id, marked}
+use Rattle.dm_stream.specs.Packets.{Packet, Load}
 use Rattle.dm_stream.specs.Stream.{arrives, hears, goes_out}
+use Rattle.dm_stream.specs.declared.receiver.Arrived.TheVariants.{Taken}
+use Rattle.dm_rule.proofs.QuietTests.{eq_is}
+pub use Rattle.dm_rule.proofs.Trails.Leads.{less_test}
+use Rattle.dm_packet.specs.declared.Packet.TheVariants as packet
 use Rattle.dm_wire.specs.Sent as wire
 use Rattle.dm_line.specs.declared.line.Load.TheVariants as load
 use Rattle.dm_rule.specs.View as view
-use Rattle.dm_mirror.specs.Stands.{message_id}
-use Rattle.dm_mirror.proofs.Deliver.Ends.{Ends, PairIs, event_stands, stream_with}
-use Rattle.dm_mirror.proofs.Deliver.Kept.{off, kept_taken, kept_early, after_taken_is, after_old_is, after_early_is, after_next_is}
+use Rattle.dm_stream.specs.Order as order
+
+-- what the sender and the receiver know, what was given, and all packets of both wires
+pub record Ends : Type 0 where
+  pub sender : Sending Message
+  pub receiver : Receiving Message
+  pub given : List Message
+  pub out : List (Packet Message)
+  pub back : List (Packet Message)
+
+abbrev pub stream_with : Ends → Stream Message
+stream_with x = record {
+  sender = x.sender;
+  receiver = x.receiver;
+  given = x.given;
+  taken = take x.receiver.count x.given;
+  out = x.out;
+  back = x.back;
+}
+
+abbrev pub ends_of : WorldState → History → ℕ → ℕ → Ends
+ends_of w h a c = record {
+  sender = (w.nodes a).senders c;
+  receiver = (w.nodes c).receivers a;
+  given = h.given a c;
+  out = h.packets a c;
+  back = h.packets c a;
+}
+
+-- the pair of machine a with machine c
+pub record PairIs (b : Boot) (l : Placed) (a c : ℕ) (x : Ends) (wire : List Sent) (p : Pair) : Type 0 where
+  pub stream : order.StreamStands (stream_with x)
+  pub ids : map message_id x.given ≡ p.ids
+  pub untaken : AreMessages l.bag (drop p.taken p.ids) (drop p.taken x.given)
+  pub taken : x.receiver.count ≡ p.taken
+  pub gone : x.sender.gone ≡ p.gone
+  pub acked : x.sender.acked ≡ p.acked
+  pub numbers : x.sender.numbers ≡ b.numbers
+  pub kept : (n : ℕ) → is_some (kept_under x.receiver n) ≡ has n p.kept
+  pub packets : map line_of x.out ≡ p.wire
+  pub bytes : wire ≡ map (bytes_of a c) x.out
+  pub lawful : All IsLawfulMessage x.given
+
+pub pair_is : (b : Boot) (pt : Point) (l : Placed) (w : WorldState) (h : History) (a c : ℕ) → PairStands b pt l w h a c → PairIs b l a c (ends_of w h a c) (w.wires a c) (pt.view.pair a c)
+pair_is b pt l w h a c s = search (s.stream, s.ids, s.untaken, s.taken, s.gone, s.acked, s.numbers, s.kept, s.packets, s.bytes, s.lawful)
+
+pub pair_stands : (b : Boot) (pt : Point) (l : Placed) (w : WorldState) (h : History) (a c : ℕ) → PairIs b l a c (ends_of w h a c) (w.wires a c) (pt.view.pair a c) → PairStands b pt l w h a c
+pair_stands b pt l w h a c s = search (s.stream, s.ids, s.untaken, s.taken, s.gone, s.acked, s.numbers, s.kept, s.packets, s.bytes, s.lawful)
+
+-- the same pair, by what the world, the history and the view have
+pub record Holds (w : WorldState) (pt : Point) (h : History) (a c : ℕ) (x : Ends) (wire : List Sent) (p : Pair) : Type 0 where
+  pub sender : (w.nodes a).senders c ≡ x.sender
+  pub receiver : (w.nodes c).receivers a ≡ x.receiver
+  pub given : h.given a c ≡ x.given
+  pub out : h.packets a c ≡ x.out
+  pub back : h.packets c a ≡ x.back
+  pub on_wire : w.wires a c ≡ wire
+  pub on_pair : pt.view.pair a c ≡ p
+
+pub holds_stands : (b : Boot) (pt : Point) (l : Placed) (w : WorldState) (h : History) (a c : ℕ) (x : Ends) (wire : List Sent) (p : Pair) → Holds w pt h a c x wire p → PairIs b l a c x wire p → PairStands b pt l w h a c
+holds_stands b pt l w h a c x wire p e s =
+    let same : ends_of w h a c ≡ x = λ i. record { sender = e.sender i; receiver = e.receiver i; given = e.given i; out = e.out i; back = e.back i } in
+    let first : PairIs b l a c (ends_of w h a c) wire p = subst (λ (y : Ends). PairIs b l a c y wire p) (sym same) s in
+    let second : PairIs b l a c (ends_of w h a c) (w.wires a c) p = subst (λ (y : List Sent). PairIs b l a c (ends_of w h a c) y p) (sym e.on_wire) first in
+    pair_stands b pt l w h a c (subst (λ (y : Pair). PairIs b l a c (ends_of w h a c) (w.wires a c) y) (sym e.on_pair) second)
+
+-- an event leads from ends that stand to these: what was taken is what the receiver has counted
+pub event_stands : (x y : Ends) (e : Event Message) (t : Stream Message) → happens (stream_with x) e ≡ t → order.StreamStands (stream_with x) → y.sender ≡ t.sender → y.receiver ≡ t.receiver → y.given ≡ t.given → y.out ≡ t.out → y.back ≡ t.back → order.StreamStands (stream_with y)
+event_stands x y e t is h s r g o k =
+    let next : order.StreamStands t = subst order.StreamStands is (StreamStands-happens (stream_with x) e h) in
+    let counted : take y.receiver.count y.given ≡ take t.receiver.count t.given = λ i. take ((r i).count) (g i) in
+    let took : take y.receiver.count y.given ≡ t.taken = counted ∙ sym next.in_order.taken in
+    let same : stream_with y ≡ t = λ i. record { sender = s i; receiver = r i; given = g i; taken = took i; out = o i; back = k i } in
+    subst order.StreamStands (sym same) next
+
+-- The messages that a receiver keeps are those that the lines name as kept, after each arrival.
+
+-- the numbers without this one
+abbrev pub off : ℕ → List ℕ → List ℕ
+off n ks = filter (λ k. not (k == n)) ks
+
+pub not_less_test : (m n : ℕ) → n ≤ m → nat_lt m n ≡ false
+not_less_test m n e = grind (arith, nat_tests)
+
+has_step : (j n k : ℕ) (c : Bool) (ks js : List ℕ) → (k == n) ≡ c → has j js ≡ (not (j == n) && has j ks) → has j (if not c then k ∷ js else js) ≡ (not (j == n) && ((j == k) || has j ks))
+has_step j n k c ks js e h = grind (arith, nat_tests)
+
+pub has_off : (j n : ℕ) (ks : List ℕ) → has j (off n ks) ≡ (not (j == n) && has j ks)
+has_off j n [] = grind (arith, nat_tests)
+has_off j n (k ∷ ks) = has_step j n k (k == n) ks (off n ks) refl (has_off j n ks)
+
+module _ {M : Type 0} where
+  -- what a receiver knows when the next message has come
+  pub after_next_is : (r : Receiving M) (m : M) → next r ≡ Some m → after_next r ≡ advanced r
+  after_next_is r m e = ap (λ (o : Option M). record { count = if is_some o then r.count + 1 else r.count; kept = if is_some o then moved_up r.kept else r.kept }) e
+
+  pub after_taken_is : (r : Receiving M) (n : ℕ) (m : M) → n ≡ r.count → after_arrival r n m ≡ advanced r
+  after_taken_is r n m e = grind (arith, nat_tests, nat_lt, eq_is)
+
+  pub arrival_taken : (r : Receiving M) (n : ℕ) (m : M) → n ≡ r.count → arrival r n m ≡ Taken m
+  arrival_taken r n m e = ap (λ (c : Bool). if c then Taken m else if nat_lt n r.count then Old else Early) (eq_is n r.count e)
+
+  pub after_old_is : (r : Receiving M) (n : ℕ) (m : M) → n < r.count → after_arrival r n m ≡ r
+  after_old_is r n m e = grind (arith, nat_tests, nat_lt, eq_not, less_test)
+
+  pub arrival_old : (r : Receiving M) (n : ℕ) (m : M) → n < r.count → arrival r n m ≡ Old
+  arrival_old r n m e = grind (arith, nat_tests, nat_lt, eq_not, less_test)
+
+  pub after_early_is : (r : Receiving M) (n : ℕ) (m : M) → r.count < n → after_arrival r n m ≡ record { count = r.count; kept = kept_once r.kept (n - r.count) m }
+  after_early_is r n m e = grind (arith, nat_tests, nat_lt, eq_not, not_less_test)
+
+  pub arrival_early : (r : Receiving M) (n : ℕ) (m : M) → r.count < n → arrival r n m ≡ Early
+  arrival_early r n m e = grind (arith, nat_tests, nat_lt, eq_not, not_less_test)
+
+  -- the next kept message is the one under the count
+  pub next_is : (r : Receiving M) → next r ≡ kept_under r r.count
+  next_is r = grind (arith, nat_tests)
+
+  -- the next message is taken
+  pub kept_taken : (r : Receiving M) (ks : List ℕ) → ((n : ℕ) → is_some (kept_under r n) ≡ has n ks) → (n : ℕ) → is_some (kept_under (advanced r) n) ≡ has n (off r.count ks)
+  kept_taken r ks h n = grind (arith, nat_tests, place-moved_up, h n, has_off n r.count ks)
+
+  -- a message comes early
+  pub kept_early : (r : Receiving M) (ks : List ℕ) (k : ℕ) (m : M) → r.count < k → k < r.count + 8 → length r.kept ≡ 8 → ((n : ℕ) → is_some (kept_under r n) ≡ has n ks) → (n : ℕ) → is_some (kept_under (record { count = r.count; kept = kept_once r.kept (k - r.count) m }) n) ≡ has n (k ∷ off k ks)
+  kept_early r ks k m low high places h n = grind (arith, nat_tests, place-kept_same, place-kept_other, h n, has_off n k ks)
+
+-- What each event of a stream makes of a pair: the ends of its stream, its wire, and what the lines say of it.
 
 -- a mark on the wire, as the lines say it and as bytes
 pub mark_next : (s : view.SentLoad) (ss : List view.SentLoad) (k : ℕ) (o : Option view.SentLoad) → view.marked_at (s ∷ ss) (suc k) o ≡ s ∷ view.marked_at ss k o
-mark_next s ss k None = refl
-mark_next s ss k (Some t) = refl
+mark_next s ss k o = grind (arith, nat_tests)
 
 lines_marked : (xs : List (Packet Message)) (k : ℕ) → map line_of (marked xs k) ≡ view.marked_at (map line_of xs) k (slice_get (map line_of xs) k)
 lines_marked [] k = refl
@@ -92,36 +220,24 @@ module _ (b : Boot) (l : Placed) (a c : ℕ) (x : Ends) (w : List Sent) (p : Pai
   -- the next message comes, and is taken
   pub taken_comes : (k n : ℕ) (m : Message) → load_at x.out k ≡ Some (Data n m) → n ≡ x.receiver.count → PairIs b l a c x w p
       → PairIs b l a c (record x { receiver = advanced x.receiver; out = marked x.out k }) (wire.marked w k) (record (view.marked p k) { taken = p.taken + 1; kept = off n p.kept })
-  taken_comes k n m e is h = record {
-    stream = event_stands x (record x { receiver = advanced x.receiver; out = marked x.out k }) (Deliver k) (arrives (record (stream_with x) { out = marked x.out k }) (Some (Data n m))) (delivered (stream_with x) k (Some (Data n m)) e) h.stream refl (sym (after_taken_is x.receiver n m is)) refl refl refl;
-    ids = h.ids;
-    untaken = untaken_next l.bag p.ids x.given p.taken h.untaken;
-    taken = ap (λ (i : ℕ). i + 1) h.taken;
-    gone = h.gone;
-    acked = h.acked;
-    numbers = h.numbers;
-    kept = λ j. kept_taken x.receiver p.kept h.kept j ∙ ap (λ (i : ℕ). has j (off i p.kept)) (sym is);
-    packets = packets_marked x.out p.wire k h.packets;
-    bytes = wire_marked a c w x.out k h.bytes;
-    lawful = h.lawful;
-  }
+  taken_comes k n m e is h = search (
+    event_stands x (record x { receiver = advanced x.receiver; out = marked x.out k }) (Deliver k) (arrives (record (stream_with x) { out = marked x.out k }) (Some (Data n m))) (delivered (stream_with x) k (Some (Data n m)) e) h.stream refl (sym (after_taken_is x.receiver n m is)) refl refl refl,
+    untaken_next l.bag p.ids x.given p.taken h.untaken,
+    ap (λ (i : ℕ). i + 1) h.taken,
+    λ (j : ℕ). kept_taken x.receiver p.kept h.kept j ∙ ap (λ (i : ℕ). has j (off i p.kept)) (sym is),
+    packets_marked x.out p.wire k h.packets,
+    wire_marked a c w x.out k h.bytes,
+  )
 
   -- a message that is kept is taken
   pub kept_comes : (n : ℕ) (m : Message) → next x.receiver ≡ Some m → n ≡ x.receiver.count → PairIs b l a c x w p
       → PairIs b l a c (record x { receiver = advanced x.receiver }) w (record p { taken = p.taken + 1; kept = off n p.kept })
-  kept_comes n m e is h = record {
-    stream = event_stands x (record x { receiver = advanced x.receiver }) (TakeKept) (happens (stream_with x) TakeKept) (refl) h.stream refl (sym (after_next_is x.receiver m e)) refl refl refl;
-    ids = h.ids;
-    untaken = untaken_next l.bag p.ids x.given p.taken h.untaken;
-    taken = ap (λ (i : ℕ). i + 1) h.taken;
-    gone = h.gone;
-    acked = h.acked;
-    numbers = h.numbers;
-    kept = λ j. kept_taken x.receiver p.kept h.kept j ∙ ap (λ (i : ℕ). has j (off i p.kept)) (sym is);
-    packets = h.packets;
-    bytes = h.bytes;
-    lawful = h.lawful;
-  }
+  kept_comes n m e is h = search (
+    event_stands x (record x { receiver = advanced x.receiver }) (TakeKept) (happens (stream_with x) TakeKept) (refl) h.stream refl (sym (after_next_is x.receiver m e)) refl refl refl,
+    untaken_next l.bag p.ids x.given p.taken h.untaken,
+    ap (λ (i : ℕ). i + 1) h.taken,
+    λ (j : ℕ). kept_taken x.receiver p.kept h.kept j ∙ ap (λ (i : ℕ). has j (off i p.kept)) (sym is),
+  )
 
   -- an acknowledgement for the stream the other way comes
   pub other_comes : (k n : ℕ) → load_at x.out k ≡ Some (Ack n) → PairIs b l a c x w p → PairIs b l a c (record x { out = marked x.out k }) (wire.marked w k) (view.marked p k)

@@ -1,24 +1,23 @@
 -- The delivery of a packet: the machines do what the rule says.
-use Rattle.dm_mirror.proofs.Names.{◌≡◌, ◌≢◌, ℕ, ◌+◌, ◌-◌, ◌<◌, ◌≤◌, List, [], ◌∷◌, length, refl, ap, ◌∙◌, sym, subst, arith, Some, Message, Sending, with_acked, Receiving, after_arrival, Arrived, Data, Ack, load_at, Sent, after_mark, Boot, nat_tests}
-use Rattle.dm_mirror.proofs.Names.{Line, at_pair, Part, Pair, oldest, at_least, Point, moved, has, kept_from, less, more, numbers_from, repeats, taken_pair, Placed, NodeState, here, with_message, with_receiver, with_sender, acknowledges}
-use Rattle.dm_mirror.proofs.Names.{before, lets_go, takes_kept, then_acknowledges, WorldState, History, StandsWith, less-right, more-is}
+use Rattle.dm_mirror.proofs.Names.{◌≡◌, ◌≢◌, ℕ, ◌+◌, ◌-◌, ◌<◌, ◌≤◌, List, [], ◌∷◌, length, refl, ap, ◌∙◌, sym, subst, arith, Some, Message, Sending, with_acked, Receiving, after_arrival, Arrived, Data, Ack, load_at, Sent, after_mark, Boot}
+use Rattle.dm_mirror.proofs.Names.{nat_tests, Line, at_pair, Part, Pair, oldest, at_least, Point, moved, has, kept_from, less, more, numbers_from, repeats, taken_pair, Placed, NodeState, here, with_message, with_receiver, with_sender}
+use Rattle.dm_mirror.proofs.Names.{acknowledges, before, lets_go, takes_kept, then_acknowledges, WorldState, History, StandsWith, less-right, more-is, ◌^◌, slice_get, option_map, Ok, Option, slice_get-map, Packet, packet_of, spelling}
+use Rattle.dm_mirror.proofs.Names.{packet_again, load_in, bytes_at, line_of, nat_le, nat_lt, true, drop, Result, PacketError, ◌>>=◌, IsRoute, only_packet, message, read_rest, spell_message, IsField-number, guard_ok, outstanding}
+use Rattle.dm_mirror.proofs.Names.{MayCome-stands, get-drop, IsValid, IsReadable, zero, suc, eqb_tells, bind-is, MsgId, next, due, bind, Spelled, packet_line, spelled, after, at_machine, View, view_after, IsNet, IsNetLine, comes_in}
+use Rattle.dm_mirror.proofs.Names.{lets_next, takes_next, Acted, OneKernel, CountsStand, behind}
 use Rattle.dm_stream.specs.Packets.{Load}
+use Rattle.dm_node.specs.declared.out.Out.TheVariants.{Says}
+use Rattle.dm_node.specs.Acts.{arrives}
 use Rattle.dm_line.specs.declared.line.Load.TheVariants as load
 use Rattle.dm_rule.specs.View as view
 use Rattle.dm_rule.specs.Rule as group
-use Rattle.dm_node.specs.declared.out.Out.TheVariants.{Says}
 use Rattle.dm_node.specs.Acts as node
-use Rattle.dm_mirror.proofs.Deliver.Ends.{Ends, PairIs, ends_of}
-use Rattle.dm_mirror.proofs.Deliver.Kept.{after_early_is, after_old_is, after_taken_is, arrival_early, arrival_old, arrival_taken, off}
-use Rattle.dm_mirror.proofs.Deliver.Follows.{Follows, machine_same, says_on}
-use Rattle.dm_mirror.proofs.Deliver.Moves.{back_other, back_pair, there_pair, two_other, two_same}
-use Rattle.dm_mirror.proofs.Deliver.Arrives.{acked_stands, begun, come_to, early_stands, marked_in, old_stands, taken_stands}
-use Rattle.dm_mirror.proofs.Deliver.Takes.{acknowledged, kept_after, taken_parts, takes_follow}
-use Rattle.dm_mirror.proofs.Deliver.Lets.{lets_follow, room_of}
-
--- at most the window goes out
-room_small : (b : Boot) (l : Placed) (a c : ℕ) (x : Ends) (sent : List Sent) (p : Pair) → PairIs b l a c x sent p → room_of p ≤ 8
-room_small b l a c x sent p k = grind (arith, nat_tests, less-right)
+use Rattle.dm_stream.specs.Packets as stream
+use Rattle.dm_node.specs.Out as out
+use Rattle.dm_mirror.proofs.Deliver.Moves.{back_other, back_pair, there_pair, two_other, two_same, acknowledged, kept_after, taken_parts, takes_follow, lets_follow, room_of}
+use Rattle.dm_mirror.proofs.Deliver.Events.{Ends, PairIs, ends_of, after_early_is, after_old_is, after_taken_is, arrival_early, arrival_old, arrival_taken, off, stream_with, less_test}
+use Rattle.dm_mirror.proofs.Deliver.Stands.{Follows, machine_same, says_on}
+use Rattle.dm_mirror.proofs.Deliver.Outs.{acked_stands, begun, come_to, early_stands, marked_in, old_stands, taken_stands}
 
 -- the world of a delivery before the machine acts
 abbrev marked_world : WorldState → ℕ → ℕ → ℕ → WorldState
@@ -115,8 +114,170 @@ module _ (b : Boot) (w : WorldState) (pt : Point) (l : Placed) (h : History) (a 
       let old : Pair = pt.view.pair c a in
       let j : ℕ = less (length old.ids - old.gone) (more n old.acked + 8 - old.gone) in
       let room : j ≡ room_of (q.view.pair c a) = ap (λ (i : ℕ). less (length old.ids - old.gone) (i + 8 - old.gone)) (more-is old.acked n) ∙ sym (ap room_of now) in
-      let small : j ≤ 8 = subst (λ (i : ℕ). i ≤ 8) (sym room) (room_small b l c a (ends_of v g c a) (v.wires c a) (q.view.pair c a) (back_pair b v q l g a c stands a_in c_in apart)) in
+      let small : j ≤ 8 = subst (λ (i : ℕ). i ≤ 8) (sym room) (grind (arith, nat_tests, less-right, back_pair b v q l g a c stands a_in c_in apart)) in
       let rest = lets_follow b l a c apart 8 v q g stands a_in c_in j room small in
       let rest_from = subst (λ (i : ℕ). Follows b c v q l (lets_go 8 (v.nodes c) a) (repeats c a (numbers_from i j))) (ap (λ (z : Pair). z.gone) now) rest in
       let rest_here = subst (λ (z : NodeState). Follows b c v q l (lets_go 8 z a) (repeats c a (numbers_from old.gone j))) set rest_from in
       says_on b c (marked_world w a c k) (begun pt a c k) q l next (Line.Acked a (here (w.nodes c)) n) (Line.Acked a c n) (lets_go 8 next a) (repeats c a (numbers_from old.gone j)) (ap (λ (i : ℕ). Line.Acked a i n) (s.nodes c c_in).kernel.here) refl rest_here
+
+-- The packet of a delivery is read as it was put, and its machine may take it.
+
+-- the bytes of the packet with this number
+abbrev pub bytes_for : ℕ → ℕ → stream.Packet Message → List ℕ
+bytes_for a c p = spelling (out.packet_of_load a c p.load)
+
+-- what is read of the packet of a delivery that carries a message: its number, and where it wasn't taken yet, the message
+pub record IsReadAs (w : WorldState) (a c n : ℕ) (m : Message) : Type 0 where
+  pub message : Message
+  pub read : packet_of (spelling (Packet.Data a c n m)) ≡ Ok (Packet.Data a c n message)
+  pub same : ((w.nodes c).receivers a).count ≤ n → message ≡ m
+
+abbrev pub ReadsAs : WorldState → History → ℕ → ℕ → ℕ → Type 0
+ReadsAs w h a c k = (n : ℕ) (m : Message) → load_at (h.packets a c) k ≡ Some (Data n m) → IsReadAs w a c n m
+
+of_some : (f : stream.Packet Message → Sent) (o : Option (stream.Packet Message)) → option_map (λ (p : Sent). p.bytes) (option_map f o) ≡ option_map (λ (p : stream.Packet Message). (f p).bytes) o
+of_some f o = grind (arith, nat_tests)
+
+pub bytes_are : (b : Boot) (l : Placed) (a c : ℕ) (x : Ends) (sent : List Sent) (p : Pair) (k : ℕ) → PairIs b l a c x sent p → bytes_at sent k ≡ option_map (bytes_for a c) (slice_get x.out k)
+bytes_are b l a c x sent p k h = grind (arith, nat_tests, option_map, slice_get-map, of_some, slice_get)
+
+pub lines_are : (b : Boot) (l : Placed) (a c : ℕ) (x : Ends) (sent : List Sent) (p : Pair) (k : ℕ) → PairIs b l a c x sent p → slice_get p.wire k ≡ option_map line_of (slice_get x.out k)
+lines_are b l a c x sent p k h = ap (λ (ss : List view.SentLoad). slice_get ss k) (sym h.packets) ∙ slice_get-map line_of x.out k
+
+pub load_is : (ps : List (stream.Packet Message)) (k : ℕ) (o : Option (stream.Packet Message)) → slice_get ps k ≡ o → load_at ps k ≡ load_in o
+unfolding load_at
+load_is ps k o e = ap load_in e
+
+-- an acknowledgement is read as it was put
+pub reads_ack : (a c n : ℕ) → a < 16 → c < 16 → a ≢ c → n < 2 ^ 32 → packet_of (spelling (Packet.Ack a c n)) ≡ Ok (Packet.Ack a c n)
+reads_ack a c n a_in c_in apart small = packet_again (Packet.Ack a c n) (record { from = omega arith; to = omega arith; apart = λ e. apart (sym e) }) (omega arith)
+
+-- Where each packet of a wire can be read, and what is out and not acknowledged is read as it was put, a delivery reads what
+-- was put; of a message that was acknowledged long ago, its number.
+
+-- ---- the opening of a packet is read as it was spelled
+
+-- ---- a packet with a message is read as a packet with the same number
+
+abbrev numbered_of : ℕ → Message × List ℕ → Result ((ℕ × Message) × List ℕ) PacketError
+numbered_of n y = Ok ((n, y.0), y.1)
+
+abbrev data_of : ℕ → ℕ → (ℕ × Message) × List ℕ → Result (Packet × List ℕ) PacketError
+data_of a c x = Ok (Packet.Data a c x.0.0 x.0.1, x.1)
+
+abbrev with_number : ℕ → ℕ → ℕ → Result (Message × List ℕ) PacketError → Result Packet PacketError
+with_number a c n r = ((r >>= numbered_of n) >>= data_of a c) >>= only_packet
+
+read_on : (a c n : ℕ) (m : Message) → IsRoute a c → n < 256 ^ 4 → packet_of (spelling (Packet.Data a c n m)) ≡ with_number a c n (message.read (spell_message m))
+unfolding packet_of read_rest spelling
+read_on a c n m route small = grind (arith, nat_tests, IsField-number)
+
+numbered : (a c n : ℕ) (r : Result (Message × List ℕ) PacketError) (p : Packet) → with_number a c n r ≡ Ok p → (x : Message) × (p ≡ Packet.Data a c n x)
+numbered a c n r p e = grind (arith, nat_tests, guard_ok)
+
+-- ---- what a delivery reads
+
+pub few : (b : Boot) (m n : ℕ) → IsValid b → n ≡ length b.machines → m < n → m < 16
+few b m n valid are lt = let most : nat_le (length b.machines) 16 ≡ true = valid.few_machines in grind (arith, nat_tests)
+
+-- a number between those acknowledged and those that have gone out is outstanding
+outstanding_is : (s : Sending Message) (given : List Message) (n : ℕ) (m : Message) → s.unacked ≡ drop s.acked given → s.acked ≤ n → n < s.gone → slice_get given n ≡ Some m → outstanding s (n - s.acked) ≡ Some (n, m)
+outstanding_is s given n m e above below is = grind (arith, nat_tests, slice_get, get-drop, nat_lt, less_test)
+
+put_is : (a c : ℕ) (o : Option (stream.Packet Message)) (carried : Load Message) → load_in o ≡ Some carried → option_map (bytes_for a c) o ≡ Some (spelling (out.packet_of_load a c carried))
+put_is a c o carried e = grind (arith, nat_tests)
+
+pub reads_as : (b : Boot) (w : WorldState) (pt : Point) (l : Placed) (h : History) (a c k : ℕ) → IsValid b → StandsWith b w pt l h → a < pt.kernel.machines → c < pt.kernel.machines → a ≢ c → pt.kernel.machines ≡ length b.machines → IsReadable w → ReadsAs w h a c k
+reads_as b w pt l h a c k valid s a_in c_in apart machines_are readable n m e =
+    let there : PairIs b l a c (ends_of w h a c) (w.wires a c) (pt.view.pair a c) = there_pair b w pt l h a c s a_in c_in apart in
+    let low_a : a < 16 = few b a pt.kernel.machines valid machines_are a_in in
+    let low_c : c < 16 = few b c pt.kernel.machines valid machines_are c_in in
+    let near : n < 2 ^ 32 - 1 = (MayCome-stands (stream_with (ends_of w h a c)) there.stream).numbered k n m e in
+    let route : IsRoute a c = record { from = omega arith; to = omega arith; apart = λ same. apart (sym same) } in
+    let loads : load_in (slice_get (h.packets a c) k) ≡ Some (Data n m) = sym (load_is (h.packets a c) k (slice_get (h.packets a c) k) refl) ∙ e in
+    let put : bytes_at (w.wires a c) k ≡ Some (spelling (Packet.Data a c n m)) = bytes_are b l a c (ends_of w h a c) (w.wires a c) (pt.view.pair a c) k there ∙ put_is a c (slice_get (h.packets a c) k) (Data n m) loads in
+    let (p, read) = readable.reads a c k (spelling (Packet.Data a c n m)) put in
+    let (x, is) = numbered a c n (message.read (spell_message m)) p (sym (read_on a c n m route (omega arith)) ∙ read) in
+    let given : slice_get (h.given a c) n ≡ Some m = there.stream.sent.data_given k n m e in
+    record {
+      message = x;
+      read = read ∙ ap Ok is;
+      same = λ le.
+          let sender = (w.nodes a).senders c in
+          let above : sender.acked ≤ n = omega (arith, le, there.stream.in_order.acked_taken) in
+          let is_out : outstanding sender (n - sender.acked) ≡ Some (n, m) = outstanding_is sender (h.given a c) n m there.stream.in_order.unacked above (there.stream.sent.data_gone k n m e) given in
+          let put_back : packet_of (spelling (Packet.Data a c n m)) ≡ Ok (Packet.Data a c n m) = subst (λ (i : ℕ). packet_of (spelling (Packet.Data i c n m)) ≡ Ok (Packet.Data i c n m)) (s.nodes a a_in).kernel.here ((readable.out a c).out (n - sender.acked) n m is_out) in
+          let g : Ok (Packet.Data a c n x) ≡ Ok (Packet.Data a c n m) = sym (read ∙ ap Ok is) ∙ put_back in cc;
+    }
+
+-- A delivery counts none of the kernels' own messages, by the lines and by the machine.
+
+-- the lines
+taken_count : (v : View) (b : ℕ) (o : Option MsgId) → (view.taken_id v b o).count ≡ v.count
+taken_count v b o = grind (arith, nat_tests)
+
+line_count : (v : View) (l : Line) → IsNetLine l → (view_after v l).count ≡ v.count
+line_count v l is = grind (arith, nat_tests, taken_count)
+
+-- none of them is a step
+line_goes : (pt : Point) (l : Line) → IsNetLine l → after pt (l ∷ []) ≡ Some (moved pt l pt.kernel)
+line_goes pt l is = grind (arith, nat_tests)
+
+-- the kernel and the counts stay
+pub record Same (pt end : Point) : Type 0 where
+  pub kernel : end.kernel ≡ pt.kernel
+  pub count : end.view.count ≡ pt.view.count
+
+same_on : (pt mid end : Point) → Same pt mid → Same mid end → Same pt end
+same_on pt mid end f g = record { kernel = g.kernel ∙ f.kernel; count = g.count ∙ f.count }
+
+says_same : (pt next : Point) (l : Line) → IsNetLine l → after pt (l ∷ []) ≡ Some next → Same pt next
+says_same pt next l is e =
+    let f : Some (moved pt l pt.kernel) ≡ Some next = sym (line_goes pt l is) ∙ e in
+    let g : moved pt l pt.kernel ≡ next = cc in
+    subst (Same pt) g (record { kernel = refl; count = line_count pt.view l is })
+
+pub net_same : (ps : List Part) (pt : Point) (w : Spelled) → IsNet ps → spelled pt ps ≡ Some w → Same pt w.point
+net_same [] pt w h e = let f : record { lines = []; point = pt } ≡ w = cc in subst (λ (x : Spelled). Same pt x.point) f (record { kernel = refl; count = refl })
+net_same (Part.Says l ∷ ps) pt w h e =
+    let (next, comes, last) = bind-is (after pt (l ∷ [])) (λ next. bind (spelled next ps) (λ rest. Some (behind (l ∷ []) rest))) w e in
+    let (rest, told, end) = bind-is (spelled next ps) (λ rest. Some (behind (l ∷ []) rest)) w last in
+    let f : behind (l ∷ []) rest ≡ w = cc in
+    subst (λ (x : Spelled). Same pt x.point) f (same_on pt next rest.point (says_same pt next l h.0 comes) (net_same ps next rest h.1 told))
+net_same (Part.Transmits a b x ∷ ps) pt w h e =
+    let l = packet_line pt.view a b x in
+    let (rest, told, end) = bind-is (spelled (moved pt l pt.kernel) ps) (λ rest. Some (behind (l ∷ []) rest)) w e in
+    let f : behind (l ∷ []) rest ≡ w = cc in
+    subst (λ (x : Spelled). Same pt x.point) f (same_on pt (moved pt l pt.kernel) rest.point (record { kernel = refl; count = refl }) (net_same ps (moved pt l pt.kernel) rest h.1 told))
+net_same _ pt w h e = absurd h.0
+
+-- the machine
+takes_next_sent : (n : NodeState) (a : ℕ) (o : Option Message) (go : NodeState → Acted) → ((m : NodeState) → (go m).state.kernel.sent ≡ m.kernel.sent) → (takes_next n a o go).state.kernel.sent ≡ n.kernel.sent
+takes_next_sent n a o go same = grind (arith, nat_tests)
+
+takes_kept_sent : (k : ℕ) (n : NodeState) (a : ℕ) → (takes_kept k n a).state.kernel.sent ≡ n.kernel.sent
+unfolding takes_kept
+takes_kept_sent zero n a = refl
+takes_kept_sent (suc k) n a = takes_next_sent n a (next (n.receivers a)) (λ m. takes_kept k m a) (λ m. takes_kept_sent k m a)
+
+lets_next_sent : (n : NodeState) (b : ℕ) (o : Option (ℕ × Message)) (go : NodeState → Acted) → ((m : NodeState) → (go m).state.kernel.sent ≡ m.kernel.sent) → (lets_next n b o go).state.kernel.sent ≡ n.kernel.sent
+lets_next_sent n b o go same = grind (arith, nat_tests)
+
+lets_go_sent : (k : ℕ) (n : NodeState) (b : ℕ) → (lets_go k n b).state.kernel.sent ≡ n.kernel.sent
+unfolding lets_go
+lets_go_sent zero n b = refl
+lets_go_sent (suc k) n b = lets_next_sent n b (due (n.senders b)) (λ m. lets_go k m b) (λ m. lets_go_sent k m b)
+
+comes_in_sent : (n : NodeState) (a k : ℕ) (x : Arrived Message) → (comes_in n a k x).state.kernel.sent ≡ n.kernel.sent
+comes_in_sent n a k x = grind (arith, nat_tests, takes_kept_sent)
+
+pub arrives_sent : (n : NodeState) (a : ℕ) (x : Load Message) → (arrives n a x).state.kernel.sent ≡ n.kernel.sent
+arrives_sent n a x = grind (arith, nat_tests, comes_in_sent, lets_go_sent)
+
+pub sent_at : (nodes : ℕ → NodeState) (c : ℕ) (n : NodeState) (m : ℕ) → n.kernel.sent ≡ (nodes c).kernel.sent → (at_machine nodes c n m).kernel.sent ≡ (nodes m).kernel.sent
+sent_at nodes c n m e = grind (arith, nat_tests, eqb_tells)
+
+-- a machine acts, and has counted as many as the lines then
+pub counts_on : (w v : WorldState) (pt end : Point) (c : ℕ) (n : NodeState) → v.nodes ≡ at_machine w.nodes c n → n.kernel.sent ≡ (w.nodes c).kernel.sent → Same pt end → CountsStand w pt → CountsStand v end
+counts_on w v pt end c n is sent same h m lt =
+    ap (λ (f : ℕ → NodeState). (f m).kernel.sent) is ∙ sent_at w.nodes c n m sent ∙ h m (subst (λ (s : OneKernel). m < s.machines) same.kernel lt) ∙ sym (ap (λ (f : ℕ → ℕ). f m) same.count)

@@ -1,17 +1,107 @@
--- Where all packets that an event sends are read as they were put, what the machine has out then is so too, and each packet on
--- the wires is read.
+-- Where what a machine sends is read as it was put, so is all that it has out and not acknowledged, and each packet on the wires
+-- is read: each event keeps it.
 use Rattle.dm_mirror.proofs.Names.{◌≡◌, ◌⊎◌, ℕ, zero, suc, ◌==◌, ◌&&◌, Bool, true, false, List, [], ◌∷◌, ◌++◌, refl, ap, ◌∙◌, sym, subst, inl, inr, ⊤, if◌then◌else◌, Ok, Option, None, Some, eqb_tells, Message, Packet, packet_of, spelling}
-use Rattle.dm_mirror.proofs.Names.{Data, Ack, Sending, due, window, with_acked, with_given, with_sent, after_arrival, after_next, arrival, next, Arrived, Sent, bytes_at, after_mark, Turned, Out, NodeState, here, with_message}
-use Rattle.dm_mirror.proofs.Names.{with_receiver, with_sender, Acted, Acts, Goes, Worn, behind, then_, acts, comes_in, gives, is_worn, lets_go, lets_next, none_waits, routes, routes_away, routes_home, sends_due, takes_kept, takes_next}
-use Rattle.dm_mirror.proofs.Names.{FitsLoad, spoken, with_packet, AreReadBack, NodeReads, SenderReads, WiresRead}
+use Rattle.dm_mirror.proofs.Names.{Data, Ack, Sending, due, window, with_acked, with_given, with_sent, after_arrival, after_next, arrival, next, Arrived, Sent, bytes_at, after_mark, Turned, Out, NodeState, here, with_message, with_receiver}
+use Rattle.dm_mirror.proofs.Names.{with_sender, Acted, Acts, Goes, Worn, then_, acts, comes_in, gives, is_worn, lets_go, lets_next, none_waits, routes, routes_away, routes_home, sends_due, takes_kept, takes_next, FitsLoad, spoken}
+use Rattle.dm_mirror.proofs.Names.{with_packet, AreReadBack, NodeReads, SenderReads, WiresRead, ◌+◌, nat_lt, arith, fresh_sending, Boot, Step, tick, WorldState, acted, first_world, IsReadable, ◌-◌, ◌<◌, ◌≤◌, length, slice_get, cases_Bool}
+use Rattle.dm_mirror.proofs.Names.{nat_tests, length-append, length-drop, slice_get_within, numbered, outstanding, get-drop, ◌≢◌, All-push, MsgId, IsLawfulMessage, advanced, kept_once, load_at, Line, at_machine, at_pair, NothingElse, Pair}
+use Rattle.dm_mirror.proofs.Names.{at_least, oldest, Inbox, times, Point, moved, Placed, lines_keep, AreMessages, History, StandsWith, marked}
+use Rattle.dm_node.proofs.Names.{behind}
 use Rattle.dm_stream.specs.Packets.{Load}
 use Rattle.dm_stream.specs.declared.receiver.Arrived.TheVariants.{Taken}
-use Rattle.dm_wire.specs.Sent as wire
 use Rattle.dm_wire.specs.Wire.{after_put}
 use Rattle.dm_kernel.specs.declared.part.Part.{Part}
 use Rattle.dm_node.specs.Acts.{arrives}
-use Rattle.dm_mirror.proofs.Deliver.Follows.{machine_same}
-use Rattle.dm_mirror.proofs.Deliver.Sent.{acked_reads, given_reads, sent_reads}
+use Rattle.dm_wire.specs.Sent as wire
+use Rattle.dm_rule.specs.View as view
+use Rattle.dm_mirror.proofs.Deliver.Stands.{machine_same, Moves, moves_stand, machine_other, came_one, took_set}
+use Rattle.dm_mirror.proofs.Deliver.Events.{less_test, acked_comes, back_comes, early_comes, old_comes, other_comes, taken_comes, PairIs, ends_of, after_early_is, after_old_is, after_taken_is, off}
+use Rattle.dm_mirror.proofs.Deliver.Moves.{Taking, back_other, back_pair, ids_set, mark_other, mark_same, messages_push, taking, there_other, there_pair, two_other, two_same}
+
+-- an outstanding message, by its place
+record IsOut (s : Sending Message) (j n : ℕ) (m : Message) : Type 0 where
+  number : n ≡ s.acked + j
+  below : s.acked + j < s.gone
+  there : slice_get s.unacked j ≡ Some m
+
+abbrev number_in : Option (ℕ × Message) → ℕ
+number_in None = 0
+number_in (Some p) = p.0
+
+abbrev message_in : Message → Option (ℕ × Message) → Message
+message_in d None = d
+message_in d (Some p) = p.1
+
+-- what a test lets through
+record Through (test : Bool) (number : ℕ) (o : Option Message) (n : ℕ) (m : Message) : Type 0 where
+  on : test ≡ true
+  is : n ≡ number
+  there : o ≡ Some m
+
+through : (t : Bool) (k : ℕ) (o : Option Message) (n : ℕ) (m : Message) → (if t then numbered k o else None) ≡ Some (n, m) → Through t k o n m
+through false k o n m e = cc
+through true k None n m e = cc
+through true k (Some x) n m e = record { on = refl; is = sym (ap number_in e); there = ap (λ (y : Message). Some y) (ap (message_in x) e) }
+
+is_out : (s : Sending Message) (j n : ℕ) (m : Message) → outstanding s j ≡ Some (n, m) → IsOut s j n m
+is_out s j n m e =
+    let t = through (nat_lt (s.acked + j) s.gone) (s.acked + j) (slice_get s.unacked j) n m e in
+    let on = t.on in
+    record { number = t.is; below = grind (arith, nat_tests); there = t.there }
+
+outstanding_at : (s : Sending Message) (j n : ℕ) (m : Message) → IsOut s j n m → outstanding s j ≡ Some (n, m)
+outstanding_at s j n m h = grind (arith, nat_tests, slice_get, less_test)
+
+get_front : {X : Type 0} (xs ys : List X) (j : ℕ) → j < length xs → slice_get (xs ++ ys) j ≡ slice_get xs j
+get_front [] ys j lt = absurd (omega arith)
+get_front (x ∷ xs) ys zero lt = refl
+get_front (x ∷ xs) ys (suc j) lt = get_front xs ys j (omega arith)
+
+-- one more message is given
+pub given_reads : (a c : ℕ) (s : Sending Message) (x : Message) → SenderReads a c s → SenderReads a c (with_given s x)
+given_reads a c s x h = record {
+  acked = h.acked;
+  gone = let f = h.gone in omega (arith, length-append s.unacked (x ∷ []));
+  out = λ j n m e.
+      let o = is_out (with_given s x) j n m e in
+      let within : j < length s.unacked = omega (arith, o.below, h.gone) in
+      h.out j n m (outstanding_at s j n m (record { number = o.number; below = o.below; there = sym (get_front s.unacked (x ∷ []) j within) ∙ o.there }));
+}
+
+-- the message that is due goes out, and is read as it was put
+pub sent_reads : (a c : ℕ) (s : Sending Message) (k : ℕ) (x : Message) → due s ≡ Some (k, x) → packet_of (spelling (Packet.Data a c k x)) ≡ Ok (Packet.Data a c k x) → SenderReads a c s → SenderReads a c (with_sent s)
+sent_reads a c s k x is read h =
+    let t = through (nat_lt s.gone (s.acked + 8)) s.gone (slice_get s.unacked (s.gone - s.acked)) k x is in
+    record {
+      acked = let f = h.acked in omega arith;
+      gone = let f = slice_get_within s.unacked (s.gone - s.acked) x t.there in let g = h.acked in omega arith;
+      out = λ j n m e.
+          let o = is_out (with_sent s) j n m e in
+          elim (cases_Bool (nat_lt (s.acked + j) s.gone)) [
+            | inl on ↦ h.out j n m (outstanding_at s j n m (record { number = o.number; below = grind (arith, nat_tests); there = o.there }))
+            | inr off ↦
+                let last : s.acked + j ≡ s.gone = (let f : s.acked + j < s.gone + 1 = o.below in grind (arith, nat_tests)) in
+                let same : n ≡ k = o.number ∙ last ∙ sym t.is in
+                let at : slice_get s.unacked j ≡ Some x = ap (slice_get s.unacked) (omega (arith, last)) ∙ t.there in
+                let f : Some m ≡ Some x = sym o.there ∙ at in
+                let one : m ≡ x = cc in
+                subst (λ (y : Message). packet_of (spelling (Packet.Data a c n y)) ≡ Ok (Packet.Data a c n y)) (sym one) (subst (λ (i : ℕ). packet_of (spelling (Packet.Data a c i x)) ≡ Ok (Packet.Data a c i x)) (sym same) read)
+          ];
+    }
+
+-- what is acknowledged isn't out any more
+pub acked_reads : (a c : ℕ) (s : Sending Message) (k : ℕ) → k ≤ s.gone → SenderReads a c s → SenderReads a c (with_acked s k)
+acked_reads a c s k le h = record {
+  acked = let f = h.acked in omega arith;
+  gone = let f = h.gone in let g = h.acked in omega (arith, length-drop (k - s.acked) s.unacked);
+  out = λ j n m e.
+      let o = is_out (with_acked s k) j n m e in
+      let at : slice_get s.unacked (k - s.acked + j) ≡ Some m = sym (get-drop (k - s.acked) s.unacked j (k - s.acked + j) refl) ∙ o.there in
+      h.out (k - s.acked + j) n m (outstanding_at s (k - s.acked + j) n m (record { number = omega (arith, o.number); below = omega (arith, o.below); there = at }));
+}
+
+-- Where all packets that an event sends are read as they were put, what the machine has out then is so too, and each packet on
+-- the wires is read.
 
 -- ---- what a machine has out
 
@@ -137,3 +227,247 @@ pub spoken_read : (wires : ℕ → ℕ → List Sent) (outs : List Out) → AreR
 spoken_read wires [] read h = h
 spoken_read wires (Out.Says l ∷ outs) read h = spoken_read wires outs read h
 spoken_read wires (Out.Sends p ∷ outs) read h = spoken_read (with_packet wires p) outs read.1 (packet_read wires p read.0 h)
+
+-- Where what is sent is read as it was put, the world stays readable, whatever its machines do.
+
+none_out : (t : Bool) (p : ℕ × Message) → (if t then None else None) ≡ Some p → ⊥
+none_out t p e = grind (arith, nat_tests)
+
+-- nothing is out where nothing was given
+fresh_reads : (a c numbers : ℕ) → SenderReads a c (fresh_sending numbers)
+fresh_reads a c numbers = record { acked = omega arith; gone = omega arith; out = λ j n m e. absurd (none_out (nat_lt (0 + j) 0) (n, m) e) }
+
+pub first_readable : (b : Boot) → IsReadable (first_world b)
+first_readable b = record { reads = λ a c k bytes e. cc; out = λ m y. fresh_reads (here ((first_world b).nodes m)) y (if nat_lt y 16 then b.numbers else 0) }
+
+-- a machine acts
+acted_readable : (w : WorldState) (e : Step) (m : ℕ) (d : Acted) → AreReadBack d.outs → NodeReads d.state → IsReadable w → IsReadable (acted w e m d).state
+acted_readable w e m d read node h = record {
+  reads = spoken_read w.wires d.outs read h.reads;
+  out = λ c. elim (m == c) as (λ (t : Bool). NodeReads (if t then d.state else w.nodes c)) [ true ↦ node | false ↦ h.out c ];
+}
+
+pub turn_readable : (w : WorldState) (e : Step) (m : ℕ) (t : Turned) (d : Acted) → t.state.here ≡ here (w.nodes m) → acts (record (w.nodes m) { kernel = t.state }) t.parts ≡ Goes d → AreReadBack d.outs → IsReadable w → IsReadable (acted w e m d).state
+turn_readable w e m t d same goes read h = acted_readable w e m d read (subst ReadsOn goes (turn_reads (w.nodes m) t same (h.out m)) read) h
+
+pub tick_readable : (w : WorldState) (e : Step) (m : ℕ) → AreReadBack (tick (w.nodes m)).outs → IsReadable w → IsReadable (acted w e m (tick (w.nodes m))).state
+tick_readable w e m read h = acted_readable w e m (tick (w.nodes m)) read (h.out m) h
+
+pub arrival_readable : (w : WorldState) (e : Step) (a c k : ℕ) (carried : Load Message) → FitsLoad (w.nodes c) a carried → AreReadBack (arrives (w.nodes c) a carried).outs → IsReadable w
+    → IsReadable (acted (record w { wires = after_mark w.wires a c k }) e c (arrives (w.nodes c) a carried)).state
+arrival_readable w e a c k carried fits read h =
+    acted_readable (record w { wires = after_mark w.wires a c k }) e c (arrives (w.nodes c) a carried) read (arrives_reads (w.nodes c) a carried fits (h.out c) read) (record { reads = marked_read w.wires a c k h.reads; out = h.out })
+
+-- A packet comes: its mark, and the first line that it gives, make a world that stands.
+
+-- the point behind the directive's line
+abbrev pub begun : Point → ℕ → ℕ → ℕ → Point
+begun pt a c k = moved pt (Line.Head (Step.Deliver a c k)) pt.kernel
+
+-- the world behind the mark, where machine c is so
+abbrev pub come_to : WorldState → ℕ → ℕ → ℕ → NodeState → WorldState
+come_to w a c k n = record { nodes = at_machine w.nodes c n; wires = after_mark w.wires a c k; groups = w.groups + 1 }
+
+abbrev pub marked_in : History → ℕ → ℕ → ℕ → History
+marked_in h a c k = record h { packets = at_pair h.packets a c (marked (h.packets a c) k) }
+
+module _ (b : Boot) (w : WorldState) (pt : Point) (l : Placed) (h : History) (a c : ℕ) (s : StandsWith b w pt l h) (a_in : a < pt.kernel.machines) (c_in : c < pt.kernel.machines) (apart : a ≢ c) where
+  there_pair_is : PairIs b l a c (ends_of w h a c) (w.wires a c) (pt.view.pair a c)
+  there_pair_is = there_pair b w pt l h a c s a_in c_in apart
+
+  back_pair_is : PairIs b l c a (ends_of w h c a) (w.wires c a) (pt.view.pair c a)
+  back_pair_is = back_pair b w pt l h a c s a_in c_in apart
+
+  -- a message that was taken before, whatever is read of it
+  pub old_stands : (k n : ℕ) (m : Message) → load_at (h.packets a c) k ≡ Some (Data n m) → (x : Message) → n < ((w.nodes c).receivers a).count → StandsWith b (come_to w a c k (with_receiver (w.nodes c) a (after_arrival ((w.nodes c).receivers a) n x))) (moved (begun pt a c k) (Line.Old a c n) pt.kernel) l (marked_in h a c k)
+  old_stands k n m e x lt =
+      let mark : Pair = view.marked (pt.view.pair a c) k in
+      let go : Moves b w pt l h a c (come_to w a c k (with_receiver (w.nodes c) a (after_arrival ((w.nodes c).receivers a) n x))) (moved (begun pt a c k) (Line.Old a c n) pt.kernel) (marked_in h a c k) = record {
+        acting = c;
+        groups = pt.view.groups + 1;
+        topic = NothingElse;
+        pair = at_pair pt.view.pair a c mark;
+        inbox = pt.view.inbox;
+        messages = (w.nodes c).kernel.inbox;
+        senders = (w.nodes c).senders;
+        receivers = at_machine (w.nodes c).receivers a (after_arrival ((w.nodes c).receivers a) n x);
+        there = record (ends_of w h a c) { out = marked (h.packets a c) k };
+        there_wire = wire.marked (w.wires a c) k;
+        there_pair = mark;
+        back = record (ends_of w h c a) { back = marked (h.packets a c) k };
+        back_wire = w.wires c a;
+        back_pair = pt.view.pair c a;
+        point = refl;
+        counted = ap (λ (i : ℕ). i + 1) s.groups;
+        mirrors = lines_keep (begun pt a c k) (moved (begun pt a c k) (Line.Old a c n) pt.kernel) l (Line.Old a c n) tt (lines_keep pt (begun pt a c k) l (Line.Head (Step.Deliver a c k)) tt s.mirrors refl) refl;
+        pairs = λ x y t u. two_other pt.view.pair a c mark x y t;
+        ids = ids_set pt.view.pair a c mark refl;
+        took = took_set pt.view.pair a c mark (omega arith);
+        came = λ i least. (Inbox c, least);
+        box = (s.nodes c c_in).kernel.inbox;
+        lawful = (s.nodes c c_in).lawful.inbox;
+        there_stands = old_comes b l a c (ends_of w h a c) (w.wires a c) (pt.view.pair a c) k n m e lt there_pair_is;
+        there_receiver = machine_same (w.nodes c).receivers a (after_arrival ((w.nodes c).receivers a) n x) ∙ after_old_is ((w.nodes c).receivers a) n x lt;
+        there_said = two_same pt.view.pair a c mark;
+        back_stands = back_comes b l c a (ends_of w h c a) (w.wires c a) (pt.view.pair c a) k n m e back_pair_is;
+        back_said = two_other pt.view.pair a c mark c a (back_other a c apart);
+        alone = search (machine_same, machine_other, mark_same, mark_other, two_same, two_other, back_other a c apart);
+      } in
+      moves_stand b w pt l h a c (come_to w a c k (with_receiver (w.nodes c) a (after_arrival ((w.nodes c).receivers a) n x))) (moved (begun pt a c k) (Line.Old a c n) pt.kernel) (marked_in h a c k) go s apart
+
+  -- a message that comes early
+  pub early_stands : (k n : ℕ) (m : Message) → load_at (h.packets a c) k ≡ Some (Data n m) → ((w.nodes c).receivers a).count < n → StandsWith b (come_to w a c k (with_receiver (w.nodes c) a (after_arrival ((w.nodes c).receivers a) n m))) (moved (begun pt a c k) (Line.Early a c n) pt.kernel) l (marked_in h a c k)
+  early_stands k n m e gt =
+      let mark : Pair = view.marked (pt.view.pair a c) k in
+      let first : ℕ → ℕ → Pair = at_pair pt.view.pair a c mark in
+      let p : Pair = record (first a c) { kept = n ∷ off n (first a c).kept } in
+      let go : Moves b w pt l h a c (come_to w a c k (with_receiver (w.nodes c) a (after_arrival ((w.nodes c).receivers a) n m))) (moved (begun pt a c k) (Line.Early a c n) pt.kernel) (marked_in h a c k) = record {
+        acting = c;
+        groups = pt.view.groups + 1;
+        topic = NothingElse;
+        pair = at_pair first a c p;
+        inbox = pt.view.inbox;
+        messages = (w.nodes c).kernel.inbox;
+        senders = (w.nodes c).senders;
+        receivers = at_machine (w.nodes c).receivers a (after_arrival ((w.nodes c).receivers a) n m);
+        there = record (ends_of w h a c) { receiver = record { count = ((w.nodes c).receivers a).count; kept = kept_once ((w.nodes c).receivers a).kept (n - ((w.nodes c).receivers a).count) m }; out = marked (h.packets a c) k };
+        there_wire = wire.marked (w.wires a c) k;
+        there_pair = record mark { kept = n ∷ off n (pt.view.pair a c).kept };
+        back = record (ends_of w h c a) { back = marked (h.packets a c) k };
+        back_wire = w.wires c a;
+        back_pair = pt.view.pair c a;
+        point = refl;
+        counted = ap (λ (i : ℕ). i + 1) s.groups;
+        mirrors = lines_keep (begun pt a c k) (moved (begun pt a c k) (Line.Early a c n) pt.kernel) l (Line.Early a c n) tt (lines_keep pt (begun pt a c k) l (Line.Head (Step.Deliver a c k)) tt s.mirrors refl) refl;
+        pairs = λ x y t u. two_other first a c p x y t ∙ two_other pt.view.pair a c mark x y t;
+        ids = λ x y. ids_set first a c p refl x y ∙ ids_set pt.view.pair a c mark refl x y;
+        took = λ x y. let one = took_set pt.view.pair a c mark (omega arith) x y in let two = took_set first a c p (omega arith) x y in omega (arith, one, two);
+        came = λ i least. (Inbox c, least);
+        box = (s.nodes c c_in).kernel.inbox;
+        lawful = (s.nodes c c_in).lawful.inbox;
+        there_stands = early_comes b l a c (ends_of w h a c) (w.wires a c) (pt.view.pair a c) k n m e gt there_pair_is;
+        there_receiver = machine_same (w.nodes c).receivers a (after_arrival ((w.nodes c).receivers a) n m) ∙ after_early_is ((w.nodes c).receivers a) n m gt;
+        there_said = two_same first a c p ∙ ap (λ (z : Pair). record z { kept = n ∷ off n z.kept }) (two_same pt.view.pair a c mark);
+        back_stands = back_comes b l c a (ends_of w h c a) (w.wires c a) (pt.view.pair c a) k n m e back_pair_is;
+        back_said = two_other first a c p c a (back_other a c apart) ∙ two_other pt.view.pair a c mark c a (back_other a c apart);
+        alone = search (machine_same, machine_other, mark_same, mark_other, two_same, two_other, back_other a c apart);
+      } in
+      moves_stand b w pt l h a c (come_to w a c k (with_receiver (w.nodes c) a (after_arrival ((w.nodes c).receivers a) n m))) (moved (begun pt a c k) (Line.Early a c n) pt.kernel) (marked_in h a c k) go s apart
+
+  -- the message that is next
+  pub taken_stands : (k n : ℕ) (m : Message) → load_at (h.packets a c) k ≡ Some (Data n m) → n ≡ ((w.nodes c).receivers a).count → StandsWith b (come_to w a c k (with_message (with_receiver (w.nodes c) a (after_arrival ((w.nodes c).receivers a) n m)) m)) (moved (begun pt a c k) (Line.Taken a c n) pt.kernel) l (marked_in h a c k)
+  taken_stands k n m e is =
+      let mark : Pair = view.marked (pt.view.pair a c) k in
+      let first : ℕ → ℕ → Pair = at_pair pt.view.pair a c mark in
+      let p : Pair = record (first a c) { taken = (first a c).taken + 1; kept = off n (first a c).kept } in
+      let given : slice_get (h.given a c) ((w.nodes c).receivers a).count ≡ Some m = ap (slice_get (h.given a c)) (sym is) ∙ there_pair_is.stream.sent.data_given k n m e in
+      let t : Taking l (pt.view.pair a c) m = taking b l a c (ends_of w h a c) (w.wires a c) (pt.view.pair a c) m given there_pair_is in
+      let oldest_one : oldest (first a c) ≡ Some m.id = ap oldest (two_same pt.view.pair a c mark) ∙ t.first in
+      let go : Moves b w pt l h a c (come_to w a c k (with_message (with_receiver (w.nodes c) a (after_arrival ((w.nodes c).receivers a) n m)) m)) (moved (begun pt a c k) (Line.Taken a c n) pt.kernel) (marked_in h a c k) = record {
+        acting = c;
+        groups = pt.view.groups + 1;
+        topic = NothingElse;
+        pair = at_pair first a c p;
+        inbox = at_machine pt.view.inbox c (pt.view.inbox c ++ m.id ∷ []);
+        messages = (w.nodes c).kernel.inbox ++ m ∷ [];
+        senders = (w.nodes c).senders;
+        receivers = at_machine (w.nodes c).receivers a (after_arrival ((w.nodes c).receivers a) n m);
+        there = record (ends_of w h a c) { receiver = advanced ((w.nodes c).receivers a); out = marked (h.packets a c) k };
+        there_wire = wire.marked (w.wires a c) k;
+        there_pair = record mark { taken = (pt.view.pair a c).taken + 1; kept = off n (pt.view.pair a c).kept };
+        back = record (ends_of w h c a) { back = marked (h.packets a c) k };
+        back_wire = w.wires c a;
+        back_pair = pt.view.pair c a;
+        point = ap (λ (o : Option MsgId). record { kernel = pt.kernel; view = view.taken_id (view.with_pair (begun pt a c k).view a c p) c o; addresses = pt.addresses }) oldest_one;
+        counted = ap (λ (i : ℕ). i + 1) s.groups;
+        mirrors = lines_keep (begun pt a c k) (moved (begun pt a c k) (Line.Taken a c n) pt.kernel) l (Line.Taken a c n) tt (lines_keep pt (begun pt a c k) l (Line.Head (Step.Deliver a c k)) tt s.mirrors refl) refl;
+        pairs = λ x y t u. two_other first a c p x y t ∙ two_other pt.view.pair a c mark x y t;
+        ids = λ x y. ids_set first a c p refl x y ∙ ids_set pt.view.pair a c mark refl x y;
+        took = λ x y. let one = took_set pt.view.pair a c mark (omega arith) x y in let two = took_set first a c p (omega arith) x y in omega (arith, one, two);
+        came = λ i least. came_one pt.view a c m.id i t.first (subst (λ (ids : List MsgId). 1 ≤ times i ids) (machine_same pt.view.inbox c (pt.view.inbox c ++ m.id ∷ [])) least);
+        box = subst (λ (ids : List MsgId). AreMessages l.bag ids ((w.nodes c).kernel.inbox ++ m ∷ [])) (sym (machine_same pt.view.inbox c (pt.view.inbox c ++ m.id ∷ []))) (messages_push l.bag (pt.view.inbox c) (w.nodes c).kernel.inbox m.id m (s.nodes c c_in).kernel.inbox t.there);
+        lawful = All-push IsLawfulMessage (w.nodes c).kernel.inbox m (s.nodes c c_in).lawful.inbox t.lawful;
+        there_stands = taken_comes b l a c (ends_of w h a c) (w.wires a c) (pt.view.pair a c) k n m e is there_pair_is;
+        there_receiver = machine_same (w.nodes c).receivers a (after_arrival ((w.nodes c).receivers a) n m) ∙ after_taken_is ((w.nodes c).receivers a) n m is;
+        there_said = two_same first a c p ∙ ap (λ (z : Pair). record z { taken = z.taken + 1; kept = off n z.kept }) (two_same pt.view.pair a c mark);
+        back_stands = back_comes b l c a (ends_of w h c a) (w.wires c a) (pt.view.pair c a) k n m e back_pair_is;
+        back_said = two_other first a c p c a (back_other a c apart) ∙ two_other pt.view.pair a c mark c a (back_other a c apart);
+        alone = search (machine_same, machine_other, mark_same, mark_other, two_same, two_other, back_other a c apart);
+      } in
+      moves_stand b w pt l h a c (come_to w a c k (with_message (with_receiver (w.nodes c) a (after_arrival ((w.nodes c).receivers a) n m)) m)) (moved (begun pt a c k) (Line.Taken a c n) pt.kernel) (marked_in h a c k) go s apart
+
+  -- an acknowledgement
+  pub acked_stands : (k n : ℕ) → load_at (h.packets a c) k ≡ Some (Ack n) → StandsWith b (come_to w a c k (with_sender (w.nodes c) a (with_acked ((w.nodes c).senders a) n))) (moved (begun pt a c k) (Line.Acked a c n) pt.kernel) l (marked_in h a c k)
+  acked_stands k n e =
+      let mark : Pair = view.marked (pt.view.pair a c) k in
+      let first : ℕ → ℕ → Pair = at_pair pt.view.pair a c mark in
+      let p : Pair = record (first c a) { acked = at_least (first c a).acked n } in
+      let go : Moves b w pt l h a c (come_to w a c k (with_sender (w.nodes c) a (with_acked ((w.nodes c).senders a) n))) (moved (begun pt a c k) (Line.Acked a c n) pt.kernel) (marked_in h a c k) = record {
+        acting = c;
+        groups = pt.view.groups + 1;
+        topic = NothingElse;
+        pair = at_pair first c a p;
+        inbox = pt.view.inbox;
+        messages = (w.nodes c).kernel.inbox;
+        senders = at_machine (w.nodes c).senders a (with_acked ((w.nodes c).senders a) n);
+        receivers = (w.nodes c).receivers;
+        there = record (ends_of w h a c) { out = marked (h.packets a c) k };
+        there_wire = wire.marked (w.wires a c) k;
+        there_pair = mark;
+        back = record (ends_of w h c a) { sender = with_acked ((w.nodes c).senders a) n; back = marked (h.packets a c) k };
+        back_wire = w.wires c a;
+        back_pair = record (pt.view.pair c a) { acked = at_least (pt.view.pair c a).acked n };
+        point = refl;
+        counted = ap (λ (i : ℕ). i + 1) s.groups;
+        mirrors = lines_keep (begun pt a c k) (moved (begun pt a c k) (Line.Acked a c n) pt.kernel) l (Line.Acked a c n) tt (lines_keep pt (begun pt a c k) l (Line.Head (Step.Deliver a c k)) tt s.mirrors refl) refl;
+        pairs = λ x y t u. two_other first c a p x y u ∙ two_other pt.view.pair a c mark x y t;
+        ids = λ x y. ids_set first c a p refl x y ∙ ids_set pt.view.pair a c mark refl x y;
+        took = λ x y. let one = took_set pt.view.pair a c mark (omega arith) x y in let two = took_set first c a p (omega arith) x y in omega (arith, one, two);
+        came = λ i least. (Inbox c, least);
+        box = (s.nodes c c_in).kernel.inbox;
+        lawful = (s.nodes c c_in).lawful.inbox;
+        there_stands = other_comes b l a c (ends_of w h a c) (w.wires a c) (pt.view.pair a c) k n e there_pair_is;
+        there_receiver = refl;
+        there_said = two_other first c a p a c (there_other a c apart) ∙ two_same pt.view.pair a c mark;
+        back_stands = acked_comes b l c a (ends_of w h c a) (w.wires c a) (pt.view.pair c a) k n e back_pair_is;
+        back_said = two_same first c a p ∙ ap (λ (z : Pair). record z { acked = at_least z.acked n }) (two_other pt.view.pair a c mark c a (back_other a c apart));
+        alone = search (machine_same, machine_other, mark_same, mark_other, two_same, two_other, back_other a c apart);
+      } in
+      moves_stand b w pt l h a c (come_to w a c k (with_sender (w.nodes c) a (with_acked ((w.nodes c).senders a) n))) (moved (begun pt a c k) (Line.Acked a c n) pt.kernel) (marked_in h a c k) go s apart
+
+  -- there is no such packet
+  pub nothing_stands : (k : ℕ) → slice_get (pt.view.pair a c).wire k ≡ None → StandsWith b (record w { groups = w.groups + 1 }) (moved (begun pt a c k) Line.Nothing pt.kernel) l h
+  nothing_stands k e =
+      let mark : Pair = view.marked (pt.view.pair a c) k in
+      let go : Moves b w pt l h a c (record w { groups = w.groups + 1 }) (moved (begun pt a c k) Line.Nothing pt.kernel) h = record {
+        acting = c;
+        groups = pt.view.groups + 1;
+        topic = NothingElse;
+        pair = at_pair pt.view.pair a c mark;
+        inbox = pt.view.inbox;
+        messages = (w.nodes c).kernel.inbox;
+        senders = (w.nodes c).senders;
+        receivers = (w.nodes c).receivers;
+        there = ends_of w h a c;
+        there_wire = w.wires a c;
+        there_pair = pt.view.pair a c;
+        back = ends_of w h c a;
+        back_wire = w.wires c a;
+        back_pair = pt.view.pair c a;
+        point = refl;
+        counted = ap (λ (i : ℕ). i + 1) s.groups;
+        mirrors = lines_keep (begun pt a c k) (moved (begun pt a c k) Line.Nothing pt.kernel) l Line.Nothing tt (lines_keep pt (begun pt a c k) l (Line.Head (Step.Deliver a c k)) tt s.mirrors refl) refl;
+        pairs = λ x y t u. two_other pt.view.pair a c mark x y t;
+        ids = ids_set pt.view.pair a c mark refl;
+        took = took_set pt.view.pair a c mark (omega arith);
+        came = λ i least. (Inbox c, least);
+        box = (s.nodes c c_in).kernel.inbox;
+        lawful = (s.nodes c c_in).lawful.inbox;
+        there_stands = there_pair_is;
+        there_receiver = refl;
+        there_said = two_same pt.view.pair a c mark ∙ ap (λ (o : Option view.SentLoad). record (pt.view.pair a c) { wire = view.marked_at (pt.view.pair a c).wire k o }) e;
+        back_stands = back_pair_is;
+        back_said = two_other pt.view.pair a c mark c a (back_other a c apart);
+        alone = search;
+      } in
+      moves_stand b w pt l h a c (record w { groups = w.groups + 1 }) (moved (begun pt a c k) Line.Nothing pt.kernel) h go s apart

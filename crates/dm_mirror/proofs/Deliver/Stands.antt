@@ -1,10 +1,119 @@
--- A machine's inbox and its streams with one other machine change: what stands then of the whole world.
+-- What a machine gives, in order, is what the rule's parts say, and the world behind it stands.
 use Rattle.dm_mirror.proofs.Names.{◌≡◌, ◌≢◌, ℕ, ◌≤◌, ◌==◌, ◌&&◌, false, List, length, ap, ◌∙◌, sym, subst, inl, inr, arith, Option, All, cases_Bool, eqb_tells, nat_tests, Pid, incoming_of, Message, MsgId, IsLawfulMessage, Sending}
 use Rattle.dm_mirror.proofs.Names.{Receiving, Sent, Boot, About, Pair, Point, Spot, Queue, Held, Inbox, Untaken, standing, times, two_of, Placed, Mirrors, NodeState, WorldState, AreMessages, History, KernelStands, NodeStands, PairStands}
-use Rattle.dm_mirror.proofs.Names.{StandsWith, Carries, TokensStand, destination_of}
+use Rattle.dm_mirror.proofs.Names.{StandsWith, Carries, TokensStand, destination_of, Bool, [], ◌∷◌, refl, if◌then◌else◌, Some, Packet, Line, Load, at_machine, Part, Spelled, spelled, after_line, Sends, Acted, before, spoken, with_packet}
+use Rattle.dm_mirror.proofs.Names.{zero, suc, ◌+◌, ◌++◌, drop, slice_get, id_eq, id_eq-is, id_eq-same, at_pair, untaken, View, oldest, times-append, behind}
+use Rattle.dm_node.specs.declared.out.Out.TheVariants.{Says}
+use Rattle.dm_node.specs.Wired.{packet_line}
+pub use Rattle.dm_rule.proofs.Lines.{at_machine_at as machine_same}
 use Rattle.dm_kernel.specs.State as machine
-use Rattle.dm_mirror.proofs.Deliver.Stood.{Stood, untaken_stood}
-use Rattle.dm_mirror.proofs.Deliver.Ends.{Ends, PairIs, ends_of, holds_stands, pair_is}
+use Rattle.dm_rule.specs.Parts as rule
+use Rattle.dm_mirror.proofs.Deliver.Events.{Ends, PairIs, ends_of, holds_stands, pair_is}
+
+pub machine_other : {X : Type 0} (f : ℕ → X) (m : ℕ) (x : X) (n : ℕ) → n ≢ m → at_machine f m x n ≡ f n
+machine_other f m x n apart = let e : (m == n) ≡ false = grind (arith, nat_tests) in ap (λ (c : Bool). if c then x else f n) e
+
+-- set again, and set to what it was
+pub machine_again : {X : Type 0} (f : ℕ → X) (m : ℕ) (x y : X) → at_machine (at_machine f m x) m y ≡ at_machine f m y
+machine_again f m x y = grind (arith, nat_tests)
+
+pub machine_kept : {X : Type 0} (f : ℕ → X) (m : ℕ) → at_machine f m (f m) ≡ f
+machine_kept f m = grind (arith, nat_tests, eqb_tells)
+
+-- the world after machine c has acted, but for the count of directives
+abbrev pub acted_on : WorldState → ℕ → Acted → WorldState
+acted_on w c d = record { nodes = at_machine w.nodes c d.state; wires = (spoken w.wires d.outs).wires; groups = w.groups }
+
+pub record Follows (b : Boot) (c : ℕ) (w : WorldState) (pt : Point) (l : Placed) (d : Acted) (ps : List Part) : Type 0 where
+  pub end : Spelled
+  pub spells : spelled pt ps ≡ Some end
+  pub lines : (spoken w.wires d.outs).lines ≡ end.lines
+  pub history : History
+  pub stands : StandsWith b (acted_on w c d) end.point l history
+
+-- nothing more is given
+pub nothing : (b : Boot) (c : ℕ) (w : WorldState) (pt : Point) (l : Placed) (h : History) (n : NodeState) → w.nodes c ≡ n → StandsWith b w pt l h → Follows b c w pt l (record { state = n; outs = [] }) []
+nothing b c w pt l h n e s = record {
+  end = record { lines = []; point = pt };
+  spells = refl;
+  lines = refl;
+  history = h;
+  stands = (let kept : w.nodes ≡ at_machine w.nodes c n = sym (machine_kept w.nodes c) ∙ ap (at_machine w.nodes c) e in
+      let same : w ≡ acted_on w c (record { state = n; outs = [] }) = λ i. record { nodes = kept i; wires = w.wires; groups = w.groups } in
+      subst (λ (v : WorldState). StandsWith b v pt l h) same s);
+}
+
+-- a line first
+pub says_on : (b : Boot) (c : ℕ) (w : WorldState) (pt q : Point) (l : Placed) (n : NodeState) (x y : Line) (d : Acted) (ps : List Part) → x ≡ y → after_line pt y ≡ Some q → Follows b c (record w { nodes = at_machine w.nodes c n }) q l d ps
+    → Follows b c w pt l (before (Says x ∷ []) d) (rule.Says y ∷ ps)
+says_on b c w pt q l n x y d ps same next f = record {
+  end = behind (y ∷ []) f.end;
+  spells = search (f.spells);
+  lines = λ i. same i ∷ f.lines i;
+  history = f.history;
+  stands = (let again : acted_on (record w { nodes = at_machine w.nodes c n }) c d ≡ acted_on w c d = λ i. record { nodes = machine_again w.nodes c n d.state i; wires = (spoken w.wires d.outs).wires; groups = w.groups } in
+      subst (λ (v : WorldState). StandsWith b v f.end.point l f.history) again f.stands);
+}
+
+-- a packet first
+pub sends_on : (b : Boot) (c : ℕ) (w : WorldState) (pt q : Point) (l : Placed) (n : NodeState) (p : Packet) (from to : ℕ) (carried : Load) (d : Acted) (ps : List Part) → packet_line w.wires p ≡ rule.packet_line pt.view from to carried → after_line pt (rule.packet_line pt.view from to carried) ≡ Some q
+    → Follows b c (record w { nodes = at_machine w.nodes c n; wires = with_packet w.wires p }) q l d ps → Follows b c w pt l (before (Sends p ∷ []) d) (rule.Transmits from to carried ∷ ps)
+sends_on b c w pt q l n p from to carried d ps same next f = record {
+  end = behind (rule.packet_line pt.view from to carried ∷ []) f.end;
+  spells = search (f.spells);
+  lines = λ i. same i ∷ f.lines i;
+  history = f.history;
+  stands = (let again : acted_on (record w { nodes = at_machine w.nodes c n; wires = with_packet w.wires p }) c d ≡ acted_on w c (before (Sends p ∷ []) d) = λ i. record { nodes = machine_again w.nodes c n d.state i; wires = (spoken (with_packet w.wires p) d.outs).wires; groups = w.groups } in
+      subst (λ (v : WorldState). StandsWith b v f.end.point l f.history) again f.stands);
+}
+
+-- What stands after an event of a delivery stood before: a message that is taken comes from its stream into the inbox.
+
+-- a message stands somewhere
+abbrev pub Stood : View → MsgId → Type 0
+Stood v i = (z : Spot) × (1 ≤ standing v i z)
+
+-- of what was routed, less is untaken the more was taken
+drop_all : (i : MsgId) (ids : List MsgId) (n : ℕ) → times i (drop n ids) ≤ times i ids
+drop_all i [] n = let e : times i (drop n []) ≡ 0 = none i n in omega (arith, e)
+  where
+    none : (j : MsgId) (k : ℕ) → times j (drop k []) ≡ 0
+    none j zero = refl
+    none j (suc k) = refl
+drop_all i (j ∷ js) zero = omega arith
+drop_all i (j ∷ js) (suc n) = let h = drop_all i js n in omega (arith, h)
+
+drop_fewer : (i : MsgId) (ids : List MsgId) (m n : ℕ) → m ≤ n → times i (drop n ids) ≤ times i (drop m ids)
+drop_fewer i ids zero n le = drop_all i ids n
+drop_fewer i [] (suc m) n le = drop_all i [] n
+drop_fewer i (j ∷ js) (suc m) zero le = absurd (omega (arith, le))
+drop_fewer i (j ∷ js) (suc m) (suc n) le = drop_fewer i js m n (omega (arith, le))
+
+pub untaken_stood : (i : MsgId) (p q : Pair) → q.ids ≡ p.ids → p.taken ≤ q.taken → 1 ≤ times i (untaken q) → 1 ≤ times i (untaken p)
+untaken_stood i p q ids more least = grind (arith, nat_tests, drop_fewer)
+
+-- the message that is next stands untaken
+get_times : (i : MsgId) (ids : List MsgId) (n : ℕ) → slice_get ids n ≡ Some i → 1 ≤ times i (drop n ids)
+get_times i [] zero e = cc
+get_times i [] (suc n) e = cc
+get_times i (j ∷ js) zero e = grind (arith, nat_tests, id_eq-same)
+get_times i (j ∷ js) (suc n) e = get_times i js n e
+
+pub came_one : (v : View) (a c : ℕ) (j i : MsgId) → oldest (v.pair a c) ≡ Some j → 1 ≤ times i (v.inbox c ++ j ∷ []) → Stood v i
+came_one v a c j i first least = elim (cases_Bool (id_eq i j)) [
+  | inl same ↦
+      let e : i ≡ j = id_eq-is i j same in
+      (Untaken a c, subst (λ (k : MsgId). 1 ≤ times k (untaken (v.pair a c))) (sym e) (get_times j (v.pair a c).ids (v.pair a c).taken first))
+  | inr off ↦
+      let parts : times i (v.inbox c ++ j ∷ []) ≡ times i (v.inbox c) + times i (j ∷ []) = times-append i (v.inbox c) (j ∷ []) in
+      let none : times i (j ∷ []) ≡ 0 = ap (λ (t : Bool). (if t then 1 else 0) + 0) off in
+      (Inbox c, omega (arith, parts, none, least))
+]
+
+pub took_set : (f : ℕ → ℕ → Pair) (a c : ℕ) (p : Pair) → (f a c).taken ≤ p.taken → (m n : ℕ) → (f m n).taken ≤ (at_pair f a c p m n).taken
+took_set f a c p e m n = grind (arith, nat_tests, two_of)
+
+-- A machine's inbox and its streams with one other machine change: what stands then of the whole world.
 
 -- a point after lines that tell of pairs and inboxes alone
 abbrev pub told_on : Point → ℕ → ℕ → About → (ℕ → ℕ → Pair) → (ℕ → List MsgId) → Point
@@ -100,9 +209,6 @@ other_receiver : (w v : WorldState) (a c x y : ℕ) (ms : List Message) (ss : �
     → IsOther a c x y → (v.nodes y).receivers x ≡ (w.nodes y).receivers x
 other_receiver w v a c x y ms ss rs node nodes others other = grind (arith, nat_tests, eqb_tells)
 
-turned : (a c x y : ℕ) → IsOther a c x y → IsOther c a y x
-turned a c x y e = grind (arith, nat_tests)
-
 module _ (b : Boot) (w : WorldState) (pt : Point) (l : Placed) (h : History) (a c : ℕ) (v : WorldState) (q : Point) (g : History) (e : Moves b w pt l h a c v q g) (s : StandsWith b w pt l h) (apart : a ≢ c) where
   there_is : PairStands b (told_on pt e.acting e.groups e.topic e.pair e.inbox) l v g a c
   there_is = holds_stands b (told_on pt e.acting e.groups e.topic e.pair e.inbox) l v g a c e.there e.there_wire e.there_pair
@@ -129,7 +235,7 @@ module _ (b : Boot) (w : WorldState) (pt : Point) (l : Placed) (h : History) (a 
         other_receiver w v a c x y e.messages e.senders e.receivers e.node e.nodes e.other_receivers there,
         e.given x y,
         e.packets x y there back,
-        e.packets y x (turned c a x y back) (turned a c x y there),
+        e.packets y x (grind (arith, nat_tests)) (grind (arith, nat_tests)),
         e.wires x y there back,
         e.pairs x y there back,
       ))

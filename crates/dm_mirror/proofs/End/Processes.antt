@@ -1,21 +1,114 @@
--- What is said of each process at the end: the machine that has it says it, or where it has ended, or where it comes to.
-use Rattle.dm_mirror.proofs.Names.{◌≡◌, ◌≢◌, ◌⊎◌, ℕ, ◌+◌, ◌<◌, ◌==◌, ◌&&◌, ◌||◌, Bool, true, false, is_some, List, refl, ap, ◌∙◌, sym, subst, inl, inr, arith, option_map, Option, None, Some, nat_tests, Pid, pid_of, MessageKind, Record}
-use Rattle.dm_mirror.proofs.Names.{About, plain_what, with_what, Process, incoming_of, Arrival, Nothing, Boot, Why, first_number, Life, Alive, plain_process, EndLine, Standing, or, list_line, Stood, stood_at, first_with, is_away, is_due}
-use Rattle.dm_mirror.proofs.Names.{Point, Known, Unknown, Incoming, Ended, Told, not_true, is_server, Run, Placed, WorldState, alive_lines, awaited_lines, come_lines, first_awaited, first_had, first_says, lines_in, record_lines}
-use Rattle.dm_mirror.proofs.Names.{record_queue, told_of, History, KnownStands, StandsWith, Wants, alive-is}
+-- What a machine has of a process at the end, by what the lines say that it knows.
+use Rattle.dm_mirror.proofs.Names.{◌≡◌, ◌≢◌, ◌⊎◌, ℕ, ◌<◌, true, false, is_some, List, refl, ap, ◌∙◌, sym, subst, inl, inr, arith, option_map, Option, None, Some, nat_tests, Pid, pid_of, MessageKind, Record, About, plain_what, with_what}
+use Rattle.dm_mirror.proofs.Names.{Process, incoming_of, Arrival, Nothing, Boot, Why, Alive, plain_process, EndLine, Standing, or, list_line, Stood, stood_at, first_with, is_away, is_due, Point, Known, Unknown, Incoming, Ended, Told}
+use Rattle.dm_mirror.proofs.Names.{not_true, is_server, Run, Placed, WorldState, alive_lines, awaited_lines, come_lines, first_awaited, first_had, first_says, lines_in, record_lines, record_queue, told_of, History, KnownStands, StandsWith}
+use Rattle.dm_mirror.proofs.Names.{Wants, alive-is, [], Message, MsgId, What, kind_of, Here, Frozen, Forward, come_whole, held_for, names_of, has_nothing_held, AreMessages, ComesStand, Carries, ended_is, ◌≤◌, ◌∷◌, length, map, IfSome}
+use Rattle.dm_mirror.proofs.Names.{IsValid, Manager, plain_child, IsLawfulPair, Servers, Step, Leads, first_point, HasPlainEnd, EndMay, servers_at}
 use Rattle.dm_migrate.specs.Way.{moved}
 use Rattle.dm_onekernel.specs.Step as kernel
 use Rattle.dm_rule.specs.Ends as rule
 use Rattle.dm_kernel.specs.State as machine
 use Rattle.dm_world.specs.Ends as world
-use Rattle.dm_mirror.proofs.End.Lines.{alive_same}
-use Rattle.dm_mirror.proofs.End.Lists.{first_at, first_none, names_are}
-use Rattle.dm_mirror.proofs.End.Records.{HasEnded, IsAt, IsComing, away_awaited, away_awaits, carried_own, come_all, has_ended, held_said, is_at, is_coming, restart_wants, silent_has, silent_lines, silent_queue}
-use Rattle.dm_mirror.proofs.End.Where.{ComesTo, HasIt, OverAt, away_silent, is_silent, where_is}
-pub use Rattle.dm_mirror.proofs.Handle.Makes.{child_off as no_server}
+pub use Rattle.dm_mirror.proofs.Row.Tokens.{carries_plain as carried_own}
+use Rattle.dm_mirror.proofs.End.Servers.{first_at, first_none, names_are, alive_same, ComesTo, HasIt, OverAt, away_silent, is_silent, where_is}
+use Rattle.dm_mirror.proofs.Handle.Taking.{some_same}
+pub use Rattle.dm_mirror.proofs.Handle.Kills.{child_off as no_server}
+use Rattle.dm_mirror.proofs.Machines.{some_machine}
+use Rattle.dm_mirror.proofs.Next.{machines_stay}
+use Rattle.dm_mirror.proofs.Counts.Pairs.{CountsFew}
 
-some_same : {X : Type 0} (x y : X) → Some x ≡ Some y → x ≡ y
-some_same x y e = cc
+-- a machine that says nothing
+pub silent_has : (k : Known) → is_silent k ≡ true → rule.standing_of k ≡ None
+silent_has k e = grind (arith, nat_tests)
+
+pub away_awaits : (k : Known) → is_away k ≡ true → rule.awaits k ≡ None
+away_awaits k e = grind (arith, nat_tests)
+
+pub silent_lines : (pt : Point) (l : Placed) (p : Pid) (q held : List MsgId) (m : ℕ) (k : Known) (r : Option machine.KernelKnown) → is_silent k ≡ true → KnownStands pt l p q held k r → record_lines m p r ≡ None
+silent_lines pt l p q held m Unknown None e h = refl
+silent_lines pt l p q held m (Incoming from) (Some (Record.Incoming x)) e h = refl
+silent_lines pt l p q held m (Forward at moves) (Some (Record.Forward x y)) e h = refl
+silent_lines pt l p q held m Here (Some (Record.Here x)) e h = cc
+silent_lines pt l p q held m (Frozen to) (Some (Record.Frozen x)) e h = cc
+silent_lines pt l p q held m Ended (Some (Record.Ended x)) e h = cc
+silent_lines pt l p q held m k r e h = absurd h
+
+pub silent_queue : (pt : Point) (l : Placed) (p : Pid) (q held : List MsgId) (k : Known) (r : Option machine.KernelKnown) → is_silent k ≡ true → KnownStands pt l p q held k r → record_queue p r ≡ None
+silent_queue pt l p q held Unknown None e h = refl
+silent_queue pt l p q held (Incoming from) (Some (Record.Incoming x)) e h = refl
+silent_queue pt l p q held (Forward at moves) (Some (Record.Forward x y)) e h = refl
+silent_queue pt l p q held Here (Some (Record.Here x)) e h = cc
+silent_queue pt l p q held (Frozen to) (Some (Record.Frozen x)) e h = cc
+silent_queue pt l p q held Ended (Some (Record.Ended x)) e h = cc
+silent_queue pt l p q held k r e h = absurd h
+
+pub away_awaited : (pt : Point) (l : Placed) (p : Pid) (q held : List MsgId) (m : ℕ) (k : Known) (r : Option machine.KernelKnown) → is_away k ≡ true → KnownStands pt l p q held k r → awaited_lines m p r ≡ None
+away_awaited pt l p q held m k r e h = grind (arith, nat_tests)
+
+-- a machine that has it
+pub record IsAt (l : Placed) (p : Pid) (q : List MsgId) (m : ℕ) (s : Standing) (r : Option machine.KernelKnown) : Type 0 where
+  pub process : Process
+  pub lines : record_lines m p r ≡ Some (alive_lines m p s process)
+  pub queue : record_queue p r ≡ Some (list_line (EndLine.Queue p) (names_of process.queue))
+  pub rest : List Message
+  pub placed : l.processes p ≡ Some (record process { queue = rest })
+  pub waits : AreMessages l.bag q process.queue
+
+here_at : (l : Placed) (p : Pid) (q : List MsgId) (m : ℕ) (x : Process) (rest : List Message) → l.processes p ≡ Some (record x { queue = rest }) → AreMessages l.bag q x.queue → IsAt l p q m Standing.Here (Some (Record.Here x))
+here_at l p q m x rest placed waits = record { process = x; lines = refl; queue = refl; rest = rest; placed = placed; waits = waits }
+
+pub is_at : (pt : Point) (l : Placed) (p : Pid) (q held : List MsgId) (m : ℕ) (s : Standing) (k : Known) (r : Option machine.KernelKnown) → rule.standing_of k ≡ Some s → KnownStands pt l p q held k r → IsAt l p q m s r
+is_at pt l p q held m s Here (Some (Record.Here x)) e h = let f : Standing.Here ≡ s = cc in subst (λ (t : Standing). IsAt l p q m t (Some (Record.Here x))) f (here_at l p q m x h.0.0 h.0.1 h.1)
+is_at pt l p q held m s (Frozen to) (Some (Record.Frozen x)) e h =
+    let here = h.here in
+    let f : Standing.Leaving ≡ s = cc in
+    subst (λ (t : Standing). IsAt l p q m t (Some (Record.Frozen x))) f (record { process = x.process; lines = refl; queue = refl; rest = here.0.0; placed = here.0.1; waits = here.1 })
+is_at pt l p q held m s Unknown None e h = cc
+is_at pt l p q held m s (Incoming from) (Some (Record.Incoming x)) e h = cc
+is_at pt l p q held m s (Forward at moves) (Some (Record.Forward x y)) e h = cc
+is_at pt l p q held m s Ended (Some (Record.Ended x)) e h = cc
+is_at pt l p q held m s k r e h = absurd h
+
+-- a machine where it has ended
+pub record HasEnded (pt : Point) (p : Pid) (r : Option machine.KernelKnown) : Type 0 where
+  pub why : Why
+  pub is : r ≡ Some (Record.Ended why)
+  pub due : kernel.why_ended (pt.kernel.processes p) ≡ Some why
+
+pub has_ended : (pt : Point) (l : Placed) (p : Pid) (q held : List MsgId) (r : Option machine.KernelKnown) → KnownStands pt l p q held Ended r → HasEnded pt p r
+has_ended pt l p q held (Some (Record.Ended x)) h = record { why = x; is = refl; due = h }
+has_ended pt l p q held _ h = absurd h
+
+-- a machine that it comes to
+pub record IsComing (l : Placed) (p : Pid) (held : List MsgId) (r : Option machine.KernelKnown) : Type 0 where
+  pub arrival : Arrival
+  pub is : r ≡ Some (Record.Incoming arrival)
+  pub comes : ComesStand l p held arrival
+
+pub is_coming : (pt : Point) (l : Placed) (p : Pid) (q held : List MsgId) (from : ℕ) (r : Option machine.KernelKnown) → KnownStands pt l p q held (Incoming from) r → IsComing l p held r
+is_coming pt l p q held from (Some (Record.Incoming x)) h = record { arrival = x; is = refl; comes = h }
+is_coming pt l p q held from _ h = absurd h
+
+-- the message that lets a process restart tells that all of it has come
+pub restart_wants : (p : Pid) (x : Process) (n : ℕ) (o : Option Arrival) (w : What) → kind_of w ≡ MessageKind.Restart → Carries p x n o w → Wants o Nothing
+restart_wants p x n o (What.Restart pid) e h = h.1
+restart_wants p x n o _ e h = cc
+
+-- all its pieces give the process
+pub come_all : (l : Placed) (p : Pid) (held : List MsgId) (a : Arrival) (c : ComesStand l p held a) → a.wanted ≡ Nothing → come_whole a a.wanted ≡ Some (moved c.process)
+come_all l p held a c wanted = grind (arith, nat_tests)
+
+-- the messages that are held
+pub held_said : (pt : Point) (l : Placed) (p : Pid) (q held : List MsgId) (k : Known) (r : Option machine.KernelKnown) → ((i : MsgId) (m : Message) → l.bag i ≡ Some m → m.id ≡ i) → (has_nothing_held k ≡ true → held ≡ []) → KnownStands pt l p q held k r → names_of (held_for r) ≡ held
+held_said pt l p q held Unknown None named none h = sym (none refl)
+held_said pt l p q held Here (Some (Record.Here x)) named none h = sym (none refl)
+held_said pt l p q held (Frozen to) (Some (Record.Frozen x)) named none h = names_are l.bag held x.held named h.held
+held_said pt l p q held (Incoming from) (Some (Record.Incoming x)) named none h = names_are l.bag held x.held named h.held
+held_said pt l p q held (Forward at moves) (Some (Record.Forward x y)) named none h = sym (none refl)
+held_said pt l p q held Ended (Some (Record.Ended x)) named none h = sym (none refl)
+held_said pt l p q held k r named none h = absurd h
+
+-- What is said of each process at the end: the machine that has it says it, or where it has ended, or where it comes to.
 
 -- a process that is no server, where the world stands for the point
 pub record IsOfHome (b : Boot) (w : WorldState) (pt : Point) (l : Placed) (h : History) (p : Pid) : Type 0 where
@@ -32,16 +125,13 @@ knows_ b w pt l h p m g below = (g.stands.nodes m below).kernel.known p g.server
 
 -- a machine that says nothing
 silent_machine : (b : Boot) (w : WorldState) (pt : Point) (l : Placed) (h : History) (p : Pid) (m : ℕ) → IsOfHome b w pt l h p → is_silent (pt.view.known m p) ≡ true → m < pt.kernel.machines → record_lines m p ((w.nodes m).kernel.records p) ≡ None
-silent_machine b w pt l h p m g silent below =
-    silent_lines pt l p (pt.view.queue m p) (pt.view.held m p) m (pt.view.known m p) ((w.nodes m).kernel.records p) silent (knows_ b w pt l h p m g below)
+silent_machine b w pt l h p m g silent below = grind (arith, nat_tests, silent_lines)
 
 no_queue : (b : Boot) (w : WorldState) (pt : Point) (l : Placed) (h : History) (p : Pid) (m : ℕ) → IsOfHome b w pt l h p → is_silent (pt.view.known m p) ≡ true → m < pt.kernel.machines → record_queue p ((w.nodes m).kernel.records p) ≡ None
-no_queue b w pt l h p m g silent below =
-    silent_queue pt l p (pt.view.queue m p) (pt.view.held m p) (pt.view.known m p) ((w.nodes m).kernel.records p) silent (knows_ b w pt l h p m g below)
+no_queue b w pt l h p m g silent below = grind (arith, nat_tests, silent_queue)
 
 away_machine : (b : Boot) (w : WorldState) (pt : Point) (l : Placed) (h : History) (p : Pid) (m : ℕ) → IsOfHome b w pt l h p → is_away (pt.view.known m p) ≡ true → m < pt.kernel.machines → awaited_lines m p ((w.nodes m).kernel.records p) ≡ None
-away_machine b w pt l h p m g away below =
-    away_awaited pt l p (pt.view.queue m p) (pt.view.held m p) m (pt.view.known m p) ((w.nodes m).kernel.records p) away (knows_ b w pt l h p m g below)
+away_machine b w pt l h p m g away below = grind (arith, nat_tests, away_awaited)
 
 -- the machine that says the first thing
 had_at : (b : Boot) (w : WorldState) (pt : Point) (l : Placed) (h : History) (p : Pid) (at : ℕ) → IsOfHome b w pt l h p → at < pt.kernel.machines → ((m : ℕ) → m ≢ at → is_silent (pt.view.known m p) ≡ true)
@@ -111,10 +201,6 @@ over_machine : (b : Boot) (w : WorldState) (pt : Point) (l : Placed) (h : Histor
 over_machine b w pt l h p a g =
     has_ended pt l p (pt.view.queue a.at p) (pt.view.held a.at p) ((w.nodes a.at).kernel.records p)
     (subst (λ (k : Known). KnownStands pt l p (pt.view.queue a.at p) (pt.view.held a.at p) k ((w.nodes a.at).kernel.records p)) a.known (knows_ b w pt l h p a.at g (within_over b pt p a g.run)))
-
-ended_is : (o : Option Life) (y : Why) → kernel.why_ended o ≡ Some y → o ≡ Some (Life.Ended y)
-ended_is (Some (Life.Ended z)) y e = ap (λ (x : Why). Some (Life.Ended x)) (some_same z y e)
-ended_is _ y e = cc
 
 over_said : (b : Boot) (w : WorldState) (pt : Point) (l : Placed) (h : History) (p : Pid) (a : OverAt pt.view p) → IsOfHome b w pt l h p → world.process_lines pt.kernel.machines w p ≡ rule.process_lines pt p (pt.kernel.processes p)
 over_said b w pt l h p a g =
@@ -218,3 +304,35 @@ pub holding_said : (b : Boot) (w : WorldState) (pt : Point) (l : Placed) (h : Hi
 holding_said b w pt l h p m g below =
     ap (list_line (EndLine.Holding m p))
     (held_said pt l p (pt.view.queue m p) (pt.view.held m p) (pt.view.known m p) ((w.nodes m).kernel.records p) (λ i x there. (g.stands.mirrors.places.message i x there).id) (λ e. g.run.based.lists.held m p e) (knows_ b w pt l h p m g below))
+
+-- Where the world stands, its lines at the end can be said.
+
+map-length : {A B : Type 0} (f : A → B) (xs : List A) → length (map f xs) ≡ length xs
+map-length f [] = refl
+map-length f (x ∷ xs) = let h = map-length f xs in omega (arith, h)
+
+plain_end : (l : Placed) (o : Option Servers) → o ≡ servers_at l 0 → length l.manager.children < 4294967295 → IfSome o IsLawfulPair → IfSome o HasPlainEnd
+plain_end l None is few lawful = cc
+plain_end l (Some v) is few lawful =
+    let same : v ≡ record { board = l.board; manager = l.manager } = cc in
+    let many : length v.manager.children ≡ length l.manager.children = ap (λ (x : Servers). length x.manager.children) same in
+    let lawful_ : IsLawfulPair v = lawful in
+    let end : HasPlainEnd v = record { board = lawful_.board; children = omega (arith, many, few) } in
+    end
+
+-- where no pair counts more messages than it may, no count is too great
+abbrev pub FewAlways : Type 0
+FewAlways = (b : Boot) (es : List Step) (pt : Point) → IsValid b → Leads b (first_point b) es pt → ((a c : ℕ) → length (pt.view.pair a c).ids ≤ b.numbers) → CountsFew pt
+
+pub end_may_by : FewAlways → EndMay
+end_may_by fews b es w pt valid leads ((l, h, stands), counts) =
+    let machines = machines_stay b es pt valid leads in
+    let few = fews b es pt valid leads stands.counts in
+    let node = λ (m : ℕ) (lt : m < length b.machines). stands.nodes m (subst (λ (n : ℕ). m < n) (sym machines) lt) in
+    let first = node 0 (let k = some_machine b valid in omega (arith, k)) in
+    let children : length l.manager.children ≡ length pt.kernel.manager.children = sym (map-length plain_child l.manager.children) ∙ ap (λ (g : Manager). length g.children) stands.mirrors.plain.manager in
+    let small = few.children in
+    record {
+      made = λ m lt. let made = (node m lt).kernel.made in let below = few.made m in omega (arith, made, below);
+      servers = plain_end l (w.nodes 0).kernel.servers first.kernel.servers (omega (arith, children, small)) first.lawful.servers;
+    }

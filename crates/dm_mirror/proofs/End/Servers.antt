@@ -1,12 +1,13 @@
 -- What is said of the servers at the end, and of the messages on the way between two machines.
 use Rattle.dm_mirror.proofs.Names.{◌≡◌, ◌≢◌, ℕ, suc, ◌+◌, ◌-◌, ◌==◌, Bool, true, false, List, [], ◌∷◌, ◌++◌, map, drop, refl, ap, ◌∙◌, sym, arith, if◌then◌else◌, slice_get, Some, nat_tests, drop-drop, drop-map, drop_all, Addr, place_of}
 use Rattle.dm_mirror.proofs.Names.{Place, plain_link, Message, Boot, switchboard, manager, Switchboard, Manager, Named, plain_named, Pending, plain_child, plain_pending, plain_manager, EndLine, Addresses, Child, Name, list_line, HomeStands}
-use Rattle.dm_mirror.proofs.Names.{Point, Placed, Mirrors, WorldState, History, PairStands}
+use Rattle.dm_mirror.proofs.Names.{Point, Placed, Mirrors, WorldState, History, PairStands, zero, ◌<◌, Option, None, Pid, pid_of, MsgId, first_number, or, home_with, each_machine, AreMessages, option_map, Link, link_at, Process, Status}
+use Rattle.dm_mirror.proofs.Names.{plain_process, plain_status, Standing, Slot, ◌⊎◌, subst, inl, inr, cases_Bool, false≢true, MessageKind, Phase, Nowhere, Rests, Over, Moves, IsIn, IsToken, kind_comes, is_away, is_due, is_here, is_restart}
+use Rattle.dm_mirror.proofs.Names.{is_unknown, knows, kind_leaves, View, Known, Unknown, Here, Frozen, Incoming, Ended, eq_self, is_it, left_true, not_false, message_id, is_over}
 use Rattle.dm_message.specs.Ids as message
 use Rattle.dm_rule.specs.Ends as rule
 use Rattle.dm_rule.specs.Spots as spots
 use Rattle.dm_world.specs.Ends as world
-use Rattle.dm_mirror.specs.Stands.{message_id}
 
 -- the names of the switchboard
 names_same : (a : Addresses) (n : ℕ) (ks : List Named) → ((j : ℕ) (k : Named) → slice_get ks j ≡ Some k → a (Name (n + j)) ≡ place_of k.link.addr) → world.name_lines ks ≡ rule.name_lines a n (map plain_named ks)
@@ -69,8 +70,199 @@ home_untaken pt a h = drop_all (pt.view.pair a a).taken (pt.view.pair a a).ids (
 -- the line of a pair; a machine's pair with itself has none
 stream_by : (pt : Point) (w : WorldState) (a c : ℕ) (b : Bool) → (a == c) ≡ b → HomeStands (pt.view.pair a a) → (a ≢ c → world.names_of (world.untaken w a c) ≡ spots.untaken (pt.view.pair a c))
     → (if b then [] else list_line (EndLine.Stream a c) (world.names_of (world.untaken w a c))) ≡ list_line (EndLine.Stream a c) (spots.untaken (pt.view.pair a c))
-stream_by pt w a c true e home apart = grind (arith, nat_tests, home_untaken)
-stream_by pt w a c false e home apart = ap (list_line (EndLine.Stream a c)) (apart (let f : a ≢ c = grind (arith, nat_tests) in f))
+stream_by pt w a c b e home apart = grind (arith, nat_tests, home_untaken)
 
 pub stream_said : (b : Boot) (pt : Point) (l : Placed) (w : WorldState) (h : History) (a c : ℕ) → HomeStands (pt.view.pair a a) → (a ≢ c → PairStands b pt l w h a c) → world.stream_line w a c ≡ list_line (EndLine.Stream a c) (spots.untaken (pt.view.pair a c))
 stream_said b pt l w h a c home pair = stream_by pt w a c (a == c) refl home (λ apart. untaken_said b pt l w h a c (pair apart))
+
+-- Lines of homes and machines, one by one; the one machine that says something of a process; names of messages.
+
+-- so many processes of a home
+home_same : (f g : Pid → List EndLine) (home n : ℕ) → ((k : ℕ) → k < n → f (pid_of home (first_number + k)) ≡ g (pid_of home (first_number + k))) → home_with f home n ≡ home_with g home n
+home_same f g home zero same = refl
+home_same f g home (suc n) same =
+    ap (λ (ls : List EndLine). ls ++ f (pid_of home (first_number + n))) (home_same f g home n (λ k h. same k (omega (arith, h))))
+    ∙ ap (λ (ls : List EndLine). home_with g home n ++ ls) (same n (omega arith))
+
+-- all processes of the first homes
+pub homes_same : (w : WorldState) (pt : Point) (f g : Pid → List EndLine) (machines : ℕ) → ((m : ℕ) → m < machines → (w.nodes m).kernel.made ≡ pt.kernel.made m)
+    → ((home n : ℕ) → home < machines → n < pt.kernel.made home → f (pid_of home (first_number + n)) ≡ g (pid_of home (first_number + n))) → world.homes_with w f machines ≡ rule.homes_with pt g machines
+homes_same w pt f g zero made same = refl
+homes_same w pt f g (suc home) made same =
+    ap (λ (ls : List EndLine). ls ++ home_with f home (w.nodes home).kernel.made) (homes_same w pt f g home (λ m h. made m (omega (arith, h))) (λ other n h k. same other n (omega (arith, h)) k))
+    ∙ ap (λ (ls : List EndLine). rule.homes_with pt g home ++ ls) (ap (home_with f home) (made home (omega arith)) ∙ home_same f g home (pt.kernel.made home) (λ k h. same home k (omega arith) h))
+
+pub machines_same : (f g : ℕ → List EndLine) (n : ℕ) → ((m : ℕ) → m < n → f m ≡ g m) → each_machine f n ≡ each_machine g n
+machines_same f g zero same = refl
+machines_same f g (suc n) same =
+    ap (λ (ls : List EndLine). ls ++ f n) (machines_same f g n (λ m h. same m (omega (arith, h)))) ∙ ap (λ (ls : List EndLine). each_machine g n ++ ls) (same n (omega arith))
+
+-- the first of some machines, where at most one says something
+module _ {X : Type 0} where
+  or_none : (x : Option X) → or x None ≡ x
+  or_none x = grind (arith, nat_tests)
+
+  pub first_none : (first f : ℕ → Option X) (n : ℕ) → first 0 ≡ None → ((m : ℕ) → first (suc m) ≡ or (first m) (f m)) → ((m : ℕ) → m < n → f m ≡ None) → first n ≡ None
+  first_none first f zero begins goes none = begins
+  first_none first f (suc n) begins goes none = goes n ∙ (ap (λ (o : Option X). or o (f n)) (first_none first f n begins goes (λ m h. none m (omega (arith, h)))) ∙ none n (omega arith))
+
+  first_by : (first f : ℕ → Option X) (home n : ℕ) (b : Bool) → (home == n) ≡ b → (home < n → first n ≡ f home) → first 0 ≡ None → ((m : ℕ) → first (suc m) ≡ or (first m) (f m)) → home < suc n
+      → ((m : ℕ) → m < suc n → m ≢ home → f m ≡ None) → first (suc n) ≡ f home
+  first_by first f home n true e before begins goes h none =
+      let same : home ≡ n = grind (arith, nat_tests) in
+      goes n
+      ∙ (ap (λ (o : Option X). or o (f n)) (first_none first f n begins goes (λ m k. none m (omega (arith, k)) (λ is. absurd (omega (arith, is, same, k))))) ∙ ap f (sym same))
+  first_by first f home n false e before begins goes h none =
+      let apart : home ≢ n = grind (arith, nat_tests) in
+      let below : home < n = omega (arith, h, apart) in
+      goes n ∙ (ap (λ (o : Option X). or (first n) o) (none n (omega arith) (λ is. apart (sym is))) ∙ (or_none (first n) ∙ before below))
+
+  pub first_at : (first f : ℕ → Option X) (home n : ℕ) → first 0 ≡ None → ((m : ℕ) → first (suc m) ≡ or (first m) (f m)) → home < n → ((m : ℕ) → m < n → m ≢ home → f m ≡ None) → first n ≡ f home
+  first_at first f home zero begins goes h none = absurd (omega (arith, h))
+  first_at first f home (suc n) begins goes h none =
+      first_by first f home n (home == n) refl (λ below. first_at first f home n begins goes below (λ m k. none m (omega (arith, k)))) begins goes h none
+
+-- the names of messages that stand under these names
+pub names_are : (bag : MsgId → Option Message) (ids : List MsgId) (ms : List Message) → ((i : MsgId) (m : Message) → bag i ≡ Some m → m.id ≡ i) → AreMessages bag ids ms → world.names_of ms ≡ ids
+names_are bag [] [] named e = refl
+names_are bag [] (m ∷ ms) named e = cc
+names_are bag (i ∷ ids) [] named e = cc
+names_are bag (i ∷ ids) (m ∷ ms) named e =
+    let there : bag i ≡ Some m = cc in
+    let rest : AreMessages bag ids ms = cc in
+    ap (λ (j : MsgId). j ∷ world.names_of ms) (named i m there) ∙ ap (λ (js : List MsgId). i ∷ js) (names_are bag ids ms named rest)
+
+-- What is said of a process that is alive: its registers, memory and links, as the plain process and the addresses say.
+
+-- the links of a process
+slot_same : (a : Addresses) (p : Pid) (k : ℕ) (o : Option Link) → ((w : Link) → o ≡ Some w → a (Slot p k) ≡ place_of w.addr) → world.slot_line p k o ≡ rule.slot_line a p k (option_map plain_link o)
+slot_same a p k o leads = grind (arith, nat_tests)
+
+links_same : (a : Addresses) (p : Pid) (k : ℕ) (ls : List (Option Link)) → ((j : ℕ) (w : Link) → link_at ls j ≡ Some w → a (Slot p (k + j)) ≡ place_of w.addr) → world.link_lines p k ls ≡ rule.link_lines a p k (map (option_map plain_link) ls)
+links_same a p k [] leads = refl
+links_same a p k (o ∷ ls) leads =
+    let here = slot_same a p k o (λ w e. ap (λ (n : ℕ). a (Slot p n)) (let f : k ≡ k + 0 = omega arith in f) ∙ leads 0 w e) in
+    let rest = links_same a p (k + 1) ls (λ j w e. ap (λ (n : ℕ). a (Slot p n)) (let f : k + 1 + j ≡ k + suc j = omega arith in f) ∙ leads (suc j) w e) in
+    ap (λ (xs : List EndLine). xs ++ world.link_lines p (k + 1) ls) here ∙ ap (λ (xs : List EndLine). rule.slot_line a p k (option_map plain_link o) ++ xs) rest
+
+-- a process, as the plain one and the addresses say
+doing_same : (s : Status) → world.doing_of s ≡ rule.doing_of (plain_status s)
+doing_same s = grind (arith, nat_tests)
+
+pub alive_same : (a : Addresses) (m : ℕ) (p : Pid) (s : Standing) (x : Process) → ((k : ℕ) (w : Link) → link_at x.table k ≡ Some w → a (Slot p k) ≡ place_of w.addr)
+    → world.alive_lines m p s x ≡ rule.alive_lines a p (plain_process x) (Some (record { at = m; standing = s }))
+alive_same a m p s x leads = grind (arith, nat_tests, doing_same, links_same)
+
+-- Where a process is, by its phase: one machine has it, or it has ended on one, or it comes to one and nobody has it.
+
+-- what says nothing of a process at the end
+abbrev pub is_silent : Known → Bool
+is_silent Here = false
+is_silent (Frozen to) = false
+is_silent Ended = false
+is_silent _ = true
+
+-- a machine has it
+pub record HasIt (v : View) (p : Pid) : Type 0 where
+  pub at : ℕ
+  pub standing : Standing
+  pub known : rule.standing_of (v.known at p) ≡ Some standing
+  pub others : (m : ℕ) → m ≢ at → is_silent (v.known m p) ≡ true
+
+-- it has ended on one
+pub record OverAt (v : View) (p : Pid) : Type 0 where
+  pub at : ℕ
+  pub known : v.known at p ≡ Ended
+  pub others : (m : ℕ) → m ≢ at → is_silent (v.known m p) ≡ true
+
+-- it comes to one, which may restart it
+pub record ComesTo (v : View) (p : Pid) : Type 0 where
+  pub source : ℕ
+  pub to : ℕ
+  pub id : MsgId
+  pub from : ℕ
+  pub known : v.known to p ≡ Incoming from
+  pub others : (m : ℕ) → m ≢ to → is_away (v.known m p) ≡ true
+  pub token : IsToken v p MessageKind.Restart source to id
+
+unknown_is : (k : Known) → is_unknown k ≡ true → k ≡ Unknown
+unknown_is k e = grind (arith, nat_tests)
+
+here_has : (k : Known) → is_here k ≡ true → rule.standing_of k ≡ Some Standing.Here
+here_has k e = grind (arith, nat_tests)
+
+over_is : (k : Known) → is_over k ≡ true → k ≡ Ended
+over_is k e = grind (arith, nat_tests)
+
+pub away_silent : (k : Known) → is_away k ≡ true → is_silent k ≡ true
+away_silent k e = grind (arith, nat_tests)
+
+comes_silent : (k : MessageKind) (s : ℕ) (x : Known) → kind_comes k s x ≡ true → is_silent x ≡ true
+comes_silent k s x e = grind (arith, nat_tests)
+
+leaves_has : (k : MessageKind) (d : ℕ) (x : Known) → is_restart k ≡ false → kind_leaves k d x ≡ true → rule.standing_of x ≡ Some Standing.Leaving
+leaves_has k d x off e = grind (arith, nat_tests, off, left_true)
+
+restart_away : (d : ℕ) (x : Known) → kind_leaves MessageKind.Restart d x ≡ true → is_away x ≡ true
+restart_away d x e = grind (arith, nat_tests)
+
+restart_comes : (s : ℕ) (x : Known) → kind_comes MessageKind.Restart s x ≡ true → (from : ℕ) × (x ≡ Incoming from)
+restart_comes s x e = grind (arith, nat_tests)
+
+pub off : (a m : ℕ) → m ≢ a → (a == m) ≡ false
+off a m apart = grind (arith, nat_tests)
+
+-- by the phase
+rests_has : (v : View) (p : Pid) (at : ℕ) → IsIn v p (Rests at) → HasIt v p
+rests_has v p at h = record {
+  at = at;
+  standing = Standing.Here;
+  known = here_has (v.known at p) (sym (ap (λ (c : Bool). if c then is_here (v.known at p) else is_away (v.known at p)) (eq_self at)) ∙ h.known at);
+  others = λ m apart. away_silent (v.known m p) (sym (ap (λ (c : Bool). if c then is_here (v.known m p) else is_away (v.known m p)) (off at m apart)) ∙ h.known m);
+}
+
+over_has : (v : View) (p : Pid) (at : ℕ) → IsIn v p (Over at) → OverAt v p
+over_has v p at h = record {
+  at = at;
+  known = over_is (v.known at p) (sym (ap (λ (c : Bool). if c then is_over (v.known at p) else is_away (v.known at p)) (eq_self at)) ∙ h.known at);
+  others = λ m apart. away_silent (v.known m p) (sym (ap (λ (c : Bool). if c then is_over (v.known m p) else is_away (v.known m p)) (off at m apart)) ∙ h.known m);
+}
+
+other_silent : (k : MessageKind) (s : ℕ) (x : Known) (c : Bool) → (if c then kind_comes k s x else is_away x) ≡ true → is_silent x ≡ true
+other_silent k s x c e = grind (arith, nat_tests, comes_silent, away_silent)
+
+moves_has : (v : View) (p : Pid) (k : MessageKind) (s d : ℕ) (id : Option MsgId) → is_restart k ≡ false → IsIn v p (Moves k s d id) → HasIt v p
+moves_has v p k s d id early h = record {
+  at = s;
+  standing = Standing.Leaving;
+  known = leaves_has k d (v.known s p) early
+      (sym (ap (λ (c : Bool). if c then kind_leaves k d (v.known s p) else if d == s then kind_comes k s (v.known s p) else is_away (v.known s p)) (eq_self s)) ∙ h.known s);
+  others = λ m apart. other_silent k s (v.known m p) (d == m)
+      (sym (ap (λ (c : Bool). if c then kind_leaves k d (v.known m p) else if d == m then kind_comes k s (v.known m p) else is_away (v.known m p)) (off s m apart)) ∙ h.known m);
+}
+
+-- the destination, and another machine
+to_known : (s d : ℕ) (x : Known) → (s == d) ≡ false → knows (Moves MessageKind.Restart s d None) d x ≡ true → kind_comes MessageKind.Restart s x ≡ true
+to_known s d x apart e = grind (arith, nat_tests, eq_self)
+
+by_away : (s d : ℕ) (x : Known) (c : Bool) → (if c then kind_leaves MessageKind.Restart d x else is_away x) ≡ true → is_away x ≡ true
+by_away s d x c e = grind (arith, nat_tests, restart_away)
+
+other_known : (s d m : ℕ) (x : Known) → m ≢ d → knows (Moves MessageKind.Restart s d None) m x ≡ true → is_away x ≡ true
+other_known s d m x apart e = grind (arith, nat_tests, by_away, off)
+
+restart_to : (v : View) (p : Pid) (s d : ℕ) (id : MsgId) → IsIn v p (Moves MessageKind.Restart s d (Some id)) → ComesTo v p
+restart_to v p s d id h =
+    let apart : (s == d) ≡ false = not_false (s == d) h.apart in
+    let (from, is) = restart_comes s (v.known d p) (to_known s d (v.known d p) apart (h.known d)) in
+    record { source = s; to = d; id = id; from = from; known = is; others = λ m other. other_known s d m (v.known m p) other (h.known m); token = h.token }
+
+pub where_is : (v : View) (p : Pid) (phase : Phase) → IsIn v p phase → is_due phase ≡ false → v.known p.home p ≢ Unknown → HasIt v p ⊎ (OverAt v p ⊎ ComesTo v p)
+where_is v p Nowhere h put home = absurd (home (unknown_is (v.known p.home p) (h.known p.home)))
+where_is v p (Rests at) h put home = inl (rests_has v p at h)
+where_is v p (Over at) h put home = inr (inl (over_has v p at h))
+where_is v p (Moves k s d None) h put home = absurd (false≢true (sym put))
+where_is v p (Moves k s d (Some id)) h put home = elim (cases_Bool (is_restart k)) [
+  | inl last ↦ inr (inr (restart_to v p s d id (subst (λ (x : MessageKind). IsIn v p (Moves x s d (Some id))) (is_it k last) h)))
+  | inr early ↦ inl (moves_has v p k s d (Some id) early h)
+]

@@ -1,15 +1,17 @@
 -- A directive to move a process: the manager's message goes to its child, or a line says why none does.
 use Rattle.dm_mirror.proofs.Names.{◌≡◌, ℕ, ◌+◌, ◌≤◌, ◌==◌, ◌||◌, Bool, true, false, List, [], ◌∷◌, refl, ap, ◌∙◌, sym, subst, inl, inr, arith, if◌then◌else◌, cond, Option, None, Some, Err, cases_Bool, false≢true, nat_tests, Addr, Pid}
 use Rattle.dm_mirror.proofs.Names.{pid_eq, pid_of, place_of, Message, MsgId, What, MessageKind, MoveError, Step, id_of, incoming_of, Boot, manager, switchboard, address, child_named, moves_child, tells_to_move, asks_manager, asks_move}
-use Rattle.dm_mirror.proofs.Names.{told_to_move, KernelState, id_eq-same, pid_eq-is, Line, Receiver, Sender, child_number, place_of_child, unmoved, migrates, migrates_child, Point, after, moved, at_machine, Spot, Queue, standing, Run}
-use Rattle.dm_mirror.proofs.Names.{Placed, Mirrors, mirrors_view, child_place, no_child, AllOwnStand, KernelStands, AllRecords, TokensStand, Wants, destination_of}
+use Rattle.dm_mirror.proofs.Names.{told_to_move, KernelState, id_eq-same, pid_eq-is, Line, Receiver, Sender, child_number, place_of_child, unmoved, migrates, migrates_child, Point, after, moved, at_machine, Spot, standing, Run, Placed}
+use Rattle.dm_mirror.proofs.Names.{Mirrors, mirrors_view, child_place, no_child, AllOwnStand, KernelStands, AllRecords, TokensStand, Wants, destination_of, ◌≢◌, ◌&&◌, not, kind_of, plain_what, Inbox, Known, Unknown, Here, Frozen, Incoming}
+use Rattle.dm_mirror.proofs.Names.{Forward, Ended, is_server, is_fixed, is_place, is_target, own_sort}
 use Rattle.dm_kernel.specs.declared.part.Part.{Part}
-use Rattle.dm_kernel.specs.State as machine
 use Rattle.dm_kernel.specs.State.{with_sent}
+use Rattle.dm_kernel.specs.State as machine
 use Rattle.dm_rule.specs.Parts as rule
-use Rattle.dm_mirror.proofs.Follow.Forwards.{next_free, next_untold}
-use Rattle.dm_mirror.proofs.Follow.Rows.{carries_on}
-use Rattle.dm_mirror.proofs.Turning.{Elsewhere, MayOwn, Nothing, Own, Turns}
+use Rattle.dm_mirror.proofs.Follow.Forwards.{next_free, next_untold, forwards_turn, held_coming, held_leaving}
+use Rattle.dm_mirror.proofs.Turning.{MayOwn, Nothing, Own, Turns, TurnsAt}
+use Rattle.dm_mirror.proofs.Follow.Updates.{updated_board_turn, updated_here_turn, updated_manager_turn, no_move_turn, updated_ended_turn}
+use Rattle.dm_mirror.proofs.Follow.Fronts.{Fronts, at_front, carries_on}
 
 -- behind the head of the directive
 abbrev pub asked_point : Point → Pid → ℕ → Point
@@ -27,12 +29,10 @@ pub record Asks (b : Boot) (pt : Point) (l : Placed) (records : AllRecords) (k :
   pub counted : k.sent ≡ pt.view.count 0
 
 same_records : (records : AllRecords) (k : KernelState) (n : ℕ) (e : Bool) → records 0 ≡ k.records → (0 == n) ≡ e → (if e then k.records else records n) ≡ records n
-same_records records k n true mine is = let f : 0 ≡ n = grind (arith, nat_tests) in sym mine ∙ ap records f
-same_records records k n false mine is = refl
+same_records records k n e mine is = grind (arith, nat_tests)
 
 stood : (pt : Point) (p : Pid) (to : ℕ) (i : MsgId) (z : Spot) → 1 ≤ standing (asked_point pt p to).view i z → 1 ≤ standing pt.view i z
-stood pt p to i (Queue n q) least = least
-stood pt p to i _ least = least
+stood pt p to i z least = grind (arith, nat_tests)
 
 tokens_asked : (b : Boot) (pt : Point) (l : Placed) (records : AllRecords) (k : KernelState) (c : Asks b pt l records k) (p : Pid) (to : ℕ) → TokensStand (asked_point pt p to).view l (at_machine records 0 k.records)
 tokens_asked b pt l records k c p to q i t z told between about least =
@@ -52,9 +52,6 @@ kernel_asked b pt l records k c p to =
 sent_asked : (b : Boot) (pt : Point) (l : Placed) (k : KernelState) → KernelStands b pt l 0 k → KernelStands b pt l 0 (with_sent k)
 sent_asked b pt l k h = record { here = h.here; known = h.known; no_server = h.no_server; ring = h.ring; inbox = h.inbox; made = h.made; room = h.room; servers = h.servers }
 
-elsewhere_asked : (pt : Point) (l : Placed) (p : Pid) (to : ℕ) → Elsewhere 0 (asked_point pt p to) l (asked_point pt p to) l
-elsewhere_asked pt l p to = search
-
 -- a line that changes nothing says why there is no message
 pub asked_line : (b : Boot) (pt : Point) (l : Placed) (records : AllRecords) (k : KernelState) (c : Asks b pt l records k) (p : Pid) (to : ℕ) (said : Line) → asks_move k p to ≡ Some (record { state = k; parts = Part.Says said ∷ [] }) → migrates pt p ≡ rule.Says said ∷ []
     → after (asked_point pt p to) (said ∷ []) ≡ Some (asked_point pt p to) → Turns b 0 (Step.Migrate p to) (asks_move k p to) pt (asked_point pt p to) l records k
@@ -71,7 +68,7 @@ asked_line b pt l records k c p to said turn is goes = record {
   mirrors = mirrors_view pt.kernel pt.view (asked_point pt p to).view pt.addresses l refl c.mirrors;
   kernel = kernel_asked b pt l records k c p to;
   sent = λ e. e ∙ (let f : pt.view.count 0 ≡ pt.view.count 0 + (0 + 0) = omega arith in f);
-  elsewhere = elsewhere_asked pt l p to;
+  elsewhere = search;
   may = tt;
   late_may = tt;
   single = omega arith;
@@ -133,7 +130,7 @@ asked_child b pt l records k c p to child found turn is =
       mirrors = mirrors_view pt.kernel pt.view (asked_point pt p to).view pt.addresses l refl c.mirrors;
       kernel = sent_asked b (asked_point pt p to) l k (kernel_asked b pt l records k c p to);
       sent = λ e. (let f : k.sent + 1 ≡ pt.view.count 0 + ((1 + 0) + 0) = omega (arith, e) in f);
-      elsewhere = elsewhere_asked pt l p to;
+      elsewhere = search;
       may = (move_may b pt l records (at_machine records 0 (with_sent k).records) k c p to child found, tt);
       late_may = tt;
       single = omega arith;
@@ -176,3 +173,72 @@ asks_turn b pt l records k p to c =
     neither true t e = cc
     neither false true e = cc
     neither false false e = refl
+
+-- A message for a process that isn't here, an update, and a request to move a process that isn't here: by what the machine knows.
+
+-- a process that leaves, comes or has gone on
+abbrev pub is_apart : Known → Bool
+is_apart (Frozen to) = true
+is_apart (Incoming from) = true
+is_apart (Forward at moves) = true
+is_apart _ = false
+
+-- whatever the message is, it is held or goes on
+pub apart_turn : (b : Boot) (m : ℕ) (pt : Point) (l : Placed) (records : AllRecords) (k : KernelState) (y : Message) (c : Fronts b m pt l records k y) (w : Known) → is_fixed y.to.pid ≡ false → pt.view.known m y.to.pid ≡ w → is_apart w ≡ true → TurnsAt b m pt l records k
+apart_turn b m pt l records k y c (Frozen to) fixed knows e = held_leaving b m pt l records k y c to fixed knows
+apart_turn b m pt l records k y c (Incoming from) fixed knows e = held_coming b m pt l records k y c from fixed knows
+apart_turn b m pt l records k y c (Forward at moves) fixed knows e = forwards_turn b m pt l records k y c at moves fixed knows
+apart_turn b m pt l records k y c _ fixed knows e = absurd (false≢true e)
+
+-- its receiver is known here
+pub front_known : (b : Boot) (m : ℕ) (pt : Point) (l : Placed) (records : AllRecords) (k : KernelState) (y : Message) (c : Fronts b m pt l records k y) → is_fixed y.to.pid ≡ false → pt.view.known m y.to.pid ≢ Unknown
+front_known b m pt l records k y c fixed e =
+    c.run.found.process y.id (Inbox m) c.told (at_front b m pt l records k y c) c.told_is (ap is_fixed c.receiver ∙ fixed) (ap (pt.view.known m) c.receiver ∙ e)
+
+-- an own message is of a sort
+pub front_sort : (b : Boot) (m : ℕ) (pt : Point) (l : Placed) (records : AllRecords) (k : KernelState) (y : Message) (c : Fronts b m pt l records k y) → plain_what y.what ≡ None → own_sort (kind_of y.what) y.to.pid c.told.about ≡ true
+front_sort b m pt l records k y c none = grind (arith, nat_tests)
+
+left_true : (a b : Bool) → (not a && b) ≡ true → a ≡ false
+left_true a b e = grind (arith, nat_tests)
+
+-- an update, at a process
+update_known : (b : Boot) (m : ℕ) (pt : Point) (l : Placed) (records : AllRecords) (k : KernelState) (y : Message) (c : Fronts b m pt l records k y) (about : Addr) (w : Known) → is_fixed y.to.pid ≡ false → y.what ≡ What.Update about → pt.view.known m y.to.pid ≡ w → TurnsAt b m pt l records k
+update_known b m pt l records k y c about Unknown fixed e knows = absurd (front_known b m pt l records k y c fixed knows)
+update_known b m pt l records k y c about Here fixed e knows = updated_here_turn b m pt l records k y c about fixed knows e
+update_known b m pt l records k y c about (Frozen to) fixed e knows = held_leaving b m pt l records k y c to fixed knows
+update_known b m pt l records k y c about (Incoming from) fixed e knows = held_coming b m pt l records k y c from fixed knows
+update_known b m pt l records k y c about (Forward at moves) fixed e knows = forwards_turn b m pt l records k y c at moves fixed knows
+update_known b m pt l records k y c about Ended fixed e knows = updated_ended_turn b m pt l records k y c about fixed knows e
+
+update_server : (b : Boot) (m : ℕ) (pt : Point) (l : Placed) (records : AllRecords) (k : KernelState) (y : Message) (c : Fronts b m pt l records k y) (about : Addr) (s : Bool) → is_server y.to.pid ≡ true → y.what ≡ What.Update about → pid_eq y.to.pid switchboard ≡ s → TurnsAt b m pt l records k
+update_server b m pt l records k y c about true server e is = updated_board_turn b m pt l records k y c about (pid_eq-is y.to.pid switchboard is) e
+update_server b m pt l records k y c about false server e is =
+    let f : pid_eq y.to.pid manager ≡ true = sym (ap (λ (s : Bool). s || pid_eq y.to.pid manager) is) ∙ server in
+    updated_manager_turn b m pt l records k y c about (pid_eq-is y.to.pid manager f) e
+
+-- an update, wherever it comes
+pub update_turn : (b : Boot) (m : ℕ) (pt : Point) (l : Placed) (records : AllRecords) (k : KernelState) (y : Message) (c : Fronts b m pt l records k y) (about : Addr) → y.what ≡ What.Update about → TurnsAt b m pt l records k
+update_turn b m pt l records k y c about e =
+    let none = ap plain_what e in
+    let sort : (not (y.to.pid.num == 0) && is_place c.told.about) ≡ true = ap (λ (w : What). own_sort (kind_of w) y.to.pid c.told.about) (sym e) ∙ front_sort b m pt l records k y c none in
+    let num : (y.to.pid.num == 0) ≡ false = left_true (y.to.pid.num == 0) (is_place c.told.about) sort in
+    elim (cases_Bool (is_server y.to.pid)) [
+      | inl server ↦ update_server b m pt l records k y c about (pid_eq y.to.pid switchboard) server e refl
+      | inr other ↦ update_known b m pt l records k y c about (pt.view.known m y.to.pid) (ap (λ (s : Bool). s || is_server y.to.pid) num ∙ other) e refl
+    ]
+
+-- a request to move is for a process
+pub migrate_process : (b : Boot) (m : ℕ) (pt : Point) (l : Placed) (records : AllRecords) (k : KernelState) (y : Message) (c : Fronts b m pt l records k y) (to : ℕ) → y.what ≡ What.Migrate to → is_fixed y.to.pid ≡ false
+migrate_process b m pt l records k y c to e =
+    let sort : (not (is_fixed y.to.pid) && is_target c.told.about) ≡ true = ap (λ (w : What). own_sort (kind_of w) y.to.pid c.told.about) (sym e) ∙ front_sort b m pt l records k y c (ap plain_what e) in
+    left_true (is_fixed y.to.pid) (is_target c.told.about) sort
+
+-- where the process isn't here
+pub migrate_apart : (b : Boot) (m : ℕ) (pt : Point) (l : Placed) (records : AllRecords) (k : KernelState) (y : Message) (c : Fronts b m pt l records k y) (to : ℕ) (w : Known) → y.what ≡ What.Migrate to → pt.view.known m y.to.pid ≡ w → w ≢ Here → TurnsAt b m pt l records k
+migrate_apart b m pt l records k y c to Unknown e knows off = absurd (front_known b m pt l records k y c (migrate_process b m pt l records k y c to e) knows)
+migrate_apart b m pt l records k y c to Here e knows off = absurd (off refl)
+migrate_apart b m pt l records k y c to (Frozen d) e knows off = held_leaving b m pt l records k y c d (migrate_process b m pt l records k y c to e) knows
+migrate_apart b m pt l records k y c to (Incoming s) e knows off = held_coming b m pt l records k y c s (migrate_process b m pt l records k y c to e) knows
+migrate_apart b m pt l records k y c to (Forward at moves) e knows off = forwards_turn b m pt l records k y c at moves (migrate_process b m pt l records k y c to e) knows
+migrate_apart b m pt l records k y c to Ended e knows off = no_move_turn b m pt l records k y c to (migrate_process b m pt l records k y c to e) knows e

@@ -1,36 +1,28 @@
 -- A message for a process that has gone on follows it, and its sender may be told.
-use Rattle.dm_mirror.proofs.Names.{◌≡◌, ℕ, ◌+◌, ◌≤◌, Bool, true, false, List, [], ◌∷◌, map, refl, ap, ◌∙◌, sym, subst, is_some, arith, if◌then◌else◌, Option, None, Some, false≢true, Pid, pid_of, place_of, update_of, Message, MsgId, nat_tests}
-use Rattle.dm_mirror.proofs.Names.{What, Record, Line, MessageKind, id_eq, id_of, kind_of, plain_kind, PlainMessage, PlainWhat, plain_message, plain_what, with_what, incoming_of, sent_on, Boot, manager, bind, forwards_and}
-use Rattle.dm_mirror.proofs.Names.{KernelState, id_eq-same, id_eq-swap, Addresses, Receiver, Sender, is_told_back, unmoved, forwards_on, process_told, Point, moved, at_machine, Spot, Queue, Held, StandsOnce, standing, About, Known, Forward}
-use Rattle.dm_mirror.proofs.Names.{Told, forward_about, forwarded_for, handled, own_id, receiver_of, stands_right, is_fixed, Run, Placed, Mirrors, free_off, plain_sent_on, forwarded_mirrors, moves_forwarded, update_gets}
-use Rattle.dm_mirror.proofs.Names.{parts, mirrors_view, AllOwnStand, OwnStands, KnownStands, AllRecords, Wants}
+use Rattle.dm_mirror.proofs.Names.{◌≡◌, ℕ, ◌+◌, ◌≤◌, Bool, true, false, List, [], ◌∷◌, map, refl, ap, ◌∙◌, sym, subst, is_some, arith, if◌then◌else◌, Option, None, Some, false≢true, Pid, pid_of, place_of, update_of, Message, MsgId}
+use Rattle.dm_mirror.proofs.Names.{nat_tests, What, Record, Line, MessageKind, id_eq, id_of, kind_of, plain_kind, PlainMessage, plain_message, plain_what, with_what, incoming_of, sent_on, Boot, manager, bind, forwards_and, KernelState}
+use Rattle.dm_mirror.proofs.Names.{id_eq-same, id_eq-swap, Addresses, Receiver, Sender, is_told_back, unmoved, forwards_on, process_told, Point, moved, at_machine, Spot, Queue, Held, StandsOnce, standing, About, Known, Forward, Told}
+use Rattle.dm_mirror.proofs.Names.{forward_about, forwarded_for, handled, own_id, receiver_of, stands_right, is_fixed, Run, Placed, Mirrors, free_off, plain_sent_on, forwarded_mirrors, moves_forwarded, update_gets, parts, mirrors_view}
+use Rattle.dm_mirror.proofs.Names.{AllOwnStand, OwnStands, KnownStands, AllRecords, Wants, ◌++◌, Wanted, Arrival, Departure, with_known, pid_eq-is, at_record, times, Frozen, Incoming, AreMessages, ComesStand, LeavesStand, is_server}
 use Rattle.dm_kernel.specs.declared.part.Part.{Part}
-use Rattle.dm_kernel.specs.State as machine
 use Rattle.dm_kernel.specs.State.{with_sent}
-use Rattle.dm_rule.specs.Parts as rule
 use Rattle.dm_rule.specs.Rule.{process_handles}
 use Rattle.dm_places.specs.PlacedStep.{with_message}
-use Rattle.dm_mirror.proofs.Follow.Frames.{Fronts, apart_at, held_apart, known_on, queue_apart}
-use Rattle.dm_mirror.proofs.Follow.Fronts.{IsProcess, front_still, is_process_of, plain_kinds}
-use Rattle.dm_mirror.proofs.Follow.Receivers.{machine_process, rule_process}
-use Rattle.dm_mirror.proofs.Follow.Rows.{handled_point, handled_view, turns_follow}
+use Rattle.dm_rule.specs.View.{held_for}
+pub use Rattle.dm_rule.proofs.Lines.{at_record_at as record_self}
+use Rattle.dm_kernel.specs.State as machine
+use Rattle.dm_rule.specs.Parts as rule
+use Rattle.dm_migrate.specs.Arrival as arrival
+use Rattle.dm_migrate.specs.Departure as departure
+use Rattle.dm_kernel.specs.Handle as machine_handle
+use Rattle.dm_mirror.proofs.Follow.Fronts.{IsProcess, front_still, is_process_of, plain_kinds, Fronts, apart_at, known_on, queue_apart, machine_process, rule_process, set_self, set_other, handled_point, handled_view}
+use Rattle.dm_mirror.proofs.Follow.Fronts.{turns_follow}
 use Rattle.dm_mirror.proofs.Turning.{AllMayPut, MayOwn, MayPut, On, Own, Route, TurnsAt, begun, owns, part_of, rule_part_of}
+use Rattle.dm_mirror.proofs.Handle.Taking.{held_apart, record_off, record_others}
 
 -- of the kernels' own messages only requests to move a process are told back
 own_back : (w : What) → plain_what w ≡ None → is_told_back (kind_of w) ≡ true → kind_of w ≡ MessageKind.Migrate
-own_back (What.Migrate machine) e back = refl
-own_back (What.Update about) e back = absurd (false≢true back)
-own_back (What.Ask pid blocks moves size asker) e back = absurd (false≢true back)
-own_back (What.Refuse pid slots blocks) e back = absurd (false≢true back)
-own_back (What.PullState pid chunk) e back = absurd (false≢true back)
-own_back (What.State pid chunk last bytes) e back = absurd (false≢true back)
-own_back (What.PullBlock pid block) e back = absurd (false≢true back)
-own_back (What.Memory pid block bytes) e back = absurd (false≢true back)
-own_back (What.AllTaken pid) e back = absurd (false≢true back)
-own_back (What.Restart pid) e back = absurd (false≢true back)
-own_back (What.CallOff pid) e back = absurd (false≢true back)
-own_back (What.Bury pid) e back = absurd (false≢true back)
-own_back _ e back = cc
+own_back w e back = grind (arith, nat_tests)
 
 -- the name of the kernel's next message is free
 once_told : (i : MsgId) (f : Spot → ℕ) (o : Option Told) → StandsOnce f → ((z : Spot) → 1 ≤ f z → is_some o ≡ true) → o ≡ None → ⊥
@@ -64,8 +56,7 @@ own_named b m pt l records k y c = λ i. record { from = pid_of (c.stands.here i
 
 -- what the machine knows
 forward_of : (pt : Point) (l : Placed) (p : Pid) (queue held_ : List MsgId) (at moves : ℕ) (r : Option machine.KernelKnown) → KnownStands pt l p queue held_ (Forward at moves) r → r ≡ Some (Record.Forward at moves)
-forward_of pt l p queue held_ at moves (Some (Record.Forward to count)) h = λ i. Some (Record.Forward (h.0 i) (h.1 i))
-forward_of pt l p queue held_ at moves r h = absurd h
+forward_of pt l p queue held_ at moves r h = grind (arith, nat_tests)
 
 -- where the line leads
 abbrev forwarded : Point → ℕ → Message → ℕ → Point
@@ -88,14 +79,11 @@ sent_by s true = with_sent s
 sent_by s false = s
 
 machine_forwards : (s : KernelState) (y : Message) (at moves : ℕ) (back : Bool) → forwards_and s y at moves back ≡ Some (record { state = sent_by s back; parts = Part.Says (Line.Forwarded y.id at) ∷ map part_of (routes_of y (machine.own_id s) s.here at moves back) })
-machine_forwards s y at moves true = refl
-machine_forwards s y at moves false = refl
+machine_forwards s y at moves back = grind (arith, nat_tests)
 
 rule_forwards : (a : Addresses) (y : Message) (k : MessageKind) (sender : Pid) (id : MsgId) (here at moves : ℕ) (back : Bool) → is_told_back k ≡ back → (back ≡ true → sender ≡ y.sender.pid) → a (Sender y.id) ≡ place_of y.sender
     → forwards_on a y.id k sender at ≡ rule.Says (Line.Forwarded y.id at) ∷ map rule_part_of (routes_of y id here at moves back)
-rule_forwards a y k sender id here at moves true is who place = grind (arith, nat_tests)
-rule_forwards a y k sender id here at moves false is who place =
-    ap (λ (t : Bool). rule.Says (Line.Forwarded y.id at) ∷ rule.Again y.id at ∷ (if t then rule.Owns MessageKind.Update sender (a (Sender y.id)).at ∷ [] else [])) is
+rule_forwards a y k sender id here at moves back is who place = grind (arith, nat_tests)
 
 outcome_forwards : (b : Boot) (m : ℕ) (pt : Point) (l : Placed) (records : AllRecords) (k : KernelState) (y : Message) (c : Fronts b m pt l records k y) (id : MsgId) (here at moves : ℕ) (back : Bool) (z : Option PlainMessage) → plain_message y ≡ z → is_told_back (kind_of y.what) ≡ back
     → ((x : PlainMessage) → z ≡ Some x → process_handles pt m y.id x (Forward at moves) ≡ Some (rule.Says (Line.Forwarded y.id at) ∷ map rule_part_of (routes_of y id here at moves back)))
@@ -155,15 +143,10 @@ sent_is k rest y id here at moves true = record { here = refl; records = refl; r
 sent_is k rest y id here at moves false = record { here = refl; records = refl; ring = refl; made = refl; room = refl; servers = refl; sent = (let e : k.sent ≡ k.sent + (0 + 0) = omega arith in e) }
 
 inbox_is : (k : KernelState) (rest : List Message) (back : Bool) → (sent_by (record k { inbox = rest }) back).inbox ≡ rest
-inbox_is k rest true = refl
-inbox_is k rest false = refl
-
-gone_on : (l : Placed) (y z : Message) (at moves : ℕ) → (with_message l y.id (Some (sent_on at moves y))).bag y.id ≡ Some z → sent_on at moves y ≡ z
-gone_on l y z at moves e = grind (arith, nat_tests, id_eq-same)
+inbox_is k rest back = grind (arith, nat_tests)
 
 own_most : (y : Message) (id : MsgId) (here at moves : ℕ) (back : Bool) → owns (routes_of y id here at moves back) ≤ 1
-own_most y id here at moves true = omega arith
-own_most y id here at moves false = omega arith
+own_most y id here at moves back = grind (arith, nat_tests)
 
 forward_row : (b : Boot) (m : ℕ) (pt : Point) (l : Placed) (records : AllRecords) (k : KernelState) (y : Message) (c : Fronts b m pt l records k y) (at moves : ℕ) (back : Bool) → IsProcess y.to.pid → pt.view.known m y.to.pid ≡ Forward at moves → is_told_back (kind_of y.what) ≡ back → TurnsAt b m pt l records k
 forward_row b m pt l records k y c at moves back is knows has =
@@ -180,6 +163,8 @@ forward_row b m pt l records k y c at moves back is knows has =
     let gone = forwarded_mirrors (begun pt m) l y.id y c.told at at moves start c.there c.told_is (ap (pt.view.known m) c.receiver ∙ knows) (own_free b m pt l records k y c) in
     let same = sent_is k c.rest y (machine.own_id k) k.here at moves back in
     let bag_off = λ (j : MsgId) (off : id_eq y.id j ≡ false). ap (λ (t : Bool). if t then Some (sent_on at moves y) else l.bag j) off in
+    let kept : (q : Pid) → state.records q ≡ k.records q = λ q. ap (λ (f : Pid → Option machine.KernelKnown). f q) same.records in
+    let wants : (u : Wanted) → Wants (incoming_of (k.records p)) u → Wants (incoming_of (state.records p)) u = λ u h. subst (λ (f : Pid → Option machine.KernelKnown). Wants (incoming_of (f p)) u) (sym same.records) h in
     turns_follow b m pt l records k y c (record {
       state = state;
       said = Line.Forwarded y.id at;
@@ -194,37 +179,124 @@ forward_row b m pt l records k y c at moves back is knows has =
       after = ap (λ (o : Option Pid). Some (record { kernel = pt.kernel; view = forwarded_for (handled (begun pt m).view y.id) o; addresses = next.addresses })) (ap receiver_of c.told_is ∙ ap Some c.receiver)
           ∙ ap (λ (j : Known). Some (handled_point pt m y.id pt.view.held (forward_about p j) next.addresses)) knows;
       mirrors = mirrors_view pt.kernel next.view (handled_view pt m y.id pt.view.held topic) next.addresses placed (sym (moves_forwarded (handled (begun pt m).view y.id) (receiver_of (pt.view.told y.id)))) gone;
-      held_off = λ n q off. refl;
-      held_others = λ q off. refl;
-      held_from = λ n q i off. refl;
-      processes = λ q off. refl;
-      elsewhere = λ n off has_. refl;
-      moving = λ i t z told between about least. refl;
-      bag = bag_off;
-      own_front = λ z e plain. (let w = gone_on l y z at moves e in
+      own_front = λ z e plain. (let w : sent_on at moves y ≡ z = grind (arith, nat_tests, id_eq-same) in
           let o = c.own y.id y c.there (sym (plain_sent_on at moves y) ∙ ap plain_message w ∙ plain) in
           let u : OwnStands pt.view y.id (sent_on at moves y) = record { told = o.told; mine = o.mine; sender = o.sender } in
           subst (OwnStands pt.view y.id) w u);
-      board = λ off. refl;
-      manager = λ off. refl;
-      here = same.here;
-      records_ = λ q off. ap (λ (f : Pid → Option machine.KernelKnown). f q) same.records;
-      ring = same.ring;
-      inbox = inbox_is k c.rest back;
-      made = same.made;
-      room = same.room;
-      servers = same.servers ∙ c.stands.servers;
       sent = same.sent;
       single = own_most y (machine.own_id k) k.here at moves back;
-      keeps = λ server. ap (λ (f : Pid → Option machine.KernelKnown). f p) same.records;
       known = λ server. subst (KnownStands (handled_point pt m y.id pt.view.held topic next.addresses) placed p (pt.view.queue m p) (pt.view.held m p) (pt.view.known m p)) (ap (λ (f : Pid → Option machine.KernelKnown). f p) (sym same.records))
           (known_on pt (handled_point pt m y.id pt.view.held topic next.addresses) l placed p (pt.view.queue m p) (pt.view.held m p) (pt.view.known m p) (k.records p) refl refl
           (λ j least. bag_off j (apart_at b m pt l records k y c (Queue m p) j (queue_apart m m p) least)) (λ j least. bag_off j (apart_at b m pt l records k y c (Held m p) j (held_apart m m p) least)) (c.stands.known p server));
-      wants = λ u h. subst (λ (f : Pid → Option machine.KernelKnown). Wants (incoming_of (f p)) u) (sym same.records) h;
       still = front_still b m pt l records k y c is.number;
       may = all_may b m pt l records (at_machine records m state.records) k y c at moves back is knows has;
+      leaves = search (bag_off, same.here, kept, same.ring, inbox_is k c.rest back, same.made, same.room, same.servers ∙ c.stands.servers, wants);
     })
 
 -- where the process has gone on
 pub forwards_turn : (b : Boot) (m : ℕ) (pt : Point) (l : Placed) (records : AllRecords) (k : KernelState) (y : Message) (c : Fronts b m pt l records k y) (at moves : ℕ) → is_fixed y.to.pid ≡ false → pt.view.known m y.to.pid ≡ Forward at moves → TurnsAt b m pt l records k
 forwards_turn b m pt l records k y c at moves fixed knows = forward_row b m pt l records k y c at moves (is_told_back (kind_of y.what)) (is_process_of y.to.pid fixed) knows refl
+
+-- A message for a process that leaves a machine or comes to it is held there.
+
+-- a list with one message more
+map_both : (f : MsgId → Option Message) (is js : List MsgId) → map f (is ++ js) ≡ map f is ++ map f js
+map_both f [] js = refl
+map_both f (i ∷ is) js = ap (λ (xs : List (Option Message)). f i ∷ xs) (map_both f is js)
+
+some_both : (xs ys : List Message) → map Some (xs ++ ys) ≡ map Some xs ++ map Some ys
+some_both [] ys = refl
+some_both (x ∷ xs) ys = ap (λ (os : List (Option Message)). Some x ∷ os) (some_both xs ys)
+
+pub are_more : (bag : MsgId → Option Message) (is : List MsgId) (ms : List Message) (i : MsgId) (y : Message) → AreMessages bag is ms → bag i ≡ Some y → AreMessages bag (is ++ i ∷ []) (ms ++ y ∷ [])
+are_more bag is ms i y e there = map_both bag is (i ∷ []) ∙ (λ j. e j ++ there j ∷ []) ∙ sym (some_both ms (y ∷ []))
+
+times_other : (i j : MsgId) (is : List MsgId) → id_eq i j ≡ false → times i (is ++ j ∷ []) ≡ times i is
+times_other i j [] off = ap (λ (c : Bool). (if c then 1 else 0) + 0) off
+times_other i j (n ∷ is) off = ap (λ (k : ℕ). (if id_eq i n then 1 else 0) + k) (times_other i j is off)
+
+grown : (f : ℕ → Pid → List MsgId) (m : ℕ) (p : Pid) (n : ℕ) (q : Pid) (i j : MsgId) → id_eq i j ≡ false → times i (at_record f m p (f m p ++ j ∷ []) n q) ≡ times i (f n q)
+grown f m p n q i j off = grind (arith, nat_tests, times_other, pid_eq-is)
+
+-- one message more is held
+abbrev held_list : Point → ℕ → Pid → MsgId → ℕ → Pid → List MsgId
+held_list pt m p i = at_record pt.view.held m p (pt.view.held m p ++ i ∷ [])
+
+held_row : (b : Boot) (m : ℕ) (pt : Point) (l : Placed) (records : AllRecords) (k : KernelState) (y : Message) (c : Fronts b m pt l records k y) (w : Known) (r new : machine.KernelKnown) → IsProcess y.to.pid → pt.view.known m y.to.pid ≡ w → k.records y.to.pid ≡ Some r
+    → machine_handle.process_handles (record k { inbox = c.rest }) y (Some r) ≡ Some (record { state = with_known (record k { inbox = c.rest }) y.to.pid new; parts = Part.Says (Line.Held y.id) ∷ [] })
+    → ((x : PlainMessage) → process_handles pt m y.id x w ≡ Some (rule.Says (Line.Held y.id) ∷ [])) → process_told pt m y.id c.told w ≡ Some (rule.Says (Line.Held y.id) ∷ [])
+    → KnownStands (handled_point pt m y.id (held_list pt m y.to.pid y.id) (begun pt m).view.topic pt.addresses) l y.to.pid (pt.view.queue m y.to.pid) (pt.view.held m y.to.pid ++ y.id ∷ []) w (Some new)
+    → ((u : Wanted) → Wants (incoming_of (Some r)) u → Wants (incoming_of (Some new)) u) → TurnsAt b m pt l records k
+held_row b m pt l records k y c w r new is knows there turn bag own known wants =
+    let p = y.to.pid in
+    let held = held_list pt m p y.id in
+    let topic = (begun pt m).view.topic in
+    let state = with_known (record k { inbox = c.rest }) p new in
+    let more : (n : ℕ) (q : Pid) (i : MsgId) → id_eq y.id i ≡ false → times i (held n q) ≡ times i (pt.view.held n q) = λ n q i off. grown pt.view.held m p n q i y.id (id_eq-swap i y.id ∙ off) in
+    let keeps : is_server p ≡ true → state.records p ≡ k.records p = λ server. absurd (false≢true (sym is.server ∙ server)) in
+    let asked : (u : Wanted) → Wants (incoming_of (k.records p)) u → Wants (incoming_of (state.records p)) u =
+    λ u h. subst (λ (o : Option machine.KernelKnown). Wants (incoming_of o) u) (sym (set_self k.records p new)) (wants u (subst (λ (o : Option machine.KernelKnown). Wants (incoming_of o) u) there h)) in
+    turns_follow b m pt l records k y c (record {
+      state = state;
+      said = Line.Held y.id;
+      routes = [];
+      held = held;
+      topic = topic;
+      addresses = pt.addresses;
+      placed = l;
+      process = p;
+      turn = machine_process b (record k { inbox = c.rest }) y (Some r) (Some (record { state = state; parts = Part.Says (Line.Held y.id) ∷ [] })) is there turn;
+      outcome = rule_process b m pt l records k y c w (Some (rule.Says (Line.Held y.id) ∷ [])) (plain_message y) is knows refl (λ x e. bag x) (λ e. own);
+      after = ap (λ (o : Option Pid). Some (record { kernel = pt.kernel; view = held_for (handled (begun pt m).view y.id) y.id o; addresses = pt.addresses })) (ap receiver_of c.told_is ∙ ap Some c.receiver);
+      mirrors = mirrors_view pt.kernel pt.view (handled_view pt m y.id held topic) pt.addresses l refl c.mirrors;
+      own_front = λ z e plain. c.own y.id z e plain;
+      sent = (let e : k.sent ≡ k.sent + 0 = omega arith in e);
+      single = omega arith;
+      known = λ server. subst (KnownStands (handled_point pt m y.id held topic pt.addresses) l p (pt.view.queue m p) (held m p) (pt.view.known m p)) (sym (set_self k.records p new))
+          (subst (λ (j : Known). KnownStands (handled_point pt m y.id held topic pt.addresses) l p (pt.view.queue m p) (held m p) j (Some new)) (sym knows)
+          (subst (λ (h : List MsgId). KnownStands (handled_point pt m y.id held topic pt.addresses) l p (pt.view.queue m p) h w (Some new)) (sym (record_self pt.view.held m p (pt.view.held m p ++ y.id ∷ []))) known));
+      still = front_still b m pt l records k y c is.number;
+      may = tt;
+      leaves = search (record_off, record_others, more, set_other, c.stands.servers, keeps, asked);
+    })
+
+-- what the machine has of a process that leaves, or comes
+record Leaves (l : Placed) (p : Pid) (queue held_ : List MsgId) (to : ℕ) (r : Option machine.KernelKnown) : Type 0 where
+  leaving : Departure
+  is : r ≡ Some (Record.Frozen leaving)
+  stands : LeavesStand l p queue held_ to leaving
+
+leaves_of : (pt : Point) (l : Placed) (p : Pid) (queue held_ : List MsgId) (to : ℕ) (r : Option machine.KernelKnown) → KnownStands pt l p queue held_ (Frozen to) r → Leaves l p queue held_ to r
+leaves_of pt l p queue held_ to (Some (Record.Frozen d)) h = record { leaving = d; is = refl; stands = h }
+leaves_of pt l p queue held_ to r h = absurd h
+
+record Comes (l : Placed) (p : Pid) (held_ : List MsgId) (r : Option machine.KernelKnown) : Type 0 where
+  arriving : Arrival
+  is : r ≡ Some (Record.Incoming arriving)
+  stands : ComesStand l p held_ arriving
+
+comes_of : (pt : Point) (l : Placed) (p : Pid) (queue held_ : List MsgId) (from : ℕ) (r : Option machine.KernelKnown) → KnownStands pt l p queue held_ (Incoming from) r → Comes l p held_ r
+comes_of pt l p queue held_ from (Some (Record.Incoming a)) h = record { arriving = a; is = refl; stands = h }
+comes_of pt l p queue held_ from r h = absurd h
+
+-- held where the process leaves
+pub held_leaving : (b : Boot) (m : ℕ) (pt : Point) (l : Placed) (records : AllRecords) (k : KernelState) (y : Message) (c : Fronts b m pt l records k y) (to : ℕ) → is_fixed y.to.pid ≡ false → pt.view.known m y.to.pid ≡ Frozen to → TurnsAt b m pt l records k
+held_leaving b m pt l records k y c to fixed knows =
+    let p = y.to.pid in
+    let is = is_process_of p fixed in
+    let leave = leaves_of pt l p (pt.view.queue m p) (pt.view.held m p) to (k.records p) (subst (λ (j : Known). KnownStands pt l p (pt.view.queue m p) (pt.view.held m p) j (k.records p)) knows (c.stands.known p is.server)) in
+    let d = leave.leaving in
+    let s = leave.stands in
+    held_row b m pt l records k y c (Frozen to) (Record.Frozen d) (Record.Frozen (departure.with_held d y)) is knows leave.is refl (λ x. refl) refl
+    (record { to = s.to; asker = s.asker; here = s.here; held = are_more l.bag (pt.view.held m p) d.held y.id y s.held c.there; whole = s.whole }) (λ u h. h)
+
+-- held where it comes
+pub held_coming : (b : Boot) (m : ℕ) (pt : Point) (l : Placed) (records : AllRecords) (k : KernelState) (y : Message) (c : Fronts b m pt l records k y) (from : ℕ) → is_fixed y.to.pid ≡ false → pt.view.known m y.to.pid ≡ Incoming from → TurnsAt b m pt l records k
+held_coming b m pt l records k y c from fixed knows =
+    let p = y.to.pid in
+    let is = is_process_of p fixed in
+    let come = comes_of pt l p (pt.view.queue m p) (pt.view.held m p) from (k.records p) (subst (λ (j : Known). KnownStands pt l p (pt.view.queue m p) (pt.view.held m p) j (k.records p)) knows (c.stands.known p is.server)) in
+    let a = come.arriving in
+    let s = come.stands in
+    held_row b m pt l records k y c (Incoming from) (Record.Incoming a) (Record.Incoming (arrival.with_held a y)) is knows come.is refl (λ x. refl) refl
+    (record { process = s.process; there = s.there; whole = s.whole; pieces = ap (λ (z : Arrival). arrival.with_held z y) s.pieces; held = are_more l.bag (pt.view.held m p) a.held y.id y s.held c.there }) (λ u h. h)

@@ -1,28 +1,130 @@
--- An update makes the links of a process or of a server follow another process.
-use Rattle.dm_mirror.proofs.Names.{◌≡◌, ◌≢◌, ℕ, ◌+◌, ◌≤◌, ◌==◌, Bool, true, false, List, [], ◌∷◌, refl, ap, ◌∙◌, sym, subst, is_some, nat_le, arith, if◌then◌else◌, count_by, option_map, Option, None, Some, false≢true, Addr, Pid, pid_eq, nat_tests}
+-- A message of a kernel that changes no process of its machine: what it leads to.
+use Rattle.dm_mirror.proofs.Names.{◌≡◌, ◌≢◌, ℕ, ◌+◌, ◌≤◌, ◌==◌, Bool, true, false, List, [], ◌∷◌, refl, ap, ◌∙◌, sym, subst, nat_le, arith, if◌then◌else◌, count_by, option_map, Option, None, Some, false≢true, Addr, Pid, pid_eq, nat_tests}
 use Rattle.dm_mirror.proofs.Names.{slot_is_behind, applied, Message, MsgId, What, Record, Line, kind_of, plain_message, plain_what, with_what, Process, incoming_of, named_is_behind, pending_is_behind, Boot, switchboard, manager, Life}
-use Rattle.dm_mirror.proofs.Names.{plain_process, Servers, board_follows, manager_follows, handles, KernelState, with_here, pid_eq-same, place_told, behind_count, here_told, process_told, server_told, updates, Phase, Rests, is_away}
-use Rattle.dm_mirror.proofs.Names.{is_between, is_here, knows, token_in, Point, moved, comes_to, hears, kernel_hears, Inbox, Spot, standing, Known, Unknown, Here, Of, Told, rests_here, is_fixed, Run, Placed, Mirrors, mirrors_view}
-use Rattle.dm_mirror.proofs.Names.{board_told, manager_told, updated_board_mirrors, updated_manager_mirrors, updated_mirrors, updated_board_count, updated_count, updated_manager_count, about_of, told_of, HereStands, KnownStands, servers_at}
-use Rattle.dm_mirror.proofs.Names.{AllRecords, Wants}
-use Rattle.dm_link.specs.Places as places
+use Rattle.dm_mirror.proofs.Names.{Servers, handles, KernelState, with_here, pid_eq-same, place_told, behind_count, here_told, server_told, updates, Phase, Rests, is_away, is_between, is_here, knows, token_in, Point, moved, comes_to, hears}
+use Rattle.dm_mirror.proofs.Names.{Inbox, Spot, standing, Known, Here, Of, Told, rests_here, is_fixed, Run, Placed, Mirrors, mirrors_view, board_told, manager_told, updated_board_mirrors, updated_manager_mirrors, updated_mirrors}
+use Rattle.dm_mirror.proofs.Names.{updated_board_count, updated_count, updated_manager_count, about_of, told_of, HereStands, KnownStands, servers_at, AllRecords, Wants, MessageKind, PlainMessage, Why, Managing, Board, Addresses, ended_told}
+use Rattle.dm_mirror.proofs.Names.{after_line, Ended, updated_ended_mirrors, no_process, Wanted, is_server}
 use Rattle.dm_kernel.specs.declared.part.Part.{Part}
-use Rattle.dm_switchboard.specs.Taking as board_
-use Rattle.dm_procman.specs.Taking as manage
+use Rattle.dm_places.specs.PlacedStep.{with_process}
+use Rattle.dm_link.specs.Places as places
 use Rattle.dm_onekernel.specs.Step as kernel
 use Rattle.dm_kernel.specs.Handle as machine_handle
 use Rattle.dm_kernel.specs.State as machine
 use Rattle.dm_rule.specs.Parts as rule
-use Rattle.dm_places.specs.PlacedStep.{with_process}
-use Rattle.dm_mirror.proofs.Follow.Frames.{Fronts, at_front, eq_off}
-use Rattle.dm_mirror.proofs.Follow.Fronts.{front_still, is_process_of, plain_there}
-use Rattle.dm_mirror.proofs.Follow.Quiet.{no_plain, own_told_of, turns_quiet}
-use Rattle.dm_mirror.proofs.Follow.Receivers.{machine_process, rule_process, set_other, set_self}
-use Rattle.dm_mirror.proofs.Follow.Rows.{handled_point, turns_follow}
+use Rattle.dm_mirror.proofs.Follow.Fronts.{front_still, is_process_of, plain_there, Fronts, at_front, eq_off, known_on, machine_process, rule_process, set_other, set_self, handled_point, turns_follow, handled_view}
 use Rattle.dm_mirror.proofs.Turning.{TurnsAt, begun, has_process}
 use Rattle.dm_mirror.proofs.Kernel.Sets.{away_process as away_not}
 
-rests_away : (m n : ℕ) (k : Known) → n ≢ m → knows (Rests m) n k ≡ true → is_away k ≡ true
+-- the servers may change, and addresses
+abbrev pub with_servers : Placed → Board → Managing → Placed
+with_servers l board manager = record l { board = board; manager = manager }
+
+abbrev pub serving : (b : Boot) (m : ℕ) (pt : Point) (l : Placed) (records : AllRecords) (k : KernelState) (y : Message) → Fronts b m pt l records k y → Option Servers → KernelState
+serving b m pt l records k y c servers = record k { inbox = c.rest; servers = servers }
+
+pub record Quiet (b : Boot) (m : ℕ) (pt : Point) (l : Placed) (records : AllRecords) (k : KernelState) (y : Message) (c : Fronts b m pt l records k y) : Type 0 where
+  pub said : Line
+  pub addresses : Addresses
+  pub board : Board
+  pub manager : Managing
+  pub servers : Option Servers
+  pub turn : handles b (record k { inbox = c.rest }) y ≡ Some (record { state = serving b m pt l records k y c servers; parts = Part.Says said ∷ [] })
+  pub outcome : comes_to b pt m y.id (pt.kernel.bag y.id) ≡ Some (rule.Says said ∷ [])
+  pub after : after_line (begun pt m) said ≡ Some (handled_point pt m y.id pt.view.held (begun pt m).view.topic addresses)
+  pub mirrors : Mirrors pt.kernel (handled_view pt m y.id pt.view.held (begun pt m).view.topic) addresses (with_servers l board manager)
+  pub board_stays : m ≢ 0 → board ≡ l.board
+  pub manager_stays : m ≢ 0 → manager ≡ l.manager
+  pub same : servers ≡ servers_at (with_servers l board manager) m
+  pub number : (y.to.pid.num == 0) ≡ false
+
+pub turns_quiet : (b : Boot) (m : ℕ) (pt : Point) (l : Placed) (records : AllRecords) (k : KernelState) (y : Message) (c : Fronts b m pt l records k y) → Quiet b m pt l records k y c → TurnsAt b m pt l records k
+turns_quiet b m pt l records k y c h =
+    let p = y.to.pid in
+    let topic = (begun pt m).view.topic in
+    let placed = with_servers l h.board h.manager in
+    turns_follow b m pt l records k y c (record {
+      state = serving b m pt l records k y c h.servers;
+      said = h.said;
+      routes = [];
+      held = pt.view.held;
+      topic = topic;
+      addresses = h.addresses;
+      placed = placed;
+      process = p;
+      turn = h.turn;
+      outcome = h.outcome;
+      after = h.after;
+      mirrors = h.mirrors;
+      own_front = λ z e plain. c.own y.id z e plain;
+      sent = (let e : k.sent ≡ k.sent + 0 = omega arith in e);
+      single = omega arith;
+      known = λ server. known_on pt (handled_point pt m y.id pt.view.held topic h.addresses) l placed p (pt.view.queue m p) (pt.view.held m p) (pt.view.known m p) (k.records p) refl refl (λ j least. refl) (λ j least. refl) (c.stands.known p server);
+      still = front_still b m pt l records k y c h.number;
+      may = tt;
+      leaves = search (h.board_stays, h.manager_stays, h.same);
+    })
+
+-- a message of the bag would have a plain meaning
+pub no_plain : (y : Message) (x : PlainMessage) → plain_what y.what ≡ None → plain_message y ≡ Some x → ⊥
+no_plain y x none e = let f : None ≡ Some x = sym (ap (with_what y) none) ∙ e in cc
+
+-- a process that has ended
+pub record Gone (l : Placed) (p : Pid) (r : Option machine.KernelKnown) : Type 0 where
+  pub because : Why
+  pub is : r ≡ Some (Record.Ended because)
+  pub none : l.processes p ≡ None
+
+not_alive : (o : Option Life) (y : Why) → kernel.why_ended o ≡ Some y → kernel.alive o ≡ None
+not_alive o y e = grind (arith, nat_tests)
+
+gone_of : (pt : Point) (l : Placed) (p : Pid) (queue held_ : List MsgId) (r : Option machine.KernelKnown) → Mirrors pt.kernel pt.view pt.addresses l → KnownStands pt l p queue held_ Ended r → Gone l p r
+gone_of pt l p queue held_ (Some (Record.Ended y)) mirrors h = record { because = y; is = refl; none = no_process (l.processes p) (sym (mirrors.plain.processes p) ∙ not_alive (pt.kernel.processes p) y h) }
+gone_of pt l p queue held_ r mirrors h = absurd h
+
+-- at a process that has ended
+pub ended_quiet : (b : Boot) (m : ℕ) (pt : Point) (l : Placed) (records : AllRecords) (k : KernelState) (y : Message) (c : Fronts b m pt l records k y) (said : Line) (a : Addresses) → is_fixed y.to.pid ≡ false → pt.view.known m y.to.pid ≡ Ended → plain_what y.what ≡ None
+    → machine_handle.ended_handles (record k { inbox = c.rest }) y y.what ≡ Some (record { state = record k { inbox = c.rest }; parts = Part.Says said ∷ [] }) → ended_told y.id (kind_of y.what) ≡ Some (rule.Says said ∷ [])
+    → after_line (begun pt m) said ≡ Some (handled_point pt m y.id pt.view.held (begun pt m).view.topic a) → (l.processes y.to.pid ≡ None → Mirrors pt.kernel (handled_view pt m y.id pt.view.held (begun pt m).view.topic) a l) → TurnsAt b m pt l records k
+ended_quiet b m pt l records k y c said a fixed knows none turn told after mirrors =
+    let p = y.to.pid in
+    let is = is_process_of p fixed in
+    let s = record k { inbox = c.rest } in
+    let gone = gone_of pt l p (pt.view.queue m p) (pt.view.held m p) (k.records p) c.mirrors (subst (λ (j : Known). KnownStands pt l p (pt.view.queue m p) (pt.view.held m p) j (k.records p)) knows (c.stands.known p is.server)) in
+    turns_quiet b m pt l records k y c (record {
+      said = said;
+      addresses = a;
+      board = l.board;
+      manager = l.manager;
+      servers = k.servers;
+      turn = machine_process b s y (Some (Record.Ended gone.because)) (Some (record { state = s; parts = Part.Says said ∷ [] })) is gone.is turn;
+      outcome = rule_process b m pt l records k y c Ended (Some (rule.Says said ∷ [])) (plain_message y) is knows refl (λ x e. absurd (no_plain y x none e)) (λ e. ap (λ (t : MessageKind). ended_told y.id t) c.kind ∙ told);
+      after = after;
+      mirrors = mirrors gone.none;
+      board_stays = λ off. refl;
+      manager_stays = λ off. refl;
+      same = c.stands.servers;
+      number = is.number;
+    })
+
+-- a request to move a process that has ended
+pub no_move_turn : (b : Boot) (m : ℕ) (pt : Point) (l : Placed) (records : AllRecords) (k : KernelState) (y : Message) (c : Fronts b m pt l records k y) (to : ℕ) → is_fixed y.to.pid ≡ false → pt.view.known m y.to.pid ≡ Ended → y.what ≡ What.Migrate to → TurnsAt b m pt l records k
+no_move_turn b m pt l records k y c to fixed knows e =
+    ended_quiet b m pt l records k y c (Line.NoMove y.id) pt.addresses fixed knows (ap plain_what e) (ap (machine_handle.ended_handles (record k { inbox = c.rest }) y) e) (ap (λ (w : What). ended_told y.id (kind_of w)) e) refl
+    (λ none. mirrors_view pt.kernel pt.view (handled_view pt m y.id pt.view.held (begun pt m).view.topic) pt.addresses l refl c.mirrors)
+
+-- an update of one that has ended
+pub updated_ended_turn : (b : Boot) (m : ℕ) (pt : Point) (l : Placed) (records : AllRecords) (k : KernelState) (y : Message) (c : Fronts b m pt l records k y) (about : Addr) → is_fixed y.to.pid ≡ false → pt.view.known m y.to.pid ≡ Ended → y.what ≡ What.Update about → TurnsAt b m pt l records k
+updated_ended_turn b m pt l records k y c about fixed knows e =
+    let is = is_process_of y.to.pid fixed in
+    let told = (c.own y.id y c.there (ap (λ (w : What). with_what y (plain_what w)) e)).told in
+    let start = mirrors_view pt.kernel pt.view (begun pt m).view pt.addresses l refl c.mirrors in
+    ended_quiet b m pt l records k y c (Line.Updated y.id 0) (moved (begun pt m) (Line.Updated y.id 0) pt.kernel).addresses fixed knows (ap plain_what e) (ap (machine_handle.ended_handles (record k { inbox = c.rest }) y) e) (ap (λ (w : What). ended_told y.id (kind_of w)) e) refl
+    (λ none. updated_ended_mirrors (begun pt m) l y.id 0 (told_of y) about.pid about.at about.moves start told (ap about_of e) is.board is.manager_ none)
+
+-- An update makes the links of a process or of a server follow another process.
+
+pub rests_away : (m n : ℕ) (k : Known) → n ≢ m → knows (Rests m) n k ≡ true → is_away k ≡ true
 rests_away m n k apart e = sym (ap (λ (c : Bool). if c then is_here k else is_away k) (eq_off m n apart)) ∙ e
 
 rests_at : (b : Boot) (m : ℕ) (pt : Point) (p : Pid) (run : Run b pt) → pt.view.known m p ≡ Here → run.based.phased.phases.of p ≡ Rests m
@@ -55,8 +157,7 @@ here_of pt l p queue held_ r h = absurd h
 
 -- the rule's line
 counted_line : (pt : Point) (y : Message) (t : Told) (n : ℕ) → t ≡ told_of y → behind_count pt.kernel pt.addresses y.to.pid (place_told (about_of y.what)) ≡ n → updates pt y.id t ≡ rule.Says (Line.Updated y.id n) ∷ []
-counted_line pt y t n is count =
-    ap (λ (u : Told). updates pt y.id u) is ∙ ap (λ (j : ℕ). rule.Says (Line.Updated y.id j) ∷ []) count
+counted_line pt y t n is count = grind (arith, nat_tests)
 
 -- the process is here: its links and its data move follow
 pub updated_here_turn : (b : Boot) (m : ℕ) (pt : Point) (l : Placed) (records : AllRecords) (k : KernelState) (y : Message) (c : Fronts b m pt l records k y) (about : Addr) → is_fixed y.to.pid ≡ false → pt.view.known m y.to.pid ≡ Here → y.what ≡ What.Update about → TurnsAt b m pt l records k
@@ -73,7 +174,7 @@ updated_here_turn b m pt l records k y c about fixed knows e =
     let state = with_here s p next in
     let n = count_by (slot_is_behind r about.moves) x.table in
     let told = update_told b m pt l records k y c about e in
-    let was = own_told_of b m pt l records k y c (ap plain_what e) in
+    let was : c.told ≡ told_of y = grind (arith, nat_tests, ap plain_what e) in
     let start = mirrors_view pt.kernel pt.view (begun pt m).view pt.addresses l refl c.mirrors in
     let placed = with_process l p (Some (applied r about.at about.moves z)) in
     let held = pt.view.held in
@@ -81,6 +182,12 @@ updated_here_turn b m pt l records k y c about fixed knows e =
     let a = (moved (begun pt m) (Line.Updated y.id n) pt.kernel).addresses in
     let count = updated_count pt.kernel pt.view pt.addresses l p r about.at about.moves (about_of y.what) z c.mirrors (ap about_of e) is.board is.manager_ there in
     let parts_ = rule.Says (Line.Updated y.id n) ∷ [] in
+    let processes : (q : Pid) → pid_eq p q ≡ false → placed.processes q ≡ l.processes q = λ q off. ap (λ (t : Bool). if t then Some (applied r about.at about.moves z) else l.processes q) off in
+    let apart : (j : ℕ) → j ≢ m → has_process (pt.view.known j p) ≡ true → placed.processes p ≡ l.processes p = λ j off has. absurd (nowhere_else b m j pt p c.run knows off has) in
+    let moving : (i : MsgId) (t : Told) (j : Spot) → pt.view.told i ≡ Some t → is_between t.kind ≡ true → t.about ≡ Of p → 1 ≤ standing pt.view i j → placed.processes p ≡ l.processes p =
+    λ i t j told_ between about_ least. absurd (none_under_way b m pt p i t j c.run knows told_ between about_ least) in
+    let keeps : is_server p ≡ true → state.records p ≡ k.records p = λ server. absurd (false≢true (sym is.server ∙ server)) in
+    let wants : (u : Wanted) → Wants (incoming_of (k.records p)) u → Wants (incoming_of (state.records p)) u = λ u h. absurd (subst (λ (o : Option machine.KernelKnown). Wants (incoming_of o) u) here.is h) in
     turns_follow b m pt l records k y c (record {
       state = state;
       said = Line.Updated y.id n;
@@ -95,43 +202,25 @@ updated_here_turn b m pt l records k y c about fixed knows e =
           (λ f. ap (here_told pt m y.id c.told) (c.kind ∙ ap kind_of e) ∙ ap Some (counted_line pt y c.told n was count));
       after = refl;
       mirrors = updated_mirrors (begun pt m) l y.id n (told_of y) r about.at about.moves z start told (ap about_of e) is.board is.manager_ there;
-      held_off = λ j q off. refl;
-      held_others = λ q off. refl;
-      held_from = λ j q i off. refl;
-      processes = λ q off. ap (λ (t : Bool). if t then Some (applied r about.at about.moves z) else l.processes q) off;
-      elsewhere = λ j off has. absurd (nowhere_else b m j pt p c.run knows off has);
-      moving = λ i t j told_ between about_ least. absurd (none_under_way b m pt p i t j c.run knows told_ between about_ least);
-      bag = λ j off. refl;
       own_front = λ w f plain. c.own y.id w f plain;
-      board = λ off. refl;
-      manager = λ off. refl;
-      here = refl;
-      records_ = λ q off. set_other k.records p (Record.Here next) q off;
-      ring = refl;
-      inbox = refl;
-      made = refl;
-      room = refl;
-      servers = c.stands.servers;
       sent = (let f : k.sent ≡ k.sent + 0 = omega arith in f);
       single = omega arith;
-      keeps = λ server. absurd (false≢true (sym is.server ∙ server));
       known = λ server. subst (KnownStands (handled_point pt m y.id held topic a) placed p (pt.view.queue m p) (pt.view.held m p) (pt.view.known m p)) (sym (set_self k.records p (Record.Here next)))
           (subst (λ (j : Known). KnownStands (handled_point pt m y.id held topic a) placed p (pt.view.queue m p) (pt.view.held m p) j (Some (Record.Here next))) (sym knows)
           ((here.stands.0.0, ap (λ (t : Bool). if t then Some (applied r about.at about.moves z) else l.processes p) (pid_eq-same p)), here.stands.1));
-      wants = λ u h. absurd (subst (λ (o : Option machine.KernelKnown). Wants (incoming_of o) u) here.is h);
       still = front_still b m pt l records k y c is.number;
       may = tt;
+      leaves = search (processes, apart, moving, set_other, c.stands.servers, keeps, wants);
     })
 
 -- the servers are no processes, and on machine 0
 none_by : (b : Boot) (pt : Point) (l : Placed) (p : Pid) (o : Option Life) → Run b pt → Mirrors pt.kernel pt.view pt.addresses l → nat_le 3 p.num ≡ false → pt.kernel.processes p ≡ o → l.processes p ≡ None
-none_by b pt l p None run mirrors few is = grind (arith, nat_tests, option_map)
-none_by b pt l p (Some x) run mirrors few is = absurd (false≢true (sym few ∙ run.based.phased.sane.sound.made.least p (ap is_some is)))
+none_by b pt l p o run mirrors few is = grind (arith, nat_tests, option_map)
 
 at_home : (b : Boot) (m : ℕ) (pt : Point) (l : Placed) (records : AllRecords) (k : KernelState) (y : Message) (c : Fronts b m pt l records k y) → is_fixed y.to.pid ≡ true → y.to.pid.home ≡ 0 → m ≡ 0
 at_home b m pt l records k y c fixed home = c.run.found.fixed y.id (Inbox m) c.told (at_front b m pt l records k y c) c.told_is (ap is_fixed c.receiver ∙ fixed) ∙ ap (λ (p : Pid). p.home) c.receiver ∙ home
 
-first_servers : (l : Placed) (m : ℕ) → m ≡ 0 → servers_at l m ≡ Some (record { board = l.board; manager = l.manager })
+pub first_servers : (l : Placed) (m : ℕ) → m ≡ 0 → servers_at l m ≡ Some (record { board = l.board; manager = l.manager })
 first_servers l m e = ap (servers_at l) e
 
 -- the rule at a server
@@ -139,15 +228,7 @@ server_board : (b : Boot) (pt : Point) (m : ℕ) (id : MsgId) (t : Told) (o : Op
 server_board b pt m id t o e h = grind (arith, nat_tests)
 
 server_manager : (b : Boot) (pt : Point) (m : ℕ) (id : MsgId) (t : Told) (o : Option (List rule.Part)) → t.receiver ≡ manager → server_told pt id t t.kind ≡ o → hears b pt m id (Some t) ≡ o
-server_manager b pt m id t o e h =
-    ap (λ (q : Pid). if q.num == 0 then kernel_hears b pt m id t.kind t.about else if pid_eq q switchboard then server_told pt id t t.kind else if pid_eq q manager then server_told pt id t t.kind else process_told pt m id t (pt.view.known m q)) e ∙ h
-
--- the machine at a server
-machine_board : (b : Boot) (s : KernelState) (y : Message) (v : Servers) (about : Addr) → y.to.pid ≡ switchboard → s.servers ≡ Some v → y.what ≡ What.Update about → handles b s y ≡ board_follows s y v about
-machine_board b s y v about to there e = grind (arith, nat_tests)
-
-machine_manager : (b : Boot) (s : KernelState) (y : Message) (v : Servers) (about : Addr) → y.to.pid ≡ manager → s.servers ≡ Some v → y.what ≡ What.Update about → handles b s y ≡ manager_follows s y v about
-machine_manager b s y v about to there e = grind (arith, nat_tests)
+server_manager b pt m id t o e h = grind (arith, nat_tests)
 
 -- the switchboard's links follow
 pub updated_board_turn : (b : Boot) (m : ℕ) (pt : Point) (l : Placed) (records : AllRecords) (k : KernelState) (y : Message) (c : Fronts b m pt l records k y) (about : Addr) → y.to.pid ≡ switchboard → y.what ≡ What.Update about → TurnsAt b m pt l records k
@@ -159,7 +240,7 @@ updated_board_turn b m pt l records k y c about to e =
     let r = about.pid in
     let n = count_by (named_is_behind r about.moves) l.board.names in
     let told = update_told b m pt l records k y c about e in
-    let was = own_told_of b m pt l records k y c (ap plain_what e) in
+    let was : c.told ≡ told_of y = grind (arith, nat_tests, ap plain_what e) in
     let start = mirrors_view pt.kernel pt.view (begun pt m).view pt.addresses l refl c.mirrors in
     let placed = board_told l r about.at about.moves in
     let none = none_by b pt l switchboard (pt.kernel.processes switchboard) c.run c.mirrors refl refl in
@@ -171,7 +252,7 @@ updated_board_turn b m pt l records k y c about to e =
       board = placed.board;
       manager = l.manager;
       servers = Some (record v { board = placed.board });
-      turn = machine_board b s y v about to there e;
+      turn = grind (arith, nat_tests);
       outcome = ap (comes_to b pt m y.id) plain ∙ ap (hears b pt m y.id) c.told_is
           ∙ server_board b pt m y.id c.told (Some (rule.Says (Line.Updated y.id n) ∷ [])) (c.receiver ∙ to) (ap (server_told pt y.id c.told) (c.kind ∙ ap kind_of e) ∙ ap Some (counted_line pt y c.told n was count));
       after = refl;
@@ -192,7 +273,7 @@ updated_manager_turn b m pt l records k y c about to e =
     let r = about.pid in
     let n = count_by (places.is_behind r about.moves) l.manager.children + count_by (pending_is_behind r about.moves) l.manager.pending in
     let told = update_told b m pt l records k y c about e in
-    let was = own_told_of b m pt l records k y c (ap plain_what e) in
+    let was : c.told ≡ told_of y = grind (arith, nat_tests, ap plain_what e) in
     let start = mirrors_view pt.kernel pt.view (begun pt m).view pt.addresses l refl c.mirrors in
     let placed = manager_told l r about.at about.moves in
     let none = none_by b pt l manager (pt.kernel.processes manager) c.run c.mirrors refl refl in
@@ -204,7 +285,7 @@ updated_manager_turn b m pt l records k y c about to e =
       board = l.board;
       manager = placed.manager;
       servers = Some (record v { manager = placed.manager });
-      turn = machine_manager b s y v about to there e;
+      turn = grind (arith, nat_tests);
       outcome = ap (comes_to b pt m y.id) plain ∙ ap (hears b pt m y.id) c.told_is
           ∙ server_manager b pt m y.id c.told (Some (rule.Says (Line.Updated y.id n) ∷ [])) (c.receiver ∙ to) (ap (server_told pt y.id c.told) (c.kind ∙ ap kind_of e) ∙ ap Some (counted_line pt y c.told n was count));
       after = refl;

@@ -1,9 +1,10 @@
 -- A kernel makes a process.
-use Rattle.dm_mirror.proofs.Names.{◌≡◌, ◌≢◌, ℕ, ◌+◌, ◌/◌, ◌≤◌, ◌==◌, ◌&&◌, Bool, true, false, List, [], ◌∷◌, ◌++◌, length, map, refl, ap, ◌∙◌, sym, subst, is_some, arith, if◌then◌else◌, slice_get, Option, None, Some, false≢true, Pid, nat_tests}
-use Rattle.dm_mirror.proofs.Names.{pid_of, pid_eq, PlainLink, MsgId, Message, What, Record, Label, Line, PlainMessage, PlainWhat, plain_message, Process, begun_process, answer, Boot, BootImage, Format, first_number, image_is_valid}
-use Rattle.dm_mirror.proofs.Names.{slots_of, Alive, OneKernel, PlainProcess, bind, when, answer_id, answer_to, without_message, memory_of, slots_with, pid_eq-same, Part, Routes, Point, Room, and, blocks_of, taken_at, taken_by, takes_room}
-use Rattle.dm_mirror.proofs.Names.{at_record, without_front, Spot, Queue, Held, Inbox, standing, Known, after_label, is_kernels, bag_none, bag_created, has_no_queue, fresh_child, begun, Placed, plainly, create_what, child_of, with_child}
-use Rattle.dm_mirror.proofs.Names.{next_pid, KernelState, turned, KnownStands}
+use Rattle.dm_mirror.proofs.Names.{◌≡◌, ◌≢◌, ℕ, ◌+◌, ◌≤◌, ◌==◌, ◌&&◌, Bool, true, false, List, [], ◌∷◌, ◌++◌, map, refl, ap, ◌∙◌, sym, subst, is_some, arith, if◌then◌else◌, slice_get, Option, None, Some, false≢true, Pid, nat_tests, pid_of}
+use Rattle.dm_mirror.proofs.Names.{pid_eq, PlainLink, MsgId, Message, What, Record, Label, Line, PlainMessage, PlainWhat, plain_message, Process, begun_process, answer, Boot, BootImage, Format, first_number, image_is_valid, slots_of, Alive}
+use Rattle.dm_mirror.proofs.Names.{OneKernel, bind, when, answer_id, answer_to, without_message, memory_of, slots_with, pid_eq-same, Part, Routes, Point, Room, and, blocks_of, taken_at, taken_by, takes_room, at_record, without_front, Spot}
+use Rattle.dm_mirror.proofs.Names.{Queue, Held, Inbox, standing, Known, after_label, is_kernels, bag_none, bag_created, has_no_queue, fresh_child, Placed, plainly, create_what, child_of, with_child, next_pid, KernelState, turned}
+use Rattle.dm_mirror.proofs.Names.{KnownStands, ◌<◌, ◌||◌, IsValid, manager, switchboard, plain_process, is_server, WhatFits, is_fixed, can_handle, OwnTold, Run, Mirrors, plainly_is, MadeStands, AllOwnStand, KernelStands, nat_le, times}
+use Rattle.dm_mirror.proofs.Names.{begun}
 use Rattle.dm_onekernel.specs.Kernel.{with_sent}
 use Rattle.dm_onekernel.specs.Service as service
 use Rattle.dm_onekernel.specs.Start as one
@@ -12,12 +13,17 @@ use Rattle.dm_rule.specs.Rule as rule
 use Rattle.dm_places.specs.PlacedStep as placed
 use Rattle.dm_kernel.specs.declared.part.Part.TheVariants as part
 use Rattle.dm_kernel.specs.State as state
-use Rattle.dm_mirror.proofs.Handle.Frames.{eq_off, eq_self, machine_off, machine_self, map_same, pid_apart, record_off, record_others, record_self, stands_set}
-use Rattle.dm_mirror.proofs.Handle.Makes.{no_room_row, valid_at, free_of, room_same, kernel_is, create_turn, create_outcome, kernel_home, child_off, memory_length, blocks_are}
-use Rattle.dm_mirror.proofs.Handle.Rows.{IsLeft, Elsewhere, Over, Moves, unknown_left, after_one, elsewhere_apart, front_gone, kept_at, kept_behind, mirrors_one, own_back, own_kept, seen_point, standing_begun}
-use Rattle.dm_mirror.proofs.Handle.Taking.{Taking, outcome_is, sane_of, sent_other, sent_there, turn_is, held_apart, queue_apart}
+use Rattle.dm_mirror.proofs.Handle.Rows.{IsLeft, Elsewhere, Over, Moves, unknown_left, after_one, kept_at, kept_behind, mirrors_one, own_back, own_kept, seen_point, standing_begun}
+use Rattle.dm_mirror.proofs.Handle.Taking.{Taking, outcome_is, sane_of, sent_other, sent_there, turn_is, held_apart, queue_apart, eq_off, eq_self, machine_off, machine_self, map_same, pid_apart, record_off, record_others, record_self}
+use Rattle.dm_mirror.proofs.Handle.Taking.{stands_set, took, IsProcess, not_server, rule_to_board, rule_to_kernel, rule_to_manager}
 use Rattle.dm_mirror.proofs.Rooms.{taken_made}
 use Rattle.dm_mirror.proofs.Turning.{Row, has_process, is_elsewhere}
+use Rattle.dm_mirror.proofs.Handle.Ended.{ended_row, is_ended, IsHere, here_outcome, is_here}
+use Rattle.dm_mirror.proofs.Handle.Kills.{kill_row, no_room_row, valid_at, free_of, kernel_is, create_turn, kernel_home, child_off, user_row}
+use Rattle.dm_mirror.proofs.Handle.Landings.{block_row, gone_row, written_row, read_row, resume_row, stop_row, write_row}
+use Rattle.dm_mirror.proofs.Handle.Servers.{board_row, manager_row}
+use Rattle.dm_mirror.proofs.Follow.Fronts.{front_gone, elsewhere_apart}
+use Rattle.dm_mirror.proofs.StartRooms.{memory_blocks}
 
 -- it is made
 abbrev made_point : Point → ℕ → MsgId → Pid → OneKernel → Point
@@ -30,9 +36,6 @@ made_known b m pt l k y w c next on p held x r none is empty there known here =
     subst (λ (z : Known). KnownStands next on p (pt.view.queue m p) held z r) (sym here)
     (subst (KnownStands next on p (pt.view.queue m p) held Known.Here) (sym is)
     ((x.queue, there), ap (map on.bag) waits ∙ ap (map Some) (sym empty)))
-
-made_taken : (m : ℕ) (next : Point) (p : Pid) (g : BootImage) (x : PlainProcess) → next.view.known m p ≡ Known.Here → kernel.alive (next.kernel.processes p) ≡ Some x → x.memory ≡ memory_of g → image_is_valid g ≡ true → taken_by next m p ≡ record { slots = 1; blocks = g.blocks }
-made_taken m next p g x here alive memory valid = grind (arith, nat_tests, blocks_are, memory_length)
 
 pub created_row : (b : Boot) (m : ℕ) (pt : Point) (l : Placed) (k : KernelState) (y : Message) (image : ℕ) (ls : List PlainLink) (g : BootImage) → Taking b m pt l k y (PlainWhat.Create image ls) → (y.to.pid.num == 0) ≡ true → slice_get b.images image ≡ Some g
     → rule.has_room (rule.free_room b pt m) g.blocks ≡ true → image_is_valid g ≡ true → Row b m pt l k
@@ -86,7 +89,7 @@ created_row b m pt l k y image ls g c num found some valid =
     λ n is. (let same : a ≡ n = cc in ap (λ (q : Message). is_kernels q.id) (sym same) ∙ sent_other pt e next on a step mirrors.plain a_there refl seen) in
     let both : (n : Message) → Some a ≡ Some n → (s.bag n.id ≡ None) × (is_kernels n.id ≡ false) = λ n is. (fresh n is, other n is) in
     let kept : (q : Spot) (j : MsgId) → q ≢ Inbox m → 1 ≤ standing pt.view j q → on.bag j ≡ l.bag j = kept_at b m pt l k y (PlainWhat.Create image ls) c on (Some a) bag_is both in
-    let takes = made_taken m goal child g first here (ap kernel.alive lives) refl valid in
+    let takes : taken_by goal m child ≡ record { slots = 1; blocks = g.blocks } = grind (arith, nat_tests, memory_blocks, ap kernel.alive lives) in
     let others : (q : Pid) → q ≢ child → taken_by goal m q ≡ taken_by pt m q =
     λ q apart. (let o = pid_apart child q apart in
     (λ i. record {
@@ -98,33 +101,27 @@ created_row b m pt l k y image ls g c num found some valid =
     let made_here : next.made m ≡ s.made m + 1 = ap (λ (d : Bool). s.made m + (if d then 1 else 0)) (eq_self m) in
     let made_off : (n : ℕ) → n ≢ m → next.made n ≡ s.made n = λ n apart. (let o = eq_off m n apart in ap (λ (d : Bool). s.made n + (if d then 1 else 0)) o ∙ (let f : s.made n + 0 ≡ s.made n = omega arith in f)) in
     let all = taken_made pt goal m m refl c.below made_here made_off others ∙ ap (and (taken_at pt m s.machines)) takes in
+    let sets : (q : Pid) → pid_eq child q ≡ false → (with_child k0 child z g.blocks).records q ≡ k.records q = λ q off. ap (λ (c : Bool). if c then Some (Record.Here z) else k.records q) off in
+    let queues : (q : Pid) (j : MsgId) → pid_eq child q ≡ false → 1 ≤ times j (pt.view.queue m q) → on.bag j ≡ l.bag j = λ q j o least. kept (Queue m q) j (queue_apart m m q) least in
+    let holds : (q : Pid) (j : MsgId) → pid_eq child q ≡ false → 1 ≤ times j (pt.view.held m q) → on.bag j ≡ l.bag j = λ q j o least. kept (Held m q) j (held_apart m m q) least in
+    let mine : KnownStands goal on child (goal.view.queue m child) (goal.view.held m child) (goal.view.known m child) ((with_child k0 child z g.blocks).records child) =
+    made_known b m pt l k y (PlainWhat.Create image ls) c goal on child (pt.view.held m child) z (if pid_eq child child then Some (Record.Here z) else k.records child) (unknown m)
+    (ap (λ (d : Bool). if d then Some (Record.Here z) else k.records child) (pid_eq-same child)) refl stands_there (at_record pt.view.known m child Known.Here m child) here in
+    let keeps : is_server child ≡ true → (with_child k0 child z g.blocks).records child ≡ k.records child = λ is. absurd (false≢true (sym off ∙ is)) in
     record {
       state = with_child k0 child z g.blocks;
       says = Line.Label e ∷ [];
       route = Some a;
       turn = turn_is b m pt l k y (PlainWhat.Create image ls) c (turned (with_child k0 child z g.blocks) (state.says e ∷ part.Routes a ∷ []))
-          (create_turn b k0 y image w.links g true num w.is found (room_same k.room (rule.free_room b pt m) g.blocks free ∙ some)
+          (create_turn b k0 y image w.links g true num w.is found ((λ i. nat_le 1 (free.0 i) && nat_le g.blocks (free.1 i)) ∙ some)
           ∙ (λ i. turned (with_child k0 (name i) (child_of b (name i) g links) g.blocks) (state.says (Label.Created y.id (name i)) ∷ part.Routes (answer (c.stands.here i) 0 y (What.Created (name i))) ∷ [])));
-      outcome = outcome_is b m pt l k y (PlainWhat.Create image ls) c (Some (rule.says e ∷ Routes (answer_id y.id) ∷ [])) (create_outcome b m pt y.id x image ls g true num refl found some);
+      outcome = outcome_is b m pt l k y (PlainWhat.Create image ls) c (Some (rule.says e ∷ Routes (answer_id y.id) ∷ [])) (grind (arith, nat_tests, rule_to_kernel));
       next = goal;
       after = after_one pt m e next (after_label v e) step refl;
       placed = on;
       mirrors = mirrors;
       kernel = stands_set b pt goal l on m k (with_child k0 child z g.blocks) child
-          (record {
-            here = refl;
-            records = λ q o. ap (λ (d : Bool). if d then Some (Record.Here z) else k.records q) o;
-            queue = λ q o. refl;
-            held = λ q o. refl;
-            known = λ q o. record_others pt.view.known m child q Known.Here o;
-            processes = others_placed;
-            lives = others_live;
-            bag = λ q j o least. kept (Queue m q) j (queue_apart m m q) least;
-            holds = λ q j o least. kept (Held m q) j (held_apart m m q) least;
-            mine = λ o. made_known b m pt l k y (PlainWhat.Create image ls) c goal on child (pt.view.held m child) z (if pid_eq child child then Some (Record.Here z) else k.records child) (unknown m)
-                (ap (λ (d : Bool). if d then Some (Record.Here z) else k.records child) (pid_eq-same child)) refl stands_there (at_record pt.view.known m child Known.Here m child) here;
-            keeps = λ is. absurd (false≢true (sym off ∙ is));
-          }) c.stands
+          (search (sets, record_others, others_placed, others_live, queues, holds, mine, keeps)) c.stands
           (ap (λ (ps : List Pid). ps ++ child ∷ []) c.stands.ring ∙ sym (machine_self pt.view.ring m (pt.view.ring m ++ child ∷ [])))
           (ap (map on.bag) (machine_self pt.view.inbox m (without_front y.id (pt.view.inbox m)) ∙ front_gone y.id c.ids (pt.view.inbox m) c.box)
           ∙ map_same l.bag on.bag c.ids (kept_behind b m pt l k y (PlainWhat.Create image ls) c on (Some a) bag_is both) ∙ c.others)
@@ -166,3 +163,59 @@ asks_row b m pt l k y image ls ps (Some g) false c num found room goes = no_room
 pub kernel_row : (b : Boot) (m : ℕ) (pt : Point) (l : Placed) (k : KernelState) (y : Message) (w : PlainWhat) (ps : List Part) → Taking b m pt l k y w → (y.to.pid.num == 0) ≡ true → rule.kernel_handles b pt m y.id w ≡ Some ps → Row b m pt l k
 kernel_row b m pt l k y (PlainWhat.Create image ls) ps c num goes = asks_row b m pt l k y image ls ps (slice_get b.images image) (room_for (rule.free_room b pt m) (slice_get b.images image)) c num refl refl goes
 kernel_row b m pt l k y w ps c num goes = absurd (let f : None ≡ Some ps = goes in cc)
+
+-- A message of the bag at the inbox's front, for a kernel, a server, or a process that is here or has ended here.
+
+-- whom the message is for
+pub data BagFor (m : ℕ) (pt : Point) (p : Pid) : Type 0 where
+  ForFixed : (fixed : is_fixed p ≡ true) → BagFor m pt p
+  ForHere : (here : pt.view.known m p ≡ Known.Here) → BagFor m pt p
+  ForEnded : (over : pt.view.known m p ≡ Known.Ended) → BagFor m pt p
+
+-- the receiver is here, a row a kind
+here_row : (b : Boot) (m : ℕ) (pt : Point) (l : Placed) (k : KernelState) (y : Message) (w : PlainWhat) (ps : List Part) (c : Taking b m pt l k y w) (h : IsHere b m pt l k y.to.pid) → WhatFits pt.kernel y.id (plainly y w) w
+    → rule.here_handles pt m y.id (plainly y w) (plain_process h.x) w ≡ Some ps → Row b m pt l k
+here_row b m pt l k y (PlainWhat.User code channel bytes ls) ps c h fits goes = user_row b m pt l k y code channel bytes ls c h
+here_row b m pt l k y PlainWhat.Stop ps c h fits goes = stop_row b m pt l k y c h
+here_row b m pt l k y PlainWhat.Resume ps c h fits goes = resume_row b m pt l k y c h
+here_row b m pt l k y PlainWhat.Kill ps c h fits goes = kill_row b m pt l k y c h
+here_row b m pt l k y (PlainWhat.Read base len) ps c h fits goes = read_row b m pt l k y base len c h fits
+here_row b m pt l k y (PlainWhat.Write base bytes) ps c h fits goes = write_row b m pt l k y base bytes c h fits
+here_row b m pt l k y (PlainWhat.Block bytes) ps c h fits goes = block_row b m pt l k y bytes ps c h goes
+here_row b m pt l k y PlainWhat.Written ps c h fits goes = written_row b m pt l k y ps c h goes
+here_row b m pt l k y PlainWhat.Gone ps c h fits goes = gone_row b m pt l k y ps c h goes
+here_row b m pt l k y _ ps c h fits goes = absurd (let f : None ≡ Some ps = goes in cc)
+
+-- a process, by what the machine knows of it
+process_row : (b : Boot) (m : ℕ) (pt : Point) (l : Placed) (k : KernelState) (y : Message) (w : PlainWhat) (ps : List Part) (c : Taking b m pt l k y w) → IsProcess y.to.pid → BagFor m pt y.to.pid → WhatFits pt.kernel y.id (plainly y w) w
+    → rule.handles b pt m y.id (plainly y w) ≡ Some ps → Row b m pt l k
+process_row b m pt l k y w ps c process (ForFixed fixed) fits goes =
+    let p = y.to.pid in
+    absurd (false≢true (sym (ap (λ (d : Bool). d || is_server p) process.number ∙ not_server p process) ∙ fixed))
+process_row b m pt l k y w ps c process (ForHere here) fits goes =
+    let h = is_here b m pt l k y w c process here in
+    here_row b m pt l k y w ps c h fits (sym (here_outcome b m pt l k y w h (rule.here_handles pt m y.id (plainly y w) (plain_process h.x) w) refl) ∙ goes)
+process_row b m pt l k y w ps c process (ForEnded over) fits goes = ended_row b m pt l k y w c (is_ended b m pt l k y w c process over) fits
+
+-- a kernel, a server or a process
+row_by : (b : Boot) (m : ℕ) (pt : Point) (l : Placed) (k : KernelState) (y : Message) (w : PlainWhat) (ps : List Part) (d e f : Bool) (c : Taking b m pt l k y w) → (y.to.pid.num == 0) ≡ d → pid_eq y.to.pid switchboard ≡ e → pid_eq y.to.pid manager ≡ f → BagFor m pt y.to.pid
+    → WhatFits pt.kernel y.id (plainly y w) w → rule.handles b pt m y.id (plainly y w) ≡ Some ps → Row b m pt l k
+row_by b m pt l k y w ps true e f c num one two whom fits goes = kernel_row b m pt l k y w ps c num (sym (rule_to_kernel b pt m y.id (plainly y w) num) ∙ goes)
+row_by b m pt l k y w ps false true f c num one two whom fits goes = board_row b m pt l k y w ps c num one (sym (rule_to_board b pt m y.id (plainly y w) num one) ∙ goes)
+row_by b m pt l k y w ps false false true c num one two whom fits goes = manager_row b m pt l k y w ps c num one two fits (sym (rule_to_manager b pt m y.id (plainly y w) num one two) ∙ goes)
+row_by b m pt l k y w ps false false false c num one two whom fits goes = process_row b m pt l k y w ps c (record { number = num; no_board = one; no_manager = two }) whom fits goes
+
+pub taking_row : (b : Boot) (m : ℕ) (pt : Point) (l : Placed) (k : KernelState) (y : Message) (w : PlainWhat) → Taking b m pt l k y w → BagFor m pt y.to.pid → Row b m pt l k
+taking_row b m pt l k y w c whom =
+    let x = plainly y w in
+    let can = can_handle b m pt y.id x c.front c.told in
+    let goes : rule.handles b pt m y.id x ≡ Some can.ps = sym (ap (rule.comes_to b pt m y.id) c.front.there) ∙ can.is in
+    row_by b m pt l k y w can.ps (y.to.pid.num == 0) (pid_eq y.to.pid switchboard) (pid_eq y.to.pid manager) c refl refl refl whom (c.run.based.fits.messages y.id x c.front.there) goes
+
+-- the machine's kernel handles the message of the bag that the lines say is at the front, as the rule says
+pub bag_row : (b : Boot) (m : ℕ) (pt : Point) (l : Placed) (k : KernelState) (i : MsgId) (is : List MsgId) (x : PlainMessage) → IsValid b → m < pt.kernel.machines → Run b pt → OwnTold pt → MadeStands pt.kernel → Mirrors pt.kernel pt.view pt.addresses l → KernelStands b pt l m k → AllOwnStand pt.view l
+    → pt.view.inbox m ≡ i ∷ is → pt.kernel.bag i ≡ Some x → BagFor m pt x.to → Row b m pt l k
+bag_row b m pt l k i is x valid below run told made mirrors stands own box there whom =
+    let t = took b m pt l k i is x valid below run told made mirrors stands own box there in
+    let to : x.to ≡ t.message.to.pid = ap (λ (z : PlainMessage). z.to) (plainly_is t.message x t.plain) in
+    taking_row b m pt l k t.message x.what t.taking (subst (BagFor m pt) to whom)

@@ -1,12 +1,14 @@
--- A process that is here is killed: it ends, and its queue is dropped.
-use Rattle.dm_mirror.proofs.Names.{◌≡◌, ◌≢◌, ℕ, ◌+◌, ◌/◌, ◌≤◌, ◌<◌, ◌==◌, ◌&&◌, Bool, true, false, not, List, [], ◌∷◌, ◌++◌, length, map, refl, ap, ◌∙◌, sym, subst, is_some, arith, if◌then◌else◌, slice_get, Option, None, Some, false≢true, nat_tests}
-use Rattle.dm_mirror.proofs.Names.{Pid, pid_eq, MsgId, Message, plain_message, Record, Label, Line, Process, Taken, with_released, Boot, Why, Alive, Life, OneKernel, with_process, bind, plain_process, without_message, pid_eq-same, out_off}
-use Rattle.dm_mirror.proofs.Names.{Point, after, moved, Room, blocks_of, taken_at, taken_by, takes_room, without, without_front, Spot, Queue, Held, Inbox, times, standing, StandsAsBag, Known, View, after_label, handled, stands_right}
-use Rattle.dm_mirror.proofs.Names.{StandsAsBag-elsewhere, begun, served_is, droppable_on, Run, Placed, Mirrors, with_queue, plainly, kill_what, room_of, here_handles, KernelState, turned, without_process, KnownStands, RoomStands}
-use Rattle.dm_mirror.proofs.Names.{told_there, zero_if}
-use Rattle.dm_message.specs.Plain as said
+-- The queue of a process that has ended is dropped, message by message.
+use Rattle.dm_mirror.proofs.Names.{◌≡◌, ◌≢◌, ℕ, ◌+◌, ◌/◌, ◌≤◌, ◌<◌, ◌==◌, ◌&&◌, Bool, true, false, List, [], ◌∷◌, ◌++◌, length, map, refl, ap, ◌∙◌, sym, subst, is_some, arith, if◌then◌else◌, slice_get, Option, None, Some, false≢true}
+use Rattle.dm_mirror.proofs.Names.{nat_tests, Pid, pid_eq, MsgId, Message, plain_message, Record, Label, Line, Taken, Boot, Why, OneKernel, with_process, bind, plain_process, without_message, pid_eq-same, out_off, Point, after, moved, Room}
+use Rattle.dm_mirror.proofs.Names.{blocks_of, taken_at, taken_by, takes_room, without, without_front, Spot, Queue, Held, Inbox, times, standing, StandsAsBag, Known, View, after_label, handled, stands_right, StandsAsBag-elsewhere, served_is}
+use Rattle.dm_mirror.proofs.Names.{droppable_on, Run, Placed, Mirrors, with_queue, plainly, kill_what, room_of, here_handles, KernelState, turned, without_process, KnownStands, RoomStands, told_there, zero_if, inl, inr, cases_Bool, id_eq}
+use Rattle.dm_mirror.proofs.Names.{id_eq-is, id_eq-same, Droppable, dropped_is, mirrors_view, placed_follows, AreMessages, user_dropped, machine_same, zero, suc, ◌||◌, nat_le, nat_lt, pid_of, PlainLink, What, PlainMessage, PlainWhat}
+use Rattle.dm_mirror.proofs.Names.{free_slots, free_blocks, answer, BootImage, BootMachine, first_number, images_are_valid, image_is_valid, when, answer_id, answer_to, bag_none, bag_no_space, is_server, home_of, create_what, handles, makes}
+use Rattle.dm_mirror.proofs.Names.{and-both, Says, at_record, told_receiver, user_what, queued, with_here, begun}
 use Rattle.dm_kernel.specs.declared.part.Part.{Part}
-use Rattle.dm_onekernel.specs.Kernel.{Ended}
+use Rattle.dm_onekernel.specs.Kernel.{Ended, with_sent}
+use Rattle.dm_message.specs.Plain as said
 use Rattle.dm_onekernel.specs.Step as kernel
 use Rattle.dm_rule.specs.Parts as rule_part
 use Rattle.dm_rule.specs.Rule as rule
@@ -14,15 +16,135 @@ use Rattle.dm_rule.specs.View as view
 use Rattle.dm_places.specs.PlacedStep as placed
 use Rattle.dm_kernel.specs.declared.part.Part as part_
 use Rattle.dm_kernel.specs.State as state
-use Rattle.dm_mirror.proofs.Handle.Drops.{Drops, all_dropped, drop_line, drops_are, drops_still, rule_drops}
-use Rattle.dm_mirror.proofs.Handle.Frames.{eq_off, eq_self, machine_off, machine_self, map_same, pid_apart, record_off, record_others, record_self, stands_set, times_more}
-use Rattle.dm_mirror.proofs.Handle.Here.{IsHere, here_outcome, here_turn, served_placed, served_step}
-use Rattle.dm_mirror.proofs.Handle.Receivers.{not_server}
-use Rattle.dm_mirror.proofs.Handle.Rows.{IsLeft, Elsewhere, Over, Moves, here_left, elsewhere_apart, front_gone, kept_at, kept_behind, mirrors_one, own_back, own_kept, seen_point, standing_begun}
-use Rattle.dm_mirror.proofs.Handle.Taking.{Taking, apart_at, outcome_is, sane_of, turn_is, held_apart, held_no_queue, queue_apart, waits}
-use Rattle.dm_mirror.proofs.Rooms.{taken_changed}
-use Rattle.dm_mirror.proofs.Turning.{is_elsewhere, Row}
-use Rattle.dm_mirror.proofs.Leave.Goes.{other_queue}
+use Rattle.dm_onekernel.specs.Service as service
+use Rattle.dm_kernel.specs.Handle as machine
+use Rattle.dm_mirror.proofs.Handle.Rows.{IsLeft, Elsewhere, Over, Moves, here_left, kept_at, kept_behind, mirrors_one, own_back, own_kept, seen_point, standing_begun, out_back, handled_point, turns_row}
+use Rattle.dm_mirror.proofs.Handle.Taking.{Taking, apart_at, outcome_is, sane_of, turn_is, held_apart, held_no_queue, queue_apart, waits, eq_off, eq_self, machine_off, machine_self, map_same, pid_apart, record_off, record_others}
+use Rattle.dm_mirror.proofs.Handle.Taking.{record_self, stands_set, times_more, times_self, not_server, known_on, to_kernel, rule_to_kernel}
+use Rattle.dm_mirror.proofs.Rooms.{taken_changed, taken_same}
+use Rattle.dm_mirror.proofs.Turning.{is_elsewhere, Row, are_still, has_process}
+use Rattle.dm_mirror.proofs.Leave.Goes.{other_queue, elsewhere_queue, room_released}
+use Rattle.dm_mirror.proofs.Handle.Ended.{front_none, IsHere, here_outcome, here_turn, served_placed, served_step, here_known}
+use Rattle.dm_mirror.proofs.Follow.Fronts.{front_gone, elsewhere_apart}
+pub use Rattle.dm_mirror.proofs.Deliver.Moves.{messages_push as last_message}
+
+abbrev pub drop_line : MsgId → Line
+drop_line i = Line.Label (Label.Dropped i)
+
+-- what the drops leave
+pub record Drops (pt : Point) (l : Placed) (p : Pid) (ids : List MsgId) : Type 0 where
+  pub next : Point
+  pub on : Placed
+  pub after : after pt (map drop_line ids) ≡ Some next
+  pub mirrors : Mirrors next.kernel next.view next.addresses on
+  pub acting : next.view.acting ≡ pt.view.acting
+  pub groups : next.view.groups ≡ pt.view.groups
+  pub pair : (a c : ℕ) → next.view.pair a c ≡ pt.view.pair a c
+  pub inbox : (n : ℕ) → next.view.inbox n ≡ pt.view.inbox n
+  pub ring : (n : ℕ) → next.view.ring n ≡ pt.view.ring n
+  pub known : (n : ℕ) (q : Pid) → next.view.known n q ≡ pt.view.known n q
+  pub held : (n : ℕ) (q : Pid) → next.view.held n q ≡ pt.view.held n q
+  pub count : (n : ℕ) → next.view.count n ≡ pt.view.count n
+  pub told : next.view.told ≡ pt.view.told
+  pub empty : next.view.queue pt.view.acting p ≡ []
+  pub queue : (n : ℕ) (q : Pid) → ((pt.view.acting == n) && pid_eq p q) ≡ false → next.view.queue n q ≡ pt.view.queue n q
+  pub machines : next.kernel.machines ≡ pt.kernel.machines
+  pub made : (n : ℕ) → next.kernel.made n ≡ pt.kernel.made n
+  pub lives : (q : Pid) → next.kernel.processes q ≡ pt.kernel.processes q
+  pub processes : (q : Pid) → on.processes q ≡ l.processes q
+  pub bag : (j : MsgId) → times j ids ≡ 0 → on.bag j ≡ l.bag j
+  pub back : (j : MsgId) (x : Message) → on.bag j ≡ Some x → l.bag j ≡ Some x
+  pub board : on.board ≡ l.board
+  pub manager : on.manager ≡ l.manager
+
+-- a message that isn't there
+pub times_off : (j i : MsgId) (is : List MsgId) → times j (i ∷ is) ≡ 0 → (id_eq i j ≡ false) × (times j is ≡ 0)
+times_off j i is none = grind (arith, nat_tests, id_eq-is, times_self, times_more)
+
+-- the view after one
+abbrev dropped_view : View → MsgId → Pid → View
+dropped_view v j p = view.dropped_for (handled v j) j (Some p)
+
+abbrev dropped_point : Point → MsgId → Pid → Point
+dropped_point pt j p = record { kernel = without_message pt.kernel j; view = dropped_view pt.view j p; addresses = pt.addresses }
+
+one_after : (pt : Point) (j : MsgId) (p : Pid) (rest : List Line) → kernel.step pt.kernel (Label.Dropped j) ≡ Some (without_message pt.kernel j) → view.receiver_of (pt.view.told j) ≡ Some p → after pt (drop_line j ∷ rest) ≡ after (dropped_point pt j p) rest
+one_after pt j p rest step told = grind (arith, nat_tests)
+
+one_mirrors : (pt : Point) (l : Placed) (j : MsgId) (p : Pid) → kernel.step pt.kernel (Label.Dropped j) ≡ Some (without_message pt.kernel j) → Mirrors pt.kernel pt.view pt.addresses l
+    → Mirrors (without_message pt.kernel j) (dropped_view pt.view j p) pt.addresses (placed.without_message l j)
+one_mirrors pt l j p step h =
+    let (on, found, mirrors) = placed_follows pt.kernel (without_message pt.kernel j) pt.view pt.addresses l pt.view.acting (Label.Dropped j) h refl tt step in
+    let same : on ≡ placed.without_message l j = let f : Some on ≡ Some (placed.without_message l j) = sym found in cc in
+    subst (Mirrors (without_message pt.kernel j) (dropped_view pt.view j p) pt.addresses) same (mirrors_view (without_message pt.kernel j) pt.view (dropped_view pt.view j p) pt.addresses on refl mirrors)
+
+pub all_dropped : (ids : List MsgId) (pt : Point) (l : Placed) (p : Pid) (y : Why) → pt.view.queue pt.view.acting p ≡ ids → pt.kernel.processes p ≡ Some (Ended y) → Droppable pt.kernel p ids
+    → ((j : MsgId) → 1 ≤ times j ids → view.receiver_of (pt.view.told j) ≡ Some p) → ((j : MsgId) → 1 ≤ times j ids → times j (pt.view.inbox pt.view.acting) ≡ 0) → Mirrors pt.kernel pt.view pt.addresses l → Drops pt l p ids
+all_dropped [] pt l p y front ended drops told inbox h = search
+all_dropped (j ∷ js) pt l p y front ended drops told inbox h =
+    let s = pt.kernel in
+    let v = pt.view in
+    let m = v.acting in
+    let step = dropped_is s j drops.0.x y drops.0.there (ap s.processes drops.0.to ∙ ended) (user_dropped drops.0.x.what drops.0.user) in
+    let first = told j (times_self j js) in
+    let mid = dropped_point pt j p in
+    let boxes = machine_same v.inbox m (without_front j (v.inbox m)) (front_none j (v.inbox m) (inbox j (times_self j js))) in
+    let left : mid.view.queue m p ≡ js =
+    record_self v.queue m p (without_front j (v.queue m p)) (pid_eq-same p) ∙ ap (without_front j) front ∙ ap (λ (c : Bool). if c then js else j ∷ js) (id_eq-same j) in
+    let more : (i : MsgId) → 1 ≤ times i js → 1 ≤ times i (j ∷ js) = λ i least. (let f = times_more i j js in omega (arith, least, f)) in
+    let off : (i : MsgId) → 1 ≤ times i js → id_eq j i ≡ false = λ i least. (elim (cases_Bool (id_eq j i)) [
+      | inl same ↦ absurd (let e : times j js ≡ times i js = ap (λ (z : MsgId). times z js) (id_eq-is j i same) in let none : times j js ≡ 0 = drops.1 in omega (arith, least, e, none))
+      | inr apart ↦ apart
+    ]) in
+    let g = all_dropped js mid (placed.without_message l j) p y left ended (droppable_on s (without_message s j) p js (λ i least. out_off s j i (off i least)) drops.2) (λ i least. told i (more i least))
+    (λ i least. ap (times i) (boxes m) ∙ inbox i (more i least)) (one_mirrors pt l j p step h) in
+    record {
+      next = g.next;
+      on = g.on;
+      after = one_after pt j p (map drop_line js) step first ∙ g.after;
+      mirrors = g.mirrors;
+      acting = g.acting;
+      groups = g.groups;
+      pair = g.pair;
+      inbox = λ n. g.inbox n ∙ boxes n;
+      ring = g.ring;
+      known = g.known;
+      held = g.held;
+      count = g.count;
+      told = g.told;
+      empty = g.empty;
+      queue = λ n q apart. g.queue n q apart ∙ ap (λ (c : Bool). if c then without_front j (v.queue m p) else v.queue n q) apart;
+      machines = g.machines;
+      made = g.made;
+      lives = g.lives;
+      processes = g.processes;
+      bag = λ i none. let f = times_off i j js none in g.bag i f.1 ∙ ap (λ (c : Bool). if c then None else l.bag i) f.0;
+      back = λ i x there. out_back (id_eq j i) (l.bag i) x (g.back i x there);
+      board = g.board;
+      manager = g.manager;
+    }
+
+-- the parts
+pub drops_are : (bag : MsgId → Option Message) (ids : List MsgId) (ms : List Message) → ((i : MsgId) (x : Message) → bag i ≡ Some x → x.id ≡ i) → AreMessages bag ids ms → state.drops ms ≡ map Part.Says (map drop_line ids) ++ []
+drops_are bag [] [] names h = refl
+drops_are bag (j ∷ js) (z ∷ zs) names h =
+    let first : bag j ≡ Some z = cc in
+    let rest : map bag js ≡ map Some zs = cc in
+    let more = drops_are bag js zs names rest in
+    let name = names j z first in
+    λ i. state.says (Label.Dropped (name i)) ∷ more i
+drops_are bag [] (z ∷ zs) names h = cc
+drops_are bag (j ∷ js) [] names h = cc
+
+pub rule_drops : (ids : List MsgId) → rule.drop_parts ids ≡ map rule_part.Says (map drop_line ids) ++ []
+rule_drops [] = refl
+rule_drops (j ∷ js) = ap (λ (ps : List rule_part.Part). rule.says (Label.Dropped j) ∷ ps) (rule_drops js)
+
+pub drops_still : (ids : List MsgId) → are_still (map drop_line ids) ≡ true
+drops_still [] = refl
+drops_still (j ∷ js) = drops_still js
+
+-- A process that is here is killed: it ends, and its queue is dropped.
 
 -- where the kill leads, before its queue is dropped
 abbrev ended_view : Point → ℕ → MsgId → Pid → View
@@ -53,9 +175,6 @@ own_unqueued b pt m p l j x run mirrors none there =
     let is : Some q.x ≡ None = sym q.there ∙ sym (mirrors.plain.bag j) ∙ ap (λ (o : Option Message). bind o plain_message) there ∙ none in
     cc)
 
-elsewhere_queue : (m : ℕ) (p : Pid) (s : Spot) → is_elsewhere m s ≡ true → s ≢ Queue m p
-elsewhere_queue m p s is e = false≢true (sym (ap not (eq_self m)) ∙ ap (is_elsewhere m) (sym e) ∙ is)
-
 -- what is known of it then
 ended_known : (next : Point) (on : Placed) (p : Pid) (queue held : List MsgId) (z : Why) (r : Option state.KernelKnown) (n : Known) → r ≡ Some (Record.Ended z) → n ≡ view.Ended → kernel.why_ended (next.kernel.processes p) ≡ Some z → KnownStands next on p queue held n r
 ended_known next on p queue held z r n is gone ended = subst (λ (v : Known). KnownStands next on p queue held v r) (sym gone) (subst (KnownStands next on p queue held view.Ended) (sym is) ended)
@@ -63,15 +182,6 @@ ended_known next on p queue held z r n is gone ended = subst (λ (v : Known). Kn
 -- what it took is free again
 ended_taken : (m : ℕ) (next : Point) (p : Pid) → next.view.known m p ≡ view.Ended → taken_by next m p ≡ record { slots = 0; blocks = 0 }
 ended_taken m next p gone = ap (λ (z : Known). record { slots = takes_room z; blocks = if takes_room z == 0 then 0 else blocks_of (kernel.alive (next.kernel.processes p)) }) gone
-
-here_taken : (m : ℕ) (pt : Point) (p : Pid) (x : Process) → pt.view.known m p ≡ view.Here → pt.kernel.processes p ≡ Some (Alive (plain_process x)) → taken_by pt m p ≡ record { slots = 1; blocks = length x.memory / 256 }
-here_taken m pt p x here life = grind (arith, nat_tests)
-
-released : (t given : Taken) (o n : Room) (blocks : ℕ) → RoomStands t given o → (n.slots + 1 ≡ o.slots + 0) → (n.blocks + blocks ≡ o.blocks + 0) → RoomStands (with_released t blocks) given n
-released t given o n blocks h slots pieces =
-    let a = h.taken_slots in
-    let c = h.taken_blocks in
-    record { slots = h.slots; blocks = h.blocks; taken_slots = omega (arith, a, slots); taken_blocks = omega (arith, c, pieces) }
 
 queued_told : (b : Boot) (m : ℕ) (pt : Point) (l : Placed) (k : KernelState) (y : Message) (w : said.PlainWhat) → Taking b m pt l k y w → (p : Pid) (j : MsgId) → 1 ≤ times j (pt.view.queue m p) → view.receiver_of (pt.view.told j) ≡ Some p
 queued_told b m pt l k y w c p j least =
@@ -114,9 +224,6 @@ goes b m pt l k y c h =
     ap (times j) (machine_self pt.view.inbox m (without_front i (pt.view.inbox m)) ∙ front_gone i c.ids (pt.view.inbox m) c.box) ∙ behind) in
     record { view = view_is; step = step; drops = all_dropped ids mid on p Why.Killed refl ended (droppable_on s t p ids off (c.front.drops p)) told inbox mirrors }
 
-none_some : (a : Message) → None ≡ Some a → ⊥
-none_some a f = cc
-
 pub kill_row : (b : Boot) (m : ℕ) (pt : Point) (l : Placed) (k : KernelState) (y : Message) (c : Taking b m pt l k y said.Kill) → IsHere b m pt l k y.to.pid → Row b m pt l k
 kill_row b m pt l k y c h =
     let s = pt.kernel in
@@ -132,11 +239,11 @@ kill_row b m pt l k y c h =
     let end = without_process k0 p h.x Why.Killed in
     let says = Line.Label e ∷ map drop_line ids in
     let drops = drops_are l.bag ids h.x.queue (λ j z there. (c.mirrors.places.message j z there).id) h.waits in
-    let kept : (q : Spot) (j : MsgId) → q ≢ Inbox m → 1 ≤ standing pt.view j q → on.bag j ≡ l.bag j = kept_at b m pt l k y w c on None (λ j. refl) (λ a f. absurd (none_some a f)) in
+    let kept : (q : Spot) (j : MsgId) → q ≢ Inbox m → 1 ≤ standing pt.view j q → on.bag j ≡ l.bag j = kept_at b m pt l k y w c on None (λ j. refl) (λ a f. absurd (cc)) in
     let behind : (j : MsgId) → 1 ≤ times j c.ids → g.on.bag j ≡ l.bag j = λ j least. (
     let more = times_more j i c.ids in
     let there : 1 ≤ standing pt.view j (Inbox m) = subst (λ (z : List MsgId). 1 ≤ times j z) (sym c.box) (omega (arith, least, more)) in
-    g.bag j (in_queue pt m p (Inbox m) j b l k y w c (λ f. queue_apart m m p (sym f)) there) ∙ kept_behind b m pt l k y w c on None (λ n. refl) (λ a f. absurd (none_some a f)) j least) in
+    g.bag j (in_queue pt m p (Inbox m) j b l k y w c (λ f. queue_apart m m p (sym f)) there) ∙ kept_behind b m pt l k y w c on None (λ n. refl) (λ a f. absurd (cc)) j least) in
     let known : g.next.view.known m p ≡ view.Ended = g.known m p ∙ record_self pt.view.known m p view.Ended (pid_eq-same p) in
     let life : g.next.kernel.processes p ≡ Some (Ended Why.Killed) = g.lives p ∙ ap (λ (d : Bool). if d then Some (Ended Why.Killed) else s.processes p) (pid_eq-same p) in
     let others_known : (q : Pid) → pid_eq p q ≡ false → g.next.view.known m q ≡ pt.view.known m q = λ q off. g.known m q ∙ record_others pt.view.known m p q view.Ended off in
@@ -151,12 +258,15 @@ kill_row b m pt l k y c h =
       slots = takes_room (others_known q off n);
       blocks = if takes_room (others_known q off n) == 0 then 0 else blocks_of (kernel.alive (others_live q off n));
     }))) in
-    let was = here_taken m pt p h.x h.known h.life in
+    let was : taken_by pt m p ≡ record { slots = 1; blocks = length h.x.memory / 256 } = grind (arith, nat_tests, h.known, h.life) in
     let is = ended_taken m g.next p known in
     let now = taken_at g.next m g.next.kernel.machines in
     let before = taken_at pt m s.machines in
     let slots : now.slots + 1 ≡ before.slots + 0 = ap (λ (r : Room). now.slots + r.slots) (sym was) ∙ taken.0 ∙ ap (λ (r : Room). before.slots + r.slots) is in
     let blocks : now.blocks + length h.x.memory / 256 ≡ before.blocks + 0 = ap (λ (r : Room). now.blocks + r.blocks) (sym was) ∙ taken.1 ∙ ap (λ (r : Room). before.blocks + r.blocks) is in
+    let stays : (j : MsgId) (q : Spot) → is_elsewhere m q ≡ true → 1 ≤ standing (begun pt m).view j q → g.on.bag j ≡ l.bag j = λ j q off least. (
+    let stands : 1 ≤ standing pt.view j q = subst (λ (n : ℕ). 1 ≤ n) (standing_begun pt m j q) least in
+    g.bag j (in_queue pt m p q j b l k y w c (elsewhere_queue m p q off) stands) ∙ kept q j (elsewhere_apart m q off) stands) in
     record {
       state = end;
       says = says;
@@ -186,34 +296,154 @@ kill_row b m pt l k y c h =
           (ap (without p) c.stands.ring ∙ sym (g.ring m ∙ machine_self pt.view.ring m (without p (pt.view.ring m))))
           (ap (map g.on.bag) (g.inbox m ∙ machine_self pt.view.inbox m (without_front i (pt.view.inbox m)) ∙ front_gone i c.ids (pt.view.inbox m) c.box) ∙ map_same l.bag g.on.bag c.ids behind ∙ c.others)
           (c.stands.made ∙ sym (g.made m))
-          (released k.room (room_of (slice_get b.machines m)) before now (length h.x.memory / 256) c.stands.room slots blocks)
+          (room_released k.room (room_of (slice_get b.machines m)) before now (length h.x.memory / 256) c.stands.room slots blocks)
           (c.stands.servers ∙ (λ n. if m == 0 then Some (record { board = sym g.board n; manager = sym g.manager n }) else None));
-      elsewhere = record {
-        acting = g.acting;
-        groups = g.groups;
-        pair = g.pair;
-        inbox = λ n off. g.inbox n ∙ machine_off pt.view.inbox m n (without_front i (pt.view.inbox m)) off;
-        ring = λ n off. g.ring n ∙ machine_off pt.view.ring m n (without p (pt.view.ring m)) off;
-        known = λ n q off. g.known n q ∙ record_off pt.view.known m n p q view.Ended off;
-        queue = λ n q off. g.queue n q (ap (λ (d : Bool). d && pid_eq p q) (eq_off m n off));
-        held = λ n q off. g.held n q;
-        count = g.count;
-        told = g.told;
-        machines = g.machines;
-        made = λ n off. g.made n;
-        process = λ n q off has. others_placed q (left q (Elsewhere n off has));
-        ended = λ n q off over. others_live q (left q (Over n off over));
-        life = λ n q off has. others_live q (left q (Elsewhere n off has));
-        bag = λ j q off least. (
-            let stands : 1 ≤ standing pt.view j q = subst (λ (n : ℕ). 1 ≤ n) (standing_begun pt m j q) least in
-            g.bag j (in_queue pt m p q j b l k y w c (elsewhere_queue m p q off) stands) ∙ kept q j (elsewhere_apart m q off) stands);
-        board = λ off. g.board;
-        manager = λ off. g.manager;
-      };
+      elsewhere = search (
+        g.acting,
+        g.groups,
+        g.pair,
+        g.held,
+        g.count,
+        g.told,
+        g.machines,
+        g.made,
+        g.board,
+        g.manager,
+        λ (n : ℕ) (off : n ≢ m). g.inbox n ∙ machine_off pt.view.inbox m n (without_front i (pt.view.inbox m)) off,
+        λ (n : ℕ) (off : n ≢ m). g.ring n ∙ machine_off pt.view.ring m n (without p (pt.view.ring m)) off,
+        λ (n : ℕ) (q : Pid) (off : n ≢ m). g.known n q ∙ record_off pt.view.known m n p q view.Ended off,
+        λ (n : ℕ) (q : Pid) (off : n ≢ m). g.queue n q (ap (λ (d : Bool). d && pid_eq p q) (eq_off m n off)),
+        λ (n : ℕ) (q : Pid) (off : n ≢ m) (has : has_process (pt.view.known n q) ≡ true). left q (Elsewhere n off has),
+        λ (n : ℕ) (q : Pid) (off : n ≢ m) (over : pt.view.known n q ≡ view.Ended). left q (Over n off over),
+        others_placed,
+        others_live,
+        stays,
+      );
       sent = tt;
       still = drops_still ids;
       count = refl;
       moving = λ q is. let off = left q (Moves is) in (others_placed q off, ap (λ (d : Bool). if d then Some (Record.Ended Why.Killed) else k.records q) off);
-      own = λ j a none there. g.bag j (own_unqueued b pt m p l j a c.run c.mirrors none there) ∙ own_kept b m pt l k y w c on None (λ n. refl) (λ z f. absurd (none_some z f)) j a none there;
-      own_back = λ j a none there. own_back l on i None (λ n. refl) (λ z f. absurd (none_some z f)) j a none (g.back j a there);
+      own = λ j a none there. g.bag j (own_unqueued b pt m p l j a c.run c.mirrors none there) ∙ own_kept b m pt l k y w c on None (λ n. refl) (λ z f. absurd (cc)) j a none there;
+      own_back = λ j a none there. own_back l on i None (λ n. refl) (λ z f. absurd (cc)) j a none (g.back j a there);
+    }
+
+-- A message for the kernel itself: what is free and what a new process is, and the answer where there is no room for it.
+
+-- what is free is what the lines say
+pub free_of : (t : Taken) (o : Option BootMachine) (r : Room) → RoomStands t (room_of o) r → (free_slots t ≡ (rule.free_of o r).slots) × (free_blocks t ≡ (rule.free_of o r).blocks)
+free_of t o r h = grind (arith, nat_tests)
+
+-- a kernel's name, and the image that it is asked for
+pub kernel_is : (s : OneKernel) (p : Pid) (m : ℕ) → (p.num == 0) ≡ true → p.home ≡ m → m < s.machines → service.is_kernel s p ≡ true
+kernel_is s p m num home below = ap (λ (c : Bool). c && nat_lt p.home s.machines) num ∙ (let e : nat_lt p.home s.machines ≡ true = grind (arith, nat_tests) in e)
+
+-- the kernel is at home here
+pub kernel_home : (b : Boot) (m : ℕ) (pt : Point) (l : Placed) (k : KernelState) (y : Message) (w : PlainWhat) → Taking b m pt l k y w → (y.to.pid.num == 0) ≡ true → y.to.pid.home ≡ m
+kernel_home b m pt l k y w c num = home_of b m pt y.id (plainly y w) (ap (λ (d : Bool). d || is_server y.to.pid) num) c.front
+
+pub create_turn : (b : Boot) (k0 : KernelState) (y : Message) (image : ℕ) (links : _) (g : BootImage) (c : Bool) → (y.to.pid.num == 0) ≡ true → y.what ≡ What.Create image links → slice_get b.images image ≡ Some g → machine.has_room k0.room g.blocks ≡ c
+    → handles b k0 y ≡ makes b k0 y links.items g c
+create_turn b k0 y image links g c num is found room = grind (arith, nat_tests, to_kernel)
+
+-- there is no room for it
+pub no_room_row : (b : Boot) (m : ℕ) (pt : Point) (l : Placed) (k : KernelState) (y : Message) (image : ℕ) (ls : List PlainLink) (g : BootImage) → Taking b m pt l k y (PlainWhat.Create image ls) → (y.to.pid.num == 0) ≡ true → slice_get b.images image ≡ Some g
+    → rule.has_room (rule.free_room b pt m) g.blocks ≡ false → Row b m pt l k
+no_room_row b m pt l k y image ls g c num found none =
+    let s = pt.kernel in
+    let p = y.to.pid in
+    let x = plainly y (PlainWhat.Create image ls) in
+    let k0 = record k { inbox = c.rest } in
+    let r = rule.free_room b pt m in
+    let e = Label.NoSpace y.id r.slots r.blocks in
+    let w = create_what y.what image ls c.says in
+    let free = free_of k.room (slice_get b.machines m) (taken_at pt m s.machines) c.stands.room in
+    let a = answer m 0 y What.NoRoom in
+    let next = with_sent (without_message s y.id) (Some (answer_to x PlainWhat.NoRoom)) in
+    let on = placed.with_sent (placed.without_message l y.id) (Some a) in
+    let step : kernel.step s e ≡ Some next =
+    ap (λ (o : Option PlainMessage). bind o (λ (v : PlainMessage). service.has_no_room s y.id v v.what)) c.front.there ∙ ap (λ (d : Bool). when d next) (kernel_is s p m num (kernel_home b m pt l k y (PlainWhat.Create image ls) c num) c.below) in
+    let seen = sane_of b m pt l k y (PlainWhat.Create image ls) c in
+    let bag = bag_no_space seen.r seen.e s next y.id r.slots r.blocks step seen.sound in
+    turns_row b m pt l k y (PlainWhat.Create image ls) c (record {
+      label = e;
+      next = next;
+      placed = on;
+      state = k0;
+      route = Some a;
+      process = p;
+      step = step;
+      view = refl;
+      needs = tt;
+      placed_is = ap (λ (o : Option Message). bind o (λ (z : Message). Some (placed.with_sent (placed.without_message l y.id) (Some (answer m 0 z What.NoRoom))))) c.there;
+      turn = create_turn b k0 y image w.links g false num w.is found ((λ i. nat_le 1 (free.0 i) && nat_le g.blocks (free.1 i)) ∙ none)
+          ∙ (λ i. turned k0 (state.says (Label.NoSpace y.id (free.0 i) (free.1 i)) ∷ Part.Routes (answer (c.stands.here i) 0 y What.NoRoom) ∷ []));
+      outcome = grind (arith, nat_tests, rule_to_kernel);
+      fresh = λ z is. let same : a ≡ z = cc in ap (λ (n : Message). s.bag n.id) (sym same) ∙ bag_none seen.r seen.e s (answer_id y.id) (bag.fresh (answer_id y.id) refl) seen.sound.entered;
+      plain = λ z is. let same : a ≡ z = cc in ap (λ (n : Message). is_some (plain_message n)) (sym same);
+      mine = λ off same holds. known_on pt (handled_point pt m y.id e next) l on p (pt.view.queue m p) (pt.view.held m p) (pt.view.known m p) (k.records p) refl refl same holds (c.stands.known p off);
+      leaves = search (c.stands.servers);
+    })
+
+-- a process that is made is no server
+pub child_off : (m n : ℕ) → is_server (pid_of m (first_number + n)) ≡ false
+child_off m n = grind (arith, nat_tests)
+
+pub valid_at : (images : List BootImage) (n : ℕ) (g : BootImage) → slice_get images n ≡ Some g → images_are_valid images ≡ true → image_is_valid g ≡ true
+valid_at [] n g e h = cc
+valid_at (x ∷ xs) zero g e h = let f : x ≡ g = cc in sym (ap image_is_valid f) ∙ (and-both (image_is_valid x) (images_are_valid xs) h).0
+valid_at (x ∷ xs) (suc n) g e h = valid_at xs n g e (and-both (image_is_valid x) (images_are_valid xs) h).1
+
+-- A user message for a process that is here: it is queued.
+
+-- the view's queue
+pub told_is : (b : Boot) (m : ℕ) (pt : Point) (l : Placed) (k : KernelState) (y : Message) (w : said.PlainWhat) (c : Taking b m pt l k y w) → view.receiver_of (pt.view.told y.id) ≡ Some y.to.pid
+told_is b m pt l k y w c = ap view.receiver_of c.front.told_is ∙ ap Some (told_receiver b m pt y.id (plainly y w) c.front)
+
+pub user_row : (b : Boot) (m : ℕ) (pt : Point) (l : Placed) (k : KernelState) (y : Message) (code channel : ℕ) (bytes : List ℕ) (ls : List PlainLink) (c : Taking b m pt l k y (said.User code channel bytes ls)) → IsHere b m pt l k y.to.pid → Row b m pt l k
+user_row b m pt l k y code channel bytes ls c h =
+    let w = said.User code channel bytes ls in
+    let p = y.to.pid in
+    let i = y.id in
+    let v = handled (begun pt m).view i in
+    let u : View = view.queued_for v i (Some p) in
+    let next : Point = record { kernel = pt.kernel; view = u; addresses = pt.addresses } in
+    let k0 = record k { inbox = c.rest } in
+    let is = (user_what y.what code channel bytes ls c.says).is in
+    let z = queued h.x y in
+    let xs = pt.view.queue m p ++ i ∷ [] in
+    let taken = taken_same pt next m refl (λ n. refl) (λ q. refl) in
+    let sets : (q : Pid) → pid_eq p q ≡ false → (with_here k0 p z).records q ≡ k.records q = λ q off. ap (λ (c : Bool). if c then Some (Record.Here z) else k.records q) off in
+    let queues : (q : Pid) → pid_eq p q ≡ false → next.view.queue m q ≡ pt.view.queue m q = λ q off. record_others pt.view.queue m p q xs off in
+    let mine : KnownStands next l p (next.view.queue m p) (next.view.held m p) (next.view.known m p) ((with_here k0 p z).records p) =
+    here_known next l p (at_record pt.view.queue m p xs m p) (pt.view.held m p) z h.queue ((with_here k0 p z).records p) (pt.view.known m p) (ap (λ (d : Bool). if d then Some (Record.Here z) else k.records p) (pid_eq-same p)) h.known h.placed
+    (ap (map l.bag) (record_self pt.view.queue m p xs (pid_eq-same p)) ∙ last_message l.bag (pt.view.queue m p) h.x.queue i y h.waits c.there) in
+    let keeps : is_server p ≡ true → (with_here k0 p z).records p ≡ k.records p = λ server. absurd (false≢true (sym (not_server p h.process) ∙ server)) in
+    record {
+      state = with_here k0 p z;
+      says = Line.Queued i ∷ [];
+      route = None;
+      turn = turn_is b m pt l k y w c (turned (with_here k0 p z) (Part.Says (Line.Queued i) ∷ [])) (here_turn b m pt l k y w c h (turned (with_here k0 p z) (Part.Says (Line.Queued i) ∷ [])) (ap (here_handles k0 y h.x) is));
+      outcome = outcome_is b m pt l k y w c (Some (Says (Line.Queued i) ∷ [])) (here_outcome b m pt l k y w h (Some (Says (Line.Queued i) ∷ [])) refl);
+      next = next;
+      after = ap (λ (o : Option Pid). Some (record { kernel = pt.kernel; view = view.queued_for v i o; addresses = pt.addresses })) (told_is b m pt l k y w c);
+      placed = l;
+      mirrors = mirrors_view pt.kernel pt.view u pt.addresses l refl c.mirrors;
+      kernel = stands_set b pt next l l m k (with_here k0 p z) p
+          (search (sets, queues, mine, keeps)) c.stands
+          c.stands.ring
+          (ap (map l.bag) (machine_self pt.view.inbox m (without_front i (pt.view.inbox m)) ∙ front_gone i c.ids (pt.view.inbox m) c.box) ∙ c.others)
+          c.stands.made
+          (record {
+            slots = c.stands.room.slots;
+            blocks = c.stands.room.blocks;
+            taken_slots = c.stands.room.taken_slots ∙ ap (λ (r : Room). r.slots) (sym taken);
+            taken_blocks = c.stands.room.taken_blocks ∙ ap (λ (r : Room). r.blocks) (sym taken);
+          }) c.stands.servers;
+      elsewhere = search (machine_off, pt.view.inbox, record_off);
+      sent = tt;
+      still = refl;
+      count = refl;
+      moving = λ q is. (refl, ap (λ (d : Bool). if d then Some (Record.Here z) else k.records q) (here_left pt m p q c.run.based.phased.phases h.known (Moves is)));
+      own = λ j a none there. there;
+      own_back = λ j a none there. there;
     }

@@ -2,7 +2,8 @@
 use Rattle.dm_mirror.proofs.Names.{◌≡◌, ℕ, ◌+◌, ◌-◌, ◌≤◌, ◌==◌, ◌&&◌, Bool, true, false, List, [], ◌∷◌, length, refl, ap, ◌∙◌, sym, subst, is_some, nat_le, nat_lt, arith, if◌then◌else◌, Option, None, Some, nat_tests, Addr, Pid, MsgId}
 use Rattle.dm_mirror.proofs.Names.{Message, What, id_of, plain_kind, Label, Reply, PlainMessage, PlainWhat, plain_message, plain_what, Process, Direction, Status, Landed, Rest, Landing, plain_landed, ends_plainly, goes_on_plainly}
 use Rattle.dm_mirror.proofs.Names.{length-written, Boot, Alive, OneKernel, bind, piece_of, written_at, plain_process, plain_status, PlainProcess, counts, is_counted, unentered, lands-is, counts_process, not_server, bind-is, Part, Routes}
-use Rattle.dm_mirror.proofs.Names.{Point, View, bag_none, both, Placed, after_landing, parts, lands_match, with_queue, plainly, block_what, written_what, gone_what, here_handles, KernelState}
+use Rattle.dm_mirror.proofs.Names.{Point, View, bag_none, both, Placed, after_landing, parts, lands_match, with_queue, plainly, block_what, written_what, gone_what, here_handles, KernelState, take, drop, after_serving, answer, answer_of}
+use Rattle.dm_mirror.proofs.Names.{answer_with, serving_answer, answer_id, answer_to, bag_served, served_id, has_bytes, WhatFits, answers_match, read_what, write_what, stop_what, resume_what}
 use Rattle.dm_datamove.specs.Landing as landing
 use Rattle.dm_onekernel.specs.Pieces as pieces
 use Rattle.dm_onekernel.specs.Service as service
@@ -10,9 +11,11 @@ use Rattle.dm_rule.specs.Rule as rule
 use Rattle.dm_rule.specs.View as view
 use Rattle.dm_places.specs.PlacedStep as placed
 use Rattle.dm_kernel.specs.Handle as machine
-use Rattle.dm_mirror.proofs.Handle.Here.{IsHere, served_row}
+use Rattle.dm_onekernel.specs.Kernel as kernels
+use Rattle.dm_onekernel.specs.Step as kernel
 use Rattle.dm_mirror.proofs.Handle.Taking.{Taking, sane_of}
 use Rattle.dm_mirror.proofs.Turning.{Row}
+use Rattle.dm_mirror.proofs.Handle.Ended.{IsHere, served_row, served_step}
 
 -- a landing with places, and what it comes to without: the process keeps its queue and the length of its memory
 record Lands (p : Pid) (x : Process) (o : Option Landing) (c : pieces.Landed) : Type 0 where
@@ -46,11 +49,7 @@ goes_lands here p x y o r c e pid queue memory f =
 
 -- the test of a landing holds
 some_is : (b : Bool) (x y : pieces.Landed) → (if b then Some x else None) ≡ Some y → (b ≡ true) × (x ≡ y)
-some_is true x y e = (refl, let f : x ≡ y = cc in f)
-some_is false x y e = cc
-
-piece_within : (left own size n : ℕ) → ((n == piece_of left) && nat_le (own + left) size) ≡ true → own + n ≤ size
-piece_within left own size n e = grind (arith, nat_tests, both, nat_le)
+some_is b x y e = grind (arith, nat_tests)
 
 lands_what_of : (here : ℕ) (p : Pid) (x : Process) (dir : Direction) (owner : Addr) (base own left : ℕ) (w : What) (u : PlainWhat) (c : pieces.Landed) → plain_what w ≡ Some u → x.pid ≡ p
     → pieces.lands_what p (plain_process x) dir owner.pid base own left u ≡ Some c → Lands p x (landing.lands_what here x (record { dir = dir; owner = owner; base = base; own = own; left = left }) dir w) c
@@ -59,7 +58,7 @@ lands_what_of here p x Direction.FromArea owner base own left w (PlainWhat.Block
     let b = block_what w bytes is in
     let y : Process = record x { memory = written_at x.memory own b.body.items } in
     let f = some_is ((length bytes == piece_of left) && nat_le (own + left) (length x.memory)) (pieces.move_goes_on p (record (plain_process x) { memory = written_at x.memory own bytes }) Direction.FromArea owner.pid base own left (piece_of left)) c e in
-    let fits : own + length b.body.items ≤ length x.memory = subst (λ (bs : List ℕ). own + length bs ≤ length x.memory) (sym b.bytes_are) (piece_within left own (length x.memory) (length bytes) f.0) in
+    let fits : own + length b.body.items ≤ length x.memory = subst (λ (bs : List ℕ). own + length bs ≤ length x.memory) (sym b.bytes_are) (grind (arith, nat_tests, both, nat_le, f.0)) in
     goes_lands here p x y (landing.lands_what here x r Direction.FromArea w) r c (ap (landing.lands_what here x r Direction.FromArea) b.is) pid refl (length-written x.memory own b.body.items fits)
     (ap (λ (bs : List ℕ). pieces.move_goes_on p (record (plain_process x) { memory = written_at x.memory own bs }) Direction.FromArea owner.pid base own left (piece_of left)) b.bytes_are ∙ f.1)
 lands_what_of here p x Direction.IntoArea owner base own left w PlainWhat.Written c is pid e =
@@ -157,8 +156,7 @@ landed_row b m pt l k y w c h f d (Landed.Next n) e serves_as placed_as turn_as 
     })
 
 lands_some : (i : MsgId) (o : Option pieces.Landed) (ps : List Part) → rule.landing_parts i o ≡ Some ps → (f : pieces.Landed) × (o ≡ Some f)
-lands_some i None ps e = cc
-lands_some i (Some f) ps e = (f, refl)
+lands_some i o ps e = grind (arith, nat_tests)
 
 land_row : (b : Boot) (m : ℕ) (pt : Point) (l : Placed) (k : KernelState) (y : Message) (w : PlainWhat) (ps : List Part) (c : Taking b m pt l k y w) (h : IsHere b m pt l k y.to.pid) → Lands_as w
     → placed.serves m (placed.without_message l y.id) y (with_queue h.x h.queue) y.what ≡ placed.lands m (placed.without_message l y.id) y (with_queue h.x h.queue)
@@ -185,3 +183,121 @@ pub gone_row : (b : Boot) (m : ℕ) (pt : Point) (l : Placed) (k : KernelState) 
 gone_row b m pt l k y ps c h goes =
     let is = gone_what y.what c.says in
     land_row b m pt l k y PlainWhat.Gone ps c h (λ s i x z. refl) (ap (placed.serves m (placed.without_message l y.id) y (with_queue h.x h.queue)) is) (ap (here_handles (record k { inbox = c.rest }) y h.x) is) refl (λ v p. refl) goes
+
+-- Messages that stop and resume a process, and requests for a piece of its memory.
+
+-- stop, resume
+pub stop_row : (b : Boot) (m : ℕ) (pt : Point) (l : Placed) (k : KernelState) (y : Message) (c : Taking b m pt l k y PlainWhat.Stop) → IsHere b m pt l k y.to.pid → Row b m pt l k
+stop_row b m pt l k y c h =
+    let is = stop_what y.what c.says in
+    served_row b m pt l k y PlainWhat.Stop c h (record {
+      z = record h.x { stopped = true };
+      pz = record (plain_process h.x) { stopped = true };
+      o = None;
+      q = None;
+      serves = refl;
+      placed_is = ap (placed.serves m (placed.without_message l y.id) y (with_queue h.x h.queue)) is;
+      turn = ap (here_handles (record k { inbox = c.rest }) y h.x) is;
+      outcome = refl;
+      queue = refl;
+      memory = refl;
+      fresh = λ a e. cc;
+      plain = λ a e. cc;
+      quiet = λ v p. refl;
+    })
+
+pub resume_row : (b : Boot) (m : ℕ) (pt : Point) (l : Placed) (k : KernelState) (y : Message) (c : Taking b m pt l k y PlainWhat.Resume) → IsHere b m pt l k y.to.pid → Row b m pt l k
+resume_row b m pt l k y c h =
+    let is = resume_what y.what c.says in
+    served_row b m pt l k y PlainWhat.Resume c h (record {
+      z = record h.x { stopped = false };
+      pz = record (plain_process h.x) { stopped = false };
+      o = None;
+      q = None;
+      serves = refl;
+      placed_is = ap (placed.serves m (placed.without_message l y.id) y (with_queue h.x h.queue)) is;
+      turn = ap (here_handles (record k { inbox = c.rest }) y h.x) is;
+      outcome = refl;
+      queue = refl;
+      memory = refl;
+      fresh = λ a e. cc;
+      plain = λ a e. cc;
+      quiet = λ v p. refl;
+    })
+
+-- what a served message sends is new
+pub served_fresh : (b : Boot) (m : ℕ) (pt : Point) (l : Placed) (k : KernelState) (y : Message) (w : PlainWhat) (c : Taking b m pt l k y w) (h : IsHere b m pt l k y.to.pid) (t : OneKernel) (i : MsgId) → kernel.step pt.kernel (Label.Served y.id) ≡ Some t
+    → served_id y.id (plainly y w) (plain_process h.x) w ≡ Some i → pt.kernel.bag i ≡ None
+served_fresh b m pt l k y w c h t i step is =
+    let s = pt.kernel in
+    let seen = sane_of b m pt l k y w c in
+    let g = bag_served seen.r seen.e s t y.id step seen.sound in
+    let same : g.m ≡ plainly y w = let f : Some g.m ≡ Some (plainly y w) = sym g.there ∙ c.front.there in cc in
+    let lives : Some (Alive g.x) ≡ Some (Alive (plain_process h.x)) = sym g.alive ∙ ap (λ (n : PlainMessage). s.processes n.to) same ∙ h.life in
+    let one : g.x ≡ plain_process h.x = cc in
+    let named : served_id y.id g.m g.x g.m.what ≡ Some i = (λ j. served_id y.id (same j) (one j) (same j).what) ∙ is in
+    bag_none seen.r seen.e s i (g.is.fresh i named) seen.sound.entered
+
+pub read_row : (b : Boot) (m : ℕ) (pt : Point) (l : Placed) (k : KernelState) (y : Message) (base len : ℕ) (c : Taking b m pt l k y (PlainWhat.Read base len)) → IsHere b m pt l k y.to.pid → WhatFits pt.kernel y.id (plainly y (PlainWhat.Read base len)) (PlainWhat.Read base len) → Row b m pt l k
+read_row b m pt l k y base len c h fits =
+    let s = pt.kernel in
+    let w = PlainWhat.Read base len in
+    let k0 = record k { inbox = c.rest } in
+    let x = plainly y w in
+    let px = plain_process h.x in
+    let is = read_what y.what base len c.says in
+    let bytes = take len (drop base h.x.memory) in
+    let a = answer m h.x.moves y (What.Block (record { items = bytes })) in
+    let q = answer_to x (PlainWhat.Block bytes) in
+    let z = after_serving h.x y.what in
+    let within = sym (ap (has_bytes (base + len)) h.life) ∙ fits.0 in
+    let reads : pieces.reads px x base len ≡ Some (record { process = px; answer = q }) = ap (λ (d : Bool). if d then Some (record { process = px; answer = q }) else None) within in
+    let serves : service.serves s y.id x px w ≡ Some (kernels.with_sent (service.changed s y.id x px) (Some q)) = ap (λ (o : Option pieces.Served). bind o (λ (r : pieces.Served). Some (service.answered s y.id x r))) reads in
+    let answers : serving_answer m h.x y ≡ Some a = ap (λ (v : What). answer_with m h.x y (answer_of h.x v)) is in
+    served_row b m pt l k y w c h (record {
+      z = z;
+      pz = px;
+      o = Some a;
+      q = Some q;
+      serves = serves;
+      placed_is = ap (placed.serves m (placed.without_message l y.id) y (with_queue h.x h.queue)) is ∙ answers_match m (placed.without_message l y.id) y a h.x h.queue answers;
+      turn = ap (here_handles k0 y h.x) is ∙ ap (λ (n : ℕ). machine.answers_with k0 y z (serving_answer n h.x y)) c.stands.here ∙ ap (machine.answers_with k0 y z) answers;
+      outcome = refl;
+      queue = ap (λ (v : What). (after_serving h.x v).queue) is;
+      memory = refl;
+      fresh = λ n e. let f : a ≡ n = cc in ap (λ (g : Message). s.bag g.id) (sym f) ∙ served_fresh b m pt l k y w c h (kernels.with_sent (service.changed s y.id x px) (Some q)) (answer_id y.id) (served_step s y.id x px (kernels.with_sent (service.changed s y.id x px) (Some q)) c.front.there h.life serves) refl;
+      plain = λ n e. let f : a ≡ n = cc in ap (λ (v : Message). is_some (plain_message v)) (sym f);
+      quiet = λ v p. refl;
+    })
+
+pub write_row : (b : Boot) (m : ℕ) (pt : Point) (l : Placed) (k : KernelState) (y : Message) (base : ℕ) (bytes : List ℕ) (c : Taking b m pt l k y (PlainWhat.Write base bytes)) → IsHere b m pt l k y.to.pid → WhatFits pt.kernel y.id (plainly y (PlainWhat.Write base bytes)) (PlainWhat.Write base bytes) → Row b m pt l k
+write_row b m pt l k y base bytes c h fits =
+    let s = pt.kernel in
+    let w = PlainWhat.Write base bytes in
+    let k0 = record k { inbox = c.rest } in
+    let x = plainly y w in
+    let px = plain_process h.x in
+    let g = write_what y.what base bytes c.says in
+    let a = answer m h.x.moves y What.Written in
+    let q = answer_to x PlainWhat.Written in
+    let z = after_serving h.x y.what in
+    let pz : PlainProcess = record px { memory = written_at px.memory base bytes } in
+    let within = sym (ap (has_bytes (base + length bytes)) h.life) ∙ fits.0 in
+    let writes : pieces.writes px x base bytes ≡ Some (record { process = pz; answer = q }) = ap (λ (d : Bool). if d then Some (record { process = pz; answer = q }) else None) within in
+    let serves : service.serves s y.id x px w ≡ Some (kernels.with_sent (service.changed s y.id x pz) (Some q)) = ap (λ (o : Option pieces.Served). bind o (λ (r : pieces.Served). Some (service.answered s y.id x r))) writes in
+    let answers : serving_answer m h.x y ≡ Some a = ap (λ (v : What). answer_with m h.x y (answer_of h.x v)) g.is in
+    served_row b m pt l k y w c h (record {
+      z = z;
+      pz = pz;
+      o = Some a;
+      q = Some q;
+      serves = serves;
+      placed_is = ap (placed.serves m (placed.without_message l y.id) y (with_queue h.x h.queue)) g.is ∙ answers_match m (placed.without_message l y.id) y a h.x h.queue answers;
+      turn = ap (here_handles k0 y h.x) g.is ∙ ap (λ (n : ℕ). machine.answers_with k0 y z (serving_answer n h.x y)) c.stands.here ∙ ap (machine.answers_with k0 y z) answers;
+      outcome = refl;
+      queue = ap (λ (v : What). (after_serving h.x v).queue) g.is;
+      memory = length-written h.x.memory base bytes (let f : base + length bytes ≤ length h.x.memory = grind (arith, nat_tests) in f);
+      fresh = λ n e. let f : a ≡ n = cc in ap (λ (v : Message). s.bag v.id) (sym f) ∙ served_fresh b m pt l k y w c h (kernels.with_sent (service.changed s y.id x pz) (Some q)) (answer_id y.id) (served_step s y.id x px (kernels.with_sent (service.changed s y.id x pz) (Some q)) c.front.there h.life serves) refl;
+      plain = λ n e. let f : a ≡ n = cc in ap (λ (v : Message). is_some (plain_message v)) (sym f);
+      quiet = λ v p. refl;
+    })

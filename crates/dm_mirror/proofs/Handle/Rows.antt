@@ -1,17 +1,18 @@
 -- A row of a turn that says one label, by which one process may go on, and sends at most one message.
-use Rattle.dm_mirror.proofs.Names.{◌≡◌, ◌≢◌, ℕ, ◌≤◌, ◌==◌, Bool, true, false, not, List, [], ◌∷◌, map, refl, ap, ◌∙◌, sym, subst, inl, inr, is_some, arith, if◌then◌else◌, Option, None, Some, cases_Bool, false≢true, Pid, pid_eq, MsgId, nat_tests}
-use Rattle.dm_mirror.proofs.Names.{Message, id_eq, PlainWhat, plain_message, Boot, Label, Life, OneKernel, bind, id_eq-is, pid_eq-is, Line, addresses_after, Point, after, moved, Taken, Room, blocks_of, taken_by, takes_room, without_front}
-use Rattle.dm_mirror.proofs.Names.{Spot, Queue, Held, Inbox, times, standing, View, Known, Unknown, Here, Frozen, Incoming, Ended, after_label, handled, is_kernels, Phase, Rests, is_away, is_here, knows, rests_here, InPhases, is_server}
-use Rattle.dm_mirror.proofs.Names.{begun, StepNeeds, Placed, Mirrors, placed_step, mirrors_view, moves_label, plainly, placed_follows, handles, KernelState, id_eq-same, KnownStands, servers_at}
+use Rattle.dm_mirror.proofs.Names.{◌≡◌, ◌≢◌, ℕ, ◌≤◌, ◌==◌, Bool, true, false, List, [], ◌∷◌, map, refl, ap, ◌∙◌, sym, subst, inl, inr, is_some, arith, if◌then◌else◌, Option, None, Some, cases_Bool, false≢true, Pid, pid_eq, MsgId, nat_tests}
+use Rattle.dm_mirror.proofs.Names.{Message, id_eq, PlainWhat, plain_message, Boot, Label, Life, OneKernel, id_eq-is, pid_eq-is, Line, addresses_after, Point, after, Taken, Room, blocks_of, taken_by, takes_room, without_front, Spot, Queue}
+use Rattle.dm_mirror.proofs.Names.{Held, Inbox, times, standing, View, Unknown, Here, Ended, after_label, handled, is_kernels, Phase, Rests, is_away, is_here, knows, rests_here, InPhases, is_server, StepNeeds, Placed, Mirrors, placed_step}
+use Rattle.dm_mirror.proofs.Names.{mirrors_view, moves_label, plainly, placed_follows, handles, KernelState, KnownStands, servers_at, with_what, begun}
+use Rattle.dm_places.specs.PlacedStep.{with_sent, without_message}
 use Rattle.dm_onekernel.specs.Step as kernel
 use Rattle.dm_rule.specs.Rule as rule
-use Rattle.dm_places.specs.PlacedStep.{with_sent, without_message}
 use Rattle.dm_kernel.specs.State as machine
-use Rattle.dm_mirror.proofs.Handle.Frames.{times_more, map_same, stands_set, eq_off, eq_self, machine_self, machine_off}
-use Rattle.dm_mirror.proofs.Handle.Taking.{Taking, turn_is, outcome_is, plainly_says, sane_of, apart_at, apart_behind, fresh_at, sent_other, bag_kept, queue_apart, held_apart, sent_there}
+use Rattle.dm_mirror.proofs.Handle.Taking.{Taking, turn_is, outcome_is, sane_of, apart_at, apart_behind, fresh_at, sent_other, bag_kept, queue_apart, held_apart, sent_there, times_more, map_same, stands_set, eq_off, machine_self}
+use Rattle.dm_mirror.proofs.Handle.Taking.{machine_off}
 use Rattle.dm_mirror.proofs.Rooms.{taken_same}
 use Rattle.dm_mirror.proofs.Turning.{is_elsewhere, has_process, is_moving, routed, rule_routed, IsSent, Row}
 use Rattle.dm_mirror.proofs.Kernel.Sets.{away_process as has_none}
+use Rattle.dm_mirror.proofs.Follow.Fronts.{front_gone, elsewhere_apart}
 
 -- where the head of the turn, a label and another view lead
 abbrev pub seen_point : Point → ℕ → Label → OneKernel → View → Point
@@ -22,8 +23,7 @@ abbrev pub handled_point : Point → ℕ → MsgId → Label → OneKernel → P
 handled_point pt m i e s = seen_point pt m e s (handled (begun pt m).view i)
 
 pub after_one : (pt : Point) (m : ℕ) (e : Label) (s : OneKernel) (v : View) → kernel.step pt.kernel e ≡ Some s → after_label (begun pt m).view e ≡ v → after (begun pt m) (Line.Label e ∷ []) ≡ Some (seen_point pt m e s v)
-after_one pt m e s v step is =
-    ap (λ (o : Option OneKernel). bind (bind o (λ (z : OneKernel). Some (moved (begun pt m) (Line.Label e) z))) (λ (n : Point). after n [])) step ∙ ap (λ (u : View). Some (seen_point pt m e s u)) is
+after_one pt m e s v step is = grind (arith, nat_tests)
 
 pub mirrors_one : (pt : Point) (m : ℕ) (e : Label) (s : OneKernel) (v : View) (l placed : Placed) → kernel.step pt.kernel e ≡ Some s → after_label (begun pt m).view e ≡ v → StepNeeds pt.kernel (begun pt m).view e
     → placed_step m pt.kernel.format pt.kernel.images l e ≡ Some placed → Mirrors pt.kernel pt.view pt.addresses l → Mirrors s v (addresses_after pt.kernel (begun pt m).view pt.addresses (Line.Label e)) placed
@@ -36,11 +36,7 @@ mirrors_one pt m e s v l placed step is needs placed_is h =
 
 -- the head of a turn moves no message
 pub standing_begun : (pt : Point) (m : ℕ) (i : MsgId) (s : Spot) → standing (begun pt m).view i s ≡ standing pt.view i s
-standing_begun pt m i (Queue n p) = refl
-standing_begun pt m i _ = refl
-
-pub elsewhere_apart : (m : ℕ) (s : Spot) → is_elsewhere m s ≡ true → s ≢ Inbox m
-elsewhere_apart m s is e = false≢true (sym (ap not (eq_self m)) ∙ ap (is_elsewhere m) (sym e) ∙ is)
+standing_begun pt m i s = grind (arith, nat_tests)
 
 -- a process that a turn on machine m leaves as it is: another machine has it, holds it back, expects it or saw it end, or it leaves
 -- or comes on machine m
@@ -72,16 +68,35 @@ here_left pt m p q h here is = other_than p q (λ e. here_not pt m p h here (sub
 
 -- nor is a process that nobody knows
 unknown_not : (pt : Point) (m : ℕ) (p : Pid) → ((n : ℕ) → pt.view.known n p ≡ Unknown) → IsLeft m pt p → ⊥
-unknown_not pt m p h (Elsewhere n apart has) = false≢true (sym (ap has_process (h n)) ∙ has)
-unknown_not pt m p h (Over n apart ended) = false≢true (ap is_away (sym ended ∙ h n))
-unknown_not pt m p h (Moves moving) = false≢true (sym (ap is_moving (h m)) ∙ moving)
+unknown_not pt m p h e = grind (arith, nat_tests)
 
 pub unknown_left : (pt : Point) (m : ℕ) (p q : Pid) → ((n : ℕ) → pt.view.known n p ≡ Unknown) → IsLeft m pt q → pid_eq p q ≡ false
 unknown_left pt m p q h is = other_than p q (λ e. unknown_not pt m p h (subst (IsLeft m pt) (sym e) is))
 
--- the inbox behind its front
-pub front_gone : (i : MsgId) (is xs : List MsgId) → xs ≡ i ∷ is → without_front i xs ≡ is
-front_gone i is xs e = ap (without_front i) e ∙ ap (λ (c : Bool). if c then is else i ∷ is) (id_eq-same i)
+-- what such a row leaves of both kernels and of the machine, but for the process that may go on
+pub record RowLeaves (m : ℕ) (pt : Point) (l : Placed) (k : KernelState) (rest : List Message) (i : MsgId) (process : Pid) (next : OneKernel) (placed : Placed) (state : KernelState) (route : Option Message) : Type 0 where
+  -- the kernel without machines
+  pub machines : next.machines ≡ pt.kernel.machines
+  pub made : (n : ℕ) → next.made n ≡ pt.kernel.made n
+  pub lives : (q : Pid) → pid_eq process q ≡ false → next.processes q ≡ pt.kernel.processes q
+  pub blocks : blocks_of (kernel.alive (next.processes process)) ≡ blocks_of (kernel.alive (pt.kernel.processes process))
+  -- the one with places
+  pub processes : (q : Pid) → pid_eq process q ≡ false → placed.processes q ≡ l.processes q
+  pub bag : (j : MsgId) → placed.bag j ≡ (with_sent (without_message l i) route).bag j
+  pub board : m ≢ 0 → placed.board ≡ l.board
+  pub manager : m ≢ 0 → placed.manager ≡ l.manager
+  -- the machine's
+  pub here : state.here ≡ k.here
+  pub records : (q : Pid) → pid_eq process q ≡ false → state.records q ≡ k.records q
+  pub ring : state.ring ≡ k.ring
+  pub inbox : state.inbox ≡ rest
+  pub count : state.made ≡ k.made
+  pub sent : state.sent ≡ k.sent
+  pub room : state.room ≡ k.room
+  pub servers : state.servers ≡ servers_at placed m
+  pub keeps : is_server process ≡ true → state.records process ≡ k.records process
+  -- the others stay
+  pub left : (q : Pid) → IsLeft m pt q → (placed.processes q ≡ l.processes q) × (next.processes q ≡ pt.kernel.processes q) × (state.records q ≡ k.records q)
 
 pub record Labelled (b : Boot) (m : ℕ) (pt : Point) (l : Placed) (k : KernelState) (y : Message) (w : PlainWhat) (c : Taking b m pt l k y w) : Type 0 where
   pub label : Label
@@ -97,32 +112,11 @@ pub record Labelled (b : Boot) (m : ℕ) (pt : Point) (l : Placed) (k : KernelSt
   pub placed_is : placed_step m pt.kernel.format pt.kernel.images l label ≡ Some placed
   pub turn : handles b (record k { inbox = c.rest }) y ≡ Some (record { state = state; parts = machine.says label ∷ routed route })
   pub outcome : rule.handles b pt m y.id (plainly y w) ≡ Some (rule.says label ∷ rule_routed route)
-  -- the kernel without machines
-  pub machines : next.machines ≡ pt.kernel.machines
-  pub made : (n : ℕ) → next.made n ≡ pt.kernel.made n
-  pub lives : (q : Pid) → pid_eq process q ≡ false → next.processes q ≡ pt.kernel.processes q
-  pub blocks : blocks_of (kernel.alive (next.processes process)) ≡ blocks_of (kernel.alive (pt.kernel.processes process))
-  -- the one with places
-  pub processes : (q : Pid) → pid_eq process q ≡ false → placed.processes q ≡ l.processes q
-  pub bag : (j : MsgId) → placed.bag j ≡ (with_sent (without_message l y.id) route).bag j
-  pub board : m ≢ 0 → placed.board ≡ l.board
-  pub manager : m ≢ 0 → placed.manager ≡ l.manager
   pub fresh : (a : Message) → route ≡ Some a → pt.kernel.bag a.id ≡ None
   pub plain : (a : Message) → route ≡ Some a → is_some (plain_message a) ≡ true
-  -- the machine's
-  pub here : state.here ≡ k.here
-  pub records : (q : Pid) → pid_eq process q ≡ false → state.records q ≡ k.records q
-  pub ring : state.ring ≡ k.ring
-  pub inbox : state.inbox ≡ c.rest
-  pub count : state.made ≡ k.made
-  pub sent : state.sent ≡ k.sent
-  pub room : state.room ≡ k.room
-  pub servers : state.servers ≡ servers_at placed m
-  pub keeps : is_server process ≡ true → state.records process ≡ k.records process
   pub mine : is_server process ≡ false → ((j : MsgId) → 1 ≤ times j (pt.view.queue m process) → placed.bag j ≡ l.bag j) → ((j : MsgId) → 1 ≤ times j (pt.view.held m process) → placed.bag j ≡ l.bag j)
       → KnownStands (handled_point pt m y.id label next) placed process (pt.view.queue m process) (pt.view.held m process) (pt.view.known m process) (state.records process)
-  -- the others stay
-  pub left : (q : Pid) → IsLeft m pt q → (placed.processes q ≡ l.processes q) × (next.processes q ≡ pt.kernel.processes q) × (state.records q ≡ k.records q)
+  pub leaves : RowLeaves m pt l k c.rest y.id process next placed state route
 
 -- a message that stands elsewhere in the bag stays
 pub kept_at : (b : Boot) (m : ℕ) (pt : Point) (l : Placed) (k : KernelState) (y : Message) (w : PlainWhat) (c : Taking b m pt l k y w) (n : Placed) (o : Option Message) → ((j : MsgId) → n.bag j ≡ (with_sent (without_message l y.id) o).bag j)
@@ -150,7 +144,7 @@ own_kept b m pt l k y w c n o bag other j x none there =
         let same : l.bag y.id ≡ l.bag j = ap l.bag (id_eq-is y.id j e) in
         let f : Some y ≡ Some x = sym c.there ∙ same ∙ there in
         let g : y ≡ x = cc in
-        let z : Some (plainly y w) ≡ None = sym (plainly_says b m pt l k y w c) ∙ ap plain_message g ∙ none in
+        let z : Some (plainly y w) ≡ None = sym (ap (with_what y) c.says) ∙ ap plain_message g ∙ none in
         cc
 
     sent_apart : (a : Message) → o ≡ Some a → (d : Bool) → id_eq a.id j ≡ d → d ≡ false
@@ -159,16 +153,13 @@ own_kept b m pt l k y w c n o bag other j x none there =
 
 -- what was in the bag without a message, or with another one
 pub out_back : (d : Bool) (o : Option Message) (x : Message) → (if d then None else o) ≡ Some x → o ≡ Some x
-out_back true o x e = cc
-out_back false o x e = e
+out_back d o x e = grind (arith, nat_tests)
 
 put_back : (d : Bool) (a : Message) (o : Option Message) (x : Message) → is_some (plain_message a) ≡ true → plain_message x ≡ None → (if d then Some a else o) ≡ Some x → o ≡ Some x
-put_back true a o x plain none e = absurd (let f : a ≡ x = cc in false≢true (sym (ap is_some (ap plain_message f ∙ none)) ∙ plain))
-put_back false a o x plain none e = e
+put_back d a o x plain none e = grind (arith, nat_tests)
 
 own_at : (l : Placed) (i : MsgId) (o : Option Message) (j : MsgId) (x : Message) → ((a : Message) → o ≡ Some a → is_some (plain_message a) ≡ true) → plain_message x ≡ None → (with_sent (without_message l i) o).bag j ≡ Some x → l.bag j ≡ Some x
-own_at l i None j x plain none there = out_back (id_eq i j) (l.bag j) x there
-own_at l i (Some a) j x plain none there = out_back (id_eq i j) (l.bag j) x (put_back (id_eq a.id j) a (if id_eq i j then None else l.bag j) x (plain a refl) none there)
+own_at l i o j x plain none there = grind (arith, nat_tests, out_back, put_back)
 
 pub own_back : (l n : Placed) (i : MsgId) (o : Option Message) → ((j : MsgId) → n.bag j ≡ (with_sent (without_message l i) o).bag j) → ((a : Message) → o ≡ Some a → is_some (plain_message a) ≡ true)
     → (j : MsgId) (x : Message) → plain_message x ≡ None → n.bag j ≡ Some x → l.bag j ≡ Some x
@@ -178,8 +169,8 @@ own_back l n i o bag plain j x none there = own_at l i o j x plain none (sym (ba
 same_taken : (b : Boot) (m : ℕ) (pt : Point) (l : Placed) (k : KernelState) (y : Message) (w : PlainWhat) (c : Taking b m pt l k y w) (h : Labelled b m pt l k y w c) (q : Pid) → taken_by (handled_point pt m y.id h.label h.next) m q ≡ taken_by pt m q
 same_taken b m pt l k y w c h q =
     let same : blocks_of (kernel.alive (h.next.processes q)) ≡ blocks_of (kernel.alive (pt.kernel.processes q)) = elim (cases_Bool (pid_eq h.process q)) [
-      | inl is ↦ subst (λ (p : Pid). blocks_of (kernel.alive (h.next.processes p)) ≡ blocks_of (kernel.alive (pt.kernel.processes p))) (pid_eq-is h.process q is) h.blocks
-      | inr off ↦ ap (λ (o : Option Life). blocks_of (kernel.alive o)) (h.lives q off)
+      | inl is ↦ subst (λ (p : Pid). blocks_of (kernel.alive (h.next.processes p)) ≡ blocks_of (kernel.alive (pt.kernel.processes p))) (pid_eq-is h.process q is) h.leaves.blocks
+      | inr off ↦ ap (λ (o : Option Life). blocks_of (kernel.alive o)) (h.leaves.lives q off)
     ] in
     ap (λ (n : ℕ). record { slots = takes_room (pt.view.known m q); blocks = if takes_room (pt.view.known m q) == 0 then 0 else n }) same
 
@@ -188,13 +179,16 @@ turns_row b m pt l k y w c h =
     let v = handled (begun pt m).view y.id in
     let next = handled_point pt m y.id h.label h.next in
     let stands = c.stands in
-    let taken = taken_same pt next m h.machines h.made (same_taken b m pt l k y w c h) in
+    let taken = taken_same pt next m h.leaves.machines h.leaves.made (same_taken b m pt l k y w c h) in
     let mirrors = mirrors_one pt m h.label h.next v l h.placed h.step h.view h.needs h.placed_is c.mirrors in
-    let sent = sent_at h.placed l y.id h.route h.bag h.plain in
+    let sent = sent_at h.placed l y.id h.route h.leaves.bag h.plain in
     let other : (a : Message) → h.route ≡ Some a → is_kernels a.id ≡ false = λ a is. sent_other pt h.label h.next h.placed a h.step mirrors.plain (subst (IsSent h.placed) is sent).0 (h.plain a is) (sane_of b m pt l k y w c) in
     let fresh : (a : Message) → h.route ≡ Some a → (pt.kernel.bag a.id ≡ None) × (is_kernels a.id ≡ false) = λ a is. (h.fresh a is, other a is) in
-    let kept : (s : Spot) (j : MsgId) → s ≢ Inbox m → 1 ≤ standing pt.view j s → h.placed.bag j ≡ l.bag j = kept_at b m pt l k y w c h.placed h.route h.bag fresh in
-    let behind : (j : MsgId) → 1 ≤ times j c.ids → h.placed.bag j ≡ l.bag j = kept_behind b m pt l k y w c h.placed h.route h.bag fresh in
+    let kept : (s : Spot) (j : MsgId) → s ≢ Inbox m → 1 ≤ standing pt.view j s → h.placed.bag j ≡ l.bag j = kept_at b m pt l k y w c h.placed h.route h.leaves.bag fresh in
+    let behind : (j : MsgId) → 1 ≤ times j c.ids → h.placed.bag j ≡ l.bag j = kept_behind b m pt l k y w c h.placed h.route h.leaves.bag fresh in
+    let waits : (q : Pid) (j : MsgId) → 1 ≤ times j (pt.view.queue m q) → h.placed.bag j ≡ l.bag j = λ q j least. kept (Queue m q) j (queue_apart m m q) least in
+    let holds : (q : Pid) (j : MsgId) → 1 ≤ times j (pt.view.held m q) → h.placed.bag j ≡ l.bag j = λ q j least. kept (Held m q) j (held_apart m m q) least in
+    let mine = λ (off : is_server h.process ≡ false). h.mine off (waits h.process) (holds h.process) in
     record {
       state = h.state;
       says = Line.Label h.label ∷ [];
@@ -206,43 +200,31 @@ turns_row b m pt l k y w c h =
       placed = h.placed;
       mirrors = mirrors;
       kernel = stands_set b pt next l h.placed m k h.state h.process
-          (record {
-            here = h.here;
-            records = h.records;
-            queue = λ q e. refl;
-            held = λ q e. refl;
-            known = λ q e. refl;
-            processes = h.processes;
-            lives = h.lives;
-            bag = λ q j e least. kept (Queue m q) j (queue_apart m m q) least;
-            holds = λ q j e least. kept (Held m q) j (held_apart m m q) least;
-            mine = λ off. h.mine off (λ j least. kept (Queue m h.process) j (queue_apart m m h.process) least) (λ j least. kept (Held m h.process) j (held_apart m m h.process) least);
-            keeps = h.keeps;
-          }) stands
-          (h.ring ∙ stands.ring)
+          (search (h.leaves.here, h.leaves.records, h.leaves.processes, h.leaves.lives, waits, holds, mine, h.leaves.keeps)) stands
+          (h.leaves.ring ∙ stands.ring)
           (ap (map h.placed.bag) (machine_self pt.view.inbox m (without_front y.id (pt.view.inbox m)) ∙ front_gone y.id c.ids (pt.view.inbox m) c.box)
-          ∙ map_same l.bag h.placed.bag c.ids behind ∙ c.others ∙ ap (map Some) (sym h.inbox))
-          (h.count ∙ stands.made ∙ sym (h.made m))
+          ∙ map_same l.bag h.placed.bag c.ids behind ∙ c.others ∙ ap (map Some) (sym h.leaves.inbox))
+          (h.leaves.count ∙ stands.made ∙ sym (h.leaves.made m))
           (record {
-            slots = ap (λ (t : Taken). t.slots) h.room ∙ stands.room.slots;
-            blocks = ap (λ (t : Taken). t.blocks) h.room ∙ stands.room.blocks;
-            taken_slots = ap (λ (t : Taken). t.taken_slots) h.room ∙ stands.room.taken_slots ∙ ap (λ (r : Room). r.slots) (sym taken);
-            taken_blocks = ap (λ (t : Taken). t.taken_blocks) h.room ∙ stands.room.taken_blocks ∙ ap (λ (r : Room). r.blocks) (sym taken);
-          }) h.servers;
+            slots = ap (λ (t : Taken). t.slots) h.leaves.room ∙ stands.room.slots;
+            blocks = ap (λ (t : Taken). t.blocks) h.leaves.room ∙ stands.room.blocks;
+            taken_slots = ap (λ (t : Taken). t.taken_slots) h.leaves.room ∙ stands.room.taken_slots ∙ ap (λ (r : Room). r.slots) (sym taken);
+            taken_blocks = ap (λ (t : Taken). t.taken_blocks) h.leaves.room ∙ stands.room.taken_blocks ∙ ap (λ (r : Room). r.blocks) (sym taken);
+          }) h.leaves.servers;
       elsewhere = search (
         machine_off,
-        h.made,
-        λ (n : ℕ) (q : Pid) (off : n ≢ m) (has : has_process (pt.view.known n q) ≡ true). (h.left q (Elsewhere n off has)).0,
-        λ (n : ℕ) (q : Pid) (off : n ≢ m) (has : has_process (pt.view.known n q) ≡ true). (h.left q (Elsewhere n off has)).1,
-        λ (n : ℕ) (q : Pid) (off : n ≢ m) (over : pt.view.known n q ≡ Ended). (h.left q (Over n off over)).1,
+        h.leaves.made,
+        λ (n : ℕ) (q : Pid) (off : n ≢ m) (has : has_process (pt.view.known n q) ≡ true). (h.leaves.left q (Elsewhere n off has)).0,
+        λ (n : ℕ) (q : Pid) (off : n ≢ m) (has : has_process (pt.view.known n q) ≡ true). (h.leaves.left q (Elsewhere n off has)).1,
+        λ (n : ℕ) (q : Pid) (off : n ≢ m) (over : pt.view.known n q ≡ Ended). (h.leaves.left q (Over n off over)).1,
         λ (i : MsgId) (s : Spot) (is : is_elsewhere m s ≡ true) (least : 1 ≤ standing (begun pt m).view i s). kept s i (elsewhere_apart m s is) (subst (λ (n : ℕ). 1 ≤ n) (standing_begun pt m i s) least),
       );
       sent = sent;
       still = refl;
-      count = h.sent;
-      moving = λ q is. let stays = h.left q (Moves is) in (stays.0, stays.2);
-      own = own_kept b m pt l k y w c h.placed h.route h.bag other;
-      own_back = own_back l h.placed y.id h.route h.bag h.plain;
+      count = h.leaves.sent;
+      moving = λ q is. let stays = h.leaves.left q (Moves is) in (stays.0, stays.2);
+      own = own_kept b m pt l k y w c h.placed h.route h.leaves.bag other;
+      own_back = own_back l h.placed y.id h.route h.leaves.bag h.plain;
     }
   where
     sent_at : (n l : Placed) (i : MsgId) (o : Option Message) → ((j : MsgId) → n.bag j ≡ (with_sent (without_message l i) o).bag j) → ((a : Message) → o ≡ Some a → is_some (plain_message a) ≡ true) → IsSent n o

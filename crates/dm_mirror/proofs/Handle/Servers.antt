@@ -1,9 +1,10 @@
--- Messages that a server takes, and what it sends.
+-- What the servers send has a plain meaning.
 use Rattle.dm_mirror.proofs.Names.{◌≡◌, ℕ, ◌+◌, ◌==◌, ◌||◌, Bool, true, false, List, [], ◌∷◌, ◌++◌, length, refl, ap, ◌∙◌, sym, subst, nat_lt, arith, if◌then◌else◌, option_map, Option, None, Some, false≢true, nat_tests, Pid, pid_eq}
-use Rattle.dm_mirror.proofs.Names.{PlainLink, MsgId, Message, id_eq, Label, PlainMessage, PlainWhat, plain_message, Boot, switchboard, manager, Life, Manager, OneKernel, bind, plain_board, plain_request, Pending, control_link, Managing}
-use Rattle.dm_mirror.proofs.Names.{at_home, plain_manager, plain_pending, plain_created, plain_no_room, plain_pending_numbered, plain_user, counts, unentered, ServerSends, board_takes_lem, manager_takes_lem, Part, Point, blocks_of}
-use Rattle.dm_mirror.proofs.Names.{bag_none, is_server, IsPending, WhatFits, begun, home_of, StepNeeds, Placed, MirrorsKernel, board_took, manager_took, of_map, parts, plainly, user_what, created_what, no_room_what, Servers, handles}
-use Rattle.dm_mirror.proofs.Names.{board_handles, manager_handles, KernelState, turned, servers_at, server_fixed, zero_num, pending_is}
+use Rattle.dm_mirror.proofs.Names.{PlainLink, MsgId, Message, Label, PlainMessage, PlainWhat, plain_message, Boot, switchboard, manager, Life, Manager, OneKernel, bind, plain_board, plain_request, Pending, control_link, Managing, at_home}
+use Rattle.dm_mirror.proofs.Names.{plain_manager, plain_pending, plain_created, plain_no_room, plain_pending_numbered, plain_user, counts, unentered, ServerSends, board_takes_lem, manager_takes_lem, Part, Point, blocks_of, bag_none}
+use Rattle.dm_mirror.proofs.Names.{is_server, IsPending, WhatFits, home_of, StepNeeds, Placed, MirrorsKernel, board_took, manager_took, of_map, parts, plainly, user_what, created_what, no_room_what, Servers, handles, board_handles}
+use Rattle.dm_mirror.proofs.Names.{manager_handles, KernelState, turned, servers_at, server_fixed, pending_is, ◌*◌, ◌&&◌, is_some, Addr, Link, What, plain_what, with_what, Board, answer_over, message_to, kernel_of, ◌≢◌, begun}
+pub use Rattle.dm_places.proofs.Frames.{kept_processes as placed_processes}
 use Rattle.dm_onekernel.specs.Kernel as kernels
 use Rattle.dm_onekernel.specs.Manager as one
 use Rattle.dm_onekernel.specs.Service as service
@@ -16,37 +17,93 @@ use Rattle.dm_places.specs.PlacedStep as placed
 use Rattle.dm_kernel.specs.declared.part.Part as parts_
 use Rattle.dm_kernel.specs.Handle as machine
 use Rattle.dm_kernel.specs.State as state
-use Rattle.dm_mirror.proofs.Handle.Plain.{IsPlain, answers_plain, board_plain, routes_plainly, user_plain}
-use Rattle.dm_mirror.proofs.Handle.Receivers.{to_board, to_manager, rule_to_board, rule_to_manager}
 use Rattle.dm_mirror.proofs.Handle.Rows.{turns_row}
-use Rattle.dm_mirror.proofs.Handle.Taking.{Taking, sane_of, some_of}
-use Rattle.dm_mirror.proofs.Turning.{routed, Row}
-pub use Rattle.dm_places.proofs.Frames.{kept_processes as placed_processes}
+use Rattle.dm_mirror.proofs.Handle.Taking.{Taking, sane_of, some_of, to_board, to_manager, rule_to_board, rule_to_manager}
+use Rattle.dm_mirror.proofs.Turning.{routed, Row, rule_routed}
+use Rattle.dm_mirror.proofs.Follow.Updates.{first_servers as servers_zero}
+
+-- what is sent, if anything
+abbrev pub IsPlain : Option Message → Type 0
+IsPlain o = (a : Message) → o ≡ Some a → is_some (plain_message a) ≡ true
+
+pub routes_plainly : (o : Option Message) → IsPlain o → rule.routes (bind o plain_message) ≡ rule_routed o
+routes_plainly o h = grind (arith, nat_tests, some_of)
+
+pub plain_one : (a : Message) → is_some (plain_message a) ≡ true → IsPlain (Some a)
+plain_one a h x e = let f : a ≡ x = cc in ap (λ (n : Message). is_some (plain_message n)) (sym f) ∙ h
+
+-- what the switchboard sends
+pub board_plain : (g : Board) (body : List ℕ) (ls : List Link) → IsPlain (board.takes_request g body ls).took.answer
+board_plain g body [] a e = cc
+board_plain g body (k ∷ ks) a e = plain_one (board.answer_over g.sent k (board.asks g.names body ks).reply) refl a e
+
+-- what the manager sends
+pub answers_plain : (g : Managing) (l : Link) (code : ℕ) (ls : List Link) → IsPlain (manage.answers g l code ls).message
+answers_plain g l code ls = plain_one (answer_over g.sent l code ls) refl
+
+bad_plain : (g : Managing) (ls : List Link) → IsPlain (manage.bad_request g ls).message
+bad_plain g [] a e = cc
+bad_plain g (k ∷ ks) a e = answers_plain g k 2 [] a e
+
+wants_plain : (g : Managing) (machine image : ℕ) (ls : List Link) → IsPlain (manage.wants_child g machine image ls).message
+wants_plain g machine image [] = bad_plain g []
+wants_plain g machine image (k ∷ ks) = wants_if (nat_lt machine g.machines && nat_lt image g.images)
+  where
+    wants_if : (c : Bool) → IsPlain (if c then manage.asks_for g machine image k ks else manage.bad_request g (k ∷ ks)).message
+    wants_if true = plain_one (message_to g.sent (kernel_of machine) (What.Create image (record { items = ks }))) refl
+    wants_if false = bad_plain g (k ∷ ks)
+
+requests_plain : (g : Managing) (body : List ℕ) (ls : List Link) → IsPlain (manage.requests g body ls).message
+requests_plain g (operation ∷ machine ∷ high ∷ low ∷ []) ls = requests_if (operation == 1)
+  where
+    requests_if : (c : Bool) → IsPlain (if c then manage.wants_child g machine (256 * high + low) ls else manage.bad_request g ls).message
+    requests_if true = wants_plain g machine (256 * high + low) ls
+    requests_if false = bad_plain g ls
+requests_plain g _ ls = bad_plain g ls
+
+control_plain : (g : Managing) (child : Addr) (o : Option What) (ls : List Link) → ((w : What) → o ≡ Some w → is_some (plain_what w) ≡ true) → IsPlain (manage.controls_child g child o ls).message
+control_plain g child None ls h = bad_plain g ls
+control_plain g child (Some w) ls h = plain_one (message_to g.sent child w) (plain_with (message_to g.sent child w) (plain_what w) (h w refl))
+  where
+    plain_with : (a : Message) (o : Option PlainWhat) → is_some o ≡ true → is_some (with_what a o) ≡ true
+    plain_with a None e = cc
+    plain_with a (Some u) e = refl
+
+control_of_plain : (operation : ℕ) (w : What) → manage.control_of operation ≡ Some w → is_some (plain_what w) ≡ true
+control_of_plain operation w e = grind (arith, nat_tests, is_some)
+
+controls_plain : (g : Managing) (o : Option Addr) (body : List ℕ) (ls : List Link) → IsPlain (manage.controls g o body ls).message
+controls_plain g (Some child) (operation ∷ []) ls = control_plain g child (manage.control_of operation) ls (control_of_plain operation)
+controls_plain g None body ls = bad_plain g ls
+controls_plain g (Some child) _ ls = bad_plain g ls
+
+pub user_plain : (g : Managing) (code : ℕ) (body : List ℕ) (ls : List Link) → IsPlain (manage.takes_user g code body ls).message
+user_plain g code body ls = user_if (code == 0)
+  where
+    user_if : (c : Bool) → IsPlain (if c then manage.requests g body ls else manage.controls g (manage.child_address g.children code) body ls).message
+    user_if true = requests_plain g body ls
+    user_if false = controls_plain g (manage.child_address g.children code) body ls
+
+-- Messages that a server takes, and what it sends.
 
 -- a message that is sent, if any
 routes_same : (o : Option Message) → machine.routes o ≡ routed o
-routes_same None = refl
-routes_same (Some a) = refl
+routes_same o = grind (arith, nat_tests)
 
 pub sent_processes : (u : OneKernel) (o : Option PlainMessage) (q : Pid) → (kernels.with_sent u o).processes q ≡ u.processes q
-sent_processes u None q = refl
-sent_processes u (Some a) q = refl
+sent_processes u o q = grind (arith, nat_tests)
 
 pub sent_made : (u : OneKernel) (o : Option PlainMessage) (n : ℕ) → (kernels.with_sent u o).made n ≡ u.made n
-sent_made u None n = refl
-sent_made u (Some a) n = refl
+sent_made u o n = grind (arith, nat_tests)
 
 pub sent_machines : (u : OneKernel) (o : Option PlainMessage) → (kernels.with_sent u o).machines ≡ u.machines
-sent_machines u None = refl
-sent_machines u (Some a) = refl
+sent_machines u o = grind (arith, nat_tests)
 
 pub placed_bag : (l n : Placed) (o : Option Message) (j : MsgId) → l.bag j ≡ n.bag j → (placed.with_sent l o).bag j ≡ (placed.with_sent n o).bag j
-placed_bag l n None j e = e
-placed_bag l n (Some a) j e = ap (λ (z : Option Message). if id_eq a.id j then Some a else z) e
+placed_bag l n o j e = grind (arith, nat_tests)
 
 pub placed_servers : (l : Placed) (o : Option Message) (m : ℕ) → servers_at (placed.with_sent l o) m ≡ servers_at l m
-placed_servers l None m = refl
-placed_servers l (Some a) m = refl
+placed_servers l o m = grind (arith, nat_tests)
 
 -- a server takes the message: u and on are the kernels then, before what it sends enters
 pub record Takes (b : Boot) (m : ℕ) (pt : Point) (l : Placed) (k : KernelState) (y : Message) (w : PlainWhat) (c : Taking b m pt l k y w) : Type 0 where
@@ -79,6 +136,10 @@ took_row b m pt l k y w c h =
     let on = placed.with_sent h.on h.sent in
     let seen = sane_of b m pt l k y w c in
     let needs : StepNeeds s (begun pt m).view e = (h.home, c.run.based.pending) in
+    let lives : (q : Pid) → next.processes q ≡ s.processes q = λ q. sent_processes h.u said q ∙ h.lives q in
+    let processes : (q : Pid) → on.processes q ≡ l.processes q = λ q. placed_processes h.on h.sent q ∙ h.processes q in
+    let board : m ≢ 0 → on.board ≡ l.board = λ off. absurd (off h.home) in
+    let manager : m ≢ 0 → on.manager ≡ l.manager = λ off. absurd (off h.home) in
     turns_row b m pt l k y w c (record {
       label = e;
       next = next;
@@ -92,38 +153,24 @@ took_row b m pt l k y w c h =
       placed_is = h.placed_is;
       turn = h.turn ∙ ap (λ (ps : List parts_.Part). turned (record k { inbox = c.rest; servers = Some h.servers }) (state.says e ∷ ps)) (routes_same h.sent);
       outcome = h.outcome ∙ ap (λ (ps : List Part). Some (rule.says e ∷ ps)) (routes_plainly h.sent h.plain);
-      machines = sent_machines h.u said ∙ h.machines;
-      made = λ n. sent_made h.u said n ∙ h.made n;
-      lives = λ q off. sent_processes h.u said q ∙ h.lives q;
-      blocks = ap (λ (o : Option Life). blocks_of (kernel.alive o)) (sent_processes h.u said p ∙ h.lives p);
-      processes = λ q off. placed_processes h.on h.sent q ∙ h.processes q;
-      bag = λ j. placed_bag h.on (placed.without_message l y.id) h.sent j (h.bag j);
-      board = λ off. absurd (off h.home);
-      manager = λ off. absurd (off h.home);
       fresh = λ a is.
           let (q, plain) = some_of (plain_message a) (h.plain a is) in
           let none = h.fresh q (ap (λ (o : Option Message). bind o plain_message) is ∙ plain) in
           ap s.bag (parts a q plain).id ∙ bag_none seen.r seen.e s q.id (unentered seen.r seen.e s q.id seen.sound.entered none) seen.sound.entered;
       plain = h.plain;
-      here = refl;
-      records = λ q off. refl;
-      ring = refl;
-      inbox = refl;
-      count = refl;
-      sent = refl;
-      room = refl;
-      servers = h.servers_is ∙ sym (placed_servers h.on h.sent m);
-      keeps = λ off. refl;
       mine = λ off bag holds. absurd (false≢true (sym off ∙ h.server));
-      left = λ q is. (placed_processes h.on h.sent q ∙ h.processes q, sent_processes h.u said q ∙ h.lives q, refl);
+      leaves = search (
+        sent_machines h.u said ∙ h.machines,
+        λ (n : ℕ). sent_made h.u said n ∙ h.made n,
+        lives,
+        ap (λ (o : Option Life). blocks_of (kernel.alive o)) (lives p),
+        processes,
+        λ (j : MsgId). placed_bag h.on (placed.without_message l y.id) h.sent j (h.bag j),
+        board,
+        manager,
+        h.servers_is ∙ sym (placed_servers h.on h.sent m),
+      );
     })
-
-servers_zero : (l : Placed) (m : ℕ) → m ≡ 0 → servers_at l m ≡ Some (record { board = l.board; manager = l.manager })
-servers_zero l m e = ap (λ (d : Bool). if d then Some (record { board = l.board; manager = l.manager }) else None) (zero_num m e)
-
--- the switchboard
-board_home : (p : Pid) (m : ℕ) → pid_eq p switchboard ≡ true → p.home ≡ m → m ≡ 0
-board_home p m e home = let z : p.home ≡ 0 = grind (arith, nat_tests) in sym home ∙ z
 
 user_row : (b : Boot) (m : ℕ) (pt : Point) (l : Placed) (k : KernelState) (y : Message) (code channel : ℕ) (bytes : List ℕ) (ls : List PlainLink) → Taking b m pt l k y (PlainWhat.User code channel bytes ls) → (y.to.pid.num == 0) ≡ false → pid_eq y.to.pid switchboard ≡ true → Row b m pt l k
 user_row b m pt l k y code channel bytes ls c num is =
@@ -132,7 +179,7 @@ user_row b m pt l k y code channel bytes ls c num is =
     let x = plainly y w in
     let k0 = record k { inbox = c.rest } in
     let server : is_server y.to.pid ≡ true = ap (λ (d : Bool). d || pid_eq y.to.pid manager) is in
-    let at = board_home y.to.pid m is (home_of b m pt y.id x (server_fixed y.to.pid server) c.front) in
+    let at = let z : y.to.pid.home ≡ 0 = grind (arith, nat_tests) in sym (home_of b m pt y.id x (server_fixed y.to.pid server) c.front) ∙ z in
     let u = user_what y.what code channel bytes ls c.says in
     let t = board.takes_request l.board u.body.items u.links.items in
     let v : Servers = record { board = l.board; manager = l.manager } in
@@ -172,10 +219,6 @@ pub board_row : (b : Boot) (m : ℕ) (pt : Point) (l : Placed) (k : KernelState)
 board_row b m pt l k y (PlainWhat.User code channel bytes ls) ps c num is goes = user_row b m pt l k y code channel bytes ls c num is
 board_row b m pt l k y w ps c num is goes = absurd (let f : None ≡ Some ps = goes in cc)
 
--- the manager
-manager_home : (p : Pid) (m : ℕ) → pid_eq p manager ≡ true → p.home ≡ m → m ≡ 0
-manager_home p m e home = let z : p.home ≡ 0 = grind (arith, nat_tests) in sym home ∙ z
-
 manager_by : (b : Boot) (m : ℕ) (pt : Point) (l : Placed) (k : KernelState) (y : Message) (w : PlainWhat) (t : manage.Taken) → Taking b m pt l k y w → (y.to.pid.num == 0) ≡ false → pid_eq y.to.pid switchboard ≡ false → pid_eq y.to.pid manager ≡ true
     → manage.takes l.manager y.id.n y.what ≡ Some t → one.manager_takes pt.kernel.manager pt.kernel.machines (length pt.kernel.images) (plainly y w) w ≡ Some (record { manager = plain_manager t.manager; message = bind t.message plain_message }) → IsPlain t.message → Row b m pt l k
 manager_by b m pt l k y w t c num off is taken takes plain =
@@ -183,7 +226,7 @@ manager_by b m pt l k y w t c num off is taken takes plain =
     let x = plainly y w in
     let k0 = record k { inbox = c.rest } in
     let server : is_server y.to.pid ≡ true = ap (λ (d : Bool). d || pid_eq y.to.pid manager) off ∙ is in
-    let at = manager_home y.to.pid m is (home_of b m pt y.id x (server_fixed y.to.pid server) c.front) in
+    let at = let z : y.to.pid.home ≡ 0 = grind (arith, nat_tests) in sym (home_of b m pt y.id x (server_fixed y.to.pid server) c.front) ∙ z in
     let v : Servers = record { board = l.board; manager = l.manager } in
     let kk : one.ManagerTook = record { manager = plain_manager t.manager; message = bind t.message plain_message } in
     took_row b m pt l k y w c (record {

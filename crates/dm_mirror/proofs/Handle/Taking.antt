@@ -1,16 +1,90 @@
--- A turn that handles the message at the inbox's front: what holds of it, and how a row of it comes to the end.
-use Rattle.dm_mirror.proofs.Names.{◌≡◌, ◌≢◌, ℕ, ◌+◌, ◌≤◌, ◌<◌, Bool, true, false, List, ◌∷◌, refl, ap, ◌∙◌, sym, subst, inl, inr, is_some, arith, if◌then◌else◌, Option, None, Some, cases_Bool, false≢true, Pid, MsgId, Message, id_eq, nat_tests}
-use Rattle.dm_mirror.proofs.Names.{PlainMessage, PlainWhat, plain_message, plain_what, with_what, Boot, IsValid, Label, OneKernel, bind, Step, entry, reception, after_step, id_eq-is, id_eq-same, Point, outcome, Spot, Queue, Held, Inbox}
+-- The kernel of a machine still stands for a point where one process has changed.
+use Rattle.dm_mirror.proofs.Names.{◌≡◌, ◌≢◌, ℕ, ◌+◌, ◌≤◌, ◌<◌, Bool, true, false, List, ◌∷◌, refl, ap, ◌∙◌, sym, subst, inl, inr, is_some, arith, if◌then◌else◌, Option, None, Some, cases_Bool, false≢true, Pid, MsgId, Message, id_eq}
+use Rattle.dm_mirror.proofs.Names.{nat_tests, PlainMessage, PlainWhat, plain_message, plain_what, Boot, IsValid, Label, OneKernel, bind, Step, entry, reception, after_step, id_eq-is, id_eq-same, Point, outcome, Spot, Queue, Held, Inbox}
 use Rattle.dm_mirror.proofs.Names.{times, standing, StandsAsBag, StandsNowhere, StandsOutside, StandsRight, is_kernels, stands_right, kernels_fresh, not_kernels, Sane, StandsAsBag-elsewhere, StandsAsBag-one, front, OwnTold, IsQueued, Run}
-use Rattle.dm_mirror.proofs.Names.{Front, Placed, Mirrors, MirrorsKernel, parts, there_of, plainly, plainly_is, handles, KernelState, Turned, turn, turns, MadeStands, AllOwnStand, AreMessages, KernelStands}
+use Rattle.dm_mirror.proofs.Names.{Front, Placed, Mirrors, MirrorsKernel, parts, there_of, plainly, plainly_is, handles, KernelState, Turned, turn, turns, MadeStands, AllOwnStand, AreMessages, KernelStands, ◌==◌, ◌&&◌, [], slice_get}
+use Rattle.dm_mirror.proofs.Names.{pid_eq, room_of, pid_eq-is, taken_at, at_machine, at_record, Known, is_server, KnownStands, RoomStands, servers_at, ◌||◌, length, switchboard, manager, Part, kernel_handles, board_handles, manager_handles}
+use Rattle.dm_mirror.proofs.Names.{process_handles}
+use Rattle.dm_rule.proofs.States.{not_true}
+use Rattle.dm_places.specs.PlacedStep.{with_sent, without_message}
+pub use Rattle.dm_rulelaws.proofs.Goes.Always.{queue_apart}
+pub use Rattle.dm_rulelaws.proofs.Goes.Turns.{times_self, times_more}
+pub use Rattle.dm_rule.proofs.Lines.{eq_self, at_machine_at as machine_self}
 use Rattle.dm_onekernel.specs.Step as kernel
 use Rattle.dm_rule.specs.Parts as part_of_rule
 use Rattle.dm_rule.specs.Rule as rule
-use Rattle.dm_rule.proofs.States.{not_true}
-use Rattle.dm_places.specs.PlacedStep.{with_sent, without_message}
-use Rattle.dm_mirror.proofs.Handle.Frames.{times_self, front_of}
-pub use Rattle.dm_rulelaws.proofs.Goes.Always.{queue_apart}
-pub use Rattle.dm_mirror.proofs.Putting.{some_plain as some_of}
+use Rattle.dm_onekernel.specs.Manager as manage
+use Rattle.dm_onekernel.specs.Switchboard as board
+pub use Rattle.dm_mirror.proofs.Kernel.Sets.{known_at as known_on, map_same}
+pub use Rattle.dm_mirror.proofs.Join.{some_plain as some_of}
+pub use Rattle.dm_mirror.proofs.End.Servers.{off as eq_off}
+
+pub some_same : {X : Type 0} (x y : X) → Some x ≡ Some y → x ≡ y
+some_same x y e = cc
+
+-- the message at the front
+pub record FrontOf (bag : MsgId → Option Message) (i : MsgId) (is : List MsgId) (ms : List Message) : Type 0 where
+  pub message : Message
+  pub rest : List Message
+  pub is_front : ms ≡ message ∷ rest
+  pub there : bag i ≡ Some message
+  pub others : AreMessages bag is rest
+
+pub front_of : (bag : MsgId → Option Message) (i : MsgId) (is : List MsgId) (ms : List Message) → AreMessages bag (i ∷ is) ms → FrontOf bag i is ms
+front_of bag i is [] e = cc
+front_of bag i is (y ∷ rest) e = record { message = y; rest = rest; is_front = refl; there = cc; others = cc }
+
+-- another kernel of machine m for another point, where only process p may have changed
+pub record Sets (pt next : Point) (l placed : Placed) (m : ℕ) (k s : KernelState) (p : Pid) : Type 0 where
+  pub here : s.here ≡ k.here
+  pub records : (q : Pid) → pid_eq p q ≡ false → s.records q ≡ k.records q
+  pub queue : (q : Pid) → pid_eq p q ≡ false → next.view.queue m q ≡ pt.view.queue m q
+  pub held : (q : Pid) → pid_eq p q ≡ false → next.view.held m q ≡ pt.view.held m q
+  pub known : (q : Pid) → pid_eq p q ≡ false → next.view.known m q ≡ pt.view.known m q
+  pub processes : (q : Pid) → pid_eq p q ≡ false → placed.processes q ≡ l.processes q
+  pub lives : (q : Pid) → pid_eq p q ≡ false → next.kernel.processes q ≡ pt.kernel.processes q
+  pub bag : (q : Pid) (j : MsgId) → pid_eq p q ≡ false → 1 ≤ times j (pt.view.queue m q) → placed.bag j ≡ l.bag j
+  pub holds : (q : Pid) (j : MsgId) → pid_eq p q ≡ false → 1 ≤ times j (pt.view.held m q) → placed.bag j ≡ l.bag j
+  -- what is known of it then
+  pub mine : is_server p ≡ false → KnownStands next placed p (next.view.queue m p) (next.view.held m p) (next.view.known m p) (s.records p)
+  pub keeps : is_server p ≡ true → s.records p ≡ k.records p
+
+known_sets : (b : Boot) (pt next : Point) (l placed : Placed) (m : ℕ) (k s : KernelState) (p q : Pid) → is_server q ≡ false → Sets pt next l placed m k s p → KernelStands b pt l m k → KnownStands next placed q (next.view.queue m q) (next.view.held m q) (next.view.known m q) (s.records q)
+known_sets b pt next l placed m k s p q server w h = elim (cases_Bool (pid_eq p q)) [
+  | inl same ↦
+      let e : p ≡ q = pid_eq-is p q same in
+      subst (λ (z : Pid). KnownStands next placed z (next.view.queue m z) (next.view.held m z) (next.view.known m z) (s.records z)) e (w.mine (ap is_server e ∙ server))
+  | inr apart ↦
+      let on = known_on pt next l placed q (pt.view.queue m q) (pt.view.held m q) (pt.view.known m q) (k.records q) (w.processes q apart) (w.lives q apart) (λ j least. w.bag q j apart least) (λ j least. w.holds q j apart least) (h.known q server) in
+      subst (KnownStands next placed q (next.view.queue m q) (next.view.held m q) (next.view.known m q)) (sym (w.records q apart))
+      (subst (λ (z : Known). KnownStands next placed q (next.view.queue m q) (next.view.held m q) z (k.records q)) (sym (w.known q apart))
+      (subst (λ (z : List MsgId). KnownStands next placed q (next.view.queue m q) z (pt.view.known m q) (k.records q)) (sym (w.held q apart))
+      (subst (λ (z : List MsgId). KnownStands next placed q z (pt.view.held m q) (pt.view.known m q) (k.records q)) (sym (w.queue q apart)) on)))
+]
+
+servers_set : (b : Boot) (pt next : Point) (l placed : Placed) (m : ℕ) (k s : KernelState) (p q : Pid) → is_server q ≡ true → Sets pt next l placed m k s p → KernelStands b pt l m k → s.records q ≡ None
+servers_set b pt next l placed m k s p q server w h = grind (arith, nat_tests, pid_eq-is)
+
+pub stands_set : (b : Boot) (pt next : Point) (l placed : Placed) (m : ℕ) (k s : KernelState) (p : Pid) → Sets pt next l placed m k s p → KernelStands b pt l m k → s.ring ≡ next.view.ring m → AreMessages placed.bag (next.view.inbox m) s.inbox
+    → s.made ≡ next.kernel.made m → RoomStands s.room (room_of (slice_get b.machines m)) (taken_at next m next.kernel.machines) → s.servers ≡ servers_at placed m → KernelStands b next placed m s
+stands_set b pt next l placed m k s p w h ring inbox made room servers = search (w.here ∙ h.here, known_sets, servers_set)
+
+pub machine_off : {X : Type 0} (f : ℕ → X) (m n : ℕ) (x : X) → n ≢ m → at_machine f m x n ≡ f n
+machine_off f m n x apart = ap (λ (c : Bool). if c then x else f n) (eq_off m n apart)
+
+pub record_self : {X : Type 0} (f : ℕ → Pid → X) (m : ℕ) (p : Pid) (x : X) → pid_eq p p ≡ true → at_record f m p x m p ≡ x
+record_self f m p x same = ap (λ (c : Bool). if c && pid_eq p p then x else f m p) (eq_self m) ∙ ap (λ (c : Bool). if c then x else f m p) same
+
+pub record_off : {X : Type 0} (f : ℕ → Pid → X) (m n : ℕ) (p q : Pid) (x : X) → n ≢ m → at_record f m p x n q ≡ f n q
+record_off f m n p q x apart = ap (λ (c : Bool). if c && pid_eq p q then x else f n q) (eq_off m n apart)
+
+pub record_others : {X : Type 0} (f : ℕ → Pid → X) (m : ℕ) (p q : Pid) (x : X) → pid_eq p q ≡ false → at_record f m p x m q ≡ f m q
+record_others f m p q x apart = ap (λ (c : Bool). if c && pid_eq p q then x else f m q) (eq_self m) ∙ ap (λ (c : Bool). if c then x else f m q) apart
+
+pub pid_apart : (p q : Pid) → q ≢ p → pid_eq p q ≡ false
+pid_apart p q apart = grind (arith, nat_tests, pid_eq-is)
+
+-- A turn that handles the message at the inbox's front: what holds of it, and how a row of it comes to the end.
 
 -- machine m handles message y, which says w without places
 pub record Taking (b : Boot) (m : ℕ) (pt : Point) (l : Placed) (k : KernelState) (y : Message) (w : PlainWhat) : Type 0 where
@@ -64,10 +138,6 @@ took b m pt l k i is x valid below run told made mirrors h own box there =
       ap l.bag name ∙ f.there,
       front b m pt y.id is (plainly y x.what) box_ (ap pt.kernel.bag name ∙ there ∙ ap Some (plainly_is y x plain)) run,
     )
-
--- its plain meaning
-pub plainly_says : (b : Boot) (m : ℕ) (pt : Point) (l : Placed) (k : KernelState) (y : Message) (w : PlainWhat) → Taking b m pt l k y w → plain_message y ≡ Some (plainly y w)
-plainly_says b m pt l k y w c = ap (with_what y) c.says
 
 -- the kernel without machines, as the rule has led to it
 pub sane_of : (b : Boot) (m : ℕ) (pt : Point) (l : Placed) (k : KernelState) (y : Message) (w : PlainWhat) → Taking b m pt l k y w → Sane pt
@@ -135,8 +205,46 @@ sent_other pt e next placed a step mirrors there plain h =
 
 -- the bag without it, and with what is sent
 pub bag_kept : (l : Placed) (i : MsgId) (o : Option Message) (j : MsgId) → id_eq i j ≡ false → ((a : Message) → o ≡ Some a → id_eq a.id j ≡ false) → (with_sent (without_message l i) o).bag j ≡ l.bag j
-bag_kept l i None j off others = ap (λ (c : Bool). if c then None else l.bag j) off
-bag_kept l i (Some a) j off others = ap (λ (c : Bool). if c then Some a else (if id_eq i j then None else l.bag j)) (others a refl) ∙ ap (λ (c : Bool). if c then None else l.bag j) off
+bag_kept l i o j off others = grind (arith, nat_tests)
 
 pub sent_there : (l : Placed) (a : Message) → (with_sent l (Some a)).bag a.id ≡ Some a
 sent_there l a = ap (λ (c : Bool). if c then Some a else l.bag a.id) (id_eq-same a.id)
+
+-- Whom a message that is handled is for, in the machine's terms and the rule's.
+
+-- a process: it has neither number 0 nor a server's name
+pub record IsProcess (p : Pid) : Type 0 where
+  pub number : (p.num == 0) ≡ false
+  pub no_board : pid_eq p switchboard ≡ false
+  pub no_manager : pid_eq p manager ≡ false
+
+pub no_kernel : (p : Pid) → IsProcess p → p.num ≡ 0 → ⊥
+no_kernel p h e = false≢true (sym h.number ∙ (let k : (p.num == 0) ≡ true = grind (arith, nat_tests) in k))
+
+pub not_server : (p : Pid) → IsProcess p → is_server p ≡ false
+not_server p h = ap (λ (c : Bool). c || pid_eq p manager) h.no_board ∙ h.no_manager
+
+pub to_kernel : (b : Boot) (s : KernelState) (y : Message) → (y.to.pid.num == 0) ≡ true → handles b s y ≡ kernel_handles b s y y.what
+to_kernel b s y num = grind (arith, nat_tests)
+
+pub to_board : (b : Boot) (s : KernelState) (y : Message) → (y.to.pid.num == 0) ≡ false → pid_eq y.to.pid switchboard ≡ true → handles b s y ≡ board_handles s y s.servers
+to_board b s y num one = grind (arith, nat_tests)
+
+pub to_manager : (b : Boot) (s : KernelState) (y : Message) → (y.to.pid.num == 0) ≡ false → pid_eq y.to.pid switchboard ≡ false → pid_eq y.to.pid manager ≡ true → handles b s y ≡ manager_handles s y s.servers
+to_manager b s y num one two = search
+
+pub to_process : (b : Boot) (s : KernelState) (y : Message) → IsProcess y.to.pid → handles b s y ≡ process_handles s y (s.records y.to.pid)
+to_process b s y h = search
+
+pub rule_to_kernel : (b : Boot) (pt : Point) (m : ℕ) (i : MsgId) (x : PlainMessage) → (x.to.num == 0) ≡ true → rule.handles b pt m i x ≡ rule.kernel_handles b pt m i x.what
+rule_to_kernel b pt m i x num = grind (arith, nat_tests)
+
+pub rule_to_board : (b : Boot) (pt : Point) (m : ℕ) (i : MsgId) (x : PlainMessage) → (x.to.num == 0) ≡ false → pid_eq x.to switchboard ≡ true → rule.handles b pt m i x ≡ rule.board_took i (board.board_takes pt.kernel.switchboard x x.what)
+rule_to_board b pt m i x num one = grind (arith, nat_tests)
+
+pub rule_to_manager : (b : Boot) (pt : Point) (m : ℕ) (i : MsgId) (x : PlainMessage) → (x.to.num == 0) ≡ false → pid_eq x.to switchboard ≡ false → pid_eq x.to manager ≡ true
+    → rule.handles b pt m i x ≡ rule.manager_parts i (manage.manager_takes pt.kernel.manager pt.kernel.machines (length pt.kernel.images) x x.what)
+rule_to_manager b pt m i x num one two = search
+
+pub rule_to_process : (b : Boot) (pt : Point) (m : ℕ) (i : MsgId) (x : PlainMessage) → IsProcess x.to → rule.handles b pt m i x ≡ rule.process_handles pt m i x (pt.view.known m x.to)
+rule_to_process b pt m i x h = search

@@ -3,17 +3,21 @@
 use Rattle.dm_mirror.proofs.Names.{◌≡◌, ◌≢◌, ℕ, ◌≤◌, ◌==◌, ◌&&◌, not, Bool, true, false, List, [], ◌∷◌, map, refl, ap, ◌∙◌, sym, subst, inl, inr, arith, is_some, if◌then◌else◌, slice_get, Option, None, Some, cases_Bool, false≢true}
 use Rattle.dm_mirror.proofs.Names.{nat_tests, Pid, pid_eq, Message, MsgId, plain_message, Taken, with_released, Record, Boot, Life, OneKernel, KernelState, room_of, pid_eq-is, Point, Room, taken_at, taken_by, takes_room, blocks_of, Spot}
 use Rattle.dm_mirror.proofs.Names.{Queue, Held, Inbox, times, ids_at, standing, View, Known, Unknown, Here, Frozen, Incoming, Forward, Ended, is_away, is_server, Placed, MadeStands, AreMessages, KnownStands, KernelStands, RoomStands}
-use Rattle.dm_mirror.proofs.Names.{servers_at}
-use Rattle.dm_onekernel.specs.Step as kernel
-use Rattle.dm_kernel.specs.State as machine
-use Rattle.dm_mirror.proofs.Turning.{Elsewhere, is_elsewhere, has_process}
-use Rattle.dm_mirror.proofs.Rooms.{taken_same, taken_changed}
-pub use Rattle.dm_rulelaws.proofs.Goes.Turns.{times_self}
+use Rattle.dm_mirror.proofs.Names.{servers_at, ◌/◌, length, Process, Why, Alive, plain_process, with_queue, id_eq, PlainMessage, Label, bind, id_eq-is, pid_eq-same, Line, moved, after, at_machine, at_record, without, without_front}
+use Rattle.dm_mirror.proofs.Names.{moved_back, StandsNowhere, StandsOutside, StandsRight, serving, handled, is_kernels, Mirrors, MirrorsKernel, placed_step, StepNeeds, mirrors_view, moves_label, placed_follows, ended}
+pub use Rattle.dm_rulelaws.proofs.Goes.Turns.{times_self, times_more}
 pub use Rattle.dm_rule.proofs.Lines.{eq_self}
 pub use Rattle.dm_rule.proofs.Trails.Spares.{not_is}
-pub use Rattle.dm_rulelaws.proofs.Goes.Turns.{times_more}
 pub use Rattle.dm_rule.proofs.Phases.Pieces.{and_false as right_off}
-pub use Rattle.dm_mirror.proofs.End.Where.{off as eq_apart}
+use Rattle.dm_places.specs.PlacedStep.{with_message, with_process, with_sent, without_message}
+use Rattle.dm_onekernel.specs.Step as kernel
+use Rattle.dm_kernel.specs.State as machine
+use Rattle.dm_rule.specs.View as view
+use Rattle.dm_onekernel.specs.Kernel as kernels
+use Rattle.dm_onekernel.specs.Service as service
+use Rattle.dm_mirror.proofs.Turning.{Elsewhere, is_elsewhere, has_process}
+use Rattle.dm_mirror.proofs.Rooms.{taken_same, taken_changed}
+pub use Rattle.dm_mirror.proofs.End.Servers.{off as eq_apart}
 
 -- small tests
 pub off_if : {A : Type 0} (c : Bool) (x y : A) → c ≡ false → (if c then x else y) ≡ y
@@ -106,18 +110,12 @@ leaves_on m t p a b c k l n g h = search (
   placed_leaves_on t p a.view k l n g.placed_ (placed_leaves_from m t p a.view b.view l n g.view h.placed_),
 )
 
--- the other machines and the pairs stay
-not_here : (m n : ℕ) → n ≢ m → not (n == m) ≡ true
-not_here m n h = ap not (eq_apart n m (λ e. h (sym e)))
-
 -- a process that rests on machine m is away from the others
 abbrev pub IsAway : View → ℕ → Pid → Type 0
 IsAway v m p = (n : ℕ) → n ≢ m → is_away (v.known n p) ≡ true
 
 pub away_process : (k : Known) → is_away k ≡ true → has_process k ≡ true → ⊥
-away_process Unknown a e = false≢true e
-away_process (Forward at moves) a e = false≢true e
-away_process _ a e = false≢true a
+away_process k a e = grind (arith, nat_tests)
 
 pub elsewhere_of : (m : ℕ) (t : Spot → Bool) (p : Pid) (pt next : Point) (l placed : Placed) → IsAway pt.view m p → pt.view.acting ≡ m → ((s : Spot) → is_elsewhere m s ≡ true → t s ≡ false) → Leaves m t p pt l next placed
     → Elsewhere m pt l next placed
@@ -125,10 +123,10 @@ elsewhere_of m t p pt next l placed away at off h = record {
   acting = h.view.acting ∙ at;
   groups = h.view.groups;
   pair = h.view.pair;
-  inbox = λ n apart. h.view.lists (Inbox n) (off (Inbox n) (not_here m n apart));
+  inbox = λ n apart. h.view.lists (Inbox n) (off (Inbox n) (ap not (eq_apart n m (λ e. apart (sym e)))));
   ring = h.view.ring;
   known = λ n q apart. h.view.known n q (left_off (m == n) (pid_eq p q) (eq_apart m n apart));
-  queue = λ n q apart. h.view.lists (Queue n q) (off (Queue n q) (not_here m n apart));
+  queue = λ n q apart. h.view.lists (Queue n q) (off (Queue n q) (ap not (eq_apart n m (λ e. apart (sym e)))));
   held = λ n q apart. h.view.held n q;
   count = h.view.count;
   told = h.view.told;
@@ -149,9 +147,7 @@ elsewhere_of m t p pt next l placed away at off h = record {
     ]
 
 pub queue_not_elsewhere : (m : ℕ) (p : Pid) (s : Spot) → is_elsewhere m s ≡ true → is_queue_of m p s ≡ false
-queue_not_elsewhere m p (Queue n q) e =
-    let f : (n == m) ≡ false = not_is (n == m) e in left_off (m == n) (pid_eq p q) (let g : (m == n) ≡ false = grind (arith, nat_tests) in g)
-queue_not_elsewhere m p _ e = refl
+queue_not_elsewhere m p s e = grind (arith, nat_tests, not_is, left_off)
 
 pub queue_of_others : (m : ℕ) (p q : Pid) → pid_eq p q ≡ false → is_queue_of m p (Queue m q) ≡ false
 queue_of_others m p q off = right_off (m == m) (pid_eq p q) off
@@ -268,3 +264,191 @@ room_released b m t p pt next l placed k n blocks g e before after there made h 
       | inl same ↦ absurd (apart (sym (pid_eq-is p q same)))
       | inr away ↦ away
     ]
+
+-- A process of the machine goes on, or ends: the machine's kernel stands for the point behind the labels.
+
+-- process p is here, alive, as the kernel without machines and the kernel with places have it
+pub record LivesHere (m : ℕ) (pt : Point) (l : Placed) (k : KernelState) (p : Pid) (x : Process) : Type 0 where
+  pub away : IsAway pt.view m p
+  pub server : is_server p ≡ false
+  pub alive : pt.kernel.processes p ≡ Some (Alive (plain_process x))
+  pub record_is : k.records p ≡ Some (Record.Here x)
+  pub known : pt.view.known m p ≡ view.Here
+  pub queue : List Message
+  pub there : l.processes p ≡ Some (with_queue x queue)
+  pub messages : AreMessages l.bag (pt.view.queue m p) x.queue
+
+-- what is known of it
+pub known_here : (next : Point) (placed : Placed) (m : ℕ) (n : KernelState) (p : Pid) (y : Process) (queue : List Message) → n.records p ≡ Some (Record.Here y) → next.view.known m p ≡ view.Here → placed.processes p ≡ Some (with_queue y queue)
+    → AreMessages placed.bag (next.view.queue m p) y.queue → KnownStands next placed p (next.view.queue m p) (next.view.held m p) (next.view.known m p) (n.records p)
+known_here next placed m n p y queue e known there messages =
+    subst (λ (r : Option machine.KernelKnown). KnownStands next placed p (next.view.queue m p) (next.view.held m p) (next.view.known m p) r) (sym e)
+    (subst (λ (w : view.Known). KnownStands next placed p (next.view.queue m p) (next.view.held m p) w (Some (Record.Here y))) (sym known) ((queue, there), messages))
+
+pub known_ended : (next : Point) (placed : Placed) (m : ℕ) (n : KernelState) (p : Pid) (y : Why) → n.records p ≡ Some (Record.Ended y) → next.view.known m p ≡ view.Ended → next.kernel.processes p ≡ Some (Life.Ended y)
+    → KnownStands next placed p (next.view.queue m p) (next.view.held m p) (next.view.known m p) (n.records p)
+known_ended next placed m n p y e known life =
+    subst (λ (r : Option machine.KernelKnown). KnownStands next placed p (next.view.queue m p) (next.view.held m p) (next.view.known m p) r) (sym e)
+    (subst (λ (w : view.Known). KnownStands next placed p (next.view.queue m p) (next.view.held m p) w (Some (Record.Ended y))) (sym known) (ap kernel.why_ended life))
+
+blocks_same : (x y : Process) → length y.memory ≡ length x.memory → blocks_of (Some (plain_process y)) ≡ blocks_of (Some (plain_process x))
+blocks_same x y e = ap (λ (n : ℕ). n / 256) e
+
+-- it goes on, with as much memory
+pub goes_stands : (b : Boot) (m : ℕ) (t : Spot → Bool) (p : Pid) (pt next : Point) (l placed : Placed) (k n : KernelState) (x y : Process) (queue : List Message) → LivesHere m pt l k p x → Leaves m t p pt l next placed → Stays k n p
+    → ((q : Pid) → pid_eq p q ≡ false → t (Queue m q) ≡ false) → ((q : Pid) → t (Held m q) ≡ false) → n.records p ≡ Some (Record.Here y) → n.room ≡ k.room → n.ring ≡ next.view.ring m → AreMessages placed.bag (next.view.inbox m) n.inbox → next.view.known m p ≡ pt.view.known m p
+    → next.kernel.processes p ≡ Some (Alive (plain_process y)) → placed.processes p ≡ Some (with_queue y queue) → AreMessages placed.bag (next.view.queue m p) y.queue → length y.memory ≡ length x.memory → KernelStands b pt l m k → KernelStands b next placed m n
+goes_stands b m t p pt next l placed k n x y queue at g s queues helds e room ring inbox known alive there messages memory h =
+    let takes : taken_by next m p ≡ taken_by pt m p =
+    takes_as pt next m p known (ap (λ (o : Option Life). blocks_of (kernel.alive o)) alive ∙ blocks_same x y memory ∙ ap (λ (o : Option Life). blocks_of (kernel.alive o)) (sym at.alive)) in
+    set_stands b m t p pt next l placed k n g s queues helds at.server (known_here next placed m n p y queue e (known ∙ at.known) there messages) ring inbox (room_same b m t p pt next l placed k n g room takes h.room) h
+
+-- it ends, and its slot and its blocks are free again
+pub ends_stands : (b : Boot) (m : ℕ) (t : Spot → Bool) (p : Pid) (pt next : Point) (l placed : Placed) (k n : KernelState) (x y : Process) (because : Why) → LivesHere m pt l k p x → Leaves m t p pt l next placed → Stays k n p
+    → ((q : Pid) → pid_eq p q ≡ false → t (Queue m q) ≡ false) → ((q : Pid) → t (Held m q) ≡ false) → n.records p ≡ Some (Record.Ended because) → n.room ≡ with_released k.room (machine.blocks_of y) → n.ring ≡ next.view.ring m → AreMessages placed.bag (next.view.inbox m) n.inbox
+    → next.view.known m p ≡ view.Ended → next.kernel.processes p ≡ Some (Life.Ended because) → length y.memory ≡ length x.memory → MadeStands pt.kernel → KernelStands b pt l m k → KernelStands b next placed m n
+ends_stands b m t p pt next l placed k n x y because at g s queues helds e room ring inbox known ended memory made h =
+    let before : taken_by pt m p ≡ record { slots = 1; blocks = machine.blocks_of y } =
+    (λ i. record { slots = takes_room (at.known i); blocks = if takes_room (at.known i) == 0 then 0 else blocks_of (kernel.alive (at.alive i)) }) ∙ (λ i. record { slots = 1; blocks = sym memory i / 256 }) in
+    let after : taken_by next m p ≡ record { slots = 0; blocks = 0 } =
+    (λ i. record { slots = takes_room (known i); blocks = if takes_room (known i) == 0 then 0 else blocks_of (kernel.alive (next.kernel.processes p)) }) in
+    set_stands b m t p pt next l placed k n g s queues helds at.server (known_ended next placed m n p because e known ended) ring inbox
+    (room_released b m t p pt next l placed k n (machine.blocks_of y) g room before after (ap is_some at.alive) made h.room) h
+
+-- What each way in which a label changes view, kernel and kernel with places leaves; and a label as a step with places.
+
+-- lists in which nothing changes but at these spots
+pub lists_same : (t : Spot → Bool) (v w : View) → ((n : ℕ) (q : Pid) → t (Queue n q) ≡ false → w.queue n q ≡ v.queue n q) → ((n : ℕ) (q : Pid) → w.held n q ≡ v.held n q) → ((n : ℕ) → t (Inbox n) ≡ false → w.inbox n ≡ v.inbox n)
+    → ((a c : ℕ) → w.pair a c ≡ v.pair a c) → (s : Spot) → t s ≡ false → ids_at w s ≡ ids_at v s
+lists_same t v w queue held inbox pair s off = grind (arith, nat_tests)
+
+-- values of machines and of processes, and those that were set
+pub machine_off : {X : Type 0} (f : ℕ → X) (a m n : ℕ) (x : X) → a ≡ m → n ≢ m → at_machine f a x n ≡ f n
+machine_off f a m n x e apart = off_if (a == n) x (f n) (ap (λ (k : ℕ). k == n) e ∙ eq_apart m n apart)
+
+pub machine_on : {X : Type 0} (f : ℕ → X) (a m : ℕ) (x : X) → a ≡ m → at_machine f a x m ≡ x
+machine_on f a m x e = on_if (a == m) x (f m) (ap (λ (k : ℕ). k == m) e ∙ eq_self m)
+
+pub record_off : {X : Type 0} (f : ℕ → Pid → X) (a m n : ℕ) (p q : Pid) (x : X) → a ≡ m → ((m == n) && pid_eq p q) ≡ false → at_record f a p x n q ≡ f n q
+record_off f a m n p q x e off = off_if ((a == n) && pid_eq p q) x (f n q) (ap (λ (k : ℕ). (k == n) && pid_eq p q) e ∙ off)
+
+pub record_on : {X : Type 0} (f : ℕ → Pid → X) (a m : ℕ) (p : Pid) (x : X) → a ≡ m → at_record f a p x m p ≡ x
+record_on f a m p x e = on_if ((a == m) && pid_eq p p) x (f m p) (ap (λ (k : ℕ). (k == m) && pid_eq p p) e ∙ ap (λ (c : Bool). c && pid_eq p p) (eq_self m) ∙ pid_eq-same p)
+
+-- the view: nothing, a process is served, it ends, it receives, a message of its queue is dropped
+pub view_same : (m : ℕ) (t : Spot → Bool) (p : Pid) (v : View) → ViewLeaves m t p v v
+view_same m t p v = record { acting = refl; groups = refl; pair = λ a c. refl; lists = λ s off. refl; ring = λ n apart. refl; known = λ n q off. refl; held = λ n q. refl; count = λ n. refl; told = refl }
+
+pub view_serving : (m : ℕ) (t : Spot → Bool) (p : Pid) (v : View) → v.acting ≡ m → ViewLeaves m t p v (serving v p)
+view_serving m t p v at = search (
+  lists_same t v (serving v p) (λ n q off. refl) (λ n q. refl) (λ n off. refl) (λ a c. refl),
+  λ (n : ℕ) (apart : n ≢ m). machine_off v.ring v.acting m n (moved_back p (v.ring v.acting)) at apart,
+)
+
+pub view_ended : (m : ℕ) (t : Spot → Bool) (p : Pid) (v : View) → v.acting ≡ m → ViewLeaves m t p v (ended v p)
+view_ended m t p v at = search (
+  lists_same t v (ended v p) (λ n q off. refl) (λ n q. refl) (λ n off. refl) (λ a c. refl),
+  λ (n : ℕ) (apart : n ≢ m). machine_off v.ring v.acting m n (without p (v.ring v.acting)) at apart,
+  λ (n : ℕ) (q : Pid) (off : ((m == n) && pid_eq p q) ≡ false). record_off v.known v.acting m n p q Known.Ended at off,
+)
+
+-- the queue of the process is set
+abbrev pub with_queue_ids : View → Pid → List MsgId → View
+with_queue_ids v p ids = record v { queue = at_record v.queue v.acting p ids }
+
+pub view_queue : (m : ℕ) (t : Spot → Bool) (p : Pid) (v : View) (ids : List MsgId) → v.acting ≡ m → ((n : ℕ) (q : Pid) → t (Queue n q) ≡ false → ((m == n) && pid_eq p q) ≡ false) → ViewLeaves m t p v (with_queue_ids v p ids)
+view_queue m t p v ids at covers = search
+    (lists_same t v (with_queue_ids v p ids) (λ n q off. record_off v.queue v.acting m n p q ids at (covers n q off)) (λ n q. refl) (λ n off. refl) (λ a c. refl))
+
+-- it isn't this one
+same_there : (f : ℕ → List MsgId) (a n : ℕ) (x : List MsgId) → x ≡ f a → at_machine f a x n ≡ f n
+same_there f a n x e = grind (arith, nat_tests, on_if, off_if)
+
+pub view_not_handled : (m : ℕ) (t : Spot → Bool) (p : Pid) (v : View) (id : MsgId) → without_front id (v.inbox v.acting) ≡ v.inbox v.acting → ViewLeaves m t p v (handled v id)
+view_not_handled m t p v id e = search
+    (lists_same t v (handled v id) (λ n q off. refl) (λ n q. refl) (λ n off. same_there v.inbox v.acting n (without_front id (v.inbox v.acting)) e) (λ a c. refl))
+
+-- the kernel without machines: a process is set, a message goes, or one comes
+pub kernel_same : (p : Pid) (s : OneKernel) → KernelLeaves p s s
+kernel_same p s = record { machines = refl; made = λ n. refl; life = λ q off. refl }
+
+pub kernel_sets : (p : Pid) (s : OneKernel) (life : Life) → KernelLeaves p s (kernels.with_process s p life)
+kernel_sets p s life = record { machines = refl; made = λ n. refl; life = λ q off. off_if (pid_eq p q) (Some life) (s.processes q) off }
+
+pub kernel_out : (p : Pid) (s : OneKernel) (id : MsgId) → KernelLeaves p s (service.without_message s id)
+kernel_out p s id = record { machines = refl; made = λ n. refl; life = λ q off. refl }
+
+pub kernel_puts : (p : Pid) (s : OneKernel) (x : PlainMessage) → KernelLeaves p s (kernels.with_sent s (Some x))
+kernel_puts p s x = record { machines = refl; made = λ n. refl; life = λ q off. refl }
+
+-- a message with a plain meaning, or none
+abbrev pub NotOwn : Option Message → Type 0
+NotOwn o = (x : Message) → o ≡ Some x → plain_message x ≡ None → ⊥
+
+pub not_own_none : NotOwn None
+not_own_none x e none = cc
+
+pub not_own_some : (w : Message) (u : PlainMessage) → plain_message w ≡ Some u → NotOwn (Some w)
+not_own_some w u says x e none = let f : w ≡ x = cc in let g : None ≡ Some u = sym none ∙ ap plain_message (sym f) ∙ says in cc
+
+-- what the kernel without machines has isn't a kernel's own
+pub not_own_there : (s : OneKernel) (l : Placed) (i : MsgId) (u : PlainMessage) → MirrorsKernel s l → s.bag i ≡ Some u → NotOwn (l.bag i)
+not_own_there s l i u h there x e none = let g : None ≡ Some u = sym none ∙ sym (ap (λ (o : Option Message). bind o plain_message) e) ∙ h.bag i ∙ there in cc
+
+-- the kernel with places, the same
+pub placed_same : (t : Spot → Bool) (p : Pid) (v : View) (l : Placed) → PlacedLeaves t p v l l
+placed_same t p v l = record { process = λ q off. refl; bag = λ i s off least. refl; own = λ i x none there. there; own_back = λ i x none there. there; board = refl; manager = refl }
+
+pub placed_sets : (t : Spot → Bool) (p : Pid) (v : View) (l : Placed) (y : Option Process) → PlacedLeaves t p v l (with_process l p y)
+placed_sets t p v l y =
+    record { process = λ q off. off_if (pid_eq p q) y (l.processes q) off; bag = λ i s off least. refl; own = λ i x none there. there; own_back = λ i x none there. there; board = refl; manager = refl }
+
+pub placed_message : (t : Spot → Bool) (p : Pid) (v : View) (l : Placed) (id : MsgId) (x : Option Message) → NotOwn (l.bag id) → NotOwn x → ((i : MsgId) (s : Spot) → t s ≡ false → 1 ≤ standing v i s → id_eq id i ≡ false) → PlacedLeaves t p v l (with_message l id x)
+placed_message t p v l id x was is alone = record {
+  process = λ q off. refl;
+  bag = λ i s off least. off_if (id_eq id i) x (l.bag i) (alone i s off least);
+  own = λ i y none there. elim (cases_Bool (id_eq id i)) [
+    | inl same ↦ absurd (was y (ap l.bag (id_eq-is id i same) ∙ there) none)
+    | inr apart ↦ off_if (id_eq id i) x (l.bag i) apart ∙ there
+  ];
+  own_back = λ i y none there. elim (cases_Bool (id_eq id i)) [
+    | inl same ↦ absurd (is y (sym (on_if (id_eq id i) x (l.bag i) same) ∙ there) none)
+    | inr apart ↦ sym (off_if (id_eq id i) x (l.bag i) apart) ∙ there
+  ];
+  board = refl;
+  manager = refl;
+}
+
+pub placed_out : (t : Spot → Bool) (p : Pid) (v : View) (l : Placed) (id : MsgId) → NotOwn (l.bag id) → ((i : MsgId) (s : Spot) → t s ≡ false → 1 ≤ standing v i s → id_eq id i ≡ false) → PlacedLeaves t p v l (without_message l id)
+placed_out t p v l id was alone = placed_message t p v l id None was not_own_none alone
+
+pub placed_puts : (t : Spot → Bool) (p : Pid) (v : View) (l : Placed) (x : Message) (u : PlainMessage) → NotOwn (l.bag x.id) → plain_message x ≡ Some u → ((i : MsgId) (s : Spot) → t s ≡ false → 1 ≤ standing v i s → id_eq x.id i ≡ false)
+    → PlacedLeaves t p v l (with_sent l (Some x))
+placed_puts t p v l x u was says alone = placed_message t p v l x.id (Some x) was (not_own_some x u says) alone
+
+-- a message that is no kernel's own and isn't in the bag stands nowhere
+nowhere_of : (id : MsgId) (o : Option PlainMessage) (f : Spot → ℕ) → is_kernels id ≡ false → o ≡ None → StandsRight id o f → StandsNowhere f
+nowhere_of id (Some x) f off e h = cc
+nowhere_of id None f off e h = subst (λ (c : Bool). StandsOutside c f) off h
+
+pub nowhere_alone : (v : View) (id : MsgId) (o : Option PlainMessage) → is_kernels id ≡ false → o ≡ None → StandsRight id o (standing v id) → (t : Spot → Bool) (i : MsgId) (s : Spot) → t s ≡ false → 1 ≤ standing v i s → id_eq id i ≡ false
+nowhere_alone v id o own e h t i s off least = elim (cases_Bool (id_eq id i)) [
+  | inl same ↦
+      let nowhere = nowhere_of id o (standing v id) own e h in
+      let z : standing v i s ≡ 0 = ap (λ (j : MsgId). standing v j s) (sym (id_eq-is id i same)) ∙ nowhere s in
+      absurd (omega (arith, least, z))
+  | inr apart ↦ apart
+]
+
+-- a label as a step with places, and what follows it
+pub label_mirrors : (pt : Point) (l placed : Placed) (m : ℕ) (e : Label) (t : OneKernel) → Mirrors pt.kernel pt.view pt.addresses l → pt.view.acting ≡ m → StepNeeds pt.kernel pt.view e → kernel.step pt.kernel e ≡ Some t
+    → placed_step m pt.kernel.format pt.kernel.images l e ≡ Some placed → Mirrors (moved pt (Line.Label e) t).kernel (moved pt (Line.Label e) t).view (moved pt (Line.Label e) t).addresses placed
+label_mirrors pt l placed m e t h at needs step is =
+    let (n, first, mirrors) = placed_follows pt.kernel t pt.view pt.addresses l m e h at needs step in
+    let f : Some n ≡ Some placed = sym first ∙ is in
+    let same : n ≡ placed = cc in
+    let next = moved pt (Line.Label e) t in
+    mirrors_view t pt.view next.view next.addresses placed (moves_label pt.view e) (subst (Mirrors t pt.view next.addresses) same mirrors)
+
+pub after_label : (pt : Point) (e : Label) (t : OneKernel) (ls : List Line) (next : Point) → kernel.step pt.kernel e ≡ Some t → after (moved pt (Line.Label e) t) ls ≡ Some next → after pt (Line.Label e ∷ ls) ≡ Some next
+after_label pt e t ls next step rest = ap (λ (o : Option OneKernel). bind (bind o (λ (s : OneKernel). Some (moved pt (Line.Label e) s))) (λ (n : Point). after n ls)) step ∙ rest

@@ -1,12 +1,17 @@
 -- A machine hears a kernel's own message at its inbox's front: what holds then, and what stands where once the message is handled.
-use Rattle.dm_mirror.proofs.Names.{◌≡◌, ◌≢◌, ◌⊎◌, ℕ, ◌+◌, ◌≤◌, ◌==◌, ◌&&◌, Bool, true, false, not, List, ◌∷◌, ap, ◌∙◌, sym, subst, inl, inr, arith, if◌then◌else◌, Option, None, Some, false≢true, eqb_tells, Pid, pid_of, Message, MsgId}
-use Rattle.dm_mirror.proofs.Names.{kind_of, plain_message, bind, Boot, Step, handles, KernelState, Turned, turn, turns, id_eq-same, is_apart, is_between, is_of_source, is_restart, knows, Moves, Phase, Rests, receiver_in, sender_in}
-use Rattle.dm_mirror.proofs.Names.{told_between, token_in, Point, comes_to, hears, outcome, Spot, Queue, Held, Inbox, Untaken, standing, times, Here, Frozen, Of, Told, View, is_kernels, letters, rests_here, token_at, token_is}
-use Rattle.dm_mirror.proofs.Names.{StandsAsBag-one, StandsAsBag-elsewhere, spot_cases, OwnTold, Run, Placed, Mirrors, AllOwnStand, about_of, told_of, AreMessages, KernelStands, AllRecords, TokensStand, eq_self, source_knows, inbox_is}
-use Rattle.dm_mirror.proofs.Names.{of_same, more_front, holds_is}
+use Rattle.dm_mirror.proofs.Names.{◌≡◌, ◌≢◌, ◌⊎◌, ℕ, ◌+◌, ◌≤◌, ◌==◌, ◌&&◌, Bool, true, false, not, List, ◌∷◌, ap, ◌∙◌, sym, subst, inl, inr, arith, if◌then◌else◌, Option, None, Some, eqb_tells, Pid, pid_of, Message, MsgId, kind_of}
+use Rattle.dm_mirror.proofs.Names.{plain_message, bind, Boot, Step, handles, KernelState, Turned, turn, turns, id_eq-same, is_apart, is_between, is_of_source, is_restart, knows, Moves, Phase, Rests, receiver_in, sender_in, told_between}
+use Rattle.dm_mirror.proofs.Names.{token_in, Point, comes_to, hears, outcome, Spot, Queue, Held, Inbox, Untaken, standing, times, Here, Frozen, Of, Told, View, is_kernels, letters, rests_here, token_at, token_is, StandsAsBag-one}
+use Rattle.dm_mirror.proofs.Names.{StandsAsBag-elsewhere, spot_cases, OwnTold, Run, Placed, Mirrors, AllOwnStand, about_of, told_of, AreMessages, KernelStands, AllRecords, TokensStand, eq_self, source_knows, inbox_is, of_same, more_front}
+use Rattle.dm_mirror.proofs.Names.{holds_is, ◌||◌, [], refl, Addr, pid_eq, place_of, nat_tests, kernel_at, id_of, What, MessageKind, Arrival, PlainMessage, Process, incoming_of, process_handles, Gets, Receiver, Sender, gets, given}
+use Rattle.dm_mirror.proofs.Names.{own_gives, unmoved, process_told, kernel_hears, at_machine, Known, own_id, not_kernels, is_fixed, enclosed, Carries, destination_of, about_same, cases_Bool, Record, Departure, pid_eq-is, HereStands}
+use Rattle.dm_mirror.proofs.Names.{KnownStands, LeavesStand}
 use Rattle.dm_rule.specs.Parts as rule
 use Rattle.dm_rule.specs.Rule as ruled
-use Rattle.dm_mirror.proofs.Handle.Frames.{front_of, times_self}
+use Rattle.dm_kernel.specs.State as machine
+use Rattle.dm_mirror.proofs.Handle.Taking.{front_of, times_self, machine_self, machine_off, some_same}
+use Rattle.dm_mirror.proofs.Turning.{IsCarried, MayOwn}
+pub use Rattle.dm_mirror.proofs.Handle.Taking.{to_kernel}
 
 -- machine m hears message y, which is no message of the kernel without machines
 pub record Hearing (b : Boot) (m : ℕ) (pt : Point) (l : Placed) (records : AllRecords) (k : KernelState) (y : Message) : Type 0 where
@@ -132,14 +137,7 @@ pub record Leaving (m : ℕ) (pt : Point) (y : Message) (p : Pid) : Type 0 where
   pub receiver : y.to.pid ≡ pid_of m 0
 
 off_source : (c : Bool) (s d : ℕ) → (c && not (s == d)) ≡ true → d ≢ s
-off_source true s d e is = false≢true (sym (ap not (ap (λ (x : ℕ). s == x) is ∙ eq_self s)) ∙ e)
-off_source false s d e is = false≢true e
-
-told_same : (a c : Told) → Some a ≡ Some c → a ≡ c
-told_same a c e = cc
-
-id_same : (i j : MsgId) → Some i ≡ Some j → i ≡ j
-id_same i j e = cc
+off_source c s d e = grind (arith, nat_tests, eq_self)
 
 pub leaving : (b : Boot) (m : ℕ) (pt : Point) (l : Placed) (records : AllRecords) (k : KernelState) (y : Message) (p : Pid) → Hearing b m pt l records k y → is_between (kind_of y.what) ≡ true → is_of_source (kind_of y.what) ≡ false → is_restart (kind_of y.what) ≡ false → about_of y.what ≡ Of p
     → Leaving m pt y p
@@ -149,7 +147,7 @@ leaving b m pt l records k y p h between source restart about =
     let (q, j, s, d, of_q, moves) = token_is v phases y.id (told_of y) (Inbox m) h.told between (stands_first b m pt l records k y h) in
     let is : q ≡ p = of_same q p (sym of_q ∙ about) in
     let token = token_at v q (phases.of q) j s d y.id moves (phases.each q) in
-    let told : told_between q j s d ≡ told_of y = told_same (told_between q j s d) (told_of y) (sym token.told ∙ h.told) in
+    let told : told_between q j s d ≡ told_of y = some_same (told_between q j s d) (told_of y) (sym token.told ∙ h.told) in
     let kind : j ≡ kind_of y.what = ap (λ (t : Told). t.kind) told in
     let of_source : is_of_source j ≡ false = ap is_of_source kind ∙ source in
     let to_m : m ≡ receiver_in j s d = inbox_is m (sender_in j s d) (receiver_in j s d) (token.ways (Inbox m) (stands_first b m pt l records k y h)) in
@@ -161,8 +159,140 @@ leaving b m pt l records k y p h between source restart about =
     record {
       to = d;
       known = ap (λ (x : ℕ). v.known x p) here ∙ holds_is j d (v.known s p) (ap is_restart kind ∙ restart) (source_knows j s d (Some y.id) (v.known s p) (sym (ap (λ (x : Phase). knows x s (v.known s p)) phase) ∙ each.known s));
-      alone = λ i t z told_i between_i about_i least. id_same i y.id (sym (each.alone i t z told_i between_i about_i least) ∙ ap token_in phase);
+      alone = λ i t z told_i between_i about_i least. some_same i y.id (sym (each.alone i t z told_i between_i about_i least) ∙ ap token_in phase);
       from = token.from ∙ ap (λ (c : Bool). pid_of (if c then s else d) 0) of_source;
       apart = λ e. off (e ∙ here);
       receiver = ap (λ (t : Told). t.receiver) (sym told) ∙ ap (λ (x : ℕ). pid_of x 0) (sym to_m);
     }
+
+-- The next message of a machine's kernel, where it goes to another kernel and is about a process that leaves.
+
+-- what a kernel has not counted was not told, and isn't in the bag
+absent_by : (b : Boot) (pt : Point) (l : Placed) (i : MsgId) (o : Option Message) (p : Option PlainMessage) → Run b pt → Mirrors pt.kernel pt.view pt.addresses l → AllOwnStand pt.view l → is_kernels i ≡ true → pt.view.told i ≡ None → l.bag i ≡ o → bind o plain_message ≡ p → o ≡ None
+absent_by b pt l i None p run mirrors own mine untold is plain = refl
+absent_by b pt l i (Some x) None run mirrors own mine untold is plain = absurd (let e : Some (told_of x) ≡ None = sym (own i x is plain).told ∙ untold in cc)
+absent_by b pt l i (Some x) (Some w) run mirrors own mine untold is plain = grind (arith, nat_tests, not_kernels)
+
+pub untold_next : (b : Boot) (pt : Point) (m : ℕ) → Run b pt → pt.view.told (id_of (pid_of m 0) (pt.view.count m)) ≡ None
+untold_next b pt m run = run.based.phased.state.numbered m (pt.view.count m) (let same : (n : ℕ) → n ≤ n = λ n. omega arith in same (pt.view.count m))
+
+pub absent_next : (b : Boot) (pt : Point) (l : Placed) (m : ℕ) → Run b pt → Mirrors pt.kernel pt.view pt.addresses l → AllOwnStand pt.view l → l.bag (id_of (pid_of m 0) (pt.view.count m)) ≡ None
+absent_next b pt l m run mirrors own =
+    let i = id_of (pid_of m 0) (pt.view.count m) in
+    absent_by b pt l i (l.bag i) (bind (l.bag i) plain_message) run mirrors own refl (untold_next b pt m run) refl refl
+
+-- the machine's name of it is the rule's
+pub own_is : (b : Boot) (m : ℕ) (pt : Point) (l : Placed) (records : AllRecords) (k : KernelState) (y : Message) → Hearing b m pt l records k y → machine.own_id k ≡ id_of (pid_of m 0) (pt.view.count m)
+own_is b m pt l records k y h = λ i. record { from = record { home = h.stands.here i; num = 0 }; n = h.sent i; answer = false }
+
+-- a message to the kernel of a machine c, about process p
+pub record Between (pt : Point) (placed : Placed) (records : AllRecords) (m c : ℕ) (p : Pid) (x : Message) : Type 0 where
+  pub acting : pt.view.acting ≡ m
+  pub id : x.id ≡ own_id pt.view
+  pub plain : plain_message x ≡ None
+  pub encloses : enclosed x.what ≡ []
+  pub gives : own_gives pt.kernel pt.view pt.addresses x.id x.to.pid (kind_of x.what) ≡ gets (Receiver x.id) (unmoved x.to.pid.home) ∷ gets (Sender x.id) (unmoved pt.view.acting) ∷ []
+  pub to : x.to ≡ kernel_at c
+  pub sender : x.sender ≡ kernel_at m
+  pub bag : placed.bag x.id ≡ None
+  pub untold : pt.view.told x.id ≡ None
+  pub from : x.id.from.home ≡ m
+  pub about : about_of x.what ≡ Of p
+  pub topic : pt.view.topic ≡ Of p
+  pub process : Process
+  pub there : placed.processes p ≡ Some process
+  pub carries : Carries p process (pt.view.asked p) (incoming_of (records (destination_of x.id (told_of x)) p)) x.what
+
+carried_of : (pt : Point) (placed : Placed) (records : AllRecords) (m c : ℕ) (p : Pid) (x : Message) → Between pt placed records m c p x → IsCarried placed (pt.view.asked p) records p x
+carried_of pt placed records m c p x h = record { process = h.process; there = h.there; sender = h.sender ∙ ap kernel_at (sym h.from); carries = h.carries }
+
+-- no message of a protocol asks to move
+no_request : (p : Pid) (x : Process) (n : ℕ) (a : Option Arrival) (w : What) → kind_of w ≡ MessageKind.Migrate → Carries p x n a w → ⊥
+no_request p x n a w e h = grind (arith, nat_tests)
+
+pub may_between : (pt : Point) (placed : Placed) (records : AllRecords) (m c : ℕ) (p : Pid) (x : Message) → Between pt placed records m c p x → MayOwn pt placed records x
+may_between pt placed records m c p x h =
+    let a = pt.addresses in
+    let q = x.to.pid in
+    let second : List Gets = gets (Sender x.id) (unmoved pt.view.acting) ∷ [] in
+    record {
+      id = h.id;
+      plain = h.plain;
+      encloses = h.encloses;
+      bag = h.bag;
+      untold = h.untold;
+      receiver = ap (λ (g : List Gets). given a g (Receiver x.id)) h.gives ∙ ap (λ (e : Bool). if e then unmoved q.home else given a second (Receiver x.id)) (id_eq-same x.id)
+          ∙ ap (λ (z : Addr). unmoved z.pid.home) h.to ∙ ap place_of (sym h.to);
+      sender = ap (λ (g : List Gets). given a g (Sender x.id)) h.gives ∙ ap (λ (e : Bool). if e then unmoved pt.view.acting else a (Sender x.id)) (id_eq-same x.id)
+          ∙ ap unmoved h.acting ∙ ap place_of (sym h.sender);
+      about = h.topic ∙ sym h.about;
+      asker = λ e. absurd (no_request p h.process (pt.view.asked p) (incoming_of (records (destination_of x.id (told_of x)) p)) x.what e h.carries);
+      carried = λ between r of_r. subst (λ (z : Pid). IsCarried placed (pt.view.asked z) records z x) (about_same p r (sym h.about ∙ of_r)) (carried_of pt placed records m c p x h);
+    }
+
+-- the receiver is a process, or the kernel
+pub three_off : (a b c : Bool) → (a || (b || c)) ≡ false → (a ≡ false) × (b ≡ false) × (c ≡ false)
+three_off a b c e = grind (arith, nat_tests)
+
+pub to_process : (b : Boot) (s : KernelState) (y : Message) (r : Option machine.KernelKnown) → is_fixed y.to.pid ≡ false → s.records y.to.pid ≡ r → handles b s y ≡ process_handles s y r
+to_process b s y r loose is = grind (arith, nat_tests, three_off)
+
+pub process_hears : (b : Boot) (pt : Point) (m : ℕ) (i : MsgId) (t : Told) (n : Known) → is_fixed t.receiver ≡ false → pt.view.known m t.receiver ≡ n → hears b pt m i (Some t) ≡ process_told pt m i t n
+process_hears b pt m i t n loose is = grind (arith, nat_tests, three_off)
+
+pub to_kernel_hears : (b : Boot) (pt : Point) (m : ℕ) (i : MsgId) (t : Told) → (t.receiver.num == 0) ≡ true → hears b pt m i (Some t) ≡ kernel_hears b pt m i t.kind t.about
+to_kernel_hears b pt m i t num = grind (arith, nat_tests)
+
+-- the records of all machines, where those of machine m are these
+pub records_as : (records : AllRecords) (m n : ℕ) (f g : Pid → Option machine.KernelKnown) (q : Pid) → records m ≡ f → g q ≡ f q → at_machine records m g n q ≡ records n q
+records_as records m n f g q is same = grind (arith, nat_tests, eqb_tells, machine_self, machine_off)
+
+-- What is known of processes where at most one of them changes, and what the messages of migrations under way still carry.
+
+-- a process that is here, and one that leaves
+pub record IsHere (l : Placed) (p : Pid) (queue : List MsgId) (r : Option machine.KernelKnown) : Type 0 where
+  pub process : Process
+  pub is : r ≡ Some (Record.Here process)
+  pub stands : HereStands l p queue process
+
+pub here_is : (pt : Point) (l : Placed) (p : Pid) (queue held : List MsgId) (r : Option machine.KernelKnown) → KnownStands pt l p queue held Here r → IsHere l p queue r
+here_is pt l p queue held (Some (Record.Here x)) h = record { process = x; is = refl; stands = h }
+here_is pt l p queue held _ h = absurd h
+
+pub record IsLeaving (l : Placed) (p : Pid) (queue held : List MsgId) (to : ℕ) (r : Option machine.KernelKnown) : Type 0 where
+  pub departure : Departure
+  pub is : r ≡ Some (Record.Frozen departure)
+  pub stands : LeavesStand l p queue held to departure
+
+pub leaving_is : (pt : Point) (l : Placed) (p : Pid) (queue held : List MsgId) (to : ℕ) (r : Option machine.KernelKnown) → KnownStands pt l p queue held (Frozen to) r → IsLeaving l p queue held to r
+leaving_is pt l p queue held to (Some (Record.Frozen d)) h = record { departure = d; is = refl; stands = h }
+leaving_is pt l p queue held to _ h = absurd h
+
+-- the messages of the migrations of other processes carry what they carried, where none of this process's stands anywhere
+pub record TokensOne (v w : View) (l placed : Placed) (before after : AllRecords) (p : Pid) : Type 0 where
+  pub told : w.told ≡ v.told
+  pub asked : (q : Pid) → pid_eq p q ≡ false → w.asked q ≡ v.asked q
+  pub processes : (q : Pid) → pid_eq p q ≡ false → placed.processes q ≡ l.processes q
+  pub records : (n : ℕ) (q : Pid) → pid_eq p q ≡ false → after n q ≡ before n q
+  pub came : (i : MsgId) (t : Told) (z : Spot) → v.told i ≡ Some t → is_between t.kind ≡ true → 1 ≤ standing w i z → ((y : Spot) × (1 ≤ standing v i y)) × (placed.bag i ≡ l.bag i)
+  pub none : (i : MsgId) (t : Told) (z : Spot) → v.told i ≡ Some t → is_between t.kind ≡ true → t.about ≡ Of p → 1 ≤ standing w i z → ⊥
+
+pub tokens_one : (v w : View) (l placed : Placed) (before after : AllRecords) (p : Pid) → TokensOne v w l placed before after p → TokensStand v l before → TokensStand w placed after
+tokens_one v w l placed before after p c h q i t z told between about st =
+    let was : v.told i ≡ Some t = ap (λ (f : MsgId → Option Told). f i) (sym c.told) ∙ told in
+    elim (cases_Bool (pid_eq p q)) [
+      | inl same ↦ absurd (c.none i t z was between (about ∙ ap Of (sym (pid_eq-is p q same))) st)
+      | inr apart ↦
+          let g = c.came i t z was between st in
+          let x = h q i t g.0.0 was between about g.0.1 in
+          let d = destination_of i t in
+          search (
+            c.processes q apart ∙ x.there,
+            g.1 ∙ x.is,
+            subst (λ (n : ℕ). Carries q x.process n (incoming_of (after d q)) x.message.what) (sym (c.asked q apart)) (subst (λ (r : Option machine.KernelKnown). Carries q x.process (v.asked q) (incoming_of r) x.message.what) (sym (c.records d q apart)) x.carries),
+          )
+    ]
+
+-- what was told stays
+pub own_stays : (v w : View) (l : Placed) → w.told ≡ v.told → AllOwnStand v l → AllOwnStand w l
+own_stays v w l e h i x there own = let g = h i x there own in record { told = ap (λ (f : MsgId → Option Told). f i) e ∙ g.told; mine = g.mine; sender = g.sender }

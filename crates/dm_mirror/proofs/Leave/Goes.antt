@@ -1,46 +1,182 @@
--- A process has gone: the messages for it go on, and the other machine may restart it.
-use Rattle.dm_mirror.proofs.Names.{◌≡◌, ◌≢◌, ℕ, ◌+◌, ◌/◌, ◌≤◌, ◌==◌, Bool, true, false, not, List, [], ◌∷◌, ◌++◌, length, map, is_some, refl, ap, ◌∙◌, sym, subst, inl, arith, if◌then◌else◌, option_map, Option, Some, false≢true, Pid, nat_tests}
-use Rattle.dm_mirror.proofs.Names.{pid_eq, kernel_at, Message, MsgId, What, MessageKind, Record, Wanted, Line, Stage, Process, Taken, with_released, frozen_of, incoming_of, all_sent_on, Boot, Alive, Life, bind, plain_process, PlainProcess}
-use Rattle.dm_mirror.proofs.Names.{without_leaving, KernelState, own, turned, pid_eq-same, sends_on, to_kernel, Point, moved, Room, blocks_of, taken_at, taken_by, takes_room, at_machine, Spot, Held, Inbox, Queue, standing, times, Forward}
-use Rattle.dm_mirror.proofs.Names.{Frozen, Known, gone_to, own_id, without_first, MirrorsPoint, sent_all, Placed, sent_on_mirrors, mirrors_view, MadeStands, told_of, AreMessages, KnownStands, RoomStands, AllRecords, Wants}
-use Rattle.dm_onekernel.specs.Step as kernel
+-- The messages that follow a process: the queue, then what was held.
+use Rattle.dm_mirror.proofs.Names.{◌≡◌, ◌≢◌, ℕ, ◌+◌, ◌/◌, ◌≤◌, ◌==◌, Bool, true, false, not, List, [], ◌∷◌, ◌++◌, length, map, is_some, refl, ap, ◌∙◌, sym, subst, inl, arith, if◌then◌else◌, option_map, Option, Some, false≢true, Pid}
+use Rattle.dm_mirror.proofs.Names.{nat_tests, pid_eq, kernel_at, Message, MsgId, What, MessageKind, Record, Wanted, Line, Stage, Process, Taken, with_released, frozen_of, incoming_of, all_sent_on, Boot, Life, bind, plain_process}
+use Rattle.dm_mirror.proofs.Names.{PlainProcess, without_leaving, KernelState, own, turned, pid_eq-same, sends_on, to_kernel, Point, moved, Room, blocks_of, taken_at, taken_by, takes_room, at_machine, Spot, Held, Inbox, Queue, standing}
+use Rattle.dm_mirror.proofs.Names.{times, Forward, Frozen, Known, gone_to, own_id, without_first, MirrorsPoint, sent_all, Placed, sent_on_mirrors, mirrors_view, MadeStands, told_of, AreMessages, KnownStands, RoomStands, AllRecords, Wants}
+use Rattle.dm_mirror.proofs.Names.{◌||◌, inr, None, cases_Bool, id_eq, IsKindOfPlain, kind_of, PlainMessage, PlainWhat, plain_message, plain_what, with_what, sent_on, id_eq-swap, is_between, Told, View, letters, held_plain, queued_plain}
+use Rattle.dm_mirror.proofs.Names.{StandsAsBag-elsewhere, Run, Mirrors, is_among, among_times, parts, AllOwnStand, told_there, more_front, leaves, is_server}
 use Rattle.dm_kernel.specs.declared.part.Part.{Part}
-use Rattle.dm_kernel.specs.Departing.{leaves}
-use Rattle.dm_kernel.specs.State as machine
 use Rattle.dm_kernel.specs.State.{with_sent}
+use Rattle.dm_onekernel.specs.Step as kernel
+use Rattle.dm_kernel.specs.State as machine
 use Rattle.dm_rule.specs.Migrating as migrating
 use Rattle.dm_rule.specs.Parts as rule
-use Rattle.dm_mirror.proofs.Handle.Frames.{eq_self, machine_self, machine_off, map_same, pid_apart, record_self, record_off, record_others, times_more}
 use Rattle.dm_mirror.proofs.Rooms.{taken_changed}
-use Rattle.dm_mirror.proofs.Leave.Frames.{stands_one, tokens_one}
-use Rattle.dm_mirror.proofs.Leave.Fronts.{FrontGone, Hearing, front_nowhere, leaving, outcome_hears, stood, turn_hears}
-use Rattle.dm_mirror.proofs.Leave.Lists.{all_may, bag_absent, bag_off, not_held, not_queued, on_length, on_may, on_owns, on_parts, on_rule_parts, own_on}
-use Rattle.dm_mirror.proofs.Leave.Owns.{absent_next, may_between, own_is, records_as, to_kernel_hears, untold_next}
-use Rattle.dm_mirror.proofs.Leave.Owns as owns
-use Rattle.dm_mirror.proofs.Leave.Pieces.{carried, departing, kernel_number, leaves_alive, leaves_no_server}
-use Rattle.dm_mirror.proofs.Leave.Stays.{less_at, messages_append}
+use Rattle.dm_mirror.proofs.Leave.Fronts.{FrontGone, Hearing, front_nowhere, leaving, outcome_hears, stood, turn_hears, absent_next, may_between, own_is, records_as, to_kernel_hears, untold_next, tokens_one}
+use Rattle.dm_mirror.proofs.Leave.Stays.{messages_append, in_one}
+use Rattle.dm_mirror.proofs.Turning.{Leaves, On, TurnsAt, begun, is_elsewhere, part_of, rule_part_of, AllMayPut, MayPut, owns}
+use Rattle.dm_mirror.proofs.Leave.Asks.{carried, departing, kernel_number, leaves_alive, leaves_no_server}
+use Rattle.dm_mirror.proofs.Handle.Taking.{eq_self, machine_self, machine_off, map_same, pid_apart, record_self, record_off, record_others, times_more, times_self, some_same, stands_set}
+use Rattle.dm_mirror.proofs.Leave.Fronts as owns
 use Rattle.dm_mirror.proofs.Turning as turning
-use Rattle.dm_mirror.proofs.Turning.{Leaves, On, TurnsAt, begun, is_elsewhere, part_of, rule_part_of}
+
+pub times_among : (i : MsgId) (ids : List MsgId) → is_among i ids ≡ true → 1 ≤ times i ids
+times_among i [] e = absurd (false≢true e)
+times_among i (j ∷ js) e = elim (cases_Bool (id_eq j i)) [
+  | inl same ↦ (let f : times i (j ∷ js) ≡ 1 + times i js = ap (λ (c : Bool). (if c then 1 else 0) + times i js) (id_eq-swap i j ∙ same) in omega (arith, f))
+  | inr apart ↦
+      let rest : is_among i js ≡ true = sym (ap (λ (c : Bool). c || is_among i js) apart) ∙ e in
+      let least = times_among i js rest in
+      omega (arith, least)
+]
+
+-- what goes on, and what doesn't
+pub bag_on : (l : Placed) (at moves : ℕ) (ids : List MsgId) (i : MsgId) (x : Message) → 1 ≤ times i ids → l.bag i ≡ Some x → (sent_all l at moves ids).bag i ≡ Some (sent_on at moves x)
+bag_on l at moves ids i x least is = ap (λ (c : Bool). if c then option_map (sent_on at moves) (l.bag i) else l.bag i) (among_times i ids least) ∙ ap (option_map (sent_on at moves)) is
+
+pub bag_absent : (l : Placed) (at moves : ℕ) (ids : List MsgId) (i : MsgId) → l.bag i ≡ None → (sent_all l at moves ids).bag i ≡ None
+bag_absent l at moves ids i none = grind (arith, nat_tests, option_map)
+
+pub bag_off : (b : Boot) (pt : Point) (m : ℕ) (p : Pid) (l : Placed) (at moves : ℕ) (z : Spot) (j : MsgId) → Run b pt → z ≢ Queue m p → z ≢ Held m p → 1 ≤ standing pt.view j z → (sent_all l at moves (pt.view.queue m p ++ pt.view.held m p)).bag j ≡ l.bag j
+bag_off b pt m p l at moves z j run queue held least =
+    let v = pt.view in
+    let ids = v.queue m p ++ v.held m p in
+    let s = run.based.phased.state in
+    elim (cases_Bool (is_among j ids)) [
+      | inl on ↦ elim (in_one j (v.queue m p) (v.held m p) (times_among j ids on)) [
+        | inl kept ↦ (let none = StandsAsBag-elsewhere (letters s.own pt.kernel.bag j) (standing v j) (Held m p) z kept held (s.stands.kept j) in absurd (omega (arith, none, least)))
+        | inr waits ↦ (let none = StandsAsBag-elsewhere (letters s.own pt.kernel.bag j) (standing v j) (Queue m p) z waits queue (s.stands.kept j) in absurd (omega (arith, none, least)))
+      ]
+      | inr off ↦ ap (λ (c : Bool). if c then option_map (sent_on at moves) (l.bag j) else l.bag j) off
+    ]
+
+-- no message of a migration waits in a queue or is held
+pub not_queued : (b : Boot) (pt : Point) (m : ℕ) (p : Pid) (z : Spot) (i : MsgId) (t : Told) → Run b pt → pt.view.told i ≡ Some t → is_between t.kind ≡ true → 1 ≤ standing pt.view i z → z ≢ Queue m p
+not_queued b pt m p z i t run told between least e = false≢true (sym (queued_plain pt.view m p i t run.based.phased.phases told (subst (λ (y : Spot). 1 ≤ standing pt.view i y) e least)) ∙ between)
+
+pub not_held : (b : Boot) (pt : Point) (m : ℕ) (p : Pid) (z : Spot) (i : MsgId) (t : Told) → Run b pt → pt.view.told i ≡ Some t → is_between t.kind ≡ true → 1 ≤ standing pt.view i z → z ≢ Held m p
+not_held b pt m p z i t run told between least e = false≢true (sym (held_plain pt.view m p i t run.based.phased.phases told (subst (λ (y : Spot). 1 ≤ standing pt.view i y) e least)) ∙ between)
+
+own_if : (v : View) (l : Placed) (at moves : ℕ) (i : MsgId) (x : Message) (o : Option Message) → l.bag i ≡ o → option_map (sent_on at moves) o ≡ Some x → (y : Message) × (l.bag i ≡ Some y) × (sent_on at moves y ≡ x)
+own_if v l at moves i x o is e = grind (arith, nat_tests, some_same)
+
+plain_none : (x : Message) (o : Option PlainWhat) → with_what x o ≡ None → o ≡ None
+plain_none x o none = grind (arith, nat_tests)
+
+pub own_on : (v w : View) (l : Placed) (at moves : ℕ) (ids : List MsgId) → w.told ≡ v.told → AllOwnStand v l → AllOwnStand w (sent_all l at moves ids)
+own_on v w l at moves ids e h i x there none = elim (cases_Bool (is_among i ids)) [
+  | inl on ↦
+      let (y, was, is) = own_if v l at moves i x (l.bag i) refl (sym (ap (λ (c : Bool). if c then option_map (sent_on at moves) (l.bag i) else l.bag i) on) ∙ there) in
+      let plain : plain_what y.what ≡ None = ap (λ (z : Message). plain_what z.what) is ∙ plain_none x (plain_what x.what) none in
+      let g = h i y was (ap (with_what y) plain) in
+      record { told = ap (λ (f : MsgId → Option Told). f i) e ∙ g.told ∙ ap (λ (z : Message). Some (told_of z)) is; mine = g.mine; sender = λ c. sym (ap (λ (z : Message). z.sender.pid) is) ∙ g.sender (ap (λ (z : Message). kind_of z.what) is ∙ c) }
+  | inr off ↦
+      let g = h i x (sym (ap (λ (c : Bool). if c then option_map (sent_on at moves) (l.bag i) else l.bag i) off) ∙ there) none in
+      record { told = ap (λ (f : MsgId → Option Told). f i) e ∙ g.told; mine = g.mine; sender = g.sender }
+]
+
+-- as parts of the machine and of the rule
+pub on_parts : (ms : List Message) → map part_of (map On ms) ≡ map Part.Routes ms
+on_parts [] = refl
+on_parts (m ∷ ms) = ap (λ (ps : List Part). Part.Routes m ∷ ps) (on_parts ms)
+
+pub on_owns : (ms : List Message) → owns (map On ms) ≡ 0
+on_owns [] = refl
+on_owns (m ∷ ms) = let e = on_owns ms in omega (arith, e)
+
+pub on_length : (bag : MsgId → Option Message) (at moves : ℕ) (is : List MsgId) (ms : List Message) → AreMessages bag is ms → length (map (sent_on at moves) ms) ≡ length is
+on_length bag at moves [] [] e = refl
+on_length bag at moves [] (m ∷ ms) e = cc
+on_length bag at moves (i ∷ is) [] e = cc
+on_length bag at moves (i ∷ is) (m ∷ ms) e = (let rest : map bag is ≡ map Some ms = cc in let f = on_length bag at moves is ms rest in omega (arith, f))
+
+pub on_rule_parts : (bag : MsgId → Option Message) (at moves : ℕ) (is : List MsgId) (ms : List Message) → ((i : MsgId) (x : Message) → bag i ≡ Some x → x.id ≡ i) → AreMessages bag is ms → map rule_part_of (map On (map (sent_on at moves) ms)) ≡ sends_on at is
+on_rule_parts bag at moves [] [] named e = refl
+on_rule_parts bag at moves [] (m ∷ ms) named e = cc
+on_rule_parts bag at moves (i ∷ is) [] named e = cc
+on_rule_parts bag at moves (i ∷ is) (m ∷ ms) named e =
+    let first : bag i ≡ Some m = cc in
+    let more : map bag is ≡ map Some ms = cc in
+    let name = named i m first in
+    let rest = on_rule_parts bag at moves is ms named more in
+    λ c. rule.Again (name c) at ∷ rest c
+
+pub all_may : (pt : Point) (placed : Placed) (records : AllRecords) (at moves : ℕ) (bag : MsgId → Option Message) (is : List MsgId) (ms : List Message)
+    → ((i : MsgId) (x : Message) → 1 ≤ times i is → bag i ≡ Some x → MayPut pt placed records (On (sent_on at moves x))) → AreMessages bag is ms → AllMayPut pt placed records (map On (map (sent_on at moves) ms))
+all_may pt placed records at moves bag [] [] may e = tt
+all_may pt placed records at moves bag [] (m ∷ ms) may e = cc
+all_may pt placed records at moves bag (i ∷ is) [] may e = cc
+all_may pt placed records at moves bag (i ∷ is) (m ∷ ms) may e =
+    let first : bag i ≡ Some m = cc in
+    let more : map bag is ≡ map Some ms = cc in
+    (may i m (times_self i is) first, all_may pt placed records at moves bag is ms (λ j x least there. may j x (more_front j i is least) there) more)
+
+-- what was told of one of them
+pub record IsTold (v : View) (i : MsgId) (x : Message) : Type 0 where
+  pub told : Told
+  pub is : v.told i ≡ Some told
+  pub kind : told.kind ≡ kind_of x.what
+  pub receiver : told.receiver ≡ x.to.pid
+
+kinds_of : (w : What) → IsKindOfPlain w (plain_what w)
+kinds_of (What.Migrate machine) = tt
+kinds_of (What.Update about) = tt
+kinds_of (What.Ask pid blocks moves size asker) = tt
+kinds_of (What.Refuse pid slots blocks) = tt
+kinds_of (What.PullState pid chunk) = tt
+kinds_of (What.State pid chunk last bytes) = tt
+kinds_of (What.PullBlock pid block) = tt
+kinds_of (What.Memory pid block bytes) = tt
+kinds_of (What.AllTaken pid) = tt
+kinds_of (What.Restart pid) = tt
+kinds_of (What.CallOff pid) = tt
+kinds_of (What.Bury pid) = tt
+kinds_of _ = refl
+
+told_by : (b : Boot) (pt : Point) (l : Placed) (i : MsgId) (x : Message) (z : Spot) (o : Option PlainMessage) → Run b pt → Mirrors pt.kernel pt.view pt.addresses l → AllOwnStand pt.view l → 1 ≤ standing pt.view i z → l.bag i ≡ Some x → plain_message x ≡ o → IsTold pt.view i x
+told_by b pt l i x z None run mirrors own least there plain = record { told = told_of x; is = (own i x there plain).told; kind = refl; receiver = refl }
+told_by b pt l i x z (Some w) run mirrors own least there plain =
+    let (t, told) = told_there (pt.view.told i) (run.found.told i z least) in
+    let bag : pt.kernel.bag i ≡ Some w = sym (mirrors.plain.bag i) ∙ ap (λ (y : Option Message). bind y plain_message) there ∙ plain in
+    let tells = run.based.phased.sane.tells in
+    let p = parts x w plain in
+    record { told = t; is = told; kind = tells.kind i w t bag told ∙ subst (IsKindOfPlain x.what) p.what (kinds_of x.what); receiver = tells.receiver i w t bag told ∙ sym p.to }
+
+-- each of them may be put again
+pub on_may : (b : Boot) (pt end : Point) (m : ℕ) (p : Pid) (l : Placed) (records : AllRecords) (at moves : ℕ) (i : MsgId) (x : Message) → Run b pt → Mirrors pt.kernel pt.view pt.addresses l → AllOwnStand pt.view l → end.view.told ≡ pt.view.told
+    → 1 ≤ times i (pt.view.queue m p ++ pt.view.held m p) → l.bag i ≡ Some x → MayPut end (sent_all l at moves (pt.view.queue m p ++ pt.view.held m p)) records (On (sent_on at moves x))
+on_may b pt end m p l records at moves i x run mirrors own e least there =
+    let v = pt.view in
+    let ids = v.queue m p ++ v.held m p in
+    let name : x.id ≡ i = (mirrors.places.message i x there).id in
+    let phases = run.based.phased.phases in
+    let put : (sent_all l at moves ids).bag x.id ≡ Some (sent_on at moves x) = ap (sent_all l at moves ids).bag name ∙ bag_on l at moves ids i x least there in
+    elim (in_one i (v.queue m p) (v.held m p) least) [
+      | inl kept ↦
+          let t = told_by b pt l i x (Held m p) (plain_message x) run mirrors own kept there refl in
+          (put, (t.told, ap (λ (f : MsgId → Option Told). f x.id) e ∙ ap v.told name ∙ t.is, t.kind, t.receiver), ap is_between (sym t.kind) ∙ held_plain v m p i t.told phases t.is kept)
+      | inr waits ↦
+          let t = told_by b pt l i x (Queue m p) (plain_message x) run mirrors own waits there refl in
+          (put, (t.told, ap (λ (f : MsgId → Option Told). f x.id) e ∙ ap v.told name ∙ t.is, t.kind, t.receiver), ap is_between (sym t.kind) ∙ queued_plain v m p i t.told phases t.is waits)
+    ]
+
+-- A process has gone: the messages for it go on, and the other machine may restart it.
 
 -- what a process that leaves took is free again
 gone_taken : (m : ℕ) (end : Point) (p : Pid) (to moves : ℕ) → end.view.known m p ≡ Forward to moves → taken_by end m p ≡ record { slots = 0; blocks = 0 }
 gone_taken m end p to moves known = ap (λ (n : Known). record { slots = takes_room n; blocks = if takes_room n == 0 then 0 else blocks_of (kernel.alive (end.kernel.processes p)) }) known
 
-frozen_taken : (m : ℕ) (pt : Point) (p : Pid) (to : ℕ) (x : PlainProcess) → pt.view.known m p ≡ Frozen to → kernel.alive (pt.kernel.processes p) ≡ Some x → taken_by pt m p ≡ record { slots = 1; blocks = length x.memory / 256 }
-frozen_taken m pt p to x known life = grind (arith, nat_tests)
-
-room_released : (t given : Taken) (o n : Room) (blocks : ℕ) → RoomStands t given o → n.slots + 1 ≡ o.slots + 0 → n.blocks + blocks ≡ o.blocks + 0 → RoomStands (with_released t blocks) given n
+pub room_released : (t given : Taken) (o n : Room) (blocks : ℕ) → RoomStands t given o → n.slots + 1 ≡ o.slots + 0 → n.blocks + blocks ≡ o.blocks + 0 → RoomStands (with_released t blocks) given n
 room_released t given o n blocks h slots pieces =
     let a = h.taken_slots in
     let c = h.taken_blocks in
     record { slots = h.slots; blocks = h.blocks; taken_slots = omega (arith, a, slots); taken_blocks = omega (arith, c, pieces) }
 
 pub life_some : (o : Option Life) (x : PlainProcess) → kernel.alive o ≡ Some x → is_some o ≡ true
-life_some (Some (Alive y)) x e = refl
-life_some _ x e = cc
+life_some o x e = grind (arith, nat_tests)
 
 -- spots of other machines and of other processes
-elsewhere_queue : (m : ℕ) (p : Pid) (z : Spot) → is_elsewhere m z ≡ true → z ≢ Queue m p
+pub elsewhere_queue : (m : ℕ) (p : Pid) (z : Spot) → is_elsewhere m z ≡ true → z ≢ Queue m p
 elsewhere_queue m p z is e = false≢true (sym (ap not (eq_self m)) ∙ ap (is_elsewhere m) (sym e) ∙ is)
 
 elsewhere_held : (m : ℕ) (p : Pid) (z : Spot) → is_elsewhere m z ≡ true → z ≢ Held m p
@@ -70,8 +206,7 @@ inbox_held : (m : ℕ) (p : Pid) → Inbox m ≢ Held m p
 inbox_held m p e = cc
 
 begun_standing : (pt : Point) (m : ℕ) (i : MsgId) (z : Spot) → standing (begun pt m).view i z ≡ standing pt.view i z
-begun_standing pt m i (Queue n p) = refl
-begun_standing pt m i _ = refl
+begun_standing pt m i z = grind (arith, nat_tests)
 
 goes : (b : Boot) (m : ℕ) (pt : Point) (l : Placed) (records : AllRecords) (k : KernelState) (y : Message) (p : Pid) → Hearing b m pt l records k (record y { what = What.AllTaken p }) → MadeStands pt.kernel → TurnsAt b m pt l records k
 goes b m pt l records k y p h made =
@@ -108,8 +243,8 @@ goes b m pt l records k y p h made =
     let gone : FrontGone m h.ids v end.view = record {
       inbox = λ j least. inl (subst (λ (is : List MsgId). 1 ≤ times j is) box least);
       others = λ r off. machine_off v.inbox m r (without_first (v.inbox m)) off;
-      queue = λ r q j least. less_at v.queue m r p q j least;
-      held = λ r q j least. less_at v.held m r p q j least;
+      queue = λ r q j least. grind (arith, nat_tests);
+      held = λ r q j least. grind (arith, nat_tests);
       pair = λ a e. refl;
     } in
     let forward_known : end.view.known m p ≡ Forward to (v.moves p + 1) = record_self v.known m p forward (pid_eq-same p) ∙ forward_is in
@@ -125,7 +260,7 @@ goes b m pt l records k y p h made =
     let others_known : (q : Pid) → pid_eq p q ≡ false → end.view.known m q ≡ v.known m q = λ q off. record_others v.known m p q forward off in
     let taken = taken_changed pt end m p refl (λ r. refl) (made.home p some) (made.first p some) (made.below p some)
     (λ q off. (let e = others_known q (pid_apart p q off) in (λ i. record { slots = takes_room (e i); blocks = if takes_room (e i) == 0 then 0 else blocks_of (kernel.alive (pt.kernel.processes q)) }))) in
-    let was = frozen_taken m pt p to (plain_process x) known_is life in
+    let was : taken_by pt m p ≡ record { slots = 1; blocks = length (plain_process x).memory / 256 } = grind (arith, nat_tests) in
     let is = gone_taken m end p to (v.moves p + 1) forward_known in
     let now : Room = taken_at end m end.kernel.machines in
     let before : Room = taken_at pt m pt.kernel.machines in
@@ -137,6 +272,10 @@ goes b m pt l records k y p h made =
     let sends : List Part = Part.Says (Line.Migration Stage.Left p) ∷ Part.Routes restart ∷ [] in
     let last : List rule.Part = rule.Says (Line.Migration Stage.Left p) ∷ to_kernel MessageKind.Restart to ∷ [] in
     let owned : turning.owns (map On on) ≡ 0 = on_owns on in
+    let sets : (q : Pid) → pid_eq p q ≡ false → state.records q ≡ k.records q = λ q off. ap (λ (c : Bool). if c then Some (Record.Forward to moves) else k.records q) off in
+    let waits : (q : Pid) (j : MsgId) → pid_eq p q ≡ false → 1 ≤ times j (v.queue m q) → placed.bag j ≡ l.bag j = λ q j off least. stays (Queue m q) j (other_queue m p q off) (queue_held m p q) least in
+    let holds : (q : Pid) (j : MsgId) → pid_eq p q ≡ false → 1 ≤ times j (v.held m q) → placed.bag j ≡ l.bag j = λ q j off least. stays (Held m q) j (held_queue m p q) (other_held m p q off) least in
+    let keeps : is_server p ≡ true → state.records p ≡ k.records p = λ is. absurd (false≢true (sym server ∙ is)) in
     record {
       state = state;
       says = Line.SentOn p n ∷ [];
@@ -155,20 +294,8 @@ goes b m pt l records k y p h made =
       after = refl;
       placed = placed;
       mirrors = next_mirrors;
-      kernel = stands_one b pt end l placed m k state p
-          (record {
-            here = refl;
-            records = λ q off. ap (λ (e : Bool). if e then Some (Record.Forward to moves) else k.records q) off;
-            queue = λ q off. record_others v.queue m p q [] off;
-            held = λ q off. record_others v.held m p q [] off;
-            known = others_known;
-            processes = λ q off. refl;
-            lives = λ q off. refl;
-            waits = λ q j off least. stays (Queue m q) j (other_queue m p q off) (queue_held m p q) least;
-            kept = λ q j off least. stays (Held m q) j (held_queue m p q) (other_held m p q off) least;
-            server = server;
-            mine = mine;
-          }) h.stands
+      kernel = stands_set b pt end l placed m k state p
+          (search (sets, record_others, others_known, waits, holds, mine, keeps)) h.stands
           h.stands.ring
           (ap (map placed.bag) box ∙ map_same l.bag placed.bag h.ids behind ∙ h.others)
           h.stands.made

@@ -1,16 +1,13 @@
 -- A process that was to leave stays: it is served again, and what was held comes before the inbox.
-use Rattle.dm_mirror.proofs.Names.{◌≡◌, ◌≢◌, ◌⊎◌, ℕ, ◌+◌, ◌≤◌, ◌==◌, ◌&&◌, Bool, true, false, List, [], ◌∷◌, ◌++◌, map, nat_le, refl, ap, ◌∙◌, sym, subst, inl, inr, arith, if◌then◌else◌, Option, Some, cases_Bool, nat_tests, Pid, pid_eq}
-use Rattle.dm_mirror.proofs.Names.{Message, MsgId, What, MessageKind, Record, Line, Part, frozen_of, with_record, Boot, bind, stays, KernelState, pid_eq-same, Point, moved, takes_room, at_machine, at_record, standing, times, Here, Known}
-use Rattle.dm_mirror.proofs.Names.{without_first, times-append, Placed, mirrors_view, told_of, AreMessages, KnownStands, AllRecords}
+use Rattle.dm_mirror.proofs.Names.{◌≡◌, ◌≢◌, ◌⊎◌, ℕ, ◌+◌, ◌≤◌, Bool, true, false, List, [], ◌∷◌, ◌++◌, map, nat_le, refl, ap, ◌∙◌, sym, subst, inl, inr, arith, if◌then◌else◌, Option, Some, nat_tests, Pid, pid_eq, Message, MsgId, What}
+use Rattle.dm_mirror.proofs.Names.{MessageKind, Record, Line, Part, frozen_of, with_record, Boot, bind, stays, KernelState, pid_eq-same, Point, moved, takes_room, at_machine, standing, times, Here, Known, without_first, times-append}
+use Rattle.dm_mirror.proofs.Names.{Placed, mirrors_view, told_of, AreMessages, KnownStands, AllRecords, is_server, false≢true}
 use Rattle.dm_kernel.specs.State as machine
-use Rattle.dm_mirror.proofs.Handle.Frames.{machine_self, machine_off, record_self, record_off, record_others}
 use Rattle.dm_mirror.proofs.Rooms.{taken_same}
-use Rattle.dm_mirror.proofs.Leave.Frames.{own_stays, stands_one, tokens_one}
-use Rattle.dm_mirror.proofs.Leave.Fronts.{FrontGone, Hearing, front_nowhere, leaving, outcome_hears, stood, turn_hears}
-use Rattle.dm_mirror.proofs.Leave.Owns.{records_as, to_kernel, to_kernel_hears}
-use Rattle.dm_mirror.proofs.Leave.Asks.{room_stays, taken_at_record}
-use Rattle.dm_mirror.proofs.Leave.Pieces.{departing, kernel_number, leaves_alive, leaves_no_server}
+use Rattle.dm_mirror.proofs.Leave.Fronts.{FrontGone, Hearing, front_nowhere, leaving, outcome_hears, stood, turn_hears, records_as, to_kernel, to_kernel_hears, own_stays, tokens_one}
+use Rattle.dm_mirror.proofs.Leave.Asks.{room_stays, taken_at_record, departing, kernel_number, leaves_alive, leaves_no_server}
 use Rattle.dm_mirror.proofs.Turning.{Nothing, TurnsAt, begun}
+use Rattle.dm_mirror.proofs.Handle.Taking.{machine_self, machine_off, record_self, record_off, record_others, stands_set}
 
 -- messages of two lists, one after the other
 pub messages_append : (bag : MsgId → Option Message) (is js : List MsgId) (ms ns : List Message) → AreMessages bag is ms → AreMessages bag js ns → AreMessages bag (is ++ js) (ms ++ ns)
@@ -22,10 +19,6 @@ messages_append bag (i ∷ is) js (m ∷ ms) ns e f =
     let more : map bag is ≡ map Some ms = cc in
     let rest : map bag (is ++ js) ≡ map Some (ms ++ ns) = messages_append bag is js ms ns more f in
     λ c. first c ∷ rest c
-
--- a list that is emptied has nothing
-pub less_at : (f : ℕ → Pid → List MsgId) (m n : ℕ) (p q : Pid) (j : MsgId) → 1 ≤ times j (at_record f m p [] n q) → 1 ≤ times j (f n q)
-less_at f m n p q j least = grind (arith, nat_tests)
 
 -- what stands in two lists stands in one of them
 pub in_one : (j : MsgId) (is js : List MsgId) → 1 ≤ times j (is ++ js) → (1 ≤ times j js) ⊎ (1 ≤ times j is)
@@ -56,7 +49,7 @@ refuses b m pt l records k y p slots blocks h =
       ];
       others = box_off;
       queue = λ n q j least. least;
-      held = λ n q j least. less_at v.held m n p q j least;
+      held = λ n q j least. grind (arith, nat_tests);
       pair = λ a c. refl;
     } in
     let here_known : next.view.known m p ≡ Here = record_self v.known m p Here (pid_eq-same p) in
@@ -65,6 +58,8 @@ refuses b m pt l records k y p slots blocks h =
     subst (KnownStands next l p (v.queue m p) (next.view.held m p) (next.view.known m p)) (sym here_record)
     (subst (λ (n : Known). KnownStands next l p (v.queue m p) (next.view.held m p) n (Some (Record.Here x))) (sym here_known) d.stands.here) in
     let taken = taken_same pt next m refl (λ n. refl) (λ q. taken_at_record pt next m p q Here refl refl (sym (ap takes_room g.known))) in
+    let sets : (q : Pid) → pid_eq p q ≡ false → state.records q ≡ k.records q = λ q off. ap (λ (c : Bool). if c then Some (Record.Here x) else k.records q) off in
+    let keeps : is_server p ≡ true → state.records p ≡ k.records p = λ is. absurd (false≢true (sym server ∙ is)) in
     record {
       state = state;
       says = Line.Stays p ∷ [];
@@ -77,20 +72,8 @@ refuses b m pt l records k y p slots blocks h =
       after = refl;
       placed = l;
       mirrors = mirrors_view pt.kernel v next.view pt.addresses l refl h.mirrors;
-      kernel = stands_one b pt next l l m k state p
-          (record {
-            here = refl;
-            records = λ q off. ap (λ (c : Bool). if c then Some (Record.Here x) else k.records q) off;
-            queue = λ q off. refl;
-            held = λ q off. record_others v.held m p q [] off;
-            known = λ q off. record_others v.known m p q Here off;
-            processes = λ q off. refl;
-            lives = λ q off. refl;
-            waits = λ q j off least. refl;
-            kept = λ q j off least. refl;
-            server = server;
-            mine = mine;
-          }) h.stands
+      kernel = stands_set b pt next l l m k state p
+          (search (sets, record_others, mine, keeps)) h.stands
           (ap (λ (ring : List Pid). ring ++ p ∷ []) h.stands.ring ∙ sym (machine_self v.ring m (v.ring m ++ p ∷ [])))
           (ap (map l.bag) box ∙ messages_append l.bag (v.held m p) h.ids d.departure.held h.rest d.stands.held h.others)
           h.stands.made

@@ -1,13 +1,334 @@
--- A kernel's own message at the front of a machine's inbox is one that the machine can handle: for a process or a server.
+-- The message at the front of a machine's inbox is one that the machine can handle: for a kernel, a server, or a process.
 use Rattle.dm_mirror.proofs.Names.{◌≡◌, ◌≢◌, ℕ, ◌+◌, ◌<◌, ◌≤◌, ◌==◌, ◌&&◌, ◌||◌, Bool, true, false, List, ◌∷◌, length, refl, ap, ◌∙◌, sym, subst, arith, length-map, Option, None, Some, false≢true, Pid, Message, MsgId, What, MessageKind}
 use Rattle.dm_mirror.proofs.Names.{Record, kind_of, plain_message, Process, plain_child, plain_pending, plain_named, Boot, switchboard, manager, Manager, Switchboard, Point, Inbox, standing, Unknown, is_server, is_fixed, stands_first}
 use Rattle.dm_mirror.proofs.Names.{OwnTold, own_sort, own_server, Run, Placed, Mirrors, Servers, FitsBoard, FitsBoardWhat, FitsEnded, FitsHere, FitsKnown, FitsManager, FitsManagerWhat, KernelState, AllOwnStand, about_of, told_of}
-use Rattle.dm_mirror.proofs.Names.{KernelStands, KnownStands, servers_at}
+use Rattle.dm_mirror.proofs.Names.{KernelStands, KnownStands, servers_at, nat_tests, pid_eq, PlainMessage, PlainWhat, plain_what, Direction, Status, IsAnswerOf, IsAwaited, IsWithin, Life, Alive, piece_of, plain_process, plain_status}
+use Rattle.dm_mirror.proofs.Names.{pid_eq-same, Known, WhatFits, awaits, has_bytes, piece_fits, status_awaits, both, block_what, gone_what, kill_what, read_what, resume_what, stop_what, user_what, write_what, written_what, inl, inr, zero}
+use Rattle.dm_mirror.proofs.Names.{suc, ◌/◌, is_some, if◌then◌else◌, option_map, cases_Bool, pid_of, HasTaken, first_number, alive-is, blocks_of, taken_at, taken_by, taken_of_home, takes_room, IsLawfulState, of_known, MadeStands, [], map}
+use Rattle.dm_mirror.proofs.Names.{with_what, Pending, plain_manager, IsForManager, pending_request, OneKernel, front, ForOthers, ForWhom, for_whom, home_of, told_receiver, create_what, created_what, no_room_what, FitsKernel, managed_fits}
+use Rattle.dm_mirror.proofs.Names.{user_fits}
+use Rattle.dm_kernel.specs.May.{MayAct}
+pub use Rattle.dm_rulelaws.proofs.Goes.Servers.{server_fixed as fixed_server}
 use Rattle.dm_kernel.specs.State as machine
-use Rattle.dm_mirror.proofs.Counts.FewRouted.{CountsFew}
-use Rattle.dm_mirror.proofs.May.Front.{fixed_server, servers_here}
-use Rattle.dm_mirror.proofs.May.Have.{here_so}
-use Rattle.dm_mirror.proofs.May.Process.{known_some}
+use Rattle.dm_onekernel.specs.Step as kernel
+use Rattle.dm_onekernel.specs.Kernel as one
+use Rattle.dm_onekernel.specs.Manager as manage
+use Rattle.dm_mirror.proofs.Follow.Updates.{first_servers as servers_here}
+use Rattle.dm_mirror.proofs.Machines.{plainly_is}
+use Rattle.dm_mirror.proofs.Counts.Pairs.{CountsFew}
+
+-- the message with and without places
+pub record FrontSo (pt : Point) (m : ℕ) (i : MsgId) (x : Message) (p : PlainMessage) : Type 0 where
+  pub there : pt.kernel.bag i ≡ Some p
+  pub id : x.id ≡ i
+  pub to : x.to.pid ≡ p.to
+  pub what_is : plain_what x.what ≡ Some p.what
+  -- a kernel or a server is at home here, and of a process something is known
+  pub home : is_fixed p.to ≡ true → p.to.home ≡ m
+  pub known : is_fixed p.to ≡ false → pt.view.known m p.to ≢ Unknown
+  pub fits : WhatFits pt.kernel i p p.what
+
+with_what_is : (x : Message) (o : Option PlainWhat) (p : PlainMessage) → with_what x o ≡ Some p → (x.to.pid ≡ p.to) × (o ≡ Some p.what)
+with_what_is x o p e = grind (arith, nat_tests)
+
+pub front_so : (b : Boot) (pt : Point) (l : Placed) (m : ℕ) (i : MsgId) (is : List MsgId) (x : Message) (p : PlainMessage) → Run b pt → Mirrors pt.kernel pt.view pt.addresses l → pt.view.inbox m ≡ i ∷ is → l.bag i ≡ Some x → plain_message x ≡ Some p → FrontSo pt m i x p
+front_so b pt l m i is x p run mirrors box there plainly =
+    let is_ : pt.kernel.bag i ≡ Some p = sym (plainly_is pt.kernel l i x (mirrors.plain.bag i) there) ∙ plainly in
+    let k = with_what_is x (plain_what x.what) p plainly in
+    let f = front b m pt i is p box is_ run in
+    let to = told_receiver b m pt i p f in
+    record {
+      there = is_;
+      id = (mirrors.places.message i x there).id;
+      to = k.0;
+      what_is = k.1;
+      home = λ fixed. home_of b m pt i p fixed f;
+      known = λ loose none. run.found.process i (Inbox m) f.told f.first f.told_is (ap is_fixed to ∙ loose) (ap (pt.view.known m) to ∙ none);
+      fits = run.based.fits.messages i p is_;
+    }
+
+-- which kinds are for a kernel, a server
+pub low : (s : OneKernel) (p : Pid) → MadeStands s → is_some (s.processes p) ≡ true → 3 ≤ p.num
+low s p made there = made.first p there
+
+abbrev is_create : PlainWhat → Bool
+is_create (PlainWhat.Create image links) = true
+is_create w = false
+
+other_create : (x : PlainMessage) (w : PlainWhat) → ForOthers x w → x.to.num ≡ 0 → is_create w ≡ true
+other_create x w h zero_ = grind (arith, nat_tests)
+
+pub kernel_create : (s : OneKernel) (x : PlainMessage) (w : PlainWhat) → ForWhom s x w → MadeStands s → x.to.num ≡ 0 → is_create w ≡ true
+kernel_create s x w e made zero_ = grind (arith, nat_tests, low, other_create)
+
+abbrev is_user : PlainWhat → Bool
+is_user (PlainWhat.User code channel body links) = true
+is_user w = false
+
+other_user : (x : PlainMessage) (w : PlainWhat) → ForOthers x w → x.to ≡ switchboard → is_user w ≡ true
+other_user x w h to = grind (arith, nat_tests)
+
+board_user : (s : OneKernel) (x : PlainMessage) (w : PlainWhat) → ForWhom s x w → MadeStands s → x.to ≡ switchboard → is_user w ≡ true
+board_user s x w e made to = grind (arith, nat_tests, low, other_user)
+
+-- the manager takes user messages and answers
+abbrev is_managed : PlainWhat → Bool
+is_managed (PlainWhat.User code channel body links) = true
+is_managed (PlainWhat.Created child) = true
+is_managed PlainWhat.NoRoom = true
+is_managed w = false
+
+other_managed : (x : PlainMessage) (w : PlainWhat) → ForOthers x w → x.to ≡ manager → is_managed w ≡ true
+other_managed x w h to = grind (arith, nat_tests)
+
+manager_managed : (s : OneKernel) (x : PlainMessage) (w : PlainWhat) → ForWhom s x w → MadeStands s → x.to ≡ manager → is_managed w ≡ true
+manager_managed s x w e made to = grind (arith, nat_tests, low, other_managed)
+
+-- for a kernel
+pub kernel_row : (b : Boot) (pt : Point) (k : KernelState) (i : MsgId) (x : Message) (p : PlainMessage) (w : PlainWhat) → plain_what x.what ≡ Some w → is_create w ≡ true → WhatFits pt.kernel i p w → pt.kernel.images ≡ b.images → first_number + k.made < 4294967295 → FitsKernel b k x.what
+kernel_row b pt k i x p (PlainWhat.Create image links) e c fits images made =
+    let q = create_what x.what image links e in
+    let numbered = fits.2 in
+    let all : length pt.kernel.images ≡ length b.images = ap length images in
+    let within : image < length b.images = grind (arith, nat_tests) in
+    subst (FitsKernel b k) (sym q.is) (within, made)
+kernel_row b pt k i x p _ e c fits images made = cc
+
+user_kind : (x : Message) (w : PlainWhat) → plain_what x.what ≡ Some w → is_user w ≡ true → kind_of x.what ≡ MessageKind.User
+user_kind x w e c = grind (arith, nat_tests)
+
+pending_plainly_if : (n : ℕ) (r : Pending) (c : Bool) (o : Option one.Pending) (p : Option Pending) → is_some o ≡ is_some p → is_some (if c then Some (plain_pending r) else o) ≡ is_some (if c then Some r else p)
+pending_plainly_if n r c o p e = grind (arith, nat_tests)
+
+pending_plainly : (n : ℕ) (ps : List Pending) → is_some (manage.pending_numbered n (map plain_pending ps)) ≡ is_some (pending_request n ps)
+pending_plainly n [] = refl
+pending_plainly n (r ∷ rs) = pending_plainly_if n r (r.n == n) (manage.pending_numbered n (map plain_pending rs)) (pending_request n rs) (pending_plainly n rs)
+
+is_pending : (s : OneKernel) (l : Placed) (i : MsgId) (n : ℕ) → n ≡ i.n → plain_manager l.manager ≡ s.manager → is_some (manage.pending_numbered i.n s.manager.pending) ≡ true → is_some (pending_request n l.manager.pending) ≡ true
+is_pending s l i n same e pending = grind (arith, nat_tests, pending_plainly)
+
+managed_row : (s : OneKernel) (l : Placed) (i : MsgId) (x : Message) (p : PlainMessage) (w : PlainWhat) → plain_what x.what ≡ Some w → is_managed w ≡ true → WhatFits s i p w → x.id ≡ i → plain_manager l.manager ≡ s.manager → IsForManager l.manager x.id.n x.what
+managed_row s l i x p (PlainWhat.User code channel body links) e c fits id g = subst (IsForManager l.manager x.id.n) (sym (user_what x.what code channel body links e).is) tt
+managed_row s l i x p (PlainWhat.Created child) e c fits id g = subst (IsForManager l.manager x.id.n) (sym (created_what x.what child e)) (is_pending s l i x.id.n (ap (λ (j : MsgId). j.n) id) g fits.2.pending)
+managed_row s l i x p PlainWhat.NoRoom e c fits id g = subst (IsForManager l.manager x.id.n) (sym (no_room_what x.what e)) (is_pending s l i x.id.n (ap (λ (j : MsgId). j.n) id) g fits.2.pending)
+managed_row s l i x p _ e c fits id g = cc
+
+pub for_board : (pt : Point) (l : Placed) (m : ℕ) (k : KernelState) (x : Message) (i : MsgId) (p : PlainMessage) → MadeStands pt.kernel → CountsFew pt → Mirrors pt.kernel pt.view pt.addresses l → k.servers ≡ servers_at l m → FrontSo pt m i x p → p.to ≡ switchboard → FitsBoard x k.servers
+for_board pt l m k x i p made counts mirrors servers f to =
+    let here : m ≡ 0 = sym (f.home (fixed_server p.to (ap is_server to))) ∙ ap (λ (v : Pid). v.home) to in
+    let is : k.servers ≡ Some (record { board = l.board; manager = l.manager }) = servers ∙ servers_here l m here in
+    let sent : l.board.sent ≡ pt.kernel.switchboard.sent = ap (λ (v : Switchboard). v.sent) mirrors.plain.board in
+    let few = counts.board in
+    subst (FitsBoard x) (sym is) (user_fits (record { board = l.board; manager = l.manager }) x.what (user_kind x p.what f.what_is (board_user pt.kernel p p.what (for_whom pt.kernel i p p.what f.fits) made to)) (omega (arith, sent, few)))
+
+pub for_manager : (pt : Point) (l : Placed) (m : ℕ) (k : KernelState) (x : Message) (i : MsgId) (p : PlainMessage) → MadeStands pt.kernel → CountsFew pt → Mirrors pt.kernel pt.view pt.addresses l → k.servers ≡ servers_at l m → FrontSo pt m i x p → p.to ≡ manager → FitsManager x k.servers
+for_manager pt l m k x i p made counts mirrors servers f to =
+    let here : m ≡ 0 = sym (f.home (fixed_server p.to (ap is_server to))) ∙ ap (λ (v : Pid). v.home) to in
+    let is : k.servers ≡ Some (record { board = l.board; manager = l.manager }) = servers ∙ servers_here l m here in
+    let sent : l.manager.sent ≡ pt.kernel.manager.sent = ap (λ (v : Manager). v.sent) mirrors.plain.manager in
+    let children : length l.manager.children ≡ length pt.kernel.manager.children = sym (length-map l.manager.children plain_child) ∙ ap (λ (v : Manager). length v.children) mirrors.plain.manager in
+    let few = counts.manager in
+    let few_ = counts.children in
+    let managed = manager_managed pt.kernel p p.what (for_whom pt.kernel i p p.what f.fits) made to in
+    subst (FitsManager x) (sym is)
+    (managed_fits (record { board = l.board; manager = l.manager }) x.id.n x.what (managed_row pt.kernel l i x p p.what f.what_is managed f.fits f.id mirrors.plain.manager) (omega (arith, sent, few)) (omega (arith, children, few_)))
+
+-- A process that is here may act: it bears its name, can be carried, can count one more message, and has its room.
+
+-- what one of the processes that were made takes, all of them do
+by_home : (pt : Point) (m home n k : ℕ) → k < n → ((taken_by pt m (pid_of home (first_number + k))).slots ≤ (taken_of_home pt m home n).slots) × ((taken_by pt m (pid_of home (first_number + k))).blocks ≤ (taken_of_home pt m home n).blocks)
+by_home pt m home zero k lt = absurd (omega (arith, lt))
+by_home pt m home (suc n) k lt = elim (cases_Bool (k == n)) [
+  | inl same ↦
+      let e : k ≡ n = grind (arith, nat_tests) in
+      let slots : (taken_by pt m (pid_of home (first_number + k))).slots ≡ (taken_by pt m (pid_of home (first_number + n))).slots = ap (λ j. (taken_by pt m (pid_of home (first_number + j))).slots) e in
+      let blocks : (taken_by pt m (pid_of home (first_number + k))).blocks ≡ (taken_by pt m (pid_of home (first_number + n))).blocks = ap (λ j. (taken_by pt m (pid_of home (first_number + j))).blocks) e in
+      (omega (arith, slots), omega (arith, blocks))
+  | inr apart ↦
+      let r = by_home pt m home n k (grind (arith, nat_tests)) in
+      let slots = r.0 in let blocks = r.1 in
+      (omega (arith, slots), omega (arith, blocks))
+]
+
+by_homes : (pt : Point) (m homes home n : ℕ) → home < homes → n ≡ pt.kernel.made home → ((taken_of_home pt m home n).slots ≤ (taken_at pt m homes).slots) × ((taken_of_home pt m home n).blocks ≤ (taken_at pt m homes).blocks)
+by_homes pt m zero home n lt is = absurd (omega (arith, lt))
+by_homes pt m (suc homes) home n lt is = elim (cases_Bool (home == homes)) [
+  | inl same ↦
+      let e : home ≡ homes = grind (arith, nat_tests) in
+      let count : n ≡ pt.kernel.made homes = is ∙ ap pt.kernel.made e in
+      let slots : (taken_of_home pt m home n).slots ≡ (taken_of_home pt m homes (pt.kernel.made homes)).slots = ap (λ h. (taken_of_home pt m h n).slots) e ∙ ap (λ k. (taken_of_home pt m homes k).slots) count in
+      let blocks : (taken_of_home pt m home n).blocks ≡ (taken_of_home pt m homes (pt.kernel.made homes)).blocks = ap (λ h. (taken_of_home pt m h n).blocks) e ∙ ap (λ k. (taken_of_home pt m homes k).blocks) count in
+      (omega (arith, slots), omega (arith, blocks))
+  | inr apart ↦
+      let r = by_homes pt m homes home n (grind (arith, nat_tests)) is in
+      let slots = r.0 in let blocks = r.1 in
+      (omega (arith, slots), omega (arith, blocks))
+]
+
+numbered : (p : Pid) → first_number ≤ p.num → (k : ℕ) × (p.num ≡ first_number + k)
+numbered p least = minus p.num least
+  where
+    minus : (n : ℕ) → first_number ≤ n → (k : ℕ) × (n ≡ first_number + k)
+    minus (suc (suc (suc k))) le = (k, omega arith)
+    minus _ le = absurd (omega (arith, le))
+
+pub taken_within : (pt : Point) (m : ℕ) (p : Pid) → MadeStands pt.kernel → is_some (pt.kernel.processes p) ≡ true
+    → ((taken_by pt m p).slots ≤ (taken_at pt m pt.kernel.machines).slots) × ((taken_by pt m p).blocks ≤ (taken_at pt m pt.kernel.machines).blocks)
+taken_within pt m p made there =
+    let home = made.home p there in
+    let below = made.below p there in
+    let (k, num) = numbered p (made.first p there) in
+    let name : pid_of p.home (first_number + k) ≡ p = λ i. record { home = p.home; num = sym num i } in
+    let one = by_home pt m p.home (pt.kernel.made p.home) k (omega (arith, below, num)) in
+    let all = by_homes pt m pt.kernel.machines p.home (pt.kernel.made p.home) home refl in
+    let slots : (taken_by pt m (pid_of p.home (first_number + k))).slots ≡ (taken_by pt m p).slots = ap (λ q. (taken_by pt m q).slots) name in
+    let blocks : (taken_by pt m (pid_of p.home (first_number + k))).blocks ≡ (taken_by pt m p).blocks = ap (λ q. (taken_by pt m q).blocks) name in
+    let a = one.0 in let c = one.1 in let d = all.0 in let e = all.1 in
+    (omega (arith, slots, a, d), omega (arith, blocks, c, e))
+
+-- what a machine has of a process that is here
+pub record HereSo (pt : Point) (l : Placed) (m : ℕ) (p : Pid) (x : Process) : Type 0 where
+  pub known : pt.view.known m p ≡ Known.Here
+  pub queue : List Message
+  pub there : l.processes p ≡ Some (record x { queue = queue })
+  pub life : pt.kernel.processes p ≡ Some (Alive (plain_process x))
+
+here_of : (pt : Point) (l : Placed) (p : Pid) (ids held_ : List MsgId) (k : Known) (x : Process) → KnownStands pt l p ids held_ k (Some (Record.Here x)) → (k ≡ Known.Here) × ((q : List Message) × (l.processes p ≡ Some (record x { queue = q })))
+here_of pt l p ids held_ k x h = grind (arith, nat_tests)
+
+-- what a process of the kernel with places is without them
+pub life_is : (pt : Point) (l : Placed) (p : Pid) (x : Process) → Mirrors pt.kernel pt.view pt.addresses l → l.processes p ≡ Some x → pt.kernel.processes p ≡ Some (Alive (plain_process x))
+life_is pt l p x mirrors there = alive-is (pt.kernel.processes p) (plain_process x) (mirrors.plain.processes p ∙ ap (option_map plain_process) there)
+
+pub here_so : (b : Boot) (pt : Point) (l : Placed) (m : ℕ) (k : KernelState) (p : Pid) (x : Process) → Mirrors pt.kernel pt.view pt.addresses l → KernelStands b pt l m k → is_server p ≡ false → k.records p ≡ Some (Record.Here x) → HereSo pt l m p x
+here_so b pt l m k p x mirrors h server is =
+    let (known, (q, there)) = here_of pt l p (pt.view.queue m p) (pt.view.held m p) (pt.view.known m p) x (subst (KnownStands pt l p (pt.view.queue m p) (pt.view.held m p) (pt.view.known m p)) is (h.known p server)) in
+    record { known = known; queue = q; there = there; life = life_is pt l p (record x { queue = q }) mirrors there }
+
+-- the servers have no records
+pub not_server_by : (b : Boot) (pt : Point) (l : Placed) (m : ℕ) (k : KernelState) (p : Pid) (r : machine.KernelKnown) (c : Bool) → is_server p ≡ c → KernelStands b pt l m k → k.records p ≡ Some r → is_server p ≡ false
+not_server_by b pt l m k p r c e h is = grind (arith, nat_tests)
+
+-- what takes room on a machine has its slot and its blocks
+pub has_taken : (b : Boot) (pt : Point) (l : Placed) (m : ℕ) (k : KernelState) (p : Pid) (x : Process) → MadeStands pt.kernel → KernelStands b pt l m k → takes_room (pt.view.known m p) ≡ 1 → pt.kernel.processes p ≡ Some (Alive (plain_process x)) → HasTaken k.room (length x.memory / 256)
+has_taken b pt l m k p x made h takes life =
+    let within = taken_within pt m p made (ap is_some life) in
+    let blocks : (taken_by pt m p).blocks ≡ length x.memory / 256 = ap (λ (n : ℕ). if n == 0 then 0 else blocks_of (kernel.alive (pt.kernel.processes p))) takes ∙ ap (λ (o : Option Life). blocks_of (kernel.alive o)) life in
+    let all = within.0 in let all_ = within.1 in
+    let room = h.room.taken_slots in let room_ = h.room.taken_blocks in
+    (omega (arith, takes, all, room), omega (arith, blocks, all_, room_))
+
+pub may_act : (b : Boot) (pt : Point) (l : Placed) (m : ℕ) (k : KernelState) → MadeStands pt.kernel → CountsFew pt → Mirrors pt.kernel pt.view pt.addresses l → KernelStands b pt l m k → IsLawfulState k
+    → (p : Pid) (x : Process) → k.records p ≡ Some (Record.Here x) → MayAct k p x
+may_act b pt l m k made counts mirrors h lawful p x is =
+    let server = not_server_by b pt l m k p (Record.Here x) (is_server p) refl h is in
+    let so = here_so b pt l m k p x mirrors h server is in
+    search (
+      (mirrors.places.process p (record x { queue = so.queue }) so.there).pid,
+      of_known k p (Some (Record.Here x)) lawful is,
+      counts.sent p (plain_process x) so.life,
+      has_taken b pt l m k p x made h (ap takes_room so.known) so.life,
+    )
+
+-- A message for a process, where the process is here or has ended here: a piece lies in its memory, an answer is the one that it
+-- waits for.
+
+-- a piece within the memory
+within_memory : (n : ℕ) (x : Process) (o : Option Life) → o ≡ Some (Alive (plain_process x)) → has_bytes n o ≡ true → n ≤ length x.memory
+within_memory n x o is e = let f : has_bytes n (Some (Alive (plain_process x))) ≡ true = sym (ap (has_bytes n) is) ∙ e in grind (arith, nat_tests)
+
+-- the answer that the process waits for
+awaited_by : (st : Status) (n : ℕ) (x : Message) (w : PlainWhat) → x.id.n ≡ n → plain_what x.what ≡ Some w → status_awaits (plain_status st) n w ≡ true → ((dir : Direction) (left : ℕ) → piece_fits dir left w ≡ true → IsAnswerOf dir left x.what) → IsAwaited st x
+awaited_by (Status.Moving dir owner base own left pending) n x w id e f answer =
+    let k = both (n == pending) (piece_fits dir left w) f in
+    let number = k.0 in
+    (id ∙ (let g : n ≡ pending = grind (arith, nat_tests) in g), answer dir left k.1)
+awaited_by _ n x w id e f answer = absurd (false≢true f)
+
+block_answer : (x : Message) (bytes : List ℕ) → plain_what x.what ≡ Some (PlainWhat.Block bytes) → (dir : Direction) (left : ℕ) → piece_fits dir left (PlainWhat.Block bytes) ≡ true → IsAnswerOf dir left x.what
+block_answer x bytes e Direction.FromArea left f =
+    let q = block_what x.what bytes e in
+    let long : length bytes ≡ piece_of left = grind (arith, nat_tests) in
+    subst (IsAnswerOf Direction.FromArea left) (sym q.is) (ap length q.bytes_are ∙ long)
+block_answer x bytes e Direction.IntoArea left f = absurd (false≢true f)
+
+written_answer : (x : Message) → plain_what x.what ≡ Some PlainWhat.Written → (dir : Direction) (left : ℕ) → piece_fits dir left PlainWhat.Written ≡ true → IsAnswerOf dir left x.what
+written_answer x e Direction.FromArea left f = absurd (false≢true f)
+written_answer x e Direction.IntoArea left f = subst (IsAnswerOf Direction.IntoArea left) (sym (written_what x.what e)) tt
+
+gone_answer : (x : Message) → plain_what x.what ≡ Some PlainWhat.Gone → (dir : Direction) (left : ℕ) → piece_fits dir left PlainWhat.Gone ≡ true → IsAnswerOf dir left x.what
+gone_answer x e Direction.FromArea left f = subst (IsAnswerOf Direction.FromArea left) (sym (gone_what x.what e)) tt
+gone_answer x e Direction.IntoArea left f = subst (IsAnswerOf Direction.IntoArea left) (sym (gone_what x.what e)) tt
+
+awaits_alive : (pt : Point) (y : Process) (i : MsgId) (p : Pid) (w : PlainWhat) → p ≡ i.from → pt.kernel.processes p ≡ Some (Alive (plain_process y)) → awaits (pt.kernel.processes i.from) i.n w ≡ true → status_awaits (plain_status y.status) i.n w ≡ true
+awaits_alive pt y i p w to life e = sym (ap (λ (o : Option Life). awaits o i.n w) (sym (ap pt.kernel.processes to) ∙ life)) ∙ e
+
+-- it is here, a row a kind
+here_row : (k : KernelState) (pt : Point) (y : Process) (i : MsgId) (x : Message) (p : PlainMessage) (w : PlainWhat) → plain_what x.what ≡ Some w → WhatFits pt.kernel i p w → pt.kernel.processes p.to ≡ Some (Alive (plain_process y)) → x.id ≡ i
+    → (p.to.num == 0) ≡ false → pid_eq p.to manager ≡ false → FitsHere k x y x.what
+here_row k pt y i x p (PlainWhat.User code channel body links) e fits life id num other = subst (FitsHere k x y) (sym (user_what x.what code channel body links e).is) tt
+here_row k pt y i x p PlainWhat.Stop e fits life id num other = subst (FitsHere k x y) (sym (stop_what x.what e)) tt
+here_row k pt y i x p PlainWhat.Resume e fits life id num other = subst (FitsHere k x y) (sym (resume_what x.what e)) tt
+here_row k pt y i x p PlainWhat.Kill e fits life id num other = subst (FitsHere k x y) (sym (kill_what x.what e)) tt
+here_row k pt y i x p (PlainWhat.Read base len) e fits life id num other =
+    let is = read_what x.what base len e in
+    subst (FitsHere k x y) (sym is) (subst (IsWithin (length y.memory)) (sym is) (within_memory (base + len) y (pt.kernel.processes p.to) life fits.0))
+here_row k pt y i x p (PlainWhat.Write base bytes) e fits life id num other =
+    let q = write_what x.what base bytes e in
+    let long : length q.body.items ≡ length bytes = ap length q.bytes_are in
+    let le = within_memory (base + length bytes) y (pt.kernel.processes p.to) life fits.0 in
+    subst (FitsHere k x y) (sym q.is) (subst (IsWithin (length y.memory)) (sym q.is) (let h : base + length q.body.items ≤ length y.memory = omega (arith, long, le) in h))
+here_row k pt y i x p (PlainWhat.Block bytes) e fits life id num other =
+    subst (FitsHere k x y) (sym (block_what x.what bytes e).is)
+    (awaited_by y.status i.n x (PlainWhat.Block bytes) (ap (λ (j : MsgId). j.n) id) e (awaits_alive pt y i p.to (PlainWhat.Block bytes) fits.0 life fits.1) (block_answer x bytes e))
+here_row k pt y i x p PlainWhat.Written e fits life id num other =
+    subst (FitsHere k x y) (sym (written_what x.what e))
+    (awaited_by y.status i.n x PlainWhat.Written (ap (λ (j : MsgId). j.n) id) e (awaits_alive pt y i p.to PlainWhat.Written fits.0 life fits.1) (written_answer x e))
+here_row k pt y i x p PlainWhat.Gone e fits life id num other =
+    subst (FitsHere k x y) (sym (gone_what x.what e))
+    (awaited_by y.status i.n x PlainWhat.Gone (ap (λ (j : MsgId). j.n) id) e (awaits_alive pt y i p.to PlainWhat.Gone fits.0 life fits.1) (gone_answer x e))
+here_row k pt y i x p (PlainWhat.Create image links) e fits life id num other = absurd (let z : p.to.num ≡ 0 = fits.0 in let t : (p.to.num == 0) ≡ true = grind (arith, nat_tests) in false≢true (sym num ∙ t))
+here_row k pt y i x p (PlainWhat.Move machine_) e fits life id num other = absurd fits
+here_row k pt y i x p (PlainWhat.Moved outcome) e fits life id num other = absurd fits
+here_row k pt y i x p _ e fits life id num other = absurd (false≢true (sym other ∙ (ap (λ (q : Pid). pid_eq q manager) fits.0 ∙ pid_eq-same manager)))
+
+-- it has ended
+ended_row : (pt : Point) (i : MsgId) (x : Message) (p : PlainMessage) (w : PlainWhat) → plain_what x.what ≡ Some w → WhatFits pt.kernel i p w → (p.to.num == 0) ≡ false → pid_eq p.to manager ≡ false → FitsEnded x.what
+ended_row pt i x p (PlainWhat.User code channel body links) e fits num other = subst FitsEnded (sym (user_what x.what code channel body links e).is) tt
+ended_row pt i x p PlainWhat.Stop e fits num other = subst FitsEnded (sym (stop_what x.what e)) tt
+ended_row pt i x p PlainWhat.Resume e fits num other = subst FitsEnded (sym (resume_what x.what e)) tt
+ended_row pt i x p PlainWhat.Kill e fits num other = subst FitsEnded (sym (kill_what x.what e)) tt
+ended_row pt i x p (PlainWhat.Read base len) e fits num other = subst FitsEnded (sym (read_what x.what base len e)) tt
+ended_row pt i x p (PlainWhat.Write base bytes) e fits num other = subst FitsEnded (sym (write_what x.what base bytes e).is) tt
+ended_row pt i x p (PlainWhat.Block bytes) e fits num other = subst FitsEnded (sym (block_what x.what bytes e).is) tt
+ended_row pt i x p PlainWhat.Written e fits num other = subst FitsEnded (sym (written_what x.what e)) tt
+ended_row pt i x p PlainWhat.Gone e fits num other = subst FitsEnded (sym (gone_what x.what e)) tt
+ended_row pt i x p (PlainWhat.Create image links) e fits num other = absurd (let z : p.to.num ≡ 0 = fits.0 in let t : (p.to.num == 0) ≡ true = grind (arith, nat_tests) in false≢true (sym num ∙ t))
+ended_row pt i x p (PlainWhat.Move machine_) e fits num other = absurd fits
+ended_row pt i x p (PlainWhat.Moved outcome) e fits num other = absurd fits
+ended_row pt i x p _ e fits num other = absurd (false≢true (sym other ∙ (ap (λ (q : Pid). pid_eq q manager) fits.0 ∙ pid_eq-same manager)))
+
+-- where nothing is known of a process there is no record of it, and only there
+pub known_some : (pt : Point) (l : Placed) (p : Pid) (ids held_ : List MsgId) (k : Known) → KnownStands pt l p ids held_ k None → k ≡ Known.Unknown
+known_some pt l p ids held_ k h = grind (arith, nat_tests)
+
+-- what the machine knows of it
+process_row : (b : Boot) (pt : Point) (l : Placed) (m : ℕ) (k : KernelState) (i : MsgId) (x : Message) (p : PlainMessage) (o : Option machine.KernelKnown) → Mirrors pt.kernel pt.view pt.addresses l → KernelStands b pt l m k → k.sent < 4294967295 → FrontSo pt m i x p
+    → (p.to.num == 0) ≡ false → pid_eq p.to manager ≡ false → is_server p.to ≡ false → k.records p.to ≡ o → FitsKnown k x o
+process_row b pt l m k i x p None mirrors h sent f num other server is =
+    f.known (ap (λ (c : Bool). c || is_server p.to) num ∙ server) (known_some pt l p.to (pt.view.queue m p.to) (pt.view.held m p.to) (pt.view.known m p.to) (subst (KnownStands pt l p.to (pt.view.queue m p.to) (pt.view.held m p.to) (pt.view.known m p.to)) is (h.known p.to server)))
+process_row b pt l m k i x p (Some (Record.Here y)) mirrors h sent f num other server is =
+    let so = here_so b pt l m k p.to y mirrors h server is in
+    here_row k pt y i x p p.what f.what_is f.fits so.life f.id num other
+process_row b pt l m k i x p (Some (Record.Forward place moves)) mirrors h sent f num other server is = sent
+process_row b pt l m k i x p (Some (Record.Ended y)) mirrors h sent f num other server is = ended_row pt i x p p.what f.what_is f.fits num other
+process_row b pt l m k i x p _ mirrors h sent f num other server is = tt
+
+pub for_process : (b : Boot) (pt : Point) (l : Placed) (m : ℕ) (k : KernelState) (i : MsgId) (x : Message) (p : PlainMessage) → Mirrors pt.kernel pt.view pt.addresses l → KernelStands b pt l m k → k.sent < 4294967295 → FrontSo pt m i x p
+    → (p.to.num == 0) ≡ false → pid_eq p.to manager ≡ false → is_server p.to ≡ false → FitsKnown k x (k.records p.to)
+for_process b pt l m k i x p mirrors h sent f num other server = process_row b pt l m k i x p (k.records p.to) mirrors h sent f num other server refl
+
+-- A kernel's own message at the front of a machine's inbox is one that the machine can handle: for a process or a server.
 
 -- it carries what was told of it
 pub record OwnFront (pt : Point) (l : Placed) (m : ℕ) (i : MsgId) (x : Message) : Type 0 where
@@ -25,33 +346,21 @@ own_front b pt l m i is x run own stand box there plain =
     let first = stands_first pt.view m i is box in
     search (own.own i (told_of x) s.told s.mine, run.found.fixed i (Inbox m) (told_of x) first s.told, run.found.process i (Inbox m) (told_of x) first s.told)
 
--- at a process that is here
-no_kernel : (c : Bool) → c ≡ false → (c && true) ≡ true → ⊥
-no_kernel c e f = false≢true (sym (ap (λ (d : Bool). d && true) e) ∙ f)
-
 own_here : (k : KernelState) (x : Message) (y : Process) (q : Pid) (w : What) → own_sort (kind_of w) q (about_of w) ≡ true → (q.num == 0) ≡ false → y.moves < 4294967295 → k.sent < 4294967295 → FitsHere k x y w
 own_here k x y q (What.Migrate m) e num few sent = (few, sent)
 own_here k x y q (What.Update about) e num few sent = tt
-own_here k x y q (What.Ask pid blocks moves size asker) e num few sent = absurd (no_kernel (q.num == 0) num e)
-own_here k x y q (What.Refuse pid slots blocks) e num few sent = absurd (no_kernel (q.num == 0) num e)
-own_here k x y q (What.PullState pid chunk) e num few sent = absurd (no_kernel (q.num == 0) num e)
-own_here k x y q (What.State pid chunk last bytes) e num few sent = absurd (no_kernel (q.num == 0) num e)
-own_here k x y q (What.PullBlock pid block) e num few sent = absurd (no_kernel (q.num == 0) num e)
-own_here k x y q (What.Memory pid block bytes) e num few sent = absurd (no_kernel (q.num == 0) num e)
-own_here k x y q (What.AllTaken pid) e num few sent = absurd (no_kernel (q.num == 0) num e)
-own_here k x y q (What.Restart pid) e num few sent = absurd (no_kernel (q.num == 0) num e)
-own_here k x y q _ e num few sent = absurd (false≢true e)
+own_here k x y q _ e num few sent = absurd (grind (arith, nat_tests))
 
 -- or has ended
 own_ended : (q : Pid) (w : What) → own_sort (kind_of w) q (about_of w) ≡ true → (q.num == 0) ≡ false → FitsEnded w
-own_ended q (What.Ask pid blocks moves size asker) e num = absurd (no_kernel (q.num == 0) num e)
-own_ended q (What.Refuse pid slots blocks) e num = absurd (no_kernel (q.num == 0) num e)
-own_ended q (What.PullState pid chunk) e num = absurd (no_kernel (q.num == 0) num e)
-own_ended q (What.State pid chunk last bytes) e num = absurd (no_kernel (q.num == 0) num e)
-own_ended q (What.PullBlock pid block) e num = absurd (no_kernel (q.num == 0) num e)
-own_ended q (What.Memory pid block bytes) e num = absurd (no_kernel (q.num == 0) num e)
-own_ended q (What.AllTaken pid) e num = absurd (no_kernel (q.num == 0) num e)
-own_ended q (What.Restart pid) e num = absurd (no_kernel (q.num == 0) num e)
+own_ended q (What.Ask pid blocks moves size asker) e num = absurd (false≢true (sym (ap (λ (d : Bool). d && true) num) ∙ e))
+own_ended q (What.Refuse pid slots blocks) e num = absurd (false≢true (sym (ap (λ (d : Bool). d && true) num) ∙ e))
+own_ended q (What.PullState pid chunk) e num = absurd (false≢true (sym (ap (λ (d : Bool). d && true) num) ∙ e))
+own_ended q (What.State pid chunk last bytes) e num = absurd (false≢true (sym (ap (λ (d : Bool). d && true) num) ∙ e))
+own_ended q (What.PullBlock pid block) e num = absurd (false≢true (sym (ap (λ (d : Bool). d && true) num) ∙ e))
+own_ended q (What.Memory pid block bytes) e num = absurd (false≢true (sym (ap (λ (d : Bool). d && true) num) ∙ e))
+own_ended q (What.AllTaken pid) e num = absurd (false≢true (sym (ap (λ (d : Bool). d && true) num) ∙ e))
+own_ended q (What.Restart pid) e num = absurd (false≢true (sym (ap (λ (d : Bool). d && true) num) ∙ e))
 own_ended q (What.CallOff pid) e num = absurd (false≢true e)
 own_ended q (What.Bury pid) e num = absurd (false≢true e)
 own_ended q (What.Create image links) e num = absurd (false≢true e)

@@ -1,14 +1,17 @@
 -- A kernel's own message at the front of another kernel's inbox is one that this kernel can handle: a process is leaving or
 -- coming, and the message carries what is asked for.
-use Rattle.dm_mirror.proofs.Names.{◌≡◌, ℕ, ◌*◌, ◌/◌, ◌≤◌, ◌==◌, ◌&&◌, not, Bool, true, false, List, length, refl, ap, ◌∙◌, sym, subst, arith, if◌then◌else◌, length-map, Option, None, Some, false≢true, All-nil, Pid, Message, MsgId, What}
-use Rattle.dm_mirror.proofs.Names.{MessageKind, Record, kind_of, IsLawfulMessage, Process, IsLawfulProcess, frozen_of, incoming_of, Wanted, IsAskOfProcess, Arrival, CanMove, Departure, ask_of, HasBlock, HasChunk, state_of, Boot, Phase}
-use Rattle.dm_mirror.proofs.Names.{Moves, kind_comes, is_apart, is_away, is_between, is_early, is_of_source, is_restart, knows, kind_leaves, receiver_in, sender_in, told_between, Point, Inbox, standing, View, Known, Unknown, Here, Frozen}
-use Rattle.dm_mirror.proofs.Names.{Incoming, Forward, Of, Told, token_at, token_is, is_server, Run, Placed, IsSuch, KernelState, about_of, AreMessages, ComesStand, KernelStands, KnownStands, LeavesStand, Carries, TokensStand, Wants}
-use Rattle.dm_mirror.proofs.Names.{destination_of, eq_self, apart_is, inbox_is, about_same}
+use Rattle.dm_mirror.proofs.Names.{◌≡◌, ℕ, ◌*◌, ◌/◌, ◌≤◌, ◌==◌, ◌&&◌, not, Bool, true, false, length, refl, ap, ◌∙◌, sym, subst, arith, if◌then◌else◌, length-map, Option, None, Some, false≢true, All-nil, Pid, Message, MsgId, What}
+use Rattle.dm_mirror.proofs.Names.{MessageKind, Record, kind_of, IsLawfulMessage, Process, IsLawfulProcess, frozen_of, incoming_of, IsAskOfProcess, Arrival, CanMove, Departure, ask_of, HasBlock, HasChunk, state_of, Boot, Phase, Moves}
+use Rattle.dm_mirror.proofs.Names.{kind_comes, is_apart, is_away, is_between, is_early, is_of_source, is_restart, knows, kind_leaves, receiver_in, sender_in, told_between, Point, Inbox, standing, View, Known, Unknown, Here, Frozen}
+use Rattle.dm_mirror.proofs.Names.{Incoming, Of, Told, token_at, token_is, is_server, Run, Placed, IsSuch, KernelState, about_of, ComesStand, KernelStands, KnownStands, LeavesStand, Carries, TokensStand, Wants, destination_of, eq_self}
+use Rattle.dm_mirror.proofs.Names.{apart_is, inbox_is, about_same, ◌<◌, ◌||◌, [], IsSome, Chunk, Block, Nothing, IsNextPiece, restarted, block_of, chunk_of, coming, by_pieces, takes_room, own_sort, Mirrors, FitsKernel, MayLeave, MayRestart}
+use Rattle.dm_mirror.proofs.Names.{MadeStands, nat_tests}
 use Rattle.dm_migrate.specs.Way.{moved}
 use Rattle.dm_kernel.specs.State as machine
-use Rattle.dm_mirror.proofs.May.Own.{OwnFront}
+use Rattle.dm_mirror.proofs.May.Own.{OwnFront, has_taken, life_is}
 use Rattle.dm_mirror.proofs.Turning.{is_moving}
+use Rattle.dm_mirror.proofs.Leave.Asks.{process_same as same_process}
+use Rattle.dm_mirror.proofs.Counts.Pairs.{CountsFew}
 
 -- what source and destination know of a process whose message comes here
 pub record IsMoved (pt : Point) (m : ℕ) (p : Pid) (k : MessageKind) : Type 0 where
@@ -22,8 +25,7 @@ source_knows : (k : MessageKind) (s d : ℕ) (n : Known) → (if s == s then kin
 source_knows k s d n e = sym (ap (λ (c : Bool). if c then kind_leaves k d n else if d == s then kind_comes k s n else is_away n) (eq_self s)) ∙ e
 
 destination_knows : (k : MessageKind) (s d : ℕ) (n : Known) → (s == d) ≡ false → (if s == d then kind_leaves k d n else if d == d then kind_comes k s n else is_away n) ≡ true → kind_comes k s n ≡ true
-destination_knows k s d n off e =
-    sym (ap (λ (c : Bool). if c then kind_leaves k d n else if d == d then kind_comes k s n else is_away n) off ∙ ap (λ (c : Bool). if c then kind_comes k s n else is_away n) (eq_self d)) ∙ e
+destination_knows k s d n off e = grind (arith, nat_tests, eq_self)
 
 abbrev pub kind_in : Option Told → MessageKind
 kind_in None = MessageKind.Bury
@@ -51,24 +53,17 @@ is_moved b pt m i t p run told between about first =
 
 -- the source holds the process until it may restart, and the destination expects it once it has accepted
 pub frozen_at : (k : MessageKind) (d : ℕ) (n : Known) → kind_leaves k d n ≡ true → is_restart k ≡ false → (to : ℕ) × (n ≡ Frozen to)
-frozen_at k d (Frozen to) e r = (to, refl)
-frozen_at k d (Forward m moves) e r = absurd (false≢true (sym (ap (λ (c : Bool). c && (d == m)) r) ∙ e))
-frozen_at k d _ e r = absurd (false≢true e)
+frozen_at k d n e r = grind (arith, nat_tests)
 
 incoming_at : (k : MessageKind) (s : ℕ) (n : Known) → kind_comes k s n ≡ true → is_early k ≡ false → (from : ℕ) × (n ≡ Incoming from)
-incoming_at k s (Incoming from) e r = (from, refl)
-incoming_at k s Unknown e r = absurd (false≢true (sym r ∙ e))
-incoming_at k s (Forward m moves) e r = absurd (false≢true (sym r ∙ e))
-incoming_at k s _ e r = absurd (false≢true e)
+incoming_at k s n e r = grind (arith, nat_tests)
 
 -- a server never moves
 still_server : (c : Bool) → is_moving (if c then Here else Unknown) ≡ false
-still_server true = refl
-still_server false = refl
+still_server c = grind (arith, nat_tests)
 
 pub not_server : (b : Boot) (pt : Point) (n : ℕ) (p : Pid) (c : Bool) → is_server p ≡ c → Run b pt → is_moving (pt.view.known n p) ≡ true → is_server p ≡ false
-not_server b pt n p false e run moves = e
-not_server b pt n p true e run moves = absurd (false≢true (sym (still_server (n == 0)) ∙ sym (ap is_moving (run.based.known.server n p e)) ∙ moves))
+not_server b pt n p c e run moves = grind (arith, nat_tests, still_server)
 
 -- what its machine has of it
 pub record Leaves (pt : Point) (l : Placed) (n : ℕ) (k : KernelState) (p : Pid) : Type 0 where
@@ -123,10 +118,6 @@ token_of b pt l ks m i x w p e run tokens f between about =
       is_moved b pt m i (own_told x w) p run told between about f.first,
     )
 
--- what a process of the kernel with places is
-pub same_process : (o : Option Process) (x y : Process) → o ≡ Some x → o ≡ Some y → x ≡ y
-same_process o x y e f = let g : Some x ≡ Some y = sym e ∙ f in cc
-
 pub frozen_is : (k : KernelState) (p : Pid) (d : Departure) (P : Departure → Type 0) → k.records p ≡ Some (Record.Frozen d) → P d → IsSuch P (frozen_of (k.records p))
 frozen_is k p d P is h = subst (IsSuch P) (sym (ap frozen_of is)) h
 
@@ -155,20 +146,120 @@ whole_asks p h =
     let d : length p.memory / 256 ≡ n = omega (arith, e) in
     (omega (arith, d, h.lawful.size.2), omega (arith, d, h.lawful.size.3), h.moves, h.most)
 
--- its pieces
-pub chunk_there : (x : Process) (q : List Message) (y : Process) (n : ℕ) → x ≡ record y { queue = q } → HasChunk (state_of x) n → HasChunk (state_of y) n
-chunk_there x q y n e h = subst (λ (v : Process). HasChunk (state_of v) n) e h
-
-pub block_there : (x : Process) (q : List Message) (y : Process) (n : ℕ) → x ≡ record y { queue = q } → HasBlock x.memory n → HasBlock y.memory n
-block_there x q y n e h = subst (λ (v : Process). HasBlock v.memory n) e h
-
-pub wants_is : (a : Arrival) (o : Option Arrival) (w : Wanted) → o ≡ Some a → Wants o w → a.wanted ≡ w
-wants_is a o w e h = subst (λ (v : Option Arrival). Wants v w) e h
-
--- the messages of a list are as many as their names
-pub lengths_are : (bag : MsgId → Option Message) (ids : List MsgId) (xs : List Message) → AreMessages bag ids xs → length xs ≡ length ids
-lengths_are bag ids xs e = sym (length-map xs Some) ∙ ap length (sym e) ∙ length-map ids bag
-
 -- a process that has moved is lawful
 pub moved_lawful : (p : Process) → IsLawfulProcess p → IsLawfulProcess (moved p)
 moved_lawful p h = record { home = h.home; registers = h.registers; size = h.size; links = h.links; slots = h.slots; status = h.status; queue = All-nil IsLawfulMessage }
+
+-- A kernel's own message at the front of another kernel's inbox, a row a kind.
+
+-- all that stands about the machines' kernels, with a message of a kernel's own at the front of machine m's inbox
+pub record Around (b : Boot) (pt : Point) (l : Placed) (ks : ℕ → KernelState) (m : ℕ) (i : MsgId) (x : Message) : Type 0 where
+  pub run : Run b pt
+  pub made : MadeStands pt.kernel
+  pub counts : CountsFew pt
+  pub mirrors : Mirrors pt.kernel pt.view pt.addresses l
+  pub nodes : (n : ℕ) → n < pt.kernel.machines → KernelStands b pt l n (ks n)
+  pub tokens : TokensStand pt.view l (λ n. (ks n).records)
+  pub within : m < pt.kernel.machines
+  pub front : OwnFront pt l m i x
+
+-- the piece that is asked for
+next_chunk : (z y : Process) (a : Arrival) (w : What) (n : ℕ) → CanMove (record z { queue = [] }) → y ≡ z → a ≡ coming z None a.held a.wanted → a.wanted ≡ Chunk n → w ≡ chunk_of y.pid (state_of y) n → HasChunk (state_of y) n → IsNextPiece a w
+next_chunk z y a w n whole same pieces wanted is there =
+    let there_ : HasChunk (state_of z) n = subst (λ (v : Process). HasChunk (state_of v) n) same there in
+    let is_ : w ≡ chunk_of z.pid (state_of z) n = is ∙ ap (λ (v : Process). chunk_of v.pid (state_of v) n) same in
+    let come : a ≡ coming z None a.held (Chunk n) = pieces ∙ ap (coming z None a.held) wanted in
+    subst (λ (v : Arrival). IsNextPiece v w) (sym come) (subst (IsNextPiece (coming z None a.held (Chunk n))) (sym is_) ((by_pieces (record z { queue = [] }) None a.held whole).chunk_asked n there_))
+
+next_block : (z y : Process) (a : Arrival) (w : What) (n : ℕ) → CanMove (record z { queue = [] }) → y ≡ z → a ≡ coming z None a.held a.wanted → a.wanted ≡ Block n → w ≡ block_of y.pid y.memory n → HasBlock y.memory n → IsNextPiece a w
+next_block z y a w n whole same pieces wanted is there =
+    let there_ : HasBlock z.memory n = subst (λ (v : Process). HasBlock v.memory n) same there in
+    let is_ : w ≡ block_of z.pid z.memory n = is ∙ ap (λ (v : Process). block_of v.pid v.memory n) same in
+    let come : a ≡ coming z None a.held (Block n) = pieces ∙ ap (coming z None a.held) wanted in
+    subst (λ (v : Arrival). IsNextPiece v w) (sym come) (subst (IsNextPiece (coming z None a.held (Block n))) (sym is_) ((by_pieces (record z { queue = [] }) None a.held whole).block_asked n there_))
+
+all_come : (z : Process) (a : Arrival) → CanMove (record z { queue = [] }) → a ≡ coming z None a.held a.wanted → a.wanted ≡ Nothing → MayRestart a
+all_come z a whole pieces wanted =
+    let come : a ≡ coming z None a.held Nothing = pieces ∙ ap (coming z None a.held) wanted in
+    record { whole = wanted; process = moved z; restarts = ap restarted come ∙ (by_pieces (record z { queue = [] }) None a.held whole).whole; lawful = moved_lawful (record z { queue = [] }) whole.lawful }
+
+-- the machine is the receiver's home
+home_is : (b : Boot) (pt : Point) (l : Placed) (ks : ℕ → KernelState) (m : ℕ) (i : MsgId) (x : Message) → Around b pt l ks m i x → (x.to.pid.num == 0) ≡ true → x.to.pid.home ≡ m
+home_is b pt l ks m i x h num = sym (h.front.home (ap (λ (c : Bool). c || is_server x.to.pid) num))
+
+-- it leaves
+leaves_here : (b : Boot) (pt : Point) (l : Placed) (ks : ℕ → KernelState) (m : ℕ) (i : MsgId) (x : Message) (p : Pid) → Around b pt l ks m i x → (d : Leaves pt l m (ks m) p) → MayLeave (ks m).room d.departure
+leaves_here b pt l ks m i x p h d =
+    let there = d.stands.here.0.1 in
+    let queue = sym (length-map d.departure.process.queue Some) ∙ ap length (sym d.stands.here.1) ∙ length-map (pt.view.queue m p) l.bag in
+    let held_ = sym (length-map d.departure.held Some) ∙ ap length (sym d.stands.held) ∙ length-map (pt.view.held m p) l.bag in
+    let few = h.counts.waiting m p in
+    record {
+      room = has_taken b pt l m (ks m) p d.departure.process h.made (h.nodes m h.within) (ap takes_room d.known) (life_is pt l p (record d.departure.process { queue = d.stands.here.0.0 }) h.mirrors there);
+      few = omega (arith, queue, held_, few);
+    }
+
+-- it asks to come, and can move
+not_unknown : (to : ℕ) → Frozen to ≡ Unknown → ⊥
+not_unknown to e = cc
+
+asks_to_come : (b : Boot) (pt : Point) (l : Placed) (ks : ℕ → KernelState) (m : ℕ) (i : MsgId) (x : Message) (w : What) (p : Pid) → Around b pt l ks m i x → (t : IsToken pt l ks m i x w p) → kind_of w ≡ MessageKind.Ask → w ≡ ask_of t.process None → IsAskOfProcess w
+asks_to_come b pt l ks m i x w p h t is asked =
+    let s = t.moved.s in
+    let (to, known) = frozen_at (kind_of w) t.moved.d (pt.view.known s p) t.moved.source (ap is_restart is) in
+    let within : s < pt.kernel.machines = h.run.found.known_within s p (λ none. not_unknown to (sym known ∙ none)) in
+    let d = leaves_at b pt l s (ks s) p to h.run (h.nodes s within) known in
+    let same = same_process (l.processes p) t.process (record d.departure.process { queue = d.stands.here.0.0 }) t.there d.stands.here.0.1 in
+    subst IsAskOfProcess (sym (asked ∙ ap (λ (v : Process). ask_of v None) same)) (whole_asks d.departure.process d.stands.whole)
+
+sort_of : (b : Boot) (pt : Point) (l : Placed) (ks : ℕ → KernelState) (m : ℕ) (i : MsgId) (x : Message) (w : What) → x.what ≡ w → Around b pt l ks m i x → own_sort (kind_of w) x.to.pid (about_of w) ≡ true
+sort_of b pt l ks m i x w e h = ap (λ (v : What). own_sort (kind_of v) x.to.pid (about_of v)) (sym e) ∙ h.front.sort
+
+kernel_row : (b : Boot) (pt : Point) (l : Placed) (ks : ℕ → KernelState) (m : ℕ) (i : MsgId) (x : Message) (w : What) → x.what ≡ w → Around b pt l ks m i x → (x.to.pid.num == 0) ≡ true → (ks m).sent < 4294967295 → FitsKernel b (ks m) w
+kernel_row b pt l ks m i x (What.Ask pid blocks moves size asker) e h num sent =
+    let t = token_of b pt l ks m i x (What.Ask pid blocks moves size asker) pid e h.run h.tokens h.front refl refl in
+    (asks_to_come b pt l ks m i x (What.Ask pid blocks moves size asker) pid h t refl t.carries, sent)
+kernel_row b pt l ks m i x (What.Refuse pid slots blocks) e h num sent =
+    let t = token_of b pt l ks m i x (What.Refuse pid slots blocks) pid e h.run h.tokens h.front refl refl in
+    let d = source_leaves b pt l m (ks m) pid MessageKind.Refuse h.run (h.nodes m h.within) t.moved refl refl in
+    subst (λ (o : Option Departure). IsSome o) (sym (ap frozen_of d.is)) refl
+kernel_row b pt l ks m i x (What.PullState pid chunk) e h num sent =
+    let t = token_of b pt l ks m i x (What.PullState pid chunk) pid e h.run h.tokens h.front refl refl in
+    let d = source_leaves b pt l m (ks m) pid MessageKind.PullState h.run (h.nodes m h.within) t.moved refl refl in
+    let same = same_process (l.processes pid) t.process (record d.departure.process { queue = d.stands.here.0.0 }) t.there d.stands.here.0.1 in
+    (frozen_is (ks m) pid d.departure (λ (v : Departure). HasChunk (state_of v.process) chunk) d.is (subst (λ (v : Process). HasChunk (state_of v) chunk) same t.carries.1.1), sent)
+kernel_row b pt l ks m i x (What.State pid chunk last bytes) e h num sent =
+    let w = What.State pid chunk last bytes in
+    let t = token_of b pt l ks m i x w pid e h.run h.tokens h.front refl refl in
+    let c = destination_comes b pt l m (ks m) pid MessageKind.State h.run (h.nodes m h.within) t.moved refl refl in
+    let wanted = subst (λ (v : Option Arrival). Wants v (Chunk chunk)) (ap (λ (n : ℕ). incoming_of ((ks n).records pid)) (home_is b pt l ks m i x h num) ∙ ap incoming_of c.is) t.carries.2 in
+    let same = same_process (l.processes pid) t.process c.stands.process t.there c.stands.there in
+    (incoming_is (ks m) pid c.arrival (λ (a : Arrival). IsNextPiece a w) c.is (next_chunk c.stands.process t.process c.arrival w chunk c.stands.whole same c.stands.pieces wanted t.carries.0 t.carries.1.1), sent)
+kernel_row b pt l ks m i x (What.PullBlock pid block) e h num sent =
+    let t = token_of b pt l ks m i x (What.PullBlock pid block) pid e h.run h.tokens h.front refl refl in
+    let d = source_leaves b pt l m (ks m) pid MessageKind.PullBlock h.run (h.nodes m h.within) t.moved refl refl in
+    let same = same_process (l.processes pid) t.process (record d.departure.process { queue = d.stands.here.0.0 }) t.there d.stands.here.0.1 in
+    (frozen_is (ks m) pid d.departure (λ (v : Departure). HasBlock v.process.memory block) d.is (subst (λ (v : Process). HasBlock v.memory block) same t.carries.1.1), sent)
+kernel_row b pt l ks m i x (What.Memory pid block bytes) e h num sent =
+    let w = What.Memory pid block bytes in
+    let t = token_of b pt l ks m i x w pid e h.run h.tokens h.front refl refl in
+    let c = destination_comes b pt l m (ks m) pid MessageKind.Memory h.run (h.nodes m h.within) t.moved refl refl in
+    let wanted = subst (λ (v : Option Arrival). Wants v (Block block)) (ap (λ (n : ℕ). incoming_of ((ks n).records pid)) (home_is b pt l ks m i x h num) ∙ ap incoming_of c.is) t.carries.2 in
+    let same = same_process (l.processes pid) t.process c.stands.process t.there c.stands.there in
+    (incoming_is (ks m) pid c.arrival (λ (a : Arrival). IsNextPiece a w) c.is (next_block c.stands.process t.process c.arrival w block c.stands.whole same c.stands.pieces wanted t.carries.0 t.carries.1.1), sent)
+kernel_row b pt l ks m i x (What.AllTaken pid) e h num sent =
+    let t = token_of b pt l ks m i x (What.AllTaken pid) pid e h.run h.tokens h.front refl refl in
+    let d = source_leaves b pt l m (ks m) pid MessageKind.AllTaken h.run (h.nodes m h.within) t.moved refl refl in
+    (frozen_is (ks m) pid d.departure (MayLeave (ks m).room) d.is (leaves_here b pt l ks m i x pid h d), sent)
+kernel_row b pt l ks m i x (What.Restart pid) e h num sent =
+    let w = What.Restart pid in
+    let t = token_of b pt l ks m i x w pid e h.run h.tokens h.front refl refl in
+    let c = destination_comes b pt l m (ks m) pid MessageKind.Restart h.run (h.nodes m h.within) t.moved refl refl in
+    let wanted = subst (λ (v : Option Arrival). Wants v Nothing) (ap (λ (n : ℕ). incoming_of ((ks n).records pid)) (home_is b pt l ks m i x h num) ∙ ap incoming_of c.is) t.carries.1 in
+    incoming_is (ks m) pid c.arrival MayRestart c.is (all_come c.stands.process c.arrival c.stands.whole c.stands.pieces wanted)
+kernel_row b pt l ks m i x (What.Migrate machine_) e h num sent = absurd (false≢true (sym (ap (λ (c : Bool). not (c || is_server x.to.pid) && true) num) ∙ sort_of b pt l ks m i x (What.Migrate machine_) e h))
+kernel_row b pt l ks m i x (What.Update about) e h num sent = absurd (false≢true (sym (ap (λ (c : Bool). not c && true) num) ∙ sort_of b pt l ks m i x (What.Update about) e h))
+kernel_row b pt l ks m i x any_ e h num sent = absurd (false≢true (sort_of b pt l ks m i x any_ e h))
+
+pub own_kernel : (b : Boot) (pt : Point) (l : Placed) (ks : ℕ → KernelState) (m : ℕ) (i : MsgId) (x : Message) → Around b pt l ks m i x → (x.to.pid.num == 0) ≡ true → (ks m).sent < 4294967295 → FitsKernel b (ks m) x.what
+own_kernel b pt l ks m i x h num sent = kernel_row b pt l ks m i x x.what refl h num sent

@@ -2,12 +2,9 @@
 use Rattle.dm_mirror.proofs.Names.{◌≡◌, ℕ, ◌<◌, ◌==◌, ◌||◌, Bool, true, false, List, [], ◌∷◌, map, refl, ap, ◌∙◌, sym, subst, arith, All, Option, None, Some, nat_tests, All-head, Pid, pid_eq, Message, MsgId, IsLawfulMessage, PlainMessage}
 use Rattle.dm_mirror.proofs.Names.{plain_message, Boot, manager, switchboard, pid_eq-is, Point, is_server, OwnTold, Run, for_whom, Placed, Mirrors, IsLawfulState, FitsKnown, FrontMay, MayHandle, MayTurn, KernelState, MadeStands}
 use Rattle.dm_mirror.proofs.Names.{KernelStands, AllOwnStand, TokensStand}
-use Rattle.dm_mirror.proofs.Counts.FewRouted.{CountsFew}
-use Rattle.dm_mirror.proofs.May.Front.{FrontSo, for_board, for_manager, front_so, kernel_create, kernel_row}
-use Rattle.dm_mirror.proofs.May.Have.{may_act}
-use Rattle.dm_mirror.proofs.May.Process.{for_process}
-use Rattle.dm_mirror.proofs.May.Own.{own_board, own_front, own_manager, own_process}
-use Rattle.dm_mirror.proofs.May.OwnRows.{Around, own_kernel}
+use Rattle.dm_mirror.proofs.May.Own.{own_board, own_front, own_manager, own_process, for_process, may_act, FrontSo, for_board, for_manager, front_so, kernel_create, kernel_row}
+use Rattle.dm_mirror.proofs.May.OwnKernel.{Around, own_kernel}
+use Rattle.dm_mirror.proofs.Counts.Pairs.{CountsFew}
 
 -- the message at the front, one of the bag
 handles : (b : Boot) (pt : Point) (l : Placed) (m : ℕ) (k : KernelState) (i : MsgId) (x : Message) (p : PlainMessage) → Run b pt → MadeStands pt.kernel → CountsFew pt → Mirrors pt.kernel pt.view pt.addresses l → KernelStands b pt l m k → k.sent < 4294967295 → IsLawfulMessage x → FrontSo pt m i x p → MayHandle b k x
@@ -65,13 +62,10 @@ any_handles b pt l ks m i is x None plain h box there lawful =
 any_handles b pt l ks m i is x (Some p) plain h box there lawful =
     handles b pt l m (ks m) i x p h.run h.made h.counts h.mirrors (h.nodes m h.within) (sent_few b pt l ks m h) lawful (front_so b pt l m i is x p h.run h.mirrors box there plain)
 
-first_is : (bag : MsgId → Option Message) (i : MsgId) (is : List MsgId) (x : Message) (xs : List Message) → map bag (i ∷ is) ≡ map Some (x ∷ xs) → bag i ≡ Some x
-first_is bag i is x xs e = cc
-
 front_may : (b : Boot) (pt : Point) (l : Placed) (ks : ℕ → KernelState) (m : ℕ) (ids : List MsgId) (xs : List Message) → Stand b pt l ks m → pt.view.inbox m ≡ ids → map l.bag ids ≡ map Some xs → All IsLawfulMessage xs → FrontMay b (ks m) xs
 front_may b pt l ks m ids [] h box are lawful = tt
 front_may b pt l ks m [] (x ∷ xs) h box are lawful = cc
-front_may b pt l ks m (i ∷ is) (x ∷ xs) h box are lawful = any_handles b pt l ks m i is x (plain_message x) refl h box (first_is l.bag i is x xs are) (All-head IsLawfulMessage x xs lawful)
+front_may b pt l ks m (i ∷ is) (x ∷ xs) h box are lawful = any_handles b pt l ks m i is x (plain_message x) refl h box (cc) (All-head IsLawfulMessage x xs lawful)
 
 pub may_turn : (b : Boot) (pt : Point) (l : Placed) (ks : ℕ → KernelState) (m : ℕ) → m < 16 → Stand b pt l ks m → IsLawfulState (ks m) → MayTurn b (ks m)
 may_turn b pt l ks m small h lawful =

@@ -1,22 +1,19 @@
 -- Messages that are routed one after the other: the machine and the rule go on to the end, or stop at the first full pair.
-use Rattle.dm_mirror.proofs.Names.{◌≡◌, ℕ, ◌+◌, ◌<◌, ◌≤◌, ◌==◌, Bool, true, false, List, [], ◌∷◌, ◌++◌, length, map, refl, ap, ◌∙◌, sym, subst, inl, inr, ◌⊎◌, arith, ⊤, nat_le, if◌then◌else◌, Some, eq-eqb, Pid, Message, MsgId}
-use Rattle.dm_mirror.proofs.Names.{IsLawfulMessage, Boot, OneKernel, Line, Stage, Out, Spelled, goes_out, spelled, Point, after, moved, Spot, Inbox, Untaken, standing, Pair, worn_in, put_spot, PairsFit, Sane, Sayable, part_sane, machine_of}
-use Rattle.dm_mirror.proofs.Names.{NodeState, acts, routes, Acted, Acts, Goes, Worn, behind, then_, Spoken, spoken, Placed, WorldState, History, StandsWith, AllRecords}
+use Rattle.dm_mirror.proofs.Names.{◌≡◌, ℕ, ◌+◌, ◌<◌, ◌≤◌, ◌==◌, Bool, false, List, [], ◌∷◌, ◌++◌, length, map, refl, ap, ◌∙◌, sym, subst, inl, inr, ◌⊎◌, arith, ⊤, nat_le, if◌then◌else◌, Some, eq-eqb, Pid, Message, MsgId, IsLawfulMessage}
+use Rattle.dm_mirror.proofs.Names.{Boot, OneKernel, Line, Stage, Out, Spelled, goes_out, spelled, Point, after, moved, Spot, Inbox, Untaken, standing, Pair, worn_in, put_spot, PairsFit, Sane, Sayable, part_sane, machine_of, NodeState, acts}
+use Rattle.dm_mirror.proofs.Names.{routes, Acted, Acts, Goes, Worn, then_, Spoken, spoken, Placed, WorldState, History, StandsWith, AllRecords, nat_tests}
+use Rattle.dm_node.proofs.Names.{behind}
 use Rattle.dm_kernel.specs.declared.part.Part.{Part}
 use Rattle.dm_rule.specs.Parts as rule
 use Rattle.dm_mirror.proofs.Turning.{Route, First, On, Own, AllMayPut, Late, Nothing, Leaves, LateMay, LateTopic, MayPut, late_owns, late_parts, late_point, late_rule_parts, message_of, owns, part_of, rule_part_of}
-use Rattle.dm_mirror.proofs.Turning as turning
-use Rattle.dm_mirror.proofs.Stays.{at_again, at_here, at_same}
 use Rattle.dm_mirror.proofs.Puts.{spoken-append, spoken_then}
 use Rattle.dm_mirror.proofs.Giving.{same_records}
-use Rattle.dm_mirror.proofs.Putting.{lines_put, part_is, put_end, put_leads}
-use Rattle.dm_mirror.proofs.Route.Goes.{RouteOn, RouteWorn, with_acted}
 use Rattle.dm_mirror.proofs.Routing.{Ready, route_goes, worn_first, worn_past}
-use Rattle.dm_mirror.proofs.Route.Late.{late_end, late_lines, late_pair, late_part, late_topic}
-use Rattle.dm_mirror.proofs.Route.May.{all_may_on, late_may_on, same_end}
-use Rattle.dm_mirror.proofs.Route.Parts.{Next, all_grow, count_here, count_off, next_of}
-use Rattle.dm_mirror.proofs.Route.Puts.{after_route}
-use Rattle.dm_mirror.proofs.Route.Standing.{end_fits, end_there}
+use Rattle.dm_mirror.proofs.Route.Parts.{Next, all_grow, count_here, count_off, next_of, all_may_on, late_may_on, same_end, end_fits, end_there}
+use Rattle.dm_mirror.proofs.Route.Puts.{after_route, RouteOn, RouteWorn, with_acted, late_end, late_lines, late_pair, late_part, late_topic}
+use Rattle.dm_mirror.proofs.Streams.{at_again, at_here, at_same}
+use Rattle.dm_mirror.proofs.Join.{lines_put, part_is, put_end, put_leads}
+use Rattle.dm_mirror.proofs.Turning as turning
 
 -- all messages are lawful
 abbrev pub AreLawful : List Route → Type 0
@@ -78,24 +75,20 @@ none_goes b w q l h m records v g =
     (inl (record { acted = d; goes = refl; spoken = refl; placed = l; history = h; stands = stays; sent = count; counts = λ n e. refl }))
 
 pair_place : (m c : ℕ) (t : Bool) → machine_of (if t then Inbox c else Untaken m c) ≡ c
-pair_place m c true = refl
-pair_place m c false = refl
+pair_place m c t = grind (arith, nat_tests)
 
 sayable : (r : Route) → Sayable (rule_part_of r)
 sayable (First x) = tt
 sayable _ = tt
 
 pub late_count : (q : Point) (late : Late) → (late_point q late).view.count ≡ q.view.count
-late_count q Nothing = refl
-late_count q (Leaves p x) = refl
+late_count q late = grind (arith, nat_tests)
 
 pub late_acting : (q : Point) (late : Late) → (late_point q late).view.acting ≡ q.view.acting
-late_acting q Nothing = refl
-late_acting q (Leaves p x) = refl
+late_acting q late = grind (arith, nat_tests)
 
 pub late_kernel : (q : Point) (late : Late) → (late_point q late).kernel ≡ q.kernel
-late_kernel q Nothing = refl
-late_kernel q (Leaves p x) = refl
+late_kernel q late = grind (arith, nat_tests)
 
 late_fits : (q : Point) (late : Late) → PairsFit q.view → PairsFit (late_point q late).view
 late_fits q Nothing h = h

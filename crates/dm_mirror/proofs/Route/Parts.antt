@@ -1,15 +1,152 @@
--- The parts of a group that route messages, one after the other: what stands somewhere stays there, and what is counted.
-use Rattle.dm_mirror.proofs.Names.{◌≡◌, ℕ, ◌+◌, ◌≤◌, ◌==◌, Bool, true, false, List, [], ◌∷◌, ◌++◌, length, map, refl, ap, ◌∙◌, sym, subst, arith, if◌then◌else◌, Option, None, Some, Pid, MsgId, MessageKind, kind_of, plain_kind, PlainMessage, nat_tests}
-use Rattle.dm_mirror.proofs.Names.{bind, bind-is, Line, Load, Stage, Receiver, Spelled, goes_out, puts, spelled, Point, after, moved, at_machine, Spot, Queue, standing, Told, View, is_own, own_id, fits_packet, fits_put, PairsFit, Sane}
-use Rattle.dm_mirror.proofs.Names.{Placed, Mirrors, AllRecords}
+-- What stands somewhere stands there behind messages that are put.
+use Rattle.dm_mirror.proofs.Names.{◌≡◌, ℕ, ◌+◌, ◌≤◌, ◌==◌, Bool, true, false, List, [], ◌∷◌, ◌++◌, length, map, refl, ap, ◌∙◌, sym, subst, arith, if◌then◌else◌, Option, None, Some, Pid, MsgId, MessageKind, kind_of, plain_kind, PlainMessage}
+use Rattle.dm_mirror.proofs.Names.{nat_tests, bind, bind-is, Line, Load, Stage, Receiver, Spelled, goes_out, puts, spelled, Point, after, moved, at_machine, Spot, standing, Told, View, is_own, own_id, fits_packet, fits_put, PairsFit, Sane}
+use Rattle.dm_mirror.proofs.Names.{Placed, Mirrors, AllRecords, pid_of, Message, id_eq, id_of, id_eq-is, Gets, Sender, first_gives, given, own_gives, is_kernels, not_kernels, put_told_off, not_first, zero, suc, ◌&&◌, drop, eqb-true}
+use Rattle.dm_mirror.proofs.Names.{drop-append-le, Inbox, Untaken, times, untaken, Pair, after_packet, after_put, routed_on, two_of, put_spot, put_there, times-append, home_full, behind}
 use Rattle.dm_rule.specs.Parts as rule
-use Rattle.dm_rule.specs.Parts.{behind}
-use Rattle.dm_mirror.proofs.Turning.{Route, First, On, Own, Late, Nothing, Leaves, MayPut, late_rule_parts, message_of, rule_part_of}
-use Rattle.dm_mirror.proofs.Turning as turning
+use Rattle.dm_mirror.proofs.Turning.{Route, First, On, Own, Late, Nothing, Leaves, MayPut, late_rule_parts, message_of, rule_part_of, MayOwn, AllMayPut, LateMay, late_owns, owns}
 use Rattle.dm_mirror.proofs.Puts.{put_standing}
-use Rattle.dm_mirror.proofs.Putting.{put_end}
-use Rattle.dm_mirror.proofs.Route.May.{first_not_own, on_not_own, same_end}
-use Rattle.dm_mirror.proofs.Route.Standing.{put_grows}
+use Rattle.dm_mirror.proofs.Route.Puts.{after_route, route_keeps, route_more, told_stays, own_gives_same}
+use Rattle.dm_mirror.proofs.Join.{put_end, plain_of, put_point}
+use Rattle.dm_mirror.proofs.Turning as turning
+
+more_times : (j : MsgId) (xs ys : List MsgId) → 1 ≤ times j xs → 1 ≤ times j (xs ++ ys)
+more_times j xs ys h = let a = times-append j xs ys in omega (arith, a, h)
+
+box_grows : (f : ℕ → List MsgId) (b n : ℕ) (i j : MsgId) (s t : Bool) → (b == n) ≡ t → 1 ≤ times j (f n) → 1 ≤ times j ((if s then (λ (d : ℕ). if b == d then f b ++ i ∷ [] else f d) else f) n)
+box_grows f b n i j s t e h = grind (arith, nat_tests, eqb-true, more_times)
+
+all_gone : (i j : MsgId) (xs : List MsgId) (n : ℕ) → n ≡ length xs → 1 ≤ times j (drop n xs) → ⊥
+all_gone i j [] zero e h = omega (arith, h)
+all_gone i j [] (suc n) e h = omega (arith, e)
+all_gone i j (x ∷ xs) zero e h = omega (arith, e)
+all_gone i j (x ∷ xs) (suc n) e h = all_gone i j xs n (omega (arith, e)) h
+
+pair_grows : (a b : ℕ) (p : Pair) (i j : MsgId) (c : Bool) → (a == b) ≡ c → p.taken ≤ length p.ids → (c ≡ true → p.taken ≡ length p.ids) → 1 ≤ times j (untaken p) → 1 ≤ times j (untaken (routed_on a b p i))
+pair_grows a b p i j c e few full h = grind (arith, nat_tests, all_gone, drop-append-le, more_times)
+
+pair_if : (f : ℕ → ℕ → Pair) (a b c d : ℕ) (i j : MsgId) (t : Bool) → ((a == c) && (b == d)) ≡ t → (f a b).taken ≤ length (f a b).ids → ((a == b) ≡ true → (f a b).taken ≡ length (f a b).ids) → 1 ≤ times j (untaken (f c d)) → 1 ≤ times j (untaken (if t then routed_on a b (f a b) i else f c d))
+pair_if f a b c d i j t e few full h = grind (arith, nat_tests, two_of, pair_grows)
+
+pub put_grows : (v : View) (a b : ℕ) (i j : MsgId) (k : MessageKind) (q : Pid) → PairsFit v → (z : Spot) → 1 ≤ standing v j z → 1 ≤ standing (after_put v a b i k q) j z
+put_grows v a b i j k q fits (Inbox n) h = box_grows v.inbox b n i j (a == b) (b == n) refl h
+put_grows v a b i j k q fits (Untaken c d) h = pair_if v.pair a b c d i j ((a == c) && (b == d)) refl (fits.within a b) (home_full v a b fits) h
+put_grows v a b i j k q fits _ h = h
+
+-- behind the lines of a message that is put, with its packet
+pub end_fits : (q : Point) (m c : ℕ) (x : Message) (home out : Bool) → PairsFit q.view → PairsFit (put_end q m c x home out).view
+end_fits q m c x true out h = fits_put q.view m c x.id (kind_of x.what) x.to.pid h
+end_fits q m c x false false h = fits_put q.view m c x.id (kind_of x.what) x.to.pid h
+end_fits q m c x false true h = fits_packet (after_put q.view m c x.id (kind_of x.what) x.to.pid) m c (length (q.view.pair m c).wire) (Load.Data (length (q.view.pair m c).ids)) (fits_put q.view m c x.id (kind_of x.what) x.to.pid h)
+
+packet_grows : (v : View) (m c n : ℕ) (j : MsgId) (z : Spot) → 1 ≤ standing v j z → 1 ≤ standing (after_packet v m c (Load.Data n)) j z
+packet_grows v m c n j z h = subst (λ (k : ℕ). 1 ≤ k) (sym (put_standing v m c (Load.Data n) j z)) h
+
+pub end_there : (q : Point) (m c : ℕ) (x : Message) (home out : Bool) → PairsFit q.view → 1 ≤ standing (put_end q m c x home out).view x.id (put_spot m c)
+end_there q m c x true out fits = put_there q.view m c x.id (kind_of x.what) x.to.pid fits
+end_there q m c x false false fits = put_there q.view m c x.id (kind_of x.what) x.to.pid fits
+end_there q m c x false true fits =
+    packet_grows (after_put q.view m c x.id (kind_of x.what) x.to.pid) m c (length (q.view.pair m c).ids) x.id (put_spot m c) (put_there q.view m c x.id (kind_of x.what) x.to.pid fits)
+
+-- What may be put still may behind the put of another message.
+
+-- the packet of a put leaves all that the next message is read by
+pub record SameEnd (put end : Point) : Type 0 where
+  pub kernel : end.kernel ≡ put.kernel
+  pub addresses : end.addresses ≡ put.addresses
+  pub acting : end.view.acting ≡ put.view.acting
+  pub count : end.view.count ≡ put.view.count
+  pub told : end.view.told ≡ put.view.told
+  pub topic : end.view.topic ≡ put.view.topic
+  pub asked : end.view.asked ≡ put.view.asked
+  pub groups : end.view.groups ≡ put.view.groups
+
+pub same_end : (q : Point) (m c : ℕ) (x : Message) (home out : Bool) → SameEnd (put_point q m c x) (put_end q m c x home out)
+same_end q m c x true out = record { kernel = refl; addresses = refl; acting = refl; count = refl; told = refl; topic = refl; asked = refl; groups = refl }
+same_end q m c x false false = record { kernel = refl; addresses = refl; acting = refl; count = refl; told = refl; topic = refl; asked = refl; groups = refl }
+same_end q m c x false true = record { kernel = refl; addresses = refl; acting = refl; count = refl; told = refl; topic = refl; asked = refl; groups = refl }
+
+kernels_not_own : (i : MsgId) (o : Option Told) → is_kernels i ≡ false → is_own i o ≡ false
+kernels_not_own i o e = grind (arith, nat_tests)
+
+pub first_not_own : (pt : Point) (l : Placed) (records : AllRecords) (x : Message) → Sane pt → Mirrors pt.kernel pt.view pt.addresses l → MayPut pt l records (First x) → is_own x.id (pt.view.told x.id) ≡ false
+first_not_own pt l records x sane mirrors may = grind (arith, nat_tests, plain_of, kernels_not_own, not_kernels)
+
+pub on_not_own : (pt : Point) (l : Placed) (records : AllRecords) (x : Message) → MayPut pt l records (On x) → is_own x.id (pt.view.told x.id) ≡ false
+on_not_own pt l records x may = not_first x.id (pt.view.told x.id) may.1.0 may.1.1
+
+-- the next message of a kernel's own still is
+record Keeps (pt end : Point) (i : MsgId) : Type 0 where
+  kernel : end.kernel ≡ pt.kernel
+  addresses : end.addresses ≡ pt.addresses
+  acting : end.view.acting ≡ pt.view.acting
+  own : own_id end.view ≡ own_id pt.view
+  told : end.view.told i ≡ pt.view.told i
+  topic : end.view.topic ≡ pt.view.topic
+  asked : end.view.asked ≡ pt.view.asked
+
+own_stays : (pt end : Point) (l : Placed) (records : AllRecords) (x : Message) → Keeps pt end x.id → MayOwn pt l records x → MayOwn end l records x
+own_stays pt end l records x k may =
+    let gives : own_gives end.kernel end.view end.addresses x.id x.to.pid (kind_of x.what) ≡ own_gives pt.kernel pt.view pt.addresses x.id x.to.pid (kind_of x.what) =
+    (λ i. own_gives (k.kernel i) end.view (k.addresses i) x.id x.to.pid (kind_of x.what)) ∙ own_gives_same pt.kernel pt.view end.view pt.addresses x.id x.to.pid (kind_of x.what) k.acting in
+    record {
+      id = may.id ∙ sym k.own;
+      plain = may.plain;
+      encloses = may.encloses;
+      bag = may.bag;
+      untold = k.told ∙ may.untold;
+      receiver = (λ i. given (k.addresses i) (gives i) (Receiver x.id)) ∙ may.receiver;
+      sender = (λ i. given (k.addresses i) (gives i) (Sender x.id)) ∙ may.sender;
+      about = k.topic ∙ may.about;
+      asker = may.asker;
+      carried = λ between p about. subst (λ (f : Pid → ℕ). turning.IsCarried l (f p) records p x) (sym k.asked) (may.carried between p about);
+    }
+
+apart_bag : (l : Placed) (x y : Message) → l.bag x.id ≡ Some x → l.bag y.id ≡ None → id_eq x.id y.id ≡ false
+apart_bag l x y there none = grind (arith, nat_tests, id_eq-is)
+
+-- a put of a message that isn't the kernel's own keeps it
+keeps_own : (pt : Point) (l : Placed) (m c : ℕ) (x y : Message) (home out : Bool) → is_own x.id (pt.view.told x.id) ≡ false → first_gives (pt.view.told x.id) (own_gives pt.kernel pt.view pt.addresses x.id x.to.pid (kind_of x.what)) ≡ [] → id_eq x.id y.id ≡ false
+    → Keeps pt (put_end pt m c x home out) y.id
+keeps_own pt l m c x y home out other gives apart =
+    let s = same_end pt m c x home out in
+    search (
+      s.addresses ∙ ap (λ (g : List Gets). given pt.addresses g) gives,
+      (λ i. id_of (pid_of (s.acting i) 0) (s.count i (s.acting i))) ∙ ap (λ (t : Bool). id_of (pid_of pt.view.acting 0) ((if t then at_machine pt.view.count x.id.from.home (pt.view.count x.id.from.home + 1) else pt.view.count) pt.view.acting)) other,
+      ap (λ (f : MsgId → Option Told). f y.id) s.told ∙ put_told_off pt.view m c x.id y.id (kind_of x.what) x.to.pid apart,
+    )
+
+-- what holds of an own message behind another one that is put
+pub own_on : (pt : Point) (l : Placed) (records : AllRecords) (m : ℕ) (r : Route) (y : Message) (home out : Bool) → Sane pt → Mirrors pt.kernel pt.view pt.addresses l → turning.is_own r ≡ 0 → MayPut pt l records r → MayOwn pt l records y
+    → MayOwn (put_end pt m (message_of r).to.at (message_of r) home out) (after_route l r) records y
+own_on pt l records m (First x) y home out sane mirrors none may own =
+    own_stays pt (put_end pt m x.to.at x home out) l records y (keeps_own pt l m x.to.at x y home out (first_not_own pt l records x sane mirrors may) (route_keeps pt l records m (First x) refl may mirrors) (apart_bag l x y may.0 own.bag)) own
+own_on pt l records m (On x) y home out sane mirrors none may own =
+    own_stays pt (put_end pt m x.to.at x home out) l records y (keeps_own pt l m x.to.at x y home out (on_not_own pt l records x may) (route_keeps pt l records m (On x) refl may mirrors) (apart_bag l x y may.0 own.bag)) own
+own_on pt l records m (Own x) y home out sane mirrors none may own = absurd (omega (arith, none))
+
+pub may_on : (pt : Point) (l : Placed) (records : AllRecords) (m : ℕ) (r s : Route) (home out : Bool) → Sane pt → Mirrors pt.kernel pt.view pt.addresses l → turning.is_own r + turning.is_own s ≤ 1 → MayPut pt l records r → MayPut pt l records s
+    → MayPut (put_end pt m (message_of r).to.at (message_of r) home out) (after_route l r) records s
+may_on pt l records m r (First y) home out sane mirrors few may h = ((route_more pt l records r may).bag y.id y h.0, h.1)
+may_on pt l records m r (On y) home out sane mirrors few may h =
+    let x : Message = message_of r in
+    let e = same_end pt m x.to.at x home out in
+    let told = ap (λ (f : MsgId → Option Told). f y.id) e.told ∙ told_stays pt.view m x.to.at x.id (kind_of x.what) x.to.pid y.id h.1.0 h.1.1 in
+    ((route_more pt l records r may).bag y.id y h.0, (h.1.0, told, h.1.2, h.1.3), h.2)
+may_on pt l records m r (Own y) home out sane mirrors few may h = own_on pt l records m r y home out sane mirrors (omega (arith, few)) may h
+
+pub all_may_on : (pt : Point) (l : Placed) (records : AllRecords) (m : ℕ) (r : Route) (rs : List Route) (home out : Bool) → Sane pt → Mirrors pt.kernel pt.view pt.addresses l → turning.is_own r + owns rs ≤ 1 → MayPut pt l records r → AllMayPut pt l records rs
+    → AllMayPut (put_end pt m (message_of r).to.at (message_of r) home out) (after_route l r) records rs
+all_may_on pt l records m r [] home out sane mirrors few may h = tt
+all_may_on pt l records m r (s ∷ rs) home out sane mirrors few may h =
+    (may_on pt l records m r s home out sane mirrors (omega (arith, few)) may h.0, all_may_on pt l records m r rs home out sane mirrors (omega (arith, few)) may h.1)
+
+pub late_may_on : (pt : Point) (l : Placed) (records : AllRecords) (m : ℕ) (r : Route) (late : Late) (home out : Bool) → Sane pt → Mirrors pt.kernel pt.view pt.addresses l → turning.is_own r + late_owns late ≤ 1 → MayPut pt l records r → LateMay pt l records late
+    → LateMay (put_end pt m (message_of r).to.at (message_of r) home out) (after_route l r) records late
+late_may_on pt l records m r Nothing home out sane mirrors few may h = tt
+late_may_on pt l records m r (Leaves p y) home out sane mirrors few may h = own_on pt l records m r y home out sane mirrors (omega (arith, few)) may h
+
+-- The parts of a group that route messages, one after the other: what stands somewhere stays there, and what is counted.
 
 -- a part first, and then the others
 pub record Next (q : Point) (p : rule.Part) (ps : List rule.Part) (v : Spelled) : Type 0 where
@@ -74,8 +211,7 @@ route_grows q end (Own x) ls is leads fits = grows_puts q end x.to.at (own_id q.
 
 -- a process leaves
 left_spots : (q : Point) (p : Pid) (i : MsgId) (z : Spot) → standing (moved q (Line.Migration Stage.Left p) q.kernel).view i z ≡ standing q.view i z
-left_spots q p i (Queue m r) = refl
-left_spots q p i _ = refl
+left_spots q p i z = grind (arith, nat_tests)
 
 left_grows : (q end : Point) (p : Pid) (ls : List Line) → rule.lines_of q (rule.Says (Line.Migration Stage.Left p)) ≡ Some ls → after q ls ≡ Some end → PairsFit q.view → Grows q end
 left_grows q end p ls is leads fits =
@@ -115,8 +251,7 @@ own_counted : (i : MsgId) (o : Option Told) (f : ℕ → ℕ) (m n : ℕ) → is
 own_counted i o f m n own home = ap (λ (t : Bool). (if t then at_machine f i.from.home (f i.from.home + 1) else f) n) own ∙ ap (λ (k : ℕ). at_machine f k (f k + 1) n) home
 
 untold_own : (i : MsgId) (o : Option Told) (v : View) → o ≡ None → i ≡ own_id v → is_own i o ≡ true
-untold_own i None v e is = ap (λ (j : MsgId). is_own j None) is
-untold_own i (Some t) v e is = cc
+untold_own i o v e is = grind (arith, nat_tests)
 
 set_here : (f : ℕ → ℕ) (m x n : ℕ) → (m == n) ≡ true → at_machine f m x n ≡ x
 set_here f m x n e = ap (λ (t : Bool). if t then x else f n) e

@@ -1,15 +1,97 @@
--- Behind the put of a message that is routed: what the kernel with places mirrors, and what the kernels' own messages carry.
-use Rattle.dm_mirror.proofs.Names.{◌≡◌, ℕ, ◌≤◌, Bool, true, false, [], refl, ap, ◌∙◌, sym, subst, inl, inr, arith, if◌then◌else◌, Option, None, Some, cases_Bool, false≢true, Pid, Message, MsgId, MessageKind, id_eq, kind_of, plain_kind, nat_tests}
-use Rattle.dm_mirror.proofs.Names.{plain_message, incoming_of, Boot, bind, id_eq-is, id_eq-same, first_gives, own_gives, is_between, Point, Spot, standing, Of, Told, View, after_put, first_told, is_kernels, own_id, put_at, put_spots}
+-- The world stands for a point but for what the kernel with places mirrors and the kernels' own messages carry; and so it does
+-- with more messages and other addresses.
+use Rattle.dm_mirror.proofs.Names.{◌≡◌, ℕ, ◌≤◌, Bool, true, false, [], refl, ap, ◌∙◌, sym, subst, inl, inr, arith, if◌then◌else◌, Option, None, Some, cases_Bool, false≢true, Pid, Message, MsgId, MessageKind, id_eq, kind_of, plain_kind}
+use Rattle.dm_mirror.proofs.Names.{nat_tests, plain_message, incoming_of, Boot, bind, id_eq-is, id_eq-same, first_gives, own_gives, is_between, Point, Spot, standing, Of, Told, View, after_put, first_told, is_kernels, put_at, put_spots}
 use Rattle.dm_mirror.proofs.Names.{PairsFit, put_told_off, Sane, plain_not, Placed, Mirrors, KeepsPlaces, lines_keep, routed_keeps, told_keeps, own_put_mirrors, WorldState, AllOwnStand, OwnStands, told_of, History, StandsWith, AllRecords}
-use Rattle.dm_mirror.proofs.Names.{Carries, TokenStands, TokensStand, destination_of, first_none}
-use Rattle.dm_kernel.specs.State as machine
+use Rattle.dm_mirror.proofs.Names.{Carries, TokenStands, TokensStand, destination_of, first_none, length, ◌⊎◌, at_machine, is_full, routes, Acted, Goes, Worn, spoken, Line, Load, Stage, OneKernel, Addresses, given, moved, at_id, About}
+use Rattle.dm_mirror.proofs.Names.{Sort, sort_of, own_given, ◌≢◌, zero, suc, ◌+◌, ◌<◌, ◌==◌, List, ◌∷◌, map, drop, slice_get, pid_of, Record, Process, Departure, Arrival, first_number, KernelState, room_of, NodeState, and, taken_at}
+use Rattle.dm_mirror.proofs.Names.{taken_by, taken_of_home, Known, Unknown, Here, Frozen, Incoming, Forward, Ended, AreMessages, ComesStand, HereStands, KernelStands, KnownStands, LeavesStand, NodeStands, PairStands, RoomStands, servers_at}
 use Rattle.dm_places.specs.PlacedStep.{with_message}
-use Rattle.dm_mirror.proofs.Turning.{Route, First, On, Own, MayOwn, MayPut, IsCarried, message_of}
-use Rattle.dm_mirror.proofs.Turning as turning
-use Rattle.dm_mirror.proofs.Route.Core.{CoreStands, MoreBag, same_bag}
-use Rattle.dm_mirror.proofs.Putting.{IsPlain, line_put, plain_of, put_point}
 pub use Rattle.dm_rulelaws.proofs.Based.Queues.{told_kept as told_stays}
+use Rattle.dm_kernel.specs.State as machine
+use Rattle.dm_rule.specs.Parts as rule
+use Rattle.dm_mirror.proofs.Turning.{Route, First, On, Own, MayOwn, MayPut, IsCarried, message_of, rule_part_of, Late, Nothing, Leaves, LateTopic, late_point}
+use Rattle.dm_mirror.proofs.Join.{IsPlain, line_put, plain_of, put_point, lines_put, put_end}
+use Rattle.dm_mirror.proofs.Turning as turning
+
+pub record CoreStands (b : Boot) (w : WorldState) (pt : Point) (l : Placed) (h : History) : Type 0 where
+  pub groups : w.groups ≡ pt.view.groups
+  pub nodes : (m : ℕ) → m < pt.kernel.machines → NodeStands b pt l m (w.nodes m)
+  pub pairs : (a c : ℕ) → a < pt.kernel.machines → c < pt.kernel.machines → a ≢ c → PairStands b pt l w h a c
+  pub counts : (a c : ℕ) → length (pt.view.pair a c).ids ≤ b.numbers
+
+pub core_of : (b : Boot) (w : WorldState) (pt : Point) (l : Placed) (h : History) → StandsWith b w pt l h → CoreStands b w pt l h
+core_of b w pt l h s = record { groups = s.groups; nodes = s.nodes; pairs = s.pairs; counts = s.counts }
+
+-- the messages stay, and there may be more
+pub record MoreBag (l u : Placed) : Type 0 where
+  pub bag : (i : MsgId) (x : Message) → l.bag i ≡ Some x → u.bag i ≡ Some x
+  pub processes : (p : Pid) → u.processes p ≡ l.processes p
+  pub board : u.board ≡ l.board
+  pub manager : u.manager ≡ l.manager
+
+messages_more : (f g : MsgId → Option Message) → ((i : MsgId) (x : Message) → f i ≡ Some x → g i ≡ Some x) → (ids : List MsgId) (xs : List Message) → AreMessages f ids xs → AreMessages g ids xs
+messages_more f g more [] [] e = refl
+messages_more f g more [] (x ∷ xs) e = cc
+messages_more f g more (i ∷ is) [] e = cc
+messages_more f g more (i ∷ is) (x ∷ xs) e =
+    let first : f i ≡ Some x = cc in
+    let rest : map f is ≡ map Some xs = cc in
+    λ k. more i x first k ∷ messages_more f g more is xs rest k
+
+module _ (b : Boot) (pt : Point) (l u : Placed) (a : Addresses) (e : MoreBag l u) where
+  abbrev next : Point
+  next = record pt { addresses = a }
+
+  home_same : (m home k : ℕ) → taken_of_home next m home k ≡ taken_of_home pt m home k
+  home_same m home zero = refl
+  home_same m home (suc k) = ap (λ r. and r (taken_by pt m (pid_of home (first_number + k)))) (home_same m home k)
+
+  taken_same : (m n : ℕ) → taken_at next m n ≡ taken_at pt m n
+  taken_same m zero = refl
+  taken_same m (suc n) = λ i. and (taken_same m n i) (home_same m n (pt.kernel.made n) i)
+
+  here_more : (p : Pid) (queue : List MsgId) (x : Process) → HereStands l p queue x → HereStands u p queue x
+  here_more p queue x h = ((h.0.0, e.processes p ∙ h.0.1), messages_more l.bag u.bag e.bag queue x.queue h.1)
+
+  leaves_more : (p : Pid) (queue held : List MsgId) (to : ℕ) (d : Departure) → LeavesStand l p queue held to d → LeavesStand u p queue held to d
+  leaves_more p queue held to d h = record { to = h.to; asker = h.asker; here = here_more p queue d.process h.here; held = messages_more l.bag u.bag e.bag held d.held h.held; whole = h.whole }
+
+  comes_more : (p : Pid) (held : List MsgId) (x : Arrival) → ComesStand l p held x → ComesStand u p held x
+  comes_more p held x h = record { process = h.process; there = e.processes p ∙ h.there; whole = h.whole; pieces = h.pieces; held = messages_more l.bag u.bag e.bag held x.held h.held }
+
+  known_more : (p : Pid) (queue held : List MsgId) (k : Known) (r : Option machine.KernelKnown) → KnownStands pt l p queue held k r → KnownStands next u p queue held k r
+  known_more p queue held Unknown None h = h
+  known_more p queue held Here (Some (Record.Here x)) h = here_more p queue x h
+  known_more p queue held (Frozen to) (Some (Record.Frozen d)) h = leaves_more p queue held to d h
+  known_more p queue held (Incoming from) (Some (Record.Incoming x)) h = comes_more p held x h
+  known_more p queue held (Forward to moves) (Some (Record.Forward at n)) h = h
+  known_more p queue held Ended (Some (Record.Ended y)) h = h
+  known_more p queue held k r h = h
+
+  servers_more : (m : ℕ) → servers_at u m ≡ servers_at l m
+  servers_more m = λ i. if m == 0 then Some (record { board = e.board i; manager = e.manager i }) else None
+
+  kernel_more : (m : ℕ) (k : KernelState) → KernelStands b pt l m k → KernelStands b next u m k
+  kernel_more m k h = search (
+    known_more,
+    h.known,
+    messages_more l.bag u.bag e.bag (pt.view.inbox m) k.inbox h.inbox,
+    subst (RoomStands k.room (room_of (slice_get b.machines m))) (sym (taken_same m pt.kernel.machines)) h.room,
+    h.servers ∙ sym (servers_more m),
+  )
+
+  node_more : (m : ℕ) (n : NodeState) → NodeStands b pt l m n → NodeStands b next u m n
+  node_more m n h = record { kernel = kernel_more m n.kernel h.kernel; lawful = h.lawful; machines = h.machines; numbers = h.numbers; home = h.home }
+
+  pair_more : (w : WorldState) (h : History) (c d : ℕ) → PairStands b pt l w h c d → PairStands b next u w h c d
+  pair_more w h c d s = search
+      (messages_more l.bag u.bag e.bag (drop (pt.view.pair c d).taken (pt.view.pair c d).ids) (drop (pt.view.pair c d).taken (h.given c d)) s.untaken)
+
+  pub core_more : (w : WorldState) (h : History) → CoreStands b w pt l h → CoreStands b w next u h
+  core_more w h s = search (node_more, s.nodes, pair_more, s.pairs)
+
+-- Behind the put of a message that is routed: what the kernel with places mirrors, and what the kernels' own messages carry.
 
 -- the kernel with places behind it
 abbrev pub after_route : Placed → Route → Placed
@@ -22,19 +104,15 @@ bag_here l x = ap (λ (c : Bool). if c then Some x else l.bag x.id) (id_eq-same 
 bag_off : (l : Placed) (x : Message) (i : MsgId) → id_eq x.id i ≡ false → (with_message l x.id (Some x)).bag i ≡ l.bag i
 bag_off l x i e = ap (λ (c : Bool). if c then Some x else l.bag i) e
 
-none_some : (o : Option Message) (y : Message) → o ≡ None → o ≡ Some y → false ≡ true
-none_some o y e f = cc
-
 bag_kept : (l : Placed) (x : Message) → l.bag x.id ≡ None → (i : MsgId) (y : Message) → l.bag i ≡ Some y → (with_message l x.id (Some x)).bag i ≡ Some y
-bag_kept l x none i y e = grind (arith, nat_tests, none_some, id_eq-is, bag_off)
+bag_kept l x none i y e = grind (arith, nat_tests, id_eq-is, bag_off)
 
 pub route_more : (pt : Point) (l : Placed) (records : AllRecords) (r : Route) → MayPut pt l records r → MoreBag l (after_route l r)
 route_more pt l records (Own x) may = record { bag = bag_kept l x may.bag; processes = λ p. refl; board = refl; manager = refl }
-route_more pt l records _ may = same_bag l
+route_more pt l records _ may = record { bag = λ i x e. e; processes = λ p. refl; board = refl; manager = refl }
 
 pub route_there : (pt : Point) (l : Placed) (records : AllRecords) (r : Route) → MayPut pt l records r → (after_route l r).bag (message_of r).id ≡ Some (message_of r)
-route_there pt l records (Own x) may = bag_here l x
-route_there pt l records _ may = may.0
+route_there pt l records r may = grind (arith, nat_tests, bag_here)
 
 -- a message that isn't the kernel's own gets no addresses
 pub route_keeps : (pt : Point) (l : Placed) (records : AllRecords) (m : ℕ) (r : Route) → turning.is_own r ≡ 0 → MayPut pt l records r → Mirrors pt.kernel pt.view pt.addresses l → KeepsPlaces pt (line_put m (message_of r).to.at (message_of r))
@@ -56,9 +134,6 @@ route_mirrors pt l records m (Own x) may h =
 pub own_told : (pt : Point) (l : Placed) (records : AllRecords) (m : ℕ) (x : Message) → MayOwn pt l records x → (after_put pt.view m x.to.at x.id (kind_of x.what) x.to.pid).told x.id ≡ Some (told_of x)
 own_told pt l records m x may = grind (arith, nat_tests, put_at, first_none)
 
-own_mine : (pt : Point) (x : Message) → x.id ≡ own_id pt.view → is_kernels x.id ≡ true
-own_mine pt x e = ap is_kernels e
-
 own_kept : (v u : View) (i : MsgId) (y : Message) → ((t : Told) → v.told i ≡ Some t → u.told i ≡ Some t) → OwnStands v i y → OwnStands u i y
 own_kept v u i y told k = record { told = told (told_of y) k.told; mine = k.mine; sender = k.sender }
 
@@ -74,7 +149,7 @@ route_own pt l records m (Own x) may h i y there plain = elim (cases_Bool (id_eq
       let f : Some x ≡ Some y = sym (bag_here l x) ∙ ap (with_message l x.id (Some x)).bag is ∙ there in
       let g : x ≡ y = cc in
       subst (λ (j : MsgId). OwnStands (after_put pt.view m x.to.at x.id (kind_of x.what) x.to.pid) j y) is
-      (subst (λ (z : Message). OwnStands (after_put pt.view m x.to.at x.id (kind_of x.what) x.to.pid) x.id z) g (record { told = own_told pt l records m x may; mine = own_mine pt x may.id; sender = may.asker }))
+      (subst (λ (z : Message). OwnStands (after_put pt.view m x.to.at x.id (kind_of x.what) x.to.pid) x.id z) g (record { told = own_told pt l records m x may; mine = ap is_kernels may.id; sender = may.asker }))
   | inr apart ↦
       own_kept pt.view (after_put pt.view m x.to.at x.id (kind_of x.what) x.to.pid) i y (λ t. told_stays pt.view m x.to.at x.id (kind_of x.what) x.to.pid i t) (h i y (sym (bag_off l x i apart) ∙ there) plain)
 ]
@@ -90,11 +165,7 @@ token_kept v u l k r s p i t more asked records h =
     )
 
 first_kind : (o : Option Told) (u t : Told) → Some (first_told o u) ≡ Some t → is_between u.kind ≡ false → ((s : Told) → o ≡ Some s → is_between s.kind ≡ false) → is_between t.kind ≡ false
-first_kind None u t e new old = let f : u ≡ t = cc in subst (λ (z : Told). is_between z.kind ≡ false) f new
-first_kind (Some s) u t e new old = let f : s ≡ t = cc in subst (λ (z : Told). is_between z.kind ≡ false) f (old s refl)
-
-some_same : (s t : Told) (o : Option Told) → o ≡ Some s → o ≡ Some t → s ≡ t
-some_same s t o e f = cc
+first_kind o u t e new old = grind (arith, nat_tests)
 
 module _ (pt : Point) (l : Placed) (r s : AllRecords) (m : ℕ) (route : Route) (may : MayPut pt l r route) (records : (d : ℕ) → s d ≡ r d) where
   abbrev x : Message
@@ -130,11 +201,11 @@ route_tokens pt l r s m (First x) may records sane fits mirrors h =
     (λ u was. ap is_between (sane.tells.kind x.id p.m u p.there was) ∙ plain_not p.m.what)) ∙ between)))
 route_tokens pt l r s m (On x) may records sane fits mirrors h =
     tokens_by pt l r s m (On x) may records fits h (λ q t told between about.
-    let is : may.1.0 ≡ t = some_same may.1.0 t ((after_put pt.view m x.to.at x.id (kind_of x.what) x.to.pid).told x.id) (told_stays pt.view m x.to.at x.id (kind_of x.what) x.to.pid x.id may.1.0 may.1.1) told in
+    let is : may.1.0 ≡ t = cc (told_stays pt.view m x.to.at x.id (kind_of x.what) x.to.pid x.id may.1.0 may.1.1) in
     absurd (false≢true (sym may.2 ∙ ap is_between (sym may.1.2) ∙ ap (λ (z : Told). is_between z.kind) is ∙ between)))
 route_tokens pt l r s m (Own x) may records sane fits mirrors h =
     tokens_by pt l r s m (Own x) may records fits h (λ p t told between about.
-    let is : told_of x ≡ t = some_same (told_of x) t ((after_put pt.view m x.to.at x.id (kind_of x.what) x.to.pid).told x.id) (own_told pt l r m x may) told in
+    let is : told_of x ≡ t = cc (own_told pt l r m x may) in
     let c : IsCarried l (pt.view.asked p) r p x = may.carried (ap (λ (z : Told). is_between z.kind) is ∙ between) p (ap (λ (z : Told). z.about) is ∙ about) in
     subst (λ (z : Told). TokenStands (after_put pt.view m x.to.at x.id (kind_of x.what) x.to.pid) (with_message l x.id (Some x)) s p x.id z) is
     (search (
@@ -150,3 +221,85 @@ stands_routed b pt l r m route w h may records sane fits mirrors own tokens core
   route_own pt l r m route may own,
   route_tokens pt l r (λ d. (w.nodes d).kernel.records) m route may records sane fits mirrors tokens,
 )
+
+-- What a message that is routed comes to: the machine and the rule do the same, or both stop where the pair is full.
+
+-- the world after machine m has acted, but for the count of directives
+abbrev pub with_acted : WorldState → ℕ → Acted → WorldState
+with_acted w m d = record { nodes = at_machine w.nodes m d.state; wires = (spoken w.wires d.outs).wires; groups = w.groups }
+
+-- it goes
+pub record RouteOn (b : Boot) (w : WorldState) (pt : Point) (l : Placed) (m : ℕ) (r : Route) : Type 0 where
+  pub acted : Acted
+  pub goes : routes (w.nodes m) (message_of r) ≡ Goes acted
+  -- it is to this machine, or goes out at once
+  pub home : Bool
+  pub out : Bool
+  pub part : rule.lines_of pt (rule_part_of r) ≡ Some (lines_put pt m (message_of r).to.at (message_of r) home out)
+  pub spoken : (spoken w.wires acted.outs).lines ≡ lines_put pt m (message_of r).to.at (message_of r) home out
+  pub room : is_full b.numbers pt.view m (message_of r).to.at ≡ false
+  pub history : History
+  pub stands : StandsWith b (with_acted w m acted) (put_end pt m (message_of r).to.at (message_of r) home out) (after_route l r) history
+  pub records : acted.state.kernel.records ≡ (w.nodes m).kernel.records
+  pub sent : acted.state.kernel.sent ≡ (w.nodes m).kernel.sent
+
+-- the pair is full
+pub record RouteWorn (b : Boot) (w : WorldState) (pt : Point) (m : ℕ) (r : Route) : Type 0 where
+  pub from : ℕ
+  pub to : ℕ
+  pub worn : routes (w.nodes m) (message_of r) ≡ Worn from to
+  pub home : Bool
+  pub out : Bool
+  pub part : rule.lines_of pt (rule_part_of r) ≡ Some (lines_put pt m (message_of r).to.at (message_of r) home out)
+  pub from_is : from ≡ m
+  pub to_is : to ≡ (message_of r).to.at
+  pub full : b.numbers ≤ length (pt.view.pair m (message_of r).to.at).ids
+
+abbrev pub RouteGoes : Boot → WorldState → Point → Placed → ℕ → Route → Type 0
+RouteGoes b w pt l m r = RouteOn b w pt l m r ⊎ RouteWorn b w pt m r
+
+-- The line of a process that leaves, said before the messages that go on are routed: their lines are the same, and lead to the
+-- same.
+
+-- the parts have the same lines
+pub late_part : (q : Point) (late : Late) (r : Route) → rule.lines_of (late_point q late) (rule_part_of r) ≡ rule.lines_of q (rule_part_of r)
+late_part q late r = grind (arith, nat_tests)
+
+pub late_lines : (q : Point) (late : Late) (m c : ℕ) (x : Message) (home out : Bool) → lines_put (late_point q late) m c x home out ≡ lines_put q m c x home out
+late_lines q late m c x home out = grind (arith, nat_tests)
+
+pub late_pair : (q : Point) (late : Late) → (late_point q late).view.pair ≡ q.view.pair
+late_pair q late = grind (arith, nat_tests)
+
+-- what is given to a kernel's own message is by the machine that acts
+own_given_same : (s : OneKernel) (v u : View) (a : Addresses) (id : MsgId) (q : Pid) (w : Sort) → u.acting ≡ v.acting → own_given s u a id q w ≡ own_given s v a id q w
+own_given_same s v u a id q w e = grind (arith, nat_tests)
+
+pub own_gives_same : (s : OneKernel) (v u : View) (a : Addresses) (id : MsgId) (q : Pid) (k : MessageKind) → u.acting ≡ v.acting → own_gives s u a id q k ≡ own_gives s v a id q k
+own_gives_same s v u a id q k e = own_given_same s v u a id q (sort_of k) e
+
+-- a put, where the message is told to be about this
+abbrev put_about : Point → ℕ → ℕ → Message → About → Addresses → Point
+put_about q m c x a places = record {
+  kernel = q.kernel;
+  view = record (after_put q.view m c x.id (kind_of x.what) x.to.pid) { told = at_id q.view.told x.id (Some (first_told (q.view.told x.id) (record { kind = kind_of x.what; receiver = x.to.pid; about = a }))) };
+  addresses = places;
+}
+
+left_gives : (q : Point) (p : Pid) (x : Message) → own_gives q.kernel (moved q (Line.Migration Stage.Left p) q.kernel).view q.addresses x.id x.to.pid (kind_of x.what) ≡ own_gives q.kernel q.view q.addresses x.id x.to.pid (kind_of x.what)
+left_gives q p x = own_gives_same q.kernel q.view (moved q (Line.Migration Stage.Left p) q.kernel).view q.addresses x.id x.to.pid (kind_of x.what) refl
+
+left_put : (q : Point) (p : Pid) (m c : ℕ) (x : Message) → q.view.topic ≡ Of p → put_point (moved q (Line.Migration Stage.Left p) q.kernel) m c x ≡ moved (put_point q m c x) (Line.Migration Stage.Left p) q.kernel
+left_put q p m c x e = λ i. moved (put_about q m c x (sym e i) (given q.addresses (first_gives (q.view.told x.id) (left_gives q p x i)))) (Line.Migration Stage.Left p) q.kernel
+
+pub late_end : (q : Point) (late : Late) (m c : ℕ) (x : Message) (home out : Bool) → LateTopic q late → put_end (late_point q late) m c x home out ≡ late_point (put_end q m c x home out) late
+late_end q Nothing m c x home out e = refl
+late_end q (Leaves p y) m c x true out e = left_put q p m c x e
+late_end q (Leaves p y) m c x false false e = left_put q p m c x e
+late_end q (Leaves p y) m c x false true e = λ i. moved (left_put q p m c x e i) (Line.Packet m c (length (q.view.pair m c).wire) (Load.Data (length (q.view.pair m c).ids))) q.kernel
+
+pub late_topic : (q : Point) (late : Late) (m c : ℕ) (x : Message) (home out : Bool) → LateTopic q late → LateTopic (put_end q m c x home out) late
+late_topic q Nothing m c x home out e = tt
+late_topic q (Leaves p y) m c x true out e = e
+late_topic q (Leaves p y) m c x false false e = e
+late_topic q (Leaves p y) m c x false true e = e

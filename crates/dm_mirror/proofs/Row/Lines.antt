@@ -1,29 +1,26 @@
 -- Behind the lines of a still row as many pieces were asked for as before, and a kernel's own message that stands somewhere stood there before.
-use Rattle.dm_mirror.proofs.Names.{◌≡◌, ℕ, ◌≤◌, ◌==◌, ◌&&◌, Bool, true, false, List, [], ◌∷◌, ◌++◌, map, refl, ap, ◌∙◌, sym, subst, inl, inr, arith, if◌then◌else◌, Option, None, Some, cases_Bool, false≢true, Pid, pid_eq, MsgId, id_eq, nat_tests}
-use Rattle.dm_mirror.proofs.Names.{MessageKind, Label, OneKernel, bind, id_eq-is, pid_eq-is, bind-is, Line, Part, Says, Point, after, after_line, kernel_after, label_of, moved, at_machine, at_record, without_front, without_id, Spot, Queue}
-use Rattle.dm_mirror.proofs.Names.{Inbox, times, standing, View, Told, after_label, view_after, handled, queued_for, dropped_for, receiver_of, is_kernels, eq_is, queued_spots, Needs, Walks}
-use Rattle.dm_rule.specs.View as view
+use Rattle.dm_mirror.proofs.Names.{◌≡◌, ℕ, ◌≤◌, ◌&&◌, Bool, true, false, List, [], ◌∷◌, ◌++◌, map, refl, ap, ◌∙◌, subst, arith, if◌then◌else◌, Option, None, Some, false≢true, Pid, MsgId, id_eq, nat_tests, MessageKind, Label, OneKernel}
+use Rattle.dm_mirror.proofs.Names.{bind, id_eq-is, pid_eq-is, bind-is, Line, Part, Says, Point, after, after_line, kernel_after, label_of, moved, without_front, without_id, Spot, Queue, Inbox, times, standing, View, Told, after_label}
+use Rattle.dm_mirror.proofs.Names.{view_after, handled, queued_for, dropped_for, receiver_of, is_kernels, eq_is, queued_spots, Needs, Walks, not, ⊤, Message, PlainMessage, Step, Boot, letter_of, Phased, told_some, Begins, WalksOf, resting}
+use Rattle.dm_mirror.proofs.Names.{round_walks, handles_walks, by_hears}
 use Rattle.dm_rule.proofs.Lines.{parts}
-use Rattle.dm_mirror.proofs.Turning.{is_still, are_still}
+use Rattle.dm_rulelaws.specs.KnownStands.{KnownStands}
+use Rattle.dm_rulelaws.proofs.Based.Groups.{begins}
+use Rattle.dm_rulelaws.proofs.Based.Rows.{turned}
+use Rattle.dm_rule.specs.View as view
+use Rattle.dm_rule.specs.Rule as rule
+use Rattle.dm_mirror.proofs.Turning.{is_still, are_still, rule_routed}
 
 -- a list without a message has no message more often
 fewer_if : (j : MsgId) (x : MsgId) (xs ys : List MsgId) (c : Bool) → times j ys ≤ times j xs → times j (if c then xs else x ∷ ys) ≤ times j (x ∷ xs)
-fewer_if j x xs ys true h = omega arith
-fewer_if j x xs ys false h = omega (arith, h)
+fewer_if j x xs ys c h = grind (arith, nat_tests)
 
 front_fewer : (i j : MsgId) (xs : List MsgId) → times j (without_front i xs) ≤ times j xs
-front_fewer i j [] = omega arith
-front_fewer i j (x ∷ xs) = fewer_if j x xs xs (id_eq i x) (omega arith)
+front_fewer i j xs = grind (arith, nat_tests, fewer_if)
 
 id_fewer : (i j : MsgId) (xs : List MsgId) → times j (without_id i xs) ≤ times j xs
 id_fewer i j [] = omega arith
 id_fewer i j (x ∷ xs) = fewer_if j x xs (without_id i xs) (id_eq i x) (id_fewer i j xs)
-
-machine_fewer : (f : ℕ → List MsgId) (m : ℕ) (x : List MsgId) (j : MsgId) → times j x ≤ times j (f m) → (n : ℕ) → times j (at_machine f m x n) ≤ times j (f n)
-machine_fewer f m x j h n = grind (arith, nat_tests, eq_is)
-
-record_fewer : (f : ℕ → Pid → List MsgId) (m : ℕ) (p : Pid) (x : List MsgId) (j : MsgId) → times j x ≤ times j (f m p) → (n : ℕ) (q : Pid) → times j (at_record f m p x n q) ≤ times j (f n q)
-record_fewer f m p x j h n q = grind (arith, nat_tests, parts, pid_eq-is, eq_is)
 
 -- no message stands more often
 abbrev Fewer : View → View → Type 0
@@ -33,12 +30,12 @@ fewer_on : (u v w : View) → Fewer u v → Fewer v w → Fewer u w
 fewer_on u v w g h j z = let a = g j z in let b = h j z in omega (arith, a, b)
 
 handled_fewer : (v : View) (i : MsgId) → Fewer v (handled v i)
-handled_fewer v i j (Inbox m) = machine_fewer v.inbox v.acting (without_front i (v.inbox v.acting)) j (front_fewer i j (v.inbox v.acting)) m
+handled_fewer v i j (Inbox m) = grind (arith, nat_tests, eq_is, front_fewer i j (v.inbox v.acting))
 handled_fewer v i j _ = omega arith
 
 dropped_fewer : (v : View) (i : MsgId) (o : Option Pid) → Fewer v (dropped_for v i o)
 dropped_fewer v i None j z = omega arith
-dropped_fewer v i (Some p) j (Queue m q) = record_fewer v.queue v.acting p (without_front i (v.queue v.acting p)) j (front_fewer i j (v.queue v.acting p)) m q
+dropped_fewer v i (Some p) j (Queue m q) = grind (arith, nat_tests, parts, pid_eq-is, eq_is, front_fewer i j (v.queue v.acting p))
 dropped_fewer v i (Some p) j _ = omega arith
 
 serving_fewer : (v : View) (p : Pid) → Fewer v (view.serving v p)
@@ -46,7 +43,7 @@ serving_fewer v p j (Queue m q) = omega arith
 serving_fewer v p j _ = omega arith
 
 received_fewer : (v : View) (p : Pid) (i : MsgId) → Fewer v (after_label v (Label.Receive p i))
-received_fewer v p i j (Queue m q) = record_fewer v.queue v.acting p (without_id i (v.queue v.acting p)) j (id_fewer i j (v.queue v.acting p)) m q
+received_fewer v p i j (Queue m q) = grind (arith, nat_tests, parts, pid_eq-is, eq_is, id_fewer i j (v.queue v.acting p))
 received_fewer v p i j _ = omega arith
 
 ended_fewer : (v : View) (p : Pid) → Fewer v (view.ended v p)
@@ -83,21 +80,16 @@ label_fewer v _ = same_fewer v
 
 -- the pieces that were asked for
 kills_asked : (v : View) (k : MessageKind) (o : Option Pid) → (view.kills k v o).asked ≡ v.asked
-kills_asked v MessageKind.Kill (Some p) = refl
-kills_asked v k o = refl
+kills_asked v k o = grind (arith, nat_tests)
 
 told_asked : (v : View) (o : Option Told) → (view.served_told v o).asked ≡ v.asked
-told_asked v None = refl
-told_asked v (Some t) = kills_asked v t.kind (Some t.receiver)
+told_asked v o = grind (arith, nat_tests, kills_asked)
 
 dropped_asked : (v : View) (id : MsgId) (o : Option Pid) → (dropped_for v id o).asked ≡ v.asked
-dropped_asked v id None = refl
-dropped_asked v id (Some p) = refl
+dropped_asked v id o = grind (arith, nat_tests)
 
 label_asked : (v : View) (e : Label) → (after_label v e).asked ≡ v.asked
-label_asked v (Label.Dropped id) = dropped_asked (handled v id) id (receiver_of (v.told id))
-label_asked v (Label.Served id) = told_asked (handled v id) (v.told id)
-label_asked v _ = refl
+label_asked v e = grind (arith, nat_tests, dropped_asked, told_asked)
 
 pub record StillKeeps (v w : View) : Type 0 where
   pub asked : w.asked ≡ v.asked
@@ -109,15 +101,11 @@ fewer_keeps v w asked fewer = record { asked = asked; stood = λ i z mine least.
 still_on : (u v w : View) → StillKeeps u v → StillKeeps v w → StillKeeps u w
 still_on u v w g h = record { asked = h.asked ∙ g.asked; stood = λ i z mine least. g.stood i z mine (h.stood i z mine least) }
 
--- what is queued is no kernel's own
-apart_own : (id i : MsgId) → is_kernels id ≡ false → is_kernels i ≡ true → id_eq id i ≡ false
-apart_own id i off on = grind (arith, nat_tests, id_eq-is)
-
 queued_keeps : (pt : Point) (id : MsgId) (o : Option Told) → pt.view.told id ≡ o → Needs pt (Line.Queued id) → StillKeeps (handled pt.view id) (queued_for (handled pt.view id) id (receiver_of o))
 queued_keeps pt id None e need = fewer_keeps (handled pt.view id) (handled pt.view id) refl (same_fewer (handled pt.view id))
 queued_keeps pt id (Some t) e need = record {
   asked = refl;
-  stood = λ i z mine least. subst (λ (n : ℕ). 1 ≤ n) (queued_spots (handled pt.view id) id i (Some t.receiver) (apart_own id i (need t e).other mine) z) least;
+  stood = λ i z mine least. subst (λ (n : ℕ). 1 ≤ n) (queued_spots (handled pt.view id) id i (Some t.receiver) (grind (arith, nat_tests, id_eq-is, (need t e).other)) z) least;
 }
 
 line_keeps : (pt : Point) (l : Line) → is_still l ≡ true → Needs pt l → StillKeeps pt.view (view_after pt.view l)
@@ -139,3 +127,78 @@ still_keeps rest (l ∷ ls) pt next still walks leads =
     let one : StillKeeps pt.view mid.view = subst (λ (q : Point). StillKeeps pt.view q.view) is (line_keeps pt l two.0 walks.0) in
     let leads_one : after pt (l ∷ []) ≡ Some mid = ap (λ (o : Option Point). bind o (λ (q : Point). after q [])) first in
     still_on pt.view mid.view next.view one (still_keeps rest ls mid next two.1 (walks.1 mid (record { lines = l ∷ []; are = refl; leads = leads_one })) last)
+
+-- What a machine does with a kernel's own message says no label first, and so a row that says only labels, queued messages or
+-- that the machine idles is about a message of the bag, or about none: each of its lines has what it needs.
+
+-- the first part says another line than those of a still row
+abbrev pub is_loud : Part → Bool
+is_loud (Says l) = not (is_still l)
+is_loud _ = false
+
+abbrev pub Loud : List Part → Type 0
+Loud [] = ⊥
+Loud (p ∷ ps) = is_loud p ≡ true
+
+abbrev pub LoudOf : Option (List Part) → Type 0
+LoudOf None = ⊤
+LoudOf (Some ps) = Loud ps
+
+loud_of : (o : Option (List Part)) → ((ps : List Part) → o ≡ Some ps → Loud ps) → LoudOf o
+loud_of None h = tt
+loud_of (Some ps) h = h ps refl
+
+pub hears_loud : (b : Boot) (pt : Point) (m : ℕ) (id : MsgId) (o : Option Told) → LoudOf (rule.hears b pt m id o)
+hears_loud b pt m id o = loud_of (rule.hears b pt m id o) (λ ps. by_hears Loud b pt m id o ps (λ t is. record {
+  told = λ p x about alive. record {
+    accepted = λ ask. refl;
+    lacks = λ slots blocks. refl;
+    stays = λ kind. refl;
+    state = refl;
+    next_chunk = refl;
+    last_chunk = refl;
+    memory = refl;
+    next_block = refl;
+    last_block = refl;
+    left = λ ids to frozen. refl;
+    restarted = λ kind. refl;
+  };
+  updated = λ kind. refl;
+  updated_none = λ kind at_. refl;
+  no_move = λ at_. refl;
+  leaving = λ to at_. refl;
+  coming = λ from at_. refl;
+  forwarded = λ to moves at_. refl;
+  stays_here = λ at_. refl;
+  frozen = λ to at_. refl;
+}))
+
+-- a row that says only still lines, and may route a message
+abbrev pub still_parts : List Line → Option Message → List Part
+still_parts says route = map Part.Says says ++ rule_routed route
+
+still_first : (c d : Bool) → (c && d) ≡ true → not c ≡ true → ⊥
+still_first c d e f = grind (arith, nat_tests)
+
+still_not_loud : (says : List Line) (route : Option Message) → are_still says ≡ true → Loud (still_parts says route) → ⊥
+still_not_loud [] None e h = h
+still_not_loud [] (Some x) e h = false≢true h
+still_not_loud (l ∷ ls) route e h = still_first (is_still l) (are_still ls) e h
+
+-- each line of it has what it needs
+comes_walk : (b : Boot) (pt : Point) (m : ℕ) (i : MsgId) (o : Option PlainMessage) (says : List Line) (route : Option Message) → Begins pt m → pt.kernel.bag i ≡ o → are_still says ≡ true → rule.comes_to b pt m i o ≡ Some (still_parts says route)
+    → Walks (turned pt m) (still_parts says route)
+comes_walk b pt m i None says route h there still e = absurd (still_not_loud says route still (subst LoudOf e (hears_loud b pt m i (pt.view.told i))))
+comes_walk b pt m i (Some msg) says route h there still e =
+    let s = h.state in
+    let (t, told) = told_some (pt.view.told i) msg.to (s.stands.told i msg.to (letter_of s.r s.e s.own pt.kernel i msg there s.sound)) in
+    subst (WalksOf (turned pt m)) e (handles_walks b pt m i msg h.sane h.phases h.rooted (record { there = there; told = t; is = told }))
+
+turn_walk : (b : Boot) (pt : Point) (m : ℕ) (inbox : List MsgId) (says : List Line) (route : Option Message) → Begins pt m → are_still says ≡ true → rule.turns b pt m inbox ≡ Some (still_parts says route) → Walks (turned pt m) (still_parts says route)
+turn_walk b pt m [] says route h still e =
+    subst (WalksOf (turned pt m)) e
+    (round_walks (turned pt m) b pt m (rule.first_runnable pt.kernel (pt.view.queue m) (pt.view.ring m)) (λ p is. resting (turned pt m).view p h.phases (h.rooted.served m p is)))
+turn_walk b pt m (i ∷ is) says route h still e = comes_walk b pt m i (pt.kernel.bag i) says route h refl still e
+
+pub row_walks : (b : Boot) (pt : Point) (m : ℕ) (says : List Line) (route : Option Message) → Phased pt → KnownStands pt.kernel pt.view → are_still says ≡ true → rule.outcome b pt (Step.Turn m) ≡ Some (still_parts says route) → Walks (turned pt m) (still_parts says route)
+row_walks b pt m says route phased known still e = turn_walk b pt m (pt.view.inbox m) says route (begins pt m phased known) still e

@@ -1,24 +1,20 @@
 -- What the one message of a migration under way carries stays, where a row is no migration's.
 use Rattle.dm_mirror.proofs.Names.{◌≡◌, ℕ, ◌≤◌, ◌==◌, ◌&&◌, Bool, true, false, not, refl, ap, ◌∙◌, sym, subst, if◌then◌else◌, Option, None, Some, false≢true, Pid, pid_of, Message, MsgId, What, MessageKind, kind_of, plain_message}
 use Rattle.dm_mirror.proofs.Names.{plain_what, with_what, Process, incoming_of, Arrival, Phase, Moves, kind_comes, is_apart, is_away, is_between, is_early, is_of_source, is_restart, knows, kind_leaves, receiver_in, sender_in, told_between}
-use Rattle.dm_mirror.proofs.Names.{Point, Spot, standing, View, Known, Unknown, Here, Frozen, Incoming, Forward, Of, Told, is_kernels, InPhases, token_is, token_at, Placed, AllOwnStand, told_of, AllRecords, Carries, TokenStands}
-use Rattle.dm_mirror.proofs.Names.{TokensStand, destination_of, left_true, right_true}
+use Rattle.dm_mirror.proofs.Names.{Point, Spot, standing, View, Known, Of, Told, is_kernels, InPhases, token_is, token_at, Placed, AllOwnStand, told_of, AllRecords, Carries, TokenStands, TokensStand, destination_of, left_true, right_true}
+use Rattle.dm_mirror.proofs.Names.{List, [], ◌∷◌, ◌++◌, map, inl, inr, arith, eqb_tells, Boot, at_machine, Run, KernelState, nat_tests}
+use Rattle.dm_kernel.specs.declared.part.Part.{Part}
 use Rattle.dm_kernel.specs.State as machine
-use Rattle.dm_mirror.proofs.Turning.{has_process, is_moving}
-use Rattle.dm_mirror.proofs.Kernel.Sets.{eq_self, not_is, off_if, on_if}
-use Rattle.dm_mirror.proofs.Row.Lines.{StillKeeps}
+use Rattle.dm_rule.specs.Parts as rule
+use Rattle.dm_mirror.proofs.Turning.{has_process, is_moving, AllMayPut, First, IsSent, Nothing, Route, Row, TurnsAt, begun, owns, part_of, routed, rule_part_of, rule_routed}
+use Rattle.dm_mirror.proofs.Kernel.Sets.{eq_self, not_is, off_if, on_if, eq_apart}
+use Rattle.dm_mirror.proofs.Row.Lines.{StillKeeps, still_keeps, row_walks}
+use Rattle.dm_mirror.proofs.Serve.Stops.{nothing_more}
+use Rattle.dm_mirror.proofs.Serve.Receives.{Ready, serve_row}
 
 -- what a message of a migration carries has no plain meaning
 pub carries_plain : (p : Pid) (x : Process) (n : ℕ) (a : Option Arrival) (w : What) → Carries p x n a w → plain_what w ≡ None
-carries_plain p x n a (What.Ask pid blocks moves size asker) h = refl
-carries_plain p x n a (What.Refuse pid slots blocks) h = refl
-carries_plain p x n a (What.PullState pid chunk) h = refl
-carries_plain p x n a (What.State pid chunk last bytes) h = refl
-carries_plain p x n a (What.PullBlock pid block) h = refl
-carries_plain p x n a (What.Memory pid block bytes) h = refl
-carries_plain p x n a (What.AllTaken pid) h = refl
-carries_plain p x n a (What.Restart pid) h = refl
-carries_plain p x n a w h = absurd h
+carries_plain p x n a w h = grind (arith, nat_tests)
 
 -- what it carries depends on what comes only once that was accepted
 carries_on : (p : Pid) (x : Process) (n : ℕ) (a c : Option Arrival) (w : What) → (is_early (kind_of w) ≡ false → a ≡ c) → Carries p x n a w → Carries p x n c w
@@ -34,19 +30,13 @@ carries_on p x n a c w same h = absurd h
 
 -- what the two machines know
 early_leaves : (k : MessageKind) → is_early k ≡ true → is_restart k ≡ false
-early_leaves MessageKind.Restart e = absurd (false≢true e)
-early_leaves k e = refl
+early_leaves k e = grind (arith, nat_tests)
 
 source_moving : (k : MessageKind) (d : ℕ) (x : Known) → is_early k ≡ true → kind_leaves k d x ≡ true → is_moving x ≡ true
-source_moving k d (Frozen to) early h = refl
-source_moving k d (Forward at moves) early h = absurd (false≢true (sym (early_leaves k early) ∙ left_true (is_restart k) (d == at) h))
-source_moving k d _ early h = absurd (false≢true h)
+source_moving k d x early h = grind (arith, nat_tests, early_leaves, left_true)
 
 destination_moving : (k : MessageKind) (s : ℕ) (x : Known) → is_early k ≡ false → kind_comes k s x ≡ true → is_moving x ≡ true
-destination_moving k s Unknown late h = absurd (false≢true (sym late ∙ h))
-destination_moving k s (Incoming from) late h = refl
-destination_moving k s (Forward at moves) late h = absurd (false≢true (sym late ∙ h))
-destination_moving k s _ late h = absurd (false≢true h)
+destination_moving k s x late h = grind (arith, nat_tests)
 
 at_source : (k : MessageKind) (s d : ℕ) (i : MsgId) (x : Known) → knows (Moves k s d (Some i)) s x ≡ true → kind_leaves k d x ≡ true
 at_source k s d i x h = sym (on_if (s == s) (kind_leaves k d x) (if d == s then kind_comes k s x else is_away x) (eq_self s)) ∙ h
@@ -56,8 +46,7 @@ at_destination k s d i x apart h = sym (off_if (s == d) (kind_leaves k d x) (if 
 
 -- the machine that it comes to
 destination_if : (c : Bool) (s d : ℕ) → (if c then (if c then d else s) else (if c then s else d)) ≡ d
-destination_if true s d = refl
-destination_if false s d = refl
+destination_if c s d = grind (arith, nat_tests)
 
 destination_is : (i : MsgId) (p : Pid) (k : MessageKind) (s d : ℕ) → i.from ≡ pid_of (sender_in k s d) 0 → destination_of i (told_between p k s d) ≡ d
 destination_is i p k s d from = ap (λ (q : Pid). if is_of_source k then (receiver_in k s d) else q.home) from ∙ destination_if (is_of_source k) s d
@@ -95,10 +84,7 @@ moving_of v p i t z h told b about st =
     moving_by v p i t k s d is token.from (not_is (s == d) (right_true (is_between k) (not (s == d)) apart)) (λ m. ap (λ (x : Phase). knows x m (v.known m p)) (sym now) ∙ (h.each p).known m) (is_early k) refl
 
 pub has_moving : (k : Known) → is_moving k ≡ true → has_process k ≡ true
-has_moving Here h = refl
-has_moving (Frozen to) h = refl
-has_moving (Incoming from) h = refl
-has_moving _ h = absurd (false≢true h)
+has_moving k h = grind (arith, nat_tests)
 
 -- what a row leaves of what moves
 pub record LeavesMoving (pt : Point) (l : Placed) (records : AllRecords) (next : Point) (placed : Placed) (after : AllRecords) : Type 0 where
@@ -135,3 +121,71 @@ tokens_keep pt l records next placed after phases mine g own h p i t z told b ab
     let before : pt.view.told i ≡ Some t = ap (λ (f : MsgId → Option Told). f i) (sym g.told) ∙ told in
     let stood = g.lines.stood i z (mine i t before b) st in
     token_keeps pt l records next placed after p i t g own (moving_of pt.view p i t z phases before b about stood) before (h p i t z before b about stood)
+
+-- A row that is no migration's is a turn: it leaves what moves, and the kernels' own messages, as they are.
+
+-- the message that the row routes, as a route
+abbrev pub first_route : Option Message → List Route
+first_route None = []
+first_route (Some x) = First x ∷ []
+
+routes_parts : (o : Option Message) → routed o ≡ map part_of (first_route o)
+routes_parts o = grind (arith, nat_tests)
+
+routes_rule_parts : (o : Option Message) → rule_routed o ≡ map rule_part_of (first_route o)
+routes_rule_parts o = grind (arith, nat_tests)
+
+routes_owns : (o : Option Message) → owns (first_route o) ≡ 0
+routes_owns o = grind (arith, nat_tests)
+
+routes_may : (pt : Point) (placed : Placed) (records : AllRecords) (o : Option Message) → IsSent placed o → AllMayPut pt placed records (first_route o)
+routes_may pt placed records None h = tt
+routes_may pt placed records (Some x) h = (h, tt)
+
+-- what it leaves of what moves, on its machine and elsewhere
+row_leaves : (b : Boot) (m : ℕ) (pt : Point) (l : Placed) (records : AllRecords) (k : KernelState) → Run b pt → records m ≡ k.records → (r : Row b m pt l k) → LeavesMoving pt l records r.next r.placed (at_machine records m r.state.records)
+row_leaves b m pt l records k run same r = record {
+  process = λ n p is. elim (eqb_tells n m) [
+    | inl e ↦ (r.moving p (subst (λ (q : ℕ). is_moving (pt.view.known q p) ≡ true) e.1 is)).0
+    | inr e ↦ r.elsewhere.process n p e.1 (has_moving (pt.view.known n p) is)
+  ];
+  records_ = λ n p is. elim (eqb_tells n m) [
+    | inl e ↦
+        let moved = r.moving p (subst (λ (q : ℕ). is_moving (pt.view.known q p) ≡ true) e.1 is) in
+        let here : records m p ≡ at_machine records m r.state.records m p =
+        ap (λ (f : Pid → Option machine.KernelKnown). f p) same ∙ sym moved.1 ∙ ap (λ (f : Pid → Option machine.KernelKnown). f p) (sym (on_if (m == m) r.state.records (records m) (eq_self m)))
+        in
+        subst (λ (q : ℕ). records q p ≡ at_machine records m r.state.records q p) (sym e.1) here
+    | inr e ↦ ap (λ (f : Pid → Option machine.KernelKnown). f p) (sym (off_if (m == n) r.state.records (records n) (eq_apart m n e.1)))
+  ];
+  told = r.elsewhere.told;
+  lines = (let h = still_keeps (rule_routed r.route) r.says (begun pt m) r.next r.still (row_walks b pt m r.says r.route run.based.phased run.based.known r.still r.outcome) r.after in record { asked = h.asked; stood = h.stood });
+  own = r.own;
+}
+
+pub row_turns : (b : Boot) (m : ℕ) (pt : Point) (l : Placed) (records : AllRecords) (k : KernelState) → Run b pt → AllOwnStand pt.view l → TokensStand pt.view l records → records m ≡ k.records → Row b m pt l k → TurnsAt b m pt l records k
+row_turns b m pt l records k run own tokens same r = record {
+  state = r.state;
+  says = r.says;
+  routes = first_route r.route;
+  late = Nothing;
+  turn = r.turn ∙ ap (λ (ps : List Part). Some (record { state = r.state; parts = ps })) (ap (λ (ps : List Part). map Part.Says r.says ++ ps) (routes_parts r.route) ∙ sym (nothing_more (map Part.Says r.says ++ map part_of (first_route r.route))));
+  outcome = r.outcome ∙ ap (λ (ps : List rule.Part). Some ps) (ap (λ (ps : List rule.Part). map rule.Says r.says ++ ps) (routes_rule_parts r.route) ∙ sym (nothing_more (map rule.Says r.says ++ map rule_part_of (first_route r.route))));
+  next = r.next;
+  after = r.after;
+  placed = r.placed;
+  mirrors = r.mirrors;
+  kernel = r.kernel;
+  sent = λ e. (let a = r.count in let c : r.next.view.count m ≡ pt.view.count m = r.elsewhere.count m in let z = routes_owns r.route in omega (arith, e, a, c, z));
+  elsewhere = r.elsewhere;
+  may = routes_may r.next r.placed (at_machine records m r.state.records) r.route r.sent;
+  late_may = tt;
+  single = (let z = routes_owns r.route in omega (arith, z));
+  topic = tt;
+  own = λ i x there none. (let o = own i x (r.own_back i x none there) none in record { told = ap (λ (f : MsgId → Option Told). f i) r.elsewhere.told ∙ o.told; mine = o.mine; sender = o.sender });
+  tokens = tokens_keep pt l records r.next r.placed (at_machine records m r.state.records) run.based.phased.phases run.based.phased.sane.tells.own (row_leaves b m pt l records k run same r) own tokens;
+}
+
+-- a turn with an empty inbox
+pub serve_turns : (b : Boot) (m : ℕ) (pt : Point) (l : Placed) (records : AllRecords) (k : KernelState) → Ready b m pt l k → TokensStand pt.view l records → records m ≡ k.records → pt.view.inbox m ≡ [] → TurnsAt b m pt l records k
+serve_turns b m pt l records k h tokens same box = row_turns b m pt l records k h.run h.own tokens same (serve_row b m pt l k h box)

@@ -1,12 +1,12 @@
 -- A ready process is served: all that it can come to.
 use Rattle.dm_mirror.proofs.Names.{◌≡◌, ℕ, ◌<◌, ◌==◌, Bool, true, false, List, [], ◌∷◌, length, refl, ap, ◌∙◌, sym, arith, if◌then◌else◌, Option, Some, nat_tests, Pid, Message, PlainMessage, plain_message, Regs, Fault, Row, instruction}
-use Rattle.dm_mirror.proofs.Names.{Status, Label, Why, Process, Boot, why_code, bind, when, with_process, plain_process, PlainProcess, Machine, plain_called, plain_sent, call_plainly, bind-is, Point, Placed, acted_with, call_matches}
-use Rattle.dm_mirror.proofs.Names.{fault_matches, with_queue, calls_with, KernelState, turned, with_here, call_keeps, ran_keeps, reply_same}
+use Rattle.dm_mirror.proofs.Names.{Status, Label, Why, Process, Boot, why_code, bind, when, with_process, plain_process, Machine, plain_called, plain_sent, call_plainly, bind-is, Point, Placed, acted_with, call_matches, fault_matches}
+use Rattle.dm_mirror.proofs.Names.{with_queue, calls_with, KernelState, turned, with_here, call_keeps, ran_keeps, reply_same}
 use Rattle.dm_kernel.specs.declared.part.Part.{Part}
 use Rattle.dm_onekernel.specs.Kernel.{Ended}
+use Rattle.dm_syscall.specs.declared.Called.{Called}
 use Rattle.dm_onekernel.specs.Calls as calls
 use Rattle.dm_onekernel.specs.Step as kernel
-use Rattle.dm_syscall.specs.declared.Called.{Called}
 use Rattle.dm_syscall.specs.Calls as syscall
 use Rattle.dm_rule.specs.Parts as rule_part
 use Rattle.dm_rule.specs.Rule as rule
@@ -16,8 +16,7 @@ use Rattle.dm_kernel.specs.Serve as serve
 use Rattle.dm_mirror.proofs.Kernel.Sets.{eq_self}
 use Rattle.dm_mirror.proofs.Serve.Runs.{Comes, Whole, Faulted, comes}
 use Rattle.dm_mirror.proofs.Serving.{Served, Acts, acts_as, moved_round}
-use Rattle.dm_mirror.proofs.Serve.Calls.{Ran, ran_kernel, ran_placed, ran_steps, ran_of, whole_acts, goes_acts}
-use Rattle.dm_mirror.proofs.Serve.Stops.{sends_acts, ends_acts}
+use Rattle.dm_mirror.proofs.Serve.Stops.{sends_acts, ends_acts, Ran, ran_kernel, ran_placed, ran_steps, ran_of, whole_acts, goes_acts}
 
 -- a call by the process y, as it is behind its plain instructions, that came to w and left z
 abbrev ActsCalled : (b : Boot) (m : ℕ) (pt : Point) (l : Placed) (k : KernelState) (p : Pid) (z : Process) (c n : ℕ) → Called → calls.Called → Type 0
@@ -76,8 +75,7 @@ called_acts b m pt l k p x y z c n (Called.Ended because) cl s r plain next with
 
 -- the next instruction, if it isn't plain
 next_of : (m : ℕ) (pt : Point) (l : Placed) (p : Pid) (x y : Process) (queue : List Message) (c : ℕ) (w : Row) → Ran m pt l p x queue c y → instruction y.regs y.memory ≡ w → kernel.next_trap (ran_kernel pt p y) p ≡ kernel.next_row p (plain_process y) w
-next_of m pt l p x y queue c w r is =
-    ap (λ (o : Option PlainProcess). bind o (λ (v : PlainProcess). kernel.next_row p v (instruction v.regs v.memory))) r.running ∙ ap (kernel.next_row p (plain_process y)) is
+next_of m pt l p x y queue c w r is = grind (arith, nat_tests)
 
 rest_less : (c q : ℕ) (ps : List rule_part.Part) (e : rule_part.Part) → c < q → Some (e ∷ (if c == q then [] else ps)) ≡ Some (e ∷ ps)
 rest_less c q ps e less = ap (λ (d : Bool). Some (e ∷ (if d then [] else ps))) (let off : (c == q) ≡ false = grind (arith, nat_tests) in off)

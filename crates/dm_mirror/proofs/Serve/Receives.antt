@@ -1,22 +1,30 @@
 -- A waiting process is served: it receives the first message that it waits for, or is refused it.
 use Rattle.dm_mirror.proofs.Names.{◌≡◌, ℕ, ◌+◌, ◌≤◌, Bool, true, false, List, [], ◌∷◌, map, length, refl, ap, ◌∙◌, sym, subst, inl, inr, arith, if◌then◌else◌, Option, None, Some, cases_Bool, nat_tests, ArrayVec, Link, Pid, pid_eq}
-use Rattle.dm_mirror.proofs.Names.{PlainLink, plain_link, Message, MsgId, What, Record, Label, Line, id_eq, PlainMessage, plain_message, IsLawfulProcess, IsLawfulStatus, first_on, what_is_on, without_first_on, Process, Status, Boot, Reply}
-use Rattle.dm_mirror.proofs.Names.{reply_code, bind, when, Life, Alive, OneKernel, plain_process, plain_status, PlainProcess, receive_refusals, first_failed, length-written, Completion, plain_completed, status_plainly, id_eq-is}
-use Rattle.dm_mirror.proofs.Names.{pid_eq-same, Point, moved, moved_back, without_id, Spot, Queue, times, standing, StandsRight, View, serving, once_at, set_at, Placed, Ends, completed_matches, with_queue, KernelState, turned, with_here}
-use Rattle.dm_mirror.proofs.Names.{AreMessages}
+use Rattle.dm_mirror.proofs.Names.{plain_link, Message, MsgId, What, Record, Label, Line, id_eq, PlainMessage, plain_message, IsLawfulProcess, IsLawfulStatus, first_on, what_is_on, without_first_on, Process, Status, Boot, Reply, reply_code}
+use Rattle.dm_mirror.proofs.Names.{bind, when, Life, Alive, OneKernel, plain_process, plain_status, PlainProcess, receive_refusals, first_failed, length-written, Completion, plain_completed, status_plainly, id_eq-is, pid_eq-same, Point}
+use Rattle.dm_mirror.proofs.Names.{moved, moved_back, without_id, Spot, Queue, times, standing, StandsRight, View, serving, once_at, set_at, Placed, Ends, completed_matches, with_queue, KernelState, turned, with_here, AreMessages, ◌&&◌}
+use Rattle.dm_mirror.proofs.Names.{not, is_some, option_map, slice_get, pid_of, status_is_runnable, pid_eq-is, Phase, Rests, knows, stands_right, letter_of, InPhases, rests_here, rings, both, Run, queue_drops, Mirrors, mirrors_view}
+use Rattle.dm_mirror.proofs.Names.{room_of, IsLawfulState, of_known, AllOwnStand, MadeStands, KernelStands, RoomStands}
+use Rattle.dm_syscall.specs.Completing.{IsAwaited}
+use Rattle.dm_kernel.specs.declared.part.Part.{Part}
 use Rattle.dm_onekernel.specs.Receiving as receiving
 use Rattle.dm_onekernel.specs.Service as service
 use Rattle.dm_onekernel.specs.Step as kernel
 use Rattle.dm_syscall.specs.Completing as completing
-use Rattle.dm_syscall.specs.Completing.{IsAwaited}
 use Rattle.dm_rule.specs.Rule as rule
 use Rattle.dm_places.specs.PlacedStep as placed
 use Rattle.dm_kernel.specs.State as machine
 use Rattle.dm_kernel.specs.Serve as serve
-use Rattle.dm_mirror.proofs.Kernel.Sets.{Leaves, view_leaves_on, kernel_leaves_on, placed_leaves_on, is_queue_of, off_if, on_if, messages_on, eq_self}
-use Rattle.dm_mirror.proofs.Kernel.Labels.{view_serving, view_queue, kernel_sets, kernel_out, placed_sets, placed_out, NotOwn, not_own_some, machine_on, record_on, label_mirrors, after_label}
-use Rattle.dm_mirror.proofs.Serve.Runs.{Found, found}
+use Rattle.dm_rule.specs.View as view
+use Rattle.dm_kernel.specs.Turn as turn
+use Rattle.dm_mirror.proofs.Kernel.Sets.{Leaves, view_leaves_on, kernel_leaves_on, placed_leaves_on, is_queue_of, off_if, on_if, messages_on, eq_self, IsAway, elsewhere_of, queue_not_elsewhere, not_is, view_serving, view_queue}
+use Rattle.dm_mirror.proofs.Kernel.Sets.{kernel_sets, kernel_out, placed_sets, placed_out, NotOwn, not_own_some, machine_on, record_on, label_mirrors, after_label, view_same, kernel_same, placed_same}
+use Rattle.dm_mirror.proofs.Serve.Runs.{Found, found, here_of, in_ring, first_runs, first_same}
 use Rattle.dm_mirror.proofs.Serving.{Served, Acts, acts_as, moved_round, served_goes, is_for, queue_alone}
+use Rattle.dm_mirror.proofs.Turning.{Elsewhere, Row, begun, is_moving}
+use Rattle.dm_mirror.proofs.Rooms.{taken_same}
+use Rattle.dm_mirror.proofs.Serve.Executes.{executes_acts}
+use Rattle.dm_mirror.proofs.Follow.Updates.{rests_away as away_of}
 
 -- a message on the mask is a user message
 record UserIs (w : What) : Type 0 where
@@ -32,16 +40,11 @@ user_is mask w e = cc
 
 -- a message that stood once has left the list
 gone_if : (i j : MsgId) (js : List MsgId) (c : Bool) → id_eq i j ≡ c → times i (j ∷ js) ≤ 1 → (times i js ≤ 1 → times i (without_id i js) ≡ 0) → times i (if c then js else j ∷ without_id i js) ≡ 0
-gone_if i j js true e few rest = let f : times i (j ∷ js) ≡ 1 + times i js = ap (λ (c : Bool). (if c then 1 else 0) + times i js) e in omega (arith, few, f)
-gone_if i j js false e few rest = grind (arith, nat_tests)
+gone_if i j js c e few rest = grind (arith, nat_tests)
 
 gone_from : (i : MsgId) (ids : List MsgId) → times i ids ≤ 1 → times i (without_id i ids) ≡ 0
 gone_from i [] few = refl
 gone_from i (j ∷ js) few = gone_if i j js (id_eq i j) refl few (gone_from i js)
-
--- the body fits into the buffer
-body_fits : (x : PlainProcess) (size : ℕ) (body : List ℕ) (links : List PlainLink) → first_failed (receive_refusals x size body links) ≡ None → length body ≤ size
-body_fits x size body links e = grind (arith, nat_tests)
 
 -- the message that it waits for, in the kernel without machines
 record Comes (s : OneKernel) (l : Placed) (p : Pid) (ids : List MsgId) (w : Message) : Type 0 where
@@ -91,8 +94,7 @@ not_own_some_there : (o : Option Message) (w : Message) (u : PlainMessage) → o
 not_own_some_there o w u there says x e none = not_own_some w u says x (sym there ∙ e) none
 
 right_one : (i : MsgId) (o : Option PlainMessage) (u : PlainMessage) (f : Spot → ℕ) (z : Spot) → o ≡ Some u → 1 ≤ f z → StandsRight i o f → f z ≡ 1
-right_one i None u f z e least h = cc
-right_one i (Some v) u f z e least h = (once_at f z h least).0
+right_one i o u f z e least h = grind (arith, nat_tests, once_at)
 
 -- the message is received, unless it is refused
 receive_row : (b : Boot) (m : ℕ) (pt : Point) (l : Placed) (k : KernelState) (p : Pid) (x : Process) (mask base size : ℕ) (w : Message) (code channel : ℕ) (body : List ℕ) (links : List Link) (o : Option Reply) → Served b m pt l k p x → IsLawfulProcess x → x.status ≡ Status.Waiting mask base size
@@ -124,7 +126,7 @@ receive_row b m pt l k p x mask base size w code channel body links None s lawfu
     (messages_on l.bag on.bag (without_id id ids) z.queue (λ i least. off_if (id_eq id i) None (l.bag i) (apart i (without_id id ids) none least)) f.rest)
     in
     let reach : base + size ≤ length x.memory = subst (IsLawfulStatus (length x.memory)) waits lawful.status in
-    let short = body_fits (plain_process x) size body (map plain_link links) fits in
+    let short : length body ≤ size = grind (arith, nat_tests) in
     acts_as b m pt l k p (serve.receives (moved_round k p) p x mask (Some w)) (turned (with_here (moved_round k p) p z) (machine.says (Label.Receive p id) ∷ [])) (rule.reception_parts pt.kernel p (plain_process x) (Some id)) (Some (rule.says (Label.Receive p id) ∷ []))
     (ap (serve.received_by (moved_round k p) p x mask w) e) c.parts (record {
       state = with_here (moved_round k p) p z;
@@ -188,3 +190,170 @@ receives_acts b m pt l k p x mask base size w s lawful waits first =
     let o = first_failed (receive_refusals (plain_process x) size v.body.items (map plain_link v.links.items)) in
     receive_row b m pt l k p x mask base size w v.code v.channel v.body.items v.links.items o s lawful waits f refl
     (ap (λ (st : Status). completing.completion x 0 st (Some w)) waits ∙ ap (completing.completes x 0 w.id base size) v.is)
+
+-- A turn with an empty inbox: the machine idles, or serves the first process of its ring that can be served.
+
+-- behind the head of the turn
+pub begun_stands : (b : Boot) (pt : Point) (l : Placed) (m : ℕ) (k : KernelState) → KernelStands b pt l m k → KernelStands b (begun pt m) l m k
+begun_stands b pt l m k h = search
+    (h.known, subst (RoomStands k.room (room_of (slice_get b.machines m))) (sym (taken_same pt (begun pt m) m refl (λ n. refl) (λ p. refl))) h.room)
+
+pub begun_mirrors : (pt : Point) (l : Placed) (m : ℕ) → Mirrors pt.kernel pt.view pt.addresses l → Mirrors (begun pt m).kernel (begun pt m).view (begun pt m).addresses l
+begun_mirrors pt l m h = mirrors_view pt.kernel pt.view (begun pt m).view pt.addresses l refl h
+
+-- the process that the machine serves
+record Runnable (records : Pid → Option machine.KernelKnown) (ps : List Pid) (p : Pid) : Type 0 where
+  stands : 1 ≤ rings p ps
+  goes : turn.known_is_runnable (records p) ≡ true
+
+first_if : (records : Pid → Option machine.KernelKnown) (q : Pid) (qs : List Pid) (p : Pid) (c : Bool) → turn.known_is_runnable (records q) ≡ c → (if c then Some q else turn.first_runnable records qs) ≡ Some p → (turn.first_runnable records qs ≡ Some p → Runnable records qs p)
+    → Runnable records (q ∷ qs) p
+first_if records q qs p true e f more =
+    let k : q ≡ p = cc in
+    let g : rings q (q ∷ qs) ≡ 1 + rings q qs = ap (λ (c : Bool). (if c then 1 else 0) + rings q qs) (pid_eq-same q) in
+    subst (Runnable records (q ∷ qs)) k (record { stands = omega (arith, g); goes = e })
+first_if records q qs p false e f more =
+    let h = more f in
+    record { stands = (let least = h.stands in let all : rings p qs ≤ rings p (q ∷ qs) = omega arith in omega (arith, least, all)); goes = h.goes }
+
+first_is : (records : Pid → Option machine.KernelKnown) (ps : List Pid) (p : Pid) → turn.first_runnable records ps ≡ Some p → Runnable records ps p
+first_is records [] p e = cc
+first_is records (q ∷ qs) p e = first_if records q qs p (turn.known_is_runnable (records q)) refl e (first_is records qs p)
+
+pub away_elsewhere : (v : View) (m : ℕ) (p : Pid) → InPhases v → v.known m p ≡ view.Here → IsAway v m p
+away_elsewhere v m p h here n apart =
+    let known = (h.each p).known in
+    let is : h.of p ≡ Rests m = rests_here (h.of p) m (sym (ap (knows (h.of p) m) here) ∙ known m) in
+    away_of m n (v.known n p) apart (sym (ap (λ (x : Phase). knows x n (v.known n p)) is) ∙ known n)
+
+-- the process p is here, and can be served
+record Chosen (b : Boot) (m : ℕ) (pt : Point) (l : Placed) (k : KernelState) (p : Pid) : Type 0 where
+  x : Process
+  served : Served b m (begun pt m) l k p x
+  goes : status_is_runnable x.status x.queue ≡ true
+
+-- all that a turn that serves a process can count on
+pub record Ready (b : Boot) (m : ℕ) (pt : Point) (l : Placed) (k : KernelState) : Type 0 where
+  pub run : Run b pt
+  pub made : MadeStands pt.kernel
+  pub mirrors : Mirrors pt.kernel pt.view pt.addresses l
+  pub own : AllOwnStand pt.view l
+  pub stands : KernelStands b pt l m k
+  pub lawful : IsLawfulState k
+
+chosen : (b : Boot) (m : ℕ) (pt : Point) (l : Placed) (k : KernelState) (p : Pid) → Ready b m pt l k → turn.first_runnable k.records k.ring ≡ Some p → Chosen b m pt l k p
+chosen b m pt l k p h first =
+    let f = first_is k.records k.ring p first in
+    let r = in_ring pt m p h.run.based.known (subst (λ (ps : List Pid). 1 ≤ rings p ps) h.stands.ring f.stands) in
+    let at = here_of b pt l m k p r.z h.stands h.mirrors.plain r.here r.server r.alive in
+    let run : (not at.x.stopped && status_is_runnable at.x.status at.x.queue) ≡ true = sym (ap turn.known_is_runnable at.record_is) ∙ f.goes in
+    let two = both (not at.x.stopped) (status_is_runnable at.x.status at.x.queue) run in
+    let state = h.run.based.phased.state in
+    record {
+      x = at.x;
+      served = record {
+        at = search (away_elsewhere pt.view m p h.run.based.phased.phases r.here, r.alive ∙ ap (λ (z : PlainProcess). Some (Alive z)) at.plain);
+        acting = refl;
+        mirrors = begun_mirrors pt l m h.mirrors;
+        stands = begun_stands b pt l m k h.stands;
+        made = h.made;
+        going = not_is at.x.stopped two.0;
+        kept = λ i. stands_right pt i state (pt.kernel.bag i) refl;
+        told = λ i w there. state.stands.told i w.to (letter_of state.r state.e state.own pt.kernel i w there state.sound);
+        drops = queue_drops b m pt p h.run.based;
+        r = state.r;
+        e = state.e;
+        sound = state.sound;
+        own = λ i x there none. (let o = h.own i x there none in record { told = o.told; mine = o.mine; sender = o.sender });
+      };
+      goes = two.1;
+    }
+
+-- it is ready, or waits for a message that is queued
+waits_acts : (b : Boot) (m : ℕ) (pt : Point) (l : Placed) (k : KernelState) (p : Pid) (x : Process) (mask base size : ℕ) (o : Option Message) → Served b m pt l k p x → IsLawfulProcess x → x.status ≡ Status.Waiting mask base size → first_on mask x.queue ≡ o → is_some o ≡ true
+    → Acts b m pt l k p (serve.receives (moved_round k p) p x mask (first_on mask x.queue)) (rule.reception_parts pt.kernel p (plain_process x) (rule.first_awaited pt.kernel mask (pt.view.queue m p)))
+waits_acts b m pt l k p x mask base size None s lawful waits first some = cc
+waits_acts b m pt l k p x mask base size (Some w) s lawful waits first some =
+    acts_as b m pt l k p (serve.receives (moved_round k p) p x mask (first_on mask x.queue)) (serve.receives (moved_round k p) p x mask (Some w)) (rule.reception_parts pt.kernel p (plain_process x) (rule.first_awaited pt.kernel mask (pt.view.queue m p)))
+    (rule.reception_parts pt.kernel p (plain_process x) (Some w.id)) (ap (serve.receives (moved_round k p) p x mask) first)
+    (ap (rule.reception_parts pt.kernel p (plain_process x)) (first_same pt.kernel l mask (pt.view.queue m p) x.queue s.mirrors.plain (λ i n there. (s.mirrors.places.message i n there).id) s.at.messages ∙ ap (λ (o : Option Message). option_map (λ (n : Message). n.id) o) first))
+    (receives_acts b m pt l k p x mask base size w s lawful waits first)
+
+status_acts : (b : Boot) (m : ℕ) (pt : Point) (l : Placed) (k : KernelState) (p : Pid) (x : Process) (st : Status) → Served b m pt l k p x → IsLawfulProcess x → x.status ≡ st → status_is_runnable st x.queue ≡ true
+    → Acts b m pt l k p (serve.serves_status b.quantum (moved_round k p) p x st) (rule.serves_status b.quantum pt.kernel p (pt.view.queue m p) (plain_process x) (plain_status st))
+status_acts b m pt l k p x Status.Ready s lawful is goes = executes_acts b m pt l k p x b.quantum s is
+status_acts b m pt l k p x (Status.Waiting mask base size) s lawful is goes = waits_acts b m pt l k p x mask base size (first_on mask x.queue) s lawful is refl goes
+status_acts b m pt l k p x (Status.Moving dir owner base own left pending) s lawful is goes = cc
+
+serves_acts : (b : Boot) (m : ℕ) (pt : Point) (l : Placed) (k : KernelState) (p : Pid) → IsLawfulState k → Chosen b m pt l k p → Acts b m (begun pt m) l k p (turn.goes_round b k (Some p)) (rule.goes_round b pt m (Some p))
+serves_acts b m pt l k p lawful c =
+    let x = c.x in
+    let s = c.served in
+    acts_as b m (begun pt m) l k p (turn.goes_round b k (Some p)) (serve.serves_status b.quantum (moved_round k p) p x x.status) (rule.goes_round b pt m (Some p)) (rule.serves_status b.quantum pt.kernel p (pt.view.queue m p) (plain_process x) (plain_status x.status))
+    (ap (serve.serves b.quantum (moved_round k p) p) s.at.record_is) (ap (λ (o : Option Life). bind (kernel.alive o) (λ (z : PlainProcess). rule.serves_status b.quantum pt.kernel p (pt.view.queue m p) z z.status)) s.at.alive)
+    (status_acts b m (begun pt m) l k p x x.status s (of_known k p (Some (Record.Here x)) lawful s.at.record_is) refl c.goes)
+
+-- what a served process gives is a row, and so is a turn in which the machine idles
+pub record Round (b : Boot) (m : ℕ) (pt : Point) (l : Placed) (k : KernelState) (o : Option Pid) : Type 0 where
+  pub p : Pid
+  pub acts : Acts b m (begun pt m) l k p (turn.goes_round b k o) (rule.goes_round b pt m o)
+  pub elsewhere : Elsewhere m (begun pt m) l acts.next acts.placed
+  pub moving : (q : Pid) → is_moving (pt.view.known m q) ≡ true → (acts.placed.processes q ≡ l.processes q) × (acts.state.records q ≡ k.records q)
+
+abbrev idle_acts : (b : Boot) (m : ℕ) (pt : Point) (l : Placed) (k : KernelState) (p : Pid) → Mirrors pt.kernel pt.view pt.addresses l → KernelStands b pt l m k → Acts b m (begun pt m) l k p (turn.goes_round b k None) (rule.goes_round b pt m None)
+idle_acts b m pt l k p mirrors stands = record {
+  state = k;
+  says = Line.Idle m ∷ [];
+  route = None;
+  turn = ap (λ (n : ℕ). turned k (Part.Says (Line.Idle n) ∷ [])) stands.here;
+  outcome = refl;
+  next = begun pt m;
+  after = refl;
+  placed = l;
+  mirrors = begun_mirrors pt l m mirrors;
+  kernel = begun_stands b pt l m k stands;
+  leaves = record { view = view_same m (is_queue_of m p) p (begun pt m).view; kernel = kernel_same p pt.kernel; placed_ = placed_same (is_queue_of m p) p (begun pt m).view l };
+  sent = tt;
+  still = refl;
+  count = refl;
+  records = λ q off. refl;
+}
+
+idle_round : (b : Boot) (m : ℕ) (pt : Point) (l : Placed) (k : KernelState) → Ready b m pt l k → Round b m pt l k None
+idle_round b m pt l k h = record {
+  p = pid_of m 0;
+  acts = idle_acts b m pt l k (pid_of m 0) h.mirrors h.stands;
+  elsewhere = search;
+  moving = λ q is. (refl, refl);
+}
+
+-- a process that is here doesn't move
+here_apart : (v : View) (m : ℕ) (p q : Pid) → v.known m p ≡ view.Here → is_moving (v.known m q) ≡ true → pid_eq p q ≡ false
+here_apart v m p q here is = grind (arith, nat_tests, pid_eq-is)
+
+round_of : (b : Boot) (m : ℕ) (pt : Point) (l : Placed) (k : KernelState) (o : Option Pid) → turn.first_runnable k.records k.ring ≡ o → Ready b m pt l k → Round b m pt l k o
+round_of b m pt l k None first h = idle_round b m pt l k h
+round_of b m pt l k (Some p) first h =
+    let c = chosen b m pt l k p h first in
+    let s = c.served in
+    let a = serves_acts b m pt l k p h.lawful c in
+    record {
+      p = p;
+      acts = a;
+      elsewhere = elsewhere_of m (is_queue_of m p) p (begun pt m) a.next l a.placed s.at.away refl (queue_not_elsewhere m p) a.leaves;
+      moving = λ q is. (let off = here_apart pt.view m p q s.at.known is in (a.leaves.placed_.process q off, a.records q off));
+    }
+
+no_messages : (bag : MsgId → Option Message) (ms : List Message) → AreMessages bag [] ms → ms ≡ []
+no_messages bag [] e = refl
+no_messages bag (w ∷ ws) e = absurd (let f : [] ≡ map Some (w ∷ ws) = e in cc)
+
+-- with an empty inbox
+pub serve_row : (b : Boot) (m : ℕ) (pt : Point) (l : Placed) (k : KernelState) → Ready b m pt l k → pt.view.inbox m ≡ [] → Row b m pt l k
+serve_row b m pt l k h box =
+    let first = first_runs b pt l m k h.stands h.mirrors.plain (λ i n there. (h.mirrors.places.message i n there).id) h.run.based.known in
+    let o = turn.first_runnable k.records k.ring in
+    let r = round_of b m pt l k o refl h in
+    let a = r.acts in
+    let empty : k.inbox ≡ [] = no_messages l.bag k.inbox (subst (λ (ids : List MsgId). AreMessages l.bag ids k.inbox) box h.stands.inbox) in
+    search (ap (turn.turns b k) empty ∙ a.turn, ap (rule.turns b pt m) box ∙ ap (rule.goes_round b pt m) first ∙ a.outcome)

@@ -1,8 +1,12 @@
 -- The machine and the rule serve the same process: its messages, which process can be served, and how far it comes.
-use Rattle.dm_mirror.proofs.Names.{◌≡◌, ℕ, zero, suc, ◌+◌, ◌<◌, ◌≤◌, ◌&&◌, not, Bool, true, false, List, [], ◌∷◌, map, refl, ap, ◌∙◌, sym, subst, inl, inr, arith, is_some, if◌then◌else◌, option_map, Option, None, Some, cases_Bool, nat_tests}
+use Rattle.dm_mirror.proofs.Names.{◌≡◌, ℕ, zero, suc, ◌+◌, ◌<◌, ◌≤◌, ◌&&◌, Bool, true, false, List, [], ◌∷◌, map, refl, ap, ◌∙◌, sym, subst, inl, inr, arith, is_some, if◌then◌else◌, option_map, Option, None, Some, cases_Bool, nat_tests}
 use Rattle.dm_mirror.proofs.Names.{false≢true, Pid, Message, MsgId, What, Record, Halt, id_eq, plain_message, plain_what, with_what, Regs, Fault, Row, instruction, first_on, is_on, what_is_on, without_first_on, status_is_runnable, Process}
 use Rattle.dm_mirror.proofs.Names.{Status, Boot, bind, Life, Alive, OneKernel, plain_process, plain_status, PlainProcess, Machine, pid_eq-same, id_eq-is, id_eq-same, Point, without_id, times, is_server, rings, Placed, MirrorsKernel}
-use Rattle.dm_mirror.proofs.Names.{with_queue, KernelState, AreMessages, KnownStands, KernelStands}
+use Rattle.dm_mirror.proofs.Names.{with_queue, KernelState, AreMessages, KnownStands, KernelStands, ◌==◌, pid_eq, Label, Why, out_off, Line, moved, after, without_front, Spot, Queue, Inbox, standing, View, handled, dropped_for, receiver_of}
+use Rattle.dm_mirror.proofs.Names.{Droppable, droppable_on, dropped_is, Mirrors, user_dropped}
+use Rattle.dm_kernel.specs.declared.part.Part.{Part}
+use Rattle.dm_onekernel.specs.Kernel.{Ended}
+use Rattle.dm_places.specs.PlacedStep.{without_message}
 use Rattle.dm_onekernel.specs.Step as kernel
 use Rattle.dm_rule.specs.Rule as rule
 use Rattle.dm_rule.specs.View as view
@@ -10,12 +14,15 @@ use Rattle.dm_rulelaws.specs.KnownStands as rings
 use Rattle.dm_kernel.specs.State as machine
 use Rattle.dm_kernel.specs.Serve as serve
 use Rattle.dm_kernel.specs.Turn as turn
-use Rattle.dm_mirror.proofs.Kernel.Sets.{times_self, times_more}
+use Rattle.dm_onekernel.specs.Service as service
+use Rattle.dm_rule.specs.Parts as rule_part
+use Rattle.dm_mirror.proofs.Kernel.Sets.{times_self, times_more, ViewLeaves, Leaves, view_leaves_on, leaves_on, view_same, view_queue, view_not_handled, kernel_same, kernel_out, placed_same, placed_out, not_own_there, label_mirrors}
+use Rattle.dm_mirror.proofs.Kernel.Sets.{after_label}
+use Rattle.dm_mirror.proofs.Turning.{are_still}
 
 -- a message is awaited without its places where it is on the mask with them
 awaited_what : (mask : ℕ) (m : Message) (w : What) → rule.is_awaited mask (with_what m (plain_what w)) ≡ what_is_on mask w
-awaited_what mask m (What.User code channel body links) = refl
-awaited_what mask m w = refl
+awaited_what mask m w = grind (arith, nat_tests)
 
 awaited_on : (s : OneKernel) (l : Placed) (mask : ℕ) (i : MsgId) (m : Message) → MirrorsKernel s l → l.bag i ≡ Some m → rule.is_awaited mask (s.bag i) ≡ is_on mask m
 awaited_on s l mask i m h there = ap (rule.is_awaited mask) (sym (h.bag i) ∙ ap (λ (o : Option Message). bind o plain_message) there) ∙ awaited_what mask m m.what
@@ -28,10 +35,7 @@ abbrev id_in : Message → MsgId
 id_in m = m.id
 
 both_if : (c d : Bool) (i : MsgId) (m : Message) (o : Option MsgId) (u : Option Message) → c ≡ d → m.id ≡ i → o ≡ option_map id_in u → (if c then Some i else o) ≡ option_map id_in (if d then Some m else u)
-both_if true true i m o u e name rest = ap Some (sym name)
-both_if false false i m o u e name rest = rest
-both_if true false i m o u e name rest = cc
-both_if false true i m o u e name rest = cc
+both_if c d i m o u e name rest = grind (arith, nat_tests)
 
 pub first_same : (s : OneKernel) (l : Placed) (mask : ℕ) (ids : List MsgId) (ms : List Message) → MirrorsKernel s l → Names l → AreMessages l.bag ids ms → rule.first_awaited s mask ids ≡ option_map id_in (first_on mask ms)
 first_same s l mask [] [] h names are = refl
@@ -112,8 +116,7 @@ here_of b pt l m k p z h mirrors here server alive =
 
 -- it can be served by the rule where it can by the machine
 some_same : (o : Option Message) → is_some (option_map id_in o) ≡ is_some o
-some_same None = refl
-some_same (Some m) = refl
+some_same o = grind (arith, nat_tests)
 
 status_same : (s : OneKernel) (l : Placed) (ids : List MsgId) (ms : List Message) (st : Status) → MirrorsKernel s l → Names l → AreMessages l.bag ids ms → rule.status_can_go s ids (plain_status st) ≡ status_is_runnable st ms
 status_same s l ids ms (Status.Waiting mask base size) h names are = ap is_some (first_same s l mask ids ms h names are) ∙ some_same (first_on mask ms)
@@ -190,3 +193,100 @@ comes_row k m (Row.Faults f) e h = Faulted f (omega arith) e refl
 pub comes : (k : ℕ) (m : Machine) → Comes k (rule.ran k m) (serve.ran k m)
 comes zero m = Whole refl refl
 comes (suc k) m = comes_row k m (instruction m.regs m.bytes) refl (comes k)
+
+-- The queue of a process that has ended is dropped, message by message.
+
+-- the lines, as the rule and as the machine say them
+abbrev pub drop_line : MsgId → Line
+drop_line i = Line.Label (Label.Dropped i)
+
+abbrev pub drop_lines : List MsgId → List Line
+drop_lines ids = map drop_line ids
+
+pub rule_drops : (ids : List MsgId) → rule.drop_parts ids ≡ map rule_part.Says (drop_lines ids)
+rule_drops [] = refl
+rule_drops (i ∷ is) = ap (λ (ps : List rule_part.Part). rule.says (Label.Dropped i) ∷ ps) (rule_drops is)
+
+pub machine_drops : (l : Placed) (ids : List MsgId) (ms : List Message) → Names l → AreMessages l.bag ids ms → machine.drops ms ≡ map Part.Says (drop_lines ids)
+machine_drops l [] [] names are = refl
+machine_drops l [] (m ∷ ms) names are = cc
+machine_drops l (i ∷ is) [] names are = cc
+machine_drops l (i ∷ is) (m ∷ ms) names are =
+    let there : l.bag i ≡ Some m = cc in
+    let rest : AreMessages l.bag is ms = cc in
+    let name = names i m there in
+    let more = machine_drops l is ms names rest in
+    λ j. machine.says (Label.Dropped (name j)) ∷ more j
+
+-- the messages stand at no other spot
+abbrev pub AreAlone : (Spot → Bool) → View → List MsgId → Type 0
+AreAlone t v ids = (j : MsgId) → 1 ≤ times j ids → (i : MsgId) (s : Spot) → t s ≡ false → 1 ≤ standing v i s → id_eq j i ≡ false
+
+-- the front of a list that hasn't the message
+front_stays : (id : MsgId) (ids : List MsgId) → ((i : MsgId) → 1 ≤ times i ids → id_eq id i ≡ false) → without_front id ids ≡ ids
+front_stays id ids h = grind (arith, nat_tests, times_self)
+
+-- the view behind a dropped message
+pub record DropKeeps (v w : View) : Type 0 where
+  pub acting : w.acting ≡ v.acting
+  pub ring : (m : ℕ) → w.ring m ≡ v.ring m
+  pub known : (m : ℕ) (p : Pid) → w.known m p ≡ v.known m p
+  pub told : (i : MsgId) → w.told i ≡ v.told i
+
+drop_keeps : (v : View) (id : MsgId) (o : Option Pid) → DropKeeps v (dropped_for (handled v id) id o)
+drop_keeps v id None = record { acting = refl; ring = λ m. refl; known = λ m p. refl; told = λ i. refl }
+drop_keeps v id (Some p) = record { acting = refl; ring = λ m. refl; known = λ m p. refl; told = λ i. refl }
+
+view_dropped : (m : ℕ) (t : Spot → Bool) (p : Pid) (v : View) (id : MsgId) (o : Option Pid) → o ≡ Some p → v.acting ≡ m → ((n : ℕ) (q : Pid) → t (Queue n q) ≡ false → ((m == n) && pid_eq p q) ≡ false) → without_front id (v.inbox v.acting) ≡ v.inbox v.acting
+    → ViewLeaves m t p v (dropped_for (handled v id) id o)
+view_dropped m t p v id o e at covers same =
+    subst (λ (z : Option Pid). ViewLeaves m t p v (dropped_for (handled v id) id z)) (sym e)
+    (view_leaves_on m t p v (handled v id) (dropped_for (handled v id) id (Some p)) (view_not_handled m t p v id same) (view_queue m t p (handled v id) (without_front id (v.queue v.acting p)) at covers))
+
+-- all of them, behind the end of process p
+pub record Drops (m : ℕ) (t : Spot → Bool) (p : Pid) (pt : Point) (l : Placed) (ids : List MsgId) : Type 0 where
+  pub next : Point
+  pub after : after pt (drop_lines ids) ≡ Some next
+  pub placed : Placed
+  pub mirrors : Mirrors next.kernel next.view next.addresses placed
+  pub leaves : Leaves m t p pt l next placed
+  pub process : next.kernel.processes p ≡ pt.kernel.processes p
+  pub ring : next.view.ring m ≡ pt.view.ring m
+  pub known : next.view.known m p ≡ pt.view.known m p
+
+pub drops_still : (ids : List MsgId) → are_still (drop_lines ids) ≡ true
+drops_still [] = refl
+drops_still (i ∷ is) = drops_still is
+
+pub drops_stand : (m : ℕ) (t : Spot → Bool) (p : Pid) (y : Why) (ids : List MsgId) (pt : Point) (l : Placed) → ((n : ℕ) (q : Pid) → t (Queue n q) ≡ false → ((m == n) && pid_eq p q) ≡ false) → ((n : ℕ) → t (Inbox n) ≡ false) → Mirrors pt.kernel pt.view pt.addresses l → pt.view.acting ≡ m
+    → pt.kernel.processes p ≡ Some (Ended y) → Droppable pt.kernel p ids → AreAlone t pt.view ids → ((i : MsgId) → 1 ≤ times i ids → receiver_of (pt.view.told i) ≡ Some p) → Drops m t p pt l ids
+drops_stand m t p y [] pt l covers boxes mirrors at ended drop alone told =
+    record { next = pt; after = refl; placed = l; mirrors = mirrors; leaves = record { view = view_same m t p pt.view; kernel = kernel_same p pt.kernel; placed_ = placed_same t p pt.view l }; process = refl; ring = refl; known = refl }
+drops_stand m t p y (i ∷ is) pt l covers boxes mirrors at ended drop alone told =
+    let s = pt.kernel in
+    let x = drop.0.x in
+    let u = service.without_message s i in
+    let step = dropped_is s i x y drop.0.there (ap s.processes drop.0.to ∙ ended) (user_dropped x.what drop.0.user) in
+    let mid = moved pt (Line.Label (Label.Dropped i)) u in
+    let lm = without_message l i in
+    let o = receiver_of (pt.view.told i) in
+    let keeps = drop_keeps pt.view i o in
+    let first : 1 ≤ times i (i ∷ is) = times_self i is in
+    let view_ : ViewLeaves m t p pt.view mid.view =
+    view_dropped m t p pt.view i o (told i first) at covers (front_stays i (pt.view.inbox pt.view.acting) (λ j least. alone i first j (Inbox pt.view.acting) (boxes pt.view.acting) least)) in
+    let leaves : Leaves m t p pt l mid lm = record { view = view_; kernel = kernel_out p s i; placed_ = placed_out t p pt.view l i (not_own_there s l i x mirrors.plain drop.0.there) (alone i first) } in
+    let later : (j : MsgId) → 1 ≤ times j is → 1 ≤ times j (i ∷ is) = λ j least. let more = times_more j i is in omega (arith, least, more) in
+    let rest = drops_stand m t p y is mid lm covers boxes (label_mirrors pt l lm m (Label.Dropped i) u mirrors at tt step refl) (keeps.acting ∙ at) ended
+    (droppable_on s u p is (λ j least. out_off s i j (apart j least (id_eq i j) refl)) drop.2)
+    (λ j least k spot off there. alone j (later j least) k spot off (subst (λ (n : ℕ). 1 ≤ n) (ap (times k) (view_.lists spot off)) there))
+    (λ j least. ap receiver_of (keeps.told j) ∙ told j (later j least)) in
+    search (
+      after_label pt (Label.Dropped i) u (drop_lines is) rest.next step rest.after,
+      leaves_on m t p pt mid rest.next l lm rest.placed leaves rest.leaves,
+      rest.ring ∙ keeps.ring m,
+      rest.known ∙ keeps.known m p,
+    )
+  where
+    apart : (j : MsgId) → 1 ≤ times j is → (c : Bool) → id_eq i j ≡ c → id_eq i j ≡ false
+    apart j least false e = e
+    apart j least true e = absurd (let k : times j is ≡ 0 = sym (ap (λ v. times v is) (id_eq-is i j e)) ∙ drop.1 in omega (arith, least, k))

@@ -6,8 +6,7 @@ use Rattle.dm_rulelaws.proofs.RunLabels.{group_replay, replay_fits}
 use Rattle.dm_rulelaws.proofs.Runs.{Based}
 use Rattle.dm_rulelaws.proofs.Based.Constants.{constant_group}
 use Rattle.dm_rulelaws.proofs.Based.Known.{known_group}
-use Rattle.dm_rulelaws.proofs.Based.Lists.{lists_start, lists_group}
-use Rattle.dm_rulelaws.proofs.Based.Queues.{waits_start, waits_group, waits_by, queued_of, held_of}
+use Rattle.dm_rulelaws.proofs.Based.Queues.{lists_start, lists_group, waits_start, waits_group, waits_by, queued_of, held_of}
 use Rattle.dm_rulelaws.proofs.Based.Start.{known_start}
 use Rattle.dm_rulelaws.proofs.Based.Unmoved.{unmoved_start, unmoved_group}
 

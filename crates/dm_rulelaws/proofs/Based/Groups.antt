@@ -1,20 +1,15 @@
 -- What a turn says of a kernel's own message has what its lines need; so each group keeps what each line keeps.
-use Rattle.dm_rulelaws.proofs.Names.{◌≡◌, ℕ, ◌==◌, Bool, true, false, not, List, [], ◌∷◌, ◌++◌, length, refl, ap, ◌∙◌, sym, subst, if◌then◌else◌, Option, None, Some, arith, false≢true, nat_tests, Pid, MsgId, MessageKind, Stage, Boot}
-use Rattle.dm_rulelaws.proofs.Names.{manager, Life, Alive, OneKernel, Step, Line, View, Told, Of, Known, Unknown, Here, Frozen, Incoming, Forward, after_head, Point, moved, Part, Says, Spelled, is_between, is_apart, is_away, is_here}
-use Rattle.dm_rulelaws.proofs.Names.{kind_comes, Phase, Moves, knows, receiver_in, to_kernel, sends_on, updates, migrates, group_of, at_record_at, IsNetLine, IsNet, front_way, Sane, InPhases, calm_phases, due, head_calm, told_some, Rooted}
-use Rattle.dm_rulelaws.proofs.Names.{Phased, rooted, moves_away, State, is_server, has_nothing_held, agrees, KnownStands, right_true, by_migrates, by_hears, left_parts, by_net, by_outcome, answers_move, Outcome}
-use Rattle.dm_rule.specs.Phases as phases
+use Rattle.dm_rulelaws.proofs.Names.{◌≡◌, ℕ, ◌==◌, Bool, true, false, not, List, [], ◌∷◌, ◌++◌, length, refl, ap, ◌∙◌, sym, subst, Option, None, Some, arith, false≢true, Pid, MsgId, MessageKind, Stage, Boot, manager, Step, Line, View, Told}
+use Rattle.dm_rulelaws.proofs.Names.{Of, Known, Here, Frozen, Incoming, after_head, Point, moved, Part, Says, Spelled, is_between, is_apart, is_away, is_here, kind_comes, Phase, Moves, knows, receiver_in, to_kernel, sends_on, updates}
+use Rattle.dm_rulelaws.proofs.Names.{migrates, group_of, at_record_at, IsNetLine, IsNet, front_way, Sane, InPhases, calm_phases, due, head_calm, told_some, Rooted, Phased, rooted, moves_away, State, is_server, has_nothing_held, KnownStands}
+use Rattle.dm_rulelaws.proofs.Names.{right_true, by_migrates, by_hears, left_parts, by_net, by_outcome, answers_move, Outcome}
 use Rattle.dm_rule.specs.Rule as rule
-use Rattle.dm_rule.proofs.Groups as groups
-use Rattle.dm_rulelaws.proofs.Based.Needs.{Living, Leaving, Needs, Rides, Keeps, Walks, WalksOf, AllLoose, loose_walks, first_walks, said_by, again_rides, begun, begun_sane, outcome_keeps}
+use Rattle.dm_rulelaws.proofs.Based.Needs.{Leaving, Needs, Rides, Keeps, Walks, WalksOf, AllLoose, loose_walks, first_walks, said_by, again_rides, begun, begun_sane, outcome_keeps}
 use Rattle.dm_rulelaws.proofs.Based.Rows.{known_living, turned, resting, living, round_walks, handles_walks, forwards_walks}
 
 -- what leaves
 leaving_rides : (p : Pid) → Rides (λ q. Leaving q.view p)
-leaving_rides p = record {
-  put = λ pt a b i k q h. record { to = h.to; frozen = h.frozen; server = h.server; queue = h.queue; held = h.held };
-  packet = λ pt a b k l h. record { to = h.to; frozen = h.frozen; server = h.server; queue = h.queue; held = h.held };
-}
+leaving_rides p = search arith
 
 again_walks : (p : Pid) (to : ℕ) (id : MsgId) (ids : List MsgId) (pt : Point) → Leaving pt.view p → Walks pt (sends_on to ids ++ Says (Line.Migration Stage.Left p) ∷ to_kernel MessageKind.Restart id.from.home ∷ [])
 again_walks p to id [] pt h = first_walks (Says (Line.Migration Stage.Left p)) (to_kernel MessageKind.Restart id.from.home ∷ []) pt h (λ q. tt, tt)
@@ -26,13 +21,7 @@ leaves_walks pt id p ids to known server = (
   λ next s.
       let v = pt.view in
       let k = said_by pt next (Line.SentOn p (length ids)) s in
-      let left : Leaving (moved pt (Line.SentOn p (length ids)) k.kernel).view p = record {
-        to = to;
-        frozen = known;
-        server = server;
-        queue = at_record_at v.queue v.acting p [];
-        held = at_record_at v.held v.acting p [];
-      } in
+      let left : Leaving (moved pt (Line.SentOn p (length ids)) k.kernel).view p = (search (arith, at_record_at)) in
       again_walks p to id ids next (subst (λ (q : Point). Leaving q.view p) k.is left),
 )
 
@@ -47,10 +36,7 @@ pub record Expects (v : View) (p : Pid) (k : MessageKind) : Type 0 where
 
 -- at a process or a server
 held_own : (pt : Point) (id : MsgId) (t : Told) → pt.view.told id ≡ Some t → has_nothing_held (pt.view.known pt.view.acting t.receiver) ≡ false → (u : Told) → pt.view.told id ≡ Some u → has_nothing_held (pt.view.known pt.view.acting u.receiver) ≡ false
-held_own pt id t told held u is =
-    let f : Some t ≡ Some u = sym told ∙ is in
-    let g : t ≡ u = cc in
-    subst (λ (x : Told). has_nothing_held (pt.view.known pt.view.acting x.receiver) ≡ false) g held
+held_own pt id t told held u is = search (arith, pt.view.known, pt.view.acting)
 
 -- what the phases say
 not_here : (k : MessageKind) (s d m : ℕ) (o : Option MsgId) (x : Known) → knows (Moves k s d o) m x ≡ true → is_here x ≡ false
@@ -58,16 +44,10 @@ not_here k s d m o Here e = absurd (false≢true (sym (moves_away k s d m o (s =
 not_here k s d m o _ e = refl
 
 comes_away : (s : ℕ) (x : Known) → kind_comes MessageKind.Ask s x ≡ true → is_away x ≡ true
-comes_away s Unknown e = refl
-comes_away s (Incoming from) e = absurd (false≢true e)
-comes_away s (Forward at moves) e = refl
-comes_away s _ e = e
+comes_away s x h1 = search arith
 
 asked_away : (s d : ℕ) (o : Option MsgId) (x : Known) (b : Bool) → (s == d) ≡ b → not b ≡ true → knows (Moves MessageKind.Ask s d o) d x ≡ true → is_away x ≡ true
-asked_away s d o x true e apart k = absurd (false≢true apart)
-asked_away s d o x false e apart k =
-    let same : (d == d) ≡ true = grind (arith, nat_tests) in
-    comes_away s x (sym (ap (λ (c : Bool). if c then phases.kind_leaves MessageKind.Ask d x else if d == d then kind_comes MessageKind.Ask s x else is_away x) e ∙ ap (λ (c : Bool). if c then kind_comes MessageKind.Ask s x else is_away x) same) ∙ k)
+asked_away s d o x b h1 h2 h3 = search (arith, comes_away)
 
 moving : (pt : Point) (i : MsgId) (is : List MsgId) (t : Told) (p : Pid) (h : InPhases pt.view) → pt.view.inbox pt.view.acting ≡ i ∷ is → pt.view.told i ≡ Some t → t.about ≡ Of p → Expects pt.view p t.kind
 moving pt i is t p h front told about =
@@ -141,13 +121,7 @@ hears_walks b o m i is q h front told = walks_of (turned o m) (rule.hears b o m 
 
 -- the other directives
 net_needs : (l : Line) → IsNetLine l → (pt : Point) → Needs pt l
-net_needs (Line.Taken a b n) h pt = tt
-net_needs (Line.Old a b n) h pt = tt
-net_needs (Line.Early a b n) h pt = tt
-net_needs (Line.Acked a b n) h pt = tt
-net_needs (Line.Resent m n) h pt = tt
-net_needs Line.Nothing h pt = tt
-net_needs _ h pt = absurd h
+net_needs l h1 pt = search arith
 
 net_loose : (ps : List Part) → IsNet ps → AllLoose ps
 net_loose = by_net AllLoose tt (λ l ps net h. (net_needs l net, h)) (λ a b l ps h. (λ pt. tt, h))
@@ -156,13 +130,7 @@ migrates_loose : (o : Point) (p : Pid) → AllLoose (migrates o p)
 migrates_loose o p = by_migrates AllLoose o p (λ pt. tt, tt) (λ pt. tt, tt) (λ n off is. (λ pt. tt, tt))
 
 pub begins : (o : Point) (m : ℕ) → Phased o → KnownStands o.kernel o.view → Begins o m
-begins o m h known = record {
-  sane = begun_sane o (Step.Turn m) h.sane;
-  phases = calm_phases o.view (after_head o.view (Step.Turn m)) (head_calm o.view (Step.Turn m)) h.phases;
-  known = known;
-  rooted = rooted o h.sane h.ground;
-  state = groups.begun o (Step.Turn m) h.state (λ z. groups.turn_off o.view m z) (λ i. refl);
-}
+begins o m h known = search (arith, begun_sane o (Step.Turn m) h.sane, calm_phases o.view (after_head o.view (Step.Turn m)) (head_calm o.view (Step.Turn m)) h.phases, rooted o h.sane h.ground, h.state)
 
 outcome_walks : (b : Boot) (pt : Point) (d : Step) → Phased pt → KnownStands pt.kernel pt.view → WalksOf (begun pt d) (rule.outcome b pt d)
 outcome_walks b pt d h known = walks_of (begun pt d) (rule.outcome b pt d) (λ ps. by_outcome (λ x. Walks (begun pt x)) b pt d ps (record {

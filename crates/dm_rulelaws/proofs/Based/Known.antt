@@ -1,18 +1,16 @@
 -- What machines know of processes agrees with the kernel without machines: each group keeps it.
-use Rattle.dm_rulelaws.proofs.Names.{aim, sets, at_hand-is, ◌≡◌, ◌≢◌, ℕ, ◌+◌, ◌==◌, ◌&&◌, Bool, true, false, List, [], ◌∷◌, ◌++◌, is_some, refl, ap, ◌∙◌, sym, subst, inl, inr, arith, if◌then◌else◌, cases_Bool, false≢true, nat_tests, Option}
-use Rattle.dm_rulelaws.proofs.Names.{None, Some, Pid, pid_eq, MsgId, Boot, Label, Line, Stage, bind, PlainProcess, Life, Alive, OneKernel, Step, pid_eq-is, bind-is, completing, Spelled, Point, group_of, at_machine, at_record, without}
-use Rattle.dm_rulelaws.proofs.Names.{moved_back, View, Told, Known, Unknown, Here, Frozen, Incoming, Forward, handled, handled_first, receiver_of, target_of, front_told, front_of, gone_to, served_told, rejoins, view_after, is_away, is_here}
-use Rattle.dm_rulelaws.proofs.Names.{at_machine_at, Phased, is_kill, Sane, is_server, KnownStands, agrees, server_at, rings, turns_here}
+use Rattle.dm_rulelaws.proofs.Names.{◌≡◌, ◌≢◌, ℕ, ◌+◌, ◌==◌, ◌&&◌, Bool, true, false, List, [], ◌∷◌, ◌++◌, is_some, refl, ap, ◌∙◌, sym, subst, inl, inr, arith, if◌then◌else◌, cases_Bool, false≢true, nat_tests, Option, None, Some, Pid}
+use Rattle.dm_rulelaws.proofs.Names.{pid_eq, MsgId, Boot, Label, Line, Stage, PlainProcess, Life, Alive, OneKernel, Step, pid_eq-is, bind-is, completing, Spelled, Point, group_of, at_machine, at_record, without, moved_back, View, Told}
+use Rattle.dm_rulelaws.proofs.Names.{Known, Unknown, Here, Frozen, Incoming, Forward, handled, handled_first, receiver_of, front_of, gone_to, served_told, rejoins, view_after, is_away, is_here, at_machine_at, Phased, is_kill, Sane}
+use Rattle.dm_rulelaws.proofs.Names.{is_server, KnownStands, agrees, server_at, rings, turns_here, aim, sets, at_hand-is, bind}
 use Rattle.dm_onekernel.specs.Step as kernel
 use Rattle.dm_rule.specs.View.{Ended}
 use Rattle.dm_rule.specs.View as view
 use Rattle.dm_rulelaws.proofs.Based.Groups.{group_keeps}
-use Rattle.dm_rulelaws.proofs.Based.Lives.{Alike, SetLife, life_sort, step_ends, step_serves, step_creates}
-use Rattle.dm_rulelaws.proofs.Based.Loud.{Loud, keeps_by}
+use Rattle.dm_rulelaws.proofs.Based.Loud.{Alike, SetLife, life_sort, some_alike, step_ends, step_serves, step_creates, Loud, keeps_by}
 use Rattle.dm_rulelaws.proofs.Based.Needs.{Resting, Serves}
-use Rattle.dm_rulelaws.proofs.Based.Rings.{rings_without, rings_others, back_self, back_others, last_self, last_others, ring_set}
+use Rattle.dm_rulelaws.proofs.Based.Sets.{rings_without, rings_others, back_self, back_others, last_self, last_others, ring_set, set_all, killed_or}
 use Rattle.dm_rulelaws.proofs.Based.Rows.{living}
-use Rattle.dm_rulelaws.proofs.Based.Sets.{set_all, killed_or}
 
 -- what a machine knows agrees by whether a process was made, lives or has ended
 agrees_by : Known → Option Bool → Bool
@@ -46,36 +44,18 @@ by_sort Ended (Some (Life.Ended y)) = refl
 agrees_alike : (k : Known) (a b : Option Life) → life_sort a ≡ life_sort b → agrees k a ≡ agrees k b
 agrees_alike k a b e = by_sort k a ∙ ap (agrees_by k) e ∙ sym (by_sort k b)
 
-some_sort : (o : Option Life) → is_some o ≡ is_some (life_sort o)
-some_sort (Some (Alive x)) = refl
-some_sort _ = refl
-
-some_alike : (a b : Option Life) → life_sort a ≡ life_sort b → is_some a ≡ is_some b
-some_alike a b e = some_sort a ∙ ap is_some e ∙ sym (some_sort b)
-
 -- what agrees with an ended process, and with a living one
 away_ended : (k : Known) (o : Option Life) → life_sort o ≡ Some false → is_away k ≡ true → agrees k o ≡ true
-away_ended Unknown o e a = refl
-away_ended (Forward at moves) None e a = cc
-away_ended (Forward at moves) (Some l) e a = refl
-away_ended _ o e a = absurd (false≢true a)
+away_ended k o h1 h2 = search arith
 
 ended_agrees : (o : Option Life) → life_sort o ≡ Some false → agrees Ended o ≡ true
-ended_agrees None e = cc
-ended_agrees (Some (Alive x)) e = absurd (false≢true (let f : true ≡ false = cc in sym f))
-ended_agrees (Some (Life.Ended y)) e = refl
+ended_agrees o h1 = search arith
 
 here_agrees : (o : Option Life) → life_sort o ≡ Some true → agrees Here o ≡ true
-here_agrees None e = cc
-here_agrees (Some (Alive x)) e = refl
-here_agrees (Some (Life.Ended y)) e = absurd (false≢true (let f : false ≡ true = cc in f))
+here_agrees o h1 = search arith
 
 left_agrees : (x : Known) (d n : ℕ) (o : Option Life) → x ≡ Frozen d → agrees x o ≡ true → agrees (gone_to x n) o ≡ true
-left_agrees x d n o e h = frozen_left o (sym (ap (λ (k : Known). agrees k o) e) ∙ h) ∙ refl
-  where
-    frozen_left : (a : Option Life) → agrees (Frozen d) a ≡ true → agrees (gone_to x n) a ≡ true
-    frozen_left None f = absurd (false≢true f)
-    frozen_left (Some l) f = ap (λ (k : Known). agrees (gone_to k n) (Some l)) e
+left_agrees x d n o h1 h2 = search arith
 
 frozen_some : (d : ℕ) (o : Option Life) → agrees (Frozen d) o ≡ true → is_some o ≡ true
 frozen_some d None f = absurd (false≢true f)
@@ -91,12 +71,7 @@ away_off _ e = refl
 
 -- nothing is learnt, and nobody ends
 known_same : (s t : OneKernel) (v w : View) → Alike s t → w.known ≡ v.known → ((m : ℕ) (q : Pid) → rings q (w.ring m) ≡ rings q (v.ring m)) → KnownStands s v → KnownStands t w
-known_same s t v w alike known ring h = record {
-  server = λ m p e. ap (λ (f : ℕ → Pid → Known). f m p) known ∙ h.server m p e;
-  agree = λ m p e. ap (λ (f : ℕ → Pid → Known). agrees (f m p) (t.processes p)) known ∙ agrees_alike (v.known m p) (t.processes p) (s.processes p) (alike p) ∙ h.agree m p e;
-  home = λ p e some unknown. h.home p e (sym (some_alike (t.processes p) (s.processes p) (alike p)) ∙ some) (sym (ap (λ (f : ℕ → Pid → Known). f p.home p) known) ∙ unknown);
-  ring = λ m p. ring m p ∙ h.ring m p ∙ ap (λ (f : ℕ → Pid → Known). turns_here (is_server p) (f m p)) (sym known);
-}
+known_same s t v w alike known ring h = search (arith, h.server, t.processes, agrees_alike, v.known, s.processes, h.agree, h.home, some_alike, h.ring)
 
 known_as : (s t : OneKernel) (v w : View) → Alike s t → w.known ≡ v.known → w.ring ≡ v.ring → KnownStands s v → KnownStands t w
 known_as s t v w alike known ring h = known_same s t v w alike known (λ m q. ap (λ (f : ℕ → List Pid). rings q (f m)) ring) h
@@ -147,10 +122,7 @@ ring_there : (f : ℕ → List Pid) (a : ℕ) (p : Pid) (zs : List Pid) → ring
 ring_there f a p zs = ap (rings p) (at_machine_at f a zs)
 
 ring_off : (f : ℕ → List Pid) (a : ℕ) (p : Pid) (zs : List Pid) → ((q : Pid) → pid_eq p q ≡ false → rings q zs ≡ rings q (f a)) → (m : ℕ) (q : Pid) → ((a == m) && pid_eq p q) ≡ false → rings q (at_machine f a zs m) ≡ rings q (f m)
-ring_off f a p zs others m q off = elim (cases_Bool (pid_eq p q)) [
-  | inl same ↦ ap (λ (c : Bool). rings q (if c then zs else f m)) (off_first (a == m) (pid_eq p q) off same)
-  | inr apart ↦ ring_set f a zs q (others q apart) m
-]
+ring_off f a p zs others m q off = search (arith, off_first, ring_set)
 
 -- a served process goes to its ring's back
 serving_ring : (s : OneKernel) (v : View) (p : Pid) → KnownStands s v → is_server p ≡ false → v.known v.acting p ≡ Here → (m : ℕ) (q : Pid) → rings q (at_machine v.ring v.acting (moved_back p (v.ring v.acting)) m) ≡ rings q (v.ring m)
@@ -183,17 +155,7 @@ comes_known : (s t : OneKernel) (v w : View) (p : Pid) → is_server p ≡ false
 comes_known s t v w p server known ring set away far off h =
     let zs = v.ring v.acting ++ p ∷ [] in
     let none : rings p (v.ring v.acting) ≡ 0 = h.ring v.acting p ∙ turns_off (is_server p) (v.known v.acting p) off in
-    known_learns s t v w p Here (record {
-      server = server;
-      known = known;
-      others = set.off;
-      mine = here_agrees (t.processes p) set.at_;
-      away = away;
-      some = λ e. cc;
-      far = far;
-      ring = ap (λ (f : ℕ → List Pid). rings p (f v.acting)) ring ∙ ring_there v.ring v.acting p zs ∙ last_self p (v.ring v.acting) none;
-      rings_ = λ m q o. ap (λ (f : ℕ → List Pid). rings q (f m)) ring ∙ ring_off v.ring v.acting p zs (λ r apart. last_others p r (v.ring v.acting) apart) m q o;
-    }) h
+    known_learns s t v w p Here ((search (arith, set.off, here_agrees, t.processes, set.at_, v.acting, ring_there, v.ring, last_self, ring_off, last_others))) h
 
 alive_set : (s : OneKernel) (p : Pid) (x : PlainProcess) → s.processes p ≡ Some (Alive x) → SetLife s s p (Some true)
 alive_set s p x e = record { at_ = ap life_sort e; off = λ q apart. refl }
@@ -220,11 +182,7 @@ served_line pt t id serves sane is h =
     let to : told.receiver ≡ l.message.to = sane.tells.receiver id l.message told l.there serves.is in
     let lives = living pt l.message.to l.process sane (ap kernel.alive l.alive) in
     let k : KnownStands s v = record { server = h.server; agree = h.agree; home = h.home; ring = h.ring } in
-    subst (λ (o : Option Told). KnownStands t (served_told v o)) (sym serves.is)
-    (served_known s t v told (ap is_server to ∙ lives.server) (ap (λ (q : Pid). is_some (s.processes q)) to ∙ ap is_some l.alive)
-    (λ e. subst (λ (q : Pid). SetLife s t q (Some false)) (sym to) (l.served.kill (sym (ap is_kill kind) ∙ e)))
-    (λ e. l.served.other (sym (ap is_kill kind) ∙ e))
-    (λ e. let r = serves.rests e in record { here = r.here; away = r.away }) k)
+    search (arith, serves.is, served_known, lives.server, s.processes, l.alive, l.served.kill, l.served.other, serves.rests)
 
 dropped_known : (s t : OneKernel) (v : View) (id : MsgId) (o : Option Pid) → Alike s t → KnownStands s v → KnownStands t (view.dropped_for v id o)
 dropped_known s t v id None alike h = known_as s t v v alike refl refl h
@@ -289,17 +247,7 @@ known_loud = record {
       }) h;
   accepted = λ pt p lives away h.
       let v = pt.view in
-      known_learns pt.kernel pt.kernel v (view_after v (Line.Migration Stage.Accepted p)) p (Incoming (front_of (v.inbox v.acting))) (record {
-        server = lives.server;
-        known = refl;
-        others = λ q apart. refl;
-        mine = ap (agrees (Incoming (front_of (v.inbox v.acting)))) lives.alive;
-        away = λ n off. h.agree n p lives.server;
-        some = λ e. cc;
-        far = λ e. ap is_some lives.alive;
-        ring = h.ring v.acting p ∙ turns_off (is_server p) (v.known v.acting p) (away_off (v.known v.acting p) away);
-        rings_ = λ m q off. refl;
-      }) h;
+      known_learns pt.kernel pt.kernel v (view_after v (Line.Migration Stage.Accepted p)) p (Incoming (front_of (v.inbox v.acting))) ((search (arith, v.inbox, v.acting, turns_off, v.known, away_off))) h;
   left = λ pt p leaves h.
       let v = pt.view in
       let n = v.moves p + 1 in

@@ -125,23 +125,25 @@ pub said_by : (pt next : Point) (l : Line) → Steps pt (Says l) next → Said p
 said_by pt next l s = one_said pt next l s.lines s.are s.leads
 
 -- a put and its packet
-puts_by : (P : Point → Type 0) (keeps : Rides P) (pt next : Point) (b : ℕ) (i : MsgId) (k : MessageKind) (q : Pid) (c d : Bool) → P pt
+by_packet : (P : Point → Type 0) (pt next : Point) (b : ℕ) (i : MsgId) (k : MessageKind) (q : Pid) (c d : Bool) → P (moved pt (Line.Put pt.view.acting b i k q) pt.kernel) → ((o : Point) (x y z : ℕ) (l : Load) → P o → P (moved o (Line.Packet x y z l) o.kernel))
     → after pt (Line.Put pt.view.acting b i k q ∷ (if c then [] else if d then packet_line pt.view pt.view.acting b (Load.Data (length (pt.view.pair pt.view.acting b).ids)) ∷ [] else [])) ≡ Some next → P next
-puts_by P keeps pt next b i k q true d h is =
-    let f : moved pt (Line.Put pt.view.acting b i k q) pt.kernel ≡ next = cc in subst P f (keeps.put pt pt.view.acting b i k q h)
-puts_by P keeps pt next b i k q false false h is =
-    let f : moved pt (Line.Put pt.view.acting b i k q) pt.kernel ≡ next = cc in subst P f (keeps.put pt pt.view.acting b i k q h)
-puts_by P keeps pt next b i k q false true h is =
+by_packet P pt next b i k q true d h packet is = let f : moved pt (Line.Put pt.view.acting b i k q) pt.kernel ≡ next = cc in subst P f h
+by_packet P pt next b i k q false false h packet is = let f : moved pt (Line.Put pt.view.acting b i k q) pt.kernel ≡ next = cc in subst P f h
+by_packet P pt next b i k q false true h packet is =
     let n = length (pt.view.pair pt.view.acting b).wire in
     let l = Load.Data (length (pt.view.pair pt.view.acting b).ids) in
     let mid = moved pt (Line.Put pt.view.acting b i k q) pt.kernel in
     let f : moved mid (Line.Packet pt.view.acting b n l) mid.kernel ≡ next = cc in
-    subst P f (keeps.packet mid pt.view.acting b n l (keeps.put pt pt.view.acting b i k q h))
+    subst P f (packet mid pt.view.acting b n l h)
+
+pub by_puts : (P : Point → Type 0) (pt next : Point) (b : ℕ) (i : MsgId) (k : MessageKind) (q : Pid) (ls : List Line) → P (moved pt (Line.Put pt.view.acting b i k q) pt.kernel) → ((o : Point) (x y z : ℕ) (l : Load) → P o → P (moved o (Line.Packet x y z l) o.kernel)) → Some (puts pt.view b i k q) ≡ Some ls
+    → after pt ls ≡ Some next → P next
+by_puts P pt next b i k q ls h packet is leads =
+    let f : puts pt.view b i k q ≡ ls = cc in
+    by_packet P pt next b i k q (pt.view.acting == b) (goes_out (pt.view.pair pt.view.acting b)) h packet (ap (after pt) f ∙ leads)
 
 puts_keep : (P : Point → Type 0) (keeps : Rides P) (pt next : Point) (b : ℕ) (i : MsgId) (k : MessageKind) (q : Pid) (ls : List Line) → P pt → Some (puts pt.view b i k q) ≡ Some ls → after pt ls ≡ Some next → P next
-puts_keep P keeps pt next b i k q ls h is leads =
-    let f : puts pt.view b i k q ≡ ls = cc in
-    puts_by P keeps pt next b i k q (pt.view.acting == b) (goes_out (pt.view.pair pt.view.acting b)) h (ap (after pt) f ∙ leads)
+puts_keep P keeps pt next b i k q ls h = by_puts P pt next b i k q ls (keeps.put pt pt.view.acting b i k q h) keeps.packet
 
 pub again_rides : (P : Point → Type 0) (keeps : Rides P) (pt next : Point) (i : MsgId) (b : ℕ) → Steps pt (Again i b) next → P pt → P next
 again_rides P keeps pt next i b s h =

@@ -1,11 +1,10 @@
 -- What follows a request to move is here on no machine: each group keeps it. Only between two lines of a group it may be here.
 use Rattle.dm_rulelaws.proofs.Names.{forwards_on, gives_piece, updates, IsNet, Addresses, Receiver, plain_kind, own_id, length, manager, ◌≡◌, ℕ, ◌==◌, ◌&&◌, Bool, true, false, List, [], ◌∷◌, ◌++◌, refl, ap, ◌∙◌, sym, subst, ⊤, inl, inr}
 use Rattle.dm_rulelaws.proofs.Names.{if◌then◌else◌, cases_Bool, false≢true, is_some, Option, None, Some, Pid, pid_of, pid_eq, MsgId, MessageKind, Stage, Boot, Label, OneKernel, PlainMessage, PlainWhat, Note, Outcome, Load, with_sent}
-use Rattle.dm_rulelaws.proofs.Names.{with_note, without_note, without_message, bind, bind-is, first_number, Step, Line, View, Told, Known, Unknown, Here, Frozen, Incoming, front_of, gone_to, handled, handled_first, receiver_of, oldest}
-use Rattle.dm_rulelaws.proofs.Names.{view_after, after_label, is_here, is_away, at_record, Point, label_of, kernel_after, after_line, after, moved, Part, Says, Routes, Again, Owns, Transmits, Spelled, lines_of, puts, goes_out, packet_line}
-use Rattle.dm_rulelaws.proofs.Names.{behind, spelled, group_of, group_is, sends_on, to_kernel, IsNetLine, queued_known, held_known, dropped_known, forwarded_known, proto_known, by_step, by_parts, by_outcome, by_round, ends_move-is}
-use Rattle.dm_rulelaws.proofs.Names.{by_handles, by_hears, by_net, by_migrates, by_forwards, front_way, Sane, told_some, Stops, Phased, rooted, is_server, KnownStands, pid_eq-is, pid_eq-same, left_parts, is_kill, served_told, migrates}
-use Rattle.dm_rulelaws.proofs.Names.{filter, not, ◌+◌, answers_move, leaves_for, aim, sets}
+use Rattle.dm_rulelaws.proofs.Names.{with_note, without_note, without_message, bind, bind-is, first_number, Step, Line, View, Told, Known, Here, Frozen, Incoming, front_of, gone_to, handled, receiver_of, oldest, view_after, after_label}
+use Rattle.dm_rulelaws.proofs.Names.{is_here, is_away, at_record, Point, label_of, kernel_after, after_line, after, moved, Part, Says, Routes, Again, Owns, Transmits, Spelled, lines_of, puts, goes_out, packet_line, behind, spelled}
+use Rattle.dm_rulelaws.proofs.Names.{group_of, group_is, sends_on, to_kernel, IsNetLine, queued_known, held_known, dropped_known, forwarded_known, proto_known, by_step, by_parts, by_outcome, by_round, ends_move-is, by_handles, by_hears}
+use Rattle.dm_rulelaws.proofs.Names.{by_net, by_migrates, by_forwards, Phased, KnownStands, pid_eq-is, pid_eq-same, left_parts, served_told, migrates, filter, not, ◌+◌, answers_move, leaves_for, aim, sets}
 use Rattle.dm_onekernel.specs.Pieces as pieces
 use Rattle.dm_onekernel.specs.Service as service
 use Rattle.dm_onekernel.specs.Step as kernel
@@ -13,7 +12,7 @@ use Rattle.dm_rule.specs.Rule as rule
 use Rattle.dm_rule.specs.View as view
 use Rattle.dm_rulelaws.proofs.Fits.Serves.{asked_noted}
 use Rattle.dm_rulelaws.proofs.Based.Groups.{Begins, begins}
-use Rattle.dm_rulelaws.proofs.Based.Needs.{Resting, Unborn}
+use Rattle.dm_rulelaws.proofs.Based.Needs.{Resting}
 use Rattle.dm_rulelaws.proofs.Based.Rows.{turned, resting, unborn}
 use Rattle.dm_rulelaws.proofs.Based.Sets.{set_all, killed_or}
 

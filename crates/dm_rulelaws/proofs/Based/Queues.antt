@@ -1,13 +1,16 @@
 -- What is queued for a process is a user message for it, and what is held for it is for it: each group keeps it.
-use Rattle.dm_rulelaws.proofs.Names.{Stage, aim, sets, ◌≡◌, ℕ, ◌≤◌, Bool, true, false, List, [], ◌∷◌, ◌++◌, refl, ap, ◌∙◌, sym, subst, inl, inr, arith, if◌then◌else◌, cases_Bool, false≢true, Option, None, Some, Pid, MsgId, MessageKind}
-use Rattle.dm_rulelaws.proofs.Names.{id_eq, plain_kind, PlainMessage, PlainWhat, Boot, Step, id_eq-is, Spelled, Point, first_point, group_of, at_record, without_id, without_front, to_of, Spot, Queue, times, standing, StandsAsBag, View}
-use Rattle.dm_rulelaws.proofs.Names.{Told, handled, receiver_of, served_told, first_told, is_kernels, letters, letters_bag, kernels_fresh, Phased, told_some, KnownStands, zero_cases}
+use Rattle.dm_rulelaws.proofs.Names.{◌≡◌, ℕ, ◌≤◌, Bool, true, false, List, [], ◌∷◌, ◌++◌, refl, ◌∙◌, sym, subst, arith, false≢true, Option, None, Some, Pid, MsgId, MessageKind, plain_kind, PlainMessage, PlainWhat, Boot, Step, id_eq-is}
+use Rattle.dm_rulelaws.proofs.Names.{Spelled, Point, first_point, group_of, at_record, without_id, without_front, to_of, Spot, Queue, times, standing, StandsAsBag, View, Told, handled, receiver_of, served_told, is_kernels, letters}
+use Rattle.dm_rulelaws.proofs.Names.{letters_bag, kernels_fresh, Phased, told_some, KnownStands, zero_cases, ◌+◌, ap, if◌then◌else◌, Label, Line, Stage, Known, Here, Frozen, Incoming, handled_first, front_of, gone_to, rejoins, is_away}
+use Rattle.dm_rulelaws.proofs.Names.{ListsStand, has_no_queue, has_nothing_held, is_kill, aim, sets}
 use Rattle.dm_message.specs.Plain as what
 use Rattle.dm_rule.specs.View as view
 use Rattle.dm_rulelaws.proofs.Queued.{IsQueued, is_user}
 use Rattle.dm_rulelaws.proofs.Based.Groups.{group_keeps}
-use Rattle.dm_rulelaws.proofs.Based.Loud.{Loud, keeps_by}
+use Rattle.dm_rulelaws.proofs.Based.Loud.{Loud, keeps_by, Stays}
 use Rattle.dm_rulelaws.proofs.Based.Sets.{set_all, killed_or, without_fewer, front_fewer, last_of}
+use Rattle.dm_rule.specs.View.{Ended}
+use Rattle.dm_rulelaws.proofs.Based.Needs.{Serves}
 
 -- a user message for this process, and no kernel's own
 pub record IsUsers (told : MsgId → Option Told) (p : Pid) (i : MsgId) : Type 0 where
@@ -38,14 +41,7 @@ none_there T i least = absurd (let k : 1 ≤ 0 = least in omega (arith, k))
 
 -- what was told stays
 pub told_kept : (v : View) (a b : ℕ) (i : MsgId) (k : MessageKind) (q : Pid) (j : MsgId) (t : Told) → v.told j ≡ Some t → (view.after_put v a b i k q).told j ≡ Some t
-told_kept v a b i k q j t e =
-    let new : Told = record { kind = k; receiver = q; about = v.topic } in
-    elim (cases_Bool (id_eq i j)) [
-      | inl same ↦
-          let is : v.told i ≡ Some t = ap v.told (id_eq-is i j same) ∙ e in
-          ap (λ (c : Bool). if c then Some (first_told (v.told i) new) else v.told j) same ∙ ap (λ (o : Option Told). Some (first_told o new)) is
-      | inr apart ↦ ap (λ (c : Bool). if c then Some (first_told (v.told i) new) else v.told j) apart ∙ e
-    ]
+told_kept v a b i k q j t e = search (arith, v.topic, v.told, id_eq-is)
 
 users_on : (f g : MsgId → Option Told) (p : Pid) (i : MsgId) → ((t : Told) → f i ≡ Some t → g i ≡ Some t) → IsUsers f p i → IsUsers g p i
 users_on f g p i kept h = record { what = h.what; is = kept h.what h.is; kind = h.kind; receiver = h.receiver; other = h.other }
@@ -54,10 +50,7 @@ for_on : (f g : MsgId → Option Told) (p : Pid) (i : MsgId) → ((t : Told) →
 for_on f g p i kept h = record { what = h.what; is = kept h.what h.is; receiver = h.receiver }
 
 waits_as : (v w : View) → w.queue ≡ v.queue → w.held ≡ v.held → w.told ≡ v.told → Waits v → Waits w
-waits_as v w queue held told h = record {
-  queue = λ n p i least. users_on v.told w.told p i (λ t e. ap (λ (f : MsgId → Option Told). f i) told ∙ e) (h.queue n p i (subst (λ (f : ℕ → Pid → List MsgId). 1 ≤ times i (f n p)) queue least));
-  held = λ n p i least. for_on v.told w.told p i (λ t e. ap (λ (f : MsgId → Option Told). f i) told ∙ e) (h.held n p i (subst (λ (f : ℕ → Pid → List MsgId). 1 ≤ times i (f n p)) held least));
-}
+waits_as v w queue held told h = search (arith, users_on, v.told, w.told, h.queue, for_on, h.held)
 
 -- lists that change
 waits_queue : (v : View) (p : Pid) (xs : List MsgId) → AreUsers v.told v.acting p xs → Waits v → Waits (record v { queue = at_record v.queue v.acting p xs })
@@ -98,13 +91,7 @@ emptied v p n q i h = set_all (λ m r xs. (j : MsgId) → 1 ≤ times j xs → I
 
 waits_loud : Loud (λ pt. Waits pt.view)
 waits_loud = record {
-  rides = record {
-    put = λ pt a b i k q h. record {
-      queue = λ n p j least. users_on pt.view.told (view.after_put pt.view a b i k q).told p j (λ t e. told_kept pt.view a b i k q j t e) (h.queue n p j least);
-      held = λ n p j least. for_on pt.view.told (view.after_put pt.view a b i k q).told p j (λ t e. told_kept pt.view a b i k q j t e) (h.held n p j least);
-    };
-    packet = λ pt a b k l h. record { queue = h.queue; held = h.held };
-  };
+  rides = (search (arith, users_on, told_kept, for_on));
   quiet = λ pt w t l e s told alike sane is h. subst Waits (sym e) (waits_as pt.view w s.queue s.held told h);
   ran = λ pt t p k here alike sane is h. record { queue = h.queue; held = h.held };
   receive = λ pt t p id here alike sane is h.
@@ -140,10 +127,7 @@ users_are (what.User code channel body links) e = refl
 users_are _ e = cc
 
 entered_of : (pt : Point) (h : Phased pt) (i : MsgId) (t : Told) → pt.view.told i ≡ Some t → is_kernels i ≡ false → 1 ≤ h.state.e i
-entered_of pt h i t told other = elim (zero_cases (h.state.e i)) [
-  | inl none ↦ absurd (let f : None ≡ Some t = sym (h.state.untold i none other) ∙ told in cc)
-  | inr least ↦ least
-]
+entered_of pt h i t told other = search (arith, zero_cases, h.state.e, h.state.untold)
 
 pub queued_of : (pt : Point) (h : Phased pt) → Waits pt.view → (n : ℕ) (p : Pid) (i : MsgId) → 1 ≤ times i (pt.view.queue n p) → IsQueued (h.state.e i) p (pt.kernel.bag i)
 queued_of pt h waits n p i least =
@@ -180,17 +164,127 @@ users_by pt h n p i least q =
     let (m, there) = bag_some (pt.kernel.bag i) x (sym (letters_bag h.state.own pt.kernel.bag i other) ∙ way) in
     let (t, told) = told_some (pt.view.told i) x (h.state.stands.told i x way) in
     let k = q.is m there in
-    record {
-      what = t;
-      is = told;
-      kind = h.sane.tells.kind i m t there told ∙ user_kind m.what k.1;
-      receiver = h.sane.tells.receiver i m t there told ∙ k.0;
-      other = other;
-    }
+    search (arith, h.sane.tells.kind i m t there told ∙ user_kind m.what k.1, h.sane.tells.receiver i m t there told ∙ k.0)
 
 pub waits_by : (pt : Point) (h : Phased pt) → ((n : ℕ) (p : Pid) (i : MsgId) → 1 ≤ times i (pt.view.queue n p) → IsQueued (h.state.e i) p (pt.kernel.bag i))
     → ((n : ℕ) (p : Pid) (i : MsgId) → 1 ≤ times i (pt.view.held n p) → (t : Told) × (pt.view.told i ≡ Some t) × (t.receiver ≡ p)) → Waits pt.view
-waits_by pt h queued held = record {
-  queue = λ n p i least. users_by pt h n p i least (queued n p i least);
-  held = λ n p i least. let (t, told, receiver) = held n p i least in record { what = t; is = told; receiver = receiver };
+waits_by pt h queued held = search (arith, users_by)
+
+-- A queue only where a process is or leaves, and held messages only where it leaves or comes: each group keeps it.
+
+-- what one says of a list
+abbrev NoQueue : View → ℕ → Pid → List MsgId → Type 0
+NoQueue v n q xs = has_no_queue (v.known n q) ≡ true → xs ≡ []
+
+abbrev NoneHeld : View → ℕ → Pid → List MsgId → Type 0
+NoneHeld v n q xs = has_nothing_held (v.known n q) ≡ true → xs ≡ []
+
+lists_as : (v w : View) → Stays v w → ListsStand v → ListsStand w
+lists_as v w s h = record {
+  queue = λ m p e. ap (λ (f : ℕ → Pid → List MsgId). f m p) s.queue ∙ h.queue m p (sym (ap (λ (f : ℕ → Pid → Known). has_no_queue (f m p)) s.known) ∙ e);
+  held = λ m p e. ap (λ (f : ℕ → Pid → List MsgId). f m p) s.held ∙ h.held m p (sym (ap (λ (f : ℕ → Pid → Known). has_nothing_held (f m p)) s.known) ∙ e);
 }
+
+-- a machine learns something of a process
+lists_learn : (v w : View) (p : Pid) (k : Known) → w.known ≡ at_record v.known v.acting p k → w.queue ≡ v.queue → w.held ≡ v.held → (has_no_queue k ≡ true → v.queue v.acting p ≡ []) → (has_nothing_held k ≡ true → v.held v.acting p ≡ []) → ListsStand v → ListsStand w
+lists_learn v w p k known queue held no_queue none h = record {
+  queue = λ m q e. ap (λ (f : ℕ → Pid → List MsgId). f m q) queue
+      ∙ set_all (λ n r x. has_no_queue x ≡ true → v.queue n r ≡ []) v.known v.acting p k no_queue (λ n r off. h.queue n r) m q (sym (ap (λ (f : ℕ → Pid → Known). has_no_queue (f m q)) known) ∙ e);
+  held = λ m q e. ap (λ (f : ℕ → Pid → List MsgId). f m q) held
+      ∙ set_all (λ n r x. has_nothing_held x ≡ true → v.held n r ≡ []) v.known v.acting p k none (λ n r off. h.held n r) m q (sym (ap (λ (f : ℕ → Pid → Known). has_nothing_held (f m q)) known) ∙ e);
+}
+
+-- a process ends, or is left
+lists_ended : (v : View) (p : Pid) → v.known v.acting p ≡ Here → ListsStand v → ListsStand (view.ended v p)
+lists_ended v p here h = lists_learn v (view.ended v p) p Ended refl refl refl (λ e. absurd (false≢true e)) (λ e. h.held v.acting p (ap has_nothing_held here)) h
+
+lists_handled : (v : View) (id : MsgId) → ListsStand v → ListsStand (handled v id)
+lists_handled v id h = record { queue = h.queue; held = h.held }
+
+lists_served : (v : View) (o : Option Told) → ((t : Told) → o ≡ Some t → is_kill t.kind ≡ true → v.known v.acting t.receiver ≡ Here) → ListsStand v → ListsStand (served_told v o)
+lists_served v None here h = h
+lists_served v (Some t) here h = killed_or ListsStand t.kind v t.receiver (λ k. lists_ended v t.receiver (here t refl k) h) (λ k. h)
+
+-- what a message kills is here
+kills_here : (v : View) (id : MsgId) (t : Told) → Serves v id → v.told id ≡ Some t → is_kill t.kind ≡ true → v.known v.acting t.receiver ≡ Here
+kills_here v id t serves told =
+    let is = serves.is in
+    let f : serves.told ≡ t = cc in
+    subst (λ (x : Told). is_kill x.kind ≡ true → v.known v.acting x.receiver ≡ Here) f (λ k. (serves.rests k).here)
+
+-- a queue or a held list changes
+lists_queue : (v : View) (p : Pid) (xs : List MsgId) → NoQueue v v.acting p xs → ListsStand v → ListsStand (record v { queue = at_record v.queue v.acting p xs })
+lists_queue v p xs mine h = record { queue = set_all (NoQueue v) v.queue v.acting p xs mine (λ n r off. h.queue n r); held = h.held }
+
+lists_held : (v : View) (p : Pid) (xs : List MsgId) → NoneHeld v v.acting p xs → ListsStand v → ListsStand (record v { held = at_record v.held v.acting p xs })
+lists_held v p xs mine h = record { queue = h.queue; held = set_all (NoneHeld v) v.held v.acting p xs mine (λ n r off. h.held n r) }
+
+lists_dropped : (v : View) (id : MsgId) (o : Option Pid) → ListsStand v → ListsStand (view.dropped_for v id o)
+lists_dropped v id None h = h
+lists_dropped v id (Some p) h = lists_queue v p (without_front id (v.queue v.acting p)) (λ e. ap (without_front id) (h.queue v.acting p e)) h
+
+lists_queued : (v : View) (id : MsgId) (o : Option Told) → ((t : Told) → o ≡ Some t → has_no_queue (v.known v.acting t.receiver) ≡ false) → ListsStand v → ListsStand (view.queued_for v id (receiver_of o))
+lists_queued v id None there h = h
+lists_queued v id (Some t) there h = lists_queue v t.receiver (v.queue v.acting t.receiver ++ id ∷ []) (λ e. absurd (false≢true (sym (there t refl) ∙ e))) h
+
+lists_held_for : (v : View) (id : MsgId) (o : Option Told) → ((t : Told) → o ≡ Some t → has_nothing_held (v.known v.acting t.receiver) ≡ false) → ListsStand v → ListsStand (view.held_for v id (receiver_of o))
+lists_held_for v id None there h = h
+lists_held_for v id (Some t) there h = lists_held v t.receiver (v.held v.acting t.receiver ++ id ∷ []) (λ e. absurd (false≢true (sym (there t refl) ∙ e))) h
+
+-- a process is here again: what was held comes to the inbox
+lists_rejoins : (v w : View) (p : Pid) → w.known ≡ at_record v.known v.acting p Here → w.queue ≡ v.queue → w.held ≡ at_record v.held v.acting p [] → ListsStand v → ListsStand w
+lists_rejoins v w p known queue held h =
+    let a = v.acting in
+    record {
+      queue = λ m q e. ap (λ (f : ℕ → Pid → List MsgId). f m q) queue
+          ∙ set_all (λ n r x. has_no_queue x ≡ true → v.queue n r ≡ []) v.known a p Here (λ e. absurd (false≢true e)) (λ n r off. h.queue n r) m q (sym (ap (λ (f : ℕ → Pid → Known). has_no_queue (f m q)) known) ∙ e);
+      held = λ m q e. ap (λ (f : ℕ → Pid → List MsgId). f m q) held
+          ∙ set_all (λ n r xs. has_nothing_held (at_record v.known a p Here n r) ≡ true → xs ≡ []) v.held a p [] (λ e. refl)
+          (λ n r off e. h.held n r (sym (ap (λ (c : Bool). has_nothing_held (if c then Here else v.known n r)) off) ∙ e)) m q (sym (ap (λ (f : ℕ → Pid → Known). has_nothing_held (f m q)) known) ∙ e);
+    }
+
+away_queue : (k : Known) → is_away k ≡ true → has_no_queue k ≡ true
+away_queue Here e = absurd (false≢true e)
+away_queue (Frozen to) e = absurd (false≢true e)
+away_queue Ended e = absurd (false≢true e)
+away_queue _ e = refl
+
+lists_loud : Loud (λ pt. ListsStand pt.view)
+lists_loud = record {
+  rides = record {
+    put = λ pt a b i k q h. record { queue = h.queue; held = h.held };
+    packet = λ pt a b k l h. record { queue = h.queue; held = h.held };
+  };
+  quiet = λ pt w t l e s told alike sane is h. subst ListsStand (sym e) (lists_as pt.view w s h);
+  ran = λ pt t p k here alike sane is h. record { queue = h.queue; held = h.held };
+  receive = λ pt t p id here alike sane is h.
+      let v = pt.view in
+      let k = lists_queue v p (without_id id (v.queue v.acting p)) (λ e. ap (without_id id) (h.queue v.acting p e)) h in
+      record { queue = k.queue; held = k.held };
+  refuse = λ pt t p id c here alike sane is h. record { queue = h.queue; held = h.held };
+  end = λ pt t p y rests sane is h. lists_ended pt.view p rests.here h;
+  dropped = λ pt t id alike sane is h. lists_dropped (handled pt.view id) id (receiver_of (pt.view.told id)) (lists_handled pt.view id h);
+  served = λ pt t id serves sane is h. lists_served (handled pt.view id) (pt.view.told id) (λ u told kills. kills_here pt.view id u serves told kills) (lists_handled pt.view id h);
+  created = λ pt t id p unborn sane is h.
+      lists_learn pt.view (view.view_after pt.view (Line.Label (Label.Created id p))) p Here refl refl refl
+      (λ e. absurd (false≢true e)) (λ e. h.held pt.view.acting p (ap has_nothing_held (unborn.unknown pt.view.acting))) h;
+  queued = λ pt id need sane h. lists_queued (handled pt.view id) id (pt.view.told id) (λ t e. ap has_no_queue (need t e).here) (lists_handled pt.view id h);
+  held = λ pt id need sane h. lists_held_for (handled pt.view id) id (pt.view.told id) need (lists_handled pt.view id h);
+  frozen = λ pt p lives here h.
+      let set = sets pt.view p pt.view.topic in
+      lists_learn pt.view (view.after_stage pt.view p Stage.Frozen) p (Frozen (aim pt.view pt.view.topic)) set.known set.queue set.held (λ e. absurd (false≢true e)) (λ e. absurd (false≢true e)) h;
+  accepted = λ pt p lives away h.
+      lists_learn pt.view (view.after_stage pt.view p Stage.Accepted) p (Incoming (front_of (pt.view.inbox pt.view.acting))) refl refl refl (λ e. h.queue pt.view.acting p (away_queue (pt.view.known pt.view.acting p) away)) (λ e. absurd (false≢true e)) h;
+  left = λ pt p leaves h. lists_learn pt.view (view.after_stage pt.view p Stage.Left) p (gone_to (pt.view.known pt.view.acting p) (pt.view.moves p + 1)) refl refl refl (λ e. leaves.queue) (λ e. leaves.held) h;
+  restarted = λ pt p lives off h. lists_rejoins pt.view (view.after_stage pt.view p Stage.Restarted) p refl refl refl h;
+  stays_ = λ pt p lives off h. lists_rejoins pt.view (rejoins (handled_first pt.view) p) p refl refl refl h;
+  sent_on = λ pt p n h.
+      let v = pt.view in
+      record { queue = set_all (NoQueue v) v.queue v.acting p [] (λ e. refl) (λ n r off. h.queue n r); held = set_all (NoneHeld v) v.held v.acting p [] (λ e. refl) (λ n r off. h.held n r) };
+}
+
+pub lists_start : (b : Boot) → ListsStand (first_point b).view
+lists_start b = record { queue = λ m p e. refl; held = λ m p e. refl }
+
+pub lists_group : (b : Boot) (pt : Point) (d : Step) (w : Spelled) → group_of b pt d ≡ Some w → Phased pt → KnownStands pt.kernel pt.view → ListsStand pt.view → ListsStand w.point.view
+lists_group b pt d w is phased known h = group_keeps (λ q. ListsStand q.view) (keeps_by (λ q. ListsStand q.view) lists_loud) b pt d w is phased known h

@@ -1,13 +1,12 @@
 -- What a turn says of a message of the bag, and of a process that is served, has what its lines need.
-use Rattle.dm_rulelaws.proofs.Names.{◌≡◌, ℕ, ◌+◌, ◌==◌, ◌||◌, Bool, true, false, List, [], ◌∷◌, refl, ap, ◌∙◌, sym, subst, if◌then◌else◌, Option, None, Some, arith, nat_tests, Pid, pid_of, pid_eq, MsgId, MessageKind, Label, Step, Line}
-use Rattle.dm_rulelaws.proofs.Names.{plain_kind, PlainMessage, Boot, first_number, switchboard, manager, PlainProcess, Alive, not_server, alive-is, View, Told, Known, Here, Addresses, Point, moved, Part, Says, Routes, is_away, is_here}
-use Rattle.dm_rulelaws.proofs.Names.{Phase, Rests, knows, forwards_on, not_kernels, Sane, InPhases, rests_here, Rooted, has_nothing_held, Stops, by_round, by_handles, by_forwards, answers_move, leaves_for, Outcome, false≢true, Life}
-use Rattle.dm_rulelaws.proofs.Names.{OneKernel, Stage, to_kernel, agrees, KnownStands, is_server}
+use Rattle.dm_rulelaws.proofs.Names.{◌≡◌, ℕ, ◌+◌, ◌==◌, Bool, true, false, List, [], ◌∷◌, refl, ap, ◌∙◌, sym, subst, if◌then◌else◌, Option, None, Some, arith, Pid, pid_of, MsgId, MessageKind, Label, Step, Line, plain_kind, PlainMessage}
+use Rattle.dm_rulelaws.proofs.Names.{Boot, first_number, PlainProcess, not_server, alive-is, View, Told, Known, Here, Addresses, Point, moved, Part, Says, Routes, is_away, is_here, Phase, Rests, knows, forwards_on, not_kernels, Sane}
+use Rattle.dm_rulelaws.proofs.Names.{InPhases, rests_here, Rooted, has_nothing_held, Stops, by_round, by_handles, by_forwards, answers_move, leaves_for, Outcome, false≢true, Life, OneKernel, Stage, to_kernel, agrees, KnownStands, is_server}
+use Rattle.dm_rulelaws.proofs.Names.{Alive}
 use Rattle.dm_onekernel.specs.Pieces as pieces
 use Rattle.dm_onekernel.specs.Step as kernel
-use Rattle.dm_onekernel.specs.Step.{machine_of}
 use Rattle.dm_rule.specs.Rule as rule
-use Rattle.dm_rulelaws.proofs.Based.Lives.{Alike, life_sort, life_of, step_alike}
+use Rattle.dm_rulelaws.proofs.Based.Loud.{Alike, life_sort, life_of, step_alike}
 use Rattle.dm_rulelaws.proofs.Based.Needs.{Resting, Serves, Unborn, Living, Queues, Walks, WalksOf, AllLoose, loose_walks, first_walks, said_by, begun}
 
 -- the point behind the head of a turn
@@ -26,10 +25,7 @@ resting v p h here =
 
 -- a living process is no server
 pub living : (pt : Point) (p : Pid) (x : PlainProcess) → Sane pt → kernel.alive (pt.kernel.processes p) ≡ Some x → Living pt.kernel p
-living pt p x h e =
-    let is : pt.kernel.processes p ≡ Some (Alive x) = alive-is (pt.kernel.processes p) x e in
-    let k = not_server pt.kernel p x is h.sound.made in
-    record { process = x; alive = is; server = ap (λ (c : Bool). c || pid_eq p manager) k.0 ∙ k.1 }
+living pt p x h e = search (arith, pt.kernel.processes, alive-is, not_server, pt.kernel, h.sound.made)
 
 walks_of : (pt : Point) (x : Option (List Part)) → ((ps : List Part) → x ≡ Some ps → Walks pt ps) → WalksOf pt x
 walks_of pt None h = tt
@@ -41,14 +37,7 @@ drops_loose [] = tt
 drops_loose (i ∷ is) = (λ pt. tt, drops_loose is)
 
 runs_stops : (pt : Point) (p : Pid) (queue : List MsgId) → Resting pt.view p → Stops (Walks pt) p queue
-runs_stops pt p queue h = record {
-  over = tt;
-  replies = λ n r. loose_walks (rule.says (Label.Call p n r) ∷ []) pt (λ q. tt, tt);
-  sends = λ id. loose_walks (rule.says (Label.Send p id) ∷ Routes id ∷ []) pt (λ q. tt, (λ q. tt, tt));
-  waits = loose_walks (rule.says (Label.Wait p) ∷ []) pt (λ q. tt, tt);
-  outputs = λ word. loose_walks (rule.says (Label.Out p word) ∷ []) pt (λ q. tt, tt);
-  ends = λ y. first_walks (rule.says (Label.End p y)) (rule.drop_parts queue) pt h (drops_loose queue);
-}
+runs_stops pt p queue h = search (arith, loose_walks, first_walks, drops_loose)
 
 pub round_walks : (pt : Point) (b : Boot) (o : Point) (m : ℕ) (q : Option Pid) → ((p : Pid) → q ≡ Some p → Resting pt.view p) → WalksOf pt (rule.goes_round b o m q)
 round_walks pt b o m q h = walks_of pt (rule.goes_round b o m q) (λ ps. by_round (Walks pt) b o m q ps (loose_walks (Says (Line.Idle m) ∷ []) pt (λ q. tt, tt)) (λ p x is alive. (
@@ -76,11 +65,7 @@ front_for : (pt : Point) (id : MsgId) (msg : PlainMessage) (t : Told) → Sane p
 front_for pt id msg t h f told = (h.tells.kind id msg t f.there told, h.tells.receiver id msg t f.there told)
 
 front_serves : (pt : Point) (id : MsgId) (msg : PlainMessage) → Sane pt → InPhases pt.view → Front pt id msg → pt.view.known pt.view.acting msg.to ≡ Here → Serves pt.view id
-front_serves pt id msg sane phases f here = record {
-  told = f.told;
-  is = f.is;
-  rests = λ k. resting pt.view f.told.receiver phases (ap (pt.view.known pt.view.acting) (front_for pt id msg f.told sane f f.is).1 ∙ here);
-}
+front_serves pt id msg sane phases f here = search (arith, f.told, f.is, resting, pt.view, f.told.receiver, pt.view.known, pt.view.acting, front_for)
 
 front_queues : (pt : Point) (id : MsgId) (msg : PlainMessage) → Sane pt → Front pt id msg → plain_kind msg.what ≡ MessageKind.User → pt.view.known pt.view.acting msg.to ≡ Here → (t : Told) → pt.view.told id ≡ Some t → Queues pt.view t id
 front_queues pt id msg sane f user here t told =
@@ -98,11 +83,7 @@ routes_loose None = tt
 routes_loose (Some m) = (λ pt. tt, tt)
 
 pub unborn : (o : Point) (m : ℕ) → Rooted o → Unborn (turned o m).view (pid_of m (first_number + o.kernel.made m))
-unborn o m h =
-    let p = pid_of m (first_number + o.kernel.made m) in
-    let a : pid_eq p switchboard ≡ false = grind (arith, nat_tests) in
-    let c : pid_eq p manager ≡ false = grind (arith, nat_tests) in
-    record { home = refl; unknown = λ n. h.unborn m n; server = ap (λ (x : Bool). x || pid_eq p manager) a ∙ c }
+unborn o m h = search (arith, o.kernel.made, h.unborn)
 
 -- a process is asked to move, and sets off
 living_on : (s t : OneKernel) (p : Pid) → Alike s t → Living s p → Living t p

@@ -1,8 +1,7 @@
 -- Before the first line, what machines know agrees with the kernel without machines.
-use Rattle.dm_rulelaws.proofs.Names.{◌≡◌, ℕ, ◌+◌, ◌==◌, ◌&&◌, ◌||◌, Bool, true, false, List, [], ◌∷◌, ◌++◌, length, map, refl, ap, ◌∙◌, sym, ◌≢◌, is_some, nat_le, nat_lt, inl, inr, arith, if◌then◌else◌, slice_get, option_map, Option, None}
-use Rattle.dm_rulelaws.proofs.Names.{Some, cases_Bool, false≢true, nat_tests, Pid, pid_eq, plain_link, BootImage, BootProcess, Boot, IsValid, switchboard, manager, starting_at, slots_of, links_are_valid, processes_are_valid}
-use Rattle.dm_rulelaws.proofs.Names.{process_is_valid, Life, Alive, begun, first_life, life_at, pid_eq-is, pid_eq-same, pid_eq-swap, first_point, Known, known_at, ring_at, is_server, KnownStands, agrees, server_at, rings, turns_here}
-use Rattle.dm_rulelaws.proofs.Names.{eq_self}
+use Rattle.dm_rulelaws.proofs.Names.{◌≡◌, ℕ, ◌+◌, ◌==◌, ◌&&◌, ◌||◌, Bool, true, false, List, [], ◌∷◌, ◌++◌, map, refl, ap, ◌∙◌, sym, ◌≢◌, is_some, nat_lt, inl, inr, arith, if◌then◌else◌, slice_get, option_map, Option, None, Some}
+use Rattle.dm_rulelaws.proofs.Names.{cases_Bool, false≢true, nat_tests, Pid, pid_eq, plain_link, BootImage, BootProcess, Boot, IsValid, switchboard, manager, starting_at, processes_are_valid, Life, Alive, begun, first_life, life_at}
+use Rattle.dm_rulelaws.proofs.Names.{pid_eq-is, pid_eq-same, pid_eq-swap, first_point, Known, known_at, ring_at, is_server, KnownStands, agrees, server_at, rings, turns_here, eq_self}
 use Rattle.dm_rulelaws.proofs.Fits.Rises.{both}
 use Rattle.dm_rulelaws.proofs.Fits.Start.{get_some}
 
@@ -26,14 +25,7 @@ record Listed (b : Boot) (earlier : List BootProcess) (p : BootProcess) (ps : Li
   rest : processes_are_valid b (earlier ++ p ∷ []) ps ≡ true
 
 listed : (b : Boot) (earlier : List BootProcess) (p : BootProcess) (ps : List BootProcess) → processes_are_valid b earlier (p ∷ ps) ≡ true → Listed b earlier p ps
-listed b earlier p ps h =
-    let k = both (process_is_valid b (starting_at p.pid.home earlier) p) (processes_are_valid b (earlier ++ p ∷ []) ps) h in
-    let n = 3 + starting_at p.pid.home earlier in
-    let one = both (nat_lt p.pid.home (length b.machines)) ((p.pid.num == n) && (nat_lt p.image (length b.images) && (nat_le (length p.links) (slots_of b.format) && links_are_valid b p.links))) k.0 in
-    let second = both (p.pid.num == n) (nat_lt p.image (length b.images) && (nat_le (length p.links) (slots_of b.format) && links_are_valid b p.links)) one.1 in
-    let three = both (nat_lt p.image (length b.images)) (nat_le (length p.links) (slots_of b.format) && links_are_valid b p.links) second.1 in
-    let number = second.0 in
-    record { number = grind (arith, nat_tests); image = get_some b.images p.image three.0; rest = k.1 }
+listed b earlier p ps h = search (arith, both, p.pid.home, b.machines, p.pid.num, p.image, b.images, p.links, b.format, get_some)
 
 starting-last : (m : ℕ) (ps : List BootProcess) (p : BootProcess) → starting_at m (ps ++ p ∷ []) ≡ starting_at m ps + one_if (p.pid.home == m)
 starting-last m [] p = omega arith
@@ -66,25 +58,7 @@ alive_first b p (Some i) e = (refl, refl)
 
 -- what machines know at the start
 pub servers_known : (q : Pid) (m : ℕ) (c : Bool) → is_server q ≡ c → (if (m == 0) && c then Known.Here else Known.Unknown) ≡ (if q.home == m then (if c then Known.Here else Known.Unknown) else Known.Unknown)
-servers_known q m false e = never (m == 0) (q.home == m)
-  where
-    never : (c d : Bool) → (if c && false then Known.Here else Known.Unknown) ≡ (if d then Known.Unknown else Known.Unknown)
-    never true true = refl
-    never true false = refl
-    never false true = refl
-    never false false = refl
-servers_known q m true e =
-    let home : q.home ≡ 0 = home_of (pid_eq q switchboard) refl e in
-    let same : (m == 0) ≡ (q.home == m) = grind (arith, nat_tests) in
-    ap (λ (c : Bool). if c && true then Known.Here else Known.Unknown) same ∙ pick (q.home == m)
-  where
-    home_of : (c : Bool) → pid_eq q switchboard ≡ c → (c || pid_eq q manager) ≡ true → q.home ≡ 0
-    home_of true f g = grind (arith, nat_tests)
-    home_of false f g = grind (arith, nat_tests)
-
-    pick : (c : Bool) → (if c && true then Known.Here else Known.Unknown) ≡ (if c then Known.Here else Known.Unknown)
-    pick true = refl
-    pick false = refl
+servers_known q m c h1 = search (arith, q.home)
 
 known_first : (b : Boot) (earlier ps : List BootProcess) (m : ℕ) (q : Pid) → processes_are_valid b earlier ps ≡ true → known_at ps m q ≡ (if q.home == m then (if is_server q then Known.Here else known_of_life (life_at b ps q)) else Known.Unknown)
 known_first b earlier [] m q h = servers_known q m (is_server q) refl
@@ -117,11 +91,7 @@ ring_if q p qs true = refl
 ring_if q p qs false = omega arith
 
 ring_first : (b : Boot) (earlier ps : List BootProcess) (m : ℕ) (q : Pid) → processes_are_valid b earlier ps ≡ true → rings q (ring_at ps m) ≡ one_if ((q.home == m) && is_alive (life_at b ps q))
-ring_first b earlier [] m q h = sym (never (q.home == m))
-  where
-    never : (c : Bool) → one_if (c && false) ≡ 0
-    never true = refl
-    never false = refl
+ring_first b earlier [] m q h = search (arith, q.home)
 ring_first b earlier (p ∷ ps) m q h = elim (cases_Bool (pid_eq p.pid q)) [
   | inl same ↦
       let k = listed b earlier p ps h in
@@ -153,19 +123,13 @@ ring_first b earlier (p ∷ ps) m q h = elim (cases_Bool (pid_eq p.pid q)) [
 
 -- what they know agrees
 agrees_first : (c : Bool) (o : Option Life) → agrees (if c then known_of_life o else Known.Unknown) o ≡ true
-agrees_first true (Some (Alive x)) = refl
-agrees_first false o = refl
-agrees_first true _ = refl
+agrees_first c o = search arith
 
 turns_first : (c : Bool) (o : Option Life) → one_if (c && is_alive o) ≡ turns_here false (if c then known_of_life o else Known.Unknown)
-turns_first true (Some (Alive x)) = refl
-turns_first false o = refl
-turns_first true _ = refl
+turns_first c o = search arith
 
 some_first : (o : Option Life) → is_some o ≡ true → known_of_life o ≢ Known.Unknown
-some_first None e k = absurd (false≢true e)
-some_first (Some (Alive x)) e k = cc
-some_first (Some (Life.Ended y)) e k = cc
+some_first o h1 = search arith
 
 is_first : (b : Boot) (m : ℕ) (q : Pid) (c : Bool) → IsValid b → is_server q ≡ c → known_at b.processes m q ≡ (if q.home == m then (if c then Known.Here else known_of_life (life_at b b.processes q)) else Known.Unknown)
 is_first b m q c valid e = known_first b [] b.processes m q valid.processes ∙ ap (λ (x : Bool). if q.home == m then (if x then Known.Here else known_of_life (life_at b b.processes q)) else Known.Unknown) e
@@ -181,9 +145,7 @@ server_first b m q valid e =
     is_first b m q true valid e ∙ ap (λ (c : Bool). if c then Known.Here else Known.Unknown) same
 
 server_none : (b : Boot) (q : Pid) → IsValid b → is_server q ≡ true → life_at b b.processes q ≡ None
-server_none b q valid e =
-    let low = (server_home q (pid_eq q switchboard) refl e).1 in
-    none_later b [] b.processes q valid.processes (let f : nat_lt q.num (3 + starting_at q.home []) ≡ true = low in f)
+server_none b q valid e = search (arith, server_home, none_later, b.processes, valid.processes, q.num, q.home)
 
 ring_by : (b : Boot) (m : ℕ) (q : Pid) (c : Bool) → IsValid b → is_server q ≡ c → rings q (ring_at b.processes m) ≡ turns_here c (known_at b.processes m q)
 ring_by b m q true valid e =

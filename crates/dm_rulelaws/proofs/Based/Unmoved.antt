@@ -1,6 +1,6 @@
 -- What was never made has never moved: each group keeps it.
-use Rattle.dm_rulelaws.proofs.Names.{aim, sets, ◌≡◌, ℕ, ◌+◌, Bool, refl, ap, ◌∙◌, sym, subst, inl, inr, if◌then◌else◌, cases_Bool, Option, None, Some, Pid, pid_eq, MsgId, Boot, Label, Line, Stage, PlainProcess, Alive, OneKernel, Step}
-use Rattle.dm_rulelaws.proofs.Names.{pid_eq-is, after_step, Spelled, Point, first_point, kernel_after, label_of, group_of, View, Told, handled, receiver_of, served_told, view_after, Kept, grown_none, Phased, Sane, KnownStands}
+use Rattle.dm_rulelaws.proofs.Names.{sets, ◌≡◌, ℕ, ◌+◌, Bool, refl, ap, ◌∙◌, sym, subst, inl, inr, if◌then◌else◌, cases_Bool, Option, None, Some, Pid, pid_eq, MsgId, Boot, Label, Line, Stage, PlainProcess, Alive, OneKernel, Step, pid_eq-is}
+use Rattle.dm_rulelaws.proofs.Names.{after_step, Spelled, Point, first_point, kernel_after, label_of, group_of, View, Told, handled, receiver_of, served_told, view_after, Kept, grown_none, Phased, Sane, KnownStands}
 use Rattle.dm_onekernel.specs.Step as kernel
 use Rattle.dm_rule.specs.View as view
 use Rattle.dm_rulelaws.proofs.Based.Groups.{group_keeps}

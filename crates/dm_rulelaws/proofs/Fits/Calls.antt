@@ -1,11 +1,11 @@
 -- What a call gives fits.
-use Rattle.dm_rulelaws.proofs.Names.{◌≡◌, ℕ, zero, suc, ◌+◌, ◌≤◌, ◌==◌, ◌&&◌, ◌||◌, Bool, true, false, not, List, [], ◌∷◌, length, take, drop, filter_map, refl, ap, ◌∙◌, sym, subst, nat_le, nat_lt, min, arith, ⊤, if◌then◌else◌, slice_set}
-use Rattle.dm_rulelaws.proofs.Names.{cons_option, Option, None, Some, nat_tests, length-take, Pid, PlainLink, first_empty, link_at, PlainMessage, PlainWhat, direction_numbered, Direction, Reply, PlainProcess, PlainStatus, Waiting, reg}
-use Rattle.dm_rulelaws.proofs.Names.{Life, Alive, Ended, first_failed, Called, Replies, Sends, Waits, Outputs, Ends, CallNumber, Each, Lives, has_bytes, is_server, takes_users, gives_no_right, LinkFits, SlotFits, move_fits, ProcessFits}
-use Rattle.dm_rulelaws.proofs.Names.{status_awaits, eq_self, or_first}
+use Rattle.dm_rulelaws.proofs.Names.{◌≡◌, ℕ, zero, suc, ◌+◌, ◌≤◌, ◌==◌, ◌&&◌, ◌||◌, Bool, true, false, List, [], ◌∷◌, length, take, drop, filter_map, refl, ap, ◌∙◌, sym, subst, nat_le, min, arith, ⊤, if◌then◌else◌, slice_set, cons_option}
+use Rattle.dm_rulelaws.proofs.Names.{Option, None, Some, nat_tests, length-take, Pid, PlainLink, link_at, PlainMessage, PlainWhat, Direction, Reply, PlainProcess, reg, Life, Called, Replies, Sends, Waits, Outputs, Ends, Each, Lives}
+use Rattle.dm_rulelaws.proofs.Names.{has_bytes, is_server, takes_users, gives_no_right, LinkFits, SlotFits, move_fits, ProcessFits, status_awaits, eq_self, or_first}
 use Rattle.dm_onekernel.specs.Pieces as pieces
 use Rattle.dm_onekernel.specs.Calls as calls
 use Rattle.dm_rulelaws.proofs.Fits.Rises.{two, move_on}
+use Rattle.dm_rulelaws.proofs.Calling.{by_call}
 
 -- lists of slots
 pub slots_set : (ps : Lives) (slots : List (Option PlainLink)) (k : ℕ) (o : Option PlainLink) → SlotFits ps o → Each (SlotFits ps) slots → Each (SlotFits ps) (slice_set slots k o)
@@ -67,9 +67,7 @@ CallFits ps x (Outputs w y) = Goes ps x y
 CallFits ps x (Ends y) = ⊤
 
 pub still_move : (ps : Lives) (x y : PlainProcess) → y.memory ≡ x.memory → y.status ≡ x.status → move_fits ps x x.status ≡ true → move_fits ps y y.status ≡ true
-still_move ps x y memory status h =
-    let le : length y.memory ≡ length x.memory = ap length memory in
-    subst (λ (st : PlainStatus). move_fits ps y st ≡ true) (sym status) (move_on ps ps (λ p n e. e) x y (omega (arith, le)) x.status h)
+still_move ps x y memory status h = search (arith, y.memory, x.memory, move_on, x.status)
 
 -- only the registers change
 regs_go : (ps : Lives) (x y : PlainProcess) → y.memory ≡ x.memory → y.links ≡ x.links → y.status ≡ x.status → ProcessFits ps x → Goes ps x y
@@ -79,41 +77,12 @@ regs_go ps x y memory links status h =
 refused_fits : (ps : Lives) (x : PlainProcess) (c : Reply) → ProcessFits ps x → Goes ps x (calls.replied c x)
 refused_fits ps x c h = regs_go ps x (calls.replied c x) refl refl refl h
 
-puts_link_fits : (ps : Lives) (x : PlainProcess) (l : PlainLink) (o : Option ℕ) → LinkFits ps l → ProcessFits ps x → CallFits ps x (calls.puts_link x l o)
-puts_link_fits ps x l None f h = refused_fits ps x Reply.TableFull h
-puts_link_fits ps x l (Some slot) f h = record { memory = refl; slots = slots_set ps x.links slot (Some l) f h.slots; move = move_on ps ps (λ p n e. e) x (record x { links = slice_set x.links slot (Some l) }) (omega arith) x.status h.move }
-
 -- the bytes that a process has
 abbrev pub Has : Lives → Pid → PlainProcess → Type 0
 Has ps p x = (n : ℕ) → nat_le n (length x.memory) ≡ true → has_bytes n (ps p) ≡ true
 
-makes_by : (ps : Lives) (p : Pid) (x : PlainProcess) (b c d : Bool) → d ≡ calls.is_outside x (reg x.regs 4) (reg x.regs 5) → Has ps p x → ProcessFits ps x
-    → CallFits ps x (calls.unless_refused (first_failed (record { fails = b; reply = Reply.BadKind } ∷ record { fails = c || d; reply = Reply.BadRange } ∷ [])) x (calls.puts_link x (calls.own_link p x) (first_empty x.links)))
-makes_by ps p x true c d e has h = refused_fits ps x Reply.BadKind h
-makes_by ps p x false true d e has h = refused_fits ps x Reply.BadRange h
-makes_by ps p x false false true e has h = refused_fits ps x Reply.BadRange h
-makes_by ps p x false false false e has h =
-    let a = (calls.own_link p x).area in
-    let within : nat_le (reg x.regs 4 + reg x.regs 5) (length x.memory) ≡ true = grind (arith, nat_tests) in
-    puts_link_fits ps x (calls.own_link p x) (first_empty x.links) (or_first (is_server p && gives_no_right a) (has_bytes (reg x.regs 4 + reg x.regs 5) (ps p)) (has (reg x.regs 4 + reg x.regs 5) within)) h
-
-if_fits : (ps : Lives) (x : PlainProcess) (b : Bool) (c d : Called) → CallFits ps x c → CallFits ps x d → CallFits ps x (if b then c else d)
-if_fits ps x true c d h k = h
-if_fits ps x false c d h k = k
-
-copies_fit : (ps : Lives) (x : PlainProcess) (o : Option PlainLink) → SlotFits ps o → ProcessFits ps x → CallFits ps x (calls.copies x o)
-copies_fit ps x None f h = refused_fits ps x Reply.NoLink h
-copies_fit ps x (Some l) f h =
-    if_fits ps x (calls.is_reply l.kind) (calls.refused Reply.NotCopyable x) (calls.puts_link x l (first_empty x.links)) (refused_fits ps x Reply.NotCopyable h) (puts_link_fits ps x l (first_empty x.links) f h)
-
-drops_fit : (ps : Lives) (x : PlainProcess) (o : Option PlainLink) → ProcessFits ps x → CallFits ps x (calls.drop_call x o)
-drops_fit ps x None h = refused_fits ps x Reply.NoLink h
-drops_fit ps x (Some l) h = record { memory = refl; slots = slots_set ps x.links (reg x.regs 1) None tt h.slots; move = move_on ps ps (λ p n e. e) x (record x { links = slice_set x.links (reg x.regs 1) None }) (omega arith) x.status h.move }
-
 has_less : (m n : ℕ) (o : Option Life) → m ≤ n → has_bytes n o ≡ true → has_bytes m o ≡ true
-has_less m n None le h = h
-has_less m n (Some (Alive x)) le h = grind (arith, nat_tests)
-has_less m n (Some (Ended y)) le h = refl
+has_less m n o h1 h2 = search arith
 
 -- a user message is for whoever its link leads to
 users_of : (ps : Lives) (l : PlainLink) (a b : Bool) → is_server l.to ≡ a → gives_no_right l.area ≡ b → ((a && b) || has_bytes (l.area.base + l.area.len) (ps l.to)) ≡ true → (a || has_bytes 0 (ps l.to)) ≡ true
@@ -122,17 +91,6 @@ users_of ps l false b e f h = has_less 0 (l.area.base + l.area.len) (ps l.to) (o
 
 pub link_users : (ps : Lives) (l : PlainLink) → LinkFits ps l → takes_users ps l.to ≡ true
 link_users ps l h = users_of ps l (is_server l.to) (gives_no_right l.area) refl refl h
-
-sends_fit : (ps : Lives) (p : Pid) (x : PlainProcess) (o : Option PlainLink) → SlotFits ps o → ProcessFits ps x → CallFits ps x (calls.send_call p x o)
-sends_fit ps p x None f h = refused_fits ps x Reply.NoLink h
-sends_fit ps p x (Some l) f h = unless_fits ps x (first_failed (calls.send_refusals x)) (Sends (calls.message_over p x l) (calls.after_send x)) h (record {
-  goes = record { memory = refl; slots = without_replies_fit ps (reg x.regs 1 ∷ calls.listed x) x.links h.slots; move = still_move ps x (calls.after_send x) refl refl h.move };
-  what = (link_users ps l f, links_of_fit ps x.links (calls.listed x) h.slots);
-})
-  where
-    unless_fits : (ps : Lives) (x : PlainProcess) (o : Option Reply) (c : Called) → ProcessFits ps x → CallFits ps x c → CallFits ps x (calls.unless_refused o x c)
-    unless_fits ps x None c h k = k
-    unless_fits ps x (Some r) c h k = refused_fits ps x r h
 
 piece_less : (left : ℕ) → pieces.piece_of left ≤ left
 piece_less left = grind (arith, nat_tests)
@@ -143,13 +101,7 @@ min_less a b = omega arith
 -- the request for a piece of a move that lies within both memories
 pub requests_fit : (ps : Lives) (p : Pid) (x z : PlainProcess) (dir : Direction) (owner : Pid) (base own left : ℕ) → z.memory ≡ x.memory → z.links ≡ x.links → has_bytes (base + left) (ps owner) ≡ true → nat_le (own + left) (length x.memory) ≡ true → Each (SlotFits ps) x.links
     → Requests ps x (pieces.requests p z dir owner base own left).message (pieces.requests p z dir owner base own left).process
-requests_fit ps p x z Direction.FromArea owner base own left memory links has within slots = record {
-  goes = record { memory = memory; slots = subst (Each (SlotFits ps)) (sym links) slots; move = two (has_bytes (base + left) (ps owner)) (nat_le (own + left) (length z.memory)) has (ap (λ (xs : List ℕ). nat_le (own + left) (length xs)) memory ∙ within) };
-  what = (
-    (let le = piece_less left in has_less (base + pieces.piece_of left) (base + left) (ps owner) (omega (arith, le)) has),
-    two (z.sent == z.sent) (pieces.piece_of left == pieces.piece_of left) (eq_self z.sent) (eq_self (pieces.piece_of left)),
-  );
-}
+requests_fit ps p x z Direction.FromArea owner base own left memory links has within slots = search (arith, two, z.memory, piece_less, has_less, z.sent, eq_self)
 requests_fit ps p x z Direction.IntoArea owner base own left memory links has within slots =
     let bytes = take (pieces.piece_of left) (drop own z.memory) in
     let le = piece_less left in
@@ -162,62 +114,33 @@ requests_fit ps p x z Direction.IntoArea owner base own left memory links has wi
 
 -- a link with a right leads to a process whose memory has its area
 right_is : (ps : Lives) (l : PlainLink) (dir : Direction) → calls.lacks_right dir l.area ≡ false → LinkFits ps l → has_bytes (l.area.base + l.area.len) (ps l.to) ≡ true
-right_is ps l Direction.FromArea e h = right_of (is_server l.to) (l.area.read) (l.area.write) (has_bytes (l.area.base + l.area.len) (ps l.to)) (read_of l.area.read e) h
-  where
-    read_of : (b : Bool) → (if b then false else true) ≡ false → (not b) ≡ false
-    read_of true e = refl
-    read_of false e = cc
+right_is ps l dir h1 h2 = search (arith, l.to, l.area.read, l.area.write, l.area.base, l.area.len)
 
-    right_of : (a r w c : Bool) → (not r) ≡ false → ((a && (not r && not w)) || c) ≡ true → c ≡ true
-    right_of true true w c e h = h
-    right_of true false w c e h = cc
-    right_of false r w c e h = h
-right_is ps l Direction.IntoArea e h = right_of (is_server l.to) (l.area.read) (l.area.write) (has_bytes (l.area.base + l.area.len) (ps l.to)) (read_of l.area.write e) h
-  where
-    read_of : (b : Bool) → (if b then false else true) ≡ false → (not b) ≡ false
-    read_of true e = refl
-    read_of false e = cc
-
-    right_of : (a r w c : Bool) → (not w) ≡ false → ((a && (not r && not w)) || c) ≡ true → c ≡ true
-    right_of true true true c e h = h
-    right_of true false true c e h = h
-    right_of true r false c e h = cc
-    right_of false r w c e h = h
-
-moves_by : (ps : Lives) (p : Pid) (x : PlainProcess) (l : PlainLink) (dir : Direction) (b c d : Bool) → b ≡ calls.lacks_right dir l.area → c ≡ nat_lt l.area.len (reg x.regs 3 + reg x.regs 5) → d ≡ calls.is_outside x (reg x.regs 4) (reg x.regs 5)
-    → LinkFits ps l → ProcessFits ps x
-    → CallFits ps x (calls.unless_refused (first_failed (record { fails = b; reply = Reply.NoRight } ∷ record { fails = c || d; reply = Reply.BadRange } ∷ [])) x (calls.moves_bytes p x l dir))
-moves_by ps p x l dir true c d e f g fits h = refused_fits ps x Reply.NoRight h
-moves_by ps p x l dir false true d e f g fits h = refused_fits ps x Reply.BadRange h
-moves_by ps p x l dir false false true e f g fits h = refused_fits ps x Reply.BadRange h
-moves_by ps p x l dir false false false e f g fits h =
-    let r = pieces.requests p x dir l.to (l.area.base + reg x.regs 3) (reg x.regs 4) (reg x.regs 5) in
-    let area = right_is ps l dir (sym e) fits in
-    let lies : reg x.regs 3 + reg x.regs 5 ≤ l.area.len = grind (arith, nat_tests) in
-    let has : has_bytes (l.area.base + reg x.regs 3 + reg x.regs 5) (ps l.to) ≡ true = has_less (l.area.base + reg x.regs 3 + reg x.regs 5) (l.area.base + l.area.len) (ps l.to) (omega (arith, lies)) area in
-    let within : nat_le (reg x.regs 4 + reg x.regs 5) (length x.memory) ≡ true = grind (arith, nat_tests) in
-    if_fits ps x (reg x.regs 5 == 0) (calls.refused Reply.Done x) (calls.begins_move r) (refused_fits ps x Reply.Done h)
-    (requests_fit ps p x x dir l.to (l.area.base + reg x.regs 3) (reg x.regs 4) (reg x.regs 5) refl refl has within h.slots)
-
-moves_over_fit : (ps : Lives) (p : Pid) (x : PlainProcess) (l : PlainLink) (o : Option Direction) → LinkFits ps l → ProcessFits ps x → CallFits ps x (calls.moves_over p x l o)
-moves_over_fit ps p x l None f h = refused_fits ps x Reply.BadKind h
-moves_over_fit ps p x l (Some dir) f h = moves_by ps p x l dir (calls.lacks_right dir l.area) (nat_lt l.area.len (reg x.regs 3 + reg x.regs 5)) (calls.is_outside x (reg x.regs 4) (reg x.regs 5)) refl refl refl f h
-
-moves_fit : (ps : Lives) (p : Pid) (x : PlainProcess) (o : Option PlainLink) → SlotFits ps o → ProcessFits ps x → CallFits ps x (calls.move_call p x o)
-moves_fit ps p x None f h = refused_fits ps x Reply.NoLink h
-moves_fit ps p x (Some l) f h = moves_over_fit ps p x l (direction_numbered (reg x.regs 2)) f h
-
-does_call_fits : (ps : Lives) (p : Pid) (x : PlainProcess) (n : CallNumber) → Has ps p x → ProcessFits ps x → CallFits ps x (calls.does_call p x n)
-does_call_fits ps p x calls.Out has h = refused_fits ps x Reply.Done h
-does_call_fits ps p x calls.Make has h = makes_by ps p x (nat_lt 7 (reg x.regs 3)) (nat_lt 31 (reg x.regs 2)) (calls.is_outside x (reg x.regs 4) (reg x.regs 5)) refl has h
-does_call_fits ps p x calls.Copy has h = copies_fit ps x (link_at x.links (reg x.regs 1)) (slots_at ps x.links (reg x.regs 1) h.slots) h
-does_call_fits ps p x calls.Drop has h = drops_fit ps x (link_at x.links (reg x.regs 1)) h
-does_call_fits ps p x calls.Send has h = sends_fit ps p x (link_at x.links (reg x.regs 1)) (slots_at ps x.links (reg x.regs 1) h.slots) h
-does_call_fits ps p x calls.Receive has h =
-    if_fits ps x (calls.is_outside x (reg x.regs 2) (reg x.regs 3)) (calls.refused Reply.BadRange x) (Waits (record x { status = Waiting (reg x.regs 1) (reg x.regs 2) (reg x.regs 3) }))
-    (refused_fits ps x Reply.BadRange h) (record { memory = refl; slots = h.slots; move = refl })
-does_call_fits ps p x calls.Move has h = moves_fit ps p x (link_at x.links (reg x.regs 1)) (slots_at ps x.links (reg x.regs 1) h.slots) h
-does_call_fits ps p x _ has h = tt
+-- a slot is set
+set_go : (ps : Lives) (x y : PlainProcess) (k : ℕ) (o : Option PlainLink) → SlotFits ps o → ProcessFits ps x → y.memory ≡ x.memory → y.status ≡ x.status → y.links ≡ slice_set x.links k o → Goes ps x y
+set_go ps x y k o f h memory status links = record { memory = memory; slots = subst (Each (SlotFits ps)) (sym links) (slots_set ps x.links k o f h.slots); move = still_move ps x y memory status h.move }
 
 pub call_fits : (ps : Lives) (p : Pid) (x : PlainProcess) (n : ℕ) → Has ps p x → ProcessFits ps x → CallFits ps x (calls.call p x n)
-call_fits ps p x n has h = does_call_fits ps p x (calls.call_number n) has h
+call_fits ps p x n has h = by_call (CallFits ps x) p x n (record {
+  refuses = λ c. refused_fits ps x c h;
+  outputs = refused_fits ps x Reply.Done h;
+  makes = λ slot e.
+      (let within : nat_le (reg x.regs 4 + reg x.regs 5) (length x.memory) ≡ true = grind (arith, nat_tests) in
+      let a = (calls.own_link p x).area in
+      let fits = or_first (is_server p && gives_no_right a) (has_bytes (reg x.regs 4 + reg x.regs 5) (ps p)) (has (reg x.regs 4 + reg x.regs 5) within) in
+      set_go ps x _ slot (Some (calls.own_link p x)) fits h refl refl refl);
+  copies = λ l slot is. set_go ps x _ slot (Some l) (slot_link ps x.links (reg x.regs 1) l is h.slots) h refl refl refl;
+  drops = λ l. set_go ps x _ (reg x.regs 1) None tt h refl refl refl;
+  sends = λ l is few. record {
+    goes = record { memory = refl; slots = without_replies_fit ps (reg x.regs 1 ∷ calls.listed x) x.links h.slots; move = still_move ps x (calls.after_send x) refl refl h.move };
+    what = (link_users ps l (slot_link ps x.links (reg x.regs 1) l is h.slots), links_of_fit ps x.links (calls.listed x) h.slots);
+  };
+  waits = record { memory = refl; slots = h.slots; move = refl };
+  moves = λ l dir is right lies off.
+      (let area = right_is ps l dir right (slot_link ps x.links (reg x.regs 1) l is h.slots) in
+      let less : reg x.regs 3 + reg x.regs 5 ≤ l.area.len = grind (arith, nat_tests) in
+      let there = has_less (l.area.base + reg x.regs 3 + reg x.regs 5) (l.area.base + l.area.len) (ps l.to) (omega (arith, less)) area in
+      let within : nat_le (reg x.regs 4 + reg x.regs 5) (length x.memory) ≡ true = grind (arith, nat_tests) in
+      requests_fit ps p x x dir l.to (l.area.base + reg x.regs 3) (reg x.regs 4) (reg x.regs 5) refl refl there within h.slots);
+  ends = λ y. tt;
+})

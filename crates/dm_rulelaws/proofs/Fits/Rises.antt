@@ -1,7 +1,7 @@
 -- What fits goes on fitting as long as processes are only made, end, and keep their memory.
-use Rattle.dm_rulelaws.proofs.Names.{◌≡◌, ℕ, ◌+◌, ◌≤◌, ◌&&◌, ◌||◌, Bool, true, false, List, [], ◌∷◌, length, refl, ap, ◌∙◌, sym, subst, nat_le, nat_lt, inl, inr, arith, if◌then◌else◌, Option, None, Some, cases_Bool, nat_tests, Pid, pid_eq}
-use Rattle.dm_rulelaws.proofs.Names.{PlainLink, MsgId, PlainMessage, PlainWhat, PlainProcess, PlainStatus, Moving, Life, Alive, Ended, NamedLink, Pending, OneKernel, with_process, with_sent, without_message, pid_eq-is, pid_eq-same, stayed}
-use Rattle.dm_rulelaws.proofs.Names.{came, Each, Lives, has_bytes, is_server, takes_users, gives_no_right, LinkFits, SlotFits, move_fits, ProcessFits, awaits, is_for, IsPending, WhatFits, NoteFits, PendingFits, KernelFits, Manager, Note, PendingKind}
+use Rattle.dm_rulelaws.proofs.Names.{◌≡◌, ℕ, ◌+◌, ◌≤◌, ◌&&◌, ◌||◌, Bool, true, false, List, [], ◌∷◌, length, refl, ap, ◌∙◌, sym, subst, inl, inr, arith, if◌then◌else◌, Option, None, Some, cases_Bool, Pid, pid_eq, PlainLink, MsgId}
+use Rattle.dm_rulelaws.proofs.Names.{PlainMessage, PlainWhat, PlainProcess, PlainStatus, Life, Alive, Ended, NamedLink, Pending, OneKernel, with_process, with_sent, without_message, pid_eq-is, pid_eq-same, stayed, came, Each, Lives}
+use Rattle.dm_rulelaws.proofs.Names.{has_bytes, is_server, takes_users, gives_no_right, LinkFits, SlotFits, move_fits, ProcessFits, awaits, IsPending, WhatFits, KernelFits, is_for, NoteFits, PendingFits, Manager, Note, PendingKind, nat_lt}
 use Rattle.dm_onekernel.specs.Manager as manage
 pub use Rattle.dm_rule.proofs.Homes.Servers.{and-both as both}
 pub use Rattle.dm_line.proofs.Below.{both_true as two}
@@ -29,11 +29,7 @@ pub users_on : (ps qs : Lives) → Rises ps qs → (p : Pid) → takes_users ps 
 users_on ps qs up p h = or_on (is_server p) (has_bytes 0 (ps p)) (has_bytes 0 (qs p)) (up p 0) h
 
 pub move_on : (ps qs : Lives) → Rises ps qs → (x y : PlainProcess) → length x.memory ≤ length y.memory → (st : PlainStatus) → move_fits ps x st ≡ true → move_fits qs y st ≡ true
-move_on ps qs up x y le (Moving dir owner base own left pending) h =
-    let k = both (has_bytes (base + left) (ps owner)) (nat_le (own + left) (length x.memory)) h in
-    let own_is = k.1 in
-    two (has_bytes (base + left) (qs owner)) (nat_le (own + left) (length y.memory)) (up owner (base + left) k.0) (let f : nat_le (own + left) (length y.memory) ≡ true = grind (arith, nat_tests) in f)
-move_on ps qs up x y le _ h = refl
+move_on ps qs h1 x y h2 st h3 = search (arith, both, x.memory, two, y.memory)
 
 pub process_on : (ps qs : Lives) → Rises ps qs → (x : PlainProcess) → ProcessFits ps x → ProcessFits qs x
 process_on ps qs up x h = record { slots = Each-on (SlotFits ps) (SlotFits qs) (slot_on ps qs up) x.links h.slots; move = move_on ps qs up x x (omega arith) x.status h.move }
@@ -67,16 +63,7 @@ what_on s t i m (PlainWhat.Write base bytes) up waits pending machines images h 
 what_on s t i m (PlainWhat.Block bytes) up waits pending machines images h = (h.0, waits h.1)
 what_on s t i m PlainWhat.Written up waits pending machines images h = (h.0, waits h.1)
 what_on s t i m PlainWhat.Gone up waits pending machines images h = (h.0, waits h.1)
-what_on s t i m (PlainWhat.Create image links) up waits pending machines images h =
-    let (kernel, home, numbered, sender, request, is, fits) = h in (
-      kernel,
-      ap (nat_lt m.to.home) machines ∙ home,
-      ap (λ is. nat_lt image (length is)) images ∙ numbered,
-      sender,
-      request,
-      pending PendingKind.Create refl is,
-      Each-on (LinkFits s.processes) (LinkFits t.processes) (link_on s.processes t.processes up) links fits,
-    )
+what_on s t i m (PlainWhat.Create image links) up waits pending machines images h = search (arith, m.to.home, Each-on, s.processes, t.processes, link_on)
 what_on s t i m (PlainWhat.Created child) up waits pending machines images h =
     let (to, answer, is, made) = h in (to, answer, pending PendingKind.Create refl is, up child 0 made)
 what_on s t i m PlainWhat.NoRoom up waits pending machines images h =
@@ -103,31 +90,13 @@ pub record Carries (s t : OneKernel) : Type 0 where
   pub children : Each (λ (p : Pid). has_bytes 0 (s.processes p) ≡ true) t.manager.children
 
 pub carries : (s t : OneKernel) → Carries s t → KernelFits s → KernelFits t
-carries s t c h = record {
-  processes = λ p x is. process_on s.processes t.processes c.rises x (c.alive p x is);
-  messages = λ i m is. what_on s t i m m.what c.rises (c.waits i m is) (c.pending i m is) c.machines c.images (h.messages i m (c.bag i m is));
-  names = Each-on (λ (k : NamedLink). LinkFits s.processes k.link) (λ (k : NamedLink). LinkFits t.processes k.link) (λ k. link_on s.processes t.processes c.rises k.link) t.switchboard.names c.names;
-  answers = Each-on (PendingFits s.processes) (PendingFits t.processes) (pending_fits s.processes t.processes c.rises) t.manager.pending c.answers;
-  notes = λ p n is. let f = h.notes p n (c.notes p n is) in record { asker = f.asker; unanswered = f.unanswered; pending = c.noted p n is f.pending };
-  children = Each-on (λ (p : Pid). has_bytes 0 (s.processes p) ≡ true) (λ (p : Pid). has_bytes 0 (t.processes p) ≡ true) (λ p. c.rises p 0) t.manager.children c.children;
-}
+carries s t c h =
+    let notes : (p : Pid) (n : Note) → t.notes p ≡ Some n → NoteFits t n = λ p n is. let f = h.notes p n (c.notes p n is) in record { asker = f.asker; unanswered = f.unanswered; pending = c.noted p n is f.pending } in
+    search (arith, process_on, c.rises, c.alive, what_on, c.waits, c.pending, c.machines, c.images, h.messages, c.bag, Each-on, link_on, pending_fits, notes)
 
 -- a message goes
 pub out_fits : (s : OneKernel) (id : MsgId) → KernelFits s → KernelFits (without_message s id)
-out_fits s id h = carries s (without_message s id) (record {
-  rises = λ p n e. e;
-  alive = h.processes;
-  bag = λ i m is. stayed s id i m is;
-  waits = λ i m is e. e;
-  pending = λ i m is kind c. pending_on s (without_message s id) kind i refl;
-  machines = refl;
-  images = refl;
-  names = h.names;
-  answers = h.answers;
-  notes = λ p n is. is;
-  noted = λ p n is. pending_on s (without_message s id) PendingKind.Move n.id refl;
-  children = h.children;
-}) h
+out_fits s id h = carries s (without_message s id) ((search (arith, h.processes, stayed, h.names, h.answers, h.children, pending_on))) h
 
 -- a message comes
 pub put_fits : (s : OneKernel) (m : PlainMessage) → WhatFits s m.id m m.what → KernelFits s → KernelFits (with_sent s (Some m))
@@ -150,11 +119,7 @@ pub record Becomes (s : OneKernel) (p : Pid) (life : Life) : Type 0 where
   pub fits : (x : PlainProcess) → Some life ≡ Some (Alive x) → ProcessFits s.processes x
 
 pub set_if : (T : Option Life → Type 0) (s : OneKernel) (p q : Pid) (life : Life) → (q ≡ p → T (s.processes p) → T (Some life)) → T (s.processes q) → T ((with_process s p life).processes q)
-set_if T s p q life f h = elim (cases_Bool (pid_eq p q)) [
-  | inl same ↦
-      subst T (sym (ap (λ (c : Bool). if c then Some life else s.processes q) same)) (f (sym (pid_eq-is p q same)) (subst (λ (v : Pid). T (s.processes v)) (sym (pid_eq-is p q same)) h))
-  | inr apart ↦ subst T (sym (ap (λ (c : Bool). if c then Some life else s.processes q) apart)) h
-]
+set_if T s p q life f h = search (arith, s.processes, pid_eq-is)
 
 pub set_rises : (s : OneKernel) (p : Pid) (life : Life) → ((n : ℕ) → has_bytes n (s.processes p) ≡ true → has_bytes n (Some life) ≡ true) → Rises s.processes (with_process s p life).processes
 set_rises s p life f q n h = set_if (λ (o : Option Life). has_bytes n o ≡ true) s p q life (λ same. f n) h

@@ -1,35 +1,65 @@
 -- All fits where a run begins, and wherever it comes.
 use Rattle.dm_rulelaws.proofs.Names.{◌≡◌, ℕ, zero, suc, ◌+◌, ◌*◌, ◌-◌, ◌≤◌, ◌==◌, ◌&&◌, ◌||◌, Bool, true, false, not, List, [], ◌∷◌, ◌++◌, length, map, replicate, refl, ap, ◌∙◌, sym, subst, is_some, nat_le, nat_lt, inl, inr, arith}
 use Rattle.dm_rulelaws.proofs.Names.{if◌then◌else◌, slice_get, option_map, Option, None, Some, cases_Bool, false≢true, nat_tests, length-append, length-replicate, Link, Pid, pid_eq, plain_link, MsgId, BootImage, BootProcess, Boot, Label}
-use Rattle.dm_rulelaws.proofs.Names.{IsValid, switchboard, manager, starting_at, processes_are_valid, process_is_valid, links_are_valid, link_is_valid, leads_somewhere, leads_to_process, leads_to_server, controls_child, process_named}
-use Rattle.dm_rulelaws.proofs.Names.{memory_size, area_is_within, area_is_empty, is_general, slots_of, blocks_of_image, PlainProcess, Life, Alive, OneKernel, start, begun, memory_of, first_life, life_at, pid_eq-same, Sound, Each, has_bytes}
-use Rattle.dm_rulelaws.proofs.Names.{gives_no_right, LinkFits, ProcessFits, KernelFits}
+use Rattle.dm_rulelaws.proofs.Names.{IsValid, switchboard, manager, starting_at, processes_are_valid, process_is_valid, links_are_valid, link_is_valid, leads_to_process, leads_to_server, controls_child, process_named, memory_size}
+use Rattle.dm_rulelaws.proofs.Names.{area_is_empty, blocks_of_image, PlainProcess, Life, Alive, OneKernel, start, begun, memory_of, first_life, life_at, pid_eq-same, Sound, Each, has_bytes, gives_no_right, LinkFits, ProcessFits, KernelFits}
+use Rattle.dm_rulelaws.proofs.Names.{by_step, Changes, PlainMessage, PlainWhat, Why, Called, with_sent, without_message, answer_to, pid_of, first_number, pid_eq-is, WhatFits, Note, NoteFits}
 use Rattle.dm_onekernel.specs.Step as kernel
-use Rattle.dm_rulelaws.proofs.Fits.Rises.{both, Each-on}
-use Rattle.dm_rulelaws.proofs.Fits.Creates.{begun_fits, created_step, no_space_step}
-use Rattle.dm_rulelaws.proofs.Fits.Serves.{served_step, dropped_step, gone_step, asked_step, answered_step}
+use Rattle.dm_rulelaws.proofs.Fits.Rises.{both, Each-on, out_fits, put_fits, end_fits}
+use Rattle.dm_rulelaws.proofs.Fits.Creates.{begun_fits, created_fits, no_space_fits}
+use Rattle.dm_rulelaws.proofs.Fits.Serves.{changed_fits, goes_same, gone_fits, read_fits, write_fits, landed_fits, asked_fits, move_ended_fits}
+use Rattle.dm_rulelaws.proofs.Fits.Servers.{board_row, manager_row}
+use Rattle.dm_rulelaws.proofs.Fits.Steps.{ran_fits, goes_fits, call_goes, send_goes, next_is, completing_is}
+use Rattle.dm_rule.proofs.Changes.{Next}
+use Rattle.dm_onekernel.specs.Receiving as receiving
+use Rattle.dm_onekernel.specs.Pieces as pieces
 use Rattle.dm_rulelaws.proofs.Fits.Constants.{InOrder}
-use Rattle.dm_rulelaws.proofs.Fits.Servers.{took_step}
-use Rattle.dm_rulelaws.proofs.Fits.Steps.{ran_fits, call_step, send_step, wait_step, out_step, end_step, receive_step, refuse_step}
 
 -- each step keeps that all fits
+abbrev is_ran : Label → Bool
+is_ran (Label.Ran p k) = true
+is_ran _ = false
+
+rows_fit : (r e : MsgId → ℕ) (s : OneKernel) (l : Label) → is_ran l ≡ false → Sound r e s → InOrder s.manager → KernelFits s → Changes KernelFits s l
+rows_fit r e s l off h order fits =
+    let what : (id : MsgId) (m : PlainMessage) (w : PlainWhat) → m.what ≡ w → s.bag id ≡ Some m → WhatFits s id m w = λ id m w is there. subst (WhatFits s id m) is (fits.messages id m there) in
+    record {
+      ran = λ p k x m is runs. absurd (false≢true (sym off ∙ ap is_ran is));
+      replies = λ p n k c d y is w. call_goes s p (kernel.Calls k (Called.Replies d y)) y (next_is s p (kernel.Calls k (Called.Replies d y)) fits w.is) (λ z f. f) fits;
+      sends = λ p id k m y is same w. call_sends s p k m y w fits;
+      waits = λ p k y is w. call_goes s p (kernel.Calls k (Called.Waits y)) y (next_is s p (kernel.Calls k (Called.Waits y)) fits w.is) (λ z f. f) fits;
+      outputs = λ p word k v y is w. call_goes s p (kernel.Calls k (Called.Outputs v y)) y (next_is s p (kernel.Calls k (Called.Outputs v y)) fits w.is) (λ z f. f) fits;
+      ends = λ p y next is w. end_fits s p y fits;
+      receives = λ p id y is c e.
+          (let w = completing_is s p id (receiving.Receives y) fits e in
+          let g = w.fits in
+          goes_fits (without_message s id) p w.x y w.alive w.still (record { memory = g.memory; slots = g.slots; move = g.move }) (out_fits s id fits));
+      refuses = λ p id c d y is w e. (let w = completing_is s p id (receiving.Refuses d y) fits e in goes_fits s p w.x y w.alive w.still w.fits fits);
+      dropped = λ id m y is w off. out_fits s id fits;
+      gone = λ id m y is w v answer. put_fits (without_message s id) (answer_to m v) (gone_fits r e s id m m.what v refl answer (fits.messages id m w.there) w.there h) (out_fits s id fits);
+      asked = λ id m x machine is w move. asked_fits s id m machine (what id m (PlainWhat.Move machine) move w.there) fits;
+      answered = λ id o p n is w. move_ended_fits r e s id p n o w.noted w.notes h fits;
+      stops = λ id m x b is w mild. changed_fits s id m x (record x { stopped = b }) w.alive refl (goes_same s m.to x (record x { stopped = b }) (omega arith) refl refl w.alive fits) fits;
+      kills = λ id m x is w kill. end_fits (without_message s id) m.to Why.Killed (out_fits s id fits);
+      reads = λ id m x base len is w read. read_fits r e s id m x base len read (what id m (PlainWhat.Read base len) read w.there) w.there w.alive h fits;
+      writes = λ id m x base bytes is w write. write_fits r e s id m x base bytes write (what id m (PlainWhat.Write base bytes) write w.there) w.there w.alive h fits;
+      lands = λ id m x n y is w mild last. landed_fits r e s id m x (pieces.Next n y) w.there w.alive last h fits;
+      done = λ id m x c y is w mild last. landed_fits r e s id m x (pieces.Done c y) w.there w.alive last h fits;
+      board = λ id m k is there to took. board_row s id m m.what k (fits.messages id m there) took fits;
+      manager = λ id m k is there to took. manager_row r e s id m m.what k (h.entered.named id m there) there (fits.messages id m there) took h order fits;
+      creates = λ id child m image links i is w found name.
+          created_fits r e s id m child i links image (what id m (PlainWhat.Create image links) w.what w.there) w.there (pid_eq-is child (pid_of m.to.home (first_number + s.made m.to.home)) name) h fits;
+      no_room = λ id a b m image links is w. no_space_fits r e s id m image links (what id m (PlainWhat.Create image links) w.what w.there) w.there h fits;
+    }
+  where
+    call_sends : (s : OneKernel) (p : Pid) (k : ℕ) (m : PlainMessage) (y : PlainProcess) → Next s p (kernel.Calls k (Called.Sends m y)) → KernelFits s → KernelFits (with_sent (kernel.goes_on s p y) (Some m))
+    call_sends s p k m y w fits =
+        let (z, sent, pending, counted) = w.so.counts in
+        send_goes s p (kernel.Calls k (Called.Sends m y)) m y (next_is s p (kernel.Calls k (Called.Sends m y)) fits w.is) (λ z f. f) (ap (λ (i : MsgId). i.from) counted.id) fits
+
 pub fits_step : (r e : MsgId → ℕ) (s t : OneKernel) (l : Label) → kernel.step s l ≡ Some t → Sound r e s → InOrder s.manager → KernelFits s → KernelFits t
 fits_step r e s t (Label.Ran p k) is h order fits = ran_fits s t p k is fits
-fits_step r e s t (Label.Call p n c) is h order fits = call_step s t p n c is fits
-fits_step r e s t (Label.Send p id) is h order fits = send_step s t p id is fits
-fits_step r e s t (Label.Wait p) is h order fits = wait_step s t p is fits
-fits_step r e s t (Label.Out p w) is h order fits = out_step s t p w is fits
-fits_step r e s t (Label.End p y) is h order fits = end_step s t p y is fits
-fits_step r e s t (Label.Receive p id) is h order fits = receive_step s t p id is fits
-fits_step r e s t (Label.Refuse p id c) is h order fits = refuse_step s t p id c is fits
-fits_step r e s t (Label.Dropped id) is h order fits = dropped_step s t id is fits
-fits_step r e s t (Label.Served id) is h order fits = served_step r e s t id is h fits
-fits_step r e s t (Label.Asked id) is h order fits = asked_step r e s t id is fits
-fits_step r e s t (Label.Answered id o) is h order fits = answered_step r e s t id o is h fits
-fits_step r e s t (Label.Gone id) is h order fits = gone_step r e s t id is h fits
-fits_step r e s t (Label.Took id) is h order fits = took_step r e s t id is h order fits
-fits_step r e s t (Label.Created id child) is h order fits = created_step r e s t id child is h fits
-fits_step r e s t (Label.NoSpace id a b) is h order fits = no_space_step r e s t id a b is h fits
+fits_step r e s t l is h order fits = by_step KernelFits s t l (rows_fit r e s l refl h order fits) is
 
 -- an image's process has the bytes of its blocks
 memory_long : (i : BootImage) → 256 * i.blocks ≤ length (memory_of i)
@@ -52,12 +82,7 @@ abbrev ProcessIs : Boot → BootProcess → Type 0
 ProcessIs b p = (is_some (slice_get b.images p.image) ≡ true) × (links_are_valid b p.links ≡ true)
 
 process_is : (b : Boot) (others : ℕ) (p : BootProcess) → process_is_valid b others p ≡ true → ProcessIs b p
-process_is b others p h =
-    let one = both (nat_lt p.pid.home (length b.machines)) ((p.pid.num == 3 + others) && (nat_lt p.image (length b.images) && (nat_le (length p.links) (slots_of b.format) && links_are_valid b p.links))) h in
-    let second = both (p.pid.num == 3 + others) (nat_lt p.image (length b.images) && (nat_le (length p.links) (slots_of b.format) && links_are_valid b p.links)) one.1 in
-    let three = both (nat_lt p.image (length b.images)) (nat_le (length p.links) (slots_of b.format) && links_are_valid b p.links) second.1 in
-    let four = both (nat_le (length p.links) (slots_of b.format)) (links_are_valid b p.links) three.1 in
-    (get_some b.images p.image three.0, four.1)
+process_is b others p h = search (arith, both, p.pid.home, b.machines, p.pid.num, p.image, b.images, p.links, b.format, get_some)
 
 processes_are : (b : Boot) (earlier ps : List BootProcess) → processes_are_valid b earlier ps ≡ true → Each (ProcessIs b) ps
 processes_are b earlier [] h = tt
@@ -68,10 +93,7 @@ processes_are b earlier (p ∷ ps) h =
 -- a process that the file names has the memory of its image
 named_by : (b : Boot) (c : Bool) (r p : BootProcess) (o : Option BootProcess) (l : Option Life) (n : ℕ) → (if c then Some r else o) ≡ Some p → ProcessIs b r → nat_le n (memory_size b (Some p)) ≡ true → (o ≡ Some p → has_bytes n l ≡ true)
     → has_bytes n (if c then first_life b r else l) ≡ true
-named_by b true r p o l n e is le f =
-    let k : r ≡ p = cc in
-    begins_with b r n (slice_get b.images r.image) is.0 (subst (λ (v : BootProcess). nat_le n (memory_size b (Some v)) ≡ true) (sym k) le)
-named_by b false r p o l n e is le f = f e
+named_by b c r p o l n h1 h2 h3 h4 = search (arith, begins_with, b.images, r.image)
 
 named_has : (b : Boot) (ps : List BootProcess) (q : Pid) (p : BootProcess) (n : ℕ) → Each (ProcessIs b) ps → process_named q ps ≡ Some p → nat_le n (memory_size b (Some p)) ≡ true → has_bytes n (life_at b ps q) ≡ true
 named_has b [] q p n is e le = cc
@@ -85,46 +107,21 @@ server_gives : (l : Link) → leads_to_server l ≡ true → gives_no_right l.ar
 server_gives l h = empty_gives l.area (both (l.code == 0) (area_is_empty l.area) (both (l.addr.at == 0) ((l.code == 0) && area_is_empty l.area) h).1).1
 
 child_gives : (b : Boot) (l : Link) → controls_child b l ≡ true → gives_no_right l.area ≡ true
-child_gives b l h =
-    let rest = (nat_le 1 l.code && nat_le l.code (length b.processes)) in
-    let one = both (pid_eq l.addr.pid manager) ((l.addr.at == 0) && (is_general l.kind && ((l.channel == 0) && (area_is_empty l.area && rest)))) h in
-    let second = both (l.addr.at == 0) (is_general l.kind && ((l.channel == 0) && (area_is_empty l.area && rest))) one.1 in
-    let three = both (is_general l.kind) ((l.channel == 0) && (area_is_empty l.area && rest)) second.1 in
-    let four = both (l.channel == 0) (area_is_empty l.area && rest) three.1 in
-    empty_gives l.area (both (area_is_empty l.area) rest four.1).0
+child_gives b l h = search (arith, l.code, b.processes, both, l.addr.pid, l.addr.at, l.kind, l.channel, l.area, empty_gives)
 
 either : (b : Boot) (l : Link) (c : Bool) → leads_to_server l ≡ c → (c || controls_child b l) ≡ true → gives_no_right l.area ≡ true
 either b l true e h = server_gives l e
 either b l false e h = child_gives b l h
 
 to_process : (b : Boot) (l : Link) (q : Pid) (o : Option BootProcess) → process_named q b.processes ≡ o → Each (ProcessIs b) b.processes → leads_to_process b l o ≡ true → has_bytes (l.area.base + l.area.len) (life_at b b.processes q) ≡ true
-to_process b l q None e is h = cc
-to_process b l q (Some p) e is h =
-    named_has b b.processes q p (l.area.base + l.area.len) is e (both (l.addr.at == p.pid.home) (area_is_within (memory_size b (Some p)) l.area) h).1
+to_process b l q o h1 h2 h3 = search (arith, named_has, b.processes, l.area.base, l.area.len, both, l.addr.at, l.area)
 
 leads_by : (b : Boot) (l : Link) (c d : Bool) → pid_eq l.addr.pid switchboard ≡ c → pid_eq l.addr.pid manager ≡ d → Each (ProcessIs b) b.processes
     → (if c then leads_to_server l else if d then leads_to_server l || controls_child b l else leads_to_process b l (process_named l.addr.pid b.processes)) ≡ true → LinkFits (life_at b b.processes) (plain_link l)
-leads_by b l true d e f is h =
-    let g = server_gives l h in
-    ap (λ (c : Bool). ((c || pid_eq l.addr.pid manager) && gives_no_right l.area) || has_bytes (l.area.base + l.area.len) (life_at b b.processes l.addr.pid)) e
-    ∙ ap (λ (c : Bool). c || has_bytes (l.area.base + l.area.len) (life_at b b.processes l.addr.pid)) g
-leads_by b l false true e f is h =
-    let g = either b l (leads_to_server l) refl h in
-    ap (λ (c : Bool). ((c || pid_eq l.addr.pid manager) && gives_no_right l.area) || has_bytes (l.area.base + l.area.len) (life_at b b.processes l.addr.pid)) e
-    ∙ ap (λ (c : Bool). (c && gives_no_right l.area) || has_bytes (l.area.base + l.area.len) (life_at b b.processes l.addr.pid)) f
-    ∙ ap (λ (c : Bool). c || has_bytes (l.area.base + l.area.len) (life_at b b.processes l.addr.pid)) g
-leads_by b l false false e f is h =
-    let g = to_process b l l.addr.pid (process_named l.addr.pid b.processes) refl is h in
-    ap (λ (c : Bool). ((c || pid_eq l.addr.pid manager) && gives_no_right l.area) || has_bytes (l.area.base + l.area.len) (life_at b b.processes l.addr.pid)) e
-    ∙ ap (λ (c : Bool). (c && gives_no_right l.area) || has_bytes (l.area.base + l.area.len) (life_at b b.processes l.addr.pid)) f
-    ∙ g
+leads_by b l c d h1 h2 h3 h4 = search (arith, server_gives, l.addr.pid, l.area, l.area.base, l.area.len, b.processes, either, to_process)
 
 link_fits_first : (b : Boot) (l : Link) → Each (ProcessIs b) b.processes → link_is_valid b l ≡ true → LinkFits (life_at b b.processes) (plain_link l)
-link_fits_first b l is h =
-    let one = both (l.addr.moves == 0) (not l.to_kernel && (nat_le l.channel 31 && leads_somewhere b l)) h in
-    let second = both (not l.to_kernel) (nat_le l.channel 31 && leads_somewhere b l) one.1 in
-    let three = both (nat_le l.channel 31) (leads_somewhere b l) second.1 in
-    leads_by b l (pid_eq l.addr.pid switchboard) (pid_eq l.addr.pid manager) refl refl is three.1
+link_fits_first b l is h = search (arith, both, l.addr.moves, l.to_kernel, l.channel, leads_by, l.addr.pid)
 
 links_fit_first : (b : Boot) (ls : List Link) → Each (ProcessIs b) b.processes → links_are_valid b ls ≡ true → Each (LinkFits (life_at b b.processes)) (map plain_link ls)
 links_fit_first b [] is h = tt
@@ -164,12 +161,5 @@ map_each P f (x ∷ xs) h = (h.0, map_each P f xs h.1)
 
 pub start_fits : (b : Boot) → IsValid b → KernelFits (start b)
 start_fits b valid =
-    let is = processes_are b [] b.processes valid.processes in
-    record {
-      processes = λ p x e. lives_fit b b.processes p x is is e;
-      messages = λ i m e. absurd (let f : None ≡ Some m = e in cc);
-      names = tt;
-      answers = tt;
-      notes = λ p n e. absurd (let f : None ≡ Some n = e in cc);
-      children = map_each (λ (p : Pid). has_bytes 0 (life_at b b.processes p) ≡ true) (λ (p : BootProcess). p.pid) b.processes (children_made b b.processes is);
-    }
+    let none : (p : Pid) (n : Note) → (start b).notes p ≡ Some n → NoteFits (start b) n = λ p n e. absurd (let f : None ≡ Some n = e in cc) in
+    search (arith, processes_are, b.processes, valid.processes, lives_fit, map_each, children_made, none)

@@ -1,25 +1,127 @@
 -- Each label of a process keeps that all fits.
-use Rattle.dm_rulelaws.proofs.Names.{◌≡◌, ℕ, ◌+◌, ◌==◌, ◌&&◌, Bool, true, length, ap, ◌∙◌, sym, subst, nat_le, arith, Option, None, Some, nat_tests, Pid, MsgId, id_eq, Label, Called, PlainMessage, PlainWhat, Reply, Why, reply_eq, why_eq}
-use Rattle.dm_rulelaws.proofs.Names.{bind, PlainProcess, PlainStatus, Ready, Life, Alive, Ended, OneKernel, with_process, with_sent, without_message, pending_of, bind-is, when-is, Nexts, nexts, Lives, has_bytes, LinkFits, ProcessFits}
-use Rattle.dm_rulelaws.proofs.Names.{status_awaits, awaits, WhatFits, KernelFits}
-use Rattle.dm_onekernel.specs.Receiving as receiving
+use Rattle.dm_rulelaws.proofs.Names.{◌≡◌, ℕ, Bool, true, length, subst, arith, None, Some, Pid, MsgId, Label, PlainMessage, PlainWhat, bind, PlainProcess, PlainStatus, Ready, Alive, OneKernel, with_sent, pending_of, bind-is, Lives}
+use Rattle.dm_rulelaws.proofs.Names.{status_awaits, WhatFits, KernelFits, zero, suc, ◌+◌, ◌≤◌, false, List, [], ◌∷◌, refl, ap, ◌∙◌, sym, nat_le, ⊤, if◌then◌else◌, Option, common_steps, PlainLink, first_empty, Row, instruction, Regs}
+use Rattle.dm_rulelaws.proofs.Names.{KeepsLengths, instruction-lengths, Reply, Waiting, written_at, at_hand-is, Runs, Each, has_bytes, LinkFits, SlotFits, move_fits, ProcessFits, running_is}
 use Rattle.dm_onekernel.specs.Step as kernel
-use Rattle.dm_rulelaws.proofs.Fits.Rises.{Rises, Each-on, link_on, users_on, move_on, Becomes, set_fits, set_at, set_rises, out_fits, put_fits, end_fits}
-use Rattle.dm_rulelaws.proofs.Fits.Calls.{Goes, SentFits}
-use Rattle.dm_rulelaws.proofs.Fits.Receives.{GoesOn, NextIs, next_is, running_is, steps_length, Completing, completing_is}
+use Rattle.dm_rulelaws.proofs.Fits.Rises.{Rises, Each-on, link_on, users_on, move_on, Becomes, set_fits, set_at, set_rises, put_fits}
+use Rattle.dm_rulelaws.proofs.Fits.Calls.{Goes, SentFits, Requests, CallFits, call_fits, slots_set}
+use Rattle.dm_onekernel.specs.Receiving as receiving
+use Rattle.dm_onekernel.specs.Calls as calls
+
+-- a process that executes
+-- memory never shrinks
+pub written_longer : (memory : List ℕ) (base : ℕ) (bytes : List ℕ) → length memory ≤ length (written_at memory base bytes)
+written_longer memory base bytes = grind (arith, common_steps)
+
+plain_length : (w : Row) (regs : Regs) (bytes : List ℕ) (m : kernel.Machine) → KeepsLengths w regs bytes → kernel.plain_row w ≡ Some m → length m.bytes ≡ length bytes
+plain_length w regs bytes m h1 h2 = search arith
+
+pub steps_length : (k : ℕ) (m n : kernel.Machine) → kernel.plain_steps k m ≡ Some n → length n.bytes ≡ length m.bytes
+steps_length zero m n e = let f : m ≡ n = cc in sym (ap (λ (v : kernel.Machine). length v.bytes) f)
+steps_length (suc k) m n e =
+    let (mid, before, last) = bind-is (kernel.plain_steps k m) kernel.plain_step n e in
+    plain_length (instruction mid.regs mid.bytes) mid.regs mid.bytes n (instruction-lengths mid.regs mid.bytes) last ∙ steps_length k m mid before
+
+-- a process that goes on, and whose memory doesn't shrink
+pub record GoesOn (ps : Lives) (x y : PlainProcess) : Type 0 where
+  pub memory : length x.memory ≤ length y.memory
+  pub slots : Each (SlotFits ps) y.links
+  pub move : move_fits ps y y.status ≡ true
+
+-- what comes next of a process that executes
+abbrev pub NextFits : Lives → PlainProcess → kernel.Trap → Type 0
+NextFits ps x (kernel.Calls number called) = CallFits ps x called
+NextFits ps x (kernel.Faults fault) = ⊤
+
+pub record NextIs (s : OneKernel) (p : Pid) (n : kernel.Trap) : Type 0 where
+  pub x : PlainProcess
+  pub is : Runs s p x
+  pub z : PlainProcess
+  pub memory : z.memory ≡ x.memory
+  pub fits : NextFits s.processes z n
+
+alive_has : (s : OneKernel) (p : Pid) (x : PlainProcess) (n : ℕ) → s.processes p ≡ Some (Alive x) → nat_le n (length x.memory) ≡ true → has_bytes n (s.processes p) ≡ true
+alive_has s p x n is e = ap (has_bytes n) is ∙ e
+
+next_row_is : (s : OneKernel) (p : Pid) (x : PlainProcess) (w : Row) (n : kernel.Trap) → Runs s p x → KernelFits s → kernel.next_row p x w ≡ Some n → NextIs s p n
+next_row_is s p x (Row.Plain regs bytes) n is h e = cc
+next_row_is s p x (Row.Calls number regs) n is h e =
+    let z = record x { regs = regs } in
+    let f : kernel.Calls number (calls.call p z number) ≡ n = cc in
+    let fits = h.processes p x is.alive in
+    record {
+      x = x;
+      is = is;
+      z = z;
+      memory = refl;
+      fits = subst (NextFits s.processes z) f (call_fits s.processes p z number (λ k e. alive_has s p x k is.alive e) (record { slots = fits.slots; move = move_on s.processes s.processes (λ q k g. g) x z (omega arith) x.status fits.move }));
+    }
+next_row_is s p x (Row.Faults fault) n is h e =
+    let f : kernel.Faults fault ≡ n = cc in
+    record { x = x; is = is; z = x; memory = refl; fits = subst (NextFits s.processes x) f tt }
+
+pub next_is : (s : OneKernel) (p : Pid) (n : kernel.Trap) → KernelFits s → kernel.next_trap s p ≡ Some n → NextIs s p n
+next_is s p n h e =
+    let (x, running, row_is) = bind-is (kernel.running s p) (λ (v : PlainProcess). kernel.next_row p v (instruction v.regs v.memory)) n e in
+    next_row_is s p x (instruction x.regs x.memory) n (running_is s p x running) h row_is
+
+-- links are placed
+placed_step : (ps : Lives) (t : receiving.RegsAndLinks) (r : ℕ) (l : PlainLink) (o : Option ℕ) → LinkFits ps l → Each (SlotFits ps) t.links → Each (SlotFits ps) (receiving.place_into t r l o).links
+placed_step ps t r l None f h = h
+placed_step ps t r l (Some slot) f h = slots_set ps t.links slot (Some l) f h
+
+placed_fit : (ps : Lives) (ls : List PlainLink) (t : receiving.RegsAndLinks) (r : ℕ) → Each (LinkFits ps) ls → Each (SlotFits ps) t.links → Each (SlotFits ps) (receiving.place_links t r ls).links
+placed_fit ps [] t r f h = h
+placed_fit ps (l ∷ ls) t r f h = placed_fit ps ls (receiving.place_into t r l (first_empty t.links)) (r + 1) f.1 (placed_step ps t r l (first_empty t.links) f.0 h)
+
+abbrev pub CompletedFits : Lives → PlainProcess → receiving.Completed → Type 0
+CompletedFits ps x (receiving.Receives y) = GoesOn ps x y
+CompletedFits ps x (receiving.Refuses c y) = GoesOn ps x y
+
+unless_fits : (ps : Lives) (x : PlainProcess) (base code channel : ℕ) (body : List ℕ) (links : List PlainLink) (o : Option Reply) → Each (LinkFits ps) links → ProcessFits ps x → CompletedFits ps x (receiving.completes_unless o x (receiving.with_received x base code channel body links))
+unless_fits ps x base code channel body links o h1 h2 = search (arith, written_longer, x.memory, placed_fit, x.regs, x.links)
+
+if_completes : (ps : Lives) (x : PlainProcess) (b : Bool) (c d : receiving.Completed) → CompletedFits ps x c → (if b then Some c else None) ≡ Some d → CompletedFits ps x d
+if_completes ps x true c d h e = let f : c ≡ d = cc in subst (CompletedFits ps x) f h
+if_completes ps x false c d h e = cc
+
+completes_what_fits : (s : OneKernel) (p : Pid) (x : PlainProcess) (i : MsgId) (m : PlainMessage) (mask base size : ℕ) (w : PlainWhat) (d : receiving.Completed) → WhatFits s i m w → ProcessFits s.processes x → receiving.completes_what p x m mask base size w ≡ Some d
+    → CompletedFits s.processes x d
+completes_what_fits s p x i m mask base size w d h1 h2 h3 = search (arith, if_completes, s.processes, m.to, unless_fits)
+
+abbrev StatusCompletes : OneKernel → PlainProcess → PlainStatus → receiving.Completed → Type 0
+StatusCompletes s x st d = (pending_of st ≡ None) × CompletedFits s.processes x d
+
+completes_status_fits : (s : OneKernel) (p : Pid) (x : PlainProcess) (i : MsgId) (m : PlainMessage) (st : PlainStatus) (d : receiving.Completed) → WhatFits s i m m.what → ProcessFits s.processes x → receiving.completes_status p x m st ≡ Some d
+    → StatusCompletes s x st d
+completes_status_fits s p x i m (Waiting mask base size) d f h e = (refl, completes_what_fits s p x i m mask base size m.what d f h e)
+completes_status_fits s p x i m _ d f h e = cc
+
+completes_with_fits : (s : OneKernel) (p : Pid) (x : PlainProcess) (i : MsgId) (m : PlainMessage) (b : Bool) (d : receiving.Completed) → WhatFits s i m m.what → ProcessFits s.processes x → (if b then None else receiving.completes_status p x m x.status) ≡ Some d
+    → StatusCompletes s x x.status d
+completes_with_fits s p x i m true d f h e = cc
+completes_with_fits s p x i m false d f h e = completes_status_fits s p x i m x.status d f h e
+
+pub record Completing (s : OneKernel) (p : Pid) (d : receiving.Completed) : Type 0 where
+  pub x : PlainProcess
+  pub alive : s.processes p ≡ Some (Alive x)
+  pub still : pending_of x.status ≡ None
+  pub fits : CompletedFits s.processes x d
+
+pub completing_is : (s : OneKernel) (p : Pid) (id : MsgId) (d : receiving.Completed) → KernelFits s → kernel.completing s p id ≡ Some d → Completing s p d
+completing_is s p id d h e =
+    let (x, is, rest) = bind-is (kernel.at_hand s p) (λ (v : PlainProcess). bind (s.bag id) (receiving.completes_with p v)) d e in
+    let (m, there, last) = bind-is (s.bag id) (receiving.completes_with p x) d rest in
+    let (free, alive) = at_hand-is s p x is in
+    let k = completes_with_fits s p x id m x.stopped d (h.messages id m there) (h.processes p x alive) last in
+    record { x = x; alive = alive; still = k.0; fits = k.1 }
+
+-- Each label of a process keeps that all fits.
 
 -- what a living process becomes, whoever awaits it
 pub becomes : (s : OneKernel) (p : Pid) (x y : PlainProcess) → s.processes p ≡ Some (Alive x) → GoesOn s.processes x y → ((i : MsgId) (m : PlainMessage) → s.bag i ≡ Some m → i.from ≡ p → status_awaits x.status i.n m.what ≡ true → status_awaits y.status i.n m.what ≡ true)
     → Becomes s p (Alive y)
-becomes s p x y is goes waits = record {
-  bytes = λ n e.
-      let f : nat_le n (length x.memory) ≡ true = sym (ap (has_bytes n) is) ∙ e in
-      let le = goes.memory in
-      let g : nat_le n (length y.memory) ≡ true = grind (arith, nat_tests) in
-      g;
-  waits = λ i m there from e. waits i m there from (sym (ap (λ (o : Option Life). awaits o i.n m.what) is) ∙ e);
-  fits = λ z e. let f : y ≡ z = cc in subst (ProcessFits s.processes) f (record { slots = goes.slots; move = goes.move });
-}
+becomes s p x y is goes waits = search (arith, x.memory, goes.memory, y.memory, s.processes, goes.slots, goes.move)
 
 -- a process that moves no data is awaited by nobody
 pub unawaited : (st : PlainStatus) (n : ℕ) (w : PlainWhat) (b : Bool) → pending_of st ≡ None → status_awaits st n w ≡ true → b ≡ true
@@ -31,9 +133,11 @@ goes_fits s p x y is still goes h =
     set_fits s p (Alive y) (becomes s p x y is goes (λ i m there from e. unawaited x.status i.n m.what (status_awaits y.status i.n m.what) still e)) h
 
 goes_of : (ps : Lives) (x z y : PlainProcess) → z.memory ≡ x.memory → Goes ps z y → GoesOn ps x y
-goes_of ps x z y memory g =
-    let f : length y.memory ≡ length x.memory = ap length g.memory ∙ ap length memory in
-    record { memory = omega (arith, f); slots = g.slots; move = g.move }
+goes_of ps x z y memory g = search (arith, y.memory, x.memory, g.memory, g.slots, g.move)
+
+-- a process goes on after a call
+pub call_goes : (s : OneKernel) (p : Pid) (n : kernel.Trap) (y : PlainProcess) → NextIs s p n → ((z : PlainProcess) → NextFits s.processes z n → Goes s.processes z y) → KernelFits s → KernelFits (kernel.goes_on s p y)
+call_goes s p n y w goes h = goes_fits s p w.x y w.is.alive w.is.still (goes_of s.processes w.x w.z y w.memory (goes w.z w.fits)) h
 
 -- ran
 pub ran_fits : (s t : OneKernel) (p : Pid) (k : ℕ) → kernel.step s (Label.Ran p k) ≡ Some t → KernelFits s → KernelFits t
@@ -44,99 +148,14 @@ ran_fits s t p k is h =
     let w = running_is s p x running in
     let fits = h.processes p x w.alive in
     let size : length m.bytes ≡ length x.memory = steps_length k (kernel.machine_of x) m plain in
-    subst KernelFits eq (goes_fits s p x (kernel.with_machine x m) w.alive w.still (record {
-      memory = omega (arith, size);
-      slots = fits.slots;
-      move = move_on s.processes s.processes (λ q n e. e) x (kernel.with_machine x m) (omega (arith, size)) x.status fits.move;
-    }) h)
-
-reply_row : (s t : OneKernel) (p : Pid) (n : ℕ) (c : Reply) (next : kernel.Trap) → NextIs s p next → kernel.replies s p n c next ≡ Some t → KernelFits s → KernelFits t
-reply_row s t p n c (kernel.Calls number (Called.Replies d y)) w is h =
-    let k = when-is ((n == number) && reply_eq c d) (kernel.goes_on s p y) t is in
-    subst KernelFits k.1 (goes_fits s p w.x y w.is.alive w.is.still (goes_of s.processes w.x w.z y w.memory w.fits) h)
-reply_row s t p n c _ w is h = cc
-
-pub call_step : (s t : OneKernel) (p : Pid) (n : ℕ) (c : Reply) → kernel.step s (Label.Call p n c) ≡ Some t → KernelFits s → KernelFits t
-call_step s t p n c is h =
-    let (x, next, rest) = bind-is (kernel.next_trap s p) (kernel.replies s p n c) t is in
-    reply_row s t p n c x (next_is s p x h next) rest h
+    subst KernelFits eq (goes_fits s p x (kernel.with_machine x m) w.alive w.still ((search (arith, fits.slots, move_on, s.processes, x.status, fits.move))) h)
 
 -- what is sent fits where its sender goes on
 pub sent_fits : (s u : OneKernel) (p : Pid) (y : PlainProcess) (m : PlainMessage) (w : PlainWhat) → Rises s.processes u.processes → u.processes p ≡ Some (Alive y) → m.id.from ≡ p → SentFits s.processes y m w → WhatFits u m.id m w
-sent_fits s u p y m (PlainWhat.User code channel body links) up at from f = (users_on s.processes u.processes up m.to f.0, Each-on (LinkFits s.processes) (LinkFits u.processes) (link_on s.processes u.processes up) links f.1)
-sent_fits s u p y m (PlainWhat.Read base len) up at from f =
-    (up m.to (base + len) f.0, ap (λ (q : Pid). awaits (u.processes q) m.id.n (PlainWhat.Read base len)) from ∙ ap (λ (o : Option Life). awaits o m.id.n (PlainWhat.Read base len)) at ∙ f.1)
-sent_fits s u p y m (PlainWhat.Write base bytes) up at from f =
-    (up m.to (base + length bytes) f.0, ap (λ (q : Pid). awaits (u.processes q) m.id.n (PlainWhat.Write base bytes)) from ∙ ap (λ (o : Option Life). awaits o m.id.n (PlainWhat.Write base bytes)) at ∙ f.1)
-sent_fits s u p y m _ up at from f = absurd f
+sent_fits s u p y m w h1 h2 h3 h4 = search (arith, users_on, s.processes, u.processes, m.to, Each-on, link_on, m.id.n)
 
-send_row : (s t : OneKernel) (p : Pid) (id : MsgId) (next : kernel.Trap) → Nexts s p next → NextIs s p next → kernel.sends s p id next ≡ Some t → KernelFits s → KernelFits t
-send_row s t p id (kernel.Calls number (Called.Sends m y)) v w is h =
-    let (z, sent, pending, counted) = v.counts in
-    let k = when-is (id_eq id m.id) (with_sent (kernel.goes_on s p y) (Some m)) t is in
-    let u = kernel.goes_on s p y in
-    let goes = goes_of s.processes w.x w.z y w.memory w.fits.goes in
-    let b = becomes s p w.x y w.is.alive goes (λ i n there from e. unawaited w.x.status i.n n.what (status_awaits y.status i.n n.what) w.is.still e) in
-    subst KernelFits k.1
-    (put_fits u m (sent_fits s u p y m m.what (set_rises s p (Alive y) b.bytes) (set_at s p (Alive y)) (ap (λ (i : MsgId). i.from) counted.id) w.fits.what) (set_fits s p (Alive y) b h))
-send_row s t p id _ v w is h = cc
-
-pub send_step : (s t : OneKernel) (p : Pid) (id : MsgId) → kernel.step s (Label.Send p id) ≡ Some t → KernelFits s → KernelFits t
-send_step s t p id is h =
-    let (x, next, rest) = bind-is (kernel.next_trap s p) (kernel.sends s p id) t is in
-    send_row s t p id x (nexts s p x next) (next_is s p x h next) rest h
-
-wait_row : (s t : OneKernel) (p : Pid) (next : kernel.Trap) → NextIs s p next → kernel.waits s p next ≡ Some t → KernelFits s → KernelFits t
-wait_row s t p (kernel.Calls number (Called.Waits y)) w is h =
-    let eq : kernel.goes_on s p y ≡ t = cc in
-    subst KernelFits eq (goes_fits s p w.x y w.is.alive w.is.still (goes_of s.processes w.x w.z y w.memory w.fits) h)
-wait_row s t p _ w is h = cc
-
-pub wait_step : (s t : OneKernel) (p : Pid) → kernel.step s (Label.Wait p) ≡ Some t → KernelFits s → KernelFits t
-wait_step s t p is h =
-    let (x, next, rest) = bind-is (kernel.next_trap s p) (kernel.waits s p) t is in
-    wait_row s t p x (next_is s p x h next) rest h
-
-out_row : (s t : OneKernel) (p : Pid) (word : ℕ) (next : kernel.Trap) → NextIs s p next → kernel.outputs s p word next ≡ Some t → KernelFits s → KernelFits t
-out_row s t p word (kernel.Calls number (Called.Outputs other y)) w is h =
-    let k = when-is (word == other) (kernel.goes_on s p y) t is in
-    subst KernelFits k.1 (goes_fits s p w.x y w.is.alive w.is.still (goes_of s.processes w.x w.z y w.memory w.fits) h)
-out_row s t p word _ w is h = cc
-
-pub out_step : (s t : OneKernel) (p : Pid) (word : ℕ) → kernel.step s (Label.Out p word) ≡ Some t → KernelFits s → KernelFits t
-out_step s t p word is h =
-    let (x, next, rest) = bind-is (kernel.next_trap s p) (kernel.outputs s p word) t is in
-    out_row s t p word x (next_is s p x h next) rest h
-
-end_row : (s t : OneKernel) (p : Pid) (y : Why) (next : kernel.Trap) → kernel.ends s p y next ≡ Some t → KernelFits s → KernelFits t
-end_row s t p y (kernel.Calls number (Called.Ends because)) is h = let k = when-is (why_eq y because) (with_process s p (Ended y)) t is in subst KernelFits k.1 (end_fits s p y h)
-end_row s t p y (kernel.Faults fault) is h = let k = when-is (why_eq y (Why.Fault fault)) (with_process s p (Ended y)) t is in subst KernelFits k.1 (end_fits s p y h)
-end_row s t p y _ is h = cc
-
-pub end_step : (s t : OneKernel) (p : Pid) (y : Why) → kernel.step s (Label.End p y) ≡ Some t → KernelFits s → KernelFits t
-end_step s t p y is h =
-    let (x, next, rest) = bind-is (kernel.next_trap s p) (kernel.ends s p y) t is in
-    end_row s t p y x rest h
-
-receive_row : (s t : OneKernel) (p : Pid) (id : MsgId) (c : receiving.Completed) → Completing s p c → kernel.receives s p id c ≡ Some t → KernelFits s → KernelFits t
-receive_row s t p id (receiving.Receives y) w is h =
-    let eq : kernel.goes_on (without_message s id) p y ≡ t = cc in
-    let g = w.fits in
-    subst KernelFits eq (goes_fits (without_message s id) p w.x y w.alive w.still (record { memory = g.memory; slots = g.slots; move = g.move }) (out_fits s id h))
-receive_row s t p id (receiving.Refuses d y) w is h = cc
-
-pub receive_step : (s t : OneKernel) (p : Pid) (id : MsgId) → kernel.step s (Label.Receive p id) ≡ Some t → KernelFits s → KernelFits t
-receive_step s t p id is h =
-    let (c, e, rest) = bind-is (kernel.completing s p id) (kernel.receives s p id) t is in
-    receive_row s t p id c (completing_is s p id c h e) rest h
-
-refuse_row : (s t : OneKernel) (p : Pid) (d : Reply) (c : receiving.Completed) → Completing s p c → kernel.refuses s p d c ≡ Some t → KernelFits s → KernelFits t
-refuse_row s t p d (receiving.Receives y) w is h = cc
-refuse_row s t p d (receiving.Refuses c y) w is h =
-    let k = when-is (reply_eq d c) (kernel.goes_on s p y) t is in
-    subst KernelFits k.1 (goes_fits s p w.x y w.alive w.still w.fits h)
-
-pub refuse_step : (s t : OneKernel) (p : Pid) (id : MsgId) (d : Reply) → kernel.step s (Label.Refuse p id d) ≡ Some t → KernelFits s → KernelFits t
-refuse_step s t p id d is h =
-    let (c, e, rest) = bind-is (kernel.completing s p id) (kernel.refuses s p d) t is in
-    refuse_row s t p d c (completing_is s p id c h e) rest h
+pub send_goes : (s : OneKernel) (p : Pid) (n : kernel.Trap) (m : PlainMessage) (y : PlainProcess) → NextIs s p n → ((z : PlainProcess) → NextFits s.processes z n → Requests s.processes z m y) → m.id.from ≡ p → KernelFits s → KernelFits (with_sent (kernel.goes_on s p y) (Some m))
+send_goes s p n m y w sends from h =
+    let f = sends w.z w.fits in
+    let b = becomes s p w.x y w.is.alive (goes_of s.processes w.x w.z y w.memory f.goes) (λ i k there from e. unawaited w.x.status i.n k.what (status_awaits y.status i.n k.what) w.is.still e) in
+    put_fits (kernel.goes_on s p y) m (sent_fits s (kernel.goes_on s p y) p y m m.what (set_rises s p (Alive y) b.bytes) (set_at s p (Alive y)) from f.what) (set_fits s p (Alive y) b h)

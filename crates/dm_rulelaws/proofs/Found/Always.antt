@@ -1,11 +1,11 @@
 -- Each message stands where its receiver is known, wherever the rule leads.
-use Rattle.dm_rulelaws.proofs.Names.{◌≡◌, ◌≢◌, ℕ, ◌<◌, ◌≤◌, ◌==◌, ◌&&◌, ◌||◌, Bool, true, false, is_some, List, [], ◌∷◌, ◌++◌, length, refl, ap, ◌∙◌, sym, subst, inl, inr, arith, if◌then◌else◌, Option, None, Some, cases_Bool, false≢true}
-use Rattle.dm_rulelaws.proofs.Names.{nat_tests, Pid, Place, pid_eq, MsgId, PlainMessage, BootProcess, Boot, IsValid, processes_are_valid, switchboard, manager, first_life, life_at, Step, View, Told, Unknown, Here, is_kernels, known_at}
-use Rattle.dm_rulelaws.proofs.Names.{first_view, Holder, Receiver, Sender, names, to_of, IsStep, Spelled, Point, first_point, group_of, Spot, Queue, StandsOutside, standing, stands_right, Homes-start, Phased, Goes, Comes, Named, Links}
-use Rattle.dm_rulelaws.proofs.Names.{Found, machine_of, is_fixed}
+use Rattle.dm_rulelaws.proofs.Names.{◌≡◌, ◌≢◌, ℕ, ◌<◌, ◌≤◌, ◌==◌, ◌&&◌, Bool, true, false, is_some, List, [], ◌∷◌, ◌++◌, length, refl, ap, ◌∙◌, sym, subst, inl, inr, arith, if◌then◌else◌, Option, None, Some, cases_Bool, false≢true}
+use Rattle.dm_rulelaws.proofs.Names.{nat_tests, Pid, pid_eq, MsgId, PlainMessage, BootProcess, Boot, IsValid, processes_are_valid, manager, first_life, life_at, Step, View, Told, Unknown, Here, is_kernels, known_at, first_view, Holder}
+use Rattle.dm_rulelaws.proofs.Names.{Receiver, Sender, names, to_of, IsStep, Spelled, Point, first_point, group_of, Spot, Queue, StandsOutside, standing, stands_right, Homes-start, Phased, Goes, Comes, Named, Links, Found, machine_of}
+use Rattle.dm_rulelaws.proofs.Names.{is_fixed, times, receiver_of}
 use Rattle.dm_rule.proofs.Trails.Places.{Owns}
 use Rattle.dm_rulelaws.proofs.Fits.Start.{start_fits}
-use Rattle.dm_rulelaws.proofs.Found.Core.{KnowsAt, Knows, IsReal, AboutIs, KnownIs, Core, known_within}
+use Rattle.dm_rulelaws.proofs.Found.Core.{KnowsAt, Knows, IsReal, AboutIs, KnownIs, LineCore, Core, lines_of_core, known_within}
 use Rattle.dm_rulelaws.proofs.Found.Groups.{core_group}
 use Rattle.dm_rulelaws.proofs.Found.Real.{named_real}
 
@@ -15,11 +15,7 @@ FoundBy pt = Core pt.kernel.machines pt
 
 -- where a run begins
 start_knows : (b : Boot) (v : View) (earlier ps : List BootProcess) (m : ℕ) (q : Pid) → processes_are_valid b earlier ps ≡ true → 0 < length b.machines → KnownIs (length b.machines) v m q (known_at ps m q)
-start_knows b v earlier [] m q valid some = server_is ((m == 0) && (pid_eq q switchboard || pid_eq q manager)) refl
-  where
-    server_is : (c : Bool) → ((m == 0) && (pid_eq q switchboard || pid_eq q manager)) ≡ c → KnownIs (length b.machines) v m q (if c then Here else Unknown)
-    server_is true e = let f : m ≡ 0 = grind (arith, nat_tests) in subst (λ (k : ℕ). k < length b.machines) (sym f) some
-    server_is false e = tt
+start_knows b v earlier [] m q valid some = search (arith, b.machines)
 start_knows b v earlier (p ∷ ps) m q valid some =
     let home : p.pid.home < length b.machines = grind (arith, nat_tests) in
     let rest : processes_are_valid b (earlier ++ p ∷ []) ps ≡ true = grind (arith, nat_tests) in
@@ -34,9 +30,7 @@ nothing_stands b i (Queue m p) = refl
 nothing_stands b i _ = refl
 
 start_all : (b : Boot) → IsValid b → (h : Holder) (q : Pid) → Named (first_point b).kernel (first_point b).view h q → Knows (first_point b).view q ((first_point b).addresses h)
-start_all b valid h q (Links e) = inl (ap (λ (p : Place). p.at) ((Homes-start b valid).home h q e))
-start_all b valid h q (Owns (Goes i u is own told to)) = absurd (let f : None ≡ Some u = told in cc)
-start_all b valid h q (Owns (Comes i u is own told move to)) = absurd (let f : None ≡ Some u = told in cc)
+start_all b h1 h q h2 = search (arith, Homes-start)
 
 start_home : (b : Boot) (ps : List BootProcess) (q : Pid) → is_some (life_at b ps q) ≡ true → known_at ps q.home q ≢ Unknown
 start_home b [] q made = absurd (false≢true made)
@@ -55,23 +49,42 @@ found_start b valid =
       acting = some;
       machines = refl;
       all = start_all b valid;
-      held = λ m p i least. absurd (omega (arith, least));
       tells = λ i u e. absurd (let f : None ≡ Some u = e in cc);
       real = λ i u e own. absurd (let f : None ≡ Some u = e in cc);
       topic = tt;
       known = λ m q. start_knows b (first_view b) [] b.processes m q valid.processes some;
       places = λ i z e. absurd (let f = nothing_stands b i z in omega (arith, e, f));
+      held = λ m p i least. absurd (omega (arith, least));
       senders = λ i m e. absurd (let f : None ≡ Some m = e in cc);
       fits = start_fits b valid;
       home = λ q made. start_home b b.processes q made;
       pending = refl;
     }
 
+-- what is held for a process is for it
+abbrev pub HoldsFor : Point → Type 0
+HoldsFor pt = (m : ℕ) (p : Pid) (i : MsgId) → 1 ≤ times i (pt.view.held m p) → (t : Told) × (pt.view.told i ≡ Some t) × (t.receiver ≡ p)
+
 -- each group
-pub found_group : (b : Boot) (pt : Point) (d : Step) (w : Spelled) → IsStep pt.kernel.machines d → group_of b pt d ≡ Some w → Phased pt → FoundBy pt → FoundBy w.point
-found_group b pt d w fit is phased h =
-    let k = core_group pt.kernel.machines b pt d w fit is phased h in
-    subst (λ (n : ℕ). Core n w.point) (sym k.machines) k
+pub found_group : (b : Boot) (pt : Point) (d : Step) (w : Spelled) → IsStep pt.kernel.machines d → group_of b pt d ≡ Some w → Phased pt → HoldsFor pt → HoldsFor w.point → FoundBy pt → FoundBy w.point
+found_group b pt d w fit is phased holds next h =
+    let line = core_group pt.kernel.machines b pt d w fit is phased holds (lines_of_core pt.kernel.machines pt h) in
+    let k = subst (λ (n : ℕ). LineCore n w.point) (sym line.machines) line in
+    record {
+      acting = k.acting;
+      machines = k.machines;
+      all = k.all;
+      tells = k.tells;
+      real = k.real;
+      topic = k.topic;
+      known = k.known;
+      places = k.places;
+      held = λ m p i least. let (t, told, to) = next m p i least in ap receiver_of told ∙ ap Some to;
+      senders = k.senders;
+      fits = k.fits;
+      home = k.home;
+      pending = k.pending;
+    }
 
 -- what stands somewhere is in the bag, or a kernel's own
 stands_own : (i : MsgId) (c : Bool) (f : Spot → ℕ) (z : Spot) → is_kernels i ≡ c → StandsOutside c f → 1 ≤ f z → c ≡ true
@@ -90,28 +103,13 @@ stands_named pt i z t (Some m) base h e told is =
 
 -- where someone is known there is a machine
 known_there : (pt : Point) (q : Pid) (m : ℕ) → FoundBy pt → KnowsAt pt.view q m → IsReal pt.kernel.machines pt.view q → m < pt.kernel.machines
-known_there pt q m h knows real = elim knows [
-  | inl home ↦ elim real [
-    | inl fixed ↦ subst (λ (k : ℕ). k < pt.kernel.machines) (sym home) fixed.1
-    | inr known ↦ subst (λ (k : ℕ). k < pt.kernel.machines) (sym home) (known_within pt.kernel.machines pt.view q.home q (pt.view.known q.home q) known (h.known q.home q))
-  ]
-  | inr away ↦ known_within pt.kernel.machines pt.view m q (pt.view.known m q) away.1 (h.known m q)
-]
+known_there pt q m h knows real = search (arith, pt.kernel.machines, known_within, pt.view, q.home, pt.view.known, h.known)
 
 free_known : (n : ℕ) (v : View) (q : Pid) (m : ℕ) → is_fixed q ≡ false → KnowsAt v q m → IsReal n v q → v.known m q ≢ Unknown
-free_known n v q m free knows real = elim knows [
-  | inl home ↦ elim real [
-    | inl fixed ↦ absurd (false≢true (sym free ∙ fixed.0))
-    | inr known ↦ subst (λ (k : ℕ). v.known k q ≢ Unknown) (sym home) known
-  ]
-  | inr away ↦ away.1
-]
+free_known n v q m free knows real = search (arith, v.known)
 
 fixed_home : (v : View) (q : Pid) (m : ℕ) → is_fixed q ≡ true → KnowsAt v q m → m ≡ q.home
-fixed_home v q m fixed knows = elim knows [
-  | inl home ↦ home
-  | inr away ↦ absurd (false≢true (sym away.0 ∙ fixed))
-]
+fixed_home v q m fixed knows = search arith
 
 pub found_of : (pt : Point) → Phased pt → FoundBy pt → Found pt
 found_of pt base h =

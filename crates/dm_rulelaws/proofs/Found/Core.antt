@@ -1,10 +1,10 @@
 -- What each line keeps: where addresses lead, what machines know, and where messages stand.
 use Rattle.dm_rulelaws.proofs.Names.{◌≡◌, ◌≢◌, ◌⊎◌, ℕ, ◌<◌, ◌==◌, ◌&&◌, Bool, true, false, is_some, refl, ap, ◌∙◌, sym, subst, inl, inr, ⊤, if◌then◌else◌, Option, Some, cases_Bool, Pid, Place, pid_eq, MsgId, PlainMessage, pid_eq-is}
-use Rattle.dm_rulelaws.proofs.Names.{at_record, View, Told, About, Target, Known, Unknown, Here, Frozen, Incoming, Forward, is_kernels, Addresses, Receiver, ascends, Point, eq_is, parts, is_own, KernelFits, is_fixed}
+use Rattle.dm_rulelaws.proofs.Names.{at_record, View, Told, About, Target, Known, Unknown, Here, Frozen, Incoming, Forward, is_kernels, Addresses, Receiver, ascends, Point, eq_is, parts, is_own, KernelFits, is_fixed, times, receiver_of}
+use Rattle.dm_rulelaws.proofs.Names.{◌≤◌}
 use Rattle.dm_rule.specs.View.{Ended}
 use Rattle.dm_rulelaws.proofs.Found.Steps.{Sends}
 use Rattle.dm_rulelaws.proofs.Found.Lists.{Places}
-use Rattle.dm_rulelaws.proofs.Found.Held.{HeldFor}
 use Rattle.dm_rulelaws.proofs.Found.Places.{AllAre, all_as}
 
 -- a process is at home there, or known; kernels and servers are at home
@@ -40,6 +40,21 @@ KnownIs n v m p _ = m < n
 abbrev pub IsAt : Addresses → View → MsgId → ℕ → Type 0
 IsAt a v i m = ((a (Receiver i)).at ≡ m) × (is_some (v.told i) ≡ true)
 
+pub record LineCore (n : ℕ) (pt : Point) : Type 0 where
+  pub acting : pt.view.acting < n
+  pub machines : pt.kernel.machines ≡ n
+  pub all : AllAre (Knows pt.view) pt.kernel pt.view pt.addresses
+  pub tells : (i : MsgId) (u : Told) → pt.view.told i ≡ Some u → AboutIs n pt.view u.about
+  pub real : (i : MsgId) (u : Told) → pt.view.told i ≡ Some u → is_kernels i ≡ true → IsOwn n pt.view u
+  pub topic : AboutIs n pt.view pt.view.topic
+  pub known : (m : ℕ) (p : Pid) → KnownIs n pt.view m p (pt.view.known m p)
+  pub places : Places (IsAt pt.addresses pt.view) pt.view
+  pub senders : (i : MsgId) (m : PlainMessage) → pt.kernel.bag i ≡ Some m → Sends n pt.kernel m.sender
+  pub fits : KernelFits pt.kernel
+  pub home : (q : Pid) → is_some (pt.kernel.processes q) ≡ true → pt.view.known q.home q ≢ Unknown
+  pub pending : ascends 0 pt.kernel.manager.pending pt.kernel.manager.sent ≡ true
+
+-- and what each group keeps: that what is held for a process is for it, too
 pub record Core (n : ℕ) (pt : Point) : Type 0 where
   pub acting : pt.view.acting < n
   pub machines : pt.kernel.machines ≡ n
@@ -49,11 +64,27 @@ pub record Core (n : ℕ) (pt : Point) : Type 0 where
   pub topic : AboutIs n pt.view pt.view.topic
   pub known : (m : ℕ) (p : Pid) → KnownIs n pt.view m p (pt.view.known m p)
   pub places : Places (IsAt pt.addresses pt.view) pt.view
-  pub held : HeldFor pt.view
+  pub held : (m : ℕ) (p : Pid) (i : MsgId) → 1 ≤ times i (pt.view.held m p) → receiver_of (pt.view.told i) ≡ Some p
   pub senders : (i : MsgId) (m : PlainMessage) → pt.kernel.bag i ≡ Some m → Sends n pt.kernel m.sender
   pub fits : KernelFits pt.kernel
   pub home : (q : Pid) → is_some (pt.kernel.processes q) ≡ true → pt.view.known q.home q ≢ Unknown
   pub pending : ascends 0 pt.kernel.manager.pending pt.kernel.manager.sent ≡ true
+
+pub lines_of_core : (n : ℕ) (pt : Point) → Core n pt → LineCore n pt
+lines_of_core n pt h = record {
+  acting = h.acting;
+  machines = h.machines;
+  all = h.all;
+  tells = h.tells;
+  real = h.real;
+  topic = h.topic;
+  known = h.known;
+  places = h.places;
+  senders = h.senders;
+  fits = h.fits;
+  home = h.home;
+  pending = h.pending;
+}
 
 -- machines forget no process
 abbrev pub Grows : View → View → Type 0
@@ -89,9 +120,6 @@ known_within n v m p Unknown some h = absurd (some refl)
 known_within n v m p Here some h = h
 known_within n v m p Ended some h = h
 known_within n v m p _ some h = h.0
-
-pub all_grow : (v w : View) (pt : Point) → Grows v w → w.told ≡ v.told → AllAre (Knows v) pt.kernel v pt.addresses → AllAre (Knows w) pt.kernel w pt.addresses
-all_grow v w pt grows told h g q e = knows_grow v w q (pt.addresses g).at grows (all_as (Knows v) pt.kernel v w pt.addresses told h g q e)
 
 -- a machine learns something of a process
 pub record Learns (n : ℕ) (v w : View) : Type 0 where
@@ -130,19 +158,18 @@ learns n v w p x acting known new is h =
     let grows = grows_by v w p x known new in
     record { acting = acting; grows = grows; known = known_by n v w p x known grows (known_grows n v w v.acting p x grows is) h }
 
--- a line that changes no kernel and gives no address
-pub core_view : (n : ℕ) (pt : Point) (w : View) → w.acting < n → Grows pt.view w → ((m : ℕ) (p : Pid) → KnownIs n w m p (w.known m p)) → w.told ≡ pt.view.told → AboutIs n w w.topic → Places (IsAt pt.addresses pt.view) w → HeldFor w → Core n pt
-    → Core n (record { kernel = pt.kernel; view = w; addresses = pt.addresses })
-core_view n pt w acting grows known told topic places held h = record {
+-- a line that changes no kernel
+pub core_view : (n : ℕ) (pt : Point) (w : View) (b : Addresses) → w.acting < n → Grows pt.view w → ((m : ℕ) (p : Pid) → KnownIs n w m p (w.known m p)) → w.told ≡ pt.view.told → AboutIs n w w.topic → AllAre (Knows pt.view) pt.kernel pt.view b → Places (IsAt b pt.view) w → LineCore n pt
+    → LineCore n (record { kernel = pt.kernel; view = w; addresses = b })
+core_view n pt w b acting grows known told topic all places h = record {
   acting = acting;
   machines = h.machines;
-  all = all_grow pt.view w pt grows told h.all;
+  all = λ g q e. knows_grow pt.view w q (b g).at grows (all_as (Knows pt.view) pt.kernel pt.view w b told all g q e);
   tells = λ i u e. about_grows n pt.view w u.about grows (h.tells i u (sym (ap (λ (f : MsgId → Option Told). f i) told) ∙ e));
   real = λ i u e own. own_grows n pt.view w u grows (h.real i u (sym (ap (λ (f : MsgId → Option Told). f i) told) ∙ e) own);
   topic = topic;
   known = known;
   places = λ i z e. let k = places i z e in (k.0, ap (λ (f : MsgId → Option Told). is_some (f i)) told ∙ k.1);
-  held = held;
   senders = h.senders;
   fits = h.fits;
   home = λ q some. grows q.home q (h.home q some);

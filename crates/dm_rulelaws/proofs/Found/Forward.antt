@@ -1,28 +1,18 @@
 -- What a turn needs where a message goes on, and where those of a process that leaves do.
 use Rattle.dm_rulelaws.proofs.Names.{◌≡◌, ◌≢◌, ℕ, ◌<◌, ◌≤◌, Bool, true, false, List, [], ◌∷◌, ◌++◌, length, refl, ap, ◌∙◌, sym, subst, inl, inr, arith, if◌then◌else◌, Option, None, Some, cases_Bool, false≢true, Pid, Place, MsgId, id_eq}
-use Rattle.dm_rulelaws.proofs.Names.{PlainMessage, MessageKind, Line, Stage, id_eq-is, id_eq-same, View, Told, Known, Unknown, Frozen, Forward, is_kernels, own_id, handled, forwarded_for, forward_about, receiver_of, view_after, Addresses}
-use Rattle.dm_rulelaws.proofs.Names.{Receiver, Sender, given, place_known, all_follow, is_told_back, told_back_gets, forwards, to_of, Point, moved, Part, Says, Again, Owns, to_kernel, forwards_on, sends_on, leaves, Spot, times, standing}
-use Rattle.dm_rulelaws.proofs.Names.{StandsAsBag, letters, not_true, both_lists, without_all, without_at, first_off, sent_way, one_of, front_gone, forwarded_known, State, Sane, Goes, Comes, Named, Links, forwarded_back, is_own, is_fixed}
+use Rattle.dm_rulelaws.proofs.Names.{MessageKind, Line, Stage, id_eq-is, id_eq-same, View, Told, Known, Unknown, Frozen, Forward, is_kernels, own_id, handled, forwarded_for, forward_about, receiver_of, view_after, Addresses, Receiver}
+use Rattle.dm_rulelaws.proofs.Names.{Sender, given, place_known, all_follow, is_told_back, forwards, Point, moved, Part, Says, Again, Owns, to_kernel, forwards_on, sends_on, leaves, Spot, times, standing, StandsAsBag, letters, not_true}
+use Rattle.dm_rulelaws.proofs.Names.{both_lists, without_all, without_at, first_off, sent_way, one_of, front_gone, forwarded_known, State, Sane, Named, forwarded_back, is_own, is_fixed}
 use Rattle.dm_rule.proofs.Trails.Places.{Owns}
-use Rattle.dm_rulelaws.proofs.Found.Core.{AboutIs, KnowsAt, Knows, IsReal, KnownIs, Core, Grows, knows_grow, real_grows}
-use Rattle.dm_rulelaws.proofs.Found.Given.{NeedsForward, NeedsSent}
+use Rattle.dm_rulelaws.proofs.Found.Core.{AboutIs, KnowsAt, Knows, IsReal, KnownIs, LineCore, Grows, knows_grow, real_grows}
+use Rattle.dm_rulelaws.proofs.Found.Puts.{NeedsForward, NeedsSent}
 use Rattle.dm_rulelaws.proofs.Found.Parts.{AllNeed, NeedOf, NeedsOwn, Same, again_same, loose_need, own_outside, own_fresh}
-use Rattle.dm_rulelaws.proofs.Found.Rows.{said_next}
-use Rattle.dm_rulelaws.proofs.Found.Hears.{to_restart}
+use Rattle.dm_rulelaws.proofs.Found.Rows.{to_one}
+use Rattle.dm_rulelaws.proofs.Based.Needs.{said_by}
 
 -- whom a message of which something was told is for
 pub named_for : (pt : Point) (id : MsgId) (u : Told) (q : Pid) → Sane pt → pt.view.told id ≡ Some u → Named pt.kernel pt.view (Receiver id) q → q ≡ u.receiver
-named_for pt id u q sane told (Links e) = named_by (pt.kernel.bag id) refl e
-  where
-    named_by : (o : Option PlainMessage) → pt.kernel.bag id ≡ o → to_of o ≡ Some q → q ≡ u.receiver
-    named_by None is f = cc
-    named_by (Some x) is f = let g : x.to ≡ q = cc in sym g ∙ sym (sane.tells.receiver id x u is told)
-named_for pt id u q sane told (Owns (Goes i t is own now to)) =
-    let ij : id ≡ i = cc in
-    let f : Some u ≡ Some t = sym told ∙ ap pt.view.told ij ∙ now in
-    let g : u ≡ t = cc in
-    sym to ∙ sym (ap (λ (x : Told). x.receiver) g)
-named_for pt id u q sane told (Owns (Comes i t is own now move to)) = cc
+named_for pt id u q h1 h2 h3 = search (arith, pt.kernel.bag, u.receiver, pt.view.told)
 
 -- what a forward leads to is known there
 forward_known : (n : ℕ) (v : View) (m : ℕ) (p : Pid) (to c : ℕ) (k : Known) → k ≡ Forward to c → KnownIs n v m p k → v.known to p ≢ Unknown
@@ -34,10 +24,7 @@ forwarded_own v (Some p) = refl
 
 -- behind the line that says so
 goes_to : (v : View) (a : Addresses) (id : MsgId) (u : Told) (to c : ℕ) (o : Option Told) → o ≡ Some u → v.known v.acting u.receiver ≡ Forward to c → (given a (forwards v a id o) (Receiver id)).at ≡ to
-goes_to v a id u to c o told at =
-    ap (λ (x : Option Told). (given a (forwards v a id x) (Receiver id)).at) told
-    ∙ ap (λ (b : Bool). (if b then place_known (v.known v.acting u.receiver) (v.moves u.receiver) (a (Receiver id)) else given a (told_back_gets v a id (is_told_back u.kind)) (Receiver id)).at) (id_eq-same id)
-    ∙ ap (λ (k : Known). (place_known k (v.moves u.receiver) (a (Receiver id))).at) at
+goes_to v a id u to c o told at = search (arith, v.known, v.acting, u.receiver, v.moves, u.kind, id_eq-same)
 
 pub other_id : (v : View) (id : MsgId) (u : Told) → v.told id ≡ Some u → v.told (own_id v) ≡ None → id_eq id (own_id v) ≡ false
 other_id v id u told none = not_true (id_eq id (own_id v)) (λ e. let f : Some u ≡ None = sym told ∙ ap v.told (id_eq-is id (own_id v) e) ∙ none in cc)
@@ -53,20 +40,14 @@ back_need n pt mid next id u sender told back sane known own addresses same know
     let to : next.addresses (Receiver (own_id next.view)) ≡ a (Sender id) =
     same.addresses (Receiver (own_id next.view)) ∙ ap (λ (i : MsgId). mid.addresses (Receiver i)) (same.own ∙ own) ∙ ap (λ (f : Addresses). f (Receiver (own_id v))) addresses
     ∙ forwarded_back v a id u told (other_id v id u told (own_fresh pt sane)) back in
-    record {
-      knows = subst (Knows next.view sender) (sym to) (knows_grow v next.view sender (a (Sender id)).at grows knows);
-      from = λ e. cc;
-      at = ap (λ (p : Place). p.at) to;
-      real = real_grows n v next.view sender grows real;
-      own = refl;
-    }
+    search (arith, next.view, knows_grow, real_grows)
 
 back_if : (n : ℕ) (pt : Point) (sender : Pid) (m : ℕ) (c : Bool) → (c ≡ true → NeedsOwn n pt MessageKind.Update sender m) → AllNeed n pt (if c then Owns MessageKind.Update sender m ∷ [] else [])
 back_if n pt sender m true h = (h refl, λ ls next is leads. tt)
 back_if n pt sender m false h = tt
 
 -- a message that comes to where its receiver went away goes on
-pub forwards_need : (n : ℕ) (pt : Point) (id : MsgId) (is : List MsgId) (u : Told) (sender : Pid) (to c : ℕ) → pt.view.inbox pt.view.acting ≡ id ∷ is → State None pt → Sane pt → Core n pt → pt.view.told id ≡ Some u → pt.view.known pt.view.acting u.receiver ≡ Forward to c
+pub forwards_need : (n : ℕ) (pt : Point) (id : MsgId) (is : List MsgId) (u : Told) (sender : Pid) (to c : ℕ) → pt.view.inbox pt.view.acting ≡ id ∷ is → State None pt → Sane pt → LineCore n pt → pt.view.told id ≡ Some u → pt.view.known pt.view.acting u.receiver ≡ Forward to c
     → is_fixed u.receiver ≡ false → (is_told_back u.kind ≡ true → Knows pt.view sender (pt.addresses (Sender id)) × IsReal n pt.view sender) → AllNeed n pt (forwards_on pt.addresses id u.kind sender to)
 forwards_need n pt id is u sender to c front state sane h told at free back =
     let v = pt.view in
@@ -83,9 +64,9 @@ forwards_need n pt id is u sender to c front state sane h told at free back =
     } in (
       needs,
       (λ ls mid is_ leads.
-          let (s, same) = said_next pt mid (Line.Forwarded id to) ls is_ leads in
-          let first = moved pt (Line.Forwarded id to) s in
-          subst (λ (p : Point). AllNeed n p (Again id to ∷ (if is_told_back u.kind then Owns MessageKind.Update sender (a (Sender id)).at ∷ [] else []))) same (
+          let s = said_by pt mid (Line.Forwarded id to) (record { lines = ls; are = is_; leads = leads }) in
+          let first = moved pt (Line.Forwarded id to) s.kernel in
+          subst (λ (p : Point). AllNeed n p (Again id to ∷ (if is_told_back u.kind then Owns MessageKind.Update sender (a (Sender id)).at ∷ [] else []))) s.is (
             goes_to v a id u to c (v.told id) told at,
             (λ xs next is__ leads_.
                 let stays = again_same first next id to xs is__ leads_ in
@@ -96,15 +77,7 @@ forwards_need n pt id is u sender to c front state sane h told at free back =
 
 -- of a kernel's own messages only a request to move is told back
 pub moves_back : (k : MessageKind) → is_own k ≡ true → is_told_back k ≡ true → k ≡ MessageKind.Migrate
-moves_back MessageKind.User e f = absurd (false≢true e)
-moves_back MessageKind.Stop e f = absurd (false≢true e)
-moves_back MessageKind.Resume e f = absurd (false≢true e)
-moves_back MessageKind.Kill e f = absurd (false≢true e)
-moves_back MessageKind.Read e f = absurd (false≢true e)
-moves_back MessageKind.Write e f = absurd (false≢true e)
-moves_back MessageKind.Move e f = absurd (false≢true e)
-moves_back MessageKind.Migrate e f = refl
-moves_back _ e f = absurd (false≢true f)
+moves_back k h1 h2 = search arith
 
 -- all that wait for a process go on
 follow_at : (v : View) (a : Addresses) (p : Pid) (to : ℕ) (ids : List MsgId) (i : MsgId) → v.known v.acting p ≡ Frozen to → 1 ≤ times i ids → (given a (all_follow v a p ids) (Receiver i)).at ≡ to
@@ -136,7 +109,7 @@ left_need n start q p to from acting known at there le = (
   (λ d e f. there (
       let is : Frozen to ≡ Frozen d = sym at ∙ sym (ap (λ (m : ℕ). start.view.known m p) acting) ∙ sym (known q.view.acting p) ∙ e in
       ap (λ (m : ℕ). start.view.known m p) (frozen_is to d is) ∙ sym (known d p) ∙ f)),
-  (λ ls next is leads. loose_need n next (to_kernel MessageKind.Restart from ∷ []) (to_restart n from le)),
+  (λ ls next is leads. loose_need n next (to_kernel MessageKind.Restart from ∷ []) (to_one n MessageKind.Restart from (λ q. refl) (λ e. cc) refl le)),
 )
 
 sent_gone : (pt : Point) (p : Pid) (id : MsgId) (is : List MsgId) → State None pt → pt.view.inbox pt.view.acting ≡ id ∷ is → is_kernels id ≡ true → (i : MsgId) (z : Spot) (k : ℕ) → 1 ≤ times i (both_lists pt.view p) → standing (view_after pt.view (Line.SentOn p k)) i z ≡ 0
@@ -150,7 +123,7 @@ sent_gone pt p id is state front own i z k least =
     nowhere (Some x) f e h z = cc
 
 -- where all is taken of a process that leaves
-pub leaves_need : (n : ℕ) (pt : Point) (id : MsgId) (is : List MsgId) (p : Pid) (k : Known) → pt.view.inbox pt.view.acting ≡ id ∷ is → State None pt → Core n pt → is_kernels id ≡ true → pt.view.known pt.view.acting p ≡ k
+pub leaves_need : (n : ℕ) (pt : Point) (id : MsgId) (is : List MsgId) (p : Pid) (k : Known) → pt.view.inbox pt.view.acting ≡ id ∷ is → State None pt → LineCore n pt → is_kernels id ≡ true → pt.view.known pt.view.acting p ≡ k
     → ((to : ℕ) → k ≡ Frozen to → pt.view.known to p ≢ Unknown) → is_fixed p ≡ false → ((i : MsgId) (q : Pid) → 1 ≤ times i (both_lists pt.view p) → Named pt.kernel pt.view (Receiver i) q → q ≡ p) → id.from.home < n
     → NeedOf n pt (leaves id p (both_lists pt.view p) k)
 leaves_need n pt id is p (Frozen to) front state h own at there free for le =
@@ -164,9 +137,9 @@ leaves_need n pt id is p (Frozen to) front state h own at there free for le =
     } in (
       needs,
       (λ ls next is_ leads.
-          let (s, same) = said_next pt next (Line.SentOn p (length ids)) ls is_ leads in
-          let first = moved pt (Line.SentOn p (length ids)) s in
-          subst (λ (q : Point). AllNeed n q (sends_on to ids ++ Says (Line.Migration Stage.Left p) ∷ to_kernel MessageKind.Restart id.from.home ∷ [])) same
+          let s = said_by pt next (Line.SentOn p (length ids)) (record { lines = ls; are = is_; leads = leads }) in
+          let first = moved pt (Line.SentOn p (length ids)) s.kernel in
+          subst (λ (q : Point). AllNeed n q (sends_on to ids ++ Says (Line.Migration Stage.Left p) ∷ to_kernel MessageKind.Restart id.from.home ∷ [])) s.is
           (agains_need n pt first to ids (Says (Line.Migration Stage.Left p) ∷ to_kernel MessageKind.Restart id.from.home ∷ []) (λ i least. follow_at v a p to ids i at least) refl (λ m q. refl)
           (λ q acting same_known. left_need n pt q p to id.from.home acting same_known at known le))),
     )

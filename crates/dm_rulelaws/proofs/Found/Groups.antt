@@ -1,22 +1,22 @@
 -- Each group keeps where addresses lead, what machines know, and where messages stand.
-use Rattle.dm_rulelaws.proofs.Names.{PlainWhat, WhatFits, nat_tests, ◌≡◌, ℕ, ◌<◌, ◌≤◌, ◌==◌, not, Bool, true, false, is_some, List, [], ◌∷◌, refl, ap, ◌∙◌, sym, subst, inl, inr, arith, if◌then◌else◌, Option, None, Some, false≢true, Pid}
-use Rattle.dm_rulelaws.proofs.Names.{Place, MsgId, plain_kind, PlainMessage, MessageKind, Boot, manager, Step, id_eq-same, alive-is, Line, View, Told, About, Target, Of, Known, Unknown, Here, Frozen, Incoming, Forward, is_kernels, own_id}
-use Rattle.dm_rulelaws.proofs.Names.{receiver_of, target_in, target_of, front_told, front_of, Child, Receiver, Sender, given, child_number, place_of_child, unmoved, own_gives, names, sender_of, IsStep, forwards_on, migrates, Part, Says}
-use Rattle.dm_rulelaws.proofs.Names.{Owns, Spelled, Moves, is_between, is_restart, is_early, knows, receiver_in, is_of_source, Point, moved, group_of, Inbox, Queue, Held, times, standing, IsNet, IsNetLine, group_is, turn_off, letters}
-use Rattle.dm_rulelaws.proofs.Names.{eq_is, parts, both_lists, both_times, under_way, front_kernels, Phased, due, head_calm, InPhases, calm_phases, rooted, State, Sane, sane_line, outcome_sayable, Comes, Named, Links, child_is}
-use Rattle.dm_rulelaws.proofs.Names.{source_holds, destination_expects, is_fixed, eq_self, about_same, front_one, least_of, by_migrates, by_net, by_outcome}
+use Rattle.dm_rulelaws.proofs.Names.{◌≡◌, ℕ, ◌<◌, ◌≤◌, ◌==◌, Bool, true, false, is_some, List, [], ◌∷◌, refl, ap, ◌∙◌, sym, subst, inl, inr, arith, if◌then◌else◌, Option, None, Some, Pid, MsgId, plain_kind, PlainMessage, MessageKind, Boot}
+use Rattle.dm_rulelaws.proofs.Names.{manager, Step, id_eq-same, alive-is, Line, View, Told, About, Target, Of, Known, Unknown, Here, Frozen, Incoming, Forward, is_kernels, own_id, receiver_of, target_in, target_of, front_told, front_of}
+use Rattle.dm_rulelaws.proofs.Names.{Child, Receiver, Sender, child_number, names, sender_of, IsStep, forwards_on, migrates, Part, Says, Owns, Spelled, Moves, is_between, is_restart, is_early, knows, receiver_in, is_of_source, Point, moved}
+use Rattle.dm_rulelaws.proofs.Names.{group_of, Inbox, Queue, Held, times, standing, IsNet, IsNetLine, group_is, turn_off, letters, eq_is, parts, both_lists, both_times, under_way, front_kernels, Phased, due, head_calm, InPhases}
+use Rattle.dm_rulelaws.proofs.Names.{calm_phases, rooted, State, Sane, sane_line, outcome_sayable, Comes, Named, Links, child_is, source_holds, destination_expects, is_fixed, eq_self, about_same, front_one, least_of, by_migrates, by_net}
+use Rattle.dm_rulelaws.proofs.Names.{by_outcome, PlainWhat, WhatFits, nat_tests}
 use Rattle.dm_rulelaws.proofs.Found.Labels.{there_known}
 use Rattle.dm_rule.specs.Phases as phases
 use Rattle.dm_rule.specs.Rule as rule
 use Rattle.dm_rule.proofs.Groups.{begun}
 use Rattle.dm_rule.proofs.Trails.Places.{Owns}
-use Rattle.dm_rulelaws.proofs.Found.Core.{Knows, IsReal, AboutIs, KnownIs, Core, known_within}
+use Rattle.dm_rulelaws.proofs.Found.Core.{IsReal, AboutIs, KnownIs, LineCore, known_within}
 use Rattle.dm_rulelaws.proofs.Found.Forward.{forwards_need, moves_back, leaves_need, named_for}
-use Rattle.dm_rulelaws.proofs.Found.Hears.{Heard, told_by_need}
+use Rattle.dm_rulelaws.proofs.Found.Rows.{Heard, told_by_need, round_need, handles_need}
 use Rattle.dm_rulelaws.proofs.Found.Lines.{NeedsLine, NeedsHead, line_core}
-use Rattle.dm_rulelaws.proofs.Found.Parts.{AllNeed, NeedOf, AllLoose, NeedsOwn, loose_need, first_need, parts_core}
-use Rattle.dm_rulelaws.proofs.Found.Real.{has_some, made_free, child_real, sends_real}
-use Rattle.dm_rulelaws.proofs.Found.Rows.{round_need, handles_need, Moves as MovesTo}
+use Rattle.dm_rulelaws.proofs.Found.Parts.{AllNeed, NeedOf, AllLoose, loose_need, first_need, parts_core}
+use Rattle.dm_rulelaws.proofs.Found.Real.{made_free, child_real, sends_real, has_some}
+use Rattle.dm_rulelaws.proofs.Found.Rows.{Moves as MovesTo}
 
 -- behind the head of a group
 abbrev headed : Point → Step → Point
@@ -26,52 +26,33 @@ head_sane : (pt : Point) (d : Step) → Sane pt → Sane (headed pt d)
 head_sane pt d h = sane_line pt (headed pt d) (Line.Head d) refl refl h
 
 step_head : (n : ℕ) (d : Step) → 0 < n → IsStep n d → NeedsHead n d
-step_head n (Step.Deliver a b k) some h = h.1
-step_head n (Step.Migrate p m) some h = (some, h)
-step_head n _ some h = h
+step_head n d h1 h2 = search arith
 
-head_core : (n : ℕ) (pt : Point) (d : Step) → IsStep n d → Sane pt → Core n pt → Core n (headed pt d)
+head_core : (n : ℕ) (pt : Point) (d : Step) → IsStep n d → Sane pt → LineCore n pt → LineCore n (headed pt d)
 head_core n pt d fit sane h = line_core n pt pt.kernel (Line.Head d) (step_head n d (let le = h.acting in omega (arith, le)) fit) sane refl h
 
-group_core : (n : ℕ) (b : Boot) (pt : Point) (d : Step) (w : Spelled) → IsStep n d → group_of b pt d ≡ Some w → ((ps : List Part) → rule.outcome b pt d ≡ Some ps → Core n (headed pt d) → AllNeed n (headed pt d) ps) → Sane pt → Core n pt → Core n w.point
+group_core : (n : ℕ) (b : Boot) (pt : Point) (d : Step) (w : Spelled) → IsStep n d → group_of b pt d ≡ Some w → ((ps : List Part) → rule.outcome b pt d ≡ Some ps → LineCore n (headed pt d) → AllNeed n (headed pt d) ps) → Sane pt → LineCore n pt → LineCore n w.point
 group_core n b pt d w fit e needs sane h =
     let g = group_is b pt d w e in
     let start = head_core n pt d fit sane h in
-    subst (Core n) g.point (parts_core n g.parts (headed pt d) g.rest (outcome_sayable b pt d g.parts g.is) (needs g.parts g.is start) (head_sane pt d sane) g.said start)
+    subst (LineCore n) g.point (parts_core n g.parts (headed pt d) g.rest (outcome_sayable b pt d g.parts g.is) (needs g.parts g.is start) (head_sane pt d sane) g.said start)
 
 -- ticks and deliveries
 net_need : (n : ℕ) (l : Line) → IsNetLine l → (pt : Point) → NeedsLine n pt l
-net_need n (Line.Taken a b k) h pt = tt
-net_need n (Line.Old a b k) h pt = tt
-net_need n (Line.Early a b k) h pt = tt
-net_need n (Line.Acked a b k) h pt = tt
-net_need n (Line.Resent m k) h pt = tt
-net_need n Line.Nothing h pt = tt
-net_need n _ h pt = absurd h
+net_need n l h1 pt = search arith
 
 net_loose : (n : ℕ) (ps : List Part) → IsNet ps → AllLoose n ps
 net_loose n = by_net (AllLoose n) tt (λ l ps net h. (net_need n l net, h)) (λ a b l ps h. (λ pt. tt, h))
 
 -- a directive to move a process
-asks_need : (n : ℕ) (pt : Point) (p : Pid) (k : ℕ) → pt.view.acting ≡ 0 → child_number pt.kernel p ≡ Some k → Core n pt → ((k : ℕ) → names pt.kernel (Child k) ≡ Some p → IsReal n pt.view p) → AllNeed n pt (Owns MessageKind.Migrate p (pt.addresses (Child k)).at ∷ [])
+asks_need : (n : ℕ) (pt : Point) (p : Pid) (k : ℕ) → pt.view.acting ≡ 0 → child_number pt.kernel p ≡ Some k → LineCore n pt → ((k : ℕ) → names pt.kernel (Child k) ≡ Some p → IsReal n pt.view p) → AllNeed n pt (Owns MessageKind.Migrate p (pt.addresses (Child k)).at ∷ [])
 asks_need n pt p k first is h real =
     let id = own_id pt.view in
     let a = pt.addresses in
     let named = child_is pt.kernel p k is in
-    let to : given a (own_gives pt.kernel pt.view a id p MessageKind.Migrate) (Receiver id) ≡ a (Child k) =
-    ap (λ (c : Bool). if c then place_of_child a (child_number pt.kernel p) else a (Receiver id)) (id_eq-same id) ∙ ap (place_of_child a) is in
-    let from : (given a (own_gives pt.kernel pt.view a id p MessageKind.Migrate) (Sender id)).at ≡ 0 =
-    ap (λ (c : Bool). (if c then unmoved pt.view.acting else a (Sender id)).at) (id_eq-same id) ∙ first in
-    let needs : NeedsOwn n pt MessageKind.Migrate p (a (Child k)).at = record {
-      knows = subst (Knows pt.view p) (sym to) (h.all (Child k) p (Links named));
-      from = λ e. inl from;
-      at = ap (λ (x : Place). x.at) to;
-      real = real k named;
-      own = refl;
-    } in
-    first_need n pt (Owns MessageKind.Migrate p (a (Child k)).at) [] needs tt
+    search (arith, pt.kernel, pt.view, id_eq-same, pt.view.acting, h.all, first_need)
 
-migrates_need : (n : ℕ) (pt : Point) (p : Pid) → pt.view.acting ≡ 0 → Core n pt → ((k : ℕ) → names pt.kernel (Child k) ≡ Some p → IsReal n pt.view p) → AllNeed n pt (migrates pt p)
+migrates_need : (n : ℕ) (pt : Point) (p : Pid) → pt.view.acting ≡ 0 → LineCore n pt → ((k : ℕ) → names pt.kernel (Child k) ≡ Some p → IsReal n pt.view p) → AllNeed n pt (migrates pt p)
 migrates_need n pt p first h real =
     by_migrates (AllNeed n pt) pt p (first_need n pt (Says (Line.Pinned p)) [] tt tt) (first_need n pt (Says (Line.NoChild p)) [] tt tt) (λ k off is. asks_need n pt p k first is h real)
 
@@ -84,15 +65,7 @@ abbrev AllKnown : ℕ → View → Type 0
 AllKnown n v = (m : ℕ) (p : Pid) → KnownIs n v m p (v.known m p)
 
 left_by : (n : ℕ) (v : View) (m d : ℕ) (p : Pid) (k : MessageKind) (x : Known) → phases.kind_leaves k d x ≡ true → v.known m p ≡ x → AllKnown n v → (m < n) × (d < n) × (is_fixed p ≡ false)
-left_by n v m d p k (Frozen to) e is h =
-    let both = parts (not (is_restart k)) (d == to) e in
-    let f = subst (KnownIs n v m p) is (h m p) in
-    (f.0, subst (λ (j : ℕ). j < n) (sym (eq_is d to both.1)) f.1, f.2)
-left_by n v m d p k (Forward to c) e is h =
-    let both = parts (is_restart k) (d == to) e in
-    let f = subst (KnownIs n v m p) is (h m p) in
-    (f.0, subst (λ (j : ℕ). j < n) (sym (eq_is d to both.1)) (known_within n v to p (v.known to p) f.1 (h to p)), f.2)
-left_by n v m d p k _ e is h = absurd (false≢true e)
+left_by n v m d p k x h1 h2 h3 = search (arith, parts, eq_is, known_within, v.known)
 
 moves_within : (n : ℕ) (v : View) (p : Pid) (k : MessageKind) (s d : ℕ) (o : Option MsgId) → knows (Moves k s d o) s (v.known s p) ≡ true → AllKnown n v → (s < n) × (d < n) × (is_fixed p ≡ false)
 moves_within n v p k s d o e h =
@@ -121,16 +94,20 @@ pub told_for : (pt : Point) (o : Option Told) (i : MsgId) (p q : Pid) → Sane p
 told_for pt None i p q sane is e named = cc
 told_for pt (Some t) i p q sane is e named = named_for pt i t q sane is named ∙ (let f : t.receiver ≡ p = cc in f)
 
-waits_for : (n : ℕ) (pt : Point) (p : Pid) (i : MsgId) (q : Pid) → Core n pt → State None pt → Sane pt → 1 ≤ times i (both_lists pt.view p) → Named pt.kernel pt.view (Receiver i) q → q ≡ p
-waits_for n pt p i q h state sane least named = elim (least_of (standing pt.view i (Queue pt.view.acting p)) (standing pt.view i (Held pt.view.acting p)) (let f = both_times pt.view p i in omega (arith, least, f))) [
+-- what is held for a process is for it
+abbrev HeldFor : View → Type 0
+HeldFor v = (m : ℕ) (p : Pid) (i : MsgId) → 1 ≤ times i (v.held m p) → (t : Told) × (v.told i ≡ Some t) × (t.receiver ≡ p)
+
+waits_for : (pt : Point) (p : Pid) (i : MsgId) (q : Pid) → HeldFor pt.view → State None pt → Sane pt → 1 ≤ times i (both_lists pt.view p) → Named pt.kernel pt.view (Receiver i) q → q ≡ p
+waits_for pt p i q holds state sane least named = elim (least_of (standing pt.view i (Queue pt.view.acting p)) (standing pt.view i (Held pt.view.acting p)) (let f = both_times pt.view p i in omega (arith, least, f))) [
   | inl queue ↦ told_for pt (pt.view.told i) i p q sane refl (queued_for pt p i state queue) named
-  | inr hold ↦ told_for pt (pt.view.told i) i p q sane refl (h.held pt.view.acting p i hold) named
+  | inr hold ↦ let (t, told, to) = holds pt.view.acting p i hold in told_for pt (pt.view.told i) i p q sane refl (ap receiver_of told ∙ ap Some to) named
 ]
 
 -- a message of a migration is heard
-heard : (n : ℕ) (pt : Point) (m : ℕ) (i : MsgId) (is : List MsgId) (t : Told) (p : Pid) → Core n (headed pt (Step.Turn m)) → Sane (headed pt (Step.Turn m)) → State None (headed pt (Step.Turn m)) → InPhases (headed pt (Step.Turn m)).view
+heard : (n : ℕ) (pt : Point) (m : ℕ) (i : MsgId) (is : List MsgId) (t : Told) (p : Pid) → LineCore n (headed pt (Step.Turn m)) → HeldFor pt.view → Sane (headed pt (Step.Turn m)) → State None (headed pt (Step.Turn m)) → InPhases (headed pt (Step.Turn m)).view
     → pt.view.inbox m ≡ i ∷ is → pt.view.told i ≡ Some t → is_kernels i ≡ true → t.about ≡ Of p → is_between t.kind ≡ true → Heard n (headed pt (Step.Turn m)) pt m i p t.kind
-heard n pt m i is t p h sane state in_ front told own about between =
+heard n pt m i is t p h holds sane state in_ front told own about between =
     let start = headed pt (Step.Turn m) in
     let v = start.view in
     let u = due start i is t in_ front told between in
@@ -152,14 +129,14 @@ heard n pt m i is t p h sane state in_ front told own about between =
           (λ to e f. let g : u.d ≡ to = frozen_same u.d to (sym held ∙ e) in
           let z : Incoming u.s ≡ Unknown = sym comes_ ∙ ap (λ (x : ℕ). pt.view.known x p) g ∙ f in cc)
           free
-          (λ j q least named. waits_for n start p j q h state sane least named) from),
+          (λ j q least named. waits_for start p j q holds state sane least named) from),
     )
 
 -- a turn
 forward_free : (n : ℕ) (v : View) (m : ℕ) (p : Pid) (to c : ℕ) → v.known m p ≡ Forward to c → AllKnown n v → is_fixed p ≡ false
 forward_free n v m p to c e h = (subst (KnownIs n v m p) e (h m p)).2
 
-asked_by : (n : ℕ) (pt : Point) (i : MsgId) (k : PlainMessage) (x : PlainWhat) (to : ℕ) → WhatFits pt.kernel i k x → x ≡ PlainWhat.Move to → Sane pt → Core n pt → (to < n) × (is_fixed k.to ≡ false)
+asked_by : (n : ℕ) (pt : Point) (i : MsgId) (k : PlainMessage) (x : PlainWhat) (to : ℕ) → WhatFits pt.kernel i k x → x ≡ PlainWhat.Move to → Sane pt → LineCore n pt → (to < n) × (is_fixed k.to ≡ false)
 asked_by n pt i k (PlainWhat.Move m) to f e sane h =
     let same : m ≡ to = cc in
     let (made, within, sender, request, pending) = f in
@@ -167,10 +144,10 @@ asked_by n pt i k (PlainWhat.Move m) to f e sane h =
     (subst (λ (j : ℕ). j < n) same (subst (λ (j : ℕ). m < j) h.machines le), made_free pt k.to sane.sound.made (has_some 0 (pt.kernel.processes k.to) made))
 asked_by n pt i k _ to f e sane h = cc
 
-asked_to : (n : ℕ) (pt : Point) (i : MsgId) (k : PlainMessage) → pt.kernel.bag i ≡ Some k → Sane pt → Core n pt → MovesTo n k
+asked_to : (n : ℕ) (pt : Point) (i : MsgId) (k : PlainMessage) → pt.kernel.bag i ≡ Some k → Sane pt → LineCore n pt → MovesTo n k
 asked_to n pt i k there sane h to e = asked_by n pt i k k.what to (h.fits.messages i k there) e sane h
 
-front_need : (n : ℕ) (b : Boot) (pt : Point) (m : ℕ) (i : MsgId) (is : List MsgId) (k : PlainMessage) (ps : List Part) → Core n (headed pt (Step.Turn m)) → Sane (headed pt (Step.Turn m)) → State None (headed pt (Step.Turn m)) → pt.view.inbox m ≡ i ∷ is → pt.kernel.bag i ≡ Some k
+front_need : (n : ℕ) (b : Boot) (pt : Point) (m : ℕ) (i : MsgId) (is : List MsgId) (k : PlainMessage) (ps : List Part) → LineCore n (headed pt (Step.Turn m)) → Sane (headed pt (Step.Turn m)) → State None (headed pt (Step.Turn m)) → pt.view.inbox m ≡ i ∷ is → pt.kernel.bag i ≡ Some k
     → rule.handles b pt m i k ≡ Some ps → AllNeed n (headed pt (Step.Turn m)) ps
 front_need n b pt m i is k ps h sane state front there =
     let start = headed pt (Step.Turn m) in
@@ -185,9 +162,9 @@ front_need n b pt m i is k ps h sane state front there =
     (forwards_need n start i is t k.sender to c front state sane h told (ap (pt.view.known m) to_same ∙ e) (subst (λ (x : Pid). is_fixed x ≡ false) (sym to_same) (forward_free n start.view m k.to to c e h.known))
     (λ back. (h.all (Sender i) k.sender (Links (ap sender_of there)), sends_real start n k.sender h (h.senders i k there)))))
 
-own_need : (n : ℕ) (b : Boot) (pt : Point) (m : ℕ) (i : MsgId) (is : List MsgId) (ps : List Part) → Core n (headed pt (Step.Turn m)) → Sane (headed pt (Step.Turn m)) → State None (headed pt (Step.Turn m)) → InPhases (headed pt (Step.Turn m)).view
+own_need : (n : ℕ) (b : Boot) (pt : Point) (m : ℕ) (i : MsgId) (is : List MsgId) (ps : List Part) → LineCore n (headed pt (Step.Turn m)) → HeldFor pt.view → Sane (headed pt (Step.Turn m)) → State None (headed pt (Step.Turn m)) → InPhases (headed pt (Step.Turn m)).view
     → pt.view.inbox m ≡ i ∷ is → pt.kernel.bag i ≡ None → rule.hears b pt m i (pt.view.told i) ≡ Some ps → AllNeed n (headed pt (Step.Turn m)) ps
-own_need n b pt m i is ps h sane state in_ front there e =
+own_need n b pt m i is ps h holds sane state in_ front there e =
     let start = headed pt (Step.Turn m) in
     let at = h.places i (Inbox m) (front_one start.view m i is front) in
     let (t, told) = told_there (start.view.told i) at.1 in
@@ -197,14 +174,14 @@ own_need n b pt m i is ps h sane state in_ front there e =
     let front_is : front_told start.view (start.view.inbox m) ≡ Some t = ap (front_told start.view) front ∙ told in
     subst (NeedOf n start) (ap (rule.hears b pt m i) (sym told) ∙ e)
     (told_by_need n start b pt m i t at le (subst (λ (x : Option Told). target_of x < n) (sym front_is) le)
-    (λ p about between. heard n pt m i is t p h sane state in_ front told own about between)
+    (λ p about between. heard n pt m i is t p h holds sane state in_ front told own about between)
     (λ to c f. forwards_need n start i is t manager to c front state sane h told f (forward_free n start.view m t.receiver to c f h.known)
     (λ back. (h.all (Sender i) manager (Owns (Comes i t refl own told (moves_back t.kind (h.real i t told own).1 back) refl)), inl (refl, some)))))
 
-outcome_need : (n : ℕ) (b : Boot) (pt : Point) (d : Step) (ps : List Part) → Phased pt → Core n pt → rule.outcome b pt d ≡ Some ps → Core n (headed pt d) → AllNeed n (headed pt d) ps
-outcome_need n b pt d ps base core =
+outcome_need : (n : ℕ) (b : Boot) (pt : Point) (d : Step) (ps : List Part) → Phased pt → HeldFor pt.view → LineCore n pt → rule.outcome b pt d ≡ Some ps → LineCore n (headed pt d) → AllNeed n (headed pt d) ps
+outcome_need n b pt d ps base holds core =
     let state : (m : ℕ) → State None (headed pt (Step.Turn m)) = λ m. begun pt (Step.Turn m) base.state (λ z. turn_off pt.view m z) (λ i. refl) in
-    by_outcome (λ x xs. Core n (headed pt x) → AllNeed n (headed pt x) xs) b pt d ps (record {
+    by_outcome (λ x xs. LineCore n (headed pt x) → AllNeed n (headed pt x) xs) b pt d ps (record {
       round = λ m xs box e h. round_need n (headed pt (Step.Turn m)) b pt m (rule.first_runnable pt.kernel (pt.view.queue m) (pt.view.ring m)) xs
           (λ p x runs alive. inr (
             made_free pt p base.sane.sound.made (ap is_some (alive-is (pt.kernel.processes p) x alive)),
@@ -212,12 +189,12 @@ outcome_need n b pt d ps base core =
           )) e;
       handles = λ m i is k xs box there e h. front_need n b pt m i is k xs h (head_sane pt (Step.Turn m) base.sane) (state m) box there e;
       hears = λ m i is xs box none e h.
-          own_need n b pt m i is xs h (head_sane pt (Step.Turn m) base.sane) (state m) (calm_phases pt.view (headed pt (Step.Turn m)).view (head_calm pt.view (Step.Turn m)) base.phases) box none e;
+          own_need n b pt m i is xs h holds (head_sane pt (Step.Turn m) base.sane) (state m) (calm_phases pt.view (headed pt (Step.Turn m)).view (head_calm pt.view (Step.Turn m)) base.phases) box none e;
       ticks = λ m xs net h. loose_need n (headed pt (Step.Tick m)) xs (net_loose n xs net);
       delivers = λ a c k xs net h. loose_need n (headed pt (Step.Deliver a c k)) xs (net_loose n xs net);
       asks = λ p m h. migrates_need n (headed pt (Step.Migrate p m)) p refl h (λ k named. child_real pt n k p core named);
     })
 
 -- each group
-pub core_group : (n : ℕ) (b : Boot) (pt : Point) (d : Step) (w : Spelled) → IsStep n d → group_of b pt d ≡ Some w → Phased pt → Core n pt → Core n w.point
-core_group n b pt d w fit e base h = group_core n b pt d w fit e (λ ps. outcome_need n b pt d ps base h) base.sane h
+pub core_group : (n : ℕ) (b : Boot) (pt : Point) (d : Step) (w : Spelled) → IsStep n d → group_of b pt d ≡ Some w → Phased pt → HeldFor pt.view → LineCore n pt → LineCore n w.point
+core_group n b pt d w fit e base holds h = group_core n b pt d w fit e (λ ps. outcome_need n b pt d ps base holds h) base.sane h

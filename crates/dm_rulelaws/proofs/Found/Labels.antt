@@ -1,8 +1,12 @@
 -- Each label keeps where addresses lead, what machines know, and where messages stand.
-use Rattle.dm_rulelaws.proofs.Names.{PlainWhat, nat_lt, nat_tests, WhatFits, KernelFits, topic_by, machine_in, ◌≡◌, ◌≢◌, ℕ, ◌+◌, ◌<◌, ◌≤◌, true, false, is_some, refl, ap, ◌∙◌, sym, subst, inl, inr, arith, ⊤, Option, None, Some, cases_Bool}
-use Rattle.dm_rulelaws.proofs.Names.{false≢true, Pid, Place, MsgId, PlainMessage, MessageKind, Line, Label, Life, OneKernel, entry, reception, Grown, after_step, View, Told, Unknown, Here, is_kernels, after_label, handled, kills}
-use Rattle.dm_rulelaws.proofs.Names.{served_told, receiver_of, Holder, Receiver, Sender, given, gives, to_of, Point, moved, at_record_at, grown_none, not_kernels, AtHome, homes_are, at_home, SaidOn, label_on, ReceivedAt, dropped_known}
-use Rattle.dm_rulelaws.proofs.Names.{Sane, Goes, Comes, Links, Outside, gives_spares, spared_receiver, spared_sender, label_told, label_topic, is_fixed, zero_cases, acting_dropped}
+use Rattle.dm_rulelaws.proofs.Names.{◌≡◌, ◌≢◌, ℕ, ◌+◌, ◌<◌, ◌≤◌, true, false, is_some, refl, ap, ◌∙◌, sym, subst, inl, inr, arith, ⊤, Option, None, Some, cases_Bool, false≢true, Pid, Place, MsgId, PlainMessage, MessageKind, Line, Label}
+use Rattle.dm_rulelaws.proofs.Names.{Life, OneKernel, entry, reception, Grown, after_step, View, Told, Unknown, Here, is_kernels, after_label, handled, kills, served_told, receiver_of, Holder, Receiver, Sender, given, gives, to_of, Point}
+use Rattle.dm_rulelaws.proofs.Names.{moved, at_record_at, grown_none, not_kernels, AtHome, homes_are, at_home, SaidOn, label_on, ReceivedAt, dropped_known, Sane, Goes, Comes, Links, Outside, gives_spares, spared_receiver, spared_sender}
+use Rattle.dm_rulelaws.proofs.Names.{label_told, label_topic, is_fixed, zero_cases, acting_dropped, ◌⊎◌, ◌&&◌, Bool, slice_get, pid_of, pid_eq, plain_kind, PlainWhat, Alive, PlainProcess, pid_eq-is, first_number, bind-is, when-is}
+use Rattle.dm_rulelaws.proofs.Names.{with_sent, answer_to, without_message, is_kill, nat_lt, List, [], length, if◌then◌else◌, PlainLink, id_eq, id_of, switchboard, manager, bind, answer_id, id_eq-is, Addresses, Gets, landing_gets}
+use Rattle.dm_rulelaws.proofs.Names.{serves_what, board_gets, manager_gets, not_true, nat_tests, unentered, Sound, id_in, landed_id, served_id, board_id, manager_id, took_id, bag_sends, bag_served, bag_gone, bag_no_space, bag_created}
+use Rattle.dm_rulelaws.proofs.Names.{bag_took, spares, spares_both, two_more, made_spares, sends_spares, receives_spares, creates_what_spares, finds_spares, keeps_spares, manager_takes_spares, WhatFits, KernelFits, topic_by, machine_in}
+use Rattle.dm_rulelaws.proofs.Names.{bag_answered}
 use Rattle.dm_rule.specs.Point.{machine_of}
 use Rattle.dm_onekernel.specs.Step as kernel
 use Rattle.dm_rule.specs.View as view
@@ -10,12 +14,148 @@ use Rattle.dm_rule.specs.View.{Ended}
 use Rattle.dm_rule.proofs.Trails.Places.{Owns}
 use Rattle.dm_rulelaws.proofs.Found.Steps.{Sends, step_leaves, took_for, created_for, no_space_for}
 use Rattle.dm_rulelaws.proofs.Fits.Start.{fits_step}
-use Rattle.dm_rulelaws.proofs.Found.Made.{MadeBefore, created_made, step_made}
-use Rattle.dm_rulelaws.proofs.Found.Spares.{told_spares}
 use Rattle.dm_rulelaws.proofs.Found.Lists.{places_label, places_about}
-use Rattle.dm_rulelaws.proofs.Found.Held.{held_line, held_as}
 use Rattle.dm_rulelaws.proofs.Found.Places.{AllAre, all_as}
-use Rattle.dm_rulelaws.proofs.Found.Core.{AboutIs, KnowsAt, Knows, IsAt, KnownIs, Core, Grows, Learns, learns_nothing, learns, knows_grow, own_grows, about_grows, known_grows, core_view}
+use Rattle.dm_rulelaws.proofs.Found.Core.{AboutIs, KnowsAt, Knows, IsAt, KnownIs, LineCore, Grows, Learns, learns_nothing, learns, knows_grow, own_grows, about_grows}
+use Rattle.dm_onekernel.specs.Service as service
+use Rattle.dm_rulelaws.proofs.Based.Loud.{Alike, SetLife, some_alike, step_alike, step_ends, step_serves, step_creates}
+use Rattle.dm_rulelaws.proofs.Fits.Rises.{both}
+use Rattle.dm_onekernel.specs.Pieces as pieces
+use Rattle.dm_onekernel.specs.Switchboard as board
+use Rattle.dm_onekernel.specs.Manager as manage
+use Rattle.dm_rule.specs.Addresses as addresses
+use Rattle.dm_rule.specs.Given as request
+use Rattle.dm_rulelaws.proofs.Found.Core.{core_view, known_grows}
+
+-- what enters is none that was told of
+apart_from : (e : MsgId → ℕ) (i j : MsgId) → 1 ≤ e i → e j ≡ 0 → id_eq j i ≡ false
+apart_from e i j least none = not_true (id_eq j i) (λ k. let f : e j ≡ e i = ap e (id_eq-is j i k) in absurd (omega (arith, least, none, f)))
+
+-- served
+lands_spares : (v : View) (a : Addresses) (p : Pid) (o : Option pieces.Landed) (i : MsgId) → ((j : MsgId) → landed_id o ≡ Some j → id_eq j i ≡ false) → spares i (landing_gets v a p o) ≡ true
+lands_spares v a p (Some (pieces.Next n y)) i new = two_more i n.id [] (new n.id refl) refl
+lands_spares v a p _ i new = refl
+
+serve_spares : (v : View) (a : Addresses) (id : MsgId) (m : PlainMessage) (x : PlainProcess) (w : PlainWhat) (i : MsgId) → ((j : MsgId) → served_id id m x w ≡ Some j → id_eq j i ≡ false) → spares i (serves_what v a id m x w) ≡ true
+serve_spares v a id m x w i h1 = search (arith, two_more, lands_spares, m.to, x.status)
+
+creates_spares : (v : View) (a : Addresses) (id : MsgId) (child : Pid) (o : Option PlainMessage) (i : MsgId) → id_eq (answer_id id) i ≡ false → spares i (addresses.creation_gets v a id child o) ≡ true
+creates_spares v a id child None i e = refl
+creates_spares v a id child (Some m) i e = two_more i (answer_id id) (addresses.creates_what a id child m.what) e (creates_what_spares a id child m.what i)
+
+-- the switchboard
+board_links_spares : (s : OneKernel) (v : View) (a : Addresses) (id : MsgId) (code channel : ℕ) (body : List ℕ) (links : List PlainLink) (i : MsgId) → id_eq (id_of switchboard s.switchboard.sent) i ≡ false
+    → spares i (board_gets s v a id (PlainWhat.User code channel body links)) ≡ true
+board_links_spares s v a id code channel body links i h1 = search (arith, s.switchboard.sent, s.switchboard.names, two_more, spares_both, finds_spares, keeps_spares)
+
+board_takes_spares : (s : OneKernel) (v : View) (a : Addresses) (id : MsgId) (w : PlainWhat) (i : MsgId) → id_eq (id_of switchboard s.switchboard.sent) i ≡ false → spares i (board_gets s v a id w) ≡ true
+board_takes_spares s v a id (PlainWhat.User b1 b2 b3 b4) i e = board_links_spares s v a id b1 b2 b3 b4 i e
+board_takes_spares s v a id _ i e = refl
+
+message_in : (o : Option manage.ManagerTook) (i : MsgId) → ((j : MsgId) → manager_id o ≡ Some j → id_eq j i ≡ false) → (k : manage.ManagerTook) → o ≡ Some k → (x : PlainMessage) → k.message ≡ Some x → id_eq x.id i ≡ false
+message_in o i new k is x has = new x.id (ap manager_id is ∙ ap id_in has)
+
+takes_spares : (s t : OneKernel) (v : View) (a : Addresses) (id : MsgId) (m : PlainMessage) (b c : Bool) (i : MsgId) → id_eq (id_of switchboard s.switchboard.sent) i ≡ false
+    → ((j : MsgId) → (if b then board_id (board.board_takes s.switchboard m m.what) else if c then manager_id (manage.manager_takes s.manager s.machines (length s.images) m m.what) else None) ≡ Some j → id_eq j i ≡ false)
+    → (if b then bind (board.board_takes s.switchboard m m.what) (λ (k : board.BoardTook). Some (service.switchboard_took s id k))
+    else if c then bind (manage.manager_takes s.manager s.machines (length s.images) m m.what) (λ (k : manage.ManagerTook). Some (service.manager_took s id k))
+    else None) ≡ Some t
+    → spares i (if b then board_gets s v a id m.what else manager_gets s v a m m.what (manage.manager_takes s.manager s.machines (length s.images) m m.what)) ≡ true
+takes_spares s t v a id m b c i h1 h2 h3 = search (arith, board_takes_spares, m.what, s.manager, s.machines, s.images, manager_takes_spares, message_in)
+
+took_spares : (r e : MsgId → ℕ) (s t : OneKernel) (v : View) (a : Addresses) (id : MsgId) (m : PlainMessage) (i : MsgId) → s.bag id ≡ Some m → service.takes s id m ≡ Some t → ((j : MsgId) → took_id s m ≡ Some j → e j ≡ 0) → Sound r e s → 1 ≤ e i
+    → spares i (addresses.taking_gets s v a id (Some m)) ≡ true
+took_spares r e s t v a id m i there is fresh h least =
+    takes_spares s t v a id m (pid_eq m.to switchboard) (pid_eq m.to manager) i
+    (apart_from e i (id_of switchboard s.switchboard.sent) least (unentered r e s (id_of switchboard s.switchboard.sent) h.entered (let z : nat_lt s.switchboard.sent s.switchboard.sent ≡ false = grind (arith, nat_tests) in z)))
+    (λ j f. apart_from e i j least (fresh j f)) is
+
+-- requests to move
+follows_spares : (a : Addresses) (id : MsgId) (o : Option PlainMessage) (i : MsgId) → spares i (request.follows a id o) ≡ true
+follows_spares a id None i = refl
+follows_spares a id (Some m) i = refl
+
+ended_spares : (v : View) (a : Addresses) (id : MsgId) (o : Option Pid) (i : MsgId) → id_eq (answer_id id) i ≡ false → spares i (request.ends_move v a id o) ≡ true
+ended_spares v a id None i e = refl
+ended_spares v a id (Some p) i e = two_more i (answer_id id) [] e refl
+
+-- a row a label
+pub told_spares : (r e : MsgId → ℕ) (s t : OneKernel) (v : View) (a : Addresses) (l : Label) (i : MsgId) → kernel.step s l ≡ Some t → Sound r e s → 1 ≤ e i → spares i (gives s v a l) ≡ true
+told_spares r e s t v a (Label.Call p n c) i is h least = made_spares v a p n c (kernel.running s p) i
+told_spares r e s t v a (Label.Send p id) i is h least = sends_spares s v a p id (kernel.running s p) i (apart_from e i id least ((bag_sends r e s t p id is h).fresh id refl))
+told_spares r e s t v a (Label.Receive p id) i is h least = receives_spares a p id (kernel.alive (s.processes p)) (s.bag id) i
+told_spares r e s t v a (Label.Served id) i is h least =
+    let q = bag_served r e s t id is h in
+    let gs_is : serves_what v a id q.m q.x q.m.what ≡ gives s v a (Label.Served id) = ap (addresses.serves_alive v a id q.m) (sym (ap kernel.alive q.alive)) ∙ ap (addresses.service_gets s v a id) (sym q.there) in
+    subst (λ (gs : List Gets). spares i gs ≡ true) gs_is (serve_spares v a id q.m q.x q.m.what i (λ j f. apart_from e i j least (q.is.fresh j f)))
+told_spares r e s t v a (Label.Gone id) i is h least = two_more i (answer_id id) [] (apart_from e i (answer_id id) least ((bag_gone r e s t id is h).fresh (answer_id id) refl)) refl
+told_spares r e s t v a (Label.Took id) i is h least =
+    let (m, there, rest) = bind-is (s.bag id) (service.takes s id) t is in
+    let q = bag_took r e s t id is h in
+    let same : q.m ≡ m = let f : Some q.m ≡ Some m = sym q.there ∙ there in cc in
+    subst (λ (gs : List Gets). spares i gs ≡ true) (ap (addresses.taking_gets s v a id) (sym there))
+    (took_spares r e s t v a id m i there rest (λ j f. q.is.fresh j (ap (took_id s) same ∙ f)) h least)
+told_spares r e s t v a (Label.Created id child) i is h least = creates_spares v a id child (s.bag id) i (apart_from e i (answer_id id) least ((bag_created r e s t id child is h).fresh (answer_id id) refl))
+told_spares r e s t v a (Label.NoSpace id f b) i is h least = two_more i (answer_id id) [] (apart_from e i (answer_id id) least ((bag_no_space r e s t id f b is h).fresh (answer_id id) refl)) refl
+told_spares r e s t v a (Label.Asked id) i is h least = follows_spares a id (s.bag id) i
+told_spares r e s t v a (Label.Answered id o) i is h least = ended_spares v a id (s.noted id) i (apart_from e i (answer_id id) least ((bag_answered r e s t id o is h).fresh (answer_id id) refl))
+told_spares r e s t v a _ i is h least = refl
+
+-- Each label keeps where addresses lead, what machines know, and where messages stand.
+
+-- what is made behind a step was made before
+abbrev pub MadeBefore : OneKernel → OneKernel → Type 0
+MadeBefore s t = (q : Pid) → is_some (t.processes q) ≡ true → is_some (s.processes q) ≡ true
+
+alike_made : (s t : OneKernel) → Alike s t → MadeBefore s t
+alike_made s t h q some = sym (some_alike (t.processes q) (s.processes q) (h q)) ∙ some
+
+set_made : (s t : OneKernel) (p : Pid) (x : PlainProcess) → s.processes p ≡ Some (Alive x) → SetLife s t p (Some false) → MadeBefore s t
+set_made s t p x alive set q some = elim (cases_Bool (pid_eq p q)) [
+  | inl same ↦ ap (λ (r : Pid). is_some (s.processes r)) (sym (pid_eq-is p q same)) ∙ ap is_some alive
+  | inr apart ↦ sym (some_alike (t.processes q) (s.processes q) (set.off q apart)) ∙ some
+]
+
+-- a process that a kernel makes, at its home
+pub record Born (s : OneKernel) (id : MsgId) (child q : Pid) : Type 0 where
+  pub m : PlainMessage
+  pub there : s.bag id ≡ Some m
+  pub home : child.home ≡ m.to.home
+  pub is : child ≡ q
+
+child_home : (s t : OneKernel) (id : MsgId) (m : PlainMessage) (child : Pid) (w : PlainWhat) → service.creates s id m child w ≡ Some t → child.home ≡ m.to.home
+child_home s t id m child (PlainWhat.Create image links) e =
+    let (i, found, rest) = bind-is (slice_get s.images image) (service.creates_of s id m child links) t e in
+    let name = pid_of m.to.home (first_number + s.made m.to.home) in
+    let k = when-is (service.is_kernel s m.to && pid_eq child name) (with_sent (service.with_created (without_message s id) child i links) (Some (answer_to m (PlainWhat.Created child)))) t rest in
+    ap (λ (x : Pid). x.home) (pid_eq-is child name (both (service.is_kernel s m.to) (pid_eq child name) k.0).1)
+child_home s t id m child _ e = cc
+
+pub created_made : (s t : OneKernel) (id : MsgId) (child : Pid) → kernel.step s (Label.Created id child) ≡ Some t → (q : Pid) → is_some (t.processes q) ≡ true → (is_some (s.processes q) ≡ true) ⊎ Born s id child q
+created_made s t id child is q some = elim (cases_Bool (pid_eq child q)) [
+  | inl same ↦
+      let (m, there, rest) = bind-is (s.bag id) (λ v. service.creates s id v child v.what) t is in
+      inr (record { m = m; there = there; home = child_home s t id m child m.what rest; is = pid_eq-is child q same })
+  | inr apart ↦ inl (sym (some_alike (t.processes q) (s.processes q) ((step_creates s t id child is).off q apart)) ∙ some)
+]
+
+abbrev pub is_birth : Label → Bool
+is_birth (Label.Created id child) = true
+is_birth l = false
+
+-- no other label makes one
+pub step_made : (s t : OneKernel) (l : Label) → is_birth l ≡ false → kernel.step s l ≡ Some t → MadeBefore s t
+step_made s t (Label.Created id child) other is = absurd (false≢true (sym other))
+step_made s t (Label.End p y) other is = let e = step_ends s t p y is in set_made s t p e.process e.alive e.set
+step_made s t (Label.Served id) other is =
+    let v = step_serves s t id is in
+    elim (cases_Bool (is_kill (plain_kind v.message.what))) [
+      | inl kill ↦ set_made s t v.message.to v.process v.alive (v.served.kill kill)
+      | inr mild ↦ alike_made s t (v.served.other mild)
+    ]
+step_made s t l other is = alike_made s t (step_alike s t l refl is)
+
+-- Each label keeps where addresses lead, what machines know, and where messages stand.
 
 -- what the acting machine knows behind a label
 kills_learn : (n : ℕ) (v : View) (k : MessageKind) (p : Pid) → v.acting < n → ((m : ℕ) (q : Pid) → KnownIs n v m q (v.known m q)) → Learns n v (kills k v (Some p))
@@ -56,40 +196,24 @@ NeedsLabel pt (Label.Answered id o) = (p : Pid) → pt.kernel.noted id ≡ Some 
 NeedsLabel pt _ = ⊤
 
 -- a message's receiver is known where it stands, or at home
-pub there_known : (n : ℕ) (pt : Point) (id : MsgId) (m : PlainMessage) → pt.kernel.bag id ≡ Some m → (pt.addresses (Receiver id)).at ≡ pt.view.acting → Core n pt → KnowsAt pt.view m.to pt.view.acting
+pub there_known : (n : ℕ) (pt : Point) (id : MsgId) (m : PlainMessage) → pt.kernel.bag id ≡ Some m → (pt.addresses (Receiver id)).at ≡ pt.view.acting → LineCore n pt → KnowsAt pt.view m.to pt.view.acting
 there_known n pt id m there at h = subst (KnowsAt pt.view m.to) at (h.all (Receiver id) m.to (Links (ap to_of there)))
 
 pub fixed_home : (v : View) (q : Pid) (m : ℕ) → is_fixed q ≡ true → KnowsAt v q m → q.home ≡ m
-fixed_home v q m fixed h = elim h [
-  | inl home ↦ sym home
-  | inr away ↦ absurd (false≢true (sym away.0 ∙ fixed))
-]
+fixed_home v q m fixed h = search arith
 
-received_at : (n : ℕ) (pt : Point) (id : MsgId) → ((m : PlainMessage) → pt.kernel.bag id ≡ Some m → is_fixed m.to ≡ true) → (pt.addresses (Receiver id)).at ≡ pt.view.acting → Core n pt → ReceivedAt pt.kernel pt.view.acting id
+received_at : (n : ℕ) (pt : Point) (id : MsgId) → ((m : PlainMessage) → pt.kernel.bag id ≡ Some m → is_fixed m.to ≡ true) → (pt.addresses (Receiver id)).at ≡ pt.view.acting → LineCore n pt → ReceivedAt pt.kernel pt.view.acting id
 received_at n pt id fixed at h m there = fixed_home pt.view m.to pt.view.acting (fixed m there) (there_known n pt id m there at h)
 
-said_on : (n : ℕ) (pt : Point) (s : OneKernel) (l : Label) → kernel.step pt.kernel l ≡ Some s → NeedsLabel pt l → Core n pt → SaidOn (Knows pt.view) pt.kernel pt.view pt.addresses l
-said_on n pt s (Label.Call p k c) is need h = need
-said_on n pt s (Label.Send p id) is need h = need
-said_on n pt s (Label.Wait p) is need h = need
-said_on n pt s (Label.Out p w) is need h = need
-said_on n pt s (Label.Served id) is need h = λ m there. there_known n pt id m there need.0 h
-said_on n pt s (Label.Gone id) is need h = λ m there. there_known n pt id m there need.0 h
-said_on n pt s (Label.Took id) is need h = received_at n pt id (took_for pt.kernel s id is) need.0 h
-said_on n pt s (Label.Created id child) is need h = received_at n pt id (created_for pt.kernel s id child is) need.0 h
-said_on n pt s (Label.NoSpace id a b) is need h = received_at n pt id (no_space_for pt.kernel s id a b is) need.0 h
-said_on n pt s (Label.Answered id o) is need h = need
-said_on n pt s _ is need h = tt
+said_on : (n : ℕ) (pt : Point) (s : OneKernel) (l : Label) → kernel.step pt.kernel l ≡ Some s → NeedsLabel pt l → LineCore n pt → SaidOn (Knows pt.view) pt.kernel pt.view pt.addresses l
+said_on n pt s l h1 h2 h3 = search (arith, there_known, received_at, took_for, pt.kernel, created_for, no_space_for)
 
 told_some : (o : Option Told) → is_some o ≡ true → o ≡ None → ⊥
 told_some None some e = false≢true some
 told_some (Some t) some e = cc
 
 entered : (pt : Point) (i : MsgId) (h : Sane pt) → is_some (pt.view.told i) ≡ true → is_kernels i ≡ false → 1 ≤ h.e i
-entered pt i h some other = elim (zero_cases (h.e i)) [
-  | inl none ↦ absurd (told_some (pt.view.told i) some (h.untold i none other))
-  | inr least ↦ least
-]
+entered pt i h some other = search (arith, zero_cases, h.e, told_some, pt.view.told, h.untold)
 
 outside : (pt : Point) (s : OneKernel) (l : Label) (h : Sane pt) → kernel.step pt.kernel l ≡ Some s → Outside s
 outside pt s l h is j x there = not_kernels (λ i. h.r i + reception i l) (λ i. h.e i + entry i pt.kernel s) s j x there (after_step h.r h.e pt.kernel s l is h.sound).sound
@@ -104,17 +228,12 @@ keeps_receiver pt s l i h is some =
 
 -- what was made stays so
 made_stays : (a b : Option Life) → (b ≡ None → a ≡ None) → is_some a ≡ true → is_some b ≡ true
-made_stays a (Some l) stays some = refl
-made_stays (Some l) None stays some = absurd (let f : Some l ≡ None = stays refl in cc)
-made_stays None None stays some = some
+made_stays a b h1 h2 = search arith
 
 sends_grow : (n : ℕ) (s t : OneKernel) (q : Pid) → Grown s t → Sends n s q → Sends n t q
-sends_grow n s t q grown h = elim h [
-  | inl fixed ↦ inl fixed
-  | inr made ↦ inr (made_stays (s.processes q) (t.processes q) (grown_none (s.processes q) (t.processes q) (grown.lives q)) made)
-]
+sends_grow n s t q grown h = search (arith, made_stays, s.processes, t.processes, grown_none, grown.lives)
 
-label_all : (n : ℕ) (pt : Point) (s : OneKernel) (l : Label) → Sane pt → kernel.step pt.kernel l ≡ Some s → AtHome (Knows pt.view) s (given pt.addresses (gives pt.kernel pt.view pt.addresses l)) → Core n pt
+label_all : (n : ℕ) (pt : Point) (s : OneKernel) (l : Label) → Sane pt → kernel.step pt.kernel l ≡ Some s → AtHome (Knows pt.view) s (given pt.addresses (gives pt.kernel pt.view pt.addresses l)) → LineCore n pt
     → AllAre (Knows pt.view) s pt.view (given pt.addresses (gives pt.kernel pt.view pt.addresses l))
 label_all n pt s l sane is home h g q (Links e) = homes_are (Knows pt.view) s (given pt.addresses (gives pt.kernel pt.view pt.addresses l)) home g q e
 label_all n pt s l sane is home h g q (Owns (Goes i u at own told to)) =
@@ -127,19 +246,11 @@ label_all n pt s l sane is home h g q (Owns (Comes i u at own told move to)) =
     (subst (Knows pt.view q) (sym (spared_sender pt.addresses i (gives pt.kernel pt.view pt.addresses l) spared)) (h.all (Sender i) q (Owns (Comes i u refl own told move to))))
 
 -- what is made is known at home
-other_home : (n : ℕ) (pt : Point) (s : OneKernel) (w : View) → Grows pt.view w → MadeBefore pt.kernel s → Core n pt → (q : Pid) → is_some (s.processes q) ≡ true → w.known q.home q ≢ Unknown
+other_home : (n : ℕ) (pt : Point) (s : OneKernel) (w : View) → Grows pt.view w → MadeBefore pt.kernel s → LineCore n pt → (q : Pid) → is_some (s.processes q) ≡ true → w.known q.home q ≢ Unknown
 other_home n pt s w grows made h q some = grows q.home q (h.home q (made q some))
 
-label_home : (n : ℕ) (pt : Point) (s : OneKernel) (l : Label) → NeedsLabel pt l → kernel.step pt.kernel l ≡ Some s → Grows pt.view (after_label pt.view l) → Core n pt → (q : Pid) → is_some (s.processes q) ≡ true → (after_label pt.view l).known q.home q ≢ Unknown
-label_home n pt s (Label.Created id child) need is grows h q some = elim (created_made pt.kernel s id child is q some) [
-  | inl old ↦ grows q.home q (h.home q old)
-  | inr new ↦
-      let w = after_label pt.view (Label.Created id child) in
-      let at : child.home ≡ pt.view.acting = new.home ∙ received_at n pt id (created_for pt.kernel s id child is) need.0 h new.m new.there in
-      let here : w.known child.home child ≡ Here = ap (λ (m : ℕ). w.known m child) at ∙ at_record_at pt.view.known pt.view.acting child Here in
-      subst (λ (r : Pid). w.known r.home r ≢ Unknown) new.is (λ e. let f : Here ≡ Unknown = sym here ∙ e in cc)
-]
-label_home n pt s any_ need is grows h q some = other_home n pt s (after_label pt.view any_) grows (step_made pt.kernel s any_ refl is) h q some
+label_home : (n : ℕ) (pt : Point) (s : OneKernel) (l : Label) → NeedsLabel pt l → kernel.step pt.kernel l ≡ Some s → Grows pt.view (after_label pt.view l) → LineCore n pt → (q : Pid) → is_some (s.processes q) ≡ true → (after_label pt.view l).known q.home q ≢ Unknown
+label_home n pt s l h1 h2 h3 h4 q h5 = search (arith, created_made, pt.kernel, q.home, pt.view, pt.view.acting, received_at, created_for, at_record_at, pt.view.known, other_home, step_made)
 
 -- where a process goes that is asked to move
 moves_within : (n : ℕ) (s : OneKernel) (v : View) (i : MsgId) (m : PlainMessage) (x : PlainWhat) → s.machines ≡ n → WhatFits s i m x → AboutIs n v (machine_of x)
@@ -157,7 +268,7 @@ topic_within : (n : ℕ) (s : OneKernel) (v : View) (l : Label) → s.machines �
 topic_within n s v (Label.Asked i) same h old = asked_within n s v i (s.bag i) refl same h
 topic_within n s v _ same h old = old
 
-pub label_core : (n : ℕ) (pt : Point) (s : OneKernel) (l : Label) → Sane pt → NeedsLabel pt l → kernel.step pt.kernel l ≡ Some s → Core n pt → Core n (moved pt (Line.Label l) s)
+pub label_core : (n : ℕ) (pt : Point) (s : OneKernel) (l : Label) → Sane pt → NeedsLabel pt l → kernel.step pt.kernel l ≡ Some s → LineCore n pt → LineCore n (moved pt (Line.Label l) s)
 label_core n pt s l sane need is h =
     let v = pt.view in
     let w = after_label v l in
@@ -170,7 +281,7 @@ label_core n pt s l sane need is h =
     let left = step_leaves n pt.kernel s l h.machines some (λ p k e. let (x, alive) = sane.sound.notes.lives p k e in ap is_some alive) is in
     let all = label_all n pt s l sane is home h in
     let behind : Point = record { kernel = s; view = w; addresses = b } in
-    let core : Core n behind = record {
+    let core : LineCore n behind = record {
       acting = subst (λ (k : ℕ). k < n) (sym learnt.acting) h.acting;
       machines = left.machines ∙ h.machines;
       all = λ g q e. knows_grow v w q (b g).at learnt.grows (all_as (Knows v) s v w b told all g q e);
@@ -179,7 +290,6 @@ label_core n pt s l sane need is h =
       topic = subst (λ (x : view.About). AboutIs n w x) (sym (label_topic v l)) (about_grows n v w v.topic learnt.grows h.topic);
       known = learnt.known;
       places = λ i z e. let k = places_label (IsAt a v) v l h.places i z e in (ap (λ (p : Place). p.at) (keeps_receiver pt s l i sane is k.1) ∙ k.0, ap (λ (f : MsgId → Option Told). is_some (f i)) told ∙ k.1);
-      held = held_line v (Line.Label l) refl h.held;
       senders = λ i m there. elim (left.senders i m there) [
         | inl old ↦ sends_grow n pt.kernel s m.sender (after_step sane.r sane.e pt.kernel s l is sane.sound).grown (h.senders i m old)
         | inr new ↦ sends_grow n pt.kernel s m.sender (after_step sane.r sane.e pt.kernel s l is sane.sound).grown new
@@ -190,5 +300,5 @@ label_core n pt s l sane need is h =
     } in
     let a_ = topic_by pt.kernel w.topic (Some l) in
     let u = view.about w a_ in
-    core_view n behind u core.acting (λ m q e. e) (λ m q. known_grows n w u m q (w.known m q) (λ x y e. e) (core.known m q)) refl (about_grows n w u a_ (λ m q e. e) (topic_within n pt.kernel w l h.machines h.fits core.topic)) (places_about (IsAt b w) w a_ core.places)
-    (held_as w u refl refl core.held) core
+    core_view n behind u b core.acting (λ m q e. e) (λ m q. known_grows n w u m q (w.known m q) (λ x y e. e) (core.known m q)) refl (about_grows n w u a_ (λ m q e. e) (topic_within n pt.kernel w l h.machines h.fits core.topic))
+    core.all (places_about (IsAt b w) w a_ core.places) core

@@ -1,30 +1,28 @@
 -- Each line keeps where addresses lead, what machines know, and where messages stand, if it has what it needs.
 use Rattle.dm_rulelaws.proofs.Names.{aim, sets, ◌≡◌, ◌≢◌, ℕ, ◌+◌, ◌<◌, not, filter, ◌==◌, refl, ap, ◌∙◌, sym, subst, false, ⊤, Option, None, Some, Pid, MsgId, OneKernel, Step, Line, Load, Stage, View, Told, About, Known, Unknown, Here}
-use Rattle.dm_rulelaws.proofs.Names.{Frozen, Incoming, view_after, after_head, after_stage, after_proto, handled, queued_for, held_for, taken_id, oldest, receiver_of, gone_to, target_of, front_told, front_of, Point, label_of, kernel_after}
-use Rattle.dm_rulelaws.proofs.Names.{moved, is_put, hushed, queued_known, held_known, proto_known, Sane, is_fixed, proto_acting}
+use Rattle.dm_rulelaws.proofs.Names.{Frozen, Incoming, view_after, after_head, after_stage, after_proto, handled, queued_for, held_for, taken_id, oldest, receiver_of, gone_to, front_of, Point, label_of, kernel_after, moved, is_put, hushed}
+use Rattle.dm_rulelaws.proofs.Names.{queued_known, held_known, proto_known, Sane, is_fixed, proto_acting}
 use Rattle.dm_rule.specs.View as view
-use Rattle.dm_rulelaws.proofs.Found.Held.{HeldFor, held_line}
 use Rattle.dm_rulelaws.proofs.Found.Lists.{Places, Brings, places_line}
-use Rattle.dm_rulelaws.proofs.Found.Core.{AboutIs, KnownIs, IsAt, Core, Grows, Learns, learns_nothing, learns, about_grows, known_grows, core_view}
+use Rattle.dm_rulelaws.proofs.Found.Core.{AboutIs, KnownIs, IsAt, LineCore, Grows, Learns, learns_nothing, learns, about_grows, known_grows, core_view}
 use Rattle.dm_rulelaws.proofs.Found.Labels.{NeedsLabel, label_core}
-use Rattle.dm_rulelaws.proofs.Found.Puts.{NeedsPut, put_core}
-use Rattle.dm_rulelaws.proofs.Found.Given.{NeedsForward, NeedsSent, forwarded_core, sent_core, updated_core}
+use Rattle.dm_rulelaws.proofs.Found.Puts.{NeedsPut, put_core, NeedsForward, NeedsSent, forwarded_core, sent_core, updated_core}
 
 abbrev at_view : Point → View → Point
 at_view pt w = record { kernel = pt.kernel; view = w; addresses = pt.addresses }
 
 -- a line that only says what a machine learns
-learnt_core : (n : ℕ) (pt : Point) (w : View) → Learns n pt.view w → w.told ≡ pt.view.told → AboutIs n w w.topic → Places (IsAt pt.addresses pt.view) w → HeldFor w → Core n pt → Core n (at_view pt w)
-learnt_core n pt w learnt told topic places held h = core_view n pt w (subst (λ (k : ℕ). k < n) (sym learnt.acting) h.acting) learnt.grows learnt.known told topic places held h
+learnt_core : (n : ℕ) (pt : Point) (w : View) → Learns n pt.view w → w.told ≡ pt.view.told → AboutIs n w w.topic → Places (IsAt pt.addresses pt.view) w → LineCore n pt → LineCore n (at_view pt w)
+learnt_core n pt w learnt told topic places h = core_view n pt w pt.addresses (subst (λ (k : ℕ). k < n) (sym learnt.acting) h.acting) learnt.grows learnt.known told topic h.all places h
 
 -- and one that says nothing of processes
 quiet_core : (n : ℕ) (pt : Point) (l : Line) → is_put l ≡ false → (view_after pt.view l).acting ≡ pt.view.acting → ((m : ℕ) (q : Pid) → (view_after pt.view l).known m q ≡ pt.view.known m q) → (view_after pt.view l).told ≡ pt.view.told → AboutIs n pt.view (view_after pt.view l).topic
-    → Brings (IsAt pt.addresses pt.view) pt.view l → Core n pt → Core n (at_view pt (view_after pt.view l))
+    → Brings (IsAt pt.addresses pt.view) pt.view l → LineCore n pt → LineCore n (at_view pt (view_after pt.view l))
 quiet_core n pt l quiet acting known told topic brings h =
     let learnt = learns_nothing n pt.view (view_after pt.view l) acting known h.known in
-    learnt_core n pt (view_after pt.view l) learnt told (about_grows n pt.view (view_after pt.view l) (view_after pt.view l).topic learnt.grows topic) (places_line (IsAt pt.addresses pt.view) pt.view l brings h.places) (held_line pt.view l quiet h.held) h
+    learnt_core n pt (view_after pt.view l) learnt told (about_grows n pt.view (view_after pt.view l) (view_after pt.view l).topic learnt.grows topic) (places_line (IsAt pt.addresses pt.view) pt.view l brings h.places) h
 
-same_topic : (n : ℕ) (pt : Point) (x : About) → x ≡ pt.view.topic → Core n pt → AboutIs n pt.view x
+same_topic : (n : ℕ) (pt : Point) (x : About) → x ≡ pt.view.topic → LineCore n pt → AboutIs n pt.view x
 same_topic n pt x e h = subst (AboutIs n pt.view) (sym e) h.topic
 
 queued_acting : (v : View) (i : MsgId) (o : Option Pid) → ((queued_for v i o).acting ≡ v.acting) × ((queued_for v i o).topic ≡ v.topic)
@@ -39,7 +37,7 @@ taken_same : (v : View) (b : ℕ) (o : Option MsgId) → ((taken_id v b o).actin
 taken_same v b None = (refl, refl, refl)
 taken_same v b (Some i) = (refl, refl, refl)
 
-proto_topic : (n : ℕ) (pt : Point) (i : MsgId) (o : Option Told) → pt.view.told i ≡ o → Core n pt → AboutIs n pt.view (after_proto (handled pt.view i) o).topic
+proto_topic : (n : ℕ) (pt : Point) (i : MsgId) (o : Option Told) → pt.view.told i ≡ o → LineCore n pt → AboutIs n pt.view (after_proto (handled pt.view i) o).topic
 proto_topic n pt i None is h = tt
 proto_topic n pt i (Some t) is h = h.tells i t is
 
@@ -59,7 +57,7 @@ NeedsStage n pt p Stage.Accepted = (front_of (pt.view.inbox pt.view.acting) < n)
 NeedsStage n pt p Stage.Left = (to : ℕ) → pt.view.known pt.view.acting p ≡ Frozen to → pt.view.known to p ≢ Unknown
 NeedsStage n pt p _ = ⊤
 
-stage_learns : (n : ℕ) (pt : Point) (p : Pid) (s : Stage) → NeedsStage n pt p s → Core n pt → Learns n pt.view (after_stage pt.view p s)
+stage_learns : (n : ℕ) (pt : Point) (p : Pid) (s : Stage) → NeedsStage n pt p s → LineCore n pt → Learns n pt.view (after_stage pt.view p s)
 stage_learns n pt p Stage.Frozen need h =
     let set = sets pt.view p pt.view.topic in
     learns n pt.view (after_stage pt.view p Stage.Frozen) p (Frozen (aim pt.view pt.view.topic)) set.acting set.known (λ e. cc) (h.acting, need.0, need.1) h.known
@@ -71,23 +69,23 @@ stage_learns n pt p Stage.Left need h =
 stage_learns n pt p Stage.Restarted need h = learns n pt.view (after_stage pt.view p Stage.Restarted) p Here refl refl (λ e. cc) h.acting h.known
 stage_learns n pt p any_ need h = learns_nothing n pt.view (after_stage pt.view p any_) refl (λ m q. refl) h.known
 
-stage_topic : (n : ℕ) (pt : Point) (p : Pid) (s : Stage) → Core n pt → AboutIs n pt.view (after_stage pt.view p s).topic
+stage_topic : (n : ℕ) (pt : Point) (p : Pid) (s : Stage) → LineCore n pt → AboutIs n pt.view (after_stage pt.view p s).topic
 stage_topic n pt p Stage.Asked h = h.topic
 stage_topic n pt p Stage.Restarted h = h.topic
 stage_topic n pt p Stage.Frozen h = subst (AboutIs n pt.view) (sym (sets pt.view p pt.view.topic).topic) tt
 stage_topic n pt p _ h = tt
 
-stage_core : (n : ℕ) (pt : Point) (p : Pid) (s : Stage) → NeedsStage n pt p s → Core n pt → Core n (at_view pt (after_stage pt.view p s))
+stage_core : (n : ℕ) (pt : Point) (p : Pid) (s : Stage) → NeedsStage n pt p s → LineCore n pt → LineCore n (at_view pt (after_stage pt.view p s))
 stage_core n pt p s need h =
     let learnt = stage_learns n pt p s need h in
     learnt_core n pt (after_stage pt.view p s) learnt (hushed pt.view (Line.Migration s p) refl).told (about_grows n pt.view (after_stage pt.view p s) (after_stage pt.view p s).topic learnt.grows (stage_topic n pt p s h))
-    (places_line (IsAt pt.addresses pt.view) pt.view (Line.Migration s p) tt h.places) (held_line pt.view (Line.Migration s p) refl h.held) h
+    (places_line (IsAt pt.addresses pt.view) pt.view (Line.Migration s p) tt h.places) h
 
-stays_core : (n : ℕ) (pt : Point) (p : Pid) → Core n pt → Core n (at_view pt (view_after pt.view (Line.Stays p)))
+stays_core : (n : ℕ) (pt : Point) (p : Pid) → LineCore n pt → LineCore n (at_view pt (view_after pt.view (Line.Stays p)))
 stays_core n pt p h =
     let w = view_after pt.view (Line.Stays p) in
     let learnt = learns n pt.view w p Here refl refl (λ e. cc) h.acting h.known in
-    learnt_core n pt w learnt refl (about_grows n pt.view w pt.view.topic learnt.grows h.topic) (places_line (IsAt pt.addresses pt.view) pt.view (Line.Stays p) tt h.places) (held_line pt.view (Line.Stays p) refl h.held) h
+    learnt_core n pt w learnt refl (about_grows n pt.view w pt.view.topic learnt.grows h.topic) (places_line (IsAt pt.addresses pt.view) pt.view (Line.Stays p) tt h.places) h
 
 -- what a line needs
 abbrev pub NeedsHead : ℕ → Step → Type 0
@@ -112,33 +110,33 @@ head_known n v w same h m p =
     let grows : Grows v w = λ k q some e. some (sym (ap (λ (f : ℕ → Pid → Known). f k q) same) ∙ e) in
     subst (KnownIs n w m p) (sym (ap (λ (f : ℕ → Pid → Known). f m p) same)) (known_grows n v w m p (v.known m p) grows (h m p))
 
-head_core : (n : ℕ) (pt : Point) (d : Step) → NeedsHead n d → Core n pt → Core n (at_view pt (after_head pt.view d))
-head_core n pt (Step.Migrate p m) need h = core_view n pt (after_head pt.view (Step.Migrate p m)) need.0 (λ i q e. e) (head_known n pt.view (after_head pt.view (Step.Migrate p m)) refl h.known) refl need.1 (places_line (IsAt pt.addresses pt.view) pt.view (Line.Head (Step.Migrate p m)) tt h.places) (held_line pt.view (Line.Head (Step.Migrate p m)) refl h.held) h
-head_core n pt any_ need h = core_view n pt (after_head pt.view any_) need (λ i q e. e) (head_known n pt.view (after_head pt.view any_) refl h.known) refl tt (places_line (IsAt pt.addresses pt.view) pt.view (Line.Head any_) tt h.places) (held_line pt.view (Line.Head any_) refl h.held) h
+head_core : (n : ℕ) (pt : Point) (d : Step) → NeedsHead n d → LineCore n pt → LineCore n (at_view pt (after_head pt.view d))
+head_core n pt (Step.Migrate p m) need h = core_view n pt (after_head pt.view (Step.Migrate p m)) pt.addresses need.0 (λ i q e. e) (head_known n pt.view (after_head pt.view (Step.Migrate p m)) refl h.known) refl need.1 h.all (places_line (IsAt pt.addresses pt.view) pt.view (Line.Head (Step.Migrate p m)) tt h.places) h
+head_core n pt any_ need h = core_view n pt (after_head pt.view any_) pt.addresses need (λ i q e. e) (head_known n pt.view (after_head pt.view any_) refl h.known) refl tt h.all (places_line (IsAt pt.addresses pt.view) pt.view (Line.Head any_) tt h.places) h
 
-pub packet_core : (n : ℕ) (pt : Point) (a b k : ℕ) (l : Load) → Core n pt → Core n (moved pt (Line.Packet a b k l) pt.kernel)
+pub packet_core : (n : ℕ) (pt : Point) (a b k : ℕ) (l : Load) → LineCore n pt → LineCore n (moved pt (Line.Packet a b k l) pt.kernel)
 packet_core n pt a b k l h = quiet_core n pt (Line.Packet a b k l) refl refl (λ m q. refl) refl h.topic tt h
 
 -- each line keeps all of it
-pub line_core : (n : ℕ) (pt : Point) (s : OneKernel) (l : Line) → NeedsLine n pt l → Sane pt → kernel_after pt.kernel (label_of l) ≡ Some s → Core n pt → Core n (moved pt l s)
+pub line_core : (n : ℕ) (pt : Point) (s : OneKernel) (l : Line) → NeedsLine n pt l → Sane pt → kernel_after pt.kernel (label_of l) ≡ Some s → LineCore n pt → LineCore n (moved pt l s)
 line_core n pt s (Line.Label l) need sane is h = label_core n pt s l sane need is h
-line_core n pt s (Line.Head d) need sane is h = let f : pt.kernel ≡ s = cc in subst (λ (x : OneKernel). Core n (moved pt (Line.Head d) x)) f (head_core n pt d need h)
-line_core n pt s (Line.Put a b id k q) need sane is h = let f : pt.kernel ≡ s = cc in subst (λ (x : OneKernel). Core n (moved pt (Line.Put a b id k q) x)) f (put_core n pt a b id k q need h)
-line_core n pt s (Line.Forwarded id m) need sane is h = let f : pt.kernel ≡ s = cc in subst (λ (x : OneKernel). Core n (moved pt (Line.Forwarded id m) x)) f (forwarded_core n pt id m need h)
-line_core n pt s (Line.SentOn p k) need sane is h = let f : pt.kernel ≡ s = cc in subst (λ (x : OneKernel). Core n (moved pt (Line.SentOn p k) x)) f (sent_core n pt p k need h)
-line_core n pt s (Line.Updated id k) need sane is h = let f : pt.kernel ≡ s = cc in subst (λ (x : OneKernel). Core n (moved pt (Line.Updated id k) x)) f (updated_core n pt id k h)
-line_core n pt s (Line.Migration t p) need sane is h = let f : pt.kernel ≡ s = cc in subst (λ (x : OneKernel). Core n (moved pt (Line.Migration t p) x)) f (stage_core n pt p t need h)
-line_core n pt s (Line.Stays p) need sane is h = let f : pt.kernel ≡ s = cc in subst (λ (x : OneKernel). Core n (moved pt (Line.Stays p) x)) f (stays_core n pt p h)
-line_core n pt s (Line.Idle m) need sane is h = let f : pt.kernel ≡ s = cc in subst (λ (x : OneKernel). Core n (moved pt (Line.Idle m) x)) f (quiet_core n pt (Line.Idle m) refl (refl) (λ m q. refl) (refl) (h.topic) tt h)
-line_core n pt s (Line.Resent m k) need sane is h = let f : pt.kernel ≡ s = cc in subst (λ (x : OneKernel). Core n (moved pt (Line.Resent m k) x)) f (quiet_core n pt (Line.Resent m k) refl (refl) (λ m q. refl) (refl) (h.topic) tt h)
-line_core n pt s (Line.Lacks p a b) need sane is h = let f : pt.kernel ≡ s = cc in subst (λ (x : OneKernel). Core n (moved pt (Line.Lacks p a b) x)) f (quiet_core n pt (Line.Lacks p a b) refl (refl) (λ m q. refl) (refl) (tt) tt h)
-line_core n pt s (Line.Queued id) need sane is h = let f : pt.kernel ≡ s = cc in subst (λ (x : OneKernel). Core n (moved pt (Line.Queued id) x)) f (quiet_core n pt (Line.Queued id) refl ((queued_acting (handled pt.view id) id (receiver_of (pt.view.told id))).0) (λ m q. queued_known (handled pt.view id) id (receiver_of (pt.view.told id)) m q) ((hushed pt.view (Line.Queued id) refl).told) (same_topic n pt (view_after pt.view (Line.Queued id)).topic (queued_acting (handled pt.view id) id (receiver_of (pt.view.told id))).1 h) need h)
-line_core n pt s (Line.Held id) need sane is h = let f : pt.kernel ≡ s = cc in subst (λ (x : OneKernel). Core n (moved pt (Line.Held id) x)) f (quiet_core n pt (Line.Held id) refl ((held_acting (handled pt.view id) id (receiver_of (pt.view.told id))).0) (λ m q. held_known (handled pt.view id) id (receiver_of (pt.view.told id)) m q) ((hushed pt.view (Line.Held id) refl).told) (same_topic n pt (view_after pt.view (Line.Held id)).topic (held_acting (handled pt.view id) id (receiver_of (pt.view.told id))).1 h) need h)
-line_core n pt s (Line.Proto id) need sane is h = let f : pt.kernel ≡ s = cc in subst (λ (x : OneKernel). Core n (moved pt (Line.Proto id) x)) f (quiet_core n pt (Line.Proto id) refl (proto_acting (handled pt.view id) (pt.view.told id)) (λ m q. proto_known (handled pt.view id) (pt.view.told id) m q) ((hushed pt.view (Line.Proto id) refl).told) (proto_topic n pt id (pt.view.told id) refl h) tt h)
+line_core n pt s (Line.Head d) need sane is h = let f : pt.kernel ≡ s = cc in subst (λ (x : OneKernel). LineCore n (moved pt (Line.Head d) x)) f (head_core n pt d need h)
+line_core n pt s (Line.Put a b id k q) need sane is h = let f : pt.kernel ≡ s = cc in subst (λ (x : OneKernel). LineCore n (moved pt (Line.Put a b id k q) x)) f (put_core n pt a b id k q need h)
+line_core n pt s (Line.Forwarded id m) need sane is h = let f : pt.kernel ≡ s = cc in subst (λ (x : OneKernel). LineCore n (moved pt (Line.Forwarded id m) x)) f (forwarded_core n pt id m need h)
+line_core n pt s (Line.SentOn p k) need sane is h = let f : pt.kernel ≡ s = cc in subst (λ (x : OneKernel). LineCore n (moved pt (Line.SentOn p k) x)) f (sent_core n pt p k need h)
+line_core n pt s (Line.Updated id k) need sane is h = let f : pt.kernel ≡ s = cc in subst (λ (x : OneKernel). LineCore n (moved pt (Line.Updated id k) x)) f (updated_core n pt id k h)
+line_core n pt s (Line.Migration t p) need sane is h = let f : pt.kernel ≡ s = cc in subst (λ (x : OneKernel). LineCore n (moved pt (Line.Migration t p) x)) f (stage_core n pt p t need h)
+line_core n pt s (Line.Stays p) need sane is h = let f : pt.kernel ≡ s = cc in subst (λ (x : OneKernel). LineCore n (moved pt (Line.Stays p) x)) f (stays_core n pt p h)
+line_core n pt s (Line.Idle m) need sane is h = let f : pt.kernel ≡ s = cc in subst (λ (x : OneKernel). LineCore n (moved pt (Line.Idle m) x)) f (quiet_core n pt (Line.Idle m) refl (refl) (λ m q. refl) (refl) (h.topic) tt h)
+line_core n pt s (Line.Resent m k) need sane is h = let f : pt.kernel ≡ s = cc in subst (λ (x : OneKernel). LineCore n (moved pt (Line.Resent m k) x)) f (quiet_core n pt (Line.Resent m k) refl (refl) (λ m q. refl) (refl) (h.topic) tt h)
+line_core n pt s (Line.Lacks p a b) need sane is h = let f : pt.kernel ≡ s = cc in subst (λ (x : OneKernel). LineCore n (moved pt (Line.Lacks p a b) x)) f (quiet_core n pt (Line.Lacks p a b) refl (refl) (λ m q. refl) (refl) (tt) tt h)
+line_core n pt s (Line.Queued id) need sane is h = let f : pt.kernel ≡ s = cc in subst (λ (x : OneKernel). LineCore n (moved pt (Line.Queued id) x)) f (quiet_core n pt (Line.Queued id) refl ((queued_acting (handled pt.view id) id (receiver_of (pt.view.told id))).0) (λ m q. queued_known (handled pt.view id) id (receiver_of (pt.view.told id)) m q) ((hushed pt.view (Line.Queued id) refl).told) (same_topic n pt (view_after pt.view (Line.Queued id)).topic (queued_acting (handled pt.view id) id (receiver_of (pt.view.told id))).1 h) need h)
+line_core n pt s (Line.Held id) need sane is h = let f : pt.kernel ≡ s = cc in subst (λ (x : OneKernel). LineCore n (moved pt (Line.Held id) x)) f (quiet_core n pt (Line.Held id) refl ((held_acting (handled pt.view id) id (receiver_of (pt.view.told id))).0) (λ m q. held_known (handled pt.view id) id (receiver_of (pt.view.told id)) m q) ((hushed pt.view (Line.Held id) refl).told) (same_topic n pt (view_after pt.view (Line.Held id)).topic (held_acting (handled pt.view id) id (receiver_of (pt.view.told id))).1 h) need h)
+line_core n pt s (Line.Proto id) need sane is h = let f : pt.kernel ≡ s = cc in subst (λ (x : OneKernel). LineCore n (moved pt (Line.Proto id) x)) f (quiet_core n pt (Line.Proto id) refl (proto_acting (handled pt.view id) (pt.view.told id)) (λ m q. proto_known (handled pt.view id) (pt.view.told id) m q) ((hushed pt.view (Line.Proto id) refl).told) (proto_topic n pt id (pt.view.told id) refl h) tt h)
 line_core n pt s (Line.Taken a b k) need sane is h =
     let f : pt.kernel ≡ s = cc in
     let u = view.with_pair pt.view a b (record (pt.view.pair a b) { taken = (pt.view.pair a b).taken + 1; kept = filter (λ j. not (j == k)) (pt.view.pair a b).kept }) in
     let same = taken_same u b (oldest (pt.view.pair a b)) in
-    subst (λ (t : OneKernel). Core n (moved pt (Line.Taken a b k) t)) f
+    subst (λ (t : OneKernel). LineCore n (moved pt (Line.Taken a b k) t)) f
     (quiet_core n pt (Line.Taken a b k) refl same.0 (λ m q. ap (λ (g : ℕ → Pid → Known). g m q) same.1) (hushed pt.view (Line.Taken a b k) refl).told (same_topic n pt (view_after pt.view (Line.Taken a b k)).topic same.2 h) tt h)
-line_core n pt s any_ need sane is h = let f : pt.kernel ≡ s = cc in subst (λ (x : OneKernel). Core n (moved pt any_ x)) f (quiet_core n pt any_ refl (refl) (λ m q. refl) (refl) (h.topic) tt h)
+line_core n pt s any_ need sane is h = let f : pt.kernel ≡ s = cc in subst (λ (x : OneKernel). LineCore n (moved pt any_ x)) f (quiet_core n pt any_ refl (refl) (λ m q. refl) (refl) (h.topic) tt h)

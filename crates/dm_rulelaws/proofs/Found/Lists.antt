@@ -1,9 +1,10 @@
 -- Each line leaves messages where they stood, moves them within a machine, or brings one.
-use Rattle.dm_rulelaws.proofs.Names.{Target, ◌≡◌, ◌⊎◌, ℕ, zero, suc, ◌+◌, ◌≤◌, ◌==◌, ◌&&◌, Bool, true, false, not, filter, List, [], ◌∷◌, ◌++◌, refl, ap, sym, subst, inl, inr, arith, ⊤, if◌then◌else◌, drop, Option, None, Some, cases_Bool}
-use Rattle.dm_rulelaws.proofs.Names.{Pid, pid_eq, MsgId, id_eq, MessageKind, Label, Step, id_eq-is, id_eq-same, Line, Stage, at_machine, at_pair, at_record, without_id, without_front, View, Pair, Told, About, Of, view_after, after_head}
-use Rattle.dm_rulelaws.proofs.Names.{after_label, after_put, after_taken, after_stage, after_proto, follows_up, asks_on, handled, handled_first, queued_for, held_for, dropped_for, forwarded_for, rejoins, served_told, kills, receiver_of}
-use Rattle.dm_rulelaws.proofs.Names.{taken_id, oldest, routed_on, Spot, Queue, Held, Inbox, Untaken, times, untaken, standing, eq_is, parts, at_place, pair_keeps, one_of, times-append, machine_of}
+use Rattle.dm_rulelaws.proofs.Names.{◌≡◌, ◌⊎◌, ℕ, zero, suc, ◌+◌, ◌≤◌, ◌==◌, Bool, true, false, not, filter, List, [], ◌∷◌, ◌++◌, refl, sym, subst, inl, inr, arith, ⊤, if◌then◌else◌, drop, Option, None, Some, Pid, MsgId, MessageKind, Label}
+use Rattle.dm_rulelaws.proofs.Names.{Step, id_eq-is, id_eq-same, Line, Stage, at_machine, at_pair, at_record, without_id, without_front, View, Pair, Told, About, Of, view_after, after_head, after_label, after_put, after_taken, after_stage}
+use Rattle.dm_rulelaws.proofs.Names.{after_proto, follows_up, asks_on, handled, handled_first, queued_for, held_for, dropped_for, forwarded_for, rejoins, served_told, kills, receiver_of, taken_id, oldest, routed_on, Spot, Queue, Held}
+use Rattle.dm_rulelaws.proofs.Names.{Inbox, Untaken, times, untaken, standing, eq_is, parts, at_place, pair_keeps, times-append, machine_of, Target}
 use Rattle.dm_rule.specs.View as view
+use Rattle.dm_rulelaws.proofs.Based.Sets.{set_all, without_fewer, front_fewer, last_of}
 
 -- of each message that stands somewhere, with the machine
 abbrev pub Places : (MsgId → ℕ → Type 0) → View → Type 0
@@ -11,82 +12,37 @@ Places G v = (i : MsgId) (z : Spot) → 1 ≤ standing v i z → G i (machine_of
 
 places_of : (G : MsgId → ℕ → Type 0) (v : View) → ((m : ℕ) (p : Pid) (i : MsgId) → 1 ≤ times i (v.queue m p) → G i m) → ((m : ℕ) (p : Pid) (i : MsgId) → 1 ≤ times i (v.held m p) → G i m) → ((m : ℕ) (i : MsgId) → 1 ≤ times i (v.inbox m) → G i m)
     → ((a b : ℕ) (i : MsgId) → 1 ≤ times i (untaken (v.pair a b)) → G i b) → Places G v
-places_of G v queue held inbox out i (Queue m p) e = queue m p i e
-places_of G v queue held inbox out i (Held m p) e = held m p i e
-places_of G v queue held inbox out i (Inbox m) e = inbox m i e
-places_of G v queue held inbox out i (Untaken a b) e = out a b i e
+places_of G v h1 h2 h3 h4 = search arith
 
 -- lists that are set
 set_machine : (G : MsgId → ℕ → Type 0) (f : ℕ → List MsgId) (m : ℕ) (xs : List MsgId) → ((i : MsgId) → 1 ≤ times i xs → G i m) → ((n : ℕ) (i : MsgId) → 1 ≤ times i (f n) → G i n) → (n : ℕ) (i : MsgId) → 1 ≤ times i (at_machine f m xs n) → G i n
-set_machine G f m xs here rest n i e = elim (cases_Bool (m == n)) [
-  | inl same ↦ subst (G i) (eq_is m n same) (here i (subst (λ (ys : List MsgId). 1 ≤ times i ys) (ap (λ (c : Bool). if c then xs else f n) same) e))
-  | inr apart ↦ rest n i (subst (λ (ys : List MsgId). 1 ≤ times i ys) (ap (λ (c : Bool). if c then xs else f n) apart) e)
-]
+set_machine G f m xs here rest n i e = search (arith, eq_is)
 
 set_record : (G : MsgId → ℕ → Type 0) (f : ℕ → Pid → List MsgId) (m : ℕ) (p : Pid) (xs : List MsgId) → ((i : MsgId) → 1 ≤ times i xs → G i m) → ((n : ℕ) (q : Pid) (i : MsgId) → 1 ≤ times i (f n q) → G i n)
     → (n : ℕ) (q : Pid) (i : MsgId) → 1 ≤ times i (at_record f m p xs n q) → G i n
-set_record G f m p xs here rest n q i e = elim (cases_Bool ((m == n) && pid_eq p q)) [
-  | inl same ↦ subst (G i) (eq_is m n (parts (m == n) (pid_eq p q) same).0) (here i (subst (λ (ys : List MsgId). 1 ≤ times i ys) (ap (λ (c : Bool). if c then xs else f n q) same) e))
-  | inr apart ↦ rest n q i (subst (λ (ys : List MsgId). 1 ≤ times i ys) (ap (λ (c : Bool). if c then xs else f n q) apart) e)
-]
+set_record G f m p xs here rest n q i e = set_all (λ k r ys. (j : MsgId) → 1 ≤ times j ys → G j k) f m p xs here (λ k r off. rest k r) n q i e
 
 set_pair : (G : MsgId → ℕ → Type 0) (f : ℕ → ℕ → Pair) (a b : ℕ) (x : Pair) → ((i : MsgId) → 1 ≤ times i (untaken x) → G i b) → ((c d : ℕ) (i : MsgId) → 1 ≤ times i (untaken (f c d)) → G i d)
     → (c d : ℕ) (i : MsgId) → 1 ≤ times i (untaken (at_pair f a b x c d)) → G i d
-set_pair G f a b x here rest c d i e = elim (cases_Bool ((a == c) && (b == d))) [
-  | inl same ↦ subst (G i) (eq_is b d (parts (a == c) (b == d) same).1) (here i (subst (λ (y : Pair). 1 ≤ times i (untaken y)) (ap (λ (t : Bool). if t then x else f c d) same) e))
-  | inr apart ↦ rest c d i (subst (λ (y : Pair). 1 ≤ times i (untaken y)) (ap (λ (t : Bool). if t then x else f c d) apart) e)
-]
+set_pair G f a b x here rest c d i e = search (arith, eq_is, parts)
 
 -- what stands in a shorter list stood in the longer
-one_step : (i j : MsgId) (xs ys : List MsgId) → (1 ≤ times i ys → 1 ≤ times i xs) → 1 ≤ times i (j ∷ ys) → 1 ≤ times i (j ∷ xs)
-one_step i j xs ys h e = grow (one_of i j) (times i xs) (times i ys) h e
-  where
-    grow : (a b c : ℕ) → (1 ≤ c → 1 ≤ b) → 1 ≤ a + c → 1 ≤ a + b
-    grow zero b c h e = let f = h (omega (arith, e)) in omega (arith, f)
-    grow (suc a) b c h e = omega arith
-
 pub more_front : (i j : MsgId) (xs : List MsgId) → 1 ≤ times i xs → 1 ≤ times i (j ∷ xs)
 more_front i j xs e = omega (arith, e)
-
-front_fewer : (i j : MsgId) (xs : List MsgId) → 1 ≤ times i (without_front j xs) → 1 ≤ times i xs
-front_fewer i j [] e = e
-front_fewer i j (x ∷ xs) e = by (id_eq j x) e
-  where
-    by : (c : Bool) → 1 ≤ times i (if c then xs else x ∷ xs) → 1 ≤ times i (x ∷ xs)
-    by true f = more_front i x xs f
-    by false f = f
 
 first_fewer : (i : MsgId) (xs : List MsgId) → 1 ≤ times i (view.without_first xs) → 1 ≤ times i xs
 first_fewer i [] e = e
 first_fewer i (x ∷ xs) e = more_front i x xs e
 
-id_fewer : (i j : MsgId) (xs : List MsgId) → 1 ≤ times i (without_id j xs) → 1 ≤ times i xs
-id_fewer i j [] e = e
-id_fewer i j (x ∷ xs) e = id_by i x xs (without_id j xs) (id_eq j x) (id_fewer i j xs) e
-  where
-    id_by : (i x : MsgId) (xs ys : List MsgId) (c : Bool) → (1 ≤ times i ys → 1 ≤ times i xs) → 1 ≤ times i (if c then xs else x ∷ ys) → 1 ≤ times i (x ∷ xs)
-    id_by i x xs ys true h f = more_front i x xs f
-    id_by i x xs ys false h f = one_step i x xs ys h f
-
 -- of two lists put together, or with one more
 either : (i : MsgId) (xs ys : List MsgId) → 1 ≤ times i (xs ++ ys) → (1 ≤ times i xs) ⊎ (1 ≤ times i ys)
-either i xs ys e = by (times i xs) (times i ys) (let f = times-append i xs ys in omega (arith, e, f))
-  where
-    by : (a b : ℕ) → 1 ≤ a + b → (1 ≤ a) ⊎ (1 ≤ b)
-    by zero b h = inr (omega (arith, h))
-    by (suc a) b h = inl (omega arith)
+either i xs ys h1 = search (arith, times-append)
 
 one_is : (i j : MsgId) → 1 ≤ times i (j ∷ []) → i ≡ j
-one_is i j e = elim (cases_Bool (id_eq i j)) [
-  | inl same ↦ id_eq-is i j same
-  | inr apart ↦ absurd (let f : one_of i j ≡ 0 = ap (λ (c : Bool). if c then 1 else 0) apart in omega (arith, e, f))
-]
+one_is i j e = search (arith, id_eq-is)
 
 last_or : (G : MsgId → ℕ → Type 0) (m : ℕ) (j : MsgId) (xs : List MsgId) → G j m → ((i : MsgId) → 1 ≤ times i xs → G i m) → (i : MsgId) → 1 ≤ times i (xs ++ j ∷ []) → G i m
-last_or G m j xs new old i e = elim (either i xs (j ∷ []) e) [
-  | inl was ↦ old i was
-  | inr is ↦ subst (λ (k : MsgId). G k m) (sym (one_is i j is)) new
-]
+last_or G m j xs new old i e = last_of (G i m) i j xs e (old i) (λ same. subst (λ (k : MsgId). G k m) (sym same) new)
 
 drop_suc : (i : MsgId) (xs : List MsgId) (k : ℕ) → 1 ≤ times i (drop (suc k) xs) → 1 ≤ times i (drop k xs)
 drop_suc i [] zero e = e
@@ -112,16 +68,12 @@ drop_last G j (x ∷ xs) (suc k) new old i e = drop_last G j xs k new old i e
 
 -- the same lists
 places_as : (G : MsgId → ℕ → Type 0) (v w : View) → w.queue ≡ v.queue → w.held ≡ v.held → w.inbox ≡ v.inbox → ((a b : ℕ) → untaken (w.pair a b) ≡ untaken (v.pair a b)) → Places G v → Places G w
-places_as G v w queue held inbox out h =
-    places_of G w (λ m p i e. h i (Queue m p) (subst (λ (f : ℕ → Pid → List MsgId). 1 ≤ times i (f m p)) queue e)) (λ m p i e. h i (Held m p) (subst (λ (f : ℕ → Pid → List MsgId). 1 ≤ times i (f m p)) held e))
-    (λ m i e. h i (Inbox m) (subst (λ (f : ℕ → List MsgId). 1 ≤ times i (f m)) inbox e)) (λ a b i e. h i (Untaken a b) (subst (λ (ys : List MsgId). 1 ≤ times i ys) (out a b) e))
+places_as G v w queue held inbox out h = search (arith, places_of)
 
 -- another inbox on the acting machine
 places_inbox : (G : MsgId → ℕ → Type 0) (v w : View) (m : ℕ) (xs : List MsgId) → w.queue ≡ v.queue → w.held ≡ v.held → w.inbox ≡ at_machine v.inbox m xs → ((a b : ℕ) → untaken (w.pair a b) ≡ untaken (v.pair a b)) → ((i : MsgId) → 1 ≤ times i xs → G i m) → Places G v
     → Places G w
-places_inbox G v w m xs queue held inbox out here h =
-    places_of G w (λ n p i e. h i (Queue n p) (subst (λ (f : ℕ → Pid → List MsgId). 1 ≤ times i (f n p)) queue e)) (λ n p i e. h i (Held n p) (subst (λ (f : ℕ → Pid → List MsgId). 1 ≤ times i (f n p)) held e))
-    (λ n i e. set_machine G v.inbox m xs here (λ k j f. h j (Inbox k) f) n i (subst (λ (f : ℕ → List MsgId). 1 ≤ times i (f n)) inbox e)) (λ a b i e. h i (Untaken a b) (subst (λ (ys : List MsgId). 1 ≤ times i ys) (out a b) e))
+places_inbox G v w m xs queue held inbox out here h = search (arith, places_of, set_machine, v.inbox)
 
 pub places_handled : (G : MsgId → ℕ → Type 0) (v : View) (id : MsgId) → Places G v → Places G (handled v id)
 places_handled G v id h = places_inbox G v (handled v id) v.acting (without_front id (v.inbox v.acting)) refl refl refl (λ a b. refl) (λ i e. h i (Inbox v.acting) (front_fewer i id (v.inbox v.acting) e)) h
@@ -142,11 +94,7 @@ places_held G v id (Some p) new h =
     (λ m i e. h i (Inbox m) e) (λ a b i e. h i (Untaken a b) e)
 
 places_queue_less : (G : MsgId → ℕ → Type 0) (v w : View) (p : Pid) (xs : List MsgId) → w.queue ≡ at_record v.queue v.acting p xs → w.held ≡ v.held → w.inbox ≡ v.inbox → w.pair ≡ v.pair → ((i : MsgId) → 1 ≤ times i xs → 1 ≤ times i (v.queue v.acting p)) → Places G v → Places G w
-places_queue_less G v w p xs queue held inbox pair less h =
-    places_of G w
-    (λ m q i e. set_record G v.queue v.acting p xs (λ j f. h j (Queue v.acting p) (less j f)) (λ n r j f. h j (Queue n r) f) m q i (subst (λ (f : ℕ → Pid → List MsgId). 1 ≤ times i (f m q)) queue e))
-    (λ m q i e. h i (Held m q) (subst (λ (f : ℕ → Pid → List MsgId). 1 ≤ times i (f m q)) held e)) (λ m i e. h i (Inbox m) (subst (λ (f : ℕ → List MsgId). 1 ≤ times i (f m)) inbox e))
-    (λ a b i e. h i (Untaken a b) (subst (λ (f : ℕ → ℕ → Pair). 1 ≤ times i (untaken (f a b))) pair e))
+places_queue_less G v w p xs queue held inbox pair less h = search (arith, places_of, set_record, v.queue, v.acting)
 
 places_dropped : (G : MsgId → ℕ → Type 0) (v : View) (id : MsgId) (o : Option Pid) → Places G v → Places G (dropped_for v id o)
 places_dropped G v id None h = h
@@ -162,11 +110,7 @@ places_rejoins G v p h =
 
 -- those that wait for a process are taken from it
 places_cleared : (G : MsgId → ℕ → Type 0) (v w : View) (p : Pid) → w.queue ≡ at_record v.queue v.acting p [] → w.held ≡ at_record v.held v.acting p [] → w.inbox ≡ v.inbox → w.pair ≡ v.pair → Places G v → Places G w
-places_cleared G v w p queue held inbox pair h =
-    places_of G w
-    (λ m q i e. set_record G v.queue v.acting p [] (λ j f. absurd (omega (arith, f))) (λ n r j f. h j (Queue n r) f) m q i (subst (λ (f : ℕ → Pid → List MsgId). 1 ≤ times i (f m q)) queue e))
-    (λ m q i e. set_record G v.held v.acting p [] (λ j f. absurd (omega (arith, f))) (λ n r j f. h j (Held n r) f) m q i (subst (λ (f : ℕ → Pid → List MsgId). 1 ≤ times i (f m q)) held e)) (λ m i e. h i (Inbox m) (subst (λ (f : ℕ → List MsgId). 1 ≤ times i (f m)) inbox e))
-    (λ a b i e. h i (Untaken a b) (subst (λ (f : ℕ → ℕ → Pair). 1 ≤ times i (untaken (f a b))) pair e))
+places_cleared G v w p queue held inbox pair h = search (arith, places_of, set_record, v.queue, v.acting, v.held)
 
 -- a message that a machine takes
 places_taken_id : (G : MsgId → ℕ → Type 0) (v : View) (b : ℕ) (o : Option MsgId) → ((i : MsgId) → o ≡ Some i → G i b) → Places G v → Places G (taken_id v b o)
@@ -174,10 +118,7 @@ places_taken_id G v b None new h = h
 places_taken_id G v b (Some j) new h = places_inbox G v (taken_id v b (Some j)) b (v.inbox b ++ j ∷ []) refl refl refl (λ c d. refl) (last_or G b j (v.inbox b) (new j refl) (λ i f. h i (Inbox b) f)) h
 
 oldest_stands : (p : Pair) (i : MsgId) → oldest p ≡ Some i → 1 ≤ times i (untaken p)
-oldest_stands p i e =
-    let f : times i (untaken p) ≡ one_of i i + times i (drop (suc p.taken) p.ids) = ap (times i) (at_place p.ids p.taken i e) in
-    let g : one_of i i ≡ 1 = ap (λ (c : Bool). if c then 1 else 0) (id_eq-same i) in
-    omega (arith, f, g)
+oldest_stands p i e = search (arith, p.taken, p.ids, at_place, id_eq-same)
 
 places_taken : (G : MsgId → ℕ → Type 0) (v : View) (a b n : ℕ) → Places G v → Places G (after_taken v a b n)
 places_taken G v a b n h =
@@ -218,7 +159,7 @@ pub places_label : (G : MsgId → ℕ → Type 0) (v : View) (l : Label) → Pla
 places_label G v (Label.Ran p k) h = places_as G v (after_label v (Label.Ran p k)) refl refl refl (λ a b. refl) h
 places_label G v (Label.End p y) h = places_as G v (after_label v (Label.End p y)) refl refl refl (λ a b. refl) h
 places_label G v (Label.Refuse p id c) h = places_as G v (after_label v (Label.Refuse p id c)) refl refl refl (λ a b. refl) h
-places_label G v (Label.Receive p id) h = places_queue_less G v (after_label v (Label.Receive p id)) p (without_id id (v.queue v.acting p)) refl refl refl refl (λ i e. id_fewer i id (v.queue v.acting p) e) h
+places_label G v (Label.Receive p id) h = places_queue_less G v (after_label v (Label.Receive p id)) p (without_id id (v.queue v.acting p)) refl refl refl refl (λ i e. without_fewer i id (v.queue v.acting p) e) h
 places_label G v (Label.Dropped id) h = places_dropped G (handled v id) id (receiver_of (v.told id)) (places_handled G v id h)
 places_label G v (Label.Served id) h = places_served G (handled v id) (v.told id) (places_handled G v id h)
 places_label G v (Label.Gone id) h = places_handled G v id h
@@ -249,9 +190,7 @@ places_asks G v (Of p) h = places_as G v (asks_on v (Of p)) refl refl refl (λ a
 places_asks G v _ h = h
 
 places_follows : (G : MsgId → ℕ → Type 0) (v : View) (a : About) (k : MessageKind) → Places G v → Places G (follows_up v a k)
-places_follows G v a MessageKind.State h = places_asks G v a h
-places_follows G v a MessageKind.Memory h = places_asks G v a h
-places_follows G v a _ h = h
+places_follows G v a k h1 = search (arith, places_asks)
 
 places_proto : (G : MsgId → ℕ → Type 0) (v : View) (o : Option Told) → Places G v → Places G (after_proto v o)
 places_proto G v None h = places_as G v (after_proto v None) refl refl refl (λ a b. refl) h

@@ -1,11 +1,11 @@
 -- The parts of a group keep where messages stand, where each has what it needs.
-use Rattle.dm_rulelaws.proofs.Names.{◌≡◌, ℕ, ◌+◌, ◌<◌, ◌==◌, Bool, true, false, List, [], ◌∷◌, length, refl, ap, ◌∙◌, sym, subst, inl, arith, ⊤, if◌then◌else◌, Option, None, Some, false≢true, Pid, pid_of, MsgId, MessageKind, plain_kind}
-use Rattle.dm_rulelaws.proofs.Names.{PlainMessage, PlainWhat, manager, id_eq-same, bind-is, Line, Load, at_machine, View, Told, is_kernels, own_id, Holder, Receiver, Sender, Gets, given, unmoved, goes_between, own_gives, first_gives, Point}
-use Rattle.dm_rulelaws.proofs.Names.{label_of, kernel_after, moved, after_line, after, Part, Says, Routes, Again, Owns, Transmits, Spelled, lines_of, puts, goes_out, packet_line, spelled, not_kernels, not_first, Sane, AllSayable, part_sane}
-use Rattle.dm_rulelaws.proofs.Names.{is_own, by_parts}
-use Rattle.dm_rulelaws.proofs.Found.Core.{Knows, IsReal, Core}
+use Rattle.dm_rulelaws.proofs.Names.{◌≡◌, ℕ, ◌<◌, true, false, List, [], ◌∷◌, refl, ◌∙◌, sym, arith, ⊤, Option, None, Some, false≢true, Pid, pid_of, MsgId, MessageKind, plain_kind, PlainMessage, PlainWhat, manager, id_eq-same, bind-is}
+use Rattle.dm_rulelaws.proofs.Names.{Line, Told, is_kernels, own_id, Holder, Receiver, Sender, given, goes_between, own_gives, Point, moved, after, Part, Says, Routes, Again, Owns, Transmits, Spelled, lines_of, puts, packet_line, spelled}
+use Rattle.dm_rulelaws.proofs.Names.{not_kernels, not_first, Sane, AllSayable, part_sane, is_own, by_parts}
+use Rattle.dm_rulelaws.proofs.Found.Core.{Knows, IsReal, LineCore}
 use Rattle.dm_rulelaws.proofs.Found.Puts.{NeedsPut, put_core}
 use Rattle.dm_rulelaws.proofs.Found.Lines.{NeedsLine, line_core, packet_core}
+use Rattle.dm_rulelaws.proofs.Based.Needs.{by_puts}
 
 -- the next message of the acting machine's kernel
 pub record NeedsOwn (n : ℕ) (pt : Point) (k : MessageKind) (q : Pid) (b : ℕ) : Type 0 where
@@ -17,11 +17,7 @@ pub record NeedsOwn (n : ℕ) (pt : Point) (k : MessageKind) (q : Pid) (b : ℕ)
 
 -- from kernel to kernel
 pub between_own : (n : ℕ) (pt : Point) (k : MessageKind) (m : ℕ) → own_gives pt.kernel pt.view pt.addresses (own_id pt.view) (pid_of m 0) k ≡ goes_between pt.view (own_id pt.view) (pid_of m 0) → (k ≡ MessageKind.Migrate → ⊥) → is_own k ≡ true → m < n → NeedsOwn n pt k (pid_of m 0) m
-between_own n pt k m gives none own le =
-    let id = own_id pt.view in
-    let to : (given pt.addresses (own_gives pt.kernel pt.view pt.addresses id (pid_of m 0) k) (Receiver id)).at ≡ m =
-    ap (λ (gs : List Gets). (given pt.addresses gs (Receiver id)).at) gives ∙ ap (λ (c : Bool). (if c then unmoved m else pt.addresses (Receiver id)).at) (id_eq-same id) in
-    record { knows = inl to; from = λ e. absurd (none e); at = to; real = inl (refl, le); own = own }
+between_own n pt k m gives none own le = search (arith, pt.view, pt.addresses, pt.kernel, id_eq-same)
 
 -- what a part needs
 abbrev pub NeedsPart : ℕ → Point → Part → Type 0
@@ -31,30 +27,11 @@ NeedsPart n pt (Owns k q b) = NeedsOwn n pt k q b
 NeedsPart n pt _ = ⊤
 
 -- a put with its packet
-puts_by : (n : ℕ) (pt next : Point) (b : ℕ) (i : MsgId) (k : MessageKind) (q : Pid) (c d : Bool) → Core n (moved pt (Line.Put pt.view.acting b i k q) pt.kernel) → ((p : Point) (x y z : ℕ) (l : Load) → Core n p → Core n (moved p (Line.Packet x y z l) p.kernel))
-    → after pt (Line.Put pt.view.acting b i k q ∷ (if c then [] else if d then packet_line pt.view pt.view.acting b (Load.Data (length (pt.view.pair pt.view.acting b).ids)) ∷ [] else [])) ≡ Some next → Core n next
-puts_by n pt next b i k q true d h keep is = let f : moved pt (Line.Put pt.view.acting b i k q) pt.kernel ≡ next = cc in subst (Core n) f h
-puts_by n pt next b i k q false false h keep is = let f : moved pt (Line.Put pt.view.acting b i k q) pt.kernel ≡ next = cc in subst (Core n) f h
-puts_by n pt next b i k q false true h keep is =
-    let m = length (pt.view.pair pt.view.acting b).wire in
-    let l = Load.Data (length (pt.view.pair pt.view.acting b).ids) in
-    let mid = moved pt (Line.Put pt.view.acting b i k q) pt.kernel in
-    let f : moved mid (Line.Packet pt.view.acting b m l) mid.kernel ≡ next = cc in
-    subst (Core n) f (keep mid pt.view.acting b m l h)
+puts_core : (n : ℕ) (pt next : Point) (b : ℕ) (i : MsgId) (k : MessageKind) (q : Pid) (ls : List Line) → NeedsPut n pt b i k q → LineCore n pt → Some (puts pt.view b i k q) ≡ Some ls → after pt ls ≡ Some next → LineCore n next
+puts_core n pt next b i k q ls need h = by_puts (LineCore n) pt next b i k q ls (put_core n pt pt.view.acting b i k q need h) (packet_core n)
 
-puts_core : (n : ℕ) (pt next : Point) (b : ℕ) (i : MsgId) (k : MessageKind) (q : Pid) (ls : List Line) → NeedsPut n pt b i k q → Core n pt → Some (puts pt.view b i k q) ≡ Some ls → after pt ls ≡ Some next → Core n next
-puts_core n pt next b i k q ls need h is leads =
-    let f : puts pt.view b i k q ≡ ls = cc in
-    puts_by n pt next b i k q (pt.view.acting == b) (goes_out (pt.view.pair pt.view.acting b)) (put_core n pt pt.view.acting b i k q need h) (λ p x y z l. packet_core n p x y z l) (ap (after pt) f ∙ leads)
-
-one_line : (n : ℕ) (pt next : Point) (l : Line) (ls : List Line) → NeedsLine n pt l → Sane pt → Some (l ∷ []) ≡ Some ls → after pt ls ≡ Some next → Core n pt → Core n next
-one_line n pt next l ls need sane is leads h =
-    let f : l ∷ [] ≡ ls = cc in
-    let (mid, first, last) = bind-is (after_line pt l) (λ q. after q []) next (ap (after pt) f ∙ leads) in
-    let (s, step_, then_) = bind-is (kernel_after pt.kernel (label_of l)) (λ s. Some (moved pt l s)) mid first in
-    let g : moved pt l s ≡ mid = cc in
-    let e : mid ≡ next = cc in
-    subst (Core n) (g ∙ e) (line_core n pt s l need sane step_ h)
+one_line : (n : ℕ) (pt next : Point) (l : Line) (ls : List Line) → NeedsLine n pt l → Sane pt → Some (l ∷ []) ≡ Some ls → after pt ls ≡ Some next → LineCore n pt → LineCore n next
+one_line n pt next l ls need sane is leads h = search (arith, bind-is, pt.kernel, line_core)
 
 -- a message of the bag is none of a kernel's
 pub plain_own : (w : PlainWhat) → is_own (plain_kind w) ≡ false
@@ -75,7 +52,7 @@ own_outside pt sane = bag_none pt (own_id pt.view) (pt.kernel.bag (own_id pt.vie
 pub own_fresh : (pt : Point) → Sane pt → pt.view.told (own_id pt.view) ≡ None
 own_fresh pt sane = sane.numbered pt.view.acting (pt.view.count pt.view.acting) (omega arith)
 
-pub part_core : (n : ℕ) (pt next : Point) (p : Part) (ls : List Line) → NeedsPart n pt p → Sane pt → lines_of pt p ≡ Some ls → after pt ls ≡ Some next → Core n pt → Core n next
+pub part_core : (n : ℕ) (pt next : Point) (p : Part) (ls : List Line) → NeedsPart n pt p → Sane pt → lines_of pt p ≡ Some ls → after pt ls ≡ Some next → LineCore n pt → LineCore n next
 part_core n pt next (Says l) ls need sane is leads h = one_line n pt next l ls need sane is leads h
 part_core n pt next (Routes i) ls need sane is leads h =
     let (m, there, last) = bind-is (pt.kernel.bag i) (λ m. Some (puts pt.view (pt.addresses (Receiver i)).at i (plain_kind m.what) m.to)) ls is in
@@ -108,8 +85,8 @@ loose_need n pt (p ∷ ps) h = (h.0 pt, λ ls next is leads. loose_need n next p
 pub first_need : (n : ℕ) (pt : Point) (p : Part) (ps : List Part) → NeedsPart n pt p → AllLoose n ps → AllNeed n pt (p ∷ ps)
 first_need n pt p ps need h = (need, λ ls next is leads. loose_need n next ps h)
 
-pub parts_core : (n : ℕ) (ps : List Part) (pt : Point) (w : Spelled) → AllSayable ps → AllNeed n pt ps → Sane pt → spelled pt ps ≡ Some w → Core n pt → Core n w.point
-parts_core n qs q w ok need sane is h = by_parts (λ ps pt v. AllSayable ps → AllNeed n pt ps → Sane pt → Core n pt → Core n v.point) (λ pt ok need sane h. h)
+pub parts_core : (n : ℕ) (ps : List Part) (pt : Point) (w : Spelled) → AllSayable ps → AllNeed n pt ps → Sane pt → spelled pt ps ≡ Some w → LineCore n pt → LineCore n w.point
+parts_core n qs q w ok need sane is h = by_parts (λ ps pt v. AllSayable ps → AllNeed n pt ps → Sane pt → LineCore n pt → LineCore n v.point) (λ pt ok need sane h. h)
     (λ p ps pt next ls z lines leads rest ok need sane h. rest ok.1 (need.1 ls next lines leads) (part_sane pt next p ls ok.0 lines leads sane) (part_core n pt next p ls need.0 sane lines leads h)) qs q w is ok need sane h
 
 -- a message that was put before is put again: nothing but lists and wires changes
@@ -121,30 +98,9 @@ pub record Same (v w : Point) : Type 0 where
   pub known : (m : ℕ) (p : Pid) → w.view.known m p ≡ v.view.known m p
 
 again_put : (pt : Point) (b : ℕ) (i : MsgId) (k : MessageKind) (q : Pid) (t : Told) → pt.view.told i ≡ Some t → Same pt (moved pt (Line.Put pt.view.acting b i k q) pt.kernel)
-again_put pt b i k q t told = record {
-  kernel = refl;
-  addresses = λ h. ap (λ (o : Option Told). given pt.addresses (first_gives o (own_gives pt.kernel pt.view pt.addresses i q k)) h) told;
-  own = ap (λ (c : Bool). own_by pt.view (if c then at_machine pt.view.count i.from.home (pt.view.count i.from.home + 1) else pt.view.count)) (not_first i (pt.view.told i) t told);
-  acting = refl;
-  known = λ m p. refl;
-}
-  where
-    own_by : View → (ℕ → ℕ) → MsgId
-    own_by v count = own_id (record v { count = count })
-
-again_by : (pt next : Point) (b : ℕ) (i : MsgId) (k : MessageKind) (q : Pid) (c d : Bool) → Same pt (moved pt (Line.Put pt.view.acting b i k q) pt.kernel)
-    → after pt (Line.Put pt.view.acting b i k q ∷ (if c then [] else if d then packet_line pt.view pt.view.acting b (Load.Data (length (pt.view.pair pt.view.acting b).ids)) ∷ [] else [])) ≡ Some next → Same pt next
-again_by pt next b i k q true d h is = let f : moved pt (Line.Put pt.view.acting b i k q) pt.kernel ≡ next = cc in subst (Same pt) f h
-again_by pt next b i k q false false h is = let f : moved pt (Line.Put pt.view.acting b i k q) pt.kernel ≡ next = cc in subst (Same pt) f h
-again_by pt next b i k q false true h is =
-    let m = length (pt.view.pair pt.view.acting b).wire in
-    let l = Load.Data (length (pt.view.pair pt.view.acting b).ids) in
-    let mid = moved pt (Line.Put pt.view.acting b i k q) pt.kernel in
-    let f : moved mid (Line.Packet pt.view.acting b m l) mid.kernel ≡ next = cc in
-    subst (Same pt) f (record { kernel = h.kernel; addresses = h.addresses; own = h.own; acting = h.acting; known = h.known })
+again_put pt b i k q t h1 = search (arith, pt.addresses, pt.kernel, pt.view, pt.view.count, i.from.home, not_first, pt.view.told)
 
 pub again_same : (pt next : Point) (i : MsgId) (b : ℕ) (ls : List Line) → lines_of pt (Again i b) ≡ Some ls → after pt ls ≡ Some next → Same pt next
 again_same pt next i b ls is leads =
     let (t, told, last) = bind-is (pt.view.told i) (λ t. Some (puts pt.view b i t.kind t.receiver)) ls is in
-    let f : puts pt.view b i t.kind t.receiver ≡ ls = cc in
-    again_by pt next b i t.kind t.receiver (pt.view.acting == b) (goes_out (pt.view.pair pt.view.acting b)) (again_put pt b i t.kind t.receiver t told) (ap (after pt) f ∙ leads)
+    by_puts (Same pt) pt next b i t.kind t.receiver ls (again_put pt b i t.kind t.receiver t told) (λ o x y z l h. record { kernel = h.kernel; addresses = h.addresses; own = h.own; acting = h.acting; known = h.known }) last leads

@@ -90,10 +90,7 @@ two_get : (P : Pid → Place → Type 0) (s : OneKernel) (v : View) (id : MsgId)
 two_get P s v id to from bag told = ((λ q e. absurd (unnamed_receiver s v id q bag told e)), ((λ q e. absurd (unnamed_sender s v id q bag told e)), tt))
 
 own_gets_by : (P : Pid → Place → Type 0) (s : OneKernel) (v : View) (a : Addresses) (id : MsgId) (q : Pid) (w : Sort) → s.bag id ≡ None → v.told id ≡ None → AllGet P s v (own_given s v a id q w)
-own_gets_by P s v a id q Sort.Request bag told = two_get P s v id _ _ bag told
-own_gets_by P s v a id q (Sort.Between passage) bag told = two_get P s v id _ _ bag told
-own_gets_by P s v a id q Sort.Unsent bag told = two_get P s v id _ _ bag told
-own_gets_by P s v a id q _ bag told = tt
+own_gets_by P s v a id q w h1 h2 = search (arith, two_get)
 
 own_gets : (P : Pid → Place → Type 0) (s : OneKernel) (v : View) (a : Addresses) (id : MsgId) (q : Pid) (k : MessageKind) → s.bag id ≡ None → v.told id ≡ None → AllGet P s v (own_gives s v a id q k)
 own_gets P s v a id q k bag told = own_gets_by P s v a id q (sort_of k) bag told
@@ -145,14 +142,4 @@ put_again P s v a x y id k q u told h g r e =
 -- what is told behind a put: what was told before, or this
 pub put_tells : (v : View) (x y : ℕ) (id : MsgId) (k : MessageKind) (q : Pid) (i : MsgId) (u : Told) → (after_put v x y id k q).told i ≡ Some u
     → (v.told i ≡ Some u) ⊎ ((id ≡ i) × (v.told id ≡ None) × (record { kind = k; receiver = q; about = v.topic } ≡ u))
-put_tells v x y id k q i u e = elim (cases_Bool (id_eq id i)) [
-  | inl same ↦
-      let is : id ≡ i = id_eq-is id i same in
-      tells_by (v.told id) refl is (sym (put_at v x y id k q) ∙ ap (after_put v x y id k q).told is ∙ e)
-  | inr apart ↦ inl (sym (put_told_off v x y id i k q apart) ∙ e)
-]
-  where
-    tells_by : (o : Option Told) → v.told id ≡ o → id ≡ i → Some (view.first_told o (record { kind = k; receiver = q; about = v.topic })) ≡ Some u
-        → (v.told i ≡ Some u) ⊎ ((id ≡ i) × (v.told id ≡ None) × (record { kind = k; receiver = q; about = v.topic } ≡ u))
-    tells_by None was is f = inr (is, was, (let g : record { kind = k; receiver = q; about = v.topic } ≡ u = cc in g))
-    tells_by (Some t) was is f = inl (ap v.told (sym is) ∙ was ∙ f)
+put_tells v x y id k q i u h1 = search (arith, id_eq-is, v.told, put_at, put_told_off, v.topic)

@@ -1,14 +1,14 @@
 -- Whom addresses are of is a kernel or a server of a machine that there is, or a process that its home knows.
-use Rattle.dm_rulelaws.proofs.Names.{SlotFits, PendingFits, Note, AskedBy, asker_in, ◌≡◌, ◌⊎◌, ℕ, zero, suc, ◌+◌, ◌<◌, ◌≤◌, ◌==◌, ◌&&◌, ◌||◌, Bool, true, false, is_some, nat_le, nat_lt, List, [], ◌∷◌, refl, ap, ◌∙◌, sym, subst, inl, inr}
-use Rattle.dm_rulelaws.proofs.Names.{arith, if◌then◌else◌, slice_get, Option, None, Some, nat_tests, Pid, pid_eq, PlainLink, link_at, MsgId, PlainMessage, PlainWhat, switchboard, manager, PlainProcess, PlainStatus, Moving, Life, NamedLink}
-use Rattle.dm_rulelaws.proofs.Names.{Pending, OneKernel, Made, alive-is, View, Holder, Slot, Owner, Receiver, Sender, Enclosed, Child, Name, Answer, link_target, slot_of, owner_in, owner_of, name_link, answer_link, links_in, to_of}
-use Rattle.dm_rulelaws.proofs.Names.{sender_of, enclosed_of, names, Point, Each, has_bytes, is_server, gives_no_right, LinkFits, move_fits, WhatFits, awaits, is_fixed, or_first}
+use Rattle.dm_rulelaws.proofs.Names.{◌≡◌, ◌⊎◌, ℕ, zero, suc, ◌<◌, ◌≤◌, ◌==◌, ◌||◌, Bool, true, false, is_some, nat_le, nat_lt, List, [], ◌∷◌, refl, ap, ◌∙◌, sym, subst, inl, inr, arith, if◌then◌else◌, slice_get, Option, None, Some}
+use Rattle.dm_rulelaws.proofs.Names.{nat_tests, Pid, pid_eq, PlainLink, link_at, MsgId, PlainMessage, PlainWhat, switchboard, manager, PlainProcess, PlainStatus, Life, NamedLink, Pending, OneKernel, Made, alive-is, View, Holder, Slot}
+use Rattle.dm_rulelaws.proofs.Names.{Owner, Receiver, Sender, Enclosed, Child, Name, Answer, link_target, slot_of, owner_in, owner_of, name_link, answer_link, links_in, to_of, sender_of, enclosed_of, names, Point, Each, has_bytes}
+use Rattle.dm_rulelaws.proofs.Names.{is_server, LinkFits, move_fits, WhatFits, awaits, is_fixed, or_first, SlotFits, PendingFits, Note, AskedBy, asker_in}
 use Rattle.dm_onekernel.specs.Manager as manage
 use Rattle.dm_onekernel.specs.Step as kernel
 use Rattle.dm_rulelaws.proofs.Fits.Rises.{both}
 use Rattle.dm_rulelaws.proofs.Fits.Calls.{slot_link}
 use Rattle.dm_rulelaws.proofs.Found.Steps.{Sends}
-use Rattle.dm_rulelaws.proofs.Found.Core.{IsReal, Core}
+use Rattle.dm_rulelaws.proofs.Found.Core.{IsReal, LineCore, Core, lines_of_core}
 
 -- a process that was made has a number of its own
 made_number : (q : Pid) → nat_le 3 q.num ≡ true → is_fixed q ≡ false
@@ -18,7 +18,7 @@ made_number q e = let le : 3 ≤ q.num = grind (arith, nat_tests) in let server 
 pub made_free : (pt : Point) (q : Pid) → Made pt.kernel → is_some (pt.kernel.processes q) ≡ true → is_fixed q ≡ false
 made_free pt q h some = made_number q (h.least q some)
 
-made_real : (pt : Point) (n : ℕ) (q : Pid) → Core n pt → is_some (pt.kernel.processes q) ≡ true → IsReal n pt.view q
+made_real : (pt : Point) (n : ℕ) (q : Pid) → LineCore n pt → is_some (pt.kernel.processes q) ≡ true → IsReal n pt.view q
 made_real pt n q h some = inr (h.home q some)
 
 pub server_fixed : (q : Pid) → is_server q ≡ true → (is_fixed q ≡ true) × (q.home ≡ 0)
@@ -40,34 +40,17 @@ pub or_cases : (c d : Bool) → (c || d) ≡ true → (c ≡ true) ⊎ (d ≡ tr
 or_cases true d e = inl refl
 or_cases false d e = inr e
 
-has_real : (pt : Point) (n k : ℕ) (q : Pid) → Core n pt → has_bytes k (pt.kernel.processes q) ≡ true → IsReal n pt.view q
+has_real : (pt : Point) (n k : ℕ) (q : Pid) → LineCore n pt → has_bytes k (pt.kernel.processes q) ≡ true → IsReal n pt.view q
 has_real pt n k q h e = made_real pt n q h (has_some k (pt.kernel.processes q) e)
 
-link_real : (pt : Point) (n : ℕ) (l : PlainLink) → Core n pt → 0 < n → LinkFits pt.kernel.processes l → IsReal n pt.view l.to
-link_real pt n l h some e = elim (or_cases (is_server l.to && gives_no_right l.area) (has_bytes (l.area.base + l.area.len) (pt.kernel.processes l.to)) e) [
-  | inl server ↦ server_real n pt.view l.to some (both (is_server l.to) (gives_no_right l.area) server).0
-  | inr has ↦ has_real pt n (l.area.base + l.area.len) l.to h has
-]
+link_real : (pt : Point) (n : ℕ) (l : PlainLink) → LineCore n pt → 0 < n → LinkFits pt.kernel.processes l → IsReal n pt.view l.to
+link_real pt n l h some e = search (arith, or_cases, l.to, l.area, l.area.base, l.area.len, pt.kernel.processes, server_real, pt.view, both, has_real)
 
 kernel_real : (n k : ℕ) (v : View) (q : Pid) → k ≡ n → q.num ≡ 0 → nat_lt q.home k ≡ true → IsReal n v q
 kernel_real n k v q same num le = inl ((let f : (q.num == 0) ≡ true = grind (arith, nat_tests) in ap (λ (c : Bool). c || is_server q) f), subst (λ (j : ℕ). q.home < j) same (let f : q.home < k = grind (arith, nat_tests) in f))
 
-what_real : (pt : Point) (n : ℕ) (i : MsgId) (m : PlainMessage) (x : PlainWhat) → Core n pt → 0 < n → WhatFits pt.kernel i m x → IsReal n pt.view m.to
-what_real pt n i m (PlainWhat.User z1 z2 z3 z4) h some e = elim (or_cases (is_server m.to) (has_bytes 0 (pt.kernel.processes m.to)) e.0) [
-  | inl server ↦ server_real n pt.view m.to some server
-  | inr has ↦ has_real pt n 0 m.to h has
-]
-what_real pt n i m (PlainWhat.Read z1 z2) h some e = has_real pt n (z1 + z2) m.to h e.0
-what_real pt n i m (PlainWhat.Write z1 z2) h some e = made_real pt n m.to h (has_some _ (pt.kernel.processes m.to) e.0)
-what_real pt n i m (PlainWhat.Block z1) h some e = subst (IsReal n pt.view) (sym e.0) (made_real pt n i.from h (waits_some (pt.kernel.processes i.from) i.n (PlainWhat.Block z1) e.1))
-what_real pt n i m PlainWhat.Written h some e = subst (IsReal n pt.view) (sym e.0) (made_real pt n i.from h (waits_some (pt.kernel.processes i.from) i.n PlainWhat.Written e.1))
-what_real pt n i m PlainWhat.Gone h some e = subst (IsReal n pt.view) (sym e.0) (made_real pt n i.from h (waits_some (pt.kernel.processes i.from) i.n PlainWhat.Gone e.1))
-what_real pt n i m (PlainWhat.Create z1 z2) h some e = kernel_real n pt.kernel.machines pt.view m.to h.machines e.0 e.1
-what_real pt n i m (PlainWhat.Created z1) h some e = subst (IsReal n pt.view) (sym e.0) (server_real n pt.view manager some refl)
-what_real pt n i m PlainWhat.NoRoom h some e = subst (IsReal n pt.view) (sym e.0) (server_real n pt.view manager some refl)
-what_real pt n i m (PlainWhat.Move z1) h some e = has_real pt n 0 m.to h e.0
-what_real pt n i m (PlainWhat.Moved z1) h some e = subst (IsReal n pt.view) (sym e.0) (server_real n pt.view manager some refl)
-what_real pt n i m _ h some e = has_real pt n 0 m.to h e
+what_real : (pt : Point) (n : ℕ) (i : MsgId) (m : PlainMessage) (x : PlainWhat) → LineCore n pt → 0 < n → WhatFits pt.kernel i m x → IsReal n pt.view m.to
+what_real pt n i m x h1 h2 h3 = search (arith, or_cases, m.to, pt.kernel.processes, server_real, pt.view, has_real, made_real, has_some, i.from, waits_some, i.n, kernel_real, pt.kernel.machines)
 
 -- one of a list
 each_get : {X : Type 0} (P : X → Type 0) (xs : List X) (k : ℕ) (x : X) → Each P xs → slice_get xs k ≡ Some x → P x
@@ -92,70 +75,57 @@ link_there None q e = cc
 link_there (Some l) q e = (l, refl, (let f : l.to ≡ q = cc in f))
 
 -- each kind of holder
-slot_real : (pt : Point) (n : ℕ) (p : Pid) (k : ℕ) (q : Pid) (o : Option PlainProcess) → Core n pt → 0 < n → kernel.alive (pt.kernel.processes p) ≡ o → link_target (slot_of o k) ≡ Some q → IsReal n pt.view q
+slot_real : (pt : Point) (n : ℕ) (p : Pid) (k : ℕ) (q : Pid) (o : Option PlainProcess) → LineCore n pt → 0 < n → kernel.alive (pt.kernel.processes p) ≡ o → link_target (slot_of o k) ≡ Some q → IsReal n pt.view q
 slot_real pt n p k q None h some is e = cc
 slot_real pt n p k q (Some x) h some is e =
     let (l, at, to) = link_there (link_at x.links k) q e in
     subst (IsReal n pt.view) to (link_real pt n l h some (slot_link pt.kernel.processes x.links k l at (h.fits.processes p x (alive-is (pt.kernel.processes p) x is)).slots))
 
-owner_by : (pt : Point) (n : ℕ) (x : PlainProcess) (st : PlainStatus) (q : Pid) → Core n pt → move_fits pt.kernel.processes x st ≡ true → owner_in st ≡ Some q → IsReal n pt.view q
-owner_by pt n x (Moving dir owner base own left pending) q h e f =
-    let g : owner ≡ q = cc in subst (IsReal n pt.view) g (made_real pt n owner h (has_some (base + left) (pt.kernel.processes owner) (both (has_bytes (base + left) (pt.kernel.processes owner)) _ e).0))
-owner_by pt n x _ q h e f = cc
+owner_by : (pt : Point) (n : ℕ) (x : PlainProcess) (st : PlainStatus) (q : Pid) → LineCore n pt → move_fits pt.kernel.processes x st ≡ true → owner_in st ≡ Some q → IsReal n pt.view q
+owner_by pt n x st q h1 h2 h3 = search (arith, pt.view, made_real, has_some, pt.kernel.processes, both)
 
-owner_real : (pt : Point) (n : ℕ) (p q : Pid) (o : Option PlainProcess) → Core n pt → kernel.alive (pt.kernel.processes p) ≡ o → owner_of o ≡ Some q → IsReal n pt.view q
+owner_real : (pt : Point) (n : ℕ) (p q : Pid) (o : Option PlainProcess) → LineCore n pt → kernel.alive (pt.kernel.processes p) ≡ o → owner_of o ≡ Some q → IsReal n pt.view q
 owner_real pt n p q None h is e = cc
 owner_real pt n p q (Some x) h is e = owner_by pt n x x.status q h (h.fits.processes p x (alive-is (pt.kernel.processes p) x is)).move e
 
-receiver_real : (pt : Point) (n : ℕ) (i : MsgId) (q : Pid) (o : Option PlainMessage) → Core n pt → 0 < n → pt.kernel.bag i ≡ o → to_of o ≡ Some q → IsReal n pt.view q
+receiver_real : (pt : Point) (n : ℕ) (i : MsgId) (q : Pid) (o : Option PlainMessage) → LineCore n pt → 0 < n → pt.kernel.bag i ≡ o → to_of o ≡ Some q → IsReal n pt.view q
 receiver_real pt n i q None h some is e = cc
 receiver_real pt n i q (Some m) h some is e = let f : m.to ≡ q = cc in subst (IsReal n pt.view) f (what_real pt n i m m.what h some (h.fits.messages i m is))
 
-pub sends_real : (pt : Point) (n : ℕ) (q : Pid) → Core n pt → Sends n pt.kernel q → IsReal n pt.view q
-sends_real pt n q h s = elim s [
-  | inl fixed ↦ inl fixed
-  | inr some ↦ made_real pt n q h some
-]
+pub sends_real : (pt : Point) (n : ℕ) (q : Pid) → LineCore n pt → Sends n pt.kernel q → IsReal n pt.view q
+sends_real pt n q h s = search (arith, made_real)
 
-sender_real : (pt : Point) (n : ℕ) (i : MsgId) (q : Pid) (o : Option PlainMessage) → Core n pt → pt.kernel.bag i ≡ o → sender_of o ≡ Some q → IsReal n pt.view q
+sender_real : (pt : Point) (n : ℕ) (i : MsgId) (q : Pid) (o : Option PlainMessage) → LineCore n pt → pt.kernel.bag i ≡ o → sender_of o ≡ Some q → IsReal n pt.view q
 sender_real pt n i q None h is e = cc
 sender_real pt n i q (Some m) h is e = let f : m.sender ≡ q = cc in subst (IsReal n pt.view) f (sends_real pt n m.sender h (h.senders i m is))
 
 links_fit : (s : OneKernel) (i : MsgId) (m : PlainMessage) (x : PlainWhat) → WhatFits s i m x → Each (LinkFits s.processes) (links_in x)
-links_fit s i m (PlainWhat.User z1 z2 z3 z4) e = e.1
-links_fit s i m (PlainWhat.Create z1 z2) e = e.6
-links_fit s i m _ e = tt
+links_fit s i m x h1 = search arith
 
-enclosed_real : (pt : Point) (n : ℕ) (i : MsgId) (k : ℕ) (q : Pid) (o : Option PlainMessage) → Core n pt → 0 < n → pt.kernel.bag i ≡ o → link_target (enclosed_of o k) ≡ Some q → IsReal n pt.view q
-enclosed_real pt n i k q None h some is e = cc
-enclosed_real pt n i k q (Some m) h some is e =
-    let (l, at, to) = link_there (slice_get (links_in m.what) k) q e in
-    subst (IsReal n pt.view) to (link_real pt n l h some (each_get (LinkFits pt.kernel.processes) (links_in m.what) k l (links_fit pt.kernel i m m.what (h.fits.messages i m is)) at))
+enclosed_real : (pt : Point) (n : ℕ) (i : MsgId) (k : ℕ) (q : Pid) (o : Option PlainMessage) → LineCore n pt → 0 < n → pt.kernel.bag i ≡ o → link_target (enclosed_of o k) ≡ Some q → IsReal n pt.view q
+enclosed_real pt n i k q o h1 h2 h3 h4 = search (arith, link_there, pt.view, link_real, each_get, pt.kernel.processes, links_fit, pt.kernel)
 
-name_real : (pt : Point) (n k : ℕ) (q : Pid) (o : Option NamedLink) → Core n pt → 0 < n → slice_get pt.kernel.switchboard.names k ≡ o → link_target (name_link o) ≡ Some q → IsReal n pt.view q
-name_real pt n k q None h some is e = cc
-name_real pt n k q (Some x) h some is e =
-    let f : x.link.to ≡ q = cc in
-    subst (IsReal n pt.view) f (link_real pt n x.link h some (each_get (λ (y : NamedLink). LinkFits pt.kernel.processes y.link) pt.kernel.switchboard.names k x h.fits.names is))
+name_real : (pt : Point) (n k : ℕ) (q : Pid) (o : Option NamedLink) → LineCore n pt → 0 < n → slice_get pt.kernel.switchboard.names k ≡ o → link_target (name_link o) ≡ Some q → IsReal n pt.view q
+name_real pt n k q o h1 h2 h3 h4 = search (arith, pt.view, link_real, each_get, pt.kernel.processes, pt.kernel.switchboard.names)
 
-answer_real : (pt : Point) (n k : ℕ) (q : Pid) (o : Option Pending) → Core n pt → 0 < n → manage.pending_numbered k pt.kernel.manager.pending ≡ o → link_target (answer_link o) ≡ Some q → IsReal n pt.view q
+answer_real : (pt : Point) (n k : ℕ) (q : Pid) (o : Option Pending) → LineCore n pt → 0 < n → manage.pending_numbered k pt.kernel.manager.pending ≡ o → link_target (answer_link o) ≡ Some q → IsReal n pt.view q
 answer_real pt n k q None h some is e = cc
 answer_real pt n k q (Some r) h some is e =
     let (l, at, to) = link_there r.answer q e in
     let fits : SlotFits pt.kernel.processes (Some l) = subst (SlotFits pt.kernel.processes) at (each_pending (PendingFits pt.kernel.processes) pt.kernel.manager.pending k r h.fits.answers is).answer in
     subst (IsReal n pt.view) to (link_real pt n l h some fits)
 
-asker_real : (pt : Point) (n : ℕ) (p q : Pid) (o : Option Note) → Core n pt → 0 < n → pt.kernel.notes p ≡ o → asker_in o ≡ Some q → IsReal n pt.view q
+asker_real : (pt : Point) (n : ℕ) (p q : Pid) (o : Option Note) → LineCore n pt → 0 < n → pt.kernel.notes p ≡ o → asker_in o ≡ Some q → IsReal n pt.view q
 asker_real pt n p q None h some is e = cc
 asker_real pt n p q (Some z) h some is e =
     let f : z.asker ≡ q = cc in
     subst (IsReal n pt.view) (sym (h.fits.notes p z is).asker ∙ f) (server_real n pt.view manager some refl)
 
-pub child_real : (pt : Point) (n k : ℕ) (q : Pid) → Core n pt → names pt.kernel (Child k) ≡ Some q → IsReal n pt.view q
+pub child_real : (pt : Point) (n k : ℕ) (q : Pid) → LineCore n pt → names pt.kernel (Child k) ≡ Some q → IsReal n pt.view q
 child_real pt n k q h e = has_real pt n 0 q h (each_child (λ (p : Pid). has_bytes 0 (pt.kernel.processes p) ≡ true) pt.kernel.manager.children k q h.fits.children e)
 
-pub named_real : (pt : Point) (n : ℕ) (g : Holder) (q : Pid) → Core n pt → names pt.kernel g ≡ Some q → IsReal n pt.view q
-named_real pt n g q h e = by g e
+named_by : (pt : Point) (n : ℕ) (g : Holder) (q : Pid) → LineCore n pt → names pt.kernel g ≡ Some q → IsReal n pt.view q
+named_by pt n g q h e = by g e
   where
     some : 0 < n
     some = let le = h.acting in omega (arith, le)
@@ -170,3 +140,6 @@ named_real pt n g q h e = by g e
     by (Name k) f = name_real pt n k q (slice_get pt.kernel.switchboard.names k) h some refl f
     by (AskedBy p) f = asker_real pt n p q (pt.kernel.notes p) h some refl f
     by (Answer k) f = answer_real pt n k q (manage.pending_numbered k pt.kernel.manager.pending) h some refl f
+
+pub named_real : (pt : Point) (n : ℕ) (g : Holder) (q : Pid) → Core n pt → names pt.kernel g ≡ Some q → IsReal n pt.view q
+named_real pt n g q h e = named_by pt n g q (lines_of_core n pt h) e

@@ -1,27 +1,19 @@
--- What each row of a turn needs: processes that run, and messages of the bag.
-use Rattle.dm_rulelaws.proofs.Names.{refl, ◌<◌, false, ◌≡◌, sym, Stage, MessageKind, PlainWhat, Outcome, About, is_fixed, to_kernel, machine_in, Target, answers_move, leaves_for, aim, ℕ, ◌+◌, List, [], ◌∷◌, ap, ◌∙◌, subst, Option, None}
-use Rattle.dm_rulelaws.proofs.Names.{Some, Pid, pid_of, MsgId, plain_kind, Label, PlainMessage, Boot, first_number, PlainProcess, OneKernel, bind-is, Line, Forward, Point, label_of, kernel_after, moved, after_line, after, Part, Says}
-use Rattle.dm_rulelaws.proofs.Names.{Routes, lines_of, forwards_on, Stops, by_round, by_handles}
+-- What each row of a turn needs: processes that run, messages of the bag, and messages of kernels.
+use Rattle.dm_rulelaws.proofs.Names.{◌≡◌, ℕ, ◌+◌, List, [], ◌∷◌, ap, ◌∙◌, subst, Option, None, Some, Pid, pid_of, MsgId, plain_kind, Label, PlainMessage, Boot, first_number, PlainProcess, Line, Forward, Point, moved, Part, Says, Routes}
+use Rattle.dm_rulelaws.proofs.Names.{forwards_on, Stops, by_round, by_handles, ◌/◌, ◌<◌, ◌==◌, Bool, true, false, ◌++◌, length, refl, ◌||◌, if◌then◌else◌, pid_eq, MessageKind, Stage, switchboard, manager, bind, Told, About, Of, Known}
+use Rattle.dm_rulelaws.proofs.Names.{Unknown, Here, target_of, front_of, to_kernel, accepts, takes_chunk, takes_block, leaves, chunks_of, pieces_of, kernel_told, here_told, ended_told, process_told, server_told, is_between, is_fixed}
+use Rattle.dm_rulelaws.proofs.Names.{own_gives, own_id, goes_between, is_own, PlainWhat, Outcome, Note, OneKernel, machine_in, Target, answers_move, leaves_for, aim, label_of, kernel_after, at_record, at_record_at, tells_asker, sym, inr}
+use Rattle.dm_rulelaws.proofs.Names.{View}
 use Rattle.dm_rule.specs.Point.{machine_of}
-use Rattle.dm_rulelaws.proofs.Based.Needs.{said_by}
 use Rattle.dm_rulelaws.proofs.Fits.Serves.{asked_noted}
 use Rattle.dm_rulelaws.proofs.Found.Lines.{NeedsLine}
-use Rattle.dm_rulelaws.proofs.Found.Parts.{between_own}
 use Rattle.dm_onekernel.specs.Pieces as pieces
 use Rattle.dm_onekernel.specs.Step as kernel
 use Rattle.dm_rule.specs.Rule as rule
 use Rattle.dm_rulelaws.proofs.Found.Core.{KnowsAt, IsAt}
-use Rattle.dm_rulelaws.proofs.Found.Parts.{AllNeed, AllLoose, first_need}
-
--- behind a line
-pub said_next : (pt next : Point) (l : Line) (ls : List Line) → lines_of pt (Says l) ≡ Some ls → after pt ls ≡ Some next → (s : OneKernel) × (moved pt l s ≡ next)
-said_next pt next l ls is leads =
-    let f : l ∷ [] ≡ ls = cc in
-    let (mid, first, last) = bind-is (after_line pt l) (λ q. after q []) next (ap (after pt) f ∙ leads) in
-    let (s, step_, then_) = bind-is (kernel_after pt.kernel (label_of l)) (λ s. Some (moved pt l s)) mid first in
-    let g : moved pt l s ≡ mid = cc in
-    let e : mid ≡ next = cc in
-    (s, g ∙ e)
+use Rattle.dm_rulelaws.proofs.Found.Parts.{AllNeed, AllLoose, first_need, NeedOf, between_own}
+use Rattle.dm_rule.specs.View.{Ended}
+use Rattle.dm_rulelaws.proofs.Based.Needs.{said_by}
 
 -- the queue of a process that ends goes
 drops_loose : (n : ℕ) (ids : List MsgId) → AllLoose n (rule.drop_parts ids)
@@ -43,9 +35,9 @@ round_need n pt b o m q ps at = by_round (AllNeed n pt) b o m q ps (first_need n
   runs = λ k rest stops. (
     tt,
     (λ ls next lines leads.
-        let (s, same) = said_next pt next (Line.Label (Label.Ran p k)) ls lines leads in
-        let mid = moved pt (Line.Label (Label.Ran p k)) s in
-        subst (λ (z : Point). AllNeed n z rest) same (stops (AllNeed n mid) (stops_need n mid p (o.view.queue m p) (at p x is alive)))),
+        let s = said_by pt next (Line.Label (Label.Ran p k)) (record { lines = ls; are = lines; leads = leads }) in
+        let mid = moved pt (Line.Label (Label.Ran p k)) s.kernel in
+        subst (λ (z : Point). AllNeed n z rest) s.is (stops (AllNeed n mid) (stops_need n mid p (o.view.queue m p) (at p x is alive)))),
   );
   takes = λ mask id first. first_need n pt (rule.says (Label.Receive p id)) [] tt tt;
   refuses = λ id r. first_need n pt (rule.says (Label.Refuse p id r)) [] tt tt;
@@ -59,9 +51,9 @@ routes_loose : (n : ℕ) (o : Option PlainMessage) → AllLoose n (rule.routes o
 routes_loose n None = tt
 routes_loose n (Some k) = (λ q. tt, tt)
 
--- a message to a kernel of a machine that there is
-pub to_ask : (n m : ℕ) → m < n → AllLoose n (to_kernel MessageKind.Ask m ∷ [])
-to_ask n m le = ((λ pt. between_own n pt MessageKind.Ask m refl (λ e. cc) refl le), tt)
+-- a message from kernel to kernel, to a machine that there is
+pub to_one : (n : ℕ) (k : MessageKind) (m : ℕ) → ((pt : Point) → own_gives pt.kernel pt.view pt.addresses (own_id pt.view) (pid_of m 0) k ≡ goes_between pt.view (own_id pt.view) (pid_of m 0)) → (k ≡ MessageKind.Migrate → ⊥) → is_own k ≡ true → m < n → AllLoose n (to_kernel k m ∷ [])
+to_one n k m gives none own le = ((λ pt. between_own n pt k m (gives pt) none own le), tt)
 
 -- the answer to a request to move goes
 pub answers_need : (n : ℕ) (pt : Point) (l : Line) (i : MsgId) (r : Outcome) → NeedsLine n pt l
@@ -85,7 +77,7 @@ asks_need n pt id k to there what le free = (
       let topic : machine_in (pt.kernel.bag id) ≡ Target to = ap machine_in there ∙ ap machine_of what in
       let aims : aim mid.view (machine_in (pt.kernel.bag id)) < n = subst (λ (a : About). aim mid.view a < n) (sym topic) le in
       subst (λ (z : Point). AllNeed n z (leaves_for k.to to)) g.is
-      (first_need n mid (Says (Line.Migration Stage.Frozen k.to)) (Says (Line.Migration Stage.Asked k.to) ∷ to_kernel MessageKind.Ask to ∷ []) (aims, free) (λ q. tt, to_ask n to le)),
+      (first_need n mid (Says (Line.Migration Stage.Frozen k.to)) (Says (Line.Migration Stage.Asked k.to) ∷ to_kernel MessageKind.Ask to ∷ []) (aims, free) (λ q. tt, to_one n MessageKind.Ask to (λ q. refl) (λ e. cc) refl le)),
 )
 
 -- where a message goes that asks its receiver to move
@@ -112,3 +104,106 @@ handles_need n pt b o m id k ps at there knows moves forwards = by_handles (AllN
   coming = λ x to. first_need n pt (Says (Line.Held id)) [] at tt;
   forwarded = λ x c to. forwards x c to.known;
 })
+
+accepts_need : (n : ℕ) (pt : Point) (from : ℕ) (p : Pid) (c : Bool) (slots blocks : ℕ) → from < n → (front_of (pt.view.inbox pt.view.acting) < n) × (is_fixed p ≡ false) → AllNeed n pt (accepts from p c slots blocks)
+accepts_need n pt from p true slots blocks le front = first_need n pt (Says (Line.Migration Stage.Accepted p)) (to_kernel MessageKind.PullState from ∷ []) front (to_one n MessageKind.PullState from (λ q. refl) (λ e. cc) refl le)
+accepts_need n pt from p false slots blocks le front = first_need n pt (Says (Line.Lacks p slots blocks)) (to_kernel MessageKind.Refuse from ∷ []) tt (to_one n MessageKind.Refuse from (λ q. refl) (λ e. cc) refl le)
+
+chunk_need : (n : ℕ) (pt : Point) (id : MsgId) (p : Pid) (c : Bool) → id.from.home < n → AllNeed n pt (takes_chunk id p c)
+chunk_need n pt id p true le = first_need n pt (Says (Line.Migration Stage.StateTaken p)) (to_kernel MessageKind.PullBlock id.from.home ∷ []) tt (to_one n MessageKind.PullBlock id.from.home (λ q. refl) (λ e. cc) refl le)
+chunk_need n pt id p false le = first_need n pt (Says (Line.Proto id)) (to_kernel MessageKind.PullState id.from.home ∷ []) tt (to_one n MessageKind.PullState id.from.home (λ q. refl) (λ e. cc) refl le)
+
+block_need : (n : ℕ) (pt : Point) (id : MsgId) (p : Pid) (c : Bool) → id.from.home < n → AllNeed n pt (takes_block id p c)
+block_need n pt id p true le = first_need n pt (Says (Line.Migration Stage.MemoryTaken p)) (to_kernel MessageKind.AllTaken id.from.home ∷ []) tt (to_one n MessageKind.AllTaken id.from.home (λ q. refl) (λ e. cc) refl le)
+block_need n pt id p false le = first_need n pt (Says (Line.Proto id)) (to_kernel MessageKind.PullBlock id.from.home ∷ []) tt (to_one n MessageKind.PullBlock id.from.home (λ q. refl) (λ e. cc) refl le)
+
+-- where one between kernels is heard
+abbrev pub Heard : ℕ → Point → Point → ℕ → MsgId → Pid → MessageKind → Type 0
+Heard n pt o m id p k =
+    (id.from.home < n) × ((front_of (pt.view.inbox pt.view.acting) < n) × (is_fixed p ≡ false)) × ((z : Note) → o.kernel.notes p ≡ Some z → pt.kernel.noted z.id ≡ Some p) × (k ≡ MessageKind.AllTaken → NeedOf n pt (leaves id p (o.view.queue m p ++ o.view.held m p) (o.view.known m p)))
+
+-- and told to who asked for it
+asker_need : (n : ℕ) (pt : Point) (l : Line) (o : Option Note) (r : Outcome) → NeedsLine n pt l
+    → ((z : Note) → o ≡ Some z → (s : OneKernel) → kernel_after pt.kernel (label_of l) ≡ Some s → (q : Pid) → s.noted z.id ≡ Some q → KnowsAt (moved pt l s).view q (moved pt l s).view.acting) → AllNeed n pt (Says l ∷ tells_asker o r)
+asker_need n pt l None r need knows = first_need n pt (Says l) [] need tt
+asker_need n pt l (Some z) r need knows = answers_need n pt l z.id r need (knows z refl)
+
+-- a process that follows a request stays here
+comes_here : (v w : View) (p q : Pid) → w.known ≡ at_record v.known v.acting p Here → w.acting ≡ v.acting → is_fixed p ≡ false → p ≡ q → KnowsAt w q w.acting
+comes_here v w p q known acting free same =
+    let here : w.known w.acting p ≡ Here = ap (λ (m : ℕ). w.known m p) acting ∙ ap (λ (f : ℕ → Pid → Known). f v.acting p) known ∙ at_record_at v.known v.acting p Here in
+    subst (λ (x : Pid). KnowsAt w x w.acting) same (inr (free, λ e. (let f : Here ≡ Unknown = sym here ∙ e in cc)))
+
+noted_same : (s t : OneKernel) (z : Note) (p q : Pid) → Some s ≡ Some t → s.noted z.id ≡ Some p → t.noted z.id ≡ Some q → p ≡ q
+noted_same s t z p q e f g =
+    let same : s ≡ t = cc in
+    let k : Some p ≡ Some q = sym f ∙ ap (λ (u : OneKernel). u.noted z.id) same ∙ g in
+    cc
+
+told_need : (n : ℕ) (pt o : Point) (m : ℕ) (id : MsgId) (p : Pid) (room : Bool × ℕ × ℕ) (x : PlainProcess) (k : MessageKind) → (is_between k ≡ true → Heard n pt o m id p k) → NeedOf n pt (kernel_told o m id p room x k)
+told_need n pt o m id p room x MessageKind.Ask h = accepts_need n pt id.from.home p room.0 room.1 room.2 (h refl).0 (h refl).1
+told_need n pt o m id p room x MessageKind.Refuse h =
+    asker_need n pt (Line.Stays p) (o.kernel.notes p) Outcome.Stayed tt (λ z e s step q noted. comes_here pt.view (moved pt (Line.Stays p) s).view p q refl refl (h refl).1.1 (noted_same pt.kernel s z p q step ((h refl).2 z e) noted))
+told_need n pt o m id p room x MessageKind.PullState h = first_need n pt (Says (Line.Proto id)) (to_kernel MessageKind.State id.from.home ∷ []) tt (to_one n MessageKind.State id.from.home (λ q. refl) (λ e. cc) refl (h refl).0)
+told_need n pt o m id p room x MessageKind.State h = chunk_need n pt id p (o.view.asked p == chunks_of x) (h refl).0
+told_need n pt o m id p room x MessageKind.PullBlock h = first_need n pt (Says (Line.Proto id)) (to_kernel MessageKind.Memory id.from.home ∷ []) tt (to_one n MessageKind.Memory id.from.home (λ q. refl) (λ e. cc) refl (h refl).0)
+told_need n pt o m id p room x MessageKind.Memory h = block_need n pt id p (o.view.asked p == pieces_of x) (h refl).0
+told_need n pt o m id p room x MessageKind.AllTaken h = (h refl).3 refl
+told_need n pt o m id p room x MessageKind.Restart h =
+    asker_need n pt (Line.Migration Stage.Restarted p) (o.kernel.notes p) Outcome.Done tt (λ z e s step q noted. comes_here pt.view (moved pt (Line.Migration Stage.Restarted p) s).view p q refl refl (h refl).1.1 (noted_same pt.kernel s z p q step ((h refl).2 z e) noted))
+told_need n pt o m id p room x _ h = tt
+
+bind_need : {X : Type 0} (n : ℕ) (pt : Point) (o : Option X) (f : X → Option (List Part)) → ((x : X) → o ≡ Some x → NeedOf n pt (f x)) → NeedOf n pt (bind o f)
+bind_need n pt None f h = tt
+bind_need n pt (Some x) f h = h x refl
+
+kernel_hears_need : (n : ℕ) (pt : Point) (b : Boot) (o : Point) (m : ℕ) (id : MsgId) (k : MessageKind) (a : About) → ((p : Pid) → a ≡ Of p → is_between k ≡ true → Heard n pt o m id p k)
+    → NeedOf n pt (rule.kernel_hears b o m id k a)
+kernel_hears_need n pt b o m id k (Of p) h =
+    bind_need n pt (kernel.alive (o.kernel.processes p)) (λ x. kernel_told o m id p (rule.fits (rule.free_room b o m) (length x.memory / 256)) x k)
+    (λ x alive. told_need n pt o m id p (rule.fits (rule.free_room b o m) (length x.memory / 256)) x k (h p refl))
+kernel_hears_need n pt b o m id k _ h = tt
+
+moves_need : (n : ℕ) (pt : Point) (id : MsgId) (p : Pid) (to : ℕ) (c : Bool) → to < n → (aim pt.view pt.view.topic < n) × (is_fixed p ≡ false)
+    → AllNeed n pt (if c then Says (Line.Here id) ∷ [] else Says (Line.Migration Stage.Frozen p) ∷ Says (Line.Migration Stage.Asked p) ∷ to_kernel MessageKind.Ask to ∷ [])
+moves_need n pt id p to true le front = first_need n pt (Says (Line.Here id)) [] tt tt
+moves_need n pt id p to false le front = first_need n pt (Says (Line.Migration Stage.Frozen p)) (Says (Line.Migration Stage.Asked p) ∷ to_kernel MessageKind.Ask to ∷ []) front (λ q. tt, to_one n MessageKind.Ask to (λ q. refl) (λ e. cc) refl le)
+
+here_told_need : (n : ℕ) (pt o : Point) (m : ℕ) (id : MsgId) (t : Told) (k : MessageKind) → target_of (Some t) < n → (aim pt.view pt.view.topic < n) × (is_fixed t.receiver ≡ false) → NeedOf n pt (here_told o m id t k)
+here_told_need n pt o m id t MessageKind.Migrate le front = moves_need n pt id t.receiver (target_of (Some t)) (m == target_of (Some t)) le front
+here_told_need n pt o m id t MessageKind.Update le front = (tt, λ ls next is leads. tt)
+here_told_need n pt o m id t _ le front = tt
+
+ended_told_need : (n : ℕ) (pt : Point) (id : MsgId) (k : MessageKind) → NeedOf n pt (ended_told id k)
+ended_told_need n pt id MessageKind.Migrate = (tt, λ ls next is leads. tt)
+ended_told_need n pt id MessageKind.Update = (tt, λ ls next is leads. tt)
+ended_told_need n pt id _ = tt
+
+server_told_need : (n : ℕ) (pt o : Point) (id : MsgId) (t : Told) (k : MessageKind) → NeedOf n pt (server_told o id t k)
+server_told_need n pt o id t MessageKind.Update = (tt, λ ls next is leads. tt)
+server_told_need n pt o id t _ = tt
+
+process_told_need : (n : ℕ) (pt o : Point) (m : ℕ) (id : MsgId) (t : Told) (k : Known) → Front pt id → target_of (Some t) < n → (aim pt.view pt.view.topic < n) × (is_fixed t.receiver ≡ false)
+    → ((to c : ℕ) → k ≡ Forward to c → AllNeed n pt (forwards_on o.addresses id t.kind manager to)) → NeedOf n pt (process_told o m id t k)
+process_told_need n pt o m id t Unknown at le front forwards = tt
+process_told_need n pt o m id t Here at le front forwards = here_told_need n pt o m id t t.kind le front
+process_told_need n pt o m id t (Forward to c) at le front forwards = forwards to c refl
+process_told_need n pt o m id t Ended at le front forwards = ended_told_need n pt id t.kind
+process_told_need n pt o m id t _ at le front forwards = first_need n pt (Says (Line.Held id)) [] at tt
+
+-- by whom it is for
+by_receiver : (n : ℕ) (pt : Point) (q : Pid) (c d e : Bool) (x y z w : Option (List Part)) → (q.num == 0) ≡ c → pid_eq q switchboard ≡ d → pid_eq q manager ≡ e → NeedOf n pt x → NeedOf n pt y → NeedOf n pt z → (is_fixed q ≡ false → NeedOf n pt w)
+    → NeedOf n pt (if c then x else if d then y else if e then z else w)
+by_receiver n pt q true d e x y z w is_c is_d is_e h j k l = h
+by_receiver n pt q false true e x y z w is_c is_d is_e h j k l = j
+by_receiver n pt q false false true x y z w is_c is_d is_e h j k l = k
+by_receiver n pt q false false false x y z w is_c is_d is_e h j k l = l (ap (λ (b : Bool). b || (pid_eq q switchboard || pid_eq q manager)) is_c ∙ ap (λ (b : Bool). b || pid_eq q manager) is_d ∙ is_e)
+
+pub told_by_need : (n : ℕ) (pt : Point) (b : Boot) (o : Point) (m : ℕ) (id : MsgId) (t : Told) → Front pt id → target_of (Some t) < n → aim pt.view pt.view.topic < n
+    → ((p : Pid) → t.about ≡ Of p → is_between t.kind ≡ true → Heard n pt o m id p t.kind)
+    → ((to c : ℕ) → o.view.known m t.receiver ≡ Forward to c → AllNeed n pt (forwards_on o.addresses id t.kind manager to)) → NeedOf n pt (rule.hears b o m id (Some t))
+told_by_need n pt b o m id t at le front kernels forwards =
+    let to_server = server_told o id t t.kind in
+    let to_process = process_told o m id t (o.view.known m t.receiver) in
+    by_receiver n pt t.receiver (t.receiver.num == 0) (pid_eq t.receiver switchboard) (pid_eq t.receiver manager) (rule.kernel_hears b o m id t.kind t.about) to_server to_server to_process refl refl refl (kernel_hears_need n pt b o m id t.kind t.about kernels)
+    (server_told_need n pt o id t t.kind) (server_told_need n pt o id t t.kind) (λ free. process_told_need n pt o m id t (o.view.known m t.receiver) at le (front, free) forwards)

@@ -1,12 +1,11 @@
 -- Wherever all of it holds, each directive has its group.
-use Rattle.dm_rulelaws.proofs.Names.{rooted, ◌≡◌, ◌≢◌, ℕ, ◌+◌, ◌≤◌, ◌==◌, ◌&&◌, ◌||◌, Bool, true, false, not, List, [], ◌∷◌, refl, ap, ◌∙◌, sym, is_some, inl, inr, arith, ⊤, if◌then◌else◌, slice_get, Option, None, Some, false≢true, Pid}
-use Rattle.dm_rulelaws.proofs.Names.{pid_eq, MsgId, PlainMessage, Boot, IsValid, Step, Line, MessageKind, child_from, child_number, migrates, Point, moved, Says, Spelled, group_of, Spot, Queue, Inbox, standing, StandsOutside, View, Told}
-use Rattle.dm_rulelaws.proofs.Names.{Target, is_kernels, IsStep, arrives_net, resends_net, stands_right, StandsAsBag-elsewhere, Each, has_bytes, is_server, is_fixed, Life, OneKernel, pid_eq-is, cases_Bool, nat_tests, by_migrates}
+use Rattle.dm_rulelaws.proofs.Names.{◌≡◌, ◌≢◌, ℕ, ◌+◌, ◌≤◌, ◌==◌, ◌&&◌, ◌||◌, Bool, true, false, not, List, [], ◌∷◌, refl, ap, ◌∙◌, sym, is_some, inl, inr, arith, ⊤, if◌then◌else◌, slice_get, Option, None, Some, false≢true, Pid, pid_eq}
+use Rattle.dm_rulelaws.proofs.Names.{MsgId, PlainMessage, Boot, IsValid, Step, Line, MessageKind, child_from, child_number, migrates, Point, moved, Spelled, group_of, Spot, Queue, Inbox, standing, StandsOutside, View, Told, Target}
+use Rattle.dm_rulelaws.proofs.Names.{is_kernels, IsStep, arrives_net, resends_net, stands_right, StandsAsBag-elsewhere, Each, has_bytes, is_server, is_fixed, Life, OneKernel, pid_eq-is, cases_Bool, by_migrates, rooted}
 use Rattle.dm_rule.specs.Rule as rule
 use Rattle.dm_rule.specs.View as view
 use Rattle.dm_rulelaws.proofs.Runs.{Run}
-use Rattle.dm_rulelaws.proofs.Own.Told.{OwnTold, own_sort}
-use Rattle.dm_rulelaws.proofs.Own.Fits.{OwnsFit, NoOwns, FirstOwns}
+use Rattle.dm_rulelaws.proofs.Own.Told.{OwnTold, own_sort, OwnsFit, NoOwns, FirstOwns}
 use Rattle.dm_rulelaws.proofs.Goes.Parts.{ArePlain, Can, Shape, Goes, goes, can_plain, can_net}
 use Rattle.dm_rulelaws.proofs.Goes.Serves.{can_turn}
 use Rattle.dm_rulelaws.proofs.Goes.Turns.{queue_drops}
@@ -81,10 +80,7 @@ some_life None e = cc
 some_life (Some x) e = refl
 
 child_num : (b : Boot) (pt : Point) (p : Pid) (n : ℕ) → child_number pt.kernel p ≡ Some n → Run b pt → (p.num == 0) ≡ false
-child_num b pt p n is h =
-    let there = some_life (pt.kernel.processes p) (child_made pt.kernel 1 n p pt.kernel.manager.children is h.based.fits.children) in
-    let k = h.based.phased.sane.sound.made.least p there in
-    grind (arith, nat_tests)
+child_num b pt p n is h = search (arith, some_life, pt.kernel.processes, child_made, pt.kernel, pt.kernel.manager.children, h.based.fits.children, h.based.phased.sane.sound.made.least)
 
 target_sort : (p : Pid) (m : ℕ) → is_fixed p ≡ false → own_sort MessageKind.Migrate p (Target m) ≡ true
 target_sort p m e = ap (λ (c : Bool). not c && true) e
@@ -111,10 +107,7 @@ group_by b pt d c = record { goes = goes (CalmFor pt d) b pt d c.ps c.is c.does;
 
 pub group_on : (b : Boot) (pt : Point) (d : Step) → Run b pt → OwnTold pt → Group b pt d
 group_on b pt (Step.Turn m) h own = group_by b pt (Step.Turn m) (can_turn_by b m pt (pt.view.inbox m) refl h own)
-group_on b pt (Step.Tick m) h own =
-    let q = moved pt (Line.Head (Step.Tick m)) pt.kernel in
-    let ps = Says (Line.Resent m (rule.outstanding_count pt.view m pt.kernel.machines)) ∷ rule.resends pt.view m pt.kernel.machines in
-    group_by b pt (Step.Tick m) (can_net ⊤ m q ps (tt, resends_net pt.view m pt.kernel.machines))
+group_on b pt (Step.Tick m) h own = search (arith, pt.view, group_by, can_net, resends_net)
 group_on b pt (Step.Deliver a c k) h own =
     let q = moved pt (Line.Head (Step.Deliver a c k)) pt.kernel in
     let there = slice_get (pt.view.pair a c).wire k in

@@ -1,7 +1,7 @@
 -- The message at the front of the inbox: what it is for whom.
-use Rattle.dm_rulelaws.proofs.Names.{is_here, [], bind, Label, Note, Outcome, without_note, false≢true, Routes, answers_move, ◌≡◌, ℕ, ◌+◌, ◌≤◌, ◌==◌, ◌||◌, Bool, true, false, List, ◌∷◌, length, refl, ap, ◌∙◌, sym, subst, is_some, arith}
-use Rattle.dm_rulelaws.proofs.Names.{Option, None, Some, nat_tests, Pid, pid_eq, MsgId, id_eq, plain_kind, Step, Line, PlainMessage, PlainWhat, Boot, switchboard, manager, Life, OneKernel, with_sent, answer_id, answer_to, Made, id_eq-same}
-use Rattle.dm_rulelaws.proofs.Names.{pid_eq-same, sent_at, Point, moved, Inbox, times, standing, View, Told, Sane, has_bytes, is_server, awaits, WhatFits, is_fixed, are_home, Part, is_still}
+use Rattle.dm_rulelaws.proofs.Names.{◌≡◌, ℕ, ◌≤◌, ◌==◌, ◌||◌, Bool, true, false, List, [], ◌∷◌, refl, ap, ◌∙◌, sym, subst, is_some, arith, Option, None, Some, Pid, pid_eq, MsgId, id_eq, plain_kind, Step, Line, PlainMessage, PlainWhat, Boot}
+use Rattle.dm_rulelaws.proofs.Names.{switchboard, manager, Life, OneKernel, with_sent, answer_id, answer_to, Made, id_eq-same, pid_eq-same, sent_at, Point, moved, Inbox, times, standing, View, Told, Sane, has_bytes, is_server, awaits}
+use Rattle.dm_rulelaws.proofs.Names.{WhatFits, is_fixed, are_home, Part, is_still, is_here, bind, Label, Note, Outcome, without_note, false≢true, Routes, answers_move}
 use Rattle.dm_onekernel.specs.Service as service
 use Rattle.dm_onekernel.specs.Step as kernel
 use Rattle.dm_rulelaws.proofs.Goes.Parts.{does_label}
@@ -84,9 +84,7 @@ record IsProcess (s : OneKernel) (p : Pid) : Type 0 where
   manager_ : pid_eq p manager ≡ false
 
 made_is : (s : OneKernel) (p : Pid) → is_some (s.processes p) ≡ true → Made s → IsProcess s p
-made_is s p there h =
-    let k = h.least p there in
-    record { number = grind (arith, nat_tests); board = grind (arith, nat_tests); manager_ = grind (arith, nat_tests) }
+made_is s p there h = search (arith, h.least)
 
 -- what a message of this kind is for, if it isn't for a process that was made
 abbrev pub ForOthers : PlainMessage → PlainWhat → Type 0
@@ -106,18 +104,7 @@ user_for s x w true e h f = ForOther (f e)
 user_for s x w false e h f = ForProcess (some_of 0 (s.processes x.to) h)
 
 pub for_whom : (s : OneKernel) (i : MsgId) (x : PlainMessage) (w : PlainWhat) → WhatFits s i x w → ForWhom s x w
-for_whom s i x (PlainWhat.User code channel body links) h = user_for s x (PlainWhat.User code channel body links) (is_server x.to) refl h.0 (λ e. e)
-for_whom s i x (PlainWhat.Read base len) h = ForProcess (some_of (base + len) (s.processes x.to) h.0)
-for_whom s i x (PlainWhat.Write base bytes) h = ForProcess (some_of (base + length bytes) (s.processes x.to) h.0)
-for_whom s i x (PlainWhat.Block bytes) h = ForProcess (ap (λ p. is_some (s.processes p)) h.0 ∙ awaits_some (s.processes i.from) i.n (PlainWhat.Block bytes) h.1)
-for_whom s i x PlainWhat.Written h = ForProcess (ap (λ p. is_some (s.processes p)) h.0 ∙ awaits_some (s.processes i.from) i.n PlainWhat.Written h.1)
-for_whom s i x PlainWhat.Gone h = ForProcess (ap (λ p. is_some (s.processes p)) h.0 ∙ awaits_some (s.processes i.from) i.n PlainWhat.Gone h.1)
-for_whom s i x (PlainWhat.Create image links) h = let (num, rest, numbered, sender, request, is, fits) = h in ForOther num
-for_whom s i x (PlainWhat.Created child) h = let (to, answer, is, made) = h in ForOther to
-for_whom s i x PlainWhat.NoRoom h = let (to, answer, is) = h in ForOther to
-for_whom s i x (PlainWhat.Move a) h = ForProcess (some_of 0 (s.processes x.to) h.0)
-for_whom s i x (PlainWhat.Moved a) h = let (to, answer, is) = h in ForOther to
-for_whom s i x _ h = ForProcess (some_of 0 (s.processes x.to) h)
+for_whom s i x w h1 = search (arith, user_for, x.to, some_of, s.processes, awaits_some, i.from, i.n)
 
 -- a message for a kernel, for the switchboard, for the manager
 pub process_not_kernel : (s : OneKernel) (p : Pid) → is_some (s.processes p) ≡ true → (p.num == 0) ≡ true → Made s → false ≡ true

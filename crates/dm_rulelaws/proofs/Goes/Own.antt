@@ -1,16 +1,15 @@
 -- A kernel's own message at the front of the inbox can be handled.
-use Rattle.dm_rulelaws.proofs.Names.{Label, Note, Outcome, label_of, with_label, is_put, moved, answers_move, tells_asker, ◌≡◌, ◌≢◌, ℕ, ◌/◌, ◌≤◌, ◌==◌, ◌&&◌, ◌||◌, Bool, true, false, not, List, [], ◌∷◌, ◌++◌, length, refl, ap, ◌∙◌, sym}
-use Rattle.dm_rulelaws.proofs.Names.{subst, is_some, arith, if◌then◌else◌, Option, None, Some, false≢true, nat_tests, Pid, pid_eq, MsgId, MessageKind, Line, Stage, Boot, switchboard, manager, bind, PlainProcess, Life, Alive, Ended, View}
-use Rattle.dm_rulelaws.proofs.Names.{Told, Of, Known, Unknown, Here, Frozen, Incoming, Forward, is_kernels, target_of, to_kernel, forwards_on, moves_to, accepts, takes_chunk, takes_block, gives_piece, kernel_told, chunks_of, pieces_of}
-use Rattle.dm_rulelaws.proofs.Names.{updates, here_told, ended_told, process_told, server_told, sends_on, fits, free_room, kernel_hears, hears, is_between, is_restart, kind_comes, knows, is_away, Moves, sender_in, receiver_in, told_between}
-use Rattle.dm_rulelaws.proofs.Names.{IsIn, Point, Part, Says, Spot, Queue, Held, Inbox, times, standing, token_is, token_at, is_server, is_fixed, agrees, first_of, eq_self, inbox_is, about_same, kind_leaves}
+use Rattle.dm_rulelaws.proofs.Names.{◌≡◌, ◌≢◌, ℕ, ◌/◌, ◌≤◌, ◌==◌, ◌&&◌, ◌||◌, Bool, true, false, not, List, [], ◌∷◌, ◌++◌, length, refl, ap, ◌∙◌, sym, subst, is_some, arith, if◌then◌else◌, Option, None, Some, false≢true, nat_tests, Pid}
+use Rattle.dm_rulelaws.proofs.Names.{pid_eq, MsgId, MessageKind, Line, Stage, Boot, switchboard, manager, bind, PlainProcess, Life, Alive, View, Told, Of, Known, Unknown, Here, Frozen, Forward, is_kernels, target_of, to_kernel, forwards_on}
+use Rattle.dm_rulelaws.proofs.Names.{moves_to, accepts, takes_chunk, takes_block, gives_piece, kernel_told, chunks_of, pieces_of, updates, here_told, ended_told, process_told, server_told, sends_on, fits, free_room, kernel_hears, hears}
+use Rattle.dm_rulelaws.proofs.Names.{is_between, is_restart, kind_comes, knows, is_away, Moves, sender_in, receiver_in, told_between, IsIn, Point, Part, Says, Spot, Queue, Held, Inbox, times, standing, token_is, token_at, is_server}
+use Rattle.dm_rulelaws.proofs.Names.{is_fixed, agrees, first_of, eq_self, inbox_is, about_same, kind_leaves, Label, Note, Outcome, label_of, with_label, is_put, moved, answers_move, tells_asker}
 use Rattle.dm_onekernel.specs.Service as service
 use Rattle.dm_onekernel.specs.Step as kernel
 use Rattle.dm_rule.specs.Migrating as migrating
 use Rattle.dm_rule.specs.Rule as rule
 use Rattle.dm_rulelaws.proofs.Runs.{Run}
-use Rattle.dm_rulelaws.proofs.Own.Told.{OwnTold, own_sort, own_between, own_server, is_process}
-use Rattle.dm_rulelaws.proofs.Own.Fits.{NoOwns, ThenOwns, forwarded_place, forwards_own, accepts_own, piece_own, chunk_own, block_own, moves_own, sends_own}
+use Rattle.dm_rulelaws.proofs.Own.Told.{OwnTold, own_sort, own_between, own_server, NoOwns, ThenOwns, forwarded_place, forwards_own, accepts_own, piece_own, chunk_own, block_own, moves_own, sends_own}
 use Rattle.dm_rulelaws.proofs.Goes.Parts.{ArePlain, Can, can_as, can_plain, does_line, Quiet, no_receive}
 use Rattle.dm_rulelaws.proofs.Goes.Front.{begun, Calm, CanTurn, does_answers}
 use Rattle.dm_rulelaws.proofs.Goes.Process.{forwards_plain}
@@ -32,17 +31,10 @@ abbrev IsAlive : Option Life → Type 0
 IsAlive o = (y : PlainProcess) × (o ≡ Some (Alive y))
 
 frozen_alive : (k : MessageKind) (d : ℕ) (n : Known) (o : Option Life) → kind_leaves k d n ≡ true → is_restart k ≡ false → agrees n o ≡ true → IsAlive o
-frozen_alive k d (Frozen to) (Some (Alive y)) e r a = (y, refl)
-frozen_alive k d (Frozen to) (Some (Ended y)) e r a = absurd (false≢true a)
-frozen_alive k d (Frozen to) None e r a = absurd (false≢true a)
-frozen_alive k d (Forward m moves) o e r a = absurd (false≢true (sym (ap (λ (c : Bool). c && (d == m)) r) ∙ e))
-frozen_alive k d _ o e r a = absurd (false≢true e)
+frozen_alive k d n o h1 h2 h3 = search arith
 
 coming_alive : (s : ℕ) (n : Known) (o : Option Life) → kind_comes MessageKind.Restart s n ≡ true → agrees n o ≡ true → IsAlive o
-coming_alive s (Incoming from) (Some (Alive y)) e a = (y, refl)
-coming_alive s (Incoming from) (Some (Ended y)) e a = absurd (false≢true a)
-coming_alive s (Incoming from) None e a = absurd (false≢true a)
-coming_alive s _ o e a = absurd (false≢true e)
+coming_alive s n o h1 h2 = search arith
 
 pub source_knows : (k : MessageKind) (s d : ℕ) (id : Option MsgId) (n : Known) → knows (Moves k s d id) s n ≡ true → kind_leaves k d n ≡ true
 source_knows k s d id n e = sym (ap (λ (c : Bool). if c then kind_leaves k d n else if d == s then kind_comes k s n else is_away n) (eq_self s)) ∙ e
@@ -156,9 +148,7 @@ can_told C never b m o i p room x MessageKind.PullState t told about e c run = c
 can_told C never b m o i p room x MessageKind.State t told about e c run = can_plain C m (begun o m) (takes_chunk i p (o.view.asked p == chunks_of x)) never (chunk_plain (begun o m).view i p (o.view.asked p == chunks_of x)) (chunk_own (begun o m).view i p (o.view.asked p == chunks_of x) t p told about)
 can_told C never b m o i p room x MessageKind.PullBlock t told about e c run = can_plain C m (begun o m) (gives_piece i MessageKind.Memory) never (refl, (tt, tt)) (piece_own (begun o m).view i MessageKind.Memory t p told about (λ a e. e))
 can_told C never b m o i p room x MessageKind.Memory t told about e c run = can_plain C m (begun o m) (takes_block i p (o.view.asked p == pieces_of x)) never (block_plain (begun o m).view i p (o.view.asked p == pieces_of x)) (block_own (begun o m).view i p (o.view.asked p == pieces_of x) t p told about)
-can_told C never b m o i p room x MessageKind.AllTaken t told about e c run =
-    can_leave C never m o i p (o.view.known m p) c.d
-    (subst (λ (n : ℕ). kind_leaves MessageKind.AllTaken c.d (o.view.known n p) ≡ true) (sym c.here) (source_knows MessageKind.AllTaken c.s c.d c.id (o.view.known c.s p) (c.phase.known c.s))) run.found.told
+can_told C never b m o i p room x MessageKind.AllTaken t told about e c run = grind (arith, nat_tests, can_leave, o.view.known, c.d, c.here, source_knows, c.s, c.id, c.phase.known, run.found.told)
 can_told C never b m o i p room x MessageKind.Restart t told about e c run = can_asker C never b m o (Line.Migration Stage.Restarted p) p (o.kernel.notes p) Outcome.Done refl refl refl (λ n. refl) run
 can_told C never b m o i p room x _ t told about e c run = absurd (false≢true e)
 
@@ -182,28 +172,12 @@ can_server C never m o i t k e = can_as C m (begun o m) (server_told o i t k) (S
 can_here : (C : Type 0) (never : C → ⊥) (m : ℕ) (o : Point) (i : MsgId) (t : Told) (k : MessageKind) → own_sort k t.receiver t.about ≡ true → (t.receiver.num == 0) ≡ false → Can C m (begun o m) (here_told o m i t k)
 can_here C never m o i t MessageKind.Migrate e num = can_plain C m (begun o m) (moves_to m i t.receiver (target_of (Some t))) never (moves_plain (begun o m).view m i t.receiver (target_of (Some t)) (m == target_of (Some t))) (moves_own (begun o m).view i t.receiver (target_of (Some t)) (m == target_of (Some t)))
 can_here C never m o i t MessageKind.Update e num = can_plain C m (begun o m) (updates o i t) never (refl, tt) (NoOwns (tt, tt))
-can_here C never m o i t MessageKind.Ask e num = absurd (false≢true (sym (ap (λ (c : Bool). c && is_process t.about) num) ∙ e))
-can_here C never m o i t MessageKind.Refuse e num = absurd (false≢true (sym (ap (λ (c : Bool). c && is_process t.about) num) ∙ e))
-can_here C never m o i t MessageKind.PullState e num = absurd (false≢true (sym (ap (λ (c : Bool). c && is_process t.about) num) ∙ e))
-can_here C never m o i t MessageKind.State e num = absurd (false≢true (sym (ap (λ (c : Bool). c && is_process t.about) num) ∙ e))
-can_here C never m o i t MessageKind.PullBlock e num = absurd (false≢true (sym (ap (λ (c : Bool). c && is_process t.about) num) ∙ e))
-can_here C never m o i t MessageKind.Memory e num = absurd (false≢true (sym (ap (λ (c : Bool). c && is_process t.about) num) ∙ e))
-can_here C never m o i t MessageKind.AllTaken e num = absurd (false≢true (sym (ap (λ (c : Bool). c && is_process t.about) num) ∙ e))
-can_here C never m o i t MessageKind.Restart e num = absurd (false≢true (sym (ap (λ (c : Bool). c && is_process t.about) num) ∙ e))
-can_here C never m o i t _ e num = absurd (false≢true e)
+can_here C never m o i t _ e num = absurd (grind (arith, nat_tests))
 
 can_over : (C : Type 0) (never : C → ⊥) (m : ℕ) (o : Point) (i : MsgId) (t : Told) (k : MessageKind) → own_sort k t.receiver t.about ≡ true → (t.receiver.num == 0) ≡ false → Can C m (begun o m) (ended_told i k)
 can_over C never m o i t MessageKind.Migrate e num = can_plain C m (begun o m) (Says (Line.NoMove i) ∷ []) never (refl, tt) (NoOwns (tt, tt))
 can_over C never m o i t MessageKind.Update e num = can_plain C m (begun o m) (Says (Line.Updated i 0) ∷ []) never (refl, tt) (NoOwns (tt, tt))
-can_over C never m o i t MessageKind.Ask e num = absurd (false≢true (sym (ap (λ (c : Bool). c && is_process t.about) num) ∙ e))
-can_over C never m o i t MessageKind.Refuse e num = absurd (false≢true (sym (ap (λ (c : Bool). c && is_process t.about) num) ∙ e))
-can_over C never m o i t MessageKind.PullState e num = absurd (false≢true (sym (ap (λ (c : Bool). c && is_process t.about) num) ∙ e))
-can_over C never m o i t MessageKind.State e num = absurd (false≢true (sym (ap (λ (c : Bool). c && is_process t.about) num) ∙ e))
-can_over C never m o i t MessageKind.PullBlock e num = absurd (false≢true (sym (ap (λ (c : Bool). c && is_process t.about) num) ∙ e))
-can_over C never m o i t MessageKind.Memory e num = absurd (false≢true (sym (ap (λ (c : Bool). c && is_process t.about) num) ∙ e))
-can_over C never m o i t MessageKind.AllTaken e num = absurd (false≢true (sym (ap (λ (c : Bool). c && is_process t.about) num) ∙ e))
-can_over C never m o i t MessageKind.Restart e num = absurd (false≢true (sym (ap (λ (c : Bool). c && is_process t.about) num) ∙ e))
-can_over C never m o i t _ e num = absurd (false≢true e)
+can_over C never m o i t _ e num = absurd (grind (arith, nat_tests))
 
 can_known : (C : Type 0) (never : C → ⊥) (b : Boot) (m : ℕ) (o : Point) (i : MsgId) (f : FrontOwn b m o i) (n : Known) → o.view.known m f.told.receiver ≡ n → n ≢ Unknown → (f.told.receiver.num == 0) ≡ false → Can C m (begun o m) (process_told o m i f.told n)
 can_known C never b m o i f Unknown is there num = absurd (there refl)

@@ -1,8 +1,8 @@
 -- Parts that can be said: labels are steps of the kernel, and other lines change nothing of it.
-use Rattle.dm_rulelaws.proofs.Names.{IsUnasked, AskNone, seen, topic_by, seen_none, after_line, headed, ◌≡◌, ℕ, ◌==◌, not, filter, arith, Bool, true, false, List, [], ◌∷◌, ◌++◌, length, refl, ap, ◌∙◌, sym, subst, is_some, ⊤, if◌then◌else◌}
-use Rattle.dm_rulelaws.proofs.Names.{Option, None, Some, Pid, MsgId, MessageKind, id_eq, plain_kind, PlainMessage, Boot, Label, OneKernel, bind, Step, Line, Load, View, Told, view_after, own_id, Receiver, Point, labels, with_label}
-use Rattle.dm_rulelaws.proofs.Names.{label_of, kernel_after, after, moved, Part, Says, Routes, Again, Owns, Transmits, Spelled, lines_of, puts, goes_out, packet_line, behind, spelled, group_of, outcome, Pair, in_bag, counts, IsNetLine}
-use Rattle.dm_rulelaws.proofs.Names.{IsNet, is_put, hushed, Sane, sane_line, part_sane}
+use Rattle.dm_rulelaws.proofs.Names.{after_line, headed, ◌≡◌, ℕ, ◌==◌, not, filter, arith, Bool, true, false, List, [], ◌∷◌, ◌++◌, length, refl, ap, ◌∙◌, sym, subst, is_some, ⊤, if◌then◌else◌, Option, None, Some, Pid, MsgId, MessageKind}
+use Rattle.dm_rulelaws.proofs.Names.{id_eq, plain_kind, PlainMessage, Boot, Label, OneKernel, bind, Step, Line, Load, View, Told, view_after, own_id, Receiver, Point, labels, with_label, label_of, kernel_after, after, moved, Part, Says}
+use Rattle.dm_rulelaws.proofs.Names.{Routes, Again, Owns, Transmits, Spelled, lines_of, puts, packet_line, behind, spelled, group_of, outcome, Pair, counts, IsNetLine, IsNet, is_put, hushed, Sane, sane_line, part_sane, IsUnasked, AskNone}
+use Rattle.dm_rulelaws.proofs.Names.{seen, topic_by, seen_none}
 use Rattle.dm_rulelaws.proofs.Order.Lines.{thin_same, box_same}
 use Rattle.dm_onekernel.specs.Step as kernel
 use Rattle.dm_rule.specs.View as view
@@ -10,9 +10,8 @@ use Rattle.dm_rule.specs.Rule as rule
 use Rattle.dm_rulelaws.proofs.Queued.{is_user}
 use Rattle.dm_rulelaws.proofs.Order.Lines.{Which, Ord, ord_view, ord_label}
 use Rattle.dm_rulelaws.proofs.Order.Moves.{Last}
-use Rattle.dm_rulelaws.proofs.Order.Puts.{thin_pair, ord_put}
-use Rattle.dm_rulelaws.proofs.Order.Takes.{ord_taken}
-use Rattle.dm_rulelaws.proofs.Own.Fits.{HaveNoOwn, OwnsFit, NoOwns}
+use Rattle.dm_rulelaws.proofs.Order.Puts.{thin_pair, ord_put, ord_taken}
+use Rattle.dm_rulelaws.proofs.Own.Told.{HaveNoOwn, OwnsFit, NoOwns}
 
 -- the labels that parts say
 abbrev pub part_says : Part → List Label → List Label
@@ -102,16 +101,11 @@ does_asks C pt i t ps is d = let e = does_label ⊥ pt (Label.Asked i) t ps is d
 
 -- a packet
 ord_packet : (q : Which) (s : OneKernel) (v : View) (a c k : ℕ) (l : Load) → Ord q s v → Ord q s (view.after_packet v a c l)
-ord_packet q s v a c k l o =
-    let p : Pair = record (v.pair a c) { gone = view.gone_after l (v.pair a c).gone; wire = (v.pair a c).wire ++ record { load = l; delivered = false } ∷ [] } in
-    ord_view q s v (view.with_pair v a c p) (thin_pair q v a c p refl) o
+ord_packet q s v a c k l o = search (arith, ord_view, thin_pair)
 
 -- what stands in the bag is counted
 counted_in : (pt : Point) → Sane pt → (i : MsgId) (y : PlainMessage) → pt.kernel.bag i ≡ Some y → counts pt.kernel i ≡ true
-counted_in pt h i y there =
-    let few = h.sound.entered.fewer i in
-    let one : in_bag (pt.kernel.bag i) ≡ 1 = ap in_bag there in
-    h.sound.entered.counted i (omega (arith, few, one))
+counted_in pt h i y there = search (arith, h.sound.entered.fewer, pt.kernel.bag, h.sound.entered.counted)
 
 -- a put, with its packet
 pub record Puts (pt : Point) (ls : List Line) : Type 0 where
@@ -152,9 +146,7 @@ puts_if pt l false true a b k x none topic =
     }
 
 pub put_lines : (pt : Point) (b : ℕ) (i : MsgId) (k : MessageKind) (q : Pid) → Puts pt (puts pt.view b i k q)
-put_lines pt b i k q =
-    let v = pt.view in
-    puts_if pt (Line.Put v.acting b i k q) (v.acting == b) (goes_out (v.pair v.acting b)) v.acting b (length (v.pair v.acting b).wire) (Load.Data (length (v.pair v.acting b).ids)) refl refl
+put_lines pt b i k q = search (arith, puts_if)
 
 -- a message of the bag is routed
 pub does_route : (C : Type 0) (pt : Point) (i : MsgId) (x : PlainMessage) → pt.kernel.bag i ≡ Some x → (C → Sane pt → is_user x.what ≡ true → Last pt.kernel pt.view i) → Does C pt (Routes i ∷ [])
@@ -300,13 +292,7 @@ can_say C m pt l t ps is quiet none d = record { ps = rule.says l ∷ ps; is = r
 
 -- a line
 pub can_line : (C : Type 0) (m : ℕ) (pt : Point) (l : Line) → label_of l ≡ None → is_put l ≡ false → (C → (k : Which) → Ord k pt.kernel pt.view → Ord k pt.kernel (view_after pt.view l)) → Can C m pt (Some (Says l ∷ []))
-can_line C m pt l none quiet keeps = record {
-  ps = Says l ∷ [];
-  is = refl;
-  does = does_line C pt l [] none quiet keeps (does_nothing C (moved pt l pt.kernel));
-  shape = Quiet (ap (λ (o : Option Label). no_receive (with_label o [])) none);
-  owns = NoOwns (tt, tt);
-}
+can_line C m pt l none quiet keeps = search (arith, does_line, does_nothing, pt.kernel)
 
 -- parts of a run in which something moves
 pub can_plain : (C : Type 0) (m : ℕ) (pt : Point) (ps : List Part) → (C → ⊥) → ArePlain pt.view ps → OwnsFit pt.view ps → Can C m pt (Some ps)

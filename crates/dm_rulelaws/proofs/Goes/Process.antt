@@ -1,23 +1,23 @@
 -- A message for a process at the front of the inbox can be handled.
-use Rattle.dm_rulelaws.proofs.Names.{Note, Outcome, with_note, id_eq-same, pid_eq-same, answers_move, leaves_for, ◌≡◌, ◌≢◌, ℕ, ◌+◌, ◌≤◌, ◌==◌, ◌&&◌, ◌||◌, Bool, true, false, [], ◌∷◌, length, refl, ap, ◌∙◌, sym, subst, is_some, nat_le}
-use Rattle.dm_rulelaws.proofs.Names.{arith, if◌then◌else◌, take, drop, Option, None, Some, false≢true, nat_tests, Pid, pid_eq, MsgId, MessageKind, Label, Reply, Line, id_eq, plain_kind, PlainMessage, PlainWhat, Direction, Boot, Why}
-use Rattle.dm_rulelaws.proofs.Names.{switchboard, manager, bind, when, PlainProcess, PlainStatus, Moving, Life, Alive, Ended, OneKernel, with_process, with_sent, answer_id, answer_to, without_message, is_dropped, is_of_memory, id_eq-is}
-use Rattle.dm_rulelaws.proofs.Names.{out_off, LandsSo, lands-is, Addresses, Sender, is_told_back, forwards_on, Point, moved, Says, Routes, Owns, Inbox, times, View, Known, has_bytes, is_server, awaits, status_awaits, move_fits, piece_fits}
-use Rattle.dm_rulelaws.proofs.Names.{WhatFits, is_fixed, agrees, is_still, handled}
+use Rattle.dm_rulelaws.proofs.Names.{◌≡◌, ◌≢◌, ℕ, ◌+◌, ◌≤◌, ◌==◌, ◌&&◌, ◌||◌, Bool, true, false, ◌∷◌, length, refl, ap, ◌∙◌, sym, subst, is_some, nat_le, arith, if◌then◌else◌, take, drop, Option, None, Some, false≢true, Pid, pid_eq, MsgId}
+use Rattle.dm_rulelaws.proofs.Names.{MessageKind, Label, Reply, Line, id_eq, plain_kind, PlainMessage, PlainWhat, Direction, Boot, Why, switchboard, manager, bind, PlainProcess, PlainStatus, Moving, Life, Alive, Ended, OneKernel}
+use Rattle.dm_rulelaws.proofs.Names.{with_process, with_sent, answer_id, answer_to, without_message, is_dropped, is_of_memory, id_eq-is, out_off, LandsSo, lands-is, Addresses, Sender, is_told_back, forwards_on, Point, moved, Says, Routes}
+use Rattle.dm_rulelaws.proofs.Names.{Owns, times, View, Known, has_bytes, is_server, awaits, status_awaits, move_fits, piece_fits, WhatFits, is_fixed, agrees, is_still, handled, Note, Outcome, with_note, id_eq-same, pid_eq-same}
+use Rattle.dm_rulelaws.proofs.Names.{answers_move, leaves_for, []}
 use Rattle.dm_onekernel.specs.Pieces as pieces
 use Rattle.dm_onekernel.specs.Service as service
 use Rattle.dm_onekernel.specs.Step as kernel
 use Rattle.dm_rule.specs.Rule as rule
 use Rattle.dm_rule.specs.View as view
 use Rattle.dm_rulelaws.proofs.Fits.Rises.{both, set_at}
-use Rattle.dm_rulelaws.proofs.Own.Told.{OwnTold}
-use Rattle.dm_rulelaws.proofs.Own.Fits.{sets_own, NoOwns, forwarded_place, forwards_own}
-use Rattle.dm_rulelaws.proofs.Goes.Parts.{does_nothing, does_asks, does_plain, Quiet, does_route, can_as, can_say, can_line, can_plain, ArePlain}
+use Rattle.dm_rulelaws.proofs.Own.Told.{OwnTold, NoOwns, forwarded_place, forwards_own}
+use Rattle.dm_rulelaws.proofs.Goes.Parts.{does_nothing, does_route, can_as, can_say, can_line, can_plain, ArePlain, does_asks, does_plain, Quiet}
+use Rattle.dm_rulelaws.proofs.Own.Told.{sets_own}
 use Rattle.dm_rulelaws.proofs.Queued.{is_user}
 use Rattle.dm_rulelaws.proofs.Order.Lines.{Which, Ord}
-use Rattle.dm_rulelaws.proofs.Order.Takes.{ord_queued}
-use Rattle.dm_rulelaws.proofs.Goes.Turns.{at_hand_of, drops_quiet, drops_own, droppable_on, does_drops, dropped_is}
-use Rattle.dm_rulelaws.proofs.Goes.Front.{does_answers, here_free, begun, Calm, CanTurn, Front, name_of, told_receiver, is_manager, answer_there, sent_there}
+use Rattle.dm_rulelaws.proofs.Order.Puts.{ord_queued}
+use Rattle.dm_rulelaws.proofs.Goes.Turns.{drops_quiet, drops_own, droppable_on, does_drops, dropped_is, at_hand_of}
+use Rattle.dm_rulelaws.proofs.Goes.Front.{begun, Calm, CanTurn, Front, name_of, told_receiver, is_manager, answer_there, sent_there, does_answers, here_free}
 
 -- a served message's step
 served_step_is : (s : OneKernel) (i : MsgId) (x : PlainMessage) (y : PlainProcess) (w : PlainWhat) (t : OneKernel) → s.bag i ≡ Some x → s.processes x.to ≡ Some (Alive y) → s.notes x.to ≡ None → x.what ≡ w → service.serves s i x y w ≡ Some t → kernel.step s (Label.Served i) ≡ Some t
@@ -79,16 +79,11 @@ lands_to b p y x ps n w (Moving dir owner base own left pending) is number waits
     let k = both (n == pending) (piece_fits dir left w) waits in
     let within = (both (has_bytes (base + left) (ps owner)) (nat_le (own + left) (length y.memory)) fits).1 in
     let (c, lands) = lands_what_to p y dir owner base own left w k.1 within off in
-    record {
-      c = c;
-      is = ap (λ (d : Bool). if d then pieces.lands_what p y dir owner base own left x.what else None) (ap (λ j. j == pending) number ∙ k.0) ∙ ap (pieces.lands_what p y dir owner base own left) is ∙ lands;
-    }
+    search (arith, x.what, k.0)
 lands_to b p y x ps n w _ is number waits fits off = cc
 
 memory_no_user : (w : PlainWhat) → is_of_memory w ≡ true → is_user w ≡ false
-memory_no_user (PlainWhat.Read base len) e = refl
-memory_no_user (PlainWhat.Write base bytes) e = refl
-memory_no_user _ e = cc
+memory_no_user w h1 = search arith
 
 can_land_at : (b : Boot) (m : ℕ) (o : Point) (i : MsgId) (x : PlainMessage) (y : PlainProcess) (w : PlainWhat) (c : pieces.Landed) → x.what ≡ w → o.kernel.processes x.to ≡ Some (Alive y) → o.kernel.notes x.to ≡ None → Front b m o i x → service.serves o.kernel i x y w ≡ Some (service.landed o.kernel i x c)
     → LandsSo x.to y c → CanTurn m o (rule.landing_parts i (Some c))
@@ -167,9 +162,7 @@ can_here b m o i x y (PlainWhat.Write base bytes) is num other alive free f h =
     let writes : pieces.writes y x base bytes ≡ Some (record { process = z; answer = k }) = ap (λ (c : Bool). if c then Some (record { process = z; answer = k }) else None) within in
     can_answer b m o i x y z (PlainWhat.Write base bytes) k (answer_id i) is alive free f (ap (λ (c : Option pieces.Served). bind c (λ (r : pieces.Served). Some (service.answered s i x r))) writes)
     (answer_there (service.changed s i x z) i x PlainWhat.Written (name_of b m o i x f)) refl
-can_here b m o i x y (PlainWhat.Create image links) is num other alive free f h =
-    let (zero_, rest, numbered, sender, request, pending, fits) = h in
-    absurd (false≢true (sym num ∙ (let k : (x.to.num == 0) ≡ true = grind (arith, nat_tests) in k)))
+can_here b m o i x y (PlainWhat.Create image links) is num other alive free f h = search (arith, x.to.num)
 can_here b m o i x y (PlainWhat.Created child) is num other alive free f h =
     let (to, answer, pending, made) = h in
     absurd (false≢true (sym other ∙ is_manager x.to to))
@@ -205,9 +198,7 @@ pub can_ended : (b : Boot) (m : ℕ) (o : Point) (i : MsgId) (x : PlainMessage) 
     → CanTurn m o (rule.ended_handles i w)
 can_ended b m o i x y (PlainWhat.Read base len) is num other ended f h = can_gone b m o i x y PlainWhat.Gone (ap service.gone_what is) refl ended f
 can_ended b m o i x y (PlainWhat.Write base bytes) is num other ended f h = can_gone b m o i x y PlainWhat.Gone (ap service.gone_what is) refl ended f
-can_ended b m o i x y (PlainWhat.Create image links) is num other ended f h =
-    let (zero_, rest, numbered, sender, request, pending, fits) = h in
-    absurd (false≢true (sym num ∙ (let k : (x.to.num == 0) ≡ true = grind (arith, nat_tests) in k)))
+can_ended b m o i x y (PlainWhat.Create image links) is num other ended f h = search (arith, x.to.num)
 can_ended b m o i x y (PlainWhat.Created child) is num other ended f h =
     let (to, answer, pending, made) = h in
     absurd (false≢true (sym other ∙ is_manager x.to to))
@@ -257,6 +248,4 @@ pub can_process : (b : Boot) (m : ℕ) (o : Point) (i : MsgId) (x : PlainMessage
 can_process b m o i x num one other f own =
     let server : is_server x.to ≡ false = ap (λ (c : Bool). c || pid_eq x.to manager) one ∙ other in
     let loose : is_fixed x.to ≡ false = ap (λ (c : Bool). c || is_server x.to) num ∙ server in
-    let to = told_receiver b m o i x f in
-    can_known b m o i x (o.view.known m x.to) refl (λ e. f.run.found.process i (Inbox m) f.told f.first f.told_is (ap is_fixed to ∙ loose) (ap (o.view.known m) to ∙ e))
-    (f.run.based.known.agree m x.to server) num other f own
+    search (arith, told_receiver, can_known, o.view.known, x.to, f.run.found.process, f.told, f.first, f.told_is, f.run.based.known.agree)

@@ -1,6 +1,6 @@
 -- Laws of runs, from what holds at their start and is kept by each group.
-use Rattle.dm_rulelaws.proofs.Names.{AskNone, ◌≡◌, ℕ, ◌≤◌, true, List, [], ◌∷◌, ap, ◌∙◌, sym, subst, is_some, nat_le, arith, nat_tests, None, Some, MsgId, Boot, IsValid, Step, is_for_home, Spelled, Point, first_point, group_of, IsStep}
-use Rattle.dm_rulelaws.proofs.Names.{IsStill, Leads, Home, home_start, stands, all_stand, home_group, none_replaced, kernels_fresh, GoesOnAlways, KnownAlways, for_home}
+use Rattle.dm_rulelaws.proofs.Names.{◌≡◌, ℕ, ◌≤◌, true, List, [], ◌∷◌, ap, subst, is_some, nat_le, arith, nat_tests, None, Some, MsgId, Boot, IsValid, Step, is_for_home, Spelled, Point, first_point, group_of, IsStep, IsStill, Leads, Home}
+use Rattle.dm_rulelaws.proofs.Names.{home_start, stands, home_group, none_replaced, kernels_fresh, GoesOnAlways, KnownAlways, for_home, AskNone}
 use Rattle.dm_rulelaws.proofs.Fits.Rises.{both}
 use Rattle.dm_rulelaws.proofs.Runs.{Run}
 use Rattle.dm_rulelaws.proofs.Own.Told.{OwnTold}
@@ -58,9 +58,7 @@ stays_group goes b pt d w valid still asks fit is h =
     record { both = both_group goes b pt d w valid fit is h.both; r = k.r; e = k.e; home = k.home }
 
 front_stands : (b : Boot) (pt : Point) (m : ℕ) (i : MsgId) (is : List MsgId) (h : Stays b pt) → pt.view.inbox m ≡ i ∷ is → stands pt.kernel h.e m i ≡ true
-front_stands b pt m i is h box =
-    let all : all_stand pt.kernel h.e m (i ∷ is) ≡ true = sym (ap (all_stand pt.kernel h.e m) box) ∙ h.home.lists.inbox m in
-    (both (stands pt.kernel h.e m i) (all_stand pt.kernel h.e m is) all).0
+front_stands b pt m i is h box = search (arith, pt.kernel, h.e, h.home.lists.inbox, both)
 
 not_own : (b : Boot) (pt : Point) (m : ℕ) (i : MsgId) (is : List MsgId) (h : Stays b pt) → pt.view.inbox m ≡ i ∷ is → pt.kernel.bag i ≡ None → ⊥
 not_own b pt m i is h box none =

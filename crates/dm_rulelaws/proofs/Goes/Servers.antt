@@ -1,20 +1,20 @@
 -- A message for a kernel or a server at the front of the inbox can be handled.
-use Rattle.dm_rulelaws.proofs.Names.{is_for, PendingKind, code_of_outcome, ◌≡◌, ℕ, zero, suc, ◌+◌, ◌==◌, ◌&&◌, ◌||◌, ◌++◌, Bool, true, false, List, [], ◌∷◌, length, refl, ap, ◌∙◌, sym, subst, is_some, nat_lt, arith, ⊤, if◌then◌else◌}
-use Rattle.dm_rulelaws.proofs.Names.{slice_get, Option, None, Some, false≢true, nat_tests, Pid, pid_of, pid_eq, PlainLink, MsgId, Label, Line, PlainMessage, PlainWhat, BootImage, Boot, first_number, switchboard, manager, bind, when}
-use Rattle.dm_rulelaws.proofs.Names.{Pending, OneKernel, with_sent, answer_id, answer_to, without_message, Made, pid_eq-same, Point, moved, Part, Routes, is_server, IsPending, WhatFits, is_fixed, counts, ServerSends, handled, is_kernels}
-use Rattle.dm_rulelaws.proofs.Names.{not_kernels, or_first, board_takes_lem, manager_takes_lem}
+use Rattle.dm_rulelaws.proofs.Names.{◌≡◌, ℕ, zero, suc, ◌+◌, ◌==◌, ◌&&◌, ◌||◌, ◌++◌, Bool, true, false, List, [], ◌∷◌, length, refl, ap, ◌∙◌, sym, nat_lt, arith, ⊤, if◌then◌else◌, slice_get, Option, None, Some, false≢true, nat_tests, Pid}
+use Rattle.dm_rulelaws.proofs.Names.{pid_of, pid_eq, PlainLink, MsgId, Label, Line, PlainMessage, PlainWhat, BootImage, Boot, first_number, switchboard, manager, bind, when, Pending, OneKernel, with_sent, answer_id, answer_to}
+use Rattle.dm_rulelaws.proofs.Names.{without_message, Made, pid_eq-same, Point, moved, Part, Routes, is_server, IsPending, WhatFits, is_fixed, counts, ServerSends, handled, is_kernels, not_kernels, or_first, board_takes_lem}
+use Rattle.dm_rulelaws.proofs.Names.{manager_takes_lem, is_for, PendingKind, code_of_outcome}
 use Rattle.dm_onekernel.specs.Switchboard as board
 use Rattle.dm_onekernel.specs.Manager as manage
 use Rattle.dm_onekernel.specs.Service as service
 use Rattle.dm_onekernel.specs.Step as kernel
 use Rattle.dm_rule.specs.Rule as rule
 use Rattle.dm_rulelaws.proofs.Queued.{is_user}
-use Rattle.dm_rulelaws.proofs.Own.Told.{OwnTold}
-use Rattle.dm_rulelaws.proofs.Own.Fits.{HaveNoOwn}
+use Rattle.dm_rulelaws.proofs.Own.Told.{OwnTold, HaveNoOwn}
 use Rattle.dm_rulelaws.proofs.Goes.Parts.{said, no_receive, does_route, Can, can_as, can_say}
 use Rattle.dm_rulelaws.proofs.Order.Moves.{Last, next_id}
 use Rattle.dm_rulelaws.proofs.Goes.Serves.{never_counted}
-use Rattle.dm_rulelaws.proofs.Goes.Front.{begun, Calm, CanTurn, Front, made_of, name_of, home_of, ForOthers, ForWhom, ForProcess, ForOther, for_whom, process_not_kernel, process_not_board, process_not_manager, answer_there, does_routes, sent_there}
+use Rattle.dm_rulelaws.proofs.Goes.Front.{begun, Calm, CanTurn, Front, made_of, name_of, home_of, ForOthers, ForWhom, ForProcess, ForOther, for_whom, process_not_kernel, process_not_board, process_not_manager, answer_there, does_routes}
+use Rattle.dm_rulelaws.proofs.Goes.Front.{sent_there}
 use Rattle.dm_rulelaws.proofs.Goes.Process.{can_process}
 
 get_is : {X : Type 0} (xs : List X) (k : ℕ) → nat_lt k (length xs) ≡ true → (x : X) × (slice_get xs k ≡ Some x)
@@ -23,11 +23,7 @@ get_is (x ∷ xs) zero e = (x, refl)
 get_is (x ∷ xs) (suc k) e = get_is xs k (let f : nat_lt k (length xs) ≡ true = grind (arith, nat_tests) in f)
 
 server_number : (p : Pid) → is_server p ≡ true → (p.num == 0) ≡ false
-server_number p e = numbered (pid_eq p switchboard) refl e
-  where
-    numbered : (c : Bool) → pid_eq p switchboard ≡ c → (c || pid_eq p manager) ≡ true → (p.num == 0) ≡ false
-    numbered true f g = grind (arith, nat_tests)
-    numbered false f g = grind (arith, nat_tests)
+server_number p h1 = search (arith, p.num)
 
 -- the kernel of a machine
 abbrev IsCreate : PlainWhat → Type 0
@@ -35,12 +31,7 @@ IsCreate (PlainWhat.Create image links) = ⊥
 IsCreate w = ⊤
 
 others_kernel : (x : PlainMessage) (w : PlainWhat) → IsCreate w → (x.to.num == 0) ≡ true → ForOthers x w → false ≡ true
-others_kernel x (PlainWhat.User code channel body links) c num h = sym (server_number x.to h) ∙ num
-others_kernel x (PlainWhat.Created child) c num h = let e : x.to.num ≡ 2 = ap (λ (p : Pid). p.num) h in let f : (x.to.num == 0) ≡ false = grind (arith, nat_tests) in sym f ∙ num
-others_kernel x PlainWhat.NoRoom c num h = let e : x.to.num ≡ 2 = ap (λ (p : Pid). p.num) h in let f : (x.to.num == 0) ≡ false = grind (arith, nat_tests) in sym f ∙ num
-others_kernel x (PlainWhat.Moved outcome) c num h = let e : x.to.num ≡ 2 = ap (λ (p : Pid). p.num) h in let f : (x.to.num == 0) ≡ false = grind (arith, nat_tests) in sym f ∙ num
-others_kernel x (PlainWhat.Create image links) c num h = absurd c
-others_kernel x _ c num h = absurd h
+others_kernel x w h1 h2 h3 = search (arith, server_number, x.to, x.to.num)
 
 never_kernel : (s : OneKernel) (x : PlainMessage) (w : PlainWhat) → IsCreate w → (x.to.num == 0) ≡ true → Made s → ForWhom s x w → ⊥
 never_kernel s x w c num made (ForProcess there) = false≢true (process_not_kernel s x.to there num made)
@@ -105,11 +96,7 @@ record Sends (m : ℕ) (o : Point) (u : OneKernel) (k : Option PlainMessage) : T
   home : (y : PlainMessage) → k ≡ Some y → y.id.from.home ≡ m
 
 took_last : (b : Boot) (m : ℕ) (o : Point) (i : MsgId) (x : PlainMessage) (u : OneKernel) (k : Option PlainMessage) (y : PlainMessage) → Sends m o u k → k ≡ Some y → is_kernels y.id ≡ false → Front b m o i x → Last (with_sent u k) (handled (begun o m).view i) y.id
-took_last b m o i x u k y sends e other f = record {
-  home = sends.home y e;
-  last = subst (λ (v : Option PlainMessage). counts (with_sent u v) (next_id y.id) ≡ false) (sym e) (sends.last y e);
-  untold = never_counted o y.id f.run.based.phased.sane (sends.fresh y e) other;
-}
+took_last b m o i x u k y sends e other f = search (arith, sends.home, y.id, sends.last, never_counted, f.run.based.phased.sane, sends.fresh)
 
 can_take : (b : Boot) (m : ℕ) (o : Point) (i : MsgId) (x : PlainMessage) (u : OneKernel) (k : Option PlainMessage) → kernel.step o.kernel (Label.Took i) ≡ Some (with_sent u k) → Sends m o u k → Front b m o i x → CanTurn m o (Some (rule.says (Label.Took i) ∷ rule.routes k))
 can_take b m o i x u k step sends f =
@@ -119,24 +106,10 @@ can_take b m o i x u k step sends f =
 
 -- what the servers send
 board_sends : (m : ℕ) (o : Point) (i : MsgId) (x : PlainMessage) (k : board.BoardTook) → ServerSends switchboard o.kernel.switchboard.sent k.answer k.switchboard.sent → m ≡ 0 → Sends m o (record (without_message o.kernel i) { switchboard = k.switchboard }) k.answer
-board_sends m o i x k sends at = record {
-  fresh = λ y e. (let w = subst (λ (v : Option PlainMessage). ServerSends switchboard o.kernel.switchboard.sent v k.switchboard.sent) e sends in let (name, count, memory, piece) = w in
-      ap (counts o.kernel) name ∙ (let z : nat_lt o.kernel.switchboard.sent o.kernel.switchboard.sent ≡ false = grind (arith, nat_tests) in z));
-  last = λ y e. (let w = subst (λ (v : Option PlainMessage). ServerSends switchboard o.kernel.switchboard.sent v k.switchboard.sent) e sends in let (name, count, memory, piece) = w in
-      ap (λ (j : MsgId). counts (record (without_message o.kernel i) { switchboard = k.switchboard }) (next_id j)) name ∙ (let z : nat_lt (o.kernel.switchboard.sent + 1) k.switchboard.sent ≡ false = grind (arith, nat_tests) in z));
-  home = λ y e. (let w = subst (λ (v : Option PlainMessage). ServerSends switchboard o.kernel.switchboard.sent v k.switchboard.sent) e sends in let (name, count, memory, piece) = w in
-      ap (λ (j : MsgId). j.from.home) name ∙ sym at);
-}
+board_sends m o i x k sends at = search (arith, o.kernel.switchboard.sent, k.switchboard.sent, o.kernel, k.switchboard)
 
 manager_sends : (m : ℕ) (o : Point) (i : MsgId) (x : PlainMessage) (k : manage.ManagerTook) → ServerSends manager o.kernel.manager.sent k.message k.manager.sent → m ≡ 0 → Sends m o (record (without_message o.kernel i) { manager = k.manager }) k.message
-manager_sends m o i x k sends at = record {
-  fresh = λ y e. (let w = subst (λ (v : Option PlainMessage). ServerSends manager o.kernel.manager.sent v k.manager.sent) e sends in let (name, count, memory, piece) = w in
-      ap (counts o.kernel) name ∙ (let z : nat_lt o.kernel.manager.sent o.kernel.manager.sent ≡ false = grind (arith, nat_tests) in z));
-  last = λ y e. (let w = subst (λ (v : Option PlainMessage). ServerSends manager o.kernel.manager.sent v k.manager.sent) e sends in let (name, count, memory, piece) = w in
-      ap (λ (j : MsgId). counts (record (without_message o.kernel i) { manager = k.manager }) (next_id j)) name ∙ (let z : nat_lt (o.kernel.manager.sent + 1) k.manager.sent ≡ false = grind (arith, nat_tests) in z));
-  home = λ y e. (let w = subst (λ (v : Option PlainMessage). ServerSends manager o.kernel.manager.sent v k.manager.sent) e sends in let (name, count, memory, piece) = w in
-      ap (λ (j : MsgId). j.from.home) name ∙ sym at);
-}
+manager_sends m o i x k sends at = search (arith, o.kernel.manager.sent, k.manager.sent, o.kernel, k.manager)
 
 at_server : (x : PlainMessage) (m : ℕ) → pid_eq x.to switchboard ≡ true → x.to.home ≡ m → m ≡ 0
 at_server x m e home = let z : x.to.home ≡ 0 = grind (arith, nat_tests) in sym home ∙ z
@@ -149,12 +122,7 @@ server_fixed p e = or_first (p.num == 0) (is_server p) e
 
 -- the switchboard
 others_board : (x : PlainMessage) (w : PlainWhat) → (is_user w ≡ false) → (x.to.num == 0) ≡ false → pid_eq x.to switchboard ≡ true → ForOthers x w → false ≡ true
-others_board x (PlainWhat.User code channel body links) c num one h = cc
-others_board x (PlainWhat.Create image links) c num one h = sym num ∙ (let k : (x.to.num == 0) ≡ true = grind (arith, nat_tests) in k)
-others_board x (PlainWhat.Created child) c num one h = (let e : x.to.num ≡ 2 = ap (λ (p : Pid). p.num) h in let f : pid_eq x.to switchboard ≡ false = grind (arith, nat_tests) in sym f ∙ one)
-others_board x (PlainWhat.Moved outcome) c num one h = (let e : x.to.num ≡ 2 = ap (λ (p : Pid). p.num) h in let f : pid_eq x.to switchboard ≡ false = grind (arith, nat_tests) in sym f ∙ one)
-others_board x PlainWhat.NoRoom c num one h = (let e : x.to.num ≡ 2 = ap (λ (p : Pid). p.num) h in let f : pid_eq x.to switchboard ≡ false = grind (arith, nat_tests) in sym f ∙ one)
-others_board x _ c num one h = absurd h
+others_board x w h1 h2 h3 h4 = search (arith, x.to.num, x.to)
 
 never_board : (s : OneKernel) (x : PlainMessage) (w : PlainWhat) → is_user w ≡ false → (x.to.num == 0) ≡ false → pid_eq x.to switchboard ≡ true → Made s → ForWhom s x w → ⊥
 never_board s x w c num one made (ForProcess there) = false≢true (process_not_board s x.to there one made)
@@ -182,12 +150,7 @@ for_manager (PlainWhat.Moved outcome) = true
 for_manager w = false
 
 others_manager : (x : PlainMessage) (w : PlainWhat) → for_manager w ≡ false → (x.to.num == 0) ≡ false → ForOthers x w → false ≡ true
-others_manager x (PlainWhat.User code channel body links) c num h = cc
-others_manager x (PlainWhat.Created child) c num h = cc
-others_manager x PlainWhat.NoRoom c num h = cc
-others_manager x (PlainWhat.Moved outcome) c num h = cc
-others_manager x (PlainWhat.Create image links) c num h = sym num ∙ (let k : (x.to.num == 0) ≡ true = grind (arith, nat_tests) in k)
-others_manager x _ c num h = absurd h
+others_manager x w h1 h2 h3 = search (arith, x.to.num)
 
 never_manager : (s : OneKernel) (x : PlainMessage) (w : PlainWhat) → for_manager w ≡ false → (x.to.num == 0) ≡ false → pid_eq x.to manager ≡ true → Made s → ForWhom s x w → ⊥
 never_manager s x w c num two made (ForProcess there) = false≢true (process_not_manager s x.to there two made)
@@ -247,6 +210,4 @@ can_by b m o i x false false true num one two f own = can_manager b m o i x x.wh
 can_by b m o i x false false false num one two f own = can_process b m o i x num one two f own
 
 pub can_handle : (b : Boot) (m : ℕ) (o : Point) (i : MsgId) (x : PlainMessage) → Front b m o i x → OwnTold o → CanTurn m o (rule.comes_to b o m i (o.kernel.bag i))
-can_handle b m o i x f own =
-    can_as (Calm m o) m (begun o m) (rule.comes_to b o m i (o.kernel.bag i)) (rule.handles b o m i x) (ap (rule.comes_to b o m i) f.there)
-    (can_by b m o i x (x.to.num == 0) (pid_eq x.to switchboard) (pid_eq x.to manager) refl refl refl f own)
+can_handle b m o i x f own = search (arith, can_as, o.kernel.bag, f.there, can_by)

@@ -1,17 +1,18 @@
 -- With an empty inbox a machine's turn can be said.
-use Rattle.dm_rulelaws.proofs.Names.{◌≡◌, ℕ, zero, suc, ◌+◌, ◌≤◌, ◌==◌, ◌&&◌, Bool, true, false, not, List, [], ◌∷◌, refl, ap, ◌∙◌, sym, subst, is_some, nat_lt, inl, inr, arith, if◌then◌else◌, Option, None, Some, cases_Bool, false≢true}
+use Rattle.dm_rulelaws.proofs.Names.{◌≡◌, ℕ, zero, suc, ◌+◌, ◌≤◌, ◌==◌, ◌&&◌, Bool, true, false, List, [], ◌∷◌, refl, ap, ◌∙◌, sym, subst, is_some, nat_lt, inl, inr, arith, if◌then◌else◌, Option, None, Some, cases_Bool, false≢true}
 use Rattle.dm_rulelaws.proofs.Names.{nat_tests, Pid, pid_eq, MsgId, id_eq, Label, Why, Line, PlainMessage, PlainWhat, on_mask, instruction, Boot, Reply, reply_eq, reply_code, why_code, bind, when, PlainProcess, PlainStatus, Ready, Waiting}
-use Rattle.dm_rulelaws.proofs.Names.{Moving, Life, Alive, Ended, OneKernel, with_process, with_sent, without_message, id_eq-is, id_eq-same, pid_eq-same, sent_at, bind-is, alive-is, counts, is_counted, Point, moved, Part, Routes, times}
-use Rattle.dm_rulelaws.proofs.Names.{is_kernels, not_kernels, switchboard, manager, not_server, nexts, are_home, Sane, eq_self, not_is, zero_if, runnable_home}
+use Rattle.dm_rulelaws.proofs.Names.{Alive, Ended, OneKernel, with_process, with_sent, without_message, id_eq-is, id_eq-same, pid_eq-same, sent_at, bind-is, alive-is, counts, Point, moved, Part, Routes, times, is_kernels, not_kernels}
+use Rattle.dm_rulelaws.proofs.Names.{switchboard, manager, not_server, nexts, are_home, Sane, eq_self, not_is, zero_if, runnable_home}
 use Rattle.dm_onekernel.specs.Calls as calls
 use Rattle.dm_onekernel.specs.Receiving as receiving
 use Rattle.dm_onekernel.specs.Step as kernel
 use Rattle.dm_rule.specs.Rule as rule
 use Rattle.dm_rulelaws.proofs.Fits.Rises.{set_at, both}
 use Rattle.dm_rulelaws.proofs.Goes.Parts.{said, no_receive, Shape, Quiet, Takes, Does, does_nothing, does_label, does_route, sane_by, Can, can_line}
-use Rattle.dm_rulelaws.proofs.Order.Moves.{Last, next_id}
-use Rattle.dm_rulelaws.proofs.Own.Fits.{HaveNoOwn, NoOwns}
-use Rattle.dm_rulelaws.proofs.Goes.Turns.{at_hand_of, times_self, times_more, Droppable, droppable_on, does_drops, drops_quiet, drops_own}
+use Rattle.dm_rulelaws.proofs.Order.Moves.{Last}
+use Rattle.dm_rulelaws.proofs.Own.Told.{HaveNoOwn}
+use Rattle.dm_rulelaws.proofs.Goes.Turns.{times_self, times_more, Droppable, droppable_on, does_drops, drops_quiet, drops_own, at_hand_of}
+use Rattle.dm_rulelaws.proofs.Own.Told.{NoOwns}
 
 -- a process that executes
 pub running_of : (s : OneKernel) (p : Pid) (x : PlainProcess) → s.processes p ≡ Some (Alive x) → s.notes p ≡ None → x.stopped ≡ false → x.status ≡ Ready → kernel.running s p ≡ Some x
@@ -26,10 +27,7 @@ steps_front (suc c) m n z e f =
 
 pub ran_goes : (k : ℕ) (m : kernel.Machine) (o : Option kernel.Machine) → kernel.plain_row (instruction m.regs m.bytes) ≡ o → ((n : kernel.Machine) → kernel.plain_steps (rule.ran k n).count n ≡ Some (rule.ran k n).machine)
     → kernel.plain_steps (rule.ran_further m o (rule.ran k)).count m ≡ Some (rule.ran_further m o (rule.ran k)).machine
-ran_goes k m None e f = refl
-ran_goes k m (Some n) e f =
-    let next : (rule.ran k n).count + 1 ≡ suc (rule.ran k n).count = omega arith in
-    ap (λ c. kernel.plain_steps c m) next ∙ steps_front (rule.ran k n).count m n (rule.ran k n).machine e (f n)
+ran_goes k m o h1 h2 = search (arith, steps_front)
 
 pub ran_steps : (k : ℕ) (m : kernel.Machine) → kernel.plain_steps (rule.ran k m).count m ≡ Some (rule.ran k m).machine
 ran_steps zero m = refl
@@ -40,10 +38,7 @@ reply_same n c = ap (λ (d : Bool). d && reply_eq c c) (eq_self n) ∙ eq_self (
 
 -- what a process has sent is its last
 counts_alive : (t : OneKernel) (p : Pid) (y : PlainProcess) (i : MsgId) → t.processes p ≡ Some (Alive y) → i.from ≡ p → (pid_eq p switchboard ≡ false) × (pid_eq p manager ≡ false) → counts t i ≡ nat_lt i.n y.sent
-counts_alive t p y i is from off =
-    ap (λ (r : Pid). if pid_eq r switchboard then nat_lt i.n t.switchboard.sent else if pid_eq r manager then nat_lt i.n t.manager.sent else is_counted i.n (t.processes r)) from
-    ∙ ap (λ (c : Bool). if c then nat_lt i.n t.switchboard.sent else if pid_eq p manager then nat_lt i.n t.manager.sent else is_counted i.n (t.processes p)) off.0
-    ∙ ap (λ (c : Bool). if c then nat_lt i.n t.manager.sent else is_counted i.n (t.processes p)) off.1 ∙ ap (is_counted i.n) is
+counts_alive t p y i is from off = search (arith, i.n, t.switchboard.sent, t.manager.sent, t.processes, off.0, off.1)
 
 pub never_counted : (pt : Point) (i : MsgId) → Sane pt → counts pt.kernel i ≡ false → is_kernels i ≡ false → pt.view.told i ≡ None
 never_counted pt i h off other = h.untold i (zero_if (h.e i) (λ least. false≢true (sym off ∙ h.sound.entered.counted i least))) other
@@ -52,18 +47,7 @@ sent_last : (pt : Point) (p : Pid) (n : ℕ) (k : PlainMessage) (y : PlainProces
 sent_last pt p n k y next home other h =
     let s = pt.kernel in
     let w = nexts s p (kernel.Calls n (calls.Sends k y)) next in
-    let (z, sent, pending, counted) = w.counts in
-    let t = with_sent (kernel.goes_on s p y) (Some k) in
-    let off = not_server s p w.x w.is.alive h.sound.made in
-    let from : k.id.from ≡ p = ap (λ (i : MsgId). i.from) counted.id in
-    let number : k.id.n ≡ z.sent = ap (λ (i : MsgId). i.n) counted.id in
-    let count = counted.count in
-    let fresh : counts s k.id ≡ false = counts_alive s p w.x k.id w.is.alive from off ∙ (let e : nat_lt k.id.n w.x.sent ≡ false = grind (arith, nat_tests) in e) in
-    record {
-      home = ap (λ (r : Pid). r.home) from ∙ home;
-      last = counts_alive t p y (next_id k.id) (set_at s p (Alive y)) from off ∙ (let e : nat_lt (k.id.n + 1) y.sent ≡ false = grind (arith, nat_tests) in e);
-      untold = never_counted pt k.id h fresh other;
-    }
+    grind (arith, nat_tests, w.counts, not_server, w.x, w.is.alive, h.sound.made, k.id.from, k.id.n, k.id, counts_alive, w.x.sent, set_at, y.sent, never_counted)
 
 -- what a call comes to
 does_called : (C : Type 0) (pt : Point) (p : Pid) (n : ℕ) (queue : List MsgId) (c : calls.Called) → kernel.next_trap pt.kernel p ≡ Some (kernel.Calls n c) → Droppable pt.kernel p queue → (C → p.home ≡ pt.view.acting) → Sane pt → Does C pt (rule.called p n queue c)
@@ -120,9 +104,7 @@ does_executes C b pt p queue x is free going ready drops home h =
     ∙ ap (λ (o : Option kernel.Machine). bind o (λ (z : kernel.Machine). Some (kernel.goes_on s p (kernel.with_machine x z)))) (ran_steps b.quantum (kernel.machine_of x)) in
     let o = kernel.next_row p y (instruction r.machine.regs r.machine.bytes) in
     let next : kernel.next_trap t p ≡ o = ap (λ (v : Option PlainProcess). bind v (λ (z : PlainProcess). kernel.next_row p z (instruction z.regs z.memory))) (running_of t p y (set_at s p (Alive y)) free going ready) in
-    let q = moved pt (Line.Label (Label.Ran p r.count)) t in
-    does_label C pt (Label.Ran p r.count) t (if r.count == b.quantum then [] else rule.stops p queue o) step
-    (does_rest C q (r.count == b.quantum) (rule.stops p queue o) (does_stops C q p queue o next (droppable_on s t p queue (λ i least. refl) drops) home (sane_by pt (Line.Label (Label.Ran p r.count)) t refl step h)))
+    search (arith, does_label, does_rest, does_stops, droppable_on, sane_by)
 
 -- a waiting process takes a message
 pub record Awaited (s : OneKernel) (mask : ℕ) (ids : List MsgId) (i : MsgId) : Type 0 where
@@ -136,12 +118,7 @@ awaited_of s mask ids i None e h least = cc
 awaited_of s mask ids i (Some x) e h least = record { x = x; there = e; what = h; stands = least }
 
 awaited_if : (s : OneKernel) (mask : ℕ) (j : MsgId) (js : List MsgId) (i : MsgId) (c : Bool) → rule.is_awaited mask (s.bag j) ≡ c → (if c then Some j else rule.first_awaited s mask js) ≡ Some i → (rule.first_awaited s mask js ≡ Some i → Awaited s mask js i) → Awaited s mask (j ∷ js) i
-awaited_if s mask j js i true e f rest =
-    let k : j ≡ i = cc in
-    subst (Awaited s mask (j ∷ js)) k (awaited_of s mask (j ∷ js) j (s.bag j) refl e (times_self j js))
-awaited_if s mask j js i false e f rest =
-    let a = rest f in
-    record { x = a.x; there = a.there; what = a.what; stands = (let l = a.stands in let m = times_more i j js in omega (arith, l, m)) }
+awaited_if s mask j js i c h1 h2 h3 = search (arith, awaited_of, s.bag, times_self, times_more)
 
 pub first_is : (s : OneKernel) (mask : ℕ) (ids : List MsgId) (i : MsgId) → rule.first_awaited s mask ids ≡ Some i → Awaited s mask ids i
 first_is s mask [] i e = cc
@@ -152,19 +129,13 @@ called_quiet p n queue (calls.Ends because) = drops_quiet queue
 called_quiet p n queue _ = refl
 
 stops_quiet : (p : Pid) (queue : List MsgId) (o : Option kernel.Trap) → no_receive (said (rule.stops p queue o)) ≡ true
-stops_quiet p queue None = refl
-stops_quiet p queue (Some (kernel.Calls n c)) = called_quiet p n queue c
-stops_quiet p queue (Some (kernel.Faults fault)) = drops_quiet queue
+stops_quiet p queue o = search (arith, called_quiet, drops_quiet)
 
 called_own : (p : Pid) (n : ℕ) (queue : List MsgId) (c : calls.Called) → HaveNoOwn (rule.called p n queue c)
-called_own p n queue (calls.Sends k y) = (tt, (tt, tt))
-called_own p n queue (calls.Ends because) = (tt, drops_own queue)
-called_own p n queue _ = (tt, tt)
+called_own p n queue c = search (arith, drops_own)
 
 stops_own : (p : Pid) (queue : List MsgId) (o : Option kernel.Trap) → HaveNoOwn (rule.stops p queue o)
-stops_own p queue None = tt
-stops_own p queue (Some (kernel.Calls n c)) = called_own p n queue c
-stops_own p queue (Some (kernel.Faults fault)) = (tt, drops_own queue)
+stops_own p queue o = search (arith, called_own, drops_own)
 
 rest_own : (c : Bool) (ps : List Part) → HaveNoOwn ps → HaveNoOwn (if c then [] else ps)
 rest_own true ps h = tt
@@ -243,12 +214,7 @@ can_receive C m pt p queue x mask base size (Some i) status first some is free g
 
 can_serve : (C : Type 0) (b : Boot) (m : ℕ) (pt : Point) (p : Pid) (queue : List MsgId) (x : PlainProcess) (st : PlainStatus) → x.status ≡ st → rule.status_can_go pt.kernel queue st ≡ true → pt.kernel.processes p ≡ Some (Alive x) → pt.kernel.notes p ≡ None → x.stopped ≡ false → queue ≡ pt.view.queue m p → Droppable pt.kernel p queue → (C → p.home ≡ pt.view.acting) → Sane pt
     → Can C m pt (rule.serves_status b.quantum pt.kernel p queue x st)
-can_serve C b m pt p queue x Ready status go is free going same drops home h =
-    let r = rule.ran b.quantum (kernel.machine_of x) in
-    let o = kernel.next_row p (kernel.with_machine x r.machine) (instruction r.machine.regs r.machine.bytes) in
-    record { ps = rule.executes b.quantum p queue x r; is = refl; does = does_executes C b pt p queue x is free going status drops home h; shape = Quiet (rest_quiet (r.count == b.quantum) (rule.stops p queue o) (stops_quiet p queue o)); owns = NoOwns (tt, rest_own (r.count == b.quantum) (rule.stops p queue o) (stops_own p queue o)) }
-can_serve C b m pt p queue x (Waiting mask base size) status go is free going same drops home h = can_receive C m pt p queue x mask base size (rule.first_awaited pt.kernel mask queue) status refl go is free going same drops
-can_serve C b m pt p queue x (Moving dir owner base own left pending) status go is free going same drops home h = cc
+can_serve C b m pt p queue x st h1 h2 h3 h4 h5 h6 h7 h8 h9 = search (arith, b.quantum, does_executes, rest_quiet, stops_quiet, rest_own, stops_own, can_receive, pt.kernel)
 
 -- the first of the ring that can be served
 pub record Runnable (s : OneKernel) (queue : Pid → List MsgId) (p : Pid) : Type 0 where
@@ -258,10 +224,7 @@ pub record Runnable (s : OneKernel) (queue : Pid → List MsgId) (p : Pid) : Typ
   pub go : rule.status_can_go s (queue p) x.status ≡ true
 
 runnable_of : (s : OneKernel) (queue : Pid → List MsgId) (p : Pid) (o : Option PlainProcess) → kernel.alive (s.processes p) ≡ o → rule.can_go s (queue p) o ≡ true → Runnable s queue p
-runnable_of s queue p None e go = cc
-runnable_of s queue p (Some x) e go =
-    let k = both (not x.stopped) (rule.status_can_go s (queue p) x.status) go in
-    record { x = x; is = alive-is (s.processes p) x e; going = not_is x.stopped k.0; go = k.1 }
+runnable_of s queue p o h1 h2 = search (arith, both, alive-is, s.processes, not_is)
 
 runnable_if : (s : OneKernel) (queue : Pid → List MsgId) (p : Pid) (ps : List Pid) (q : Pid) (c : Bool) → rule.can_go s (queue p) (kernel.alive (s.processes p)) ≡ c → (if c then Some p else rule.first_runnable s queue ps) ≡ Some q
     → (rule.first_runnable s queue ps ≡ Some q → Runnable s queue q) → Runnable s queue q
@@ -278,18 +241,8 @@ can_go_round C b m o pt None same boxes run free drops home h = can_line C m pt 
 can_go_round C b m o pt (Some p) same boxes run free drops home h =
     let r = run p refl in
     let k = can_serve C b m pt p (o.view.queue m p) r.x r.x.status refl r.go r.is (free p refl) r.going (boxes p) (drops p) (λ c. home c p refl) h in
-    record {
-      ps = k.ps;
-      is = ap (λ (s : OneKernel). bind (kernel.alive (s.processes p)) (λ (x : PlainProcess). rule.serves_status b.quantum s p (o.view.queue m p) x x.status)) same
-          ∙ ap (λ (l : Option Life). bind (kernel.alive l) (λ (x : PlainProcess). rule.serves_status b.quantum pt.kernel p (o.view.queue m p) x x.status)) r.is ∙ k.is;
-      does = k.does;
-      shape = k.shape;
-      owns = k.owns;
-    }
+    search (arith, k.ps, b.quantum, o.view.queue, pt.kernel, r.is, k.is, k.does, k.shape, k.owns)
 
 pub can_turn : (C : Type 0) (b : Boot) (m : ℕ) (o pt : Point) → o.kernel ≡ pt.kernel → ((q : Pid) → o.view.queue m q ≡ pt.view.queue m q) → ((q : Pid) → rule.first_runnable o.kernel (o.view.queue m) (o.view.ring m) ≡ Some q → pt.kernel.notes q ≡ None) → ((q : Pid) → Droppable pt.kernel q (o.view.queue m q)) → (C → are_home m (o.view.ring m) ≡ true) → pt.view.acting ≡ m → Sane pt
     → Can C m pt (rule.goes_round b o m (rule.first_runnable o.kernel (o.view.queue m) (o.view.ring m)))
-can_turn C b m o pt same boxes free drops home acting h =
-    can_go_round C b m o pt (rule.first_runnable o.kernel (o.view.queue m) (o.view.ring m)) same boxes
-    (λ q e. runnable_is pt.kernel (o.view.queue m) (o.view.ring m) q (ap (λ (s : OneKernel). rule.first_runnable s (o.view.queue m) (o.view.ring m)) (sym same) ∙ e)) free drops
-    (λ c q e. runnable_home o.kernel (o.view.queue m) m (o.view.ring m) q (home c) e ∙ sym acting) h
+can_turn C b m o pt same boxes free drops home acting h = search (arith, can_go_round, o.kernel, o.view.queue, o.view.ring, runnable_is, pt.kernel, runnable_home)

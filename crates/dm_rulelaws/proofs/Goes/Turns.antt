@@ -1,13 +1,13 @@
 -- What is queued for a process can go with it.
-use Rattle.dm_rulelaws.proofs.Names.{Note, PlainProcess, Alive, ◌≡◌, ℕ, ◌+◌, ◌≤◌, Bool, true, false, List, [], ◌∷◌, refl, ap, ◌∙◌, sym, subst, arith, ⊤, if◌then◌else◌, Option, None, Some, Pid, MsgId, id_eq, Label, Line, PlainMessage}
-use Rattle.dm_rulelaws.proofs.Names.{PlainWhat, Boot, Why, bind, when, Life, Ended, OneKernel, without_message, is_dropped, id_eq-is, id_eq-same, out_off, Point, moved, Spot, Queue, times, standing, StandsNowhere, StandsOutside}
-use Rattle.dm_rulelaws.proofs.Names.{StandsRight, is_kernels, stands_right, kernels_fresh, not_true, StandsAsBag-one}
+use Rattle.dm_rulelaws.proofs.Names.{◌≡◌, ℕ, ◌+◌, ◌≤◌, Bool, true, false, List, [], ◌∷◌, refl, ap, ◌∙◌, sym, subst, arith, ⊤, if◌then◌else◌, Option, None, Some, Pid, MsgId, id_eq, Label, Line, PlainMessage, PlainWhat, Boot, Why, Ended}
+use Rattle.dm_rulelaws.proofs.Names.{OneKernel, without_message, is_dropped, id_eq-is, id_eq-same, out_off, Point, moved, Spot, Queue, times, standing, StandsNowhere, StandsOutside, StandsRight, is_kernels, stands_right, kernels_fresh}
+use Rattle.dm_rulelaws.proofs.Names.{not_true, StandsAsBag-one, Note, PlainProcess, Alive}
 use Rattle.dm_onekernel.specs.Step as kernel
 use Rattle.dm_rule.specs.Rule as rule
 use Rattle.dm_rulelaws.proofs.Queued.{is_user, IsQueued}
 use Rattle.dm_rulelaws.proofs.Runs.{Based}
 use Rattle.dm_rulelaws.proofs.Goes.Parts.{said, no_receive, Does, does_nothing, does_label}
-use Rattle.dm_rulelaws.proofs.Own.Fits.{HaveNoOwn}
+use Rattle.dm_rulelaws.proofs.Own.Told.{HaveNoOwn}
 pub use Rattle.dm_rule.proofs.Phases.Leaves.{first_of as times_self}
 
 -- a user message of the bag for a process
@@ -64,10 +64,7 @@ user_dropped (PlainWhat.User code channel body links) e = refl
 user_dropped _ e = cc
 
 pub dropped_is : (s : OneKernel) (i : MsgId) (x : PlainMessage) (y : Why) → s.bag i ≡ Some x → s.processes x.to ≡ Some (Ended y) → is_dropped x.what ≡ true → kernel.step s (Label.Dropped i) ≡ Some (without_message s i)
-dropped_is s i x y there ended drops =
-    ap (λ (o : Option PlainMessage). bind o (λ (m : PlainMessage). bind (kernel.why_ended (s.processes m.to)) (kernel.drops s i m))) there
-    ∙ ap (λ (o : Option Life). bind (kernel.why_ended o) (kernel.drops s i x)) ended
-    ∙ ap (λ (c : Bool). when c (without_message s i)) drops
+dropped_is s i x y there ended drops = search (arith)
 
 pub does_drops : (C : Type 0) (p : Pid) (y : Why) (ids : List MsgId) (pt : Point) → pt.kernel.processes p ≡ Some (Ended y) → Droppable pt.kernel p ids → Does C pt (rule.drop_parts ids)
 does_drops C p y [] pt ended h = does_nothing C pt

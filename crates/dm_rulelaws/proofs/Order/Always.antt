@@ -1,32 +1,276 @@
 -- As long as nothing moves, messages of one sender to one process on one channel are received in the order in which they were sent.
-use Rattle.dm_rulelaws.proofs.Names.{AskNone, ◌≡◌, suc, Bool, true, false, List, [], ◌∷◌, ◌++◌, refl, ap, ◌∙◌, sym, subst, arith, Option, Some, false≢true, Pid, MsgId, id_of, Boot, IsValid, Label, OneKernel, bind, start, replay, Step, Line}
-use Rattle.dm_rulelaws.proofs.Names.{Spelled, Point, first_point, labels, moved, first_view, LeadsBy, ReceivesInOrder, AreStill}
+use Rattle.dm_rulelaws.proofs.Names.{◌≡◌, suc, Bool, true, false, List, [], ◌∷◌, ◌++◌, refl, ap, ◌∙◌, sym, subst, arith, Option, Some, false≢true, Pid, MsgId, id_of, Boot, IsValid, Label, OneKernel, bind, start, replay, Step, Line, Spelled}
+use Rattle.dm_rulelaws.proofs.Names.{Point, first_point, labels, moved, first_view, LeadsBy, ReceivesInOrder, AreStill, ℕ, ◌+◌, ◌≤◌, ◌==◌, nat_lt, inl, inr, if◌then◌else◌, None, cases_Bool, nat_tests, pid_eq, id_eq, PlainMessage, PlainWhat}
+use Rattle.dm_rulelaws.proofs.Names.{on_mask, switchboard, manager, Life, in_bag, counts, is_counted, pid_eq-same, id_eq-is, id_eq-same, after_step, spelled, without_id, times, untaken, View, after_label, Each, channel_in, is_for_home}
+use Rattle.dm_rulelaws.proofs.Names.{are_for_home, About, NothingElse, begins, marked, homes_of, Sane, AskNone}
 use Rattle.dm_rule.specs.View as view
 use Rattle.dm_rulelaws.proofs.RunLabels.{labels-append, replay-append, group_replay}
-use Rattle.dm_rulelaws.proofs.Goes.Parts.{said, Shape, Quiet, Takes, Goes, AsksNone, unasked}
+use Rattle.dm_rulelaws.proofs.Goes.Parts.{said, Shape, Quiet, Takes, Goes, Reception, not_receive, no_receive, sane_by, AsksNone, unasked}
 use Rattle.dm_rulelaws.proofs.Goes.Always.{CalmFor, group_on}
 use Rattle.dm_rulelaws.proofs.Goes.Runs.{RunStarts, RunGoes, Stays, stays_start, stays_group, calm_for}
-use Rattle.dm_rulelaws.proofs.Order.Lines.{Which, Ord}
-use Rattle.dm_rulelaws.proofs.Order.Finds.{which, Taking, Reaches, ord_head, taken_order, taken_bound, quiet_split, found_later, taking_of}
+use Rattle.dm_rulelaws.proofs.Order.Lines.{Which, Ord, ordered, first_one, first_not, drop_one, put_not, on_channel, is_one, is_told, ord_view, ord_step, thin_label, thin_same, box_same, was_told, counts_grown}
+use Rattle.dm_onekernel.specs.Step as kernel
+use Rattle.dm_rule.specs.Rule as rule
+use Rattle.dm_rulelaws.proofs.Fits.Rises.{both, two}
+use Rattle.dm_rulelaws.proofs.Runs.{Run}
+use Rattle.dm_rulelaws.proofs.Goes.Serves.{first_is}
+use Rattle.dm_rulelaws.proofs.Order.Puts.{thin_pair, queue_on}
+use Rattle.dm_rulelaws.proofs.Order.Moves.{one_is}
 
-ord_start : (b : Boot) (q : Which) → q.floor ≡ 0 → Ord q (start b) (first_view b)
-ord_start b q none = record {
-  order = refl;
-  floor = λ n less. absurd (omega (arith, less, none));
-  last_told = λ n e. absurd (omega (arith, e, none));
-  queue_told = tt;
-  inbox_told = tt;
-  away_told = λ a. tt;
-  sourced = λ a. tt;
-  loop = refl;
+-- messages of one to another on a channel, from a number on
+abbrev pub which : Pid → Pid → ℕ → ℕ → Which
+which from to channel floor = record { from = from; to = to; channel = channel; floor = floor }
+
+-- the head of a group
+ord_begins : (q : Which) (s : OneKernel) (v : View) (n : ℕ) (a : About) → Ord q s v → Ord q s (begins v n a)
+ord_begins q s v n a o = ord_view q s v (begins v n a) (thin_same q v (begins v n a) refl (box_same v q.to.home) (λ x. refl) (λ i. refl)) o
+
+pub ord_head : (q : Which) (s : OneKernel) (v : View) (d : Step) → Ord q s v → Ord q s (view.after_head v d)
+ord_head q s v (Step.Turn m) o = ord_begins q s v m NothingElse o
+ord_head q s v (Step.Tick m) o = ord_begins q s v m NothingElse o
+ord_head q s v (Step.Migrate p m) o = ord_begins q s v 0 (view.Target m) o
+ord_head q s v (Step.Deliver a c k) o =
+    let w = begins v c NothingElse in
+    ord_view q s w (view.with_pair w a c (marked (v.pair a c) k)) (thin_pair q w a c (marked (v.pair a c) k) refl) (ord_begins q s v c NothingElse o)
+
+head_acts : (v : View) (d : Step) → (view.after_head v d).acting ≡ view.actor d
+head_acts v (Step.Turn m) = refl
+head_acts v _ = refl
+
+head_queues : (v : View) (d : Step) (n : ℕ) (p : Pid) → (view.after_head v d).queue n p ≡ v.queue n p
+head_queues v (Step.Turn m) n p = refl
+head_queues v _ n p = refl
+
+-- what is queued is for its process
+queued_to : (b : Boot) (at : Point) (d : Step) (n : ℕ) (p : Pid) (i : MsgId) (x : PlainMessage) → Run b at → 1 ≤ times i ((view.after_head at.view d).queue n p) → at.kernel.bag i ≡ Some x → x.to ≡ p
+queued_to b at d n p i x run least there = ((run.based.queued n p i (let e : times i ((view.after_head at.view d).queue n p) ≡ times i (at.view.queue n p) = ap (times i) (head_queues at.view d n p) in omega (arith, least, e))).is x there).0
+
+-- a group that receives, from a point to the next
+pub record Taking (b : Boot) (at : Point) (p : Pid) (i : MsgId) (next : Point) : Type 0 where
+  pub d : Step
+  pub run : Run b at
+  pub home : p.home ≡ view.actor d
+  pub mask : ℕ
+  pub first : rule.first_awaited at.kernel mask ((view.after_head at.view d).queue (view.actor d) p) ≡ Some i
+  pub t : OneKernel
+  pub step : kernel.step at.kernel (Label.Receive p i) ≡ Some t
+  pub point : next ≡ moved (moved at (Line.Head d) at.kernel) (Line.Label (Label.Receive p i)) t
+
+-- lists of one kind
+mem : (P : MsgId → Type 0) (is : List MsgId) (i : MsgId) → 1 ≤ times i is → Each P is → P i
+mem P [] i least h = absurd (omega (arith, least))
+mem P (j ∷ js) i least h = elim (cases_Bool (id_eq i j)) [
+  | inl same ↦ subst P (sym (id_eq-is i j same)) h.0
+  | inr apart ↦
+      let e : times i (j ∷ js) ≡ 0 + times i js = ap (λ (c : Bool). (if c then 1 else 0) + times i js) apart in
+      mem P js i (omega (arith, least, e)) h.1
+]
+
+bound_in : (g : MsgId → Bool) (from : ℕ) (is rest : List MsgId) (j : MsgId) → ordered g from (is ++ rest) ≡ true → 1 ≤ times j is → g j ≡ true → from ≤ j.n
+bound_in g from [] rest j h least one = absurd (omega (arith, least))
+bound_in g from (i ∷ is) rest j h least one = elim (cases_Bool (id_eq j i)) [
+  | inl same ↦
+      let e : j ≡ i = id_eq-is j i same in
+      let k = (first_one g from i (is ++ rest) (sym (ap g e) ∙ one) h).0 in
+      let n : j.n ≡ i.n = ap (λ (v : MsgId). v.n) e in
+      omega (arith, k, n)
+  | inr apart ↦
+      let e : times j (i ∷ is) ≡ 0 + times j is = ap (λ (c : Bool). (if c then 1 else 0) + times j is) apart in
+      bound_in g from is rest j (drop_one g from i (is ++ rest) h) (omega (arith, least, e)) one
+]
+
+-- behind the first that was awaited
+first_by : (s : OneKernel) (g : MsgId → Bool) (mask from : ℕ) (j : MsgId) (js rest : List MsgId) (i : MsgId) (c : Bool) → rule.is_awaited mask (s.bag j) ≡ c → (if c then Some j else rule.first_awaited s mask js) ≡ Some i → ((k : MsgId) → g k ≡ true → rule.is_awaited mask (s.bag k) ≡ true) → g i ≡ true
+    → ordered g from (j ∷ (js ++ rest)) ≡ true → (rule.first_awaited s mask js ≡ Some i → ordered g from (js ++ rest) ≡ true → ordered g (i.n + 1) (without_id i js ++ rest) ≡ true)
+    → ordered g (i.n + 1) ((if id_eq i j then js else j ∷ without_id i js) ++ rest) ≡ true
+first_by s g mask from j js rest i c h1 h2 h3 h4 h5 h6 = search (arith, first_one, id_eq-same, i.n, s.bag, id_eq-is, put_not, first_not)
+
+first_goes : (s : OneKernel) (g : MsgId → Bool) (mask from : ℕ) (is rest : List MsgId) (i : MsgId) → rule.first_awaited s mask is ≡ Some i → ((k : MsgId) → g k ≡ true → rule.is_awaited mask (s.bag k) ≡ true) → g i ≡ true → ordered g from (is ++ rest) ≡ true → ordered g (i.n + 1) (without_id i is ++ rest) ≡ true
+first_goes s g mask from [] rest i e awaited one h = cc
+first_goes s g mask from (j ∷ js) rest i e awaited one h =
+    first_by s g mask from j js rest i (rule.is_awaited mask (s.bag j)) refl e awaited one h (λ f k. first_goes s g mask from js rest i f awaited one k)
+
+-- channels
+mask_of : (mask c : ℕ) (w : PlainWhat) → rule.what_is_awaited mask w ≡ true → channel_in w ≡ Some c → on_mask mask c ≡ true
+mask_of mask c (PlainWhat.User code channel body links) e f = let k : channel ≡ c = cc in ap (on_mask mask) (sym k) ∙ e
+mask_of mask c _ e f = cc
+
+awaited_on : (mask c : ℕ) (w : PlainWhat) → on_channel c w ≡ true → on_mask mask c ≡ true → rule.what_is_awaited mask w ≡ true
+awaited_on mask c (PlainWhat.User code channel body links) e f = let k : channel ≡ c = grind (arith, nat_tests) in ap (on_mask mask) k ∙ f
+awaited_on mask c _ e f = cc
+
+on_is : (c : ℕ) (w : PlainWhat) → channel_in w ≡ Some c → on_channel c w ≡ true
+on_is c (PlainWhat.User code channel body links) e = let k : channel ≡ c = cc in (let f : (channel == c) ≡ true = grind (arith, nat_tests) in f)
+on_is c _ e = cc
+
+one_of : (s : OneKernel) (from to : Pid) (channel floor n : ℕ) (x : PlainMessage) → s.bag (id_of from n) ≡ Some x → x.to ≡ to → channel_in x.what ≡ Some channel → is_one s (which from to channel floor) (id_of from n) ≡ true
+one_of s from to channel floor n x there receiver on = search (arith, s.bag, pid_eq-same, two, x.to, x.what, on_is)
+
+-- counts below
+lower_of : (b c : Bool) (n k a l : ℕ) (x : Option Life) → k ≤ n → (if b then nat_lt n a else if c then nat_lt n l else is_counted n x) ≡ true → (if b then nat_lt k a else if c then nat_lt k l else is_counted k x) ≡ true
+lower_of b c n k a l x h1 h2 = search arith
+
+counts_lower : (s : OneKernel) (p : Pid) (n k : ℕ) → k ≤ n → counts s (id_of p n) ≡ true → counts s (id_of p k) ≡ true
+counts_lower s p n k le e = lower_of (pid_eq p switchboard) (pid_eq p manager) n k s.switchboard.sent s.manager.sent (s.processes p) le e
+
+-- behind a reception all that is of the kind is later
+taken_by : (m : ℕ) (pt : Point) (from to : Pid) (channel n mask : ℕ) (x : PlainMessage) (t : OneKernel) → Sane pt → pt.view.acting ≡ m → to.home ≡ m → rule.first_awaited pt.kernel mask (pt.view.queue m to) ≡ Some (id_of from n) → kernel.step pt.kernel (Label.Receive to (id_of from n)) ≡ Some t
+    → pt.kernel.bag (id_of from n) ≡ Some x → (1 ≤ times (id_of from n) (pt.view.queue m to) → x.to ≡ to) → channel_in x.what ≡ Some channel → Ord (which from to channel 0) pt.kernel pt.view → Ord (which from to channel (suc n)) t (after_label pt.view (Label.Receive to (id_of from n)))
+taken_by m pt from to channel n mask x t sane acts home first step there queued on o =
+    let i = id_of from n in
+    let s = pt.kernel in
+    let v = pt.view in
+    let q = which from to channel 0 in
+    let r = which from to channel (suc n) in
+    let g = is_one s q in
+    let w = after_label v (Label.Receive to i) in
+    let h = to.home in
+    let acting : v.acting ≡ h = acts ∙ sym home in
+    let firsts : rule.first_awaited s mask (v.queue h to) ≡ Some i = ap (λ k. rule.first_awaited s mask (v.queue k to)) home ∙ first in
+    let a = first_is s mask (v.queue h to) i firsts in
+    let ax : Some a.x ≡ Some x = sym a.there ∙ there in
+    let same : a.x ≡ x = cc in
+    let masked : on_mask mask channel ≡ true = mask_of mask channel x.what (sym (ap (λ (z : PlainMessage). rule.what_is_awaited mask z.what) same) ∙ a.what) on in
+    let receiver : x.to ≡ to = queued (subst (λ k. 1 ≤ times i (v.queue k to)) home a.stands) in
+    let one : g i ≡ true = one_of s from to channel 0 n x there receiver on in
+    let queue : w.queue h to ≡ without_id i (v.queue h to) = queue_on v.queue v.acting h to to (without_id i (v.queue v.acting to)) acting (pid_eq-same to) ∙ ap (λ k. without_id i (v.queue k to)) acting in
+    let rest = v.inbox h ++ untaken (v.pair from.home h) in
+    let later = first_goes s g mask 0 (v.queue h to) rest i firsts
+    (λ k e. let c = one_is s q k e in ap (rule.is_awaited mask) c.there ∙ awaited_on mask channel c.x.what c.on masked) one o.order in
+    let few = sane.sound.entered.fewer i in
+    let in_ : in_bag (s.bag i) ≡ 1 = ap in_bag there in
+    let counted : counts s i ≡ true = sane.sound.entered.counted i (omega (arith, few, in_)) in
+    let told : is_told v i ≡ true = mem (λ (j : MsgId). is_told v j ≡ true) (v.queue h to) i a.stands o.queue_told in
+    let next = ord_view q s v w (thin_label q v (Label.Receive to i)) o in
+    let af = after_step sane.r sane.e s t (Label.Receive to i) step sane.sound in
+    let now : Ord r s w = record {
+      order = ap (λ xs. ordered g (suc n) (xs ++ rest)) queue ∙ ap (λ k. ordered g k (without_id i (v.queue h to) ++ rest)) (let e : suc n ≡ n + 1 = omega arith in e) ∙ later;
+      floor = λ k less. counts_lower s from n k (omega (arith, less)) counted;
+      last_told = λ k e. let z : k ≡ n = omega (arith, e) in ap (λ j. is_told v (id_of from j)) z ∙ told;
+      queue_told = next.queue_told;
+      inbox_told = next.inbox_told;
+      away_told = next.away_told;
+      sourced = next.sourced;
+      loop = next.loop;
+    } in
+    ord_step r s t w (was_told pt (Label.Receive to i) t sane step) (counts_grown s t af.grown) now
+
+pub taken_order : (b : Boot) (at next : Point) (from to : Pid) (channel n : ℕ) (x : PlainMessage) → Taking b at to (id_of from n) next → at.kernel.bag (id_of from n) ≡ Some x → channel_in x.what ≡ Some channel → Ord (which from to channel 0) at.kernel at.view → Ord (which from to channel (suc n)) next.kernel next.view
+taken_order b at next from to channel n x take there on o =
+    let pt = moved at (Line.Head take.d) at.kernel in
+    subst (λ (z : Point). Ord (which from to channel (suc n)) z.kernel z.view) (sym take.point)
+    (taken_by (view.actor take.d) pt from to channel n take.mask x take.t (sane_by at (Line.Head take.d) at.kernel refl refl take.run.based.phased.sane) (head_acts at.view take.d) take.home take.first take.step there
+    (λ least. queued_to b at take.d (view.actor take.d) to (id_of from n) x take.run least there) on (ord_head (which from to channel 0) at.kernel at.view take.d o))
+
+-- what a reception takes is from the floor on
+pub taken_bound : (b : Boot) (at next : Point) (from to : Pid) (channel floor k : ℕ) (y : PlainMessage) → Taking b at to (id_of from k) next → at.kernel.bag (id_of from k) ≡ Some y → channel_in y.what ≡ Some channel → Ord (which from to channel floor) at.kernel at.view → floor ≤ k
+taken_bound b at next from to channel floor k y take there on o =
+    let j = id_of from k in
+    let s = at.kernel in
+    let q = which from to channel floor in
+    let v = view.after_head at.view take.d in
+    let p = ord_head q s at.view take.d o in
+    let h = to.home in
+    let first : rule.first_awaited s take.mask (v.queue h to) ≡ Some j = ap (λ m. rule.first_awaited s take.mask (v.queue m to)) take.home ∙ take.first in
+    let a = first_is s take.mask (v.queue h to) j first in
+    let receiver : y.to ≡ to = queued_to b at take.d h to j y take.run a.stands there in
+    bound_in (is_one s q) floor (v.queue h to) (v.inbox h ++ untaken (v.pair from.home h)) j p.order a.stands (one_of s from to channel floor k y there receiver on)
+
+-- the group of a reception among all
+pub record Reaches (b : Boot) (end pt : Point) (before later : List Label) (p : Pid) (i : MsgId) : Type 0 where
+  pub at : Point
+  pub replays : replay pt.kernel before ≡ Some at.kernel
+  pub order : (k : Which) → Ord k pt.kernel pt.view → Ord k at.kernel at.view
+  pub next : Point
+  pub on : Stays b next
+  pub goes : (k : Which) → Ord k at.kernel at.view → Ord k next.kernel next.view
+  pub takes : Taking b at p i next
+  pub es : List Step
+  pub still : AreStill es
+  pub ls : List Line
+  pub asks : AskNone ls
+  pub leads : LeadsBy b next es ls end
+  pub rest : labels ls ≡ later
+
+both_if : (c d : Bool) → (if c then d else false) ≡ true → (c ≡ true) × (d ≡ true)
+both_if true d e = (refl, e)
+both_if false d e = cc
+
+-- labels before the first reception of a rest
+pub quiet_split : (xs ys before later : List Label) (p : Pid) (i : MsgId) → no_receive xs ≡ true → xs ++ ys ≡ before ++ Label.Receive p i ∷ later → (more : List Label) × (before ≡ xs ++ more) × (ys ≡ more ++ Label.Receive p i ∷ later)
+quiet_split [] ys before later p i h e = (before, refl, e)
+quiet_split (x ∷ xs) ys [] later p i h e = search (arith, both_if)
+quiet_split (x ∷ xs) ys (z ∷ zs) later p i h e =
+    let f : z ≡ x = cc in
+    let g : xs ++ ys ≡ zs ++ Label.Receive p i ∷ later = cc in
+    let (more, is, rest) = quiet_split xs ys zs later p i (both_if (not_receive x) (no_receive xs) h).1 g in
+    (more, ap (λ ws. z ∷ ws) is ∙ ap (λ y. y ∷ (xs ++ more)) f, rest)
+
+-- a group before
+pub found_later : (b : Boot) (end pt mid : Point) (ls before more later : List Label) (p : Pid) (i : MsgId) → replay pt.kernel ls ≡ Some mid.kernel → ((k : Which) → Ord k pt.kernel pt.view → Ord k mid.kernel mid.view) → before ≡ ls ++ more → Reaches b end mid more later p i → Reaches b end pt before later p i
+found_later b end pt mid ls before more later p i replays order is f = record {
+  at = f.at;
+  replays = ap (replay pt.kernel) is ∙ replay-append ls more pt.kernel mid.kernel f.at.kernel replays f.replays;
+  order = λ k o. f.order k (order k o);
+  next = f.next;
+  on = f.on;
+  goes = f.goes;
+  asks = f.asks;
+  takes = f.takes;
+  es = f.es;
+  still = f.still;
+  ls = f.ls;
+  leads = f.leads;
+  rest = f.rest;
 }
 
+-- one label alone
+alone : (pt : Point) (l : Label) (t : OneKernel) (v : Spelled) → kernel.step pt.kernel l ≡ Some t → spelled pt (rule.says l ∷ []) ≡ Some v → v.point ≡ moved pt (Line.Label l) t
+alone pt l t v step e = search arith
+
+-- what a machine has queued is for processes of its home
+queued_home : (s : OneKernel) (m : ℕ) (is : List MsgId) (i : MsgId) → are_for_home s m is ≡ true → 1 ≤ times i is → is_for_home m (s.bag i) ≡ true
+queued_home s m [] i h least = absurd (omega (arith, least))
+queued_home s m (j ∷ js) i h least = elim (cases_Bool (id_eq i j)) [
+  | inl same ↦ ap (λ (k : MsgId). is_for_home m (s.bag k)) (id_eq-is i j same) ∙ (both (is_for_home m (s.bag j)) (are_for_home s m js) h).0
+  | inr apart ↦
+      let e : times i (j ∷ js) ≡ 0 + times i js = ap (λ (c : Bool). (if c then 1 else 0) + times i js) apart in
+      queued_home s m js i (both (is_for_home m (s.bag j)) (are_for_home s m js) h).1 (omega (arith, least, e))
+]
+
+home_is : (m : ℕ) (o : Option PlainMessage) (x : PlainMessage) → o ≡ Some x → is_for_home m o ≡ true → x.to.home ≡ m
+home_is m None x e h = cc
+home_is m (Some y) x e h = let f : y ≡ x = cc in let g : y.to.home ≡ m = grind (arith, nat_tests) in ap (λ (v : PlainMessage). v.to.home) (sym f) ∙ g
+
+taking_home : (b : Boot) (pt : Point) (d : Step) (p : Pid) (mask : ℕ) (i : MsgId) → Stays b pt → rule.first_awaited pt.kernel mask ((view.after_head pt.view d).queue (view.actor d) p) ≡ Some i → p.home ≡ view.actor d
+taking_home b pt d p mask i h first =
+    let m = view.actor d in
+    let a = first_is pt.kernel mask ((view.after_head pt.view d).queue m p) i first in
+    let stands = a.stands in
+    let to = queued_to b pt d m p i a.x h.both.run a.stands a.there in
+    let least : 1 ≤ times i (pt.view.queue m p) = (let e : times i ((view.after_head pt.view d).queue m p) ≡ times i (pt.view.queue m p) = ap (times i) (head_queues pt.view d m p) in omega (arith, stands, e)) in
+    ap (λ (q : Pid). q.home) (sym to) ∙ home_is m (pt.kernel.bag i) a.x a.there (queued_home pt.kernel m (pt.view.queue m p) i ((homes_of h.r h.e pt h.home).queue m p) least)
+
+-- a point's group, where it receives
+pub taking_of : (b : Boot) (pt : Point) (d : Step) (w : Spelled) (g : Goes (CalmFor pt d) b pt d) (h : Stays b pt) (r : Reception (view.actor d) (moved pt (Line.Head d) pt.kernel) g.parts) → g.w ≡ w → Taking b pt r.p r.i w.point
+taking_of b pt d w g h r is = record {
+  d = d;
+  run = h.both.run;
+  home = taking_home b pt d r.p r.mask r.i h r.first;
+  mask = r.mask;
+  first = r.first;
+  t = r.t;
+  step = r.step;
+  point = sym (ap (λ (y : Spelled). y.point) is) ∙ g.point ∙ alone (moved pt (Line.Head d) pt.kernel) (Label.Receive r.p r.i) r.t g.behind_head r.step (sym (ap (spelled (moved pt (Line.Head d) pt.kernel)) r.is) ∙ g.spells);
+}
+
+-- As long as nothing moves, messages of one sender to one process on one channel are received in the order in which they were sent.
+
+ord_start : (b : Boot) (q : Which) → q.floor ≡ 0 → Ord q (start b) (first_view b)
+ord_start b q none = search arith
+
 never_nothing : (xs ys : List Label) (y : Label) → [] ≡ xs ++ y ∷ ys → ⊥
-never_nothing [] ys y e = let f : true ≡ false = ap is_nothing e in false≢true (sym f)
-  where
-    is_nothing : List Label → Bool
-    is_nothing [] = true
-    is_nothing (z ∷ zs) = false
+never_nothing [] ys y e = search arith
 never_nothing (x ∷ xs) ys y e = let f : true ≡ false = ap is_nothing e in false≢true (sym f)
   where
     is_nothing : List Label → Bool
@@ -34,10 +278,7 @@ never_nothing (x ∷ xs) ys y e = let f : true ≡ false = ap is_nothing e in fa
     is_nothing (z ∷ zs) = false
 
 take_as : (b : Boot) (pt next : Point) (p r : Pid) (i j : MsgId) → Label.Receive r j ≡ Label.Receive p i → Taking b pt r j next → Taking b pt p i next
-take_as b pt next p r i j e t =
-    let f : r ≡ p = cc in
-    let g : j ≡ i = cc in
-    subst (λ (x : Pid). Taking b pt x i next) f (subst (λ (x : MsgId). Taking b pt r x next) g t)
+take_as b pt next p r i j e t = search arith
 
 -- a group that receives, and what is behind it
 -- lines by which none is asked to move
@@ -47,10 +288,7 @@ asks_split (x ∷ xs) ys h = let k = asks_split xs ys h.1 in ((h.0, k.0), k.1)
 
 find_taken : (b : Boot) (end pt mid : Point) (es : List Step) (ls : List Line) (before later : List Label) (p r : Pid) (i j : MsgId) → Taking b pt r j mid → Stays b mid → AreStill es → AskNone ls → LeadsBy b mid es ls end → ((k : Which) → Ord k pt.kernel pt.view → Ord k mid.kernel mid.view)
     → replay pt.kernel (Label.Receive r j ∷ []) ≡ Some mid.kernel → Label.Receive r j ∷ labels ls ≡ before ++ Label.Receive p i ∷ later → ((more : List Label) → labels ls ≡ more ++ Label.Receive p i ∷ later → Reaches b end mid more later p i) → Reaches b end pt before later p i
-find_taken b end pt mid es ls [] later p r i j t on still asks leads order replays e again =
-    let f : Label.Receive r j ≡ Label.Receive p i = cc in
-    let g : labels ls ≡ later = cc in
-    record { at = pt; replays = refl; order = λ k o. o; next = mid; on = on; goes = order; takes = take_as b pt mid p r i j f t; es = es; still = still; ls = ls; asks = asks; leads = leads; rest = g }
+find_taken b end pt mid es ls [] later p r i j t on still asks leads order replays e again = search (arith, take_as)
 find_taken b end pt mid es ls (z ∷ zs) later p r i j t on still asks leads order replays e again =
     let f : z ≡ Label.Receive r j = cc in
     let g : labels ls ≡ zs ++ Label.Receive p i ∷ later = cc in
@@ -59,9 +297,7 @@ find_taken b end pt mid es ls (z ∷ zs) later p r i j t on still asks leads ord
 find_by : (b : Boot) (end pt mid : Point) (d : Step) (w : Spelled) (es : List Step) (ls : List Line) (before later : List Label) (p : Pid) (i : MsgId) (g : Goes (CalmFor pt d) b pt d) → Shape (view.actor d) (moved pt (Line.Head d) pt.kernel) g.parts → g.w ≡ w → Stays b pt → Stays b w.point → AreStill es → AskNone ls
     → LeadsBy b w.point es ls end → ((k : Which) → Ord k pt.kernel pt.view → Ord k w.point.kernel w.point.view) → replay pt.kernel (said g.parts) ≡ Some w.point.kernel → said g.parts ++ labels ls ≡ before ++ Label.Receive p i ∷ later
     → ((more : List Label) → labels ls ≡ more ++ Label.Receive p i ∷ later → Reaches b end w.point more later p i) → Reaches b end pt before later p i
-find_by b end pt mid d w es ls before later p i g (Quiet quiet) same here on still asks leads order replays e again =
-    let (more, is, rest) = quiet_split (said g.parts) (labels ls) before later p i quiet e in
-    found_later b end pt w.point (said g.parts) before more later p i replays order is (again more rest)
+find_by b end pt mid d w es ls before later p i g (Quiet quiet) same here on still asks leads order replays e again = search (arith, quiet_split, g.parts, found_later, w.point)
 find_by b end pt mid d w es ls before later p i g (Takes r) same here on still asks leads order replays e again =
     let says : said g.parts ≡ Label.Receive r.p r.i ∷ [] = ap said r.is in
     find_taken b end pt w.point es ls before later p r.p i r.i (taking_of b pt d w g here r same) on still asks leads order (ap (replay pt.kernel) (sym says) ∙ replays) (ap (λ xs. xs ++ labels ls) (sym says) ∙ e) again

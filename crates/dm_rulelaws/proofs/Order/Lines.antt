@@ -1,12 +1,97 @@
 -- Messages of one sender to one process on one channel stand in the order in which they were sent: each line keeps it.
-use Rattle.dm_rulelaws.proofs.Names.{◌≡◌, ℕ, suc, ◌+◌, ◌≤◌, ◌<◌, ◌==◌, ◌&&◌, Bool, true, false, not, List, [], ◌∷◌, ◌++◌, refl, ap, ◌∙◌, sym, subst, is_some, nat_lt, arith, if◌then◌else◌, Option, None, Some, false≢true, nat_tests, Pid}
-use Rattle.dm_rulelaws.proofs.Names.{pid_eq, MsgId, id_of, PlainMessage, PlainWhat, Label, switchboard, manager, Life, Alive, Ended, OneKernel, counts, is_counted, Grown, LifeGrows, after_step, at_machine, at_record, without_id}
-use Rattle.dm_rulelaws.proofs.Names.{without_front, untaken, Queue, Inbox, Untaken, View, Told, after_label, handled, Point, served_keeps, Each, not_kernels, Sane, pid_eq-is, entry, reception, came_from}
+use Rattle.dm_rulelaws.proofs.Names.{◌≡◌, ℕ, suc, ◌+◌, ◌≤◌, ◌<◌, ◌==◌, ◌&&◌, Bool, true, false, not, List, [], ◌∷◌, ◌++◌, refl, ap, ◌∙◌, sym, subst, is_some, nat_lt, arith, if◌then◌else◌, Option, None, Some, false≢true, Pid, pid_eq, MsgId}
+use Rattle.dm_rulelaws.proofs.Names.{id_of, PlainMessage, PlainWhat, Label, switchboard, manager, Life, OneKernel, counts, is_counted, Grown, LifeGrows, after_step, at_machine, at_record, without_front, untaken, View, Told, after_label}
+use Rattle.dm_rulelaws.proofs.Names.{handled, Point, served_keeps, Each, not_kernels, Sane, pid_eq-is, entry, reception, came_from, zero, drop, nat_le, ◌⊎◌, inl, inr, cases_Bool, nat_tests, id_eq, without_id}
 use Rattle.dm_onekernel.specs.Step as kernel
 use Rattle.dm_rule.specs.View as view
-use Rattle.dm_rulelaws.proofs.Fits.Rises.{Each-on}
+use Rattle.dm_rulelaws.proofs.Fits.Rises.{Each-on, both, two}
 use Rattle.dm_rulelaws.proofs.Queued.{is_user}
-use Rattle.dm_rulelaws.proofs.Order.Lists.{ordered, context, fewer, Each-both, Thins, thins_same, thins_front, thins_without}
+
+-- those of which g is true have ascending numbers, from so much on
+abbrev pub ordered : (MsgId → Bool) → ℕ → List MsgId → Bool
+ordered g from [] = true
+ordered g from (i ∷ is) = if g i then nat_le from i.n && ordered g (i.n + 1) is else ordered g from is
+
+-- the two ways of a first message
+pub first_one : (g : MsgId → Bool) (from : ℕ) (i : MsgId) (is : List MsgId) → g i ≡ true → ordered g from (i ∷ is) ≡ true → (from ≤ i.n) × (ordered g (i.n + 1) is ≡ true)
+first_one g from i is e h = search (arith, both, i.n)
+
+pub first_not : (g : MsgId → Bool) (from : ℕ) (i : MsgId) (is : List MsgId) → g i ≡ false → ordered g from (i ∷ is) ≡ true → ordered g from is ≡ true
+first_not g from i is e h = sym (ap (λ (c : Bool). if c then nat_le from i.n && ordered g (i.n + 1) is else ordered g from is) e) ∙ h
+
+put_one : (g : MsgId → Bool) (from : ℕ) (i : MsgId) (is : List MsgId) → g i ≡ true → from ≤ i.n → ordered g (i.n + 1) is ≡ true → ordered g from (i ∷ is) ≡ true
+put_one g from i is e le h =
+    ap (λ (c : Bool). if c then nat_le from i.n && ordered g (i.n + 1) is else ordered g from is) e ∙ two (nat_le from i.n) (ordered g (i.n + 1) is) (let z : nat_le from i.n ≡ true = grind (arith, nat_tests) in z) h
+
+pub put_not : (g : MsgId → Bool) (from : ℕ) (i : MsgId) (is : List MsgId) → g i ≡ false → ordered g from is ≡ true → ordered g from (i ∷ is) ≡ true
+put_not g from i is e h = ap (λ (c : Bool). if c then nat_le from i.n && ordered g (i.n + 1) is else ordered g from is) e ∙ h
+
+pub lower : (g : MsgId → Bool) (less from : ℕ) (is : List MsgId) → less ≤ from → ordered g from is ≡ true → ordered g less is ≡ true
+lower g less from [] le h = refl
+lower g less from (i ∷ is) le h = elim (cases_Bool (g i)) [
+  | inl one ↦ let k = first_one g from i is one h in let f = k.0 in put_one g less i is one (omega (arith, le, f)) k.1
+  | inr not_ ↦ put_not g less i is not_ (lower g less from is le (first_not g from i is not_ h))
+]
+
+-- without the first
+pub drop_one : (g : MsgId → Bool) (from : ℕ) (i : MsgId) (is : List MsgId) → ordered g from (i ∷ is) ≡ true → ordered g from is ≡ true
+drop_one g from i is h = search (arith, first_one, lower, i.n, first_not)
+
+-- what stands before doesn't matter
+pub context : (g : MsgId → Bool) (from : ℕ) (pre xs ys : List MsgId) → ((k : ℕ) → ordered g k xs ≡ true → ordered g k ys ≡ true) → ordered g from (pre ++ xs) ≡ true → ordered g from (pre ++ ys) ≡ true
+context g from [] xs ys f h = f from h
+context g from (i ∷ is) xs ys f h = elim (cases_Bool (g i)) [
+  | inl one ↦ let k = first_one g from i (is ++ xs) one h in put_one g from i (is ++ ys) one k.0 (context g (i.n + 1) is xs ys f k.1)
+  | inr not_ ↦ put_not g from i (is ++ ys) not_ (context g from is xs ys f (first_not g from i (is ++ xs) not_ h))
+]
+
+-- fewer are of the kind
+pub fewer : (g h : MsgId → Bool) (from : ℕ) (is : List MsgId) → Each (λ (i : MsgId). h i ≡ true → g i ≡ true) is → ordered g from is ≡ true → ordered h from is ≡ true
+fewer g h from [] f e = refl
+fewer g h from (i ∷ is) f e = elim (cases_Bool (h i)) [
+  | inl one ↦ let k = first_one g from i is (f.0 one) e in put_one h from i is one k.0 (fewer g h (i.n + 1) is f.1 k.1)
+  | inr not_ ↦ put_not h from i is not_ (fewer g h from is f.1 (drop_one g from i is e))
+]
+
+-- one more at the end
+pub add_last : (g : MsgId → Bool) (from : ℕ) (is : List MsgId) (j : MsgId) → Each (λ (i : MsgId). g i ≡ true → i.n < j.n) is → from ≤ j.n → ordered g from is ≡ true → ordered g from (is ++ j ∷ []) ≡ true
+add_last g from [] j below le h = search (arith, put_one, put_not)
+add_last g from (i ∷ is) j below le h = elim (cases_Bool (g i)) [
+  | inl one ↦ let k = first_one g from i is one h in let b = below.0 one in put_one g from i (is ++ j ∷ []) one k.0 (add_last g (i.n + 1) is j below.1 (omega (arith, b)) k.1)
+  | inr not_ ↦ put_not g from i (is ++ j ∷ []) not_ (add_last g from is j below.1 le (first_not g from i is not_ h))
+]
+
+-- Each over two lists
+pub Each-both : {X : Type 0} (P : X → Type 0) (xs ys : List X) → Each P xs → Each P ys → Each P (xs ++ ys)
+Each-both P [] ys h k = k
+Each-both P (x ∷ xs) ys h k = (h.0, Each-both P xs ys h.1 k)
+
+-- lists with fewer messages
+pub record Thins (xs ys : List MsgId) : Type 0 where
+  pub order : (g : MsgId → Bool) (from : ℕ) (rest : List MsgId) → ordered g from (ys ++ rest) ≡ true → ordered g from (xs ++ rest) ≡ true
+  pub told : (g : MsgId → Bool) → Each (λ (i : MsgId). g i ≡ true) ys → Each (λ (i : MsgId). g i ≡ true) xs
+
+pub thins_same : (xs ys : List MsgId) → xs ≡ ys → Thins xs ys
+thins_same xs ys e = search arith
+
+pub thins_front : (i : MsgId) (xs : List MsgId) → Thins (without_front i xs) xs
+thins_front i xs = search (arith, thins_same, drop_one)
+
+thins_if : (x : MsgId) (xs ys : List MsgId) (c : Bool) → Thins ys xs → Thins (if c then xs else x ∷ ys) (x ∷ xs)
+thins_if x xs ys c h1 = search (arith, drop_one, context)
+
+pub thins_without : (i : MsgId) (xs : List MsgId) → Thins (without_id i xs) xs
+thins_without i [] = thins_same [] [] refl
+thins_without i (x ∷ xs) = thins_if x xs (without_id i xs) (id_eq i x) (thins_without i xs)
+
+-- the end of a list that one is put behind
+pub drop_end : (n : ℕ) (xs : List MsgId) (j : MsgId) → (drop n (xs ++ j ∷ []) ≡ drop n xs ++ j ∷ []) ⊎ (drop n (xs ++ j ∷ []) ≡ [])
+drop_end zero xs j = inl refl
+drop_end (suc zero) [] j = inr refl
+drop_end (suc (suc n)) [] j = inr refl
+drop_end (suc n) (x ∷ xs) j = drop_end n xs j
+
+-- Messages of one sender to one process on one channel stand in the order in which they were sent: each line keeps it.
 
 -- messages from one to another on a channel, from a number on
 pub record Which : Type 0 where
@@ -81,9 +166,7 @@ ord_view q s v w t h =
 
 -- a step of the kernel: what is told was there before
 one_was_of : (s t : OneKernel) (q : Which) (i : MsgId) (c : Bool) (o : Option PlainMessage) → t.bag i ≡ o → ((x : PlainMessage) → t.bag i ≡ Some x → s.bag i ≡ Some x) → (c && is_mine q o) ≡ true → (c && is_mine q (s.bag i)) ≡ true
-one_was_of s t q i true None e f h = cc
-one_was_of s t q i true (Some x) e f h = ap (is_mine q) (f x e) ∙ h
-one_was_of s t q i false o e f h = cc
+one_was_of s t q i c o h1 h2 h3 = search arith
 
 one_was : (s t : OneKernel) (q : Which) (i : MsgId) → ((x : PlainMessage) → t.bag i ≡ Some x → s.bag i ≡ Some x) → is_one t q i ≡ true → is_one s q i ≡ true
 one_was s t q i f h = one_was_of s t q i (pid_eq i.from q.from && not i.answer) (t.bag i) refl f h
@@ -93,10 +176,7 @@ Each-two P Q R f [] h k = tt
 Each-two P Q R f (x ∷ xs) h k = (f x h.0 k.0, Each-two P Q R f xs h.1 k.1)
 
 pub all_told : (q : Which) (s : OneKernel) (v : View) → Ord q s v → AllTold v (awaiting q v)
-all_told q s v h =
-    let m = q.to.home in
-    Each-both (λ (i : MsgId). is_told v i ≡ true) (v.queue m q.to) (v.inbox m ++ untaken (v.pair q.from.home m)) h.queue_told
-    (Each-both (λ (i : MsgId). is_told v i ≡ true) (v.inbox m) (untaken (v.pair q.from.home m)) h.inbox_told (h.away_told q.from.home))
+all_told q s v h = search (arith, Each-both, h.queue_told, h.inbox_told, h.away_told)
 
 pub ord_step : (q : Which) (s t : OneKernel) (v : View) → ((i : MsgId) (x : PlainMessage) → is_told v i ≡ true → t.bag i ≡ Some x → s.bag i ≡ Some x) → ((i : MsgId) → counts s i ≡ true → counts t i ≡ true) → Ord q s v → Ord q t v
 ord_step q s t v was grows h = record {
@@ -113,16 +193,10 @@ ord_step q s t v was grows h = record {
 
 -- counts only grow
 life_counts : (n : ℕ) (a b : Option Life) → LifeGrows a b → is_counted n a ≡ true → is_counted n b ≡ true
-life_counts n None b g h = cc
-life_counts n (Some (Ended y)) b g h = ap (is_counted n) g
-life_counts n (Some (Alive x)) None g h = absurd g
-life_counts n (Some (Alive x)) (Some (Alive z)) g h = let le : x.sent ≤ z.sent = g in grind (arith, nat_tests)
-life_counts n (Some (Alive x)) (Some (Ended y)) g h = refl
+life_counts n a b h1 h2 = search arith
 
 counts_of : (b c : Bool) (n k l k' l' : ℕ) (x y : Option Life) → k ≤ k' → l ≤ l' → LifeGrows x y → (if b then nat_lt n k else if c then nat_lt n l else is_counted n x) ≡ true → (if b then nat_lt n k' else if c then nat_lt n l' else is_counted n y) ≡ true
-counts_of true c n k l k' l' x y p q g h = grind (arith, nat_tests)
-counts_of false true n k l k' l' x y p q g h = grind (arith, nat_tests)
-counts_of false false n k l k' l' x y p q g h = life_counts n x y g h
+counts_of b c n k l k' l' x y h1 h2 h3 h4 = search (arith, life_counts)
 
 pub counts_grown : (s t : OneKernel) → Grown s t → (i : MsgId) → counts s i ≡ true → counts t i ≡ true
 counts_grown s t g i h =
@@ -130,19 +204,10 @@ counts_grown s t g i h =
 
 -- labels
 pub thin_same : (q : Which) (v w : View) → w.queue q.to.home q.to ≡ v.queue q.to.home q.to → Thins (w.inbox q.to.home) (v.inbox q.to.home) → ((a : ℕ) → untaken (w.pair a q.to.home) ≡ untaken (v.pair a q.to.home)) → ((i : MsgId) → w.told i ≡ v.told i) → ThinFor q v w
-thin_same q v w queue inbox away told = record {
-  queue = thins_same (w.queue q.to.home q.to) (v.queue q.to.home q.to) queue;
-  inbox = inbox;
-  away = away;
-  told = λ i e. ap is_some (told i) ∙ e;
-}
+thin_same q v w queue inbox away told = search (arith, thins_same, w.queue, q.to.home, q.to, v.queue)
 
 pub box_at : (f : ℕ → List MsgId) (a n : ℕ) (xs : List MsgId) (T : List MsgId → Type 0) → (a ≡ n → T xs) → T (f n) → T (at_machine f a xs n)
-box_at f a n xs T here there = picked (a == n) (λ e. here (let g : a ≡ n = grind (arith, nat_tests) in g))
-  where
-    picked : (c : Bool) → (c ≡ true → T xs) → T (if c then xs else f n)
-    picked true h = h refl
-    picked false h = there
+box_at f a n xs T h1 h2 = search arith
 
 pub handled_thin : (v : View) (i : MsgId) (n : ℕ) → Thins ((handled v i).inbox n) (v.inbox n)
 handled_thin v i n = box_at v.inbox v.acting n (without_front i (v.inbox v.acting)) (λ (xs : List MsgId). Thins xs (v.inbox n)) (λ e. subst (λ k. Thins (without_front i (v.inbox v.acting)) (v.inbox k)) e (thins_front i (v.inbox v.acting))) (thins_same (v.inbox n) (v.inbox n) refl)
@@ -154,44 +219,22 @@ pub box_same : (v : View) (n : ℕ) → Thins (v.inbox n) (v.inbox n)
 box_same v n = thins_same (v.inbox n) (v.inbox n) refl
 
 pub queue_at : (f : ℕ → Pid → List MsgId) (a n : ℕ) (p q : Pid) (xs : List MsgId) (T : List MsgId → Type 0) → (a ≡ n → p ≡ q → T xs) → T (f n q) → T (at_record f a p xs n q)
-queue_at f a n p q xs T here there = picked ((a == n) && pid_eq p q) (λ e. here (let g : (a == n) ≡ true = (two_of (a == n) (pid_eq p q) e).0 in let k : a ≡ n = grind (arith, nat_tests) in k) (pid_eq-is p q (two_of (a == n) (pid_eq p q) e).1))
-  where
-    two_of : (c d : Bool) → (c && d) ≡ true → (c ≡ true) × (d ≡ true)
-    two_of true d e = (refl, e)
-    two_of false d e = cc
-
-    picked : (c : Bool) → (c ≡ true → T xs) → T (if c then xs else f n q)
-    picked true h = h refl
-    picked false h = there
+queue_at f a n p q xs T h1 h2 = search (arith, pid_eq-is)
 
 queue_thin : (v : View) (p : Pid) (xs : List MsgId) (n : ℕ) (r : Pid) → Thins xs (v.queue v.acting p) → Thins (at_record v.queue v.acting p xs n r) (v.queue n r)
 queue_thin v p xs n r t = queue_at v.queue v.acting n p r xs (λ (ys : List MsgId). Thins ys (v.queue n r)) (λ at is. subst (λ k. Thins xs (v.queue k r)) at (subst (λ (k : Pid). Thins xs (v.queue v.acting k)) is t)) (thins_same (v.queue n r) (v.queue n r) refl)
 
 dropped_thin : (q : Which) (v : View) (i : MsgId) (o : Option Pid) → ThinFor q v (view.dropped_for (handled v i) i o)
 dropped_thin q v i None = thin_handled q v i
-dropped_thin q v i (Some p) = record {
-  queue = queue_thin v p (without_front i (v.queue v.acting p)) q.to.home q.to (thins_front i (v.queue v.acting p));
-  inbox = handled_thin v i q.to.home;
-  away = λ a. refl;
-  told = λ j e. e;
-}
+dropped_thin q v i (Some p) = search (arith, queue_thin, v.queue, v.acting, q.to.home, q.to, thins_front, handled_thin)
 
 served_thin : (q : Which) (v : View) (i : MsgId) → ThinFor q v (view.served_told (handled v i) (v.told i))
-served_thin q v i =
-    let w = view.served_told (handled v i) (v.told i) in
-    let k = served_keeps (handled v i) (v.told i) in
-    let box : w.inbox q.to.home ≡ (handled v i).inbox q.to.home = k.0 (Inbox q.to.home) in
-    thin_same q v w (k.0 (Queue q.to.home q.to)) (subst (λ xs. Thins xs (v.inbox q.to.home)) (sym box) (handled_thin v i q.to.home)) (λ a. k.0 (Untaken a q.to.home)) (λ j. k.1 j)
+served_thin q v i = search (arith, v.told, served_keeps, q.to.home, thin_same, q.to, v.inbox, handled_thin)
 
 pub thin_label : (q : Which) (v : View) (l : Label) → ThinFor q v (after_label v l)
 thin_label q v (Label.Ran p k) = thin_same q v (after_label v (Label.Ran p k)) refl (box_same v q.to.home) (λ a. refl) (λ j. refl)
 thin_label q v (Label.End p y) = thin_same q v (after_label v (Label.End p y)) refl (box_same v q.to.home) (λ a. refl) (λ j. refl)
-thin_label q v (Label.Receive p id) = record {
-  queue = queue_thin v p (without_id id (v.queue v.acting p)) q.to.home q.to (thins_without id (v.queue v.acting p));
-  inbox = box_same v q.to.home;
-  away = λ a. refl;
-  told = λ j e. e;
-}
+thin_label q v (Label.Receive p id) = search (arith, queue_thin, v.queue, v.acting, q.to.home, q.to, thins_without, box_same)
 thin_label q v (Label.Refuse p id c) = thin_same q v (after_label v (Label.Refuse p id c)) refl (box_same v q.to.home) (λ a. refl) (λ j. refl)
 thin_label q v (Label.Dropped id) = dropped_thin q v id (view.receiver_of (v.told id))
 thin_label q v (Label.Served id) = served_thin q v id

@@ -1,10 +1,9 @@
 -- Routes, deliveries and queues keep the order in which messages were sent.
-use Rattle.dm_rulelaws.proofs.Names.{◌≡◌, ℕ, zero, suc, ◌+◌, ◌≤◌, ◌<◌, ◌==◌, ◌&&◌, Bool, true, false, not, List, [], ◌∷◌, ◌++◌, refl, ap, ◌∙◌, sym, is_some, nat_lt, inl, inr, arith, if◌then◌else◌, Option, None, Some, cases_Bool, false≢true}
-use Rattle.dm_rulelaws.proofs.Names.{nat_tests, Pid, pid_eq, MsgId, id_of, PlainMessage, PlainWhat, switchboard, manager, Life, Alive, OneKernel, counts, is_counted, pid_eq-is, at_machine, at_pair, untaken, View, Pair, not_false}
+use Rattle.dm_rulelaws.proofs.Names.{◌≡◌, ℕ, zero, suc, ◌+◌, ◌≤◌, ◌<◌, ◌==◌, ◌&&◌, Bool, true, false, List, [], ◌∷◌, ◌++◌, refl, ap, ◌∙◌, sym, is_some, nat_lt, arith, if◌then◌else◌, Option, None, Some, false≢true, nat_tests, MsgId, id_of}
+use Rattle.dm_rulelaws.proofs.Names.{PlainMessage, PlainWhat, Life, OneKernel, counts, is_counted, pid_eq-is, at_machine, at_pair, untaken, View, Pair, not_false}
 use Rattle.dm_rulelaws.proofs.Fits.Rises.{both, two, Each-on}
 use Rattle.dm_rulelaws.proofs.Queued.{is_user}
-use Rattle.dm_rulelaws.proofs.Order.Lists.{ordered, context, put_not, add_last}
-use Rattle.dm_rulelaws.proofs.Order.Lines.{Which, on_channel, is_mine, is_one, is_told, awaiting, Ord, all_told}
+use Rattle.dm_rulelaws.proofs.Order.Lines.{ordered, context, put_not, add_last, Which, on_channel, is_mine, is_one, is_told, awaiting, Ord, all_told}
 
 pub append-assoc : (xs ys zs : List MsgId) → (xs ++ ys) ++ zs ≡ xs ++ (ys ++ zs)
 append-assoc [] ys zs = refl
@@ -25,16 +24,10 @@ pub record Last (s : OneKernel) (v : View) (j : MsgId) : Type 0 where
 
 -- counted numbers are below those that aren't
 below_of : (b c : Bool) (n k a l : ℕ) (x : Option Life) → (if b then nat_lt n a else if c then nat_lt n l else is_counted n x) ≡ true → (if b then nat_lt k a else if c then nat_lt k l else is_counted k x) ≡ false → n < k
-below_of true c n k a l x e f = grind (arith, nat_tests)
-below_of false true n k a l x e f = grind (arith, nat_tests)
-below_of false false n k a l (Some (Alive x)) e f = grind (arith, nat_tests)
-below_of false false n k a l _ e f = cc
+below_of b c n k a l x h1 h2 = search arith
 
 counts_below : (s : OneKernel) (i j : MsgId) → counts s i ≡ true → counts s j ≡ false → i.from ≡ j.from → i.n < j.n
-counts_below s i j e f same =
-    let g : (if pid_eq i.from switchboard then nat_lt j.n s.switchboard.sent else if pid_eq i.from manager then nat_lt j.n s.manager.sent else is_counted j.n (s.processes i.from)) ≡ false =
-    ap (λ (p : Pid). if pid_eq p switchboard then nat_lt j.n s.switchboard.sent else if pid_eq p manager then nat_lt j.n s.manager.sent else is_counted j.n (s.processes p)) same ∙ f in
-    below_of (pid_eq i.from switchboard) (pid_eq i.from manager) i.n j.n s.switchboard.sent s.manager.sent (s.processes i.from) e g
+counts_below s i j e f same = search (arith, i.from, j.n, s.switchboard.sent, s.manager.sent, s.processes, below_of, i.n)
 
 -- what it is to be one
 pub record One (s : OneKernel) (q : Which) (i : MsgId) : Type 0 where
@@ -51,16 +44,10 @@ user_on c (PlainWhat.User code channel body links) e = refl
 user_on c _ e = cc
 
 one_by : (s : OneKernel) (q : Which) (i : MsgId) (o : Option PlainMessage) → s.bag i ≡ o → i.from ≡ q.from → i.answer ≡ false → is_mine q o ≡ true → One s q i
-one_by s q i None e from own h = cc
-one_by s q i (Some x) e from own h =
-    let k = both (pid_eq x.to q.to) (on_channel q.channel x.what) h in
-    record { from = from; own = own; x = x; there = e; to = pid_eq-is x.to q.to k.0; user = user_on q.channel x.what k.1; on = k.1 }
+one_by s q i o h1 h2 h3 h4 = search (arith, both, q.to, q.channel, pid_eq-is, user_on)
 
 pub one_is : (s : OneKernel) (q : Which) (i : MsgId) → is_one s q i ≡ true → One s q i
-one_is s q i h =
-    let k = both (pid_eq i.from q.from && not i.answer) (is_mine q (s.bag i)) h in
-    let l = both (pid_eq i.from q.from) (not i.answer) k.0 in
-    one_by s q i (s.bag i) refl (pid_eq-is i.from q.from l.0) (not_false i.answer l.1) k.1
+one_is s q i h = search (arith, both, i.from, q.from, i.answer, s.bag, one_by, pid_eq-is, not_false)
 
 -- one more of the kind at the end of all
 same_id : (i j : MsgId) → i.from ≡ j.from → i.n ≡ j.n → i.answer ≡ j.answer → i ≡ j
@@ -70,10 +57,7 @@ told_apart : (v : View) (i j : MsgId) → is_told v i ≡ true → v.told j ≡ 
 told_apart v i j told none e = sym (ap is_some none) ∙ sym (ap (is_told v) e) ∙ told
 
 strictly : (a b : ℕ) → a < b + 1 → (a ≡ b → false ≡ true) → a < b
-strictly a b le apart = elim (cases_Bool (a == b)) [
-  | inl same ↦ absurd (false≢true (apart (let e : a ≡ b = grind (arith, nat_tests) in e)))
-  | inr off ↦ (let e : a < b = grind (arith, nat_tests) in e)
-]
+strictly a b le apart = search arith
 
 below_last : (q : Which) (s : OneKernel) (v : View) (i j : MsgId) → ((k : MsgId) (y : PlainMessage) → s.bag k ≡ Some y → counts s k ≡ true) → is_told v i ≡ true → is_one s q j ≡ true → Last s v j → is_one s q i ≡ true → i.n < j.n
 below_last q s v i j bagged told mine last one =
@@ -102,11 +86,7 @@ order_not g from pre post j e h = context g from pre post (j ∷ post) (λ k f. 
 
 -- a pair's list after one was set
 pub pair_at : (f : ℕ → ℕ → Pair) (a b c d : ℕ) (p : Pair) (T : List MsgId → Type 0) → (a ≡ c → b ≡ d → T (untaken p)) → T (untaken (f c d)) → T (untaken (at_pair f a b p c d))
-pair_at f a b c d p T here there = picked ((a == c) && (b == d)) (λ e. let k = both (a == c) (b == d) e in let x = k.0 in let y = k.1 in here (let g : a ≡ c = grind (arith, nat_tests) in g) (let g : b ≡ d = grind (arith, nat_tests) in g))
-  where
-    picked : (c_ : Bool) → (c_ ≡ true → T (untaken p)) → T (untaken (if c_ then p else f c d))
-    picked true h = h refl
-    picked false h = there
+pair_at f a b c d p T h1 h2 = search (arith, both)
 
 pub pair_off : (f : ℕ → ℕ → Pair) (a b c d : ℕ) (p : Pair) → (b == d) ≡ false → untaken (at_pair f a b p c d) ≡ untaken (f c d)
 pair_off f a b c d p e = pair_at f a b c d p (λ (xs : List MsgId). xs ≡ untaken (f c d)) (λ x y. absurd (let g : (b == d) ≡ true = grind (arith, nat_tests) in false≢true (sym e ∙ g))) refl

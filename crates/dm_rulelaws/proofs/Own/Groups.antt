@@ -1,15 +1,16 @@
 -- Each group keeps what was told of kernels' own messages.
-use Rattle.dm_rulelaws.proofs.Names.{seen_none, sets, ◌≡◌, ℕ, ◌==◌, Bool, true, false, List, [], ◌∷◌, refl, ap, ◌∙◌, sym, subst, inl, inr, ⊤, if◌then◌else◌, length, Option, None, Some, cases_Bool, false≢true, Pid, MsgId, MessageKind, id_eq}
-use Rattle.dm_rulelaws.proofs.Names.{plain_kind, Boot, Label, OneKernel, bind, id_eq-is, bind-is, Step, Line, Load, Stage, Receiver, Point, label_of, kernel_after, after_line, after, moved, first_point, Part, Says, Routes, Again, Owns}
-use Rattle.dm_rulelaws.proofs.Names.{Transmits, Spelled, lines_of, puts, goes_out, packet_line, behind, spelled, group_of, View, About, Told, view_after, is_kernels, own_id, is_put, hushed, not_kernels, put_told_off, Sane, sane_line}
-use Rattle.dm_rulelaws.proofs.Names.{part_sane, Sayable, AllSayable, outcome_sayable}
+use Rattle.dm_rulelaws.proofs.Names.{◌≡◌, ℕ, Bool, true, false, List, [], ◌∷◌, refl, ap, ◌∙◌, sym, subst, inl, inr, ⊤, if◌then◌else◌, Option, None, Some, cases_Bool, false≢true, Pid, MsgId, MessageKind, id_eq, plain_kind, Boot, Label}
+use Rattle.dm_rulelaws.proofs.Names.{OneKernel, bind, id_eq-is, bind-is, Step, Line, Stage, Receiver, Point, label_of, kernel_after, after_line, after, moved, first_point, Part, Says, Routes, Again, Owns, Transmits, Spelled, lines_of, puts}
+use Rattle.dm_rulelaws.proofs.Names.{packet_line, behind, spelled, group_of, View, About, Told, view_after, is_kernels, own_id, is_put, hushed, not_kernels, put_told_off, Sane, sane_line, part_sane, Sayable, AllSayable, outcome_sayable}
+use Rattle.dm_rulelaws.proofs.Names.{seen_none, sets}
 use Rattle.dm_rule.specs.View as view
 use Rattle.dm_rulelaws.proofs.Runs.{Run}
-use Rattle.dm_rulelaws.proofs.Own.Told.{OwnTold, own_sort}
-use Rattle.dm_rulelaws.proofs.Own.Fits.{HasNoOwn, HaveNoOwn, topic_stage, Later, OwnsFit, NoOwns, FirstOwns, ThenOwns, AnyOwns}
+use Rattle.dm_rulelaws.proofs.Own.Told.{OwnTold, own_sort, HasNoOwn, HaveNoOwn, topic_stage, Later, OwnsFit, NoOwns, FirstOwns, ThenOwns}
+use Rattle.dm_rulelaws.proofs.Own.Told.{AnyOwns}
 use Rattle.dm_rulelaws.proofs.Own.Senders.{senders_step}
 use Rattle.dm_rulelaws.proofs.Goes.Parts.{put_lines}
 use Rattle.dm_rulelaws.proofs.Goes.Always.{group_on}
+use Rattle.dm_rulelaws.proofs.Based.Needs.{by_puts}
 
 -- a line that is no put
 own_by : (pt : Point) (l : Line) (o : Option Label) (s : OneKernel) → is_put l ≡ false → kernel_after pt.kernel o ≡ Some s → Sane pt → OwnTold pt → OwnTold (moved pt l s)
@@ -59,21 +60,8 @@ one_line pt next l ls quiet is leads sane h =
     let g : mid ≡ next = cc in
     subst OwnTold g (own_line pt mid l quiet first sane h)
 
-puts_own : (pt next : Point) (b : ℕ) (i : MsgId) (k : MessageKind) (q : Pid) (c d : Bool) (w : _) → (is_kernels i ≡ true → pt.view.told i ≡ None → own_sort k q pt.view.topic ≡ true)
-    → after pt (Line.Put pt.view.acting b i k q ∷ (if c then [] else if d then packet_line pt.view pt.view.acting b w ∷ [] else [])) ≡ Some next → OwnTold pt → OwnTold next
-puts_own pt next b i k q true d w right is h = let f : moved pt (Line.Put pt.view.acting b i k q) pt.kernel ≡ next = cc in subst OwnTold f (own_put pt pt.view.acting b i k q right h)
-puts_own pt next b i k q false false w right is h = let f : moved pt (Line.Put pt.view.acting b i k q) pt.kernel ≡ next = cc in subst OwnTold f (own_put pt pt.view.acting b i k q right h)
-puts_own pt next b i k q false true w right is h =
-    let l = packet_line pt.view pt.view.acting b w in
-    let mid = moved pt (Line.Put pt.view.acting b i k q) pt.kernel in
-    let f : moved mid l mid.kernel ≡ next = cc in
-    let o = own_put pt pt.view.acting b i k q right h in
-    subst OwnTold f (record { own = o.own; sender = o.sender })
-
 puts_lead : (pt next : Point) (b : ℕ) (i : MsgId) (k : MessageKind) (q : Pid) (ls : List Line) → (is_kernels i ≡ true → pt.view.told i ≡ None → own_sort k q pt.view.topic ≡ true) → Some (puts pt.view b i k q) ≡ Some ls → after pt ls ≡ Some next → OwnTold pt → OwnTold next
-puts_lead pt next b i k q ls right is leads h =
-    let f : puts pt.view b i k q ≡ ls = cc in
-    puts_own pt next b i k q (pt.view.acting == b) (goes_out (pt.view.pair pt.view.acting b)) (Load.Data (length (pt.view.pair pt.view.acting b).ids)) right (ap (after pt) f ∙ leads) h
+puts_lead pt next b i k q ls right is leads h = by_puts OwnTold pt next b i k q ls (own_put pt pt.view.acting b i k q right h) (λ p x y z l o. record { own = o.own; sender = o.sender }) is leads
 
 own_part : (pt next : Point) (p : Part) (ls : List Line) → Sayable p → IsRight pt p → lines_of pt p ≡ Some ls → after pt ls ≡ Some next → Sane pt → OwnTold pt → OwnTold next
 own_part pt next (Says l) ls ok right is leads sane h = one_line pt next l ls ok is leads sane h

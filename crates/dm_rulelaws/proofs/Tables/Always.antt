@@ -1,26 +1,20 @@
 -- Wherever the rule leads, each living process has as many link slots as the boot file's format gives.
-use Rattle.dm_rulelaws.proofs.Names.{◌≡◌, ℕ, ◌≤◌, ◌==◌, ◌+◌, ◌&&◌, Bool, true, nat_le, nat_lt, List, [], ◌∷◌, ◌++◌, length, map, refl, ap, ◌∙◌, sym, subst, inl, inr, arith, if◌then◌else◌, slice_get, option_map, Option, None, Some}
-use Rattle.dm_rulelaws.proofs.Names.{cases_Bool, nat_tests, length-map, Pid, pid_eq, plain_link, BootImage, BootProcess, Boot, Label, IsValid, starting_at, processes_are_valid, process_is_valid, links_are_valid, slots_of, PlainProcess}
-use Rattle.dm_rulelaws.proofs.Names.{Alive, OneKernel, start, begun, first_life, life_at, replay, bind-is, Step, Point, first_point, labels, Spelled, group_of, Leads, Each}
+use Rattle.dm_rulelaws.proofs.Names.{◌≡◌, ℕ, ◌≤◌, Bool, true, nat_le, List, [], ◌∷◌, ◌++◌, length, map, refl, ap, ◌∙◌, sym, subst, inl, inr, arith, if◌then◌else◌, slice_get, option_map, Option, None, Some, cases_Bool, nat_tests, length-map}
+use Rattle.dm_rulelaws.proofs.Names.{Pid, pid_eq, plain_link, BootImage, BootProcess, Boot, Label, IsValid, starting_at, processes_are_valid, process_is_valid, slots_of, PlainProcess, Alive, OneKernel, start, begun, first_life, life_at}
+use Rattle.dm_rulelaws.proofs.Names.{replay, bind-is, Step, Point, first_point, labels, Spelled, group_of, Leads, Each}
 use Rattle.dm_onekernel.specs.Step as kernel
 use Rattle.dm_rulelaws.proofs.Fits.Rises.{both}
 use Rattle.dm_rulelaws.proofs.RunLabels.{group_replay}
 use Rattle.dm_rulelaws.proofs.Based.Constants.{constant_group}
 use Rattle.dm_rulelaws.proofs.Tables.{Tables}
-use Rattle.dm_rulelaws.proofs.Tables.Servers.{slots_with_length}
-use Rattle.dm_rulelaws.proofs.Tables.Steps.{tables_step}
+use Rattle.dm_rulelaws.proofs.Tables.Steps.{slots_with_length, tables_step}
 
 -- where a run begins
 abbrev ShortList : Boot → BootProcess → Type 0
 ShortList b p = nat_le (length p.links) (slots_of b.format) ≡ true
 
 short_is : (b : Boot) (others : ℕ) (p : BootProcess) → process_is_valid b others p ≡ true → ShortList b p
-short_is b others p h =
-    let last = nat_le (length p.links) (slots_of b.format) && links_are_valid b p.links in
-    let one = both (nat_lt p.pid.home (length b.machines)) ((p.pid.num == 3 + others) && (nat_lt p.image (length b.images) && last)) h in
-    let second = both (p.pid.num == 3 + others) (nat_lt p.image (length b.images) && last) one.1 in
-    let three = both (nat_lt p.image (length b.images)) last second.1 in
-    (both (nat_le (length p.links) (slots_of b.format)) (links_are_valid b p.links) three.1).0
+short_is b others p h = search (arith, p.links, b.format, both, p.pid.home, b.machines, p.pid.num, p.image, b.images)
 
 shorts_are : (b : Boot) (earlier ps : List BootProcess) → processes_are_valid b earlier ps ≡ true → Each (ShortList b) ps
 shorts_are b earlier [] h = tt
@@ -44,10 +38,7 @@ lives_lengths b (p ∷ ps) q x shorts e = elim (cases_Bool (pid_eq p.pid q)) [
 ]
 
 pub tables_start : (b : Boot) → IsValid b → Tables (start b)
-tables_start b valid = record {
-  slots = λ p x e. lives_lengths b b.processes p x (shorts_are b [] b.processes valid.processes) e;
-  messages = λ i m e. absurd (let f : None ≡ Some m = e in cc);
-}
+tables_start b valid = search (arith, lives_lengths, b.processes, shorts_are, valid.processes)
 
 -- wherever a run comes
 tables_replay : (ls : List Label) (s t : OneKernel) → replay s ls ≡ Some t → Tables s → Tables t

@@ -1,4 +1,4 @@
-use Rattle.dm_mirror.proofs.Places.{places_follow}
+use Rattle.dm_mirror.proofs.Given.{places_follow}
 use Rattle.dm_mirror.proofs.laws.places_follow.Goals as goal
 
 pub returns : goal.returns
