@@ -1,0 +1,25 @@
+import sys; sys.path.insert(0,"PLACE")
+from ed import *
+import re
+p="At/RestOnly.antt"
+s=open(p).read()
+s=s.replace("only_as : (before : Knows) (v w : View) → w.known ≡ v.known →","only_as : (before : Knows) (v w : View) → ((n : ℕ) (q : Pid) → w.known n q ≡ v.known n q) →")
+s=s.replace("(sym (ap (λ (f : Knows). f n q) known) ∙ e) }\n\n-- lines that","(sym (known n q) ∙ e) }\n\n-- lines that",1) if False else s.replace("only_as before v w known h = record { only = λ n q e. h.only n q (sym (ap (λ (f : Knows). f n q) known) ∙ e) }","only_as before v w known h = record { only = λ n q e. h.only n q (sym (known n q) ∙ e) }")
+open(p,"w").write(s)
+def gone(a,b): cut(p,a,b,"")
+gone("queued_known :","held_known :"); gone("held_known :","pub dropped_known"); gone("forwarded_known :","taken_known :"); gone("asks_known :","follows_known :"); gone("follows_known :","proto_known :"); gone("proto_known :","head_known :")
+s=open(p).read()
+for a in ("any_)) refl h","any_) refl h"): s=s.replace(a,a.replace("refl","(λ n q. refl)"))
+s=s.replace("(dropped_known (handled v id) id (receiver_of (v.told id))) h","(λ n q. ap (λ (f : Knows). f n q) (dropped_known (handled v id) id (receiver_of (v.told id)))) h")
+s=s.replace("(head_known v d) h","(λ n q. ap (λ (f : Knows). f n q) (head_known v d)) h")
+s=s.replace("(taken_known w b (view.oldest p)) h","(λ n q. ap (λ (f : Knows). f n q) (taken_known w b (view.oldest p))) h")
+s=s.replace("(queued_known (handled v id) id (receiver_of (v.told id))) h","(λ n q. queued_known (handled v id) id (receiver_of (v.told id)) n q) h")
+s=s.replace("(held_known (handled v id) id (receiver_of (v.told id))) h","(λ n q. held_known (handled v id) id (receiver_of (v.told id)) n q) h")
+s=s.replace("(forwarded_known (handled v id) (receiver_of (v.told id))) h","(λ n q. forwarded_known (handled v id) (receiver_of (v.told id)) n q) h")
+s=s.replace("(proto_known (handled v id) (v.told id)) h","(λ n q. proto_known (handled v id) (v.told id) n q) h")
+open(p,"w").write(s)
+add(p,"use Rattle.dm_movelaws.proofs.Names.{queued_known, held_known, forwarded_known, proto_known}")
+p="At/RestQueues.antt"
+s=open(p).read()
+s=s.replace("(ap (λ (v : View). v.known) now) (begins_only","(λ n q. ap (λ (v : View). v.known n q) now) (begins_only").replace("(ap (λ (v : View). v.known) look) (begins_only","(λ n q. ap (λ (v : View). v.known n q) look) (begins_only")
+open(p,"w").write(s)

@@ -1,0 +1,21 @@
+import sys; sys.path.insert(0,"PLACE")
+from join import join
+R=[]
+def j(*a,**k):
+    try: R.append((a[:2],join(*a,**k)))
+    except Exception as e: print("FAIL",a[:2],repr(e)[:200])
+j("Found/Rows","Found/Hears",comment="What each row of a turn needs: processes that run, messages of the bag, and messages of kernels.")
+j("Found/Labels","Found/Made")
+j("Found/Labels","Found/Spares")
+j("Found/Puts","Found/Given",comment="Puts, and lines that give addresses, keep where addresses lead, what machines know, and where messages stand.")
+j("Fits/Steps","Fits/Receives")
+j("Based/Sets","Based/Rings",comment="A value set for one process on one machine, lists with messages taken out, how often a process stands in a ring, and what a kill may do.")
+j("Based/Loud","Based/Lives")
+j("Based/Queues","Based/Lists")
+j("Order/Lines","Order/Lists")
+j("Order/Puts","Order/Takes",comment="A route, a delivery, a queue and a message that is taken keep the order in which messages were sent.")
+j("Order/Always","Order/Finds")
+j("Own/Told","Own/Fits")
+j("Tables/Steps","Tables/Calls")
+j("Tables/Steps","Tables/Servers")
+print(R)
