@@ -123,13 +123,13 @@ abbrev pub kind_with : Bool → Kind
 kind_with reply = if reply then Reply else General
 
 -- a link to a process where it starts
-abbrev pub link_at : Pid → Kind → ℕ → ℕ → Area → Link
-link_at p kind code channel area =
+abbrev pub link_at_home : Pid → Kind → ℕ → ℕ → Area → Link
+link_at_home p kind code channel area =
     record { addr = record { pid = p; at = p.home; moves = 0 }; kind = kind; to_kernel = false; code = code; channel = channel; area = area }
 
 -- the link to a process that a table says
 unfoldable pub link_to : Pid → Data → Link
-link_to p t = link_at p (kind_with (truth_at (codes "reply") t)) (or_zero (code_in 4294967295 t)) (or_zero (channel_in t)) (record {
+link_to p t = link_at_home p (kind_with (truth_at (codes "reply") t)) (or_zero (code_in 4294967295 t)) (or_zero (channel_in t)) (record {
   base = or_zero (base_in 65536 t);
   len = or_zero (len_in 65536 t);
   read = truth_at (codes "read") t;
@@ -138,7 +138,7 @@ link_to p t = link_at p (kind_with (truth_at (codes "reply") t)) (or_zero (code_
 
 -- a general link to the manager with the number of a child, which counts from 1 in the order of the file
 unfoldable pub link_of_control : ℕ → Link
-link_of_control child = link_at manager General child 0 (record { base = 0; len = 0; read = false; write = false })
+link_of_control child = link_at_home manager General child 0 (record { base = 0; len = 0; read = false; write = false })
 
 -- the link controls a child
 abbrev pub is_control : Data → Bool

@@ -14,8 +14,8 @@ use Rattle.dm_boot.specs.Build.{format_of, home_of, image_tables, is_control, li
 use Rattle.dm_boot.specs.Rules.{has_target, is_limited, is_link, memory_size_of, rule_number}
 use Rattle.dm_boot.specs.Tables.{count, first_failing, text_at}
 use Rattle.dm_boot.specs.Text.{is_boot_name, is_server_name}
-use Rattle.dm_explain.specs.declared.told.LinkRule.{LinkRule}
-use Rattle.dm_explain.specs.declared.told.LinkRule.TheVariants as link
+use Rattle.dm_explain.specs.declared.told.links.LinkRule.{LinkRule}
+use Rattle.dm_explain.specs.declared.told.links.LinkRule.TheVariants as link
 use Rattle.dm_explain.specs.Faults.{integer_at, key_fault, number_fault}
 use Rattle.dm_explain.specs.LineAt.{line_at}
 use Rattle.dm_explain.specs.Parts.{integer_text, quoted}

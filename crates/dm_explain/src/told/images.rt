@@ -1,0 +1,164 @@
+//! What is said of machines and of images.
+ghost use Rattle.std.specs.Prelude.{◌≡◌, ◌++◌, Err, Ok, OnOk, codes};
+ghost use Rattle.toml.specs.View.{view};
+ghost use Rattle.dm_asm.specs.Assembled.{assembled};
+ghost use Rattle.dm_boot.specs.Tables.{text_at};
+ghost use Rattle.dm_explain.specs.Told.{bytes_told, image_name_words, image_rule_told, machine_rule_told, text_told, why_words};
+
+use crate::faults::{integer_at, put_key_fault, put_number_fault};
+use crate::line::text_line;
+use crate::part::{Part, put_parts};
+use crate::told::elements::{put_name, put_numbered, put_titled};
+use crate::wanted::{image_keys, image_ranges, machine_keys, machine_ranges};
+use dm_asm::{AssembleError, Image, Why, assemble};
+use dm_boot::BootRule;
+use dm_boot::names::is_name;
+use dm_boot::tables::text_at;
+use dm_memory::NoMemory;
+use std::alloc::Global;
+use toml::Value;
+
+/// Writes what is wrong with a machine.
+pub(super) fn put_machine(
+    into: &mut Vec<u8>,
+    rule: BootRule,
+    place: u64,
+    machine: &Value,
+) -> Result<(), NoMemory>
+    ensures { OnOk result (into.new.items ≡ into.old.items ++ machine_rule_told rule place (view machine.now)) }
+{
+    match rule {
+        BootRule::MachineKeys => {
+            put_numbered(into, "machine", place)?;
+            put_key_fault(into, machine, &machine_keys(), &["slots", "blocks"], "")
+        }
+        BootRule::MachineRoom => {
+            put_numbered(into, "machine", place)?;
+            put_number_fault(into, machine, &machine_ranges(), &[])
+        }
+        _ => Ok(()),
+    }
+}
+
+/// Writes what is wrong with an image.
+pub(super) fn put_image(
+    alloc: Global,
+    into: &mut Vec<u8>,
+    rule: BootRule,
+    place: u64,
+    image: &Value,
+) -> Result<(), NoMemory>
+    ensures { OnOk result (into.new.items ≡ into.old.items ++ image_rule_told rule place (view image.now)) }
+{
+    match rule {
+        BootRule::ImageKeys => {
+            put_numbered(into, "image", place)?;
+            put_key_fault(into, image, &image_keys(), &["name", "blocks", "text"], "")
+        }
+        BootRule::ImageName => {
+            put_numbered(into, "image", place)?;
+            put_name(into, image, image_name_words(text_at(image, "name")))
+        }
+        BootRule::ImageBlocks => {
+            put_titled(into, "image", image)?;
+            put_number_fault(into, image, &image_ranges(), &[])
+        }
+        BootRule::ImageText => put_text(alloc, into, image),
+        BootRule::ImageBytes => put_bytes(alloc, into, image),
+        _ => Ok(()),
+    }
+}
+
+/// What is wrong with the name of an image.
+fn image_name_words(name: &str) -> &'static str
+    ensures { result.now ≡ image_name_words name.now }
+{
+    if is_name(name) {
+        " is an earlier image's name"
+    } else {
+        " is no name, which has 1 to 16 of a to z, 0 to 9 and _"
+    }
+}
+
+/// Writes which line of an image's text is refused, and why.
+fn put_text(alloc: Global, into: &mut Vec<u8>, image: &Value) -> Result<(), NoMemory>
+    ensures { OnOk result (into.new.items ≡ into.old.items ++
+        text_told (view image.now) (text_at (codes "text") (view image.now)) (assembled (text_at (codes "text") (view image.now)))) }
+{
+    let text = text_at(image, "text");
+    match assemble(alloc, text) {
+        Ok(_) => Ok(()),
+        Err(AssembleError::Fault { line, why }) => put_line(into, image, text, line, why),
+        Err(AssembleError::NoMemory(no)) => Err(no),
+    }
+}
+
+/// Writes that a line of an image's text is refused.
+fn put_line<'a>(
+    into: &mut Vec<u8>,
+    image: &'a Value,
+    text: &'a str,
+    line: usize,
+    why: Why,
+) -> Result<(), NoMemory>
+    ensures { OnOk result (into.new.items ≡ into.old.items ++ text_told (view image.now) text.now (Err (line, why))) }
+{
+    put_parts(
+        into,
+        &[
+            Part::Text("image "),
+            Part::Quoted(text_at(image, "name")),
+            Part::Text(", line "),
+            Part::Count(line as u64),
+            Part::Text(": "),
+            Part::Text(why_words(why)),
+            Part::Text(": "),
+            Part::Line(text_line(text.as_bytes(), line)),
+        ],
+    )
+}
+
+/// Why a line is refused, in words.
+fn why_words(why: Why) -> &'static str
+    ensures { result.now ≡ why_words why }
+{
+    match why {
+        Why::UnknownWord => "no such word",
+        Why::BadRegister => "a register must stand where none stands",
+        Why::BadNumber => "a number or label must stand where none stands",
+        Why::OutOfRange => "a number is out of range",
+        Why::UnknownLabel => "no line has this label",
+        Why::LabelTwice => "an earlier line has this label",
+        Why::OperandCount => "more or fewer operands than the word has",
+        Why::TooLong => "the image has more than 65536 bytes with this line",
+    }
+}
+
+/// Writes how many bytes an image's text makes, and for how many there is room.
+fn put_bytes(alloc: Global, into: &mut Vec<u8>, image: &Value) -> Result<(), NoMemory>
+    ensures { OnOk result (into.new.items ≡ into.old.items ++
+        bytes_told (view image.now) (assembled (text_at (codes "text") (view image.now)))) }
+{
+    match assemble(alloc, text_at(image, "text")) {
+        Ok(made) => put_size(into, image, &made),
+        Err(AssembleError::Fault { .. }) => Ok(()),
+        Err(AssembleError::NoMemory(no)) => Err(no),
+    }
+}
+
+/// Writes how many bytes were made, and for how many there is room.
+#[tactic(auto, using(crate::proofs::Pieces::join_lemmas))]
+fn put_size(into: &mut Vec<u8>, image: &Value, made: &Image) -> Result<(), NoMemory>
+    ensures { OnOk result (into.new.items ≡ into.old.items ++ bytes_told (view image.now) (Ok made.now)) }
+{
+    put_titled(into, "image", image)?;
+    put_parts(
+        into,
+        &[
+            Part::Count(made.as_bytes().len() as u64),
+            Part::Text(" bytes, and 256 times blocks = "),
+            Part::Integer(integer_at(image, "blocks")),
+            Part::Text(" have room"),
+        ],
+    )
+}

@@ -1,0 +1,163 @@
+//! What is said of the links of processes, and of where they lead.
+ghost use Rattle.std.specs.Prelude.{◌≡◌, ◌++◌, OnOk};
+ghost use Rattle.toml.specs.View.{items_view, view};
+ghost use Rattle.dm_boot.specs.Tables.{first_failing};
+ghost use Rattle.dm_explain.specs.Told.{at_link, bad_link, limits_told, link_keeps, link_keys_told, link_rule_told, target_told};
+
+use crate::faults::{put_key_fault, put_number_fault};
+use crate::part::{Part, put_parts};
+use crate::told::elements::{element, put_numbered};
+use crate::wanted::{channel_ranges, control_keys, link_keys, link_ranges};
+use dm_boot::document::Document;
+use dm_boot::names::is_server;
+use dm_boot::shapes::is_link;
+use dm_boot::tables::{items_at, text_at};
+use dm_boot::targets::{has_target, is_control, is_limited, memory_of};
+use dm_memory::NoMemory;
+use toml::Value;
+
+/// A rule of links.
+#[derive(Clone, Copy, Debug, PartialEq, Eq)]
+pub enum LinkRule {
+    Keys,
+    Target,
+    Limits,
+}
+
+/// The place of the first of these links that breaks a rule.
+#[tactic(auto, using(dm_boot::proofs::Elements::failing_lemmas))]
+pub(super) fn bad_link(document: &Document<'_>, rule: LinkRule, links: &[Value]) -> Option<usize>
+    ensures { result ≡ first_failing (λ k l. link_keeps rule (view document.now.top.now) l) 0 (items_view links.now) }
+{
+    for (k, link) in links.iter().enumerate() {
+        if !keeps(document, rule, link) {
+            return Some(k);
+        }
+    }
+    None
+}
+
+/// Whether a link keeps a rule.
+fn keeps(document: &Document<'_>, rule: LinkRule, link: &Value) -> bool
+    ensures { result ≡ link_keeps rule (view document.now.top.now) (view link.now) }
+{
+    match rule {
+        LinkRule::Keys => is_link(link),
+        LinkRule::Target => has_target(document, link),
+        LinkRule::Limits => is_limited(document, link),
+    }
+}
+
+/// Writes what is wrong with the first link of a process that breaks a rule.
+pub(super) fn put_bad_link(
+    into: &mut Vec<u8>,
+    document: &Document<'_>,
+    rule: LinkRule,
+    process: &Value,
+) -> Result<(), NoMemory>
+    ensures { OnOk result (into.new.items ≡ into.old.items ++
+        at_link rule (view document.now.top.now) (view process.now) (bad_link rule (view document.now.top.now) (view process.now))) }
+{
+    match bad_link(document, rule, items_at(process, "links")) {
+        Some(place) => put_link_at(into, document, rule, process, place as u64),
+        None => Ok(()),
+    }
+}
+
+/// Writes what is wrong with the link at a place.
+pub(super) fn put_link_at(
+    into: &mut Vec<u8>,
+    document: &Document<'_>,
+    rule: LinkRule,
+    process: &Value,
+    place: u64,
+) -> Result<(), NoMemory>
+    ensures { OnOk result (into.new.items ≡ into.old.items ++ at_link rule (view document.now.top.now) (view process.now) (Some place)) }
+{
+    put_numbered(into, "link", place)?;
+    match element(process, "links", place) {
+        Some(link) => put_link(into, document, rule, link),
+        None => Ok(()),
+    }
+}
+
+/// Writes what is wrong with a link.
+fn put_link(
+    into: &mut Vec<u8>,
+    document: &Document<'_>,
+    rule: LinkRule,
+    link: &Value,
+) -> Result<(), NoMemory>
+    ensures { OnOk result (into.new.items ≡ into.old.items ++ link_rule_told rule (view document.now.top.now) (view link.now)) }
+{
+    match rule {
+        LinkRule::Keys => put_link_keys(into, link),
+        LinkRule::Target => put_target(into, link),
+        LinkRule::Limits => put_limits(into, document, link),
+    }
+}
+
+/// Writes what is wrong with the keys of a link.
+fn put_link_keys(into: &mut Vec<u8>, link: &Value) -> Result<(), NoMemory>
+    ensures { OnOk result (into.new.items ≡ into.old.items ++ link_keys_told (view link.now)) }
+{
+    if is_control(link) {
+        put_key_fault(into, link, &control_keys(), &["control"], "")
+    } else {
+        put_key_fault(
+            into,
+            link,
+            &link_keys(),
+            &[
+                "to", "code", "channel", "base", "len", "reply", "read", "write",
+            ],
+            "",
+        )
+    }
+}
+
+/// Writes that a link leads nowhere.
+fn put_target(into: &mut Vec<u8>, link: &Value) -> Result<(), NoMemory>
+    ensures { OnOk result (into.new.items ≡ into.old.items ++ target_told (view link.now)) }
+{
+    if is_control(link) {
+        put_parts(
+            into,
+            &[
+                Part::Text("no process is named "),
+                Part::Quoted(text_at(link, "control")),
+            ],
+        )
+    } else {
+        put_parts(
+            into,
+            &[
+                Part::Text("no process or server is named "),
+                Part::Quoted(text_at(link, "to")),
+            ],
+        )
+    }
+}
+
+/// Writes which number of a link is outside its limits.
+fn put_limits(into: &mut Vec<u8>, document: &Document<'_>, link: &Value) -> Result<(), NoMemory>
+    ensures { OnOk result (into.new.items ≡ into.old.items ++ limits_told (view document.now.top.now) (view link.now)) }
+{
+    let to = text_at(link, "to");
+    if is_server(to) {
+        let words = "a link to a server has no code, base, len, read or write";
+        return put_number_fault(into, link, &channel_ranges(), &[Part::Text(words)]);
+    }
+    let size = memory_of(document, to);
+    put_number_fault(
+        into,
+        link,
+        &link_ranges(),
+        &[
+            Part::Text("base and len are more than "),
+            Part::Count(u64::from(size)),
+            Part::Text(" together, the bytes of the memory of "),
+            Part::Quoted(to),
+        ],
+    )
+}

@@ -1,0 +1,168 @@
+//! What is said of processes.
+ghost use Rattle.std.specs.Prelude.{◌≡◌, ◌∷◌, ◌++◌, [], OnOk, codes};
+ghost use Rattle.std.specs.List.{concat};
+ghost use Rattle.std.specs.Fmt.{decimal};
+ghost use Rattle.toml.specs.View.{view};
+ghost use Rattle.toml.specs.Data.{get_item};
+ghost use Rattle.dm_boot.specs.Build.{home_of, machine_tables};
+ghost use Rattle.dm_boot.specs.Tables.{count};
+ghost use Rattle.dm_explain.specs.Faults.{integer_at};
+ghost use Rattle.dm_explain.specs.Parts.{integer_text};
+ghost use Rattle.dm_explain.specs.Told.{bad_link, keys_told, of_element, process_name_words, process_rule_told, room_told};
+
+use crate::faults::{integer_at, put_key_fault};
+use crate::part::{Part, put_parts};
+use crate::told::elements::{element, put_name, put_numbered, put_titled};
+use crate::told::keys::put_count;
+use crate::told::links::{LinkRule, bad_link, put_bad_link, put_link_at};
+use crate::wanted::process_keys;
+use dm_boot::BootRule;
+use dm_boot::document::Document;
+use dm_boot::limits::{format_of, machine_number};
+use dm_boot::names::{is_name, is_server};
+use dm_boot::tables::{items_at, text_at};
+use dm_memory::NoMemory;
+use toml::Value;
+
+/// Writes what is wrong with a process.
+#[tactic(auto, using(crate::proofs::Pieces::join_lemmas, dm_boot::proofs::Elements::count_lemmas))]
+pub(super) fn put_process(
+    into: &mut Vec<u8>,
+    document: &Document<'_>,
+    rule: BootRule,
+    place: u64,
+    process: &Value,
+) -> Result<(), NoMemory>
+    ensures { OnOk result (into.new.items ≡ into.old.items ++ process_rule_told rule (view document.now.top.now) place (view process.now)) }
+{
+    match rule {
+        BootRule::ProcessKeys => {
+            put_numbered(into, "process", place)?;
+            put_process_keys(into, document, process)
+        }
+        BootRule::ProcessName => {
+            put_numbered(into, "process", place)?;
+            put_name(into, process, process_name_words(text_at(process, "name")))
+        }
+        BootRule::ProcessMachine => {
+            put_titled(into, "process", process)?;
+            put_home(into, document.top, process)
+        }
+        BootRule::ProcessImage => {
+            put_titled(into, "process", process)?;
+            put_parts(
+                into,
+                &[
+                    Part::Text("no image is named "),
+                    Part::Quoted(text_at(process, "image")),
+                ],
+            )
+        }
+        BootRule::ProcessRoom => {
+            put_titled(into, "process", process)?;
+            put_no_room(into, document.top, process)
+        }
+        BootRule::LinkCount => {
+            put_titled(into, "process", process)?;
+            let most = u64::from(format_of(document.top).slots());
+            put_count(into, items_at(process, "links").len(), "links", 0, most)
+        }
+        BootRule::LinkTarget => {
+            put_titled(into, "process", process)?;
+            put_bad_link(into, document, LinkRule::Target, process)
+        }
+        BootRule::LinkLimits => {
+            put_titled(into, "process", process)?;
+            put_bad_link(into, document, LinkRule::Limits, process)
+        }
+        _ => Ok(()),
+    }
+}
+
+/// What is wrong with the name of a process.
+fn process_name_words(name: &str) -> &'static str
+    ensures { result.now ≡ process_name_words name.now }
+{
+    if !is_name(name) {
+        " is no name, which has 1 to 16 of a to z, 0 to 9 and _"
+    } else if is_server(name) {
+        " is a server's name"
+    } else {
+        " is an earlier process's name"
+    }
+}
+
+/// Writes what is wrong with the keys of a process, or with those of its first bad link.
+fn put_process_keys(
+    into: &mut Vec<u8>,
+    document: &Document<'_>,
+    process: &Value,
+) -> Result<(), NoMemory>
+    ensures { OnOk result (into.new.items ≡ into.old.items ++
+        keys_told (view document.now.top.now) (view process.now) (bad_link LinkRule.Keys (view document.now.top.now) (view process.now))) }
+{
+    match bad_link(document, LinkRule::Keys, items_at(process, "links")) {
+        Some(place) => put_link_at(into, document, LinkRule::Keys, process, place as u64),
+        None => put_key_fault(
+            into,
+            process,
+            &process_keys(),
+            &["name", "image", "machine", "links"],
+            "",
+        ),
+    }
+}
+
+/// Writes on which machine a process is to start, and which there are.
+#[tactic(auto, using(dm_boot::proofs::Elements::count_lemmas))]
+fn put_home(into: &mut Vec<u8>, top: &Value, process: &Value) -> Result<(), NoMemory>
+    ensures { OnOk result (into.new.items ≡ into.old.items ++ concat (codes "machine = " ∷ integer_text (integer_at (codes "machine") (view process.now))
+        ∷ codes ", and the machines are " ∷ decimal (count (machine_tables (view top.now))) ∷ codes ", from 0 on" ∷ [])) }
+{
+    put_parts(
+        into,
+        &[
+            Part::Text("machine = "),
+            Part::Integer(integer_at(process, "machine")),
+            Part::Text(", and the machines are "),
+            Part::Count(items_at(top, "machine").len() as u64),
+            Part::Text(", from 0 on"),
+        ],
+    )
+}
+
+/// Writes that a machine has no room for a process, and what it has.
+fn put_no_room(into: &mut Vec<u8>, top: &Value, process: &Value) -> Result<(), NoMemory>
+    ensures { OnOk result (into.new.items ≡ into.old.items
+        ++ concat (codes "with those before it there is no room for it on machine " ∷ decimal (home_of (view process.now)) ∷ [])
+        ++ of_element (get_item (home_of (view process.now)) (machine_tables (view top.now))) room_told) }
+{
+    let home = u64::from(machine_number(process).unwrap_or(0));
+    put_parts(
+        into,
+        &[
+            Part::Text("with those before it there is no room for it on machine "),
+            Part::Count(home),
+        ],
+    )?;
+    match element(top, "machine", home) {
+        Some(machine) => put_room(into, machine),
+        None => Ok(()),
+    }
+}
+
+/// Writes the room of a machine.
+#[tactic(auto, using(crate::proofs::Pieces::join_lemmas))]
+fn put_room(into: &mut Vec<u8>, machine: &Value) -> Result<(), NoMemory>
+    ensures { OnOk result (into.new.items ≡ into.old.items ++ room_told (view machine.now)) }
+{
+    put_parts(
+        into,
+        &[
+            Part::Text(", which has slots = "),
+            Part::Integer(integer_at(machine, "slots")),
+            Part::Text(" and blocks = "),
+            Part::Integer(integer_at(machine, "blocks")),
+        ],
+    )
+}
