@@ -1,6 +1,6 @@
 -- Each name that the switchboard keeps has 1 to 16 bytes.
 use Rattle.dm_check.proofs.Names.{◌≡◌, ℕ, ◌==◌, ◌&&◌, Bool, true, false, if◌then◌else◌, List, [], ◌∷◌, ◌++◌, length, refl, ap, sym, subst, Some, None, Option, Pid, pid_eq, PlainLink, MsgId, PlainMessage, PlainWhat, Boot, BootImage, Label}
-use Rattle.dm_check.proofs.Names.{Reply, Why, is_general, switchboard, manager, NamedLink, Switchboard, OneKernel, with_sent, bind, when, PlainProcess, start, is_name, Outcome, Note}
+use Rattle.dm_check.proofs.Names.{Reply, Why, is_general, switchboard, manager, NamedLink, Switchboard, OneKernel, with_sent, bind, when, PlainProcess, start, is_name, Outcome, MoveNote}
 use Rattle.dm_message.specs.declared.Outcome.TheVariants as ends
 use Rattle.dm_message.specs.Plain as what
 use Rattle.dm_onekernel.specs.declared.label.Label.TheVariants as label
@@ -154,11 +154,11 @@ gone_stays : (s : OneKernel) (id : MsgId) (m : PlainMessage) (o : Option PlainWh
 gone_stays s id m None = tt
 gone_stays s id m (Some w) = λ h. h
 
-follows_stays : (s : OneKernel) (id : MsgId) (m : PlainMessage) (w : PlainWhat) → StaySome s (service.follows s id m w)
+follows_stays : (s : OneKernel) (id : MsgId) (m : PlainMessage) (w : PlainWhat) → StaySome s (service.follows_request s id m w)
 follows_stays s id m (what.Move machine) = λ h. h
 follows_stays s id m w = tt
 
-ends_move_stays : (s : OneKernel) (id : MsgId) (p : Pid) (n : Note) (o : Outcome) → StaySome s (service.ends_move s id p n o)
+ends_move_stays : (s : OneKernel) (id : MsgId) (p : Pid) (n : MoveNote) (o : Outcome) → StaySome s (service.ends_move s id p n o)
 ends_move_stays s id p n ends.Done = λ h. h
 ends_move_stays s id p n ends.Stayed = λ h. h
 ends_move_stays s id p n ends.Ended = tt
@@ -185,7 +185,7 @@ step_stays s (label.Gone id) =
 step_stays s (label.Created id child) = stay_bind s (s.bag id) (λ m. service.creates s id m child m.what) (λ m e. creates_stay s id m child m.what)
 step_stays s (label.NoSpace id slots blocks) = stay_bind s (s.bag id) (λ m. service.has_no_room s id m m.what) (λ m e. no_room_stays s id m m.what)
 step_stays s (label.Asked id) =
-    stay_bind s (s.bag id) (λ m. bind (step.at_hand s m.to) (λ p. service.follows s id m m.what)) (λ m e. stay_bind s (step.at_hand s m.to) (λ p. service.follows s id m m.what) (λ p f. follows_stays s id m m.what))
+    stay_bind s (s.bag id) (λ m. bind (step.at_hand s m.to) (λ p. service.follows_request s id m m.what)) (λ m e. stay_bind s (step.at_hand s m.to) (λ p. service.follows_request s id m m.what) (λ p f. follows_stays s id m m.what))
 step_stays s (label.Answered id o) =
     stay_bind s (s.noted id) (λ p. bind (s.notes p) (λ n. service.ends_move s id p n o)) (λ p e. stay_bind s (s.notes p) (λ n. service.ends_move s id p n o) (λ n f. ends_move_stays s id p n o))
 

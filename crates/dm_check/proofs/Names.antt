@@ -11,7 +11,7 @@ pub use Rattle.dm_schedule.proofs.Names.{codes, drop-length}
 pub use Rattle.dm_migrate.proofs.Names.{All-append, All-cons, Err, Ok, PlainWhat, Result, take_rest}
 pub use Rattle.dm_switchboard.proofs.Imports.{is_general, is_name, nat_eq, switchboard}
 pub use Rattle.dm_procman.proofs.Names.{Boot, IsValid, PlainLink, manager}
-pub use Rattle.dm_laws.proofs.Names.{Alive, BootImage, Label, Life, Note, OneKernel, Pending, PlainMessage, PlainProcess, Reply, Switchboard, Why, bind, false≢true, first_number, id_of, pid_of, start, when, with_sent, ⊤}
+pub use Rattle.dm_laws.proofs.Names.{Alive, BootImage, Label, Life, MoveNote, OneKernel, Pending, PlainMessage, PlainProcess, Reply, Switchboard, Why, bind, false≢true, first_number, id_of, pid_of, start, when, with_sent, ⊤}
 pub use Rattle.dm_datamove.proofs.Names.{All-nil}
 pub use Rattle.dm_rule.proofs.Names.{Addresses, Directive, IsStep, Line, NamedLink, Next, Part, Point, Spelled, Step, Todo, View, after_line, all_of, bind-is, first_point, group_of, has_mail, headed, is_quiet, next_step, outcome, untaken}
 pub use Rattle.dm_kernel.proofs.Names.{All-head, All-tail, take_more}

@@ -14,7 +14,7 @@ use Rattle.dm_process.specs.declared.process.Process.{Process}
 use Rattle.dm_room.specs.Room.{with_released}
 use Rattle.dm_records.specs.declared.record.Record.TheVariants.{Here, Frozen, Forward}
 use Rattle.dm_records.specs.Records.{with_record}
-use Rattle.dm_migrate.specs.Asking.{asker_of, moved_answer, request_of}
+use Rattle.dm_migrate.specs.Asking.{asker_of, manager_request, moved_answer}
 use Rattle.dm_migrate.specs.Departure.{Departure, all_sent_on, ask_of, frozen, with_held}
 use Rattle.dm_onekernel.specs.declared.label.Label.TheVariants as label
 use Rattle.dm_line.specs.declared.line.Line.TheVariants as line
@@ -48,7 +48,7 @@ migrates s m x machine = if machine == s.here then turned s (Says (line.Here m.i
 -- who asked for a move hears how it ended, if somebody asked
 abbrev pub tells_asker : ℕ → Process → Outcome → Option Asker → List Part
 tells_asker here x outcome None = []
-tells_asker here x outcome (Some k) = says (label.Answered (request_of k) outcome) ∷ Routes (moved_answer here x outcome k) ∷ []
+tells_asker here x outcome (Some k) = says (label.Answered (manager_request k) outcome) ∷ Routes (moved_answer here x outcome k) ∷ []
 
 -- a process that is asked to move: where it is already, that is answered at once
 abbrev pub asked_to_move : KernelState → Message → Process → ℕ → Option Turned

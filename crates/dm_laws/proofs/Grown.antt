@@ -1,6 +1,6 @@
 -- What only grows: lives go on or end, and counts rise.
-use Rattle.dm_laws.proofs.Names.{◌≡◌, ℕ, ◌≤◌, Bool, refl, ap, sym, subst, inl, inr, arith, length, ⊤, if◌then◌else◌, ◌∙◌, Option, None, Some, cases_Bool, Pid, pid_eq, Life, Alive, Ended, Note, PlainProcess, Switchboard, Manager, OneKernel}
-use Rattle.dm_laws.proofs.Names.{with_process}
+use Rattle.dm_laws.proofs.Names.{◌≡◌, ℕ, ◌≤◌, Bool, refl, ap, sym, subst, inl, inr, arith, length, ⊤, if◌then◌else◌, ◌∙◌, Option, None, Some, cases_Bool, Pid, pid_eq, Life, Alive, Ended, MoveNote, PlainProcess, Switchboard, Manager}
+use Rattle.dm_laws.proofs.Names.{OneKernel, with_process}
 use Rattle.dm_laws.proofs.Equal.{pid_eq-is}
 use Rattle.dm_laws.proofs.Notes.{other_process}
 
@@ -62,7 +62,7 @@ with_process-lives s p life g q = elim (cases_Bool (pid_eq p q)) [
 -- what one step does to processes: they only grow, and one that follows a request rests
 pub record Went (s t : OneKernel) : Type 0 where
   pub grown : Grown s t
-  pub rests : (p : Pid) (n : Note) → s.notes p ≡ Some n → t.processes p ≡ s.processes p
+  pub rests : (p : Pid) (n : MoveNote) → s.notes p ≡ Some n → t.processes p ≡ s.processes p
 
 -- a process goes on, or ends, that follows nothing
 pub Went-process : (s t : OneKernel) (p : Pid) (x : PlainProcess) (life : Life) → s.processes p ≡ Some (Alive x) → LifeGrows (Some (Alive x)) (Some life) → s.notes p ≡ None

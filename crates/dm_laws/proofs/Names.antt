@@ -19,12 +19,12 @@ pub use Rattle.dm_process.specs.Directions.{direction_numbered}
 pub use Rattle.dm_process.specs.declared.process.Direction.{Direction}
 pub use Rattle.dm_onekernel.specs.Boot.{IsValid, first_number, manager, processes_are_valid, starting_at, switchboard}
 pub use Rattle.dm_onekernel.specs.Calls.{CallNumber, Called, Copy, Drop, Ends, Make, Move, Out, Outputs, Receive, Replies, Send, Sends, Waits, call_number}
-pub use Rattle.dm_onekernel.specs.Kernel.{Alive, Ended, Life, Manager, Note, OneKernel, Pending, Switchboard, with_note, with_process, with_sent, without_note}
+pub use Rattle.dm_onekernel.specs.Kernel.{Alive, Ended, Life, Manager, MoveNote, OneKernel, Pending, Switchboard, with_note, with_process, with_sent, without_note}
 pub use Rattle.dm_onekernel.specs.Options.{bind, when}
 pub use Rattle.dm_onekernel.specs.Pieces.{answer_id, answer_to}
 pub use Rattle.dm_onekernel.specs.PlainProcess.{Moving, PlainProcess, PlainStatus, Ready, Waiting, reg}
 pub use Rattle.dm_onekernel.specs.Refusals.{first_failed}
-pub use Rattle.dm_onekernel.specs.Service.{follows, gone_what, serves, without_message}
+pub use Rattle.dm_onekernel.specs.Service.{follows_request, gone_what, serves, without_message}
 pub use Rattle.dm_onekernel.specs.Start.{begun, first_life, life_at, start}
 pub use Rattle.dm_onekernel.specs.Step.{replay}
 pub use Rattle.dm_onekernel.specs.declared.boot.Boot.{Boot}

@@ -1,6 +1,6 @@
 -- Requests to move that processes follow: what each way of changing the kernel without machines keeps of them.
 use Rattle.dm_laws.proofs.Names.{◌≡◌, ℕ, ◌+◌, ◌≤◌, Bool, false, refl, ap, ◌∙◌, sym, subst, inl, inr, arith, if◌then◌else◌, Option, None, Some, cases_Bool, false≢true, nat_tests, Pid, pid_eq, MsgId, id_eq, PlainMessage, PlainProcess, Alive}
-use Rattle.dm_laws.proofs.Names.{Ended, Note, OneKernel, with_process, with_sent, with_note, without_note, answer_id, without_message, in_bag, NotesAgree}
+use Rattle.dm_laws.proofs.Names.{Ended, MoveNote, OneKernel, with_process, with_sent, with_note, without_note, answer_id, without_message, in_bag, NotesAgree}
 use Rattle.dm_laws.proofs.Equal.{pid_eq-is, pid_eq-same, id_eq-is, id_eq-same}
 use Rattle.dm_laws.proofs.Entered.{Entered}
 
@@ -12,9 +12,9 @@ pub record Followed (e : MsgId → ℕ) (s : OneKernel) (i : MsgId) : Type 0 whe
   pub unanswered : e (answer_id i) ≡ 0
 
 pub record Notes (e : MsgId → ℕ) (s : OneKernel) : Type 0 where
-  pub noted : (p : Pid) (n : Note) → s.notes p ≡ Some n → s.noted n.id ≡ Some p
-  pub follows : (i : MsgId) (p : Pid) → s.noted i ≡ Some p → (n : Note) × (s.notes p ≡ Some n) × (n.id ≡ i)
-  pub lives : (p : Pid) (n : Note) → s.notes p ≡ Some n → (x : PlainProcess) × (s.processes p ≡ Some (Alive x))
+  pub noted : (p : Pid) (n : MoveNote) → s.notes p ≡ Some n → s.noted n.id ≡ Some p
+  pub follows : (i : MsgId) (p : Pid) → s.noted i ≡ Some p → (n : MoveNote) × (s.notes p ≡ Some n) × (n.id ≡ i)
+  pub lives : (p : Pid) (n : MoveNote) → s.notes p ≡ Some n → (x : PlainProcess) × (s.processes p ≡ Some (Alive x))
   pub followed : (i : MsgId) (p : Pid) → s.noted i ≡ Some p → Followed e s i
 
 none_entered : (o : Option PlainMessage) → in_bag o ≤ 0 → o ≡ None
@@ -34,18 +34,18 @@ request_apart s i j p q apart one other = elim (cases_Bool (id_eq i j)) [
   | inr off ↦ off
 ]
 
-pub other_process : (s : OneKernel) (p q : Pid) (k : Note) → s.notes p ≡ None → s.notes q ≡ Some k → pid_eq p q ≡ false
+pub other_process : (s : OneKernel) (p q : Pid) (k : MoveNote) → s.notes p ≡ None → s.notes q ≡ Some k → pid_eq p q ≡ false
 other_process s p q k free notes = elim (cases_Bool (pid_eq p q)) [
   | inl same ↦ absurd (let f : None ≡ Some k = sym free ∙ ap s.notes (pid_eq-is p q same) ∙ notes in cc)
   | inr apart ↦ apart
 ]
 
-process_apart : (s : OneKernel) (p q : Pid) (n k : Note) (i : MsgId) → s.notes p ≡ Some n → s.notes q ≡ Some k → k.id ≡ i → id_eq n.id i ≡ false → pid_eq p q ≡ false
+process_apart : (s : OneKernel) (p q : Pid) (n k : MoveNote) (i : MsgId) → s.notes p ≡ Some n → s.notes q ≡ Some k → k.id ≡ i → id_eq n.id i ≡ false → pid_eq p q ≡ false
 process_apart s p q n k i one other id apart = elim (cases_Bool (pid_eq p q)) [
   | inl same ↦
       let f : Some n ≡ Some k = sym one ∙ ap s.notes (pid_eq-is p q same) ∙ other in
       let g : n ≡ k = cc in
-      absurd (false≢true (sym apart ∙ ap (id_eq n.id) (sym id ∙ ap (λ (v : Note). v.id) (sym g)) ∙ id_eq-same n.id))
+      absurd (false≢true (sym apart ∙ ap (id_eq n.id) (sym id ∙ ap (λ (v : MoveNote). v.id) (sym g)) ∙ id_eq-same n.id))
   | inr off ↦ off
 ]
 
@@ -150,13 +150,13 @@ Notes-answer e s id a name request free h = record {
 }
 
 -- a process begins to follow a request
-pub Notes-begin : (e : MsgId → ℕ) (s : OneKernel) (p : Pid) (n : Note) (x : PlainProcess) → s.notes p ≡ None → s.noted n.id ≡ None → s.processes p ≡ Some (Alive x) → Followed e s n.id → Notes e s → Notes e (with_note s p n)
+pub Notes-begin : (e : MsgId → ℕ) (s : OneKernel) (p : Pid) (n : MoveNote) (x : PlainProcess) → s.notes p ≡ None → s.noted n.id ≡ None → s.processes p ≡ Some (Alive x) → Followed e s n.id → Notes e s → Notes e (with_note s p n)
 Notes-begin e s p n x free new alive f h = record {
   noted = λ q k is. elim (cases_Bool (pid_eq p q)) [
     | inl same ↦
         let z : Some n ≡ Some k = sym (ap (λ (b : Bool). if b then Some n else s.notes q) same) ∙ is in
         let k_is : n ≡ k = cc in
-        ap (λ (b : Bool). if b then Some p else s.noted k.id) (ap (λ (v : Note). id_eq n.id v.id) (sym k_is) ∙ id_eq-same n.id) ∙ ap Some (pid_eq-is p q same)
+        ap (λ (b : Bool). if b then Some p else s.noted k.id) (ap (λ (v : MoveNote). id_eq n.id v.id) (sym k_is) ∙ id_eq-same n.id) ∙ ap Some (pid_eq-is p q same)
     | inr apart ↦
         let was : s.noted k.id ≡ Some q = h.noted q k (sym (ap (λ (b : Bool). if b then Some n else s.notes q) apart) ∙ is) in
         ap (λ (b : Bool). if b then Some p else s.noted k.id) (other_request s n.id k.id q new was) ∙ was
@@ -181,7 +181,7 @@ Notes-begin e s p n x free new alive f h = record {
 }
 
 -- a process has followed its request
-pub Notes-end : (e : MsgId → ℕ) (s : OneKernel) (p : Pid) (n : Note) → s.notes p ≡ Some n → Notes e s → Notes e (without_note s p n.id)
+pub Notes-end : (e : MsgId → ℕ) (s : OneKernel) (p : Pid) (n : MoveNote) → s.notes p ≡ Some n → Notes e s → Notes e (without_note s p n.id)
 Notes-end e s p n is h = record {
   noted = λ q k there. elim (cases_Bool (pid_eq p q)) [
     | inl same ↦ absurd (let z : None ≡ Some k = sym (ap (λ (b : Bool). if b then None else s.notes q) same) ∙ there in cc)

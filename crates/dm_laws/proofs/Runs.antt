@@ -1,8 +1,7 @@
 -- What holds of every run of the kernel without machines.
-use Rattle.dm_laws.proofs.Names.{◌≡◌, ℕ, ◌+◌, ◌≤◌, List, [], ◌∷◌, refl, ap, ◌∙◌, sym, subst, ◌⊎◌, inl, inr, arith, Option, None, Some, MsgId, id_of, PlainMessage, Boot, Label, Why, IsValid, bind, follows, serves, PlainProcess, Life, Alive}
-use Rattle.dm_laws.proofs.Names.{Ended, Pid}
-use Rattle.dm_laws.proofs.Names.{OneKernel, answer_id, start, replay, ReceivesOnce, EntersOnce, StaysOrLeaves, EndedStays, CountsOnlyRise, MoverHasOne, NotedRests, NotesAlwaysAgree, IsOwnStep, Leads, reception, receptions, entry, entries}
-use Rattle.dm_laws.proofs.Names.{entries_on, in_bag}
+use Rattle.dm_laws.proofs.Names.{◌≡◌, ℕ, ◌+◌, ◌≤◌, List, [], ◌∷◌, refl, ap, ◌∙◌, sym, subst, ◌⊎◌, inl, inr, arith, Option, None, Some, MsgId, id_of, PlainMessage, Boot, Label, Why, IsValid, bind, follows_request, serves, PlainProcess, Life}
+use Rattle.dm_laws.proofs.Names.{Alive, Ended, Pid, OneKernel, answer_id, start, replay, ReceivesOnce, EntersOnce, StaysOrLeaves, EndedStays, CountsOnlyRise, MoverHasOne, NotedRests, NotesAlwaysAgree, IsOwnStep, Leads, reception}
+use Rattle.dm_laws.proofs.Names.{receptions, entry, entries, entries_on, in_bag}
 use Rattle.dm_onekernel.specs.Receiving as receiving
 use Rattle.dm_onekernel.specs.Step as kernel
 use Rattle.dm_laws.proofs.Counted.{pending_of}
@@ -160,7 +159,7 @@ own_free s t (Label.End q y) p is own = free_trap s t p q (kernel.ends s q y) is
 own_free s t (Label.Receive q id) p is own = free_receive s t p q id (kernel.receives s q id) is own
 own_free s t (Label.Refuse q id c) p is own = free_receive s t p q id (kernel.refuses s q c) is own
 own_free s t (Label.Served id) p is own = free_receiver s t p id (λ m x. serves s id m x m.what) is own
-own_free s t (Label.Asked id) p is own = free_receiver s t p id (λ m x. follows s id m m.what) is own
+own_free s t (Label.Asked id) p is own = free_receiver s t p id (λ m x. follows_request s id m m.what) is own
 own_free s t _ p is own = absurd own
 
 pub noted_rests : NotedRests

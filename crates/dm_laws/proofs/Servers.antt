@@ -1,7 +1,7 @@
 -- What servers do keeps, and what becomes of messages for the ended and for kernels.
 use Rattle.dm_laws.proofs.Names.{◌≡◌, ℕ, ◌+◌, ◌*◌, ◌≤◌, ◌==◌, ◌&&◌, Bool, true, false, List, [], ◌∷◌, ◌++◌, refl, ap, ◌∙◌, sym, subst, nat_lt, is_some, arith, length, if◌then◌else◌, slice_get, Option, None, Some, cases_Bool, inl, inr}
-use Rattle.dm_laws.proofs.Names.{false≢true, nat_tests, Pid, pid_eq, pid_of, PlainLink, MsgId, id_of, PlainMessage, PlainWhat, BootImage, Label, Why, first_number, switchboard, manager, bind, PlainProcess, Life, Alive, Ended, Note, Outcome}
-use Rattle.dm_laws.proofs.Names.{Pending, Switchboard, Manager, OneKernel, with_process, with_sent, with_note, without_note, answer_id, answer_to, begun, without_message, gone_what, reception, code_of_outcome, PendingKind}
+use Rattle.dm_laws.proofs.Names.{false≢true, nat_tests, Pid, pid_eq, pid_of, PlainLink, MsgId, id_of, PlainMessage, PlainWhat, BootImage, Label, Why, first_number, switchboard, manager, bind, PlainProcess, Life, Alive, Ended, MoveNote}
+use Rattle.dm_laws.proofs.Names.{Outcome, Pending, Switchboard, Manager, OneKernel, with_process, with_sent, with_note, without_note, answer_id, answer_to, begun, without_message, gone_what, reception, code_of_outcome, PendingKind}
 use Rattle.dm_onekernel.specs.Switchboard as board
 use Rattle.dm_onekernel.specs.Manager as manage
 use Rattle.dm_onekernel.specs.Service as service
@@ -77,7 +77,7 @@ manager_controls : (g : Manager) (machines : ℕ) (child : Option Pid) (body : L
 manager_controls g machines (Some child) (a ∷ []) links = manager_controls_child g child (manage.control_of a) links (control_is (a == 2) (a == 3) (a == 4))
 manager_controls g machines (Some child) (a ∷ m ∷ []) links =
     manager_if g (a == 5) (manage.moves_child g machines child m links) (manage.bad_request g links)
-    (manager_if g (nat_lt m machines) (manage.asks g PendingKind.Move child (PlainWhat.Move m) (manage.first_link links)) (manage.bad_request g links)
+    (manager_if g (nat_lt m machines) (manage.sends_request g PendingKind.Move child (PlainWhat.Move m) (manage.first_link links)) (manage.bad_request g links)
     (record { sends = (refl, refl, refl, refl); children = omega arith }) (manager_bad g links))
     (manager_bad g links)
 manager_controls g machines None (a ∷ []) links = manager_bad g links
@@ -293,7 +293,7 @@ none_below s p (Some l) e h n = absurd (let k = h (ap is_some e) in let z : nat_
 next_is_new : (s : OneKernel) (home : ℕ) → Made s → s.processes (pid_of home (first_number + s.made home)) ≡ None
 next_is_new s home h = none_below s (pid_of home (first_number + s.made home)) (s.processes (pid_of home (first_number + s.made home))) refl (h.most (pid_of home (first_number + s.made home))) refl
 
-unborn : (e : MsgId → ℕ) (s : OneKernel) (p q : Pid) (n : Note) → s.processes p ≡ None → s.notes q ≡ Some n → Notes e s → pid_eq p q ≡ false
+unborn : (e : MsgId → ℕ) (s : OneKernel) (p q : Pid) (n : MoveNote) → s.processes p ≡ None → s.notes q ≡ Some n → Notes e s → pid_eq p q ≡ false
 unborn e s p q n none notes h = elim (cases_Bool (pid_eq p q)) [
   | inl same ↦ let (x, alive) = h.lives q n notes in absurd (let k : None ≡ Some (Alive x) = sym none ∙ ap s.processes (pid_eq-is p q same) ∙ alive in cc)
   | inr apart ↦ apart
@@ -347,7 +347,7 @@ after_created r e s t id child is h =
 
 -- a process is asked to move
 follows_row : (r e : MsgId → ℕ) (s t : OneKernel) (id : MsgId) (m : PlainMessage) (x : PlainProcess) (w : PlainWhat) → m.what ≡ w → s.bag id ≡ Some m → s.notes m.to ≡ None
-    → s.processes m.to ≡ Some (Alive x) → service.follows s id m w ≡ Some t → Sound r e s → After r e s (Label.Asked id) t
+    → s.processes m.to ≡ Some (Alive x) → service.follows_request s id m w ≡ Some t → Sound r e s → After r e s (Label.Asked id) t
 follows_row r e s t id m x (PlainWhat.Move machine) w there free alive is h =
     let u = with_note (without_message s id) m.to (record { id = id; asker = m.sender }) in
     let k : u ≡ t = cc in
@@ -357,18 +357,18 @@ follows_row r e s t id m x _ w there free alive is h = cc
 
 pub after_asked : (r e : MsgId → ℕ) (s t : OneKernel) (id : MsgId) → step.step s (Label.Asked id) ≡ Some t → Sound r e s → After r e s (Label.Asked id) t
 after_asked r e s t id is h =
-    let (m, there, rest) = bind-is (s.bag id) (λ v. bind (step.at_hand s v.to) (λ p. service.follows s id v v.what)) t is in
-    let (x, at, last) = bind-is (step.at_hand s m.to) (λ p. service.follows s id m m.what) t rest in
+    let (m, there, rest) = bind-is (s.bag id) (λ v. bind (step.at_hand s v.to) (λ p. service.follows_request s id v v.what)) t is in
+    let (x, at, last) = bind-is (step.at_hand s m.to) (λ p. service.follows_request s id m m.what) t rest in
     let (free, alive) = at_hand-is s m.to x at in
     follows_row r e s t id m x m.what refl there free alive last h
 
 -- the answer to a request that a process followed
-pub ends_move-is : (s t : OneKernel) (id : MsgId) (p : Pid) (n : Note) (o : Outcome) → service.ends_move s id p n o ≡ Some t → service.move_ended s id p n o ≡ t
+pub ends_move-is : (s t : OneKernel) (id : MsgId) (p : Pid) (n : MoveNote) (o : Outcome) → service.ends_move s id p n o ≡ Some t → service.move_ended s id p n o ≡ t
 ends_move-is s t id p n Outcome.Done e = cc
 ends_move-is s t id p n Outcome.Stayed e = cc
 ends_move-is s t id p n Outcome.Ended e = cc
 
-ends_row : (r e : MsgId → ℕ) (s : OneKernel) (p : Pid) (n : Note) (o : Outcome) → s.notes p ≡ Some n → Sound r e s → After r e s (Label.Answered n.id o) (service.move_ended s n.id p n o)
+ends_row : (r e : MsgId → ℕ) (s : OneKernel) (p : Pid) (n : MoveNote) (o : Outcome) → s.notes p ≡ Some n → Sound r e s → After r e s (Label.Answered n.id o) (service.move_ended s n.id p n o)
 ends_row r e s p n o is h =
     let u = without_note s p n.id in
     let a : PlainMessage = record { id = answer_id n.id; to = n.asker; sender = p; what = PlainWhat.Moved o } in
@@ -377,8 +377,8 @@ ends_row r e s p n o is h =
     (Went-bag s (with_sent u (Some a)) (λ q. refl) (λ n. refl) (omega arith) (omega arith) (omega arith)) after
 
 -- the note of the process that follows a request is of that request
-pub note-is : (e : MsgId → ℕ) (s : OneKernel) (id : MsgId) (p : Pid) (n : Note) → s.noted id ≡ Some p → s.notes p ≡ Some n → Notes e s → n.id ≡ id
-note-is e s id p n noted notes h = let (k, there, is) = h.follows id p noted in let f : Some n ≡ Some k = sym notes ∙ there in let g : n ≡ k = cc in ap (λ (v : Note). v.id) g ∙ is
+pub note-is : (e : MsgId → ℕ) (s : OneKernel) (id : MsgId) (p : Pid) (n : MoveNote) → s.noted id ≡ Some p → s.notes p ≡ Some n → Notes e s → n.id ≡ id
+note-is e s id p n noted notes h = let (k, there, is) = h.follows id p noted in let f : Some n ≡ Some k = sym notes ∙ there in let g : n ≡ k = cc in ap (λ (v : MoveNote). v.id) g ∙ is
 
 pub after_answered : (r e : MsgId → ℕ) (s t : OneKernel) (id : MsgId) (o : Outcome) → step.step s (Label.Answered id o) ≡ Some t → Sound r e s → After r e s (Label.Answered id o) t
 after_answered r e s t id o is h =

@@ -1,7 +1,7 @@
 -- What each way of changing the kernel without machines keeps.
 use Rattle.dm_laws.proofs.Names.{◌≡◌, ℕ, ◌+◌, ◌≤◌, Bool, true, false, refl, ap, ◌∙◌, sym, subst, nat_lt, nat_le, is_some, ◌⊎◌, inl, inr, arith, if◌then◌else◌, Option, None, Some, fun_ext, cases_Bool, false≢true, nat_tests, Pid, pid_eq}
-use Rattle.dm_laws.proofs.Names.{MsgId, id_eq, id_of, PlainMessage, PlainWhat, Why, switchboard, manager, PlainProcess, Life, Alive, Ended, Note, Outcome, OneKernel, with_process, with_sent, with_note, without_note, answer_id, answer_to}
-use Rattle.dm_laws.proofs.Names.{without_message, in_bag}
+use Rattle.dm_laws.proofs.Names.{MsgId, id_eq, id_of, PlainMessage, PlainWhat, Why, switchboard, manager, PlainProcess, Life, Alive, Ended, MoveNote, Outcome, OneKernel, with_process, with_sent, with_note, without_note, answer_id}
+use Rattle.dm_laws.proofs.Names.{answer_to, without_message, in_bag}
 use Rattle.dm_laws.proofs.Equal.{pid_eq-is, pid_eq-same, id_eq-is, id_eq-same}
 use Rattle.dm_laws.proofs.Counted.{Sent, is_of_memory, is_piece, pending_of}
 use Rattle.dm_laws.proofs.Entered.{Entered, Enters, Made, request_id, counts_grow, Grows, counts, is_counted, asks, Entered-process, Entered-out, Entered-received, Entered-own, Entered-answer, unentered}
@@ -203,7 +203,7 @@ begins r e s id m machine x there what free alive h =
     }
 
 -- a process has followed its request, and the answer enters
-pub follows_no_more : (r e : MsgId → ℕ) (s : OneKernel) (p : Pid) (n : Note) (o : Outcome) → s.notes p ≡ Some n → Sound r e s
+pub follows_no_more : (r e : MsgId → ℕ) (s : OneKernel) (p : Pid) (n : MoveNote) (o : Outcome) → s.notes p ≡ Some n → Sound r e s
     → Sound r (λ i. e i + plus (answer_id n.id) i) (with_sent (without_note s p n.id) (Some (record { id = answer_id n.id; to = n.asker; sender = p; what = PlainWhat.Moved o })))
 follows_no_more r e s p n o is h =
     let id = n.id in

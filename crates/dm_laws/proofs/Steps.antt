@@ -1,6 +1,7 @@
 -- What each step of the kernel without machines keeps.
 use Rattle.dm_laws.proofs.Names.{◌≡◌, ℕ, ◌+◌, ◌≤◌, ◌&&◌, Bool, true, false, refl, ap, ◌∙◌, sym, subst, is_some, is_none, ◌⊎◌, inl, inr, arith, ⊤, if◌then◌else◌, Option, None, Some, cases_Bool, Pid, MsgId, id_eq, id_of, PlainMessage}
-use Rattle.dm_laws.proofs.Names.{PlainWhat, Row, instruction, Label, Reply, Why, bind, when, PlainProcess, PlainStatus, Ready, Waiting, Life, Alive, Ended, Note, OneKernel, with_process, with_sent, without_message, reception, entry, in_bag}
+use Rattle.dm_laws.proofs.Names.{PlainWhat, Row, instruction, Label, Reply, Why, bind, when, PlainProcess, PlainStatus, Ready, Waiting, Life, Alive, Ended, MoveNote, OneKernel, with_process, with_sent, without_message, reception, entry}
+use Rattle.dm_laws.proofs.Names.{in_bag}
 use Rattle.dm_onekernel.specs.Calls as calls
 use Rattle.dm_onekernel.specs.Receiving as receiving
 use Rattle.dm_onekernel.specs.Step as step
@@ -23,7 +24,7 @@ when-is false x t e = cc
 pub record After (r e : MsgId → ℕ) (s : OneKernel) (l : Label) (t : OneKernel) : Type 0 where
   pub sound : Sound (λ i. r i + reception i l) (λ i. e i + entry i s t) t
   pub grown : Grown s t
-  pub rests : (p : Pid) (n : Note) → s.notes p ≡ Some n → t.processes p ≡ s.processes p
+  pub rests : (p : Pid) (n : MoveNote) → s.notes p ≡ Some n → t.processes p ≡ s.processes p
   pub only : (i : MsgId) (x y : PlainMessage) → s.bag i ≡ Some x → t.bag i ≡ Some y → x ≡ y
 
 abbrev pub Sub : OneKernel → OneKernel → Type 0
@@ -96,7 +97,7 @@ alive-is (Some (Alive y)) x e = cc
 alive-is _ x e = cc
 
 -- a process at hand lives, and follows no request
-unless_noted-is : (n : Option Note) (o : Option PlainProcess) (x : PlainProcess) → step.unless_noted n o ≡ Some x → (n ≡ None) × (o ≡ Some x)
+unless_noted-is : (n : Option MoveNote) (o : Option PlainProcess) (x : PlainProcess) → step.unless_noted n o ≡ Some x → (n ≡ None) × (o ≡ Some x)
 unless_noted-is None o x e = (refl, e)
 unless_noted-is (Some n) o x e = cc
 

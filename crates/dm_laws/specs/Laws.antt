@@ -14,7 +14,7 @@ use Rattle.dm_onekernel.specs.declared.label.Label.TheVariants as label
 use Rattle.dm_onekernel.specs.declared.label.Why.{Why}
 use Rattle.dm_onekernel.specs.Boot.{IsValid}
 use Rattle.dm_onekernel.specs.PlainProcess.{PlainProcess, Moving}
-use Rattle.dm_onekernel.specs.Kernel.{Alive, Ended, Note, OneKernel}
+use Rattle.dm_onekernel.specs.Kernel.{Alive, Ended, MoveNote, OneKernel}
 use Rattle.dm_onekernel.specs.Pieces.{answer_id}
 use Rattle.dm_onekernel.specs.Start.{start}
 use Rattle.dm_onekernel.specs.Step.{step, replay}
@@ -103,9 +103,9 @@ MoverHasOne =
 -- of the requests to move that processes follow: each process follows one at most, and each request is followed by one process at
 -- most, which lives; such a request isn't in the bag any more, nor is an answer to it
 pub record NotesAgree (s : OneKernel) : Type 0 where
-  pub noted : (p : Pid) (n : Note) → s.notes p ≡ Some n → s.noted n.id ≡ Some p
-  pub follows : (i : MsgId) (p : Pid) → s.noted i ≡ Some p → (n : Note) × (s.notes p ≡ Some n) × (n.id ≡ i)
-  pub lives : (p : Pid) (n : Note) → s.notes p ≡ Some n → (x : PlainProcess) × (s.processes p ≡ Some (Alive x))
+  pub noted : (p : Pid) (n : MoveNote) → s.notes p ≡ Some n → s.noted n.id ≡ Some p
+  pub follows : (i : MsgId) (p : Pid) → s.noted i ≡ Some p → (n : MoveNote) × (s.notes p ≡ Some n) × (n.id ≡ i)
+  pub lives : (p : Pid) (n : MoveNote) → s.notes p ≡ Some n → (x : PlainProcess) × (s.processes p ≡ Some (Alive x))
   pub taken : (i : MsgId) (p : Pid) → s.noted i ≡ Some p → (s.bag i ≡ None) × (s.bag (answer_id i) ≡ None)
 
 abbrev pub NotesAlwaysAgree : Type 0
@@ -133,5 +133,5 @@ IsOwnStep s p (label.Answered id o) = ⊥
 -- while a process follows a request to move, no step is its own, and its value stays
 abbrev pub NotedRests : Type 0
 NotedRests =
-    (b : Boot) (ls : List Label) (s t : OneKernel) (l : Label) (p : Pid) (n : Note) → IsValid b → replay (start b) ls ≡ Some s → step s l ≡ Some t → s.notes p ≡ Some n
+    (b : Boot) (ls : List Label) (s t : OneKernel) (l : Label) (p : Pid) (n : MoveNote) → IsValid b → replay (start b) ls ≡ Some s → step s l ≡ Some t → s.notes p ≡ Some n
     → (IsOwnStep s p l → ⊥) × (t.processes p ≡ s.processes p)

@@ -14,8 +14,8 @@ abbrev pub asker_of : Message → Asker
 asker_of m = record { n = m.id.n; addr = m.sender }
 
 -- the request: the process manager's message of that number
-abbrev pub request_of : Asker → MsgId
-request_of k = id_of (pid_of 0 2) k.n
+abbrev pub manager_request : Asker → MsgId
+manager_request k = id_of (pid_of 0 2) k.n
 
 -- the answer to it, from the process, which is on machine `here`
 abbrev pub moved_answer : ℕ → Process → Outcome → Asker → Message

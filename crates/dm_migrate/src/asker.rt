@@ -3,7 +3,7 @@ ghost use Rattle.std.specs.Prelude.{◌≡◌};
 ghost use Rattle.dm_link.specs.Lawful.{IsLawfulAddr, IsMachine};
 ghost use Rattle.dm_message.specs.Lawful.{IsLawfulMessage};
 ghost use Rattle.dm_process.specs.Lawful.{IsLawfulProcess};
-ghost use Rattle.dm_migrate.specs.Asking.{asker_of, moved_answer, request_of};
+ghost use Rattle.dm_migrate.specs.Asking.{asker_of, manager_request, moved_answer};
 
 use dm_link::{Addr, MANAGER};
 use dm_message::{Asker, Message, MsgId, Outcome, What};
@@ -21,7 +21,7 @@ pub fn asker_of(request: &Message) -> Asker
 
 /// The name of the request that somebody waits for the answer to: the process manager's message of that number.
 pub fn request_of(asker: Asker) -> MsgId
-    ensures { result ≡ request_of asker }
+    ensures { result ≡ manager_request asker }
 {
     MsgId {
         from: MANAGER,

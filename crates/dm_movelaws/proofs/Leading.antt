@@ -2,7 +2,7 @@
 use Rattle.dm_movelaws.proofs.Names.{◌≡◌, ℕ, ◌==◌, Bool, true, false, List, [], ◌∷◌, length, refl, ap, ◌∙◌, subst, ⊤, if◌then◌else◌, Some, Pid, MsgId, MessageKind, plain_kind, PlainMessage, OneKernel, bind-is, Line, Load, Told, own_id}
 use Rattle.dm_movelaws.proofs.Names.{Receiver, Point, label_of, kernel_after, moved, after, Part, Says, Routes, Again, Owns, Transmits, Spelled, puts, goes_out, packet_line, spelled, Steps, said_by, PacketsKeep, by_parts, AllSayable}
 use Rattle.dm_movelaws.proofs.Names.{Sayable, Sane, part_sane, lines_of, IsNetLine, IsNet, by_net, touches, Pair, AllFit, Boot, Step, turns_fit, resends_net, arrives_net, slice_get, migrates, migrates_fit, bind, behind, ◌++◌, nat_tests}
-use Rattle.dm_movelaws.proofs.Names.{arith, Label, Option, None, Note, Outcome, Known, View, About, PairsFit, fits_as, pair_same, view_after, tells_asker, answers_move}
+use Rattle.dm_movelaws.proofs.Names.{arith, Label, Option, None, MoveNote, Outcome, Known, View, About, PairsFit, fits_as, pair_same, view_after, tells_asker, answers_move}
 use Rattle.dm_rule.specs.Rule as rule
 use Rattle.dm_rule.specs.View as view
 
@@ -149,7 +149,7 @@ asker_behind n p k pt (Says l) a h = absurd a
 asker_behind n p k pt (Routes i) a h = λ m there. h
 asker_behind n p k pt _ a h = absurd a
 
-pub asker_known : (n : ℕ) (p : Pid) (k : Known) (o : Option Note) (r : Outcome) (pt : Point) (w : Spelled) → spelled pt (tells_asker o r) ≡ Some w → pt.view.known n p ≡ k → w.point.view.known n p ≡ k
+pub asker_known : (n : ℕ) (p : Pid) (k : Known) (o : Option MoveNote) (r : Outcome) (pt : Point) (w : Spelled) → spelled pt (tells_asker o r) ≡ Some w → pt.view.known n p ≡ k → w.point.view.known n p ≡ k
 asker_known n p k None r pt w = parts_lead (λ q. q.view.known n p ≡ k) (λ q a b c l h. h) AskerPart (asker_behind n p k) [] pt w tt
 asker_known n p k (Some x) r pt w = parts_lead (λ q. q.view.known n p ≡ k) (λ q a b c l h. h) AskerPart (asker_behind n p k) (answers_move x.id r) pt w (tt, (tt, tt))
 

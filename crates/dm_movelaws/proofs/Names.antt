@@ -8,9 +8,9 @@ pub use Rattle.dm_process.proofs.Names.{slice_get}
 pub use Rattle.dm_onekernel.specs.Pieces.{piece_of}
 pub use Rattle.dm_onekernel.specs.Service.{manager_took}
 pub use Rattle.dm_laws.proofs.Counted.{Sent}
-pub use Rattle.dm_laws.proofs.Names.{Alive, Boot, BootProcess, CallNumber, Called, Direction, IsValid, Label, Life, Manager, Moving, MsgId, None, Note, OneKernel, Option, Outcome, Pending, PendingKind, PlainLink, PlainMessage, PlainProcess}
-pub use Rattle.dm_laws.proofs.Names.{PlainStatus, PlainWhat, Ready, Reply, Sends, Some, Waiting, Why, answer_id, answer_to, bind, bool_eq, cases_Bool, entry, false≢true, first_failed, first_number, id_eq, id_of, in_bag, inl, inr, is_some}
-pub use Rattle.dm_laws.proofs.Names.{life_at, manager, nat_le, pid_of, reception, receptions, replay, start, switchboard, with_note, with_process, with_sent, without_message, without_note, ⊤, ◌⊎◌}
+pub use Rattle.dm_laws.proofs.Names.{Alive, Boot, BootProcess, CallNumber, Called, Direction, IsValid, Label, Life, Manager, MoveNote, Moving, MsgId, None, OneKernel, Option, Outcome, Pending, PendingKind, PlainLink, PlainMessage}
+pub use Rattle.dm_laws.proofs.Names.{PlainProcess, PlainStatus, PlainWhat, Ready, Reply, Sends, Some, Waiting, Why, answer_id, answer_to, bind, bool_eq, cases_Bool, entry, false≢true, first_failed, first_number, id_eq, id_of, in_bag, inl}
+pub use Rattle.dm_laws.proofs.Names.{inr, is_some, life_at, manager, nat_le, pid_of, reception, receptions, replay, start, switchboard, with_note, with_process, with_sent, without_message, without_note, ⊤, ◌⊎◌}
 pub use Rattle.dm_laws.proofs.Notes.{Notes-agree}
 pub use Rattle.dm_laws.proofs.Runs.{ended_stays, notes_always_agree, reached}
 pub use Rattle.dm_laws.proofs.Sound.{not_counted}
@@ -43,11 +43,11 @@ pub use Rattle.dm_rule.proofs.Names.{after, after_head, after_line, after_proto,
 pub use Rattle.dm_rule.proofs.Names.{board_takes_lem, both_true, child_links, chunks_of, counts, counts_process, destination, enclosed_from, encloses, ended_told, ends_move-is, filter, first_gives, first_point, first_trails, first_trodden}
 pub use Rattle.dm_rule.proofs.Names.{first_view, forwarded_for, forwards, forwards_on, front_of, given, gives, gives_piece, goes_out, goes_round, gone_to, group_of, handled, handled_first, hears, held_for, here_told, holder_eq, id_eq-is}
 pub use Rattle.dm_rule.proofs.Names.{id_eq-same, ids_at, is_away, is_behind, is_between, is_counted, is_dropped, is_due, is_early, is_here, is_kernels, is_over, is_pid, is_restart, is_told_back, kernel_after, kernel_hears, kernel_told}
-pub use Rattle.dm_rule.proofs.Names.{kills, kind_comes, kind_leaves, knowing, knows, label_of, lands-is, leads_to, leaves, leaves_for, left_true, length-append, lines_of, link_target, machine_in, machine_of, manager_gets, manager_sends}
-pub use Rattle.dm_rule.proofs.Names.{manager_takes_lem, manager_tells, migrates, moved, name_link, not_server, outcome, own_given, own_gives, own_id, packet_line, pending_of, pid_eq-is, pid_eq-same, pieces_of, place_told, plain_kind}
-pub use Rattle.dm_rule.proofs.Names.{process_told, puts, receiver_in, receiver_of, receives_links, receives_what, released, right_true, seen, sender_in, sender_of, sends_on, sends_what, sent_at, sent_off, served_told, server_told}
-pub use Rattle.dm_rule.proofs.Names.{slice_get_cases, slice_get_within, slot_after, slot_of, sort_of, spelled, standing, start-sound, stayed, taken_id, takes_block, takes_chunk, target_of, tells_asker, times, to_kernel, to_of, token_in}
-pub use Rattle.dm_rule.proofs.Names.{told_between, topic_by, trails_after, unmoved, untaken, updated, updates, view_after, why_ended-is, with_pair, with_ring, without_front, without_id, ◌||◌}
+pub use Rattle.dm_rule.proofs.Names.{kills, kind_comes, kind_leaves, knowing, knows, label_of, lands-is, leads_to, leaves, leaves_for, left_true, length-append, lines_of, link_target, machine_in, manager_gets, manager_sends}
+pub use Rattle.dm_rule.proofs.Names.{manager_takes_lem, manager_tells, migrates, move_target, moved, name_link, not_server, outcome, own_given, own_gives, own_id, packet_line, pending_of, pid_eq-is, pid_eq-same, pieces_of, place_told}
+pub use Rattle.dm_rule.proofs.Names.{plain_kind, process_told, puts, receiver_in, receiver_of, receives_links, receives_what, released, right_true, seen, sender_in, sender_of, sends_on, sends_what, sent_at, sent_off, served_told}
+pub use Rattle.dm_rule.proofs.Names.{server_told, slice_get_cases, slice_get_within, slot_after, slot_of, sort_of, spelled, standing, start-sound, stayed, taken_id, takes_block, takes_chunk, target_of, tells_asker, times, to_kernel, to_of}
+pub use Rattle.dm_rule.proofs.Names.{token_in, told_between, topic_by, trails_after, unmoved, untaken, updated, updates, view_after, why_ended-is, with_pair, with_ring, without_front, without_id, ◌||◌}
 pub use Rattle.dm_rule.proofs.Once.{one_of-same}
 pub use Rattle.dm_rule.proofs.Pairs.Lines.{AllFit, line_view, onward, pair_same, taken_pair, touches}
 pub use Rattle.dm_rule.proofs.Pairs.Migrating.{migrates_fit}

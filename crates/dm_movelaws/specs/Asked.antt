@@ -14,7 +14,7 @@ use Rattle.dm_message.specs.declared.kind.MessageKind.{MessageKind}
 use Rattle.dm_onekernel.specs.declared.boot.Boot.{Boot}
 use Rattle.dm_onekernel.specs.declared.label.Label.TheVariants as label
 use Rattle.dm_onekernel.specs.Boot.{IsValid}
-use Rattle.dm_onekernel.specs.Kernel.{Note}
+use Rattle.dm_onekernel.specs.Kernel.{MoveNote}
 use Rattle.dm_onekernel.specs.Pieces.{answer_id}
 use Rattle.dm_schedule.specs.declared.Step.{Step}
 use Rattle.dm_line.specs.declared.line.Line.{Line}
@@ -91,5 +91,5 @@ MovedIsSaid =
 -- wherever the rule leads, a process follows a request to move only while it moves
 abbrev pub FollowsWhileMoving : Type 0
 FollowsWhileMoving =
-    (b : Boot) (es : List Step) (ls : List Line) (pt : Point) (p : Pid) (n : Note) → IsValid b → LeadsBy b (first_point b) es ls pt → pt.kernel.notes p ≡ Some n
+    (b : Boot) (es : List Step) (ls : List Line) (pt : Point) (p : Pid) (n : MoveNote) → IsValid b → LeadsBy b (first_point b) es ls pt → pt.kernel.notes p ≡ Some n
     → (kind : MessageKind) × (source : ℕ) × (destination : ℕ) × (id : Option MsgId) × IsIn pt.view p (Moves kind source destination id)

@@ -37,7 +37,7 @@ pub record Pending : Type 0 where
   pub answer : Option PlainLink
 
 -- a request to move that a process follows until it has moved, or stays: its name, and who sent it
-pub record Note : Type 0 where
+pub record MoveNote : Type 0 where
   pub id : MsgId
   pub asker : Pid
 
@@ -59,7 +59,7 @@ pub record OneKernel : Type 0 where
   pub made : ℕ → ℕ
   pub bag : MsgId → Option PlainMessage
   -- the request to move that each process follows, if it follows one, and who follows each request
-  pub notes : Pid → Option Note
+  pub notes : Pid → Option MoveNote
   pub noted : MsgId → Option Pid
   pub switchboard : Switchboard
   pub manager : Manager
@@ -69,7 +69,7 @@ abbrev pub with_process : OneKernel → Pid → Life → OneKernel
 with_process s p life = record s { processes = λ q. if pid_eq p q then Some life else s.processes q }
 
 -- the kernel where a process begins to follow a request to move, or has followed it
-abbrev pub with_note : OneKernel → Pid → Note → OneKernel
+abbrev pub with_note : OneKernel → Pid → MoveNote → OneKernel
 with_note s p n =
     record s { notes = λ q. if pid_eq p q then Some n else s.notes q; noted = λ i. if id_eq n.id i then Some p else s.noted i }
 

@@ -48,14 +48,14 @@ bad_request g [] = record { manager = g; message = None }
 bad_request g (l ∷ ls) = answers_byte g l 2 []
 
 -- a request of this kind is sent, and waits for the answer
-abbrev pub asks : Manager → PendingKind → Pid → PlainWhat → Option PlainLink → ManagerTook
-asks g kind to w answer =
+abbrev pub sends_request : Manager → PendingKind → Pid → PlainWhat → Option PlainLink → ManagerTook
+sends_request g kind to w answer =
     let told = tells g to w in
     record { manager = record told.manager { pending = g.pending ++ record { n = g.sent; kind = kind; answer = answer } ∷ [] }; message = told.message }
 
 -- a process is to be made: the request goes to the kernel of its machine
 abbrev pub asks_for : Manager → ℕ → ℕ → PlainLink → List PlainLink → ManagerTook
-asks_for g machine image answer links = asks g wanted.Create (pid_of machine 0) (what.Create image links) (Some answer)
+asks_for g machine image answer links = sends_request g wanted.Create (pid_of machine 0) (what.Create image links) (Some answer)
 
 -- over a link with code 0: the bytes 1, machine, image (two bytes), and links, the first for the answer, up to three more
 -- for the child
@@ -81,7 +81,7 @@ tells_child g child (Some w) links = tells g child w
 -- operation 5: the child is to move to a machine that there is; the answer goes over the first link, if there is one
 abbrev pub moves_child : Manager → ℕ → Pid → ℕ → List PlainLink → ManagerTook
 moves_child g machines child machine links =
-    if nat_lt machine machines then asks g wanted.Move child (what.Move machine) (first_link links) else bad_request g links
+    if nat_lt machine machines then sends_request g wanted.Move child (what.Move machine) (first_link links) else bad_request g links
 
 -- over a link whose code is the number of a child: one byte, or operation 5 and a machine
 abbrev pub controls : Manager → ℕ → Option Pid → List ℕ → List PlainLink → ManagerTook

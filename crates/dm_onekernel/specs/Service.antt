@@ -15,7 +15,7 @@ use Rattle.dm_onekernel.specs.Options.{bind, when}
 use Rattle.dm_onekernel.specs.PlainProcess.{PlainProcess}
 use Rattle.dm_message.specs.declared.Outcome.{Outcome}
 use Rattle.dm_message.specs.declared.Outcome.TheVariants as ends
-use Rattle.dm_onekernel.specs.Kernel.{Alive, Ended, Note, OneKernel, with_process, with_message, with_note, with_sent, without_note}
+use Rattle.dm_onekernel.specs.Kernel.{Alive, Ended, MoveNote, OneKernel, with_process, with_message, with_note, with_sent, without_note}
 use Rattle.dm_onekernel.specs.Pieces as pieces
 use Rattle.dm_onekernel.specs.Switchboard as switchboard_
 use Rattle.dm_onekernel.specs.Manager as manager_
@@ -118,16 +118,16 @@ gone_what (what.Move machine) = Some (what.Moved ends.Ended)
 gone_what w = None
 
 -- asked: a process is to move, and follows the request from now on
-abbrev pub follows : OneKernel → MsgId → PlainMessage → PlainWhat → Option OneKernel
-follows s id m (what.Move machine) = Some (with_note (without_message s id) m.to (record { id = id; asker = m.sender }))
-follows s id m w = None
+abbrev pub follows_request : OneKernel → MsgId → PlainMessage → PlainWhat → Option OneKernel
+follows_request s id m (what.Move machine) = Some (with_note (without_message s id) m.to (record { id = id; asker = m.sender }))
+follows_request s id m w = None
 
 -- answered: who sent the request that a process follows hears that it has moved, or stays
-abbrev pub move_ended : OneKernel → MsgId → Pid → Note → Outcome → OneKernel
+abbrev pub move_ended : OneKernel → MsgId → Pid → MoveNote → Outcome → OneKernel
 move_ended s id p n outcome =
     with_sent (without_note s p id) (Some (record { id = pieces.answer_id id; to = n.asker; sender = p; what = what.Moved outcome }))
 
-abbrev pub ends_move : OneKernel → MsgId → Pid → Note → Outcome → Option OneKernel
+abbrev pub ends_move : OneKernel → MsgId → Pid → MoveNote → Outcome → Option OneKernel
 ends_move s id p n ends.Done = Some (move_ended s id p n ends.Done)
 ends_move s id p n ends.Stayed = Some (move_ended s id p n ends.Stayed)
 ends_move s id p n ends.Ended = None

@@ -18,11 +18,11 @@ use Rattle.dm_onekernel.specs.declared.label.Why.TheVariants as why
 use Rattle.dm_onekernel.specs.Codes.{reply_eq, why_eq}
 use Rattle.dm_onekernel.specs.Options.{bind, when}
 use Rattle.dm_onekernel.specs.PlainProcess.{PlainProcess, PlainStatus, Ready, Waiting, Moving}
-use Rattle.dm_onekernel.specs.Kernel.{Life, Alive, Ended, Note, OneKernel, with_process, with_sent}
+use Rattle.dm_onekernel.specs.Kernel.{Life, Alive, Ended, MoveNote, OneKernel, with_process, with_sent}
 use Rattle.dm_onekernel.specs.Calls as calls
 use Rattle.dm_onekernel.specs.Pieces.{answer_to}
 use Rattle.dm_onekernel.specs.Receiving as receiving
-use Rattle.dm_onekernel.specs.Service.{without_message, serves, takes, creates, has_no_room, is_dropped, gone_what, follows, ends_move}
+use Rattle.dm_onekernel.specs.Service.{without_message, serves, takes, creates, has_no_room, is_dropped, gone_what, follows_request, ends_move}
 
 -- what the processor holds: registers and memory
 pub record Machine : Type 0 where
@@ -60,7 +60,7 @@ why_ended (Some (Alive p)) = None
 why_ended (Some (Ended because)) = Some because
 
 -- a living process that follows no request to move
-abbrev pub unless_noted : Option Note → Option PlainProcess → Option PlainProcess
+abbrev pub unless_noted : Option MoveNote → Option PlainProcess → Option PlainProcess
 unless_noted None o = o
 unless_noted (Some n) o = None
 
@@ -155,7 +155,7 @@ step s (label.Dropped id) = bind (s.bag id) (λ m. bind (why_ended (s.processes 
 step s (label.Gone id) = bind (s.bag id) (λ m. bind (why_ended (s.processes m.to)) (says_gone s id m))
 step s (label.Created id child) = bind (s.bag id) (λ m. creates s id m child m.what)
 step s (label.NoSpace id free_slots free_blocks) = bind (s.bag id) (λ m. has_no_room s id m m.what)
-step s (label.Asked id) = bind (s.bag id) (λ m. bind (at_hand s m.to) (λ p. follows s id m m.what))
+step s (label.Asked id) = bind (s.bag id) (λ m. bind (at_hand s m.to) (λ p. follows_request s id m m.what))
 step s (label.Answered id outcome) = bind (s.noted id) (λ p. bind (s.notes p) (λ n. ends_move s id p n outcome))
 
 -- the steps in order, if each is one

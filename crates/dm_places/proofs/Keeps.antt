@@ -5,7 +5,7 @@ use Rattle.dm_places.proofs.Names.{MirrorsMessage, MirrorsPlaces, MirrorsProcess
 use Rattle.dm_onekernel.specs.Kernel as one
 use Rattle.dm_onekernel.specs.Service as service
 use Rattle.dm_onekernel.specs.Step as kernel
-use Rattle.dm_places.proofs.Names.{ℕ, Link, Place, place_of, Asker, Note, Child, Name, Answer, AskedBy, AnswerNames, plain_note, with_note, without_note, request_of}
+use Rattle.dm_places.proofs.Names.{ℕ, Link, Place, place_of, Asker, MoveNote, Child, Name, Answer, AskedBy, AnswerNames, plain_note, with_note, without_note, manager_request}
 
 -- what there is with places where there is something without
 pub of_map : {A B : Type 0} (f : A → B) (o : Option A) (x : B) → Some x ≡ option_map f o → (y : A) × (o ≡ Some y) × (f y ≡ x)
@@ -177,15 +177,15 @@ ends_mirrors s v a l p y h = record { plain = kernel_process s l p (one.Ended y)
 -- somebody waits to hear how a process's move ends, or nobody does any more
 pub noted_mirrors : (s : OneKernel) (v : View) (a b : Addresses) (l : Placed) (p : Pid) (k : Asker) → ((q : Pid) → SameProcess a b q) → ((i : MsgId) → SameMessage a b i) → ((n : ℕ) → b (Child n) ≡ a (Child n))
     → ((n : ℕ) → b (Name n) ≡ a (Name n)) → ((n : ℕ) → b (Answer n) ≡ a (Answer n))
-    → ((q : Pid) → pid_eq p q ≡ false → b (AskedBy q) ≡ a (AskedBy q)) → b (AskedBy p) ≡ place_of k.addr → Mirrors s v a l → Mirrors (one.with_note s p (plain_note k)) v b (with_note l p (request_of k) k)
+    → ((q : Pid) → pid_eq p q ≡ false → b (AskedBy q) ≡ a (AskedBy q)) → b (AskedBy p) ≡ place_of k.addr → Mirrors s v a l → Mirrors (one.with_note s p (plain_note k)) v b (with_note l p (manager_request k) k)
 noted_mirrors s v a b l p k processes messages child name answer off on h =
     let g = h.places in
     record {
       plain = record {
         processes = h.plain.processes;
         bag = h.plain.bag;
-        notes = λ q. both_if (option_map plain_note) (λ (o : Option Note). o) (pid_eq p q) (Some k) (l.notes q) (Some (plain_note k)) (s.notes q) refl (h.plain.notes q);
-        noted = λ i. ap (λ (o : Option Pid). if id_eq (request_of k) i then Some p else o) (h.plain.noted i);
+        notes = λ q. both_if (option_map plain_note) (λ (o : Option MoveNote). o) (pid_eq p q) (Some k) (l.notes q) (Some (plain_note k)) (s.notes q) refl (h.plain.notes q);
+        noted = λ i. ap (λ (o : Option Pid). if id_eq (manager_request k) i then Some p else o) (h.plain.noted i);
         board = h.plain.board;
         manager = h.plain.manager;
         machines = h.plain.machines;
@@ -220,7 +220,7 @@ unnoted_mirrors s v a l p id h =
       plain = record {
         processes = h.plain.processes;
         bag = h.plain.bag;
-        notes = λ q. both_if (option_map plain_note) (λ (o : Option Note). o) (pid_eq p q) None (l.notes q) None (s.notes q) refl (h.plain.notes q);
+        notes = λ q. both_if (option_map plain_note) (λ (o : Option MoveNote). o) (pid_eq p q) None (l.notes q) None (s.notes q) refl (h.plain.notes q);
         noted = λ i. ap (λ (o : Option Pid). if id_eq id i then None else o) (h.plain.noted i);
         board = h.plain.board;
         manager = h.plain.manager;

@@ -69,8 +69,8 @@ pub use Rattle.dm_places.specs.PlacedStart.{placed_start, started, started_at}
 pub use Rattle.dm_places.specs.PlacedStep.{Acted, acted, acts, after_call, after_done, after_landing, board_took, completed, creates, if_ready, lands, machine_of, manager_took, placed_step, ran, running, serves, takes, with_acted}
 pub use Rattle.dm_places.specs.PlacedStep.{with_child, with_machine, with_message, with_process, with_sent, without_message}
 pub use Rattle.dm_message.specs.declared.Asker.{Asker}
-pub use Rattle.dm_migrate.specs.Asking.{asker_of, moved_answer, request_of}
-pub use Rattle.dm_onekernel.specs.Kernel.{Note}
+pub use Rattle.dm_migrate.specs.Asking.{asker_of, manager_request, moved_answer}
+pub use Rattle.dm_onekernel.specs.Kernel.{MoveNote}
 pub use Rattle.dm_rule.specs.Addresses.{AskedBy}
 pub use Rattle.dm_rule.specs.Point.{seen}
 pub use Rattle.dm_places.specs.Placed.{AnswerNames, plain_note}

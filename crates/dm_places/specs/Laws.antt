@@ -11,7 +11,7 @@ use Rattle.dm_onekernel.specs.Boot.{manager}
 use Rattle.dm_onekernel.specs.declared.boot.Boot.{Boot}
 use Rattle.dm_onekernel.specs.declared.label.Label.{Label}
 use Rattle.dm_onekernel.specs.declared.label.Label.TheVariants as label
-use Rattle.dm_onekernel.specs.Kernel.{Note, OneKernel}
+use Rattle.dm_onekernel.specs.Kernel.{MoveNote, OneKernel}
 use Rattle.dm_onekernel.specs.PlainProcess.{PlainProcess}
 use Rattle.dm_onekernel.specs.Step as kernel
 use Rattle.dm_line.specs.declared.line.Line.{Line}
@@ -45,7 +45,7 @@ StepNeeds s v (label.Created id child) = v.moves child ≡ 0
 StepNeeds s v (label.NoSpace id slots blocks) = ⊤
 StepNeeds s v (label.Asked id) = id ≡ id_of manager id.n
 StepNeeds s v (label.Answered id o) =
-    (p : Pid) (n : Note) → s.noted id ≡ Some p → s.notes p ≡ Some n → (x : PlainProcess) × (n.id ≡ id) × (kernel.alive (s.processes p) ≡ Some x)
+    (p : Pid) (n : MoveNote) → s.noted id ≡ Some p → s.notes p ≡ Some n → (x : PlainProcess) × (n.id ≡ id) × (kernel.alive (s.processes p) ≡ Some x)
 
 -- a step of the kernel without machines is one with places, on the machine that acts, and its places are the addresses after it
 abbrev pub StepsFollow : Type 0

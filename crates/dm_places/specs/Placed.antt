@@ -17,8 +17,8 @@ use Rattle.dm_message.specs.Plain.{plain_message}
 use Rattle.dm_process.specs.declared.process.Process.{Process}
 use Rattle.dm_process.specs.declared.process.Status.{Status}
 use Rattle.dm_process.specs.declared.process.Status.TheVariants as status
-use Rattle.dm_migrate.specs.Asking.{request_of}
-use Rattle.dm_onekernel.specs.Kernel.{Note, OneKernel}
+use Rattle.dm_migrate.specs.Asking.{manager_request}
+use Rattle.dm_onekernel.specs.Kernel.{MoveNote, OneKernel}
 use Rattle.dm_onekernel.specs.Options.{bind}
 use Rattle.dm_onekernel.specs.Plain.{plain_process}
 use Rattle.dm_onekernel.specs.Step as kernel
@@ -67,8 +67,8 @@ pub record MirrorsMessage (a : Addresses) (i : MsgId) (m : Message) : Type 0 whe
   pub enclosed : (k : ℕ) (w : Link) → slice_get (enclosed m.what) k ≡ Some w → a (Enclosed i k) ≡ place_of w.addr
 
 -- who waits to hear, without places
-abbrev pub plain_note : Asker → Note
-plain_note k = record { id = request_of k; asker = k.addr.pid }
+abbrev pub plain_note : Asker → MoveNote
+plain_note k = record { id = manager_request k; asker = k.addr.pid }
 
 -- the link for the answer to a request names this place, if there is one
 abbrev pub AnswerNames : Option Link → Place → Type 0

@@ -52,9 +52,9 @@ module _ (here : ℕ) where
   plain_bad g (l ∷ ls) = refl
 
   plain_asks : (g : Managing) (kind : PendingKind) (to : Addr) (w : What) (o : Option Link) (pw : plain.PlainWhat) → plain_what w ≡ Some pw
-      → plainly (asks here g kind to w o) ≡ Some (one.asks (plain_manager g) kind to.pid pw (option_map plain_link o))
+      → plainly (asks here g kind to w o) ≡ Some (one.sends_request (plain_manager g) kind to.pid pw (option_map plain_link o))
   plain_asks g kind to w o pw is =
-      let t : one.ManagerTook = one.asks (plain_manager g) kind to.pid pw (option_map plain_link o) in
+      let t : one.ManagerTook = one.sends_request (plain_manager g) kind to.pid pw (option_map plain_link o) in
       λ i. Some (record { manager = record t.manager { pending = plain_push g.pending (record { n = g.sent; kind = kind; answer = o }) i }; message = with_what (message_to here g.sent to w) (is i) })
 
   plain_asks_for : (g : Managing) (m image : ℕ) (l : Link) (ls : List Link) → plainly (asks_for here g m image l ls) ≡ Some (one.asks_for (plain_manager g) m image (plain_link l) (map plain_link ls))
@@ -95,7 +95,7 @@ module _ (here : ℕ) where
   plain_wants_move : (g : Managing) (a : Addr) (m : ℕ) (ls : List Link) → plainly (wants_move here g a m ls) ≡ Some (one.moves_child (plain_manager g) g.machines a.pid m (map plain_link ls))
   plain_wants_move g a m ls =
       both plainly (nat_lt m g.machines) (asks here g wanted.Move a (what.Move m) (first_link ls)) (bad_request here g ls) _ _
-      (plain_asks g wanted.Move a (what.Move m) (first_link ls) (plain.Move m) refl ∙ ap (λ o. Some (one.asks (plain_manager g) wanted.Move a.pid (plain.Move m) o)) (plain_first ls))
+      (plain_asks g wanted.Move a (what.Move m) (first_link ls) (plain.Move m) refl ∙ ap (λ o. Some (one.sends_request (plain_manager g) wanted.Move a.pid (plain.Move m) o)) (plain_first ls))
       (plain_bad g ls)
       ∙ some_both (nat_lt m g.machines) _ _
 

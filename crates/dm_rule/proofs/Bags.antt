@@ -1,7 +1,7 @@
 -- What each step does to the bag: the message that goes, and the one that enters.
 use Rattle.dm_rule.proofs.Names.{◌≡◌, ℕ, ◌≤◌, Bool, true, false, zero, suc, refl, ap, ◌∙◌, sym, subst, nat_lt, arith, length, ◌⊎◌, inl, inr, if◌then◌else◌, slice_get, take, drop, Option, None, Some, cases_Bool, nat_tests, Pid, pid_eq}
 use Rattle.dm_rule.proofs.Names.{MsgId, id_eq, id_of, Called, PlainMessage, PlainWhat, Label, Why, switchboard, manager, bind, PlainProcess, Alive, OneKernel, with_process, with_sent, answer_id, answer_to, without_message, id_eq-is}
-use Rattle.dm_rule.proofs.Names.{id_eq-same, Entered, request_id, counts, is_counted, unentered, asks, Sound, not_server, counts_process, bind-is, when-is, at_hand-is, nexts, Nexts, LandsSo, lands-is, ServerSends, in_bag, Note, Outcome}
+use Rattle.dm_rule.proofs.Names.{id_eq-same, Entered, request_id, counts, is_counted, unentered, asks, Sound, not_server, counts_process, bind-is, when-is, at_hand-is, nexts, Nexts, LandsSo, lands-is, ServerSends, in_bag, MoveNote, Outcome}
 use Rattle.dm_rule.proofs.Names.{with_note, without_note, board_takes_lem, ends_move-is, manager_takes_lem}
 use Rattle.dm_onekernel.specs.Kernel.{Ended}
 use Rattle.dm_onekernel.specs.Pieces as pieces
@@ -221,7 +221,7 @@ bag_gone r e s t id is h =
     answers_in r e s t (without_message s id) id m w (let f : with_sent (without_message s id) (Some (answer_to m w)) ≡ t = cc in f) (λ i. refl) there (gone_asks m.what w answer) h
 
 -- a process begins to follow a request: that goes; the answer to it enters where it ends
-follows_out : (e : MsgId → ℕ) (s t : OneKernel) (id : MsgId) (m : PlainMessage) (w : PlainWhat) → service.follows s id m w ≡ Some t → BagStep e s t (Some id) None
+follows_out : (e : MsgId → ℕ) (s t : OneKernel) (id : MsgId) (m : PlainMessage) (w : PlainWhat) → service.follows_request s id m w ≡ Some t → BagStep e s t (Some id) None
 follows_out e s t id m (PlainWhat.Move machine) is =
     let u = with_note (without_message s id) m.to (record { id = id; asker = m.sender }) in
     out_is e s t u id (let f : u ≡ t = cc in f) (λ i. refl)
@@ -229,8 +229,8 @@ follows_out e s t id m _ is = cc
 
 pub bag_asked : (e : MsgId → ℕ) (s t : OneKernel) (id : MsgId) → step.step s (Label.Asked id) ≡ Some t → BagStep e s t (Some id) None
 bag_asked e s t id is =
-    let (m, there, rest) = bind-is (s.bag id) (λ v. bind (step.at_hand s v.to) (λ p. service.follows s id v v.what)) t is in
-    let (x, hand, last) = bind-is (step.at_hand s m.to) (λ p. service.follows s id m m.what) t rest in
+    let (m, there, rest) = bind-is (s.bag id) (λ v. bind (step.at_hand s v.to) (λ p. service.follows_request s id v v.what)) t is in
+    let (x, hand, last) = bind-is (step.at_hand s m.to) (λ p. service.follows_request s id m m.what) t rest in
     follows_out e s t id m m.what last
 
 pub bag_answered : (r e : MsgId → ℕ) (s t : OneKernel) (id : MsgId) (o : Outcome) → step.step s (Label.Answered id o) ≡ Some t → Sound r e s → BagStep e s t None (Some (answer_id id))

@@ -1,7 +1,7 @@
 -- A step of the kernel without machines: where it leads, row by row. Whatever holds where each row leads holds where the step leads.
 use Rattle.dm_rule.proofs.Names.{◌≡◌, ℕ, ◌+◌, ◌==◌, ◌&&◌, Bool, true, false, take, drop, refl, ap, ◌∙◌, sym, subst, length, nat_le, if◌then◌else◌, slice_get, Option, None, Some, Pid, pid_of, pid_eq, MsgId, id_eq, Label, Reply, Why}
 use Rattle.dm_rule.proofs.Names.{reply_eq, why_eq, PlainMessage, PlainWhat, BootImage, first_number, switchboard, manager, bind, PlainProcess, PlainStatus, Ready, Alive, OneKernel, with_process, with_sent, without_message, answer_to}
-use Rattle.dm_rule.proofs.Names.{plain_kind, bind-is, when-is, at_hand-is, Nexts, nexts, is_dropped, why_ended-is, Runs, Completing, completing, pending_of, Note, Outcome, with_note}
+use Rattle.dm_rule.proofs.Names.{plain_kind, bind-is, when-is, at_hand-is, Nexts, nexts, is_dropped, why_ended-is, Runs, Completing, completing, pending_of, MoveNote, Outcome, with_note}
 use Rattle.dm_onekernel.specs.Kernel.{Ended}
 use Rattle.dm_onekernel.specs.Calls as calls
 use Rattle.dm_onekernel.specs.Manager as manage
@@ -49,7 +49,7 @@ pub record Asked (s : OneKernel) (id : MsgId) (m : PlainMessage) (image : ℕ) (
   pub kernel : service.is_kernel s m.to ≡ true
 
 -- a process follows a request to move, whose end is said so
-pub record Follows (s : OneKernel) (id : MsgId) (o : Outcome) (p : Pid) (n : Note) : Type 0 where
+pub record Follows (s : OneKernel) (id : MsgId) (o : Outcome) (p : Pid) (n : MoveNote) : Type 0 where
   pub noted : s.noted id ≡ Some p
   pub notes : s.notes p ≡ Some n
   pub ends : service.ends_move s id p n o ≡ Some (service.move_ended s id p n o)
@@ -78,7 +78,7 @@ pub record Changes (P : OneKernel → Type 0) (s : OneKernel) (l : Label) : Type
       → P (with_sent (service.with_created (without_message s id) child i links) (Some (answer_to m (PlainWhat.Created child))))
   pub no_room : (id : MsgId) (a b : ℕ) (m : PlainMessage) (image : ℕ) (links : _) → l ≡ Label.NoSpace id a b → Asked s id m image links → P (with_sent (without_message s id) (Some (answer_to m PlainWhat.NoRoom)))
   pub asked : (id : MsgId) (m : PlainMessage) (x : PlainProcess) (machine : ℕ) → l ≡ Label.Asked id → Lives s id m x → m.what ≡ PlainWhat.Move machine → P (with_note (without_message s id) m.to (record { id = id; asker = m.sender }))
-  pub answered : (id : MsgId) (o : Outcome) (p : Pid) (n : Note) → l ≡ Label.Answered id o → Follows s id o p n → P (service.move_ended s id p n o)
+  pub answered : (id : MsgId) (o : Outcome) (p : Pid) (n : MoveNote) → l ≡ Label.Answered id o → Follows s id o p n → P (service.move_ended s id p n o)
 
 given : (P : OneKernel → Type 0) (u t : OneKernel) → P u → Some u ≡ Some t → P t
 given P u t h e = let k : u ≡ t = cc in subst P k h
@@ -183,11 +183,11 @@ no_room_step P s t id a b m _ is h there e = cc
 lives : (s : OneKernel) (id : MsgId) (m : PlainMessage) (x : PlainProcess) → s.bag id ≡ Some m → kernel.at_hand s m.to ≡ Some x → Lives s id m x
 lives s id m x there hand = let (free, alive) = at_hand-is s m.to x hand in record { there = there; alive = alive; free = free }
 
-follows_step : (P : OneKernel → Type 0) (s t : OneKernel) (id : MsgId) (m : PlainMessage) (x : PlainProcess) (w : PlainWhat) → m.what ≡ w → Changes P s (Label.Asked id) → Lives s id m x → service.follows s id m w ≡ Some t → P t
+follows_step : (P : OneKernel → Type 0) (s t : OneKernel) (id : MsgId) (m : PlainMessage) (x : PlainProcess) (w : PlainWhat) → m.what ≡ w → Changes P s (Label.Asked id) → Lives s id m x → service.follows_request s id m w ≡ Some t → P t
 follows_step P s t id m x (PlainWhat.Move machine) is h w e = given P (with_note (without_message s id) m.to (record { id = id; asker = m.sender })) t (h.asked id m x machine refl w is) e
 follows_step P s t id m x _ is h w e = cc
 
-move_ends_step : (P : OneKernel → Type 0) (s t : OneKernel) (id : MsgId) (p : Pid) (n : Note) (o : Outcome) → Changes P s (Label.Answered id o) → s.noted id ≡ Some p → s.notes p ≡ Some n → service.ends_move s id p n o ≡ Some t → P t
+move_ends_step : (P : OneKernel → Type 0) (s t : OneKernel) (id : MsgId) (p : Pid) (n : MoveNote) (o : Outcome) → Changes P s (Label.Answered id o) → s.noted id ≡ Some p → s.notes p ≡ Some n → service.ends_move s id p n o ≡ Some t → P t
 move_ends_step P s t id p n Outcome.Ended h noted notes e = cc
 move_ends_step P s t id p n Outcome.Done h noted notes e = given P (service.move_ended s id p n Outcome.Done) t (h.answered id Outcome.Done p n refl (record { noted = noted; notes = notes; ends = refl })) e
 move_ends_step P s t id p n Outcome.Stayed h noted notes e = given P (service.move_ended s id p n Outcome.Stayed) t (h.answered id Outcome.Stayed p n refl (record { noted = noted; notes = notes; ends = refl })) e
@@ -222,8 +222,8 @@ by_step P s t (Label.Took id) h e = let (m, there, rest) = bind-is (s.bag id) (s
 by_step P s t (Label.Created id child) h e = let (m, there, rest) = bind-is (s.bag id) (λ v. service.creates s id v child v.what) t e in creates_step P s t id m child m.what refl h there rest
 by_step P s t (Label.NoSpace id a b) h e = let (m, there, rest) = bind-is (s.bag id) (λ v. service.has_no_room s id v v.what) t e in no_room_step P s t id a b m m.what refl h there rest
 by_step P s t (Label.Asked id) h e =
-    let (m, there, rest) = bind-is (s.bag id) (λ v. bind (kernel.at_hand s v.to) (λ p. service.follows s id v v.what)) t e in
-    let (x, hand, last) = bind-is (kernel.at_hand s m.to) (λ p. service.follows s id m m.what) t rest in
+    let (m, there, rest) = bind-is (s.bag id) (λ v. bind (kernel.at_hand s v.to) (λ p. service.follows_request s id v v.what)) t e in
+    let (x, hand, last) = bind-is (kernel.at_hand s m.to) (λ p. service.follows_request s id m m.what) t rest in
     follows_step P s t id m x m.what refl h (lives s id m x there hand) last
 by_step P s t (Label.Answered id o) h e =
     let (p, noted, rest) = bind-is (s.noted id) (λ q. bind (s.notes q) (λ n. service.ends_move s id q n o)) t e in

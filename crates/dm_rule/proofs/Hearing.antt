@@ -2,7 +2,7 @@
 use Rattle.dm_rule.proofs.Names.{◌≡◌, ℕ, ◌==◌, ◌||◌, Bool, true, false, List, [], ◌∷◌, ◌++◌, refl, ap, ◌∙◌, subst, length, ◌/◌, ⊤, if◌then◌else◌, Option, None, Some, Pid, pid_of, pid_eq, MsgId, MessageKind, Line, Stage, Boot, switchboard}
 use Rattle.dm_rule.proofs.Names.{manager, PlainProcess, Told, About, Of, Known, Unknown, Here, Frozen, Incoming, Forward, Ended, target_of, Point, Part, Says, Again, Owns, Addresses, Sender, is_told_back, place_told, to_kernel, forwards_on}
 use Rattle.dm_rule.proofs.Names.{moves_to, accepts, takes_chunk, takes_block, gives_piece, sends_on, leaves, kernel_told, chunks_of, pieces_of, updates, here_told, ended_told, process_told, server_told, fits, free_room, kernel_hears, hears}
-use Rattle.dm_rule.proofs.Names.{bind-is, behind_count, Label, Note, Outcome, Routes, answer_id, answers_move, tells_asker, leaves_for}
+use Rattle.dm_rule.proofs.Names.{bind-is, behind_count, Label, MoveNote, Outcome, Routes, answer_id, answers_move, tells_asker, leaves_for}
 use Rattle.dm_onekernel.specs.Step as kernel
 
 -- a process's messages go on, and it has left
@@ -20,7 +20,7 @@ pub record Tells (P : List Part → Type 0) (o : Point) (m : ℕ) (id : MsgId) (
   pub accepted : k ≡ MessageKind.Ask → P (Says (Line.Migration Stage.Accepted p) ∷ to_kernel MessageKind.PullState id.from.home ∷ [])
   pub lacks : (slots blocks : ℕ) → P (Says (Line.Lacks p slots blocks) ∷ to_kernel MessageKind.Refuse id.from.home ∷ [])
   pub stays : k ≡ MessageKind.Refuse → o.kernel.notes p ≡ None → P (Says (Line.Stays p) ∷ [])
-  pub stays_asked : k ≡ MessageKind.Refuse → (n : Note) → o.kernel.notes p ≡ Some n → P (Says (Line.Stays p) ∷ answers_move n.id Outcome.Stayed)
+  pub stays_asked : k ≡ MessageKind.Refuse → (n : MoveNote) → o.kernel.notes p ≡ Some n → P (Says (Line.Stays p) ∷ answers_move n.id Outcome.Stayed)
   pub state : P (gives_piece id MessageKind.State)
   pub next_chunk : P (Says (Line.Proto id) ∷ to_kernel MessageKind.PullState id.from.home ∷ [])
   pub last_chunk : P (Says (Line.Migration Stage.StateTaken p) ∷ to_kernel MessageKind.PullBlock id.from.home ∷ [])
@@ -29,7 +29,7 @@ pub record Tells (P : List Part → Type 0) (o : Point) (m : ℕ) (id : MsgId) (
   pub last_block : P (Says (Line.Migration Stage.MemoryTaken p) ∷ to_kernel MessageKind.AllTaken id.from.home ∷ [])
   pub left : (ids : List MsgId) (to : ℕ) → Leaves o m k p ids to → P (left_parts id p ids to)
   pub restarted : k ≡ MessageKind.Restart → o.kernel.notes p ≡ None → P (Says (Line.Migration Stage.Restarted p) ∷ [])
-  pub restarted_asked : k ≡ MessageKind.Restart → (n : Note) → o.kernel.notes p ≡ Some n → P (Says (Line.Migration Stage.Restarted p) ∷ answers_move n.id Outcome.Done)
+  pub restarted_asked : k ≡ MessageKind.Restart → (n : MoveNote) → o.kernel.notes p ≡ Some n → P (Says (Line.Migration Stage.Restarted p) ∷ answers_move n.id Outcome.Done)
 
 -- what a machine knows of a receiver that is a process
 pub record At (o : Point) (m : ℕ) (t : Told) (k : Known) : Type 0 where
@@ -56,7 +56,7 @@ by_test P true ps qs h k = h
 by_test P false ps qs h k = k
 
 -- whoever asked for a move is told how it ended, if somebody asked
-by_asker : (P : List Part → Type 0) (l : Line) (r : Outcome) (q : Option Note) → (q ≡ None → P (Says l ∷ [])) → ((n : Note) → q ≡ Some n → P (Says l ∷ answers_move n.id r)) → P (Says l ∷ tells_asker q r)
+by_asker : (P : List Part → Type 0) (l : Line) (r : Outcome) (q : Option MoveNote) → (q ≡ None → P (Says l ∷ [])) → ((n : MoveNote) → q ≡ Some n → P (Says l ∷ answers_move n.id r)) → P (Says l ∷ tells_asker q r)
 by_asker P l r None alone asked = alone refl
 by_asker P l r (Some n) alone asked = asked n refl
 

@@ -14,7 +14,7 @@ pub mod Lines
 pub mod Parts
 pub mod Groups
 pub mod Turns
-use Rattle.dm_rule.proofs.Names.{◌≡◌, ℕ, true, refl, ap, ◌∙◌, sym, subst, slice_get, Option, None, Some, Pid, Place, PlainLink, link_at, MsgId, PlainMessage, PlainProcess, NamedLink, Pending, Note, OneKernel, links_in, to_of, sender_of}
+use Rattle.dm_rule.proofs.Names.{◌≡◌, ℕ, true, refl, ap, ◌∙◌, sym, subst, slice_get, Option, None, Some, Pid, Place, PlainLink, link_at, MsgId, PlainMessage, PlainProcess, NamedLink, Pending, MoveNote, OneKernel, links_in, to_of, sender_of}
 use Rattle.dm_rule.proofs.Names.{enclosed_of, names, ascends, Addresses, Holder, Slot, Owner, Receiver, Sender, Enclosed, Child, Name, Answer, AskedBy, unmoved, link_target, slot_of, owner_in, owner_of, name_link, answer_link, asker_in}
 use Rattle.dm_onekernel.specs.Manager as manage
 use Rattle.dm_onekernel.specs.Step as kernel
@@ -51,7 +51,7 @@ pub record AtHome (P : Pid → Place → Type 0) (s : OneKernel) (a : Addresses)
   pub children : (n : ℕ) (q : Pid) → manage.child_numbered s.manager.children n ≡ Some q → P q (a (Child n))
   pub named : (n : ℕ) (k : NamedLink) → slice_get s.switchboard.names n ≡ Some k → P k.link.to (a (Name n))
   pub answers : (n : ℕ) (r : Pending) (l : PlainLink) → manage.pending_numbered n s.manager.pending ≡ Some r → r.answer ≡ Some l → P l.to (a (Answer n))
-  pub askers : (p : Pid) (n : Note) → s.notes p ≡ Some n → P n.asker (a (AskedBy p))
+  pub askers : (p : Pid) (n : MoveNote) → s.notes p ≡ Some n → P n.asker (a (AskedBy p))
   -- whoever never moved is at home
   pub rooted : (q : Pid) → P q (unmoved q.home)
   pub pending : ascends 0 s.manager.pending s.manager.sent ≡ true
@@ -94,7 +94,7 @@ answer_home : (P : Pid → Place → Type 0) (a : Addresses) (n : ℕ) (q : Pid)
 answer_home P a n q None h e = cc
 answer_home P a n q (Some r) h e = link_home P (a (Answer n)) q r.answer (λ l f. h r l refl f) e
 
-asker_home : (P : Pid → Place → Type 0) (a : Addresses) (p q : Pid) (o : Option Note) → ((n : Note) → o ≡ Some n → P n.asker (a (AskedBy p))) → asker_in o ≡ Some q → P q (a (AskedBy p))
+asker_home : (P : Pid → Place → Type 0) (a : Addresses) (p q : Pid) (o : Option MoveNote) → ((n : MoveNote) → o ≡ Some n → P n.asker (a (AskedBy p))) → asker_in o ≡ Some q → P q (a (AskedBy p))
 asker_home P a p q None h e = cc
 asker_home P a p q (Some n) h e = at_home_of P n.asker q (a (AskedBy p)) e (h n refl)
 

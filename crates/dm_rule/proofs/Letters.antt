@@ -67,7 +67,7 @@ gone_in s t (Label.Gone id) j is e = in_first s t id (λ m. bind (step.why_ended
 gone_in s t (Label.Took id) j is e = in_first s t id (service.takes s id) j is (let f : id ≡ j = cc in f)
 gone_in s t (Label.Created id p) j is e = in_first s t id (λ m. service.creates s id m p m.what) j is (let f : id ≡ j = cc in f)
 gone_in s t (Label.NoSpace id a b) j is e = in_first s t id (λ m. service.has_no_room s id m m.what) j is (let f : id ≡ j = cc in f)
-gone_in s t (Label.Asked id) j is e = in_first s t id (λ m. bind (step.at_hand s m.to) (λ p. service.follows s id m m.what)) j is (let f : id ≡ j = cc in f)
+gone_in s t (Label.Asked id) j is e = in_first s t id (λ m. bind (step.at_hand s m.to) (λ p. service.follows_request s id m m.what)) j is (let f : id ≡ j = cc in f)
 gone_in s t _ j is e = cc
 
 -- a step, seen in the messages that are under way

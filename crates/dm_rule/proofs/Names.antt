@@ -35,9 +35,9 @@ pub use Rattle.dm_laws.proofs.Entered.{Entered, Made, asks, counts, is_counted, 
 pub use Rattle.dm_laws.proofs.Equal.{id_eq-is, id_eq-same, id_eq-swap, pid_eq-is, pid_eq-same}
 pub use Rattle.dm_laws.proofs.Grown.{LifeGrows}
 pub use Rattle.dm_laws.proofs.Movers.{sent_at, sent_off, stayed}
-pub use Rattle.dm_laws.proofs.Names.{Alive, Boot, BootImage, BootProcess, CallNumber, Called, Direction, Ends, IsValid, Label, Life, Manager, Moving, MsgId, None, Note, OneKernel, Option, Outcome, Outputs, Pending, PendingKind, PlainLink}
-pub use Rattle.dm_laws.proofs.Names.{PlainMessage, PlainProcess, PlainStatus, PlainWhat, Ready, Replies, Reply, Sends, Some, Waiting, Waits, Why, answer_id, answer_to, begun, bind, cases_Bool, code_of_outcome, direction_numbered, entry}
-pub use Rattle.dm_laws.proofs.Names.{false≢true, first_failed, first_life, first_number, id_eq, id_of, in_bag, inl, inr, is_some, life_at, manager, nat_le, option_map, pid_of, plain_link, processes_are_valid, reception, reg, start}
+pub use Rattle.dm_laws.proofs.Names.{Alive, Boot, BootImage, BootProcess, CallNumber, Called, Direction, Ends, IsValid, Label, Life, Manager, MoveNote, Moving, MsgId, None, OneKernel, Option, Outcome, Outputs, Pending, PendingKind}
+pub use Rattle.dm_laws.proofs.Names.{PlainLink, PlainMessage, PlainProcess, PlainStatus, PlainWhat, Ready, Replies, Reply, Sends, Some, Waiting, Waits, Why, answer_id, answer_to, begun, bind, cases_Bool, code_of_outcome, direction_numbered}
+pub use Rattle.dm_laws.proofs.Names.{entry, false≢true, first_failed, first_life, first_number, id_eq, id_of, in_bag, inl, inr, is_some, life_at, manager, nat_le, option_map, pid_of, plain_link, processes_are_valid, reception, reg, start}
 pub use Rattle.dm_laws.proofs.Names.{starting_at, switchboard, when, with_note, with_process, with_sent, without_message, without_note, ⊤, ◌⊎◌}
 pub use Rattle.dm_laws.proofs.Runs.{after_step, start-sound}
 pub use Rattle.dm_laws.proofs.Servers.{ServerSends, board_takes_lem, ends_move-is, manager_takes_lem, why_ended-is}
@@ -65,7 +65,7 @@ pub use Rattle.dm_rule.specs.Pairs.{HomeStands, PairStands}
 pub use Rattle.dm_rule.specs.Parts.{Again, Owns, Part, Routes, Says, Spelled, Transmits, behind, goes_out, lines_of, packet_line, pair_window, puts, spelled}
 pub use Rattle.dm_rule.specs.Phases.{Alone, HasToken, IsIn, IsToken, Moves, Nowhere, Over, Phase, Rests, is_apart, is_away, is_between, is_due, is_early, is_here, is_over, is_restart, kind_comes, kind_leaves, knows, receiver_in, sender_in}
 pub use Rattle.dm_rule.specs.Phases.{token_in, told_between}
-pub use Rattle.dm_rule.specs.Point.{Point, after, after_line, first_point, kernel_after, label_of, machine_in, machine_of, moved, seen, topic_by}
+pub use Rattle.dm_rule.specs.Point.{Point, after, after_line, first_point, kernel_after, label_of, machine_in, move_target, moved, seen, topic_by}
 pub use Rattle.dm_rule.specs.Quiet.{IsQuiet, has_mail, is_quiet, pair_is_quiet}
 pub use Rattle.dm_rule.specs.Rule.{Room, arrives, board_took, called, comes, comes_to, completion_parts, creation_parts, drop_parts, ended_handles, executes, first_awaited, first_runnable, fits, free_room, goes_round, group_of, has}
 pub use Rattle.dm_rule.specs.Rule.{has_room, headed, hears, here_handles, kept_from, kernel_handles, kernel_hears, less, let_go, manager_parts, more, numbers_from, outcome, outstanding_count, process_handles, ran, reception_parts, repeats}

@@ -256,14 +256,14 @@ taking_gets s v a id (Some m) =
     else manager_gets s v a m m.what (manage.manager_takes s.manager s.machines (length s.images) m m.what)
 
 -- a process that follows a request to move knows who sent it
-abbrev pub follows : Addresses → MsgId → Option PlainMessage → List Gets
-follows a id None = []
-follows a id (Some m) = gets (AskedBy m.to) (a (Sender id)) ∷ []
+abbrev pub given_to_follow : Addresses → MsgId → Option PlainMessage → List Gets
+given_to_follow a id None = []
+given_to_follow a id (Some m) = gets (AskedBy m.to) (a (Sender id)) ∷ []
 
 -- and answers where it is then
-abbrev pub ends_move : View → Addresses → MsgId → Option Pid → List Gets
-ends_move v a id None = []
-ends_move v a id (Some p) = gets (Receiver (answer_id id)) (a (AskedBy p)) ∷ gets (Sender (answer_id id)) (acting_place v p) ∷ []
+abbrev pub given_at_end : View → Addresses → MsgId → Option Pid → List Gets
+given_at_end v a id None = []
+given_at_end v a id (Some p) = gets (Receiver (answer_id id)) (a (AskedBy p)) ∷ gets (Sender (answer_id id)) (acting_place v p) ∷ []
 
 -- what each label gives, a row a label
 abbrev pub gives : OneKernel → View → Addresses → Label → List Gets
@@ -281,5 +281,5 @@ gives s v a (label.Gone id) = answer_gets a id (record { at = v.acting; moves = 
 gives s v a (label.Took id) = taking_gets s v a id (s.bag id)
 gives s v a (label.Created id child) = creation_gets v a id child (s.bag id)
 gives s v a (label.NoSpace id f b) = answer_gets a id (unmoved v.acting)
-gives s v a (label.Asked id) = follows a id (s.bag id)
-gives s v a (label.Answered id o) = ends_move v a id (s.noted id)
+gives s v a (label.Asked id) = given_to_follow a id (s.bag id)
+gives s v a (label.Answered id o) = given_at_end v a id (s.noted id)

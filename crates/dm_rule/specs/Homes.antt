@@ -8,7 +8,7 @@ use Rattle.dm_link.specs.Plain.{PlainLink}
 use Rattle.dm_message.specs.declared.MsgId.{MsgId}
 use Rattle.dm_message.specs.Plain as what
 use Rattle.dm_message.specs.Plain.{PlainMessage, PlainWhat}
-use Rattle.dm_onekernel.specs.Kernel.{Note, Pending, OneKernel}
+use Rattle.dm_onekernel.specs.Kernel.{MoveNote, Pending, OneKernel}
 use Rattle.dm_onekernel.specs.Manager as manage
 use Rattle.dm_onekernel.specs.Step as kernel
 use Rattle.dm_rule.specs.Point.{Point}
@@ -45,7 +45,7 @@ enclosed_of None k = None
 enclosed_of (Some m) k = slice_get (links_in m.what) k
 
 -- who asked a process to move
-abbrev pub asker_in : Option Note → Option Pid
+abbrev pub asker_in : Option MoveNote → Option Pid
 asker_in None = None
 asker_in (Some n) = Some n.asker
 

@@ -16,7 +16,7 @@ use Rattle.dm_onekernel.specs.declared.label.Label.TheVariants as label
 use Rattle.dm_onekernel.specs.Boot.{switchboard, manager}
 use Rattle.dm_onekernel.specs.Pieces.{answer_id}
 use Rattle.dm_onekernel.specs.PlainProcess.{PlainProcess, PlainStatus, Ready, Waiting, Moving}
-use Rattle.dm_onekernel.specs.Kernel.{Note, OneKernel, Pending}
+use Rattle.dm_onekernel.specs.Kernel.{MoveNote, OneKernel, Pending}
 use Rattle.dm_onekernel.specs.Step as kernel
 use Rattle.dm_line.specs.declared.line.Line.TheVariants as line
 use Rattle.dm_line.specs.declared.line.Stage.TheVariants as stage
@@ -76,7 +76,7 @@ asked_to_move m id p to =
     Says (line.Label (label.Asked id)) ∷ (if m == to then answers_move id ends.Done else leaves_for p to)
 
 -- a move has ended so: the request that the process followed is answered, if it followed one
-abbrev pub tells_asker : Option Note → Outcome → List Part
+abbrev pub tells_asker : Option MoveNote → Outcome → List Part
 tells_asker None o = []
 tells_asker (Some n) o = answers_move n.id o
 

@@ -18,9 +18,9 @@ use Rattle.dm_rule.specs.View.{About, NothingElse, Target, View, about, view_aft
 use Rattle.dm_rule.specs.Addresses.{Addresses, addresses_after, first_addresses}
 
 -- the machine that a message says its receiver is to move to
-abbrev pub machine_of : PlainWhat → About
-machine_of (what.Move machine) = Target machine
-machine_of w = NothingElse
+abbrev pub move_target : PlainWhat → About
+move_target (what.Move machine) = Target machine
+move_target w = NothingElse
 
 -- the kernel without machines, the view and the addresses
 pub record Point : Type 0 where
@@ -54,7 +54,7 @@ kernel_after s (Some l) = kernel.step s l
 -- where a process goes that is asked to move, no line says: the kernel's message does
 abbrev pub machine_in : Option PlainMessage → About
 machine_in None = NothingElse
-machine_in (Some m) = machine_of m.what
+machine_in (Some m) = move_target m.what
 
 abbrev pub topic_by : OneKernel → About → Option Label → About
 topic_by s topic (Some (label.Asked id)) = machine_in (s.bag id)

@@ -16,7 +16,7 @@ pub use Rattle.dm_laws.proofs.Counted.{is_of_memory, is_piece}
 pub use Rattle.dm_laws.proofs.Equal.{pid_eq-swap}
 pub use Rattle.dm_laws.proofs.Grown.{Grown}
 pub use Rattle.dm_laws.proofs.Movers.{One, came, out_at, out_off}
-pub use Rattle.dm_laws.proofs.Names.{Alive, Boot, BootImage, BootProcess, CallNumber, Called, Direction, Ended, Ends, IsValid, Label, Life, Manager, Moving, MsgId, None, Note, OneKernel, Option, Outcome, Outputs, Pending, PendingKind}
+pub use Rattle.dm_laws.proofs.Names.{Alive, Boot, BootImage, BootProcess, CallNumber, Called, Direction, Ended, Ends, IsValid, Label, Life, Manager, MoveNote, Moving, MsgId, None, OneKernel, Option, Outcome, Outputs, Pending, PendingKind}
 pub use Rattle.dm_laws.proofs.Names.{PlainLink, PlainMessage, PlainProcess, PlainStatus, PlainWhat, Ready, Replies, Reply, Sends, Some, Switchboard, Waiting, Waits, Why, answer_id, answer_to, begun, bind, cases_Bool, code_of_outcome}
 pub use Rattle.dm_laws.proofs.Names.{direction_numbered, entry, false≢true, first_failed, first_life, first_number, id_eq, id_of, in_bag, inl, inr, is_some, life_at, manager, nat_le, option_map, pid_of, plain_link, processes_are_valid}
 pub use Rattle.dm_laws.proofs.Names.{reception, reg, replay, start, starting_at, switchboard, when, with_note, with_process, with_sent, without_message, without_note, ⊤, ◌⊎◌}

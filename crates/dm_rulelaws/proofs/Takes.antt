@@ -15,7 +15,7 @@ pub record Manages (P : manage.ManagerTook → Type 0) (g : Manager) (machines i
   pub ignores : P (record { manager = g; message = None })
   pub refuses : (l : PlainLink) (ls : List PlainLink) → Letter w (l ∷ ls) → P (manage.answers_byte g l 2 [])
   pub asks : (machine image : ℕ) (l : PlainLink) (ls : List PlainLink) → Letter w (l ∷ ls) → (nat_lt machine machines && nat_lt image images) ≡ true → P (manage.asks_for g machine image l ls)
-  pub moves : (code : ℕ) (child : Pid) (machine : ℕ) (links : List PlainLink) → Letter w links → manage.child_numbered g.children code ≡ Some child → nat_lt machine machines ≡ true → P (manage.asks g PendingKind.Move child (PlainWhat.Move machine) (manage.first_link links))
+  pub moves : (code : ℕ) (child : Pid) (machine : ℕ) (links : List PlainLink) → Letter w links → manage.child_numbered g.children code ≡ Some child → nat_lt machine machines ≡ true → P (manage.sends_request g PendingKind.Move child (PlainWhat.Move machine) (manage.first_link links))
   pub tells : (code : ℕ) (child : Pid) (v : PlainWhat) → manage.child_numbered g.children code ≡ Some child → ((Q : PlainWhat → Type 0) → Q PlainWhat.Stop → Q PlainWhat.Resume → Q PlainWhat.Kill → Q v) → P (manage.tells g child v)
   pub created : (child : Pid) (r : Pending) → w ≡ PlainWhat.Created child → manage.pending_numbered m.id.n g.pending ≡ Some r
       → P (manage.answers_over (record g { children = g.children ++ child ∷ []; pending = manage.without_pending m.id.n g.pending }) r.answer 0 (manage.control_link (length g.children + 1) ∷ []))
@@ -61,7 +61,7 @@ by_controls P g machines images m w code (Some child) (a ∷ []) links h u is = 
 by_controls P g machines images m w code (Some child) (a ∷ b ∷ []) links h u is =
     let bad = by_bad P g machines images m w links h u in
     by_test P (a == 5) (manage.moves_child g machines child b links) (manage.bad_request g links)
-    (λ e. by_test P (nat_lt b machines) (manage.asks g PendingKind.Move child (PlainWhat.Move b) (manage.first_link links)) (manage.bad_request g links) (h.moves code child b links u is) bad) bad
+    (λ e. by_test P (nat_lt b machines) (manage.sends_request g PendingKind.Move child (PlainWhat.Move b) (manage.first_link links)) (manage.bad_request g links) (h.moves code child b links u is) bad) bad
 by_controls P g machines images m w code None (a ∷ []) links h u is = by_bad P g machines images m w links h u
 by_controls P g machines images m w code None (a ∷ b ∷ []) links h u is = by_bad P g machines images m w links h u
 by_controls P g machines images m w code _ _ links h u is = by_bad P g machines images m w links h u

@@ -16,7 +16,7 @@ use Rattle.dm_onekernel.specs.Boot.{switchboard, manager}
 use Rattle.dm_onekernel.specs.PlainProcess.{PlainProcess, PlainStatus, Ready, Waiting, Moving}
 use Rattle.dm_onekernel.specs.declared.request.PendingKind.{PendingKind}
 use Rattle.dm_onekernel.specs.declared.request.PendingKind.TheVariants as wanted
-use Rattle.dm_onekernel.specs.Kernel.{Alive, Ended, Life, NamedLink, Note, OneKernel, Pending}
+use Rattle.dm_onekernel.specs.Kernel.{Alive, Ended, Life, MoveNote, NamedLink, OneKernel, Pending}
 use Rattle.dm_onekernel.specs.Manager as manage
 use Rattle.dm_onekernel.specs.Pieces.{piece_of}
 
@@ -125,7 +125,7 @@ WhatFits s i m (what.Move machine) =
 WhatFits s i m (what.Moved outcome) = (m.to ≡ manager) × (i.answer ≡ true) × IsPending s wanted.Move i
 
 -- a request to move that a process follows is the manager's, and has no taken answer
-pub record NoteFits (s : OneKernel) (n : Note) : Type 0 where
+pub record NoteFits (s : OneKernel) (n : MoveNote) : Type 0 where
   pub asker : n.asker ≡ manager
   pub unanswered : n.id.answer ≡ false
   pub pending : IsPending s wanted.Move n.id
@@ -141,5 +141,5 @@ pub record KernelFits (s : OneKernel) : Type 0 where
   pub messages : (i : MsgId) (m : PlainMessage) → s.bag i ≡ Some m → WhatFits s i m m.what
   pub names : Each (λ (k : NamedLink). LinkFits s.processes k.link) s.switchboard.names
   pub answers : Each (PendingFits s.processes) s.manager.pending
-  pub notes : (p : Pid) (n : Note) → s.notes p ≡ Some n → NoteFits s n
+  pub notes : (p : Pid) (n : MoveNote) → s.notes p ≡ Some n → NoteFits s n
   pub children : Each (λ (p : Pid). has_bytes 0 (s.processes p) ≡ true) s.manager.children

@@ -1,5 +1,5 @@
 -- The answer to a request to move follows at once on a line that is its cause.
-use Rattle.dm_movelaws.proofs.Names.{◌≡◌, Bool, true, false, List, [], ◌∷◌, ◌++◌, length, refl, ap, ◌∙◌, sym, subst, inl, inr, ⊤, cases_Bool, false≢true, if◌then◌else◌, Option, None, Some, Pid, pid_eq, pid_eq-is, MsgId, Outcome, Note}
+use Rattle.dm_movelaws.proofs.Names.{◌≡◌, Bool, true, false, List, [], ◌∷◌, ◌++◌, length, refl, ap, ◌∙◌, sym, subst, inl, inr, ⊤, cases_Bool, false≢true, if◌then◌else◌, Option, None, Some, Pid, pid_eq, pid_eq-is, MsgId, Outcome, MoveNote}
 use Rattle.dm_movelaws.proofs.Names.{PlainMessage, Boot, IsValid, Label, Line, Step, Told, View, Point, first_point, Part, Says, Routes, Spelled, spelled, lines_of, group_of, group_is, by_parts, answers_move, LeadsBy, Both, both_start}
 use Rattle.dm_movelaws.proofs.Names.{both_group, run_start, run_group, Run, begun, receiver_of, append_assoc, answer_id, AnswersHaveCauses, HasCause, IsCause, is_answer_by, letter_of, act_of}
 use Rattle.dm_movelaws.proofs.Leading.{All, Saying, lines_are, next_of}
@@ -57,7 +57,7 @@ only_answer (x ∷ xs) zs (y ∷ earlier) g j i r o h k e =
 
 -- whom each request that is followed was for
 abbrev NotesTold : Point → Type 0
-NotesTold pt = (p : Pid) (n : Note) → pt.kernel.notes p ≡ Some n → (t : Told) × (pt.view.told n.id ≡ Some t) × (t.receiver ≡ p)
+NotesTold pt = (p : Pid) (n : MoveNote) → pt.kernel.notes p ≡ Some n → (t : Told) × (pt.view.told n.id ≡ Some t) × (t.receiver ≡ p)
 
 told_as : (o : Option Told) (q : Pid) → receiver_of o ≡ Some q → (t : Told) × (o ≡ Some t) × (t.receiver ≡ q)
 told_as None q e = cc
@@ -68,7 +68,7 @@ in_bag_told b pt h i m there =
     let state = h.based.phased.state in
     told_as (pt.view.told i) m.to (state.stands.told i m.to (letter_of state.r state.e state.own pt.kernel i m there state.sound))
 
-noted_none : (c : Bool) (o : Option Note) (n : Note) → (if c then None else o) ≡ Some n → o ≡ Some n
+noted_none : (c : Bool) (o : Option MoveNote) (n : MoveNote) → (if c then None else o) ≡ Some n → o ≡ Some n
 noted_none true o n e = cc
 noted_none false o n e = e
 
@@ -86,12 +86,12 @@ row_told b pt d ps w run ext h e (IsHere id msg there here are) p n noted = elim
   | inr off ↦ told_on pt w.point.view ext n.id p (h p n (sym (here_notes (begun pt d) id msg p w there off (ap (spelled (begun pt d)) (sym are) ∙ e)) ∙ noted))
 ]
 row_told b pt d ps w run ext h e (Leaves id msg to unasked there here what are) p n noted =
-    let now : Note = record { id = id; asker = msg.sender } in
+    let now : MoveNote = record { id = id; asker = msg.sender } in
     let notes : (if pid_eq msg.to p then Some now else pt.kernel.notes p) ≡ Some n = sym (leaves_notes (begun pt d) id msg to p w there (ap (spelled (begun pt d)) (sym are) ∙ e)) ∙ noted in
     elim (cases_Bool (pid_eq msg.to p)) [
       | inl same ↦
           let f : Some now ≡ Some n = sym (ap (λ (c : Bool). if c then Some now else pt.kernel.notes p) same) ∙ notes in
-          let name : id ≡ n.id = (let g : now ≡ n = cc in ap (λ (k : Note). k.id) g) in
+          let name : id ≡ n.id = (let g : now ≡ n = cc in ap (λ (k : MoveNote). k.id) g) in
           let (t, told, for_) = in_bag_told b pt run id msg there in
           told_on pt w.point.view ext n.id p (t, ap pt.view.told (sym name) ∙ told, for_ ∙ pid_eq-is msg.to p same)
       | inr off ↦ told_on pt w.point.view ext n.id p (h p n (sym (ap (λ (c : Bool). if c then Some now else pt.kernel.notes p) off) ∙ notes))
@@ -186,5 +186,5 @@ pub answers_have_causes : AnswersHaveCauses
 answers_have_causes b es ls earlier later pt i o valid leads split =
     (run_causes b es ls (first_point b) pt valid leads (both_start run_start b valid) (λ x y le. refl) (λ p n noted. absurd (none_noted n noted))).causes earlier later i o split
   where
-    none_noted : (n : Note) → None ≡ Some n → ⊥
+    none_noted : (n : MoveNote) → None ≡ Some n → ⊥
     none_noted n e = cc

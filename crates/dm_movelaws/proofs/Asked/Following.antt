@@ -1,6 +1,6 @@
 -- A process follows a request to move only while it moves.
 use Rattle.dm_movelaws.proofs.Names.{◌≡◌, ℕ, ◌==◌, Bool, true, false, refl, ap, ◌∙◌, sym, inl, inr, if◌then◌else◌, Option, Some, is_some, cases_Bool, false≢true, Pid, MsgId, MessageKind, Boot, Life, Alive, PlainProcess, Point, View, Known}
-use Rattle.dm_movelaws.proofs.Names.{Unknown, Phase, Nowhere, Rests, Over, Moves, knows, is_here, is_over, is_unknown, IsIn, first_point, is_server, agrees, eq_self, run_always, nat_tests, arith, FollowsWhileMoving, Note, Based}
+use Rattle.dm_movelaws.proofs.Names.{Unknown, Phase, Nowhere, Rests, Over, Moves, knows, is_here, is_over, is_unknown, IsIn, first_point, is_server, agrees, eq_self, run_always, nat_tests, arith, FollowsWhileMoving, MoveNote, Based}
 use Rattle.dm_movelaws.proofs.Ends.Moving.{moving_in}
 use Rattle.dm_movelaws.proofs.Open.Moves.{leads_of}
 
@@ -14,13 +14,13 @@ at_here : (m : ℕ) (k : Known) (c d : Bool) → (if m == m then c else d) ≡ t
 at_here m k c d e = sym (ap (λ (x : Bool). if x then c else d) (eq_self m)) ∙ e
 
 -- a server is always here
-server_here : (b : Boot) (pt : Point) → Based b pt → (p : Pid) (n : Note) → pt.kernel.notes p ≡ Some n → is_server p ≡ false
+server_here : (b : Boot) (pt : Point) → Based b pt → (p : Pid) (n : MoveNote) → pt.kernel.notes p ≡ Some n → is_server p ≡ false
 server_here b pt h p n noted = elim (cases_Bool (is_server p)) [
   | inl yes_ ↦ absurd (false≢true (sym (h.noted.away p n noted tt 0) ∙ ap is_here (h.known.server 0 p yes_)))
   | inr no_ ↦ no_
 ]
 
-pub noted_moves : (b : Boot) (pt : Point) (h : Based b pt) (p : Pid) (n : Note) → pt.kernel.notes p ≡ Some n → moving_in (h.phased.phases.of p) ≡ 1
+pub noted_moves : (b : Boot) (pt : Point) (h : Based b pt) (p : Pid) (n : MoveNote) → pt.kernel.notes p ≡ Some n → moving_in (h.phased.phases.of p) ≡ 1
 noted_moves b pt h p n noted =
     let (x, alive) = h.phased.sane.sound.notes.lives p n noted in
     by_phase (h.phased.phases.of p) (h.phased.phases.each p).known x alive

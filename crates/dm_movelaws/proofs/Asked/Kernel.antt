@@ -63,7 +63,7 @@ record Begins (s t : OneKernel) (i : MsgId) : Type 0 where
   gone : t.bag i ≡ None
   noted : t.noted i ≡ Some message.to
 
-follows_gone : (s t : OneKernel) (id : MsgId) (m : PlainMessage) (w : PlainWhat) → service.follows s id m w ≡ Some t → t.bag id ≡ None
+follows_gone : (s t : OneKernel) (id : MsgId) (m : PlainMessage) (w : PlainWhat) → service.follows_request s id m w ≡ Some t → t.bag id ≡ None
 follows_gone s t id m (PlainWhat.Move machine) is =
     let f : t ≡ with_note (without_message s id) m.to (record { id = id; asker = m.sender }) = cc in
     ap (λ (k : OneKernel). k.bag id) f ∙ ap (λ (c : Bool). if c then None else s.bag id) (id_eq-same id)
@@ -71,8 +71,8 @@ follows_gone s t id m _ is = cc
 
 begins_at : (s t : OneKernel) (i : MsgId) → kernel.step s (Label.Asked i) ≡ Some t → Begins s t i
 begins_at s t i is =
-    let (k, found, rest) = bind-is (s.bag i) (λ (v : PlainMessage). bind (kernel.at_hand s v.to) (λ x. service.follows s i v v.what)) t is in
-    let (x, hand, last) = bind-is (kernel.at_hand s k.to) (λ x. service.follows s i k k.what) t rest in
+    let (k, found, rest) = bind-is (s.bag i) (λ (v : PlainMessage). bind (kernel.at_hand s v.to) (λ x. service.follows_request s i v v.what)) t is in
+    let (x, hand, last) = bind-is (kernel.at_hand s k.to) (λ x. service.follows_request s i k k.what) t rest in
     record { message = k; there = found; gone = follows_gone s t i k k.what last; noted = asked_noted s t i k is found }
 
 -- it is answered

@@ -1,8 +1,8 @@
 -- The parts of a group, by what they say of requests to move: none is asked or answered; a process comes here, and its request is answered; a process is asked that is here already, or sets off.
 use Rattle.dm_movelaws.proofs.Names.{◌≡◌, ℕ, Bool, true, false, List, [], ◌∷◌, ◌++◌, refl, ap, ◌∙◌, sym, subst, if◌then◌else◌, Option, None, Some, false≢true, Pid, pid_eq, MsgId, MessageKind, Stage, Outcome, Boot, manager, Label, OneKernel}
-use Rattle.dm_movelaws.proofs.Names.{PlainMessage, PlainWhat, Note, with_note, without_message, with_sent, Step, Line, Told, Here, Addresses, Point, label_of, kernel_after, Part, Says, Routes, Spelled, spelled, outcome, sends_on, to_kernel}
-use Rattle.dm_movelaws.proofs.Names.{forwards_on, answers_move, leaves_for, IsNetLine, by_round, by_handles, by_hears, by_forwards, by_migrates, by_outcome, by_step, bind, bind-is, said_by, plain_kind, nat_tests, arith, answer_id}
-use Rattle.dm_movelaws.proofs.Names.{asked_noted, ends_move-is, begun, asks}
+use Rattle.dm_movelaws.proofs.Names.{PlainMessage, PlainWhat, MoveNote, with_note, without_message, with_sent, Step, Line, Told, Here, Addresses, Point, label_of, kernel_after, Part, Says, Routes, Spelled, spelled, outcome, sends_on}
+use Rattle.dm_movelaws.proofs.Names.{to_kernel, forwards_on, answers_move, leaves_for, IsNetLine, by_round, by_handles, by_hears, by_forwards, by_migrates, by_outcome, by_step, bind, bind-is, said_by, plain_kind, nat_tests, arith}
+use Rattle.dm_movelaws.proofs.Names.{answer_id, asked_noted, ends_move-is, begun, asks}
 use Rattle.dm_movelaws.proofs.Leading.{All, Saying, Behind, whatever_put, parts_lead, net_says, next_of}
 use Rattle.dm_onekernel.specs.Service as service
 use Rattle.dm_onekernel.specs.Step as kernel
@@ -28,7 +28,7 @@ EndLine q Outcome.Ended l = ⊥
 
 pub data Row (o : Point) (d : Step) (ps : List Part) : Type 0 where
   Plain : AllUnmarked ps → Row o d ps
-  Ends : (q : Pid) → (n : Note) → (l : Line) → (r : Outcome) → o.kernel.notes q ≡ Some n → EndLine q r l → ps ≡ Says l ∷ answers_move n.id r → Row o d ps
+  Ends : (q : Pid) → (n : MoveNote) → (l : Line) → (r : Outcome) → o.kernel.notes q ≡ Some n → EndLine q r l → ps ≡ Says l ∷ answers_move n.id r → Row o d ps
   IsHere : (id : MsgId) → (msg : PlainMessage) → o.kernel.bag id ≡ Some msg → (begun o d).view.known (begun o d).view.acting msg.to ≡ Here → ps ≡ rule.says (Label.Asked id) ∷ answers_move id Outcome.Done → Row o d ps
   Leaves : (id : MsgId) → (msg : PlainMessage) → (to : ℕ) → ((p : Pid) → asks p (Line.Head d) ≡ false) → o.kernel.bag id ≡ Some msg → (begun o d).view.known (begun o d).view.acting msg.to ≡ Here → msg.what ≡ PlainWhat.Move to → ps ≡ rule.says (Label.Asked id) ∷ leaves_for msg.to to → Row o d ps
 
@@ -158,24 +158,24 @@ line_notes : (p : Pid) (s t : OneKernel) (o : Option Label) → marks_note o ≡
 line_notes p s t None quiet is = let f : t ≡ s = cc in ap (λ (k : OneKernel). k.notes p) f
 line_notes p s t (Some l) quiet is = step_notes p s t l quiet is
 
-notes_behind : (p : Pid) (x : Option Note) (pt : Point) (q : Part) → Saying IsUnmarked q → pt.kernel.notes p ≡ x → Behind (λ z. z.kernel.notes p ≡ x) pt q
+notes_behind : (p : Pid) (x : Option MoveNote) (pt : Point) (q : Part) → Saying IsUnmarked q → pt.kernel.notes p ≡ x → Behind (λ z. z.kernel.notes p ≡ x) pt q
 notes_behind p x pt q so h =
     whatever_put (λ z. z.kernel.notes p ≡ x) pt q (λ l is s step. line_notes p pt.kernel s (label_of l) (subst (Saying IsUnmarked) is so) step ∙ h) (λ b i k r. h) h
 
 pub plain_notes : (p : Pid) (ps : List Part) (pt : Point) (w : Spelled) → AllUnmarked ps → spelled pt ps ≡ Some w → w.point.kernel.notes p ≡ pt.kernel.notes p
 plain_notes p ps pt w so is = parts_lead (λ z. z.kernel.notes p ≡ pt.kernel.notes p) (λ q a b k l h. h) (Saying IsUnmarked) (notes_behind p (pt.kernel.notes p)) ps pt w so is refl
 
-abbrev pub noted_if : Pid → Pid → Option Note → Option Note → Option Note
+abbrev pub noted_if : Pid → Pid → Option MoveNote → Option MoveNote → Option MoveNote
 noted_if q p now was = if pid_eq q p then now else was
 
-follows_notes : (s t : OneKernel) (id : MsgId) (m : PlainMessage) (w : PlainWhat) (p : Pid) → service.follows s id m w ≡ Some t → t.notes p ≡ noted_if m.to p (Some (record { id = id; asker = m.sender })) (s.notes p)
+follows_notes : (s t : OneKernel) (id : MsgId) (m : PlainMessage) (w : PlainWhat) (p : Pid) → service.follows_request s id m w ≡ Some t → t.notes p ≡ noted_if m.to p (Some (record { id = id; asker = m.sender })) (s.notes p)
 follows_notes s t id m (PlainWhat.Move machine) p is = let f : t ≡ with_note (without_message s id) m.to (record { id = id; asker = m.sender }) = cc in ap (λ (k : OneKernel). k.notes p) f
 follows_notes s t id m _ p is = cc
 
 pub asked_notes : (s t : OneKernel) (id : MsgId) (m : PlainMessage) (p : Pid) → s.bag id ≡ Some m → kernel.step s (Label.Asked id) ≡ Some t → t.notes p ≡ noted_if m.to p (Some (record { id = id; asker = m.sender })) (s.notes p)
 asked_notes s t id m p there is =
-    let (k, found, rest) = bind-is (s.bag id) (λ (v : PlainMessage). bind (kernel.at_hand s v.to) (λ x. service.follows s id v v.what)) t is in
-    let (x, hand, last) = bind-is (kernel.at_hand s k.to) (λ x. service.follows s id k k.what) t rest in
+    let (k, found, rest) = bind-is (s.bag id) (λ (v : PlainMessage). bind (kernel.at_hand s v.to) (λ x. service.follows_request s id v v.what)) t is in
+    let (x, hand, last) = bind-is (kernel.at_hand s k.to) (λ x. service.follows_request s id k k.what) t rest in
     let same : k ≡ m = (let f : Some k ≡ Some m = sym found ∙ there in cc) in
     subst (λ (v : PlainMessage). t.notes p ≡ noted_if v.to p (Some (record { id = id; asker = v.sender })) (s.notes p)) same (follows_notes s t id k k.what p last)
 
@@ -199,7 +199,7 @@ end_label q Outcome.Done l e = ap label_of e
 end_label q Outcome.Stayed l e = ap label_of e
 end_label q Outcome.Ended l e = absurd e
 
-pub ends_notes : (pt : Point) (q p : Pid) (n : Note) (l : Line) (r : Outcome) (w : Spelled) → pt.kernel.noted n.id ≡ Some q → EndLine q r l → spelled pt (Says l ∷ answers_move n.id r) ≡ Some w
+pub ends_notes : (pt : Point) (q p : Pid) (n : MoveNote) (l : Line) (r : Outcome) (w : Spelled) → pt.kernel.noted n.id ≡ Some q → EndLine q r l → spelled pt (Says l ∷ answers_move n.id r) ≡ Some w
     → w.point.kernel.notes p ≡ noted_if q p None (pt.kernel.notes p)
 ends_notes pt q p n l r w noted end e =
     let x = next_of pt (Says l) (answers_move n.id r) w e in

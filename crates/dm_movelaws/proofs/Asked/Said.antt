@@ -1,6 +1,6 @@
 -- What the answer to a request to move says was said: that the request was answered so, or that its receiver had ended.
 use Rattle.dm_movelaws.proofs.Names.{◌≡◌, ◌⊎◌, ℕ, ◌+◌, Bool, true, false, List, [], ◌∷◌, ◌++◌, length, refl, ap, ◌∙◌, sym, subst, inl, inr, take, drop, false≢true, Option, None, Some, Pid, MsgId, id_of, Label, OneKernel, PlainMessage}
-use Rattle.dm_movelaws.proofs.Names.{PlainWhat, Outcome, Note, Line, first_point, without_note, without_message, with_sent, answer_id, answer_to, entry, reception, replay, bind-is, Sound, KernelFits, ServerSends, board_takes_lem}
+use Rattle.dm_movelaws.proofs.Names.{PlainWhat, Outcome, MoveNote, Line, first_point, without_note, without_message, with_sent, answer_id, answer_to, entry, reception, replay, bind-is, Sound, KernelFits, ServerSends, board_takes_lem}
 use Rattle.dm_movelaws.proofs.Names.{manager_takes_lem, lands-is, after_step, fits_step, by_step, append_assoc, append-nil, ascends, came, stayed, View, switchboard, manager, labels, label_of, with_label, after_replay, start, start-sound}
 use Rattle.dm_movelaws.proofs.Names.{first_view, arith, nat_tests, MovedIsSaid, IsSaidOf, note-is, Follows, start_fits}
 use Rattle.dm_laws.proofs.Entered.{asks}
@@ -57,7 +57,7 @@ gone_cause r e s l id m v o is there goes what h =
     let g = gone_moved m.what v o goes what in
     record { request = id; name = ap answer_id (h.entered.named id m there); asked = h.entered.requests id m there g.0; is = is ∙ sym (ap (said_by id) g.1) }
 
-answered_cause : (r e : MsgId → ℕ) (s : OneKernel) (l : Label) (id : MsgId) (a o : Outcome) (p : Pid) (n : Note) → l ≡ Label.Answered id a → PlainWhat.Moved a ≡ PlainWhat.Moved o → Follows s id a p n → Sound r e s → KernelFits s
+answered_cause : (r e : MsgId → ℕ) (s : OneKernel) (l : Label) (id : MsgId) (a o : Outcome) (p : Pid) (n : MoveNote) → l ≡ Label.Answered id a → PlainWhat.Moved a ≡ PlainWhat.Moved o → Follows s id a p n → Sound r e s → KernelFits s
     → Cause l (answer_id id) o
 answered_cause r e s l id a o p n is what f h fits =
     let same : a ≡ o = cc in

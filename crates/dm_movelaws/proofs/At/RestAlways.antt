@@ -2,7 +2,7 @@
 use Rattle.dm_movelaws.proofs.Names.{◌≡◌, ◌≢◌, ℕ, ◌<◌, ◌≤◌, ◌||◌, Bool, true, false, is_some, List, [], ◌∷◌, drop, refl, ap, ◌∙◌, sym, subst, inl, inr, nat_lt, arith, if◌then◌else◌, drop-length, drop-nil, cases_Bool, false≢true, nat_tests}
 use Rattle.dm_movelaws.proofs.Names.{Option, None, Some, Pid, pid_eq, MsgId, MessageKind, PlainMessage, Boot, manager, Alive, PlainProcess, id_eq-same, not_server, Receiver, to_of, Phase, Nowhere, Rests, Over, Moves, is_unknown, is_here}
 use Rattle.dm_movelaws.proofs.Names.{is_over, is_away, is_due, IsToken, IsIn, Point, IsQuiet, Spot, Queue, Held, Inbox, Untaken, times, untaken, standing, View, Known, Unknown, Here, Ended, is_kernels, stands_right, kernels_fresh}
-use Rattle.dm_movelaws.proofs.Names.{phases_always, AtRestAlways, IsAt, IsWaiting, is_moving, is_server, has_no_queue, has_nothing_held, agrees, Run, run_always, told_of, eq_self, own_by, user_kind, Note}
+use Rattle.dm_movelaws.proofs.Names.{phases_always, AtRestAlways, IsAt, IsWaiting, is_moving, is_server, has_no_queue, has_nothing_held, agrees, Run, run_always, told_of, eq_self, own_by, user_kind, MoveNote}
 use Rattle.dm_movelaws.proofs.At.RestPairs.{Routed, routed_always}
 use Rattle.dm_movelaws.proofs.At.RestQueues.{Dropped, dropped_always}
 use Rattle.dm_rulelaws.proofs.Names.{machine_of}
@@ -129,7 +129,7 @@ lives_at b pt p x phase h calm_ alive is due =
     phase_at pt.view p x phase calm_ (h.based.known.home p server (ap is_some alive)) (λ m. sym (ap (agrees (pt.view.known m p)) alive) ∙ h.based.known.agree m p server) is due
 
 -- so none follows a request to move
-unasked_at : (b : Boot) (pt : Point) (p : Pid) (o : Option Note) (phase : Phase) → Run b pt → Calm pt.view → pt.kernel.notes p ≡ o → IsIn pt.view p phase → is_due phase ≡ false → o ≡ None
+unasked_at : (b : Boot) (pt : Point) (p : Pid) (o : Option MoveNote) (phase : Phase) → Run b pt → Calm pt.view → pt.kernel.notes p ≡ o → IsIn pt.view p phase → is_due phase ≡ false → o ≡ None
 unasked_at b pt p None phase h calm_ noted is due = refl
 unasked_at b pt p (Some n) phase h calm_ noted is due =
     let (x, alive) = h.based.phased.state.sound.notes.lives p n noted in

@@ -2,8 +2,8 @@
 use Rattle.dm_movelaws.proofs.Names.{◌≡◌, ℕ, ◌+◌, Bool, true, List, [], ◌∷◌, length, refl, ap, ◌∙◌, sym, subst, inl, inr, arith, if◌then◌else◌, Option, Some, cases_Bool, Pid, pid_eq, MsgId, MessageKind, Boot, Step, Line, Child, migrates}
 use Rattle.dm_movelaws.proofs.Names.{View, Told, after_head, after_put, view_after, own_id, Point, Part, Says, Owns, Spelled, behind, spelled, group_of, IsNet, front_way, Phased, told_some, put_spots, put_at, head_calm, put_there, put_spot}
 use Rattle.dm_movelaws.proofs.Names.{InPhases, calm_phases, PairsFit, PacketsKeep, put_told_off, said, Sane, KnownStands, Begins, begins, WalksOf, loose_walks, begun, begun_sane, turned, resting, round_walks, handles_walks, asks, ends}
-use Rattle.dm_movelaws.proofs.Names.{count, first_none, by_migrates, by_outcome, group_is, None, false, label_of, nat_tests, seen_none, Note, Outcome, PlainMessage, PlainWhat, Label, Stage, Target, Frozen, Known, Here, to_kernel}
-use Rattle.dm_movelaws.proofs.Names.{leaves_for, answers_move, said_by, part_sane, machine_in, machine_of, sets, aim, asked_off, moved, is_moving, Walks, pid_eq-is, pid_eq-same, own_ends, ◌&&◌}
+use Rattle.dm_movelaws.proofs.Names.{count, first_none, by_migrates, by_outcome, group_is, None, false, label_of, nat_tests, seen_none, MoveNote, Outcome, PlainMessage, PlainWhat, Label, Stage, Target, Frozen, Known, Here, to_kernel}
+use Rattle.dm_movelaws.proofs.Names.{leaves_for, answers_move, said_by, part_sane, machine_in, move_target, sets, aim, asked_off, moved, is_moving, Walks, pid_eq-is, pid_eq-same, own_ends, ◌&&◌}
 use Rattle.dm_movelaws.proofs.Ends.Lines.{is_migrate, Extends, Still, plain_in_bag, own_untold, smooth_same, Tame, still_same}
 use Rattle.dm_movelaws.proofs.Ends.Net.{head_smooth, net_level, net_asks, net_ends}
 use Rattle.dm_movelaws.proofs.Ends.Parts.{packet_smooth, one_if, zero_if, parts_count, round_quiet, handles_quiet}
@@ -104,7 +104,7 @@ migrates_comes p q m o pt h w sane fits =
 
 -- what is known of requests to move that the process follows: it moves
 abbrev Follows : Pid → (pt : Point) → InPhases pt.view → Type 0
-Follows p pt h = (n : Note) → pt.kernel.notes p ≡ Some n → moving_in (h.of p) ≡ 1
+Follows p pt h = (n : MoveNote) → pt.kernel.notes p ≡ Some n → moving_in (h.of p) ≡ 1
 
 abbrev OwnDirected : Pid → Step → (pt : Point) → InPhases pt.view → List Part → Spelled → Type 0
 OwnDirected p d pt h parts w = (g : InPhases w.point.view) (ids : List MsgId) → Opens p pt.view ids → Follows p pt h → Follows p w.point g
@@ -124,7 +124,7 @@ leaves_own p d pt h id msg to w unasked sane fits there here what e g ids opens 
     let c = part_leads (λ y. Rest p pt.view y.view) (rest_packet p pt.view) pt n.next (Says l) (rest_behind p pt (Says l) sane fits tt tt) n.steps in
     let mid = n.next.view in
     let sane_ = part_sane pt n.next (Says l) n.steps.lines refl n.steps.are n.steps.leads sane in
-    let topic : mid.topic ≡ Target to = sym (ap (λ (x : Point). x.view.topic) k.is) ∙ ap machine_in there ∙ ap machine_of what in
+    let topic : mid.topic ≡ Target to = sym (ap (λ (x : Point). x.view.topic) k.is) ∙ ap machine_in there ∙ ap move_target what in
     let rest = line_then p n.next l2 ps n.rest refl refl refl sane_ c.fits (tt, (refl, tt)) (loose_walks ps (moved n.next l2 n.next.kernel) (λ y. tt, (λ y. tt, tt))) n.more in
     let set = sets mid q mid.topic in
     let x = Frozen (aim mid mid.topic) in
@@ -135,7 +135,7 @@ leaves_own p d pt h id msg to w unasked sane fits there here what e g ids opens 
     elim (cases_Bool (pid_eq q p)) [
       | inl same ↦
           let none : moving_in (h.of p) ≡ 0 = here_stays pt.view h p pt.view.acting (ap (pt.view.known pt.view.acting) (sym (pid_eq-is q p same)) ∙ here) in
-          let now : owned (w.point.kernel.notes p) (moving_in (g.of p)) ≡ 0 = ap (λ (o : Option Note). owned o (moving_in (g.of p))) (notes ∙ ap (λ (b : Bool). if b then Some (record { id = id; asker = msg.sender }) else pt.kernel.notes p) same) in
+          let now : owned (w.point.kernel.notes p) (moving_in (g.of p)) ≡ 0 = ap (λ (o : Option MoveNote). owned o (moving_in (g.of p))) (notes ∙ ap (λ (b : Bool). if b then Some (record { id = id; asker = msg.sender }) else pt.kernel.notes p) same) in
           let was = owned_zero (pt.kernel.notes p) (moving_in (h.of p)) none in
           record { left = ids; opens = smooth_opens p pt.view w.point.view ids smooth opens; quiet = refl; sum = λ f ext. (let z : own_count f p (rule.says (Label.Asked id) ∷ leaves_for q to) ≡ 0 = refl in omega (arith, z, zero_, now, was)) }
       | inr off ↦
@@ -144,7 +144,7 @@ leaves_own p d pt h id msg to w unasked sane fits there here what e g ids opens 
           (λ m. rest.still m ∙ ap is_moving (ap (λ (f : ℕ → Pid → Known). f m p) set.known) ∙ other_still p q mid.known mid.acting x off_ m ∙ c.still m) in
           let moves = still_moves p pt.view w.point.view h g still in
           let kept : w.point.kernel.notes p ≡ pt.kernel.notes p = notes ∙ ap (λ (b : Bool). if b then Some (record { id = id; asker = msg.sender }) else pt.kernel.notes p) off in
-          let same : owned (pt.kernel.notes p) (moving_in (h.of p)) ≡ owned (w.point.kernel.notes p) (moving_in (g.of p)) = ap (owned (pt.kernel.notes p)) moves ∙ ap (λ (o : Option Note). owned o (moving_in (g.of p))) (sym kept) in
+          let same : owned (pt.kernel.notes p) (moving_in (h.of p)) ≡ owned (w.point.kernel.notes p) (moving_in (g.of p)) = ap (owned (pt.kernel.notes p)) moves ∙ ap (λ (o : Option MoveNote). owned o (moving_in (g.of p))) (sym kept) in
           record { left = ids; opens = smooth_opens p pt.view w.point.view ids smooth opens; quiet = refl; sum = λ f ext. (let z : own_count f p (rule.says (Label.Asked id) ∷ leaves_for q to) ≡ 0 = refl in omega (arith, z, zero_, same)) }
     ]
 
@@ -153,7 +153,7 @@ plain_own : (p : Pid) (pt : Point) (d : Step) (h : InPhases (begun pt d).view) (
 plain_own p pt d h ps w so e r g ids opens before behind =
     let a = pt.kernel.notes p in
     let notes = plain_notes p ps (begun pt d) w so e in
-    subst (λ (x : Option Note). OwnBalance p w.point.view ids (asked_by p d) (owned a (moving_in (h.of p))) (owned x (moving_in (g.of p))) ps) (sym notes)
+    subst (λ (x : Option MoveNote). OwnBalance p w.point.view ids (asked_by p d) (owned a (moving_in (h.of p))) (owned x (moving_in (g.of p))) ps) (sym notes)
     (kept_own p w.point.view ids (asked_by p d) (moving_in (h.of p)) (moving_in (g.of p)) ps a (λ f. own_same f p ps so) before (λ n is. behind n (notes ∙ is)) (r g ids opens))
 
 -- by what the parts say of requests to move
@@ -171,8 +171,8 @@ own_of p pt d h ps w sane fits (Ends q n l k noted end are) e r g ids opens befo
           let is : q ≡ p = pid_eq-is q p same in
           let mine : pt.kernel.notes p ≡ Some n = ap pt.kernel.notes (sym is) ∙ noted in
           let one : moving_in (h.of p) ≡ 1 = before n mine in
-          let was : owned (pt.kernel.notes p) (moving_in (h.of p)) ≡ 0 = ap (λ (o : Option Note). owned o (moving_in (h.of p))) mine in
-          let now : owned (w.point.kernel.notes p) (moving_in (g.of p)) ≡ moving_in (g.of p) = ap (λ (o : Option Note). owned o (moving_in (g.of p))) (notes ∙ ap (λ (b : Bool). if b then None else pt.kernel.notes p) same) in
+          let was : owned (pt.kernel.notes p) (moving_in (h.of p)) ≡ 0 = ap (λ (o : Option MoveNote). owned o (moving_in (h.of p))) mine in
+          let now : owned (w.point.kernel.notes p) (moving_in (g.of p)) ≡ moving_in (g.of p) = ap (λ (o : Option MoveNote). owned o (moving_in (g.of p))) (notes ∙ ap (λ (b : Bool). if b then None else pt.kernel.notes p) same) in
           let other : pid_eq p q ≡ true = ap (pid_eq p) is ∙ pid_eq-same p in
           record {
             left = old.left;
@@ -189,7 +189,7 @@ own_of p pt d h ps w sane fits (Ends q n l k noted end are) e r g ids opens befo
       | inr off ↦
           let off_ : pid_eq p q ≡ false = pid_swap q p off in
           let kept : w.point.kernel.notes p ≡ pt.kernel.notes p = notes ∙ ap (λ (b : Bool). if b then None else pt.kernel.notes p) off in
-          subst (λ (x : Option Note). OwnBalance p w.point.view ids (asked_by p d) (owned (pt.kernel.notes p) (moving_in (h.of p))) (owned x (moving_in (g.of p))) qs) (sym kept)
+          subst (λ (x : Option MoveNote). OwnBalance p w.point.view ids (asked_by p d) (owned (pt.kernel.notes p) (moving_in (h.of p))) (owned x (moving_in (g.of p))) qs) (sym kept)
           (kept_own p w.point.view ids (asked_by p d) (moving_in (h.of p)) (moving_in (g.of p)) qs (pt.kernel.notes p)
           (λ f. let x : unit_if (ends f p l) ≡ 0 = ap (λ (b : Bool). unit_if b) (end_ends f p q k l end ∙ off_) in let y : unit_if (ends f p l && false) ≡ 0 = ap (λ (b : Bool). unit_if b) (and_off (ends f p l) false refl) in omega (arith, x, y))
           before (λ n is. behind n (kept ∙ is)) old)
@@ -210,7 +210,7 @@ own_of p pt d h ps w sane fits (IsHere id msg there here are) e r g ids opens be
           record { left = old.left; opens = old.opens; quiet = old.quiet; sum = λ f ext. (let s = old.sum f ext in let z : own_count f p qs ≡ part_count (ends f p) qs = refl in omega (arith, s, z, none, none_, was, now)) }
       | inr off ↦
           let kept = here_notes start id msg p w there off (ap (spelled start) (sym are) ∙ e) in
-          subst (λ (x : Option Note). OwnBalance p w.point.view ids (asked_by p d) (owned (pt.kernel.notes p) (moving_in (h.of p))) (owned x (moving_in (g.of p))) qs) (sym kept)
+          subst (λ (x : Option MoveNote). OwnBalance p w.point.view ids (asked_by p d) (owned (pt.kernel.notes p) (moving_in (h.of p))) (owned x (moving_in (g.of p))) qs) (sym kept)
           (kept_own p w.point.view ids (asked_by p d) (moving_in (h.of p)) (moving_in (g.of p)) qs (pt.kernel.notes p) (λ f. refl) before (λ n is. behind n (kept ∙ is)) old)
     ])
 own_of p pt d h ps w sane fits (Leaves id msg to unasked there here what are) e r g ids opens before behind =
@@ -291,4 +291,4 @@ group_balance p b pt d w h g ids phased known fits e opens before behind =
     let whole = whole_balance p d k.parts ids (owned (pt.kernel.notes p) (moving_in ((begun_phases pt d h).of p))) (owned (k.rest.point.kernel.notes p) (moving_in (back.of p))) (begun pt d) k.rest k.said r in
     let one = subst (λ (x : Spelled). GroupBalance p x ids (owned (pt.kernel.notes p) (moving_in ((begun_phases pt d h).of p))) (owned (k.rest.point.kernel.notes p) (moving_in (back.of p)))) k.whole whole in
     subst (λ (n : ℕ). GroupBalance p w ids n (owned (w.point.kernel.notes p) (moving_in (g.of p)))) (ap (owned (pt.kernel.notes p)) (sym begun_))
-    (subst (GroupBalance p w ids (owned (pt.kernel.notes p) (moving_in ((begun_phases pt d h).of p)))) (ap (owned (k.rest.point.kernel.notes p)) same ∙ ap (λ (o : Option Note). owned o (moving_in (g.of p))) notes) one)
+    (subst (GroupBalance p w ids (owned (pt.kernel.notes p) (moving_in ((begun_phases pt d h).of p)))) (ap (owned (k.rest.point.kernel.notes p)) same ∙ ap (λ (o : Option MoveNote). owned o (moving_in (g.of p))) notes) one)

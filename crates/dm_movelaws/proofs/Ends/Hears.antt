@@ -4,7 +4,7 @@ use Rattle.dm_movelaws.proofs.Names.{manager, bind, pid_eq-is, Line, Addresses, 
 use Rattle.dm_movelaws.proofs.Names.{Frozen, Forward, Ended, view_after, handled, handled_first, receiver_of, target_of, Point, moved, Part, Says, Again, Owns, Spelled, spelled, kernel_hears, hears, Spot, Inbox, ids_at, first_off}
 use Rattle.dm_movelaws.proofs.Names.{line_next, fits_put, pair_same, handled_spots, held_known, forwarded_spots, forwarded_known, put_spots, put_there, put_spot, InPhases, fits_as, PairsFit, sane_line, part_sane, AllLoose, loose_walks}
 use Rattle.dm_movelaws.proofs.Names.{turned, is_moving, is_for, frozen_off, ◌+◌, ◌++◌, ⊤, pid_of, PlainProcess, accepts, takes_chunk, takes_block, sends_on, chunks_of, pieces_of, Incoming, rejoins, front_of, gone_to, is_between, parts}
-use Rattle.dm_movelaws.proofs.Names.{at_record_off, due, Walks, asks, ends, accepted_off, state_off, memory_off, lacks_off, left_off, leaves, label_of, is_put, touches, nat_tests, sets, aim, at_record, Note, Outcome, tells_asker}
+use Rattle.dm_movelaws.proofs.Names.{at_record_off, due, Walks, asks, ends, accepted_off, state_off, memory_off, lacks_off, left_off, leaves, label_of, is_put, touches, nat_tests, sets, aim, at_record, MoveNote, Outcome, tells_asker}
 use Rattle.dm_movelaws.proofs.Names.{restarted_off, times}
 use Rattle.dm_movelaws.proofs.Ends.Lines.{is_migrate, asks_for, kind_not, Smooth, Still, smooth_trans, told_by, Tame, Foreign, still_by, smooth_still, moves_none}
 use Rattle.dm_movelaws.proofs.Ends.Parts.{AllQuiet, Rest, rest_packet, Settled, parts_settle, quiet_count, quiet_asks, told_quiet, one_if, zero_if, first_off as first_off_and}
@@ -71,15 +71,15 @@ block_comes p pt i is t q true h between = step_comes p pt i is t (Line.Migratio
 block_comes p pt i is t q false h between = piece_comes p pt i is t MessageKind.PullBlock i.from.home h between refl
 
 -- a process is here again: its move has ended
-asker_quiet : (p : Pid) (v : View) (a : Option Note) (r : Outcome) → AllQuiet p v (tells_asker a r)
+asker_quiet : (p : Pid) (v : View) (a : Option MoveNote) (r : Outcome) → AllQuiet p v (tells_asker a r)
 asker_quiet p v None r = tt
 asker_quiet p v (Some n) r = (tt, (tt, tt))
 
-asker_loose : (a : Option Note) (r : Outcome) → AllLoose (tells_asker a r)
+asker_loose : (a : Option MoveNote) (r : Outcome) → AllLoose (tells_asker a r)
 asker_loose None r = tt
 asker_loose (Some n) r = (λ q. tt, (λ q. tt, tt))
 
-comes_back : (p : Pid) (pt : Point) (i : MsgId) (is : List MsgId) (t : Told) (q : Pid) (l : Line) (a : Option Note) (r : Outcome) (h : Turn pt i is t) → is_between t.kind ≡ true → t.about ≡ Of q → label_of l ≡ None → is_put l ≡ false
+comes_back : (p : Pid) (pt : Point) (i : MsgId) (is : List MsgId) (t : Told) (q : Pid) (l : Line) (a : Option MoveNote) (r : Outcome) (h : Turn pt i is t) → is_between t.kind ≡ true → t.about ≡ Of q → label_of l ≡ None → is_put l ≡ false
     → touches l ≡ false
     → ((z : Spot) → ids_at (view_after pt.view l) z ≡ ids_at (rejoins (handled_first pt.view) q) z) → (view_after pt.view l).known ≡ (rejoins (handled_first pt.view) q).known → ((f : MsgId → Option Told) → ends f p l ≡ pid_eq p q)
     → asks p l ≡ false
@@ -114,11 +114,11 @@ comes_back p pt i is t q l a r h between about none quiet calm off known ended p
           level_row p pt h.phases l ps w first (asker_quiet p mid a r) rest (λ f. ended f ∙ off) plain (λ x. level_still p pt h.phases l w still rest x) g ids opens
     ]
 
-stays_comes : (p : Pid) (pt : Point) (i : MsgId) (is : List MsgId) (t : Told) (q : Pid) (a : Option Note) (h : Turn pt i is t) → is_between t.kind ≡ true → t.about ≡ Of q
+stays_comes : (p : Pid) (pt : Point) (i : MsgId) (is : List MsgId) (t : Told) (q : Pid) (a : Option MoveNote) (h : Turn pt i is t) → is_between t.kind ≡ true → t.about ≡ Of q
     → ComesOf p pt h.phases (Some (Says (Line.Stays q) ∷ tells_asker a Outcome.Stayed))
 stays_comes p pt i is t q a h between about = comes_back p pt i is t q (Line.Stays q) a Outcome.Stayed h between about refl refl refl (λ z. refl) refl (λ f. refl) refl
 
-restarted_comes : (p : Pid) (pt : Point) (i : MsgId) (is : List MsgId) (t : Told) (q : Pid) (a : Option Note) (h : Turn pt i is t) → is_between t.kind ≡ true → t.about ≡ Of q
+restarted_comes : (p : Pid) (pt : Point) (i : MsgId) (is : List MsgId) (t : Told) (q : Pid) (a : Option MoveNote) (h : Turn pt i is t) → is_between t.kind ≡ true → t.about ≡ Of q
     → ComesOf p pt h.phases (Some (Says (Line.Migration Stage.Restarted q) ∷ tells_asker a Outcome.Done))
 restarted_comes p pt i is t q a h between about = comes_back p pt i is t q (Line.Migration Stage.Restarted q) a Outcome.Done h between about refl refl refl (λ z. restarted_off pt.view q z) refl (λ f. refl) refl
 

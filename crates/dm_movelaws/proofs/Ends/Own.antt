@@ -1,6 +1,6 @@
 -- Ends of moves that no process asked for: those that no answer to a request follows.
-use Rattle.dm_movelaws.proofs.Names.{◌≡◌, ℕ, ◌+◌, ◌&&◌, Bool, false, not, List, [], ◌∷◌, ◌++◌, length, refl, ap, ◌∙◌, sym, subst, arith, nat_tests, Option, None, Some, Pid, pid_eq, MsgId, Outcome, Note, Boot, Label, Step, Line, View, Told}
-use Rattle.dm_movelaws.proofs.Names.{Here, Point, Part, Says, Spelled, spelled, lines_of, answers_move, LeadsBy, group_is, asks, ends, by_parts, after_head, said_by, own_ends, is_answered_next, is_answer_by, act_of}
+use Rattle.dm_movelaws.proofs.Names.{◌≡◌, ℕ, ◌+◌, ◌&&◌, Bool, false, not, List, [], ◌∷◌, ◌++◌, length, refl, ap, ◌∙◌, sym, subst, arith, nat_tests, Option, None, Some, Pid, pid_eq, MsgId, Outcome, MoveNote, Boot, Label, Step, Line, View}
+use Rattle.dm_movelaws.proofs.Names.{Told, Here, Point, Part, Says, Spelled, spelled, lines_of, answers_move, LeadsBy, group_is, asks, ends, by_parts, after_head, said_by, own_ends, is_answered_next, is_answer_by, act_of}
 use Rattle.dm_rule.specs.Rule as rule
 use Rattle.dm_movelaws.proofs.Leading.{lines_are, asker_known}
 use Rattle.dm_movelaws.proofs.Ends.Lines.{Extends, Still}
@@ -47,11 +47,11 @@ own_same f p (Says l ∷ ps) so = let a = and_true (ends f p l) (is_answer_part 
 own_same f p (x ∷ ps) so = own_same f p ps so.1
 
 -- a move is a process's own, unless it follows a request
-abbrev pub owned : Option Note → ℕ → ℕ
+abbrev pub owned : Option MoveNote → ℕ → ℕ
 owned None n = n
 owned (Some k) n = 0
 
-pub owned_zero : (o : Option Note) (n : ℕ) → n ≡ 0 → owned o n ≡ 0
+pub owned_zero : (o : Option MoveNote) (n : ℕ) → n ≡ 0 → owned o n ≡ 0
 owned_zero None n e = e
 owned_zero (Some k) n e = refl
 
@@ -63,8 +63,8 @@ pub record OwnBalance (p : Pid) (w : View) (ids : List MsgId) (asked before behi
   pub sum : (f : MsgId → Option Told) → Extends w.told f → asked + (length ids + before) ≡ own_count f p parts + (length left + behind)
 
 -- the process follows what it followed
-pub kept_own : (p : Pid) (w : View) (ids : List MsgId) (asked before behind : ℕ) (ps : List Part) (a : Option Note) → ((f : MsgId → Option Told) → own_count f p ps ≡ part_count (ends f p) ps) → ((n : Note) → a ≡ Some n → before ≡ 1)
-    → ((n : Note) → a ≡ Some n → behind ≡ 1) → Balance p w ids asked before behind ps
+pub kept_own : (p : Pid) (w : View) (ids : List MsgId) (asked before behind : ℕ) (ps : List Part) (a : Option MoveNote) → ((f : MsgId → Option Told) → own_count f p ps ≡ part_count (ends f p) ps) → ((n : MoveNote) → a ≡ Some n → before ≡ 1)
+    → ((n : MoveNote) → a ≡ Some n → behind ≡ 1) → Balance p w ids asked before behind ps
     → OwnBalance p w ids asked (owned a before) (owned a behind) ps
 kept_own p w ids asked before behind ps None same one two h = record { left = h.left; opens = h.opens; quiet = h.quiet; sum = λ f ext. (let s = h.sum f ext in let z = same f in omega (arith, s, z)) }
 kept_own p w ids asked before behind ps (Some n) same one two h =
@@ -83,7 +83,7 @@ asker_here pt id r q w e here =
     let l = Line.Label (Label.Asked id) in
     let n = next_of pt (Says l) (answers_move id r) w e in
     let k = said_by pt n.next l n.steps in
-    let note : Note = record { id = id; asker = q } in
+    let note : MoveNote = record { id = id; asker = q } in
     ap (λ (x : Point). x.view.known pt.view.acting q) (sym n.point) ∙ asker_known pt.view.acting q Here (Some note) r n.next n.rest n.more (ap (λ (x : Point). x.view.known pt.view.acting q) (sym k.is) ∙ here)
 
 pub head_still : (p : Pid) (v : View) (d : Step) → Still p v (after_head v d)

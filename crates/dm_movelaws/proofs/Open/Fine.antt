@@ -1,9 +1,9 @@
 -- While a process moves, no line answers a request that it follows: only the line by which it comes here is followed by that.
 use Rattle.dm_movelaws.proofs.Names.{pid_of, first_number, ◌+◌, ◌≡◌, ◌≢◌, ℕ, ◌==◌, Bool, true, false, List, [], ◌∷◌, ◌++◌, length, refl, ap, ◌∙◌, sym, subst, ⊤, is_some, if◌then◌else◌, Option, None, Some, false≢true, Pid, pid_eq}
-use Rattle.dm_movelaws.proofs.Names.{pid_eq-same, MsgId, MessageKind, plain_kind, Boot, manager, Label, OneKernel, PlainMessage, Note, bind, bind-is, Step, Line, Stage, Load, Addresses, Receiver, Point, label_of, kernel_after, after_line}
-use Rattle.dm_movelaws.proofs.Names.{after, moved, Part, Says, Routes, Again, Owns, Transmits, Spelled, lines_of, puts, goes_out, packet_line, behind, spelled, group_of, own_id, Told, Here, Sane, sends_on, to_kernel, gives_piece}
-use Rattle.dm_movelaws.proofs.Names.{forwards_on, updates, migrates, left_parts, Mark, Reached, Staying, with_mark, mark_for, marks, left_open, IsNet, IsNetLine, by_net, by_hears, by_handles, by_round, by_forwards, by_migrates, by_outcome}
-use Rattle.dm_movelaws.proofs.Names.{by_parts, by_group, Outcome, answers_move, leaves_for, asked_noted}
+use Rattle.dm_movelaws.proofs.Names.{pid_eq-same, MsgId, MessageKind, plain_kind, Boot, manager, Label, OneKernel, PlainMessage, MoveNote, bind, bind-is, Step, Line, Stage, Load, Addresses, Receiver, Point, label_of, kernel_after}
+use Rattle.dm_movelaws.proofs.Names.{after_line, after, moved, Part, Says, Routes, Again, Owns, Transmits, Spelled, lines_of, puts, goes_out, packet_line, behind, spelled, group_of, own_id, Told, Here, Sane, sends_on, to_kernel}
+use Rattle.dm_movelaws.proofs.Names.{gives_piece, forwards_on, updates, migrates, left_parts, Mark, Reached, Staying, with_mark, mark_for, marks, left_open, IsNet, IsNetLine, by_net, by_hears, by_handles, by_round, by_forwards, by_migrates}
+use Rattle.dm_movelaws.proofs.Names.{by_outcome, by_parts, by_group, Outcome, answers_move, leaves_for, asked_noted}
 use Rattle.dm_onekernel.specs.Pieces as pieces
 use Rattle.dm_rule.specs.Rule as rule
 use Rattle.dm_movelaws.proofs.Stages.Marks.{open_after, open-append, marks-append}
@@ -123,7 +123,7 @@ answers_fine p pt o i r other = says_fine p pt o (Line.Label (Label.Answered i r
 closed_by : (p q : Pid) (m : Mark) (o : Option Mark) → left_open m ≡ None → pid_eq p q ≡ true → open_after o (mark_for p q m []) ≡ None
 closed_by p q m o e same = ap (λ (c : Bool). open_after o (if c then m ∷ [] else [])) same ∙ e
 
-comes_fine : (p q : Pid) (pt : Point) (o : Option Mark) (l : Line) (m : Mark) (n : Note) (r : Outcome) → label_of l ≡ None → with_mark p l [] ≡ mark_for p q m [] → left_open m ≡ None → pt.kernel.noted n.id ≡ Some q
+comes_fine : (p q : Pid) (pt : Point) (o : Option Mark) (l : Line) (m : Mark) (n : MoveNote) (r : Outcome) → label_of l ≡ None → with_mark p l [] ≡ mark_for p q m [] → left_open m ≡ None → pt.kernel.noted n.id ≡ Some q
     → FineBy p pt o (Says l ∷ answers_move n.id r)
 comes_fine p q pt o l m n r none mark shut noted =
     says_fine p pt o l (answers_move n.id r) (λ e. subst (AnswersIf pt.kernel p) (sym none) tt) (λ s step.

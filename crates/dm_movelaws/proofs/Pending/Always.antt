@@ -56,7 +56,7 @@ told_took g child o links = grind (arith, nat_tests, bad_took)
 
 moves_took : (g : Manager) (machines : ℕ) (child : Pid) (machine : ℕ) (links : List PlainLink) → UserTook g (manage.moves_child g machines child machine links)
 moves_took g machines child machine links =
-    if_took g (nat_lt machine machines) (manage.asks g PendingKind.Move child (PlainWhat.Move machine) (manage.first_link links)) (manage.bad_request g links)
+    if_took g (nat_lt machine machines) (manage.sends_request g PendingKind.Move child (PlainWhat.Move machine) (manage.first_link links)) (manage.bad_request g links)
     (inr (record { link = manage.first_link links; kind = PendingKind.Move; request = record { id = id_of manager g.sent; to = child; sender = manager; what = PlainWhat.Move machine }; pending = refl; sends = refl; name = refl; creates = refl })) (bad_took g links)
 
 controls_took : (g : Manager) (machines : ℕ) (child : Option Pid) (body : List ℕ) (links : List PlainLink) → UserTook g (manage.controls g machines child body links)

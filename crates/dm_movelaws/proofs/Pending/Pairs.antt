@@ -1,7 +1,7 @@
 -- Under a pending request's number there is the request or its answer: what keeps that.
 use Rattle.dm_movelaws.proofs.Names.{◌≡◌, ℕ, ◌<◌, ◌==◌, ◌&&◌, Bool, true, false, is_some, refl, ap, ◌∙◌, sym, subst, inl, inr, arith, if◌then◌else◌, Option, None, Some, cases_Bool, false≢true, nat_tests, pid_eq, MsgId, id_eq, id_of}
 use Rattle.dm_movelaws.proofs.Names.{bool_eq, PlainMessage, PlainWhat, manager, Pending, OneKernel, with_sent, answer_id, answer_to, without_message, id_eq-is, id_eq-same, ServerSends, Sound, not_counted, ascends, numbered_from, not_true}
-use Rattle.dm_movelaws.proofs.Names.{parts, is_pending, out_off, sent_off, manager_took, Pid, Note, with_note, without_note, Notes-agree, ⊤, ◌≤◌, counts}
+use Rattle.dm_movelaws.proofs.Names.{parts, is_pending, out_off, sent_off, manager_took, Pid, MoveNote, with_note, without_note, Notes-agree, ⊤, ◌≤◌, counts}
 use Rattle.dm_laws.proofs.Entered.{asks}
 use Rattle.dm_onekernel.specs.Manager as manage
 pub use Rattle.dm_rule.proofs.Trails.Spares.{and_no as and_false}
@@ -189,7 +189,7 @@ followed_pair : (a a_ b b_ : Option PlainMessage) (c c_ : Option Pid) (q : Pid) 
 followed_pair a a_ b b_ c c_ q x h e f g k answers = grind (arith, nat_tests)
 
 -- a process follows the request from now on
-pub noted_ones : (r e : MsgId → ℕ) (s : OneKernel) (id : MsgId) (m : PlainMessage) (q : Pid) (k : Note) → s.bag id ≡ Some m → k.id ≡ id → asks m.what ≡ true → Sound r e s → Ones s → Ones (with_note (without_message s id) q k)
+pub noted_ones : (r e : MsgId → ℕ) (s : OneKernel) (id : MsgId) (m : PlainMessage) (q : Pid) (k : MoveNote) → s.bag id ≡ Some m → k.id ≡ id → asks m.what ≡ true → Sound r e s → Ones s → Ones (with_note (without_message s id) q k)
 noted_ones r e s id m q k there name asked h ones n p =
     let t = with_note (without_message s id) q k in
     let i = id_of manager n in

@@ -1,6 +1,6 @@
 -- Each step of a process or of its kernel keeps one message under each pending request's number.
 use Rattle.dm_movelaws.proofs.Names.{◌≡◌, ℕ, Bool, true, false, refl, ap, ◌∙◌, take, drop, if◌then◌else◌, None, Some, Pid, pid_eq, MsgId, PlainMessage, PlainWhat, manager, Label, bind, PlainProcess, Alive, OneKernel, with_sent, answer_to}
-use Rattle.dm_movelaws.proofs.Names.{without_message, is_dropped, lands-is, Sound, not_server, bind-is, length, id_of, by_step, is_served, nat_tests, arith, Note, Outcome, answer_id, Follows, note-is, sym}
+use Rattle.dm_movelaws.proofs.Names.{without_message, is_dropped, lands-is, Sound, not_server, bind-is, length, id_of, by_step, is_served, nat_tests, arith, MoveNote, Outcome, answer_id, Follows, note-is, sym}
 use Rattle.dm_laws.proofs.Entered.{asks}
 use Rattle.dm_movelaws.proofs.Pending.Pairs.{is_request, Neither, neither, Ones, out_ones, put_ones, from_other, answered_ones, made_ones, Off}
 use Rattle.dm_onekernel.specs.Pieces as pieces
@@ -44,9 +44,9 @@ pub record Takes (s : OneKernel) : Type 0 where
   pub board : (id : MsgId) (m : PlainMessage) (k : board.BoardTook) → s.bag id ≡ Some m → board.board_takes s.switchboard m m.what ≡ Some k → Ones (service.switchboard_took s id k)
   pub manager : (id : MsgId) (m : PlainMessage) (k : manage.ManagerTook) → s.bag id ≡ Some m → manage.manager_takes s.manager s.machines (length s.images) m m.what ≡ Some k → Ones (service.manager_took s id k)
 
-pub label_ones : (r e : MsgId → ℕ) (s t : OneKernel) (l : Label) → Sound r e s → ((p : Pid) (n : Note) → s.notes p ≡ Some n → n.id.answer ≡ false) → Ones s → Takes s → kernel.step s l ≡ Some t → Ones t
+pub label_ones : (r e : MsgId → ℕ) (s t : OneKernel) (l : Label) → Sound r e s → ((p : Pid) (n : MoveNote) → s.notes p ≡ Some n → n.id.answer ≡ false) → Ones s → Takes s → kernel.step s l ≡ Some t → Ones t
 label_ones r e s t l sound requests h takes =
-    let unanswered : (id : MsgId) (o : Outcome) (p : Pid) (n : Note) → Follows s id o p n → id.answer ≡ false = λ id o p n f. ap (λ (i : MsgId). i.answer) (sym (note-is e s id p n f.noted f.notes sound.notes)) ∙ requests p n f.notes in
+    let unanswered : (id : MsgId) (o : Outcome) (p : Pid) (n : MoveNote) → Follows s id o p n → id.answer ≡ false = λ id o p n f. ap (λ (i : MsgId). i.answer) (sym (note-is e s id p n f.noted f.notes sound.notes)) ∙ requests p n f.notes in
     by_step Ones s t l (record {
       ran = λ p k x m is w. h;
       replies = λ p n k c d y is w. h;

@@ -2,7 +2,7 @@
 use Rattle.dm_movelaws.proofs.Names.{◌≡◌, ◌⊎◌, ℕ, ◌≤◌, ◌&&◌, Bool, true, false, List, [], ◌∷◌, ◌++◌, refl, ap, ◌∙◌, sym, subst, inl, inr, arith, ⊤, Option, None, Some, cases_Bool, Pid, MsgId, MessageKind, plain_kind, id_eq, id_eq-is}
 use Rattle.dm_movelaws.proofs.Names.{id_eq-same, Line, Stage, View, Told, is_kernels, view_after, Point, label_of, kernel_after, Part, Says, Again, Owns, Spelled, spelled, times, sends_on, is_put, not_true, parts, touches, pair_same}
 use Rattle.dm_movelaws.proofs.Names.{fits_as, PairsFit, fits_put, fits_packet, Sane, Sayable, part_sane, Steps, said_by, OneKernel, PlainMessage, Boot, Addresses, Sender, forwards_on, Loose, loose_round, loose_handles, by_forwards}
-use Rattle.dm_movelaws.proofs.Names.{nat_tests, seen, Label, PlainWhat, to_kernel, moved, leaves_for, machine_in, machine_of, Target}
+use Rattle.dm_movelaws.proofs.Names.{nat_tests, seen, Label, PlainWhat, to_kernel, moved, leaves_for, machine_in, move_target, Target}
 use Rattle.dm_movelaws.proofs.Promise.Kept.{lines_told}
 use Rattle.dm_movelaws.proofs.Promise.Spots.{Stands, Spares, line_stands, label_stands, put_this, put_stands, packet_stands}
 use Rattle.dm_movelaws.proofs.Leading.{Behind, whatever_put, part_leads, next_of}
@@ -171,7 +171,7 @@ asks_goes j t pt id msg to h there what w is =
     let base = base_says j t pt n.next l refl refl h.base n.steps in
     let was : Stands (moved pt l k.kernel).view j = about_stands (view_after pt.view l) (machine_in (pt.kernel.bag id)) j (label_stands pt k.kernel (Label.Asked id) j h.base.sane k.step h.base.own h.stands) in
     let stands : Stands n.next.view j = subst (λ (x : Point). Stands x.view j) k.is was in
-    let topic : Target to ≡ n.next.view.topic = sym (ap machine_of what) ∙ sym (ap machine_in there) ∙ ap (λ (x : Point). x.view.topic) k.is in
+    let topic : Target to ≡ n.next.view.topic = sym (ap move_target what) ∙ sym (ap machine_in there) ∙ ap (λ (x : Point). x.view.topic) k.is in
     let first = Says (Line.Migration Stage.Frozen msg.to) in
     let ps = Says (Line.Migration Stage.Asked msg.to) ∷ to_kernel MessageKind.Ask to ∷ [] in
     let need : NeedsPart j n.next first = subst (Fronts n.next.view j) topic tt in

@@ -92,11 +92,11 @@ takes_same : (s : OneKernel) (v w : View) (a b : Addresses) (id : MsgId) (o : Op
 takes_same s v w a b id o = grind (arith, nat_tests, manager_takes_same)
 
 -- requests to move
-follows_same : (a b : Addresses) (id : MsgId) (o : Option PlainMessage) → holders (request.follows a id o) ≡ holders (request.follows b id o)
+follows_same : (a b : Addresses) (id : MsgId) (o : Option PlainMessage) → holders (request.given_to_follow a id o) ≡ holders (request.given_to_follow b id o)
 follows_same a b id None = refl
 follows_same a b id (Some m) = refl
 
-ends_same : (v w : View) (a b : Addresses) (id : MsgId) (o : Option Pid) → holders (request.ends_move v a id o) ≡ holders (request.ends_move w b id o)
+ends_same : (v w : View) (a b : Addresses) (id : MsgId) (o : Option Pid) → holders (request.given_at_end v a id o) ≡ holders (request.given_at_end w b id o)
 ends_same v w a b id None = refl
 ends_same v w a b id (Some p) = refl
 

@@ -3,7 +3,7 @@ use Rattle.dm_movelaws.proofs.Names.{◌≡◌, ◌⊎◌, ℕ, ◌<◌, true, f
 use Rattle.dm_movelaws.proofs.Names.{Label, Life, OneKernel, id_eq-is, LifeGrows, after_step, Sound, Line, Receiver, Part, Says, Routes, Again, Owns, Transmits, Spelled, spelled, Point, label_of, kernel_after, moved, View, Told, About}
 use Rattle.dm_movelaws.proofs.Names.{Known, view_after, after_put, handled, receiver_of, own_id, is_kernels, is_put, not_kernels, grown_none, put_at, PacketsKeep, put_told_off, Sane, AllSayable, label_topic, Within, HeadIn, line_within}
 use Rattle.dm_movelaws.proofs.Names.{has_bytes, awaits, WhatFits, KernelFits, step_constant, fits_step, IsReal, Kernel, Server, Made, IsAboutReal, or_cases, queued_topic, held_topic, taken_topic, told_kept, [], ◌∷◌, ◌++◌, ⊤, pid_eq, Boot}
-use Rattle.dm_movelaws.proofs.Names.{manager, pid_eq-same, alive-is, Step, to_kernel, sends_on, migrates, Here, IsNetLine, IsNet, by_migrates, by_outcome, by_forwards, by_hears, topic_by, machine_in, machine_of, sets, InOrder, Loose}
+use Rattle.dm_movelaws.proofs.Names.{manager, pid_eq-same, alive-is, Step, to_kernel, sends_on, migrates, Here, IsNetLine, IsNet, by_migrates, by_outcome, by_forwards, by_hears, topic_by, machine_in, move_target, sets, InOrder, Loose}
 use Rattle.dm_movelaws.proofs.Names.{loose_handles}
 use Rattle.dm_movelaws.proofs.Ends.Lines.{told_by}
 use Rattle.dm_movelaws.proofs.Leading.{Behind, sane_lead, All, Saying, net_says}
@@ -227,7 +227,7 @@ line_topic o pt (Line.Put a b i k q) known need h = absurd need
 line_topic o pt _ known need h = h.topic
 
 -- where a process is asked to move, the group is about a machine
-machine_real : (s : OneKernel) (w : PlainWhat) → IsAboutReal s (machine_of w)
+machine_real : (s : OneKernel) (w : PlainWhat) → IsAboutReal s (move_target w)
 machine_real s (PlainWhat.Move machine) = tt
 machine_real s _ = tt
 

@@ -3,7 +3,7 @@ use Rattle.dm_movelaws.proofs.Names.{◌≡◌, ℕ, ◌≤◌, true, false, Lis
 use Rattle.dm_movelaws.proofs.Names.{Frozen, view_after, handled_first, released, to_kernel, sends_on, is_between, Point, label_of, moved, Part, Says, Spelled, spelled, Spot, Queue, Held, Inbox, Untaken, times, ids_at, standing}
 use Rattle.dm_movelaws.proofs.Names.{pid_eq-swap, is_put, at_record_at, first_off, home_again, home_off, frozen_off, line_next, touches, handled_spots, record_off, InPhases, queued_plain, held_plain, Mark, Reached, mark_for, with_mark}
 use Rattle.dm_movelaws.proofs.Names.{in_order, released_on, nat_tests, arith, ◌==◌, Bool, PlainProcess, Incoming, handled, front_of, accepts, gives_piece, takes_chunk, takes_block, kernel_told, chunks_of, pieces_of, Owns, accepted_off}
-use Rattle.dm_movelaws.proofs.Names.{state_off, memory_off, lacks_off, proto_off, restarted_off, proto_known, Lacking, Staying, leaves, sets, Note, Outcome, NothingElse, tells_asker, aim, PairsFit, Sane, Target, asked_off}
+use Rattle.dm_movelaws.proofs.Names.{state_off, memory_off, lacks_off, proto_off, restarted_off, proto_known, Lacking, Staying, leaves, sets, MoveNote, Outcome, NothingElse, tells_asker, aim, PairsFit, Sane, Target, asked_off}
 use Rattle.dm_movelaws.proofs.Stages.Marks.{open_after, marks_of, mark_same, mark_other, marks_sent}
 use Rattle.dm_movelaws.proofs.Stages.Spares.{is_settled, Spares, spares_same, TokenOf, HasMark, token_mark, here_mark, some_marked, mark_of, Marked}
 use Rattle.dm_movelaws.proofs.Stages.Lines.{AllMild, spares_line, same_spot, Kept, parts_spare}
@@ -25,15 +25,15 @@ home_spares pt i is q p l h apart quiet off known =
     (λ m e. ap is_settled (ap (λ (f : ℕ → Pid → Known). f m p) known ∙ record_off v.known v.acting q Here m p apart) ∙ e)
 
 -- its request is answered, if it followed one
-asker_marks : (p : Pid) (o : Option Note) (r : Outcome) → marks_of p (tells_asker o r) ≡ []
+asker_marks : (p : Pid) (o : Option MoveNote) (r : Outcome) → marks_of p (tells_asker o r) ≡ []
 asker_marks p None r = refl
 asker_marks p (Some n) r = refl
 
-asker_mild : (p : Pid) (o : Option Note) (r : Outcome) → AllMild p None (tells_asker o r)
+asker_mild : (p : Pid) (o : Option MoveNote) (r : Outcome) → AllMild p None (tells_asker o r)
 asker_mild p None r = tt
 asker_mild p (Some n) r = (tt, (tt, tt))
 
-home_known : (pt : Point) (l : Line) (o : Option Note) (r : Outcome) (w : Spelled) (q : Pid) → label_of l ≡ None → (view_after pt.view l).known ≡ at_record pt.view.known pt.view.acting q Here
+home_known : (pt : Point) (l : Line) (o : Option MoveNote) (r : Outcome) (w : Spelled) (q : Pid) → label_of l ≡ None → (view_after pt.view l).known ≡ at_record pt.view.known pt.view.acting q Here
     → spelled pt (Says l ∷ tells_asker o r) ≡ Some w → w.point.view.known pt.view.acting q ≡ Here
 home_known pt l o r w q none known e =
     let n = line_next pt l (tells_asker o r) w none e in
@@ -41,7 +41,7 @@ home_known pt l o r w q none known e =
     ap (λ (x : Point). x.view.known a q) (sym n.point)
     ∙ asker_known a q Here o r (moved pt l pt.kernel) n.rest n.more (ap (λ (f : ℕ → Pid → Known). f a q) known ∙ at_record_at pt.view.known a q Here)
 
-pub comes_home : (pt : Point) (i : MsgId) (is : List MsgId) (q : Pid) (l : Line) (a : Option Note) (r : Outcome) (ns : List Mark) (x : Option Mark) (w : Spelled) → Handling pt i is q → label_of l ≡ None → is_put l ≡ false → touches l ≡ false
+pub comes_home : (pt : Point) (i : MsgId) (is : List MsgId) (q : Pid) (l : Line) (a : Option MoveNote) (r : Outcome) (ns : List Mark) (x : Option Mark) (w : Spelled) → Handling pt i is q → label_of l ≡ None → is_put l ≡ false → touches l ≡ false
     → ((z : Spot) → ids_at (view_after pt.view l) z ≡ ids_at (released (home_again (handled_first pt.view) q) q) z)
     → (view_after pt.view l).known ≡ at_record pt.view.known pt.view.acting q Here → ((p : Pid) → pid_eq q p ≡ false → with_mark p l [] ≡ []) → with_mark q l [] ≡ ns → HasMark pt.view q x → in_order x ns ≡ true → open_after x ns ≡ None
     → spelled pt (Says l ∷ tells_asker a r) ≡ Some w → Row pt.view w.point.view q (λ p. marks_of p (Says l ∷ tells_asker a r))
@@ -212,13 +212,13 @@ block_row pt i is t q true w h e = step_row pt i is t q (Line.Migration Stage.Me
 block_row pt i is t q false w h e = proto_row pt i is t q MessageKind.Memory MessageKind.PullBlock w h e refl refl refl
 
 -- it stays, and it is restarted
-stays_row : (pt : Point) (i : MsgId) (is : List MsgId) (t : Told) (q : Pid) (a : Option Note) (w : Spelled) → Heard pt i is t q → t.kind ≡ MessageKind.Refuse → spelled pt (Says (Line.Stays q) ∷ tells_asker a Outcome.Stayed) ≡ Some w
+stays_row : (pt : Point) (i : MsgId) (is : List MsgId) (t : Told) (q : Pid) (a : Option MoveNote) (w : Spelled) → Heard pt i is t q → t.kind ≡ MessageKind.Refuse → spelled pt (Says (Line.Stays q) ∷ tells_asker a Outcome.Stayed) ≡ Some w
     → MarkedBy pt w (Says (Line.Stays q) ∷ tells_asker a Outcome.Stayed)
 stays_row pt i is t q a w h e n p =
     row_marked pt.view w.point.view q (λ r. marks_of r (Says (Line.Stays q) ∷ tells_asker a Outcome.Stayed))
     (comes_home pt i is q (Line.Stays q) a Outcome.Stayed (Staying ∷ []) (Some Lacking) w h.at refl refl refl (λ z. refl) refl (λ r apart. unmarked q Staying r apart) (mark_same q Staying []) (heard_mark pt i is t q MessageKind.Refuse h e refl) refl refl n) p
 
-restarted_row : (pt : Point) (i : MsgId) (is : List MsgId) (t : Told) (q : Pid) (a : Option Note) (w : Spelled) → Heard pt i is t q → t.kind ≡ MessageKind.Restart
+restarted_row : (pt : Point) (i : MsgId) (is : List MsgId) (t : Told) (q : Pid) (a : Option MoveNote) (w : Spelled) → Heard pt i is t q → t.kind ≡ MessageKind.Restart
     → spelled pt (Says (Line.Migration Stage.Restarted q) ∷ tells_asker a Outcome.Done) ≡ Some w
     → MarkedBy pt w (Says (Line.Migration Stage.Restarted q) ∷ tells_asker a Outcome.Done)
 restarted_row pt i is t q a w h e n p =

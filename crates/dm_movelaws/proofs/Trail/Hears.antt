@@ -1,8 +1,8 @@
 -- What a turn says of a kernel's own message fits the trails.
 use Rattle.dm_movelaws.proofs.Names.{◌≡◌, ℕ, ◌+◌, ◌≤◌, Bool, true, List, [], ◌∷◌, ◌++◌, refl, ap, ◌∙◌, sym, subst, false≢true, if◌then◌else◌, Option, Some, Pid, MsgId, MessageKind, Line, Stage, Boot, manager, pid_eq-same, Told, Of, Here}
 use Rattle.dm_movelaws.proofs.Names.{Frozen, Incoming, Forward, front_of, view_after, Receiver, Point, Part, Says, to_kernel, forwards_on, Moves, IsIn, is_between, receiver_in, sender_in, times, Trails, both_lists, Sane, Named}
-use Rattle.dm_movelaws.proofs.Names.{source_holds, destination_expects, by_hears, place_told, behind_count, left_parts, nat_tests, arith, None, Note, OneKernel, Known, label_of, kernel_after, moved, at_record, at_record_at, Said, said_by}
-use Rattle.dm_movelaws.proofs.Names.{answers_move, Outcome, slice_get, Label, Routes, aim, sets, leaves_for}
+use Rattle.dm_movelaws.proofs.Names.{source_holds, destination_expects, by_hears, place_told, behind_count, left_parts, nat_tests, arith, None, MoveNote, OneKernel, Known, label_of, kernel_after, moved, at_record, at_record_at, Said}
+use Rattle.dm_movelaws.proofs.Names.{said_by, answers_move, Outcome, slice_get, Label, Routes, aim, sets, leaves_for}
 use Rattle.dm_movelaws.proofs.Trail.Placed.{is_held, Places, placed_comes, placed_restarts, places_set, places_held, moves_held, moves_comes, moves_forward}
 use Rattle.dm_movelaws.proofs.Trail.Loose.{Walks, first_walks, loose_walks, updated_loose, here_loose, no_move_loose, held_loose, lacks_loose, proto_loose, to_between, asked_loose, state_loose, memory_loose, Loose, AllLoose}
 use Rattle.dm_movelaws.proofs.Trail.Forwards.{leaves_walks}
@@ -76,7 +76,7 @@ restarts_walks : (pt : Point) (t : Trails) (p : Pid) → Heard pt p MessageKind.
 restarts_walks pt t p u h = grind (arith, nat_tests, first_walks, restarted_places)
 
 -- who asked for the move is told
-answers_at : (pt : Point) (t : Trails) (p : Pid) (l : Line) (n : Note) (r : Outcome) → label_of l ≡ None → (view_after pt.view l).known ≡ at_record pt.view.known pt.view.acting p Here → (view_after pt.view l).acting ≡ pt.view.acting
+answers_at : (pt : Point) (t : Trails) (p : Pid) (l : Line) (n : MoveNote) (r : Outcome) → label_of l ≡ None → (view_after pt.view l).known ≡ at_record pt.view.known pt.view.acting p Here → (view_after pt.view l).acting ≡ pt.view.acting
     → pt.kernel.notes p ≡ Some n → Sane pt
     → Places (moved pt l pt.kernel).view t → (next : Point) → Said pt l next → Walks next t (answers_move n.id r)
 answers_at pt t p l n r none known acting noted sane places next s =
@@ -88,13 +88,13 @@ answers_at pt t p l n r none known acting noted sane places next s =
     subst (λ (x : Pid). (view_after pt.view l).known (view_after pt.view l).acting x ≡ Here) same_ here) places in
     subst (λ (z : Point). Walks z t (answers_move n.id r)) s.is (subst (λ (u : OneKernel). Walks (moved pt l u) t (answers_move n.id r)) same walks)
 
-stays_asked : (pt : Point) (t : Trails) (p : Pid) (n : Note) → Heard pt p MessageKind.Refuse → pt.kernel.notes p ≡ Some n → Places pt.view t → Walks pt t (Says (Line.Stays p) ∷ answers_move n.id Outcome.Stayed)
+stays_asked : (pt : Point) (t : Trails) (p : Pid) (n : MoveNote) → Heard pt p MessageKind.Refuse → pt.kernel.notes p ≡ Some n → Places pt.view t → Walks pt t (Says (Line.Stays p) ∷ answers_move n.id Outcome.Stayed)
 stays_asked pt t p n u noted h =
     let v = pt.view in
     let had : is_held (v.known v.acting p) ≡ true = ap (λ (m : ℕ). is_held (v.known m p)) u.acts ∙ ap is_held (source_holds v p MessageKind.Refuse u.s u.d u.o u.phase refl) in
     λ sane on. (record { k = MessageKind.Refuse; s = u.s; d = u.d; o = u.o; phase = u.phase; off = refl }, λ next s. answers_at pt t p (Line.Stays p) n Outcome.Stayed refl refl refl noted sane (places_held v (view_after v (Line.Stays p)) t p Here refl refl refl had h) next (said_by pt next (Line.Stays p) s))
 
-restarts_asked : (pt : Point) (t : Trails) (p : Pid) (n : Note) → Heard pt p MessageKind.Restart → pt.kernel.notes p ≡ Some n → Places pt.view t → Walks pt t (Says (Line.Migration Stage.Restarted p) ∷ answers_move n.id Outcome.Done)
+restarts_asked : (pt : Point) (t : Trails) (p : Pid) (n : MoveNote) → Heard pt p MessageKind.Restart → pt.kernel.notes p ≡ Some n → Places pt.view t → Walks pt t (Says (Line.Migration Stage.Restarted p) ∷ answers_move n.id Outcome.Done)
 restarts_asked pt t p n u noted h =
     λ sane on. (record { k = MessageKind.Restart; s = u.s; d = u.d; o = u.o; phase = u.phase; off = refl }, λ next s. answers_at pt t p (Line.Migration Stage.Restarted p) n Outcome.Done refl refl refl noted sane (restarted_places pt t p u h) next (said_by pt next (Line.Migration Stage.Restarted p) s))
 
@@ -102,7 +102,7 @@ abbrev AnotherHeard : Point → Point → Trails → ℕ → MsgId → Told → 
 AnotherHeard pt o t m id v = hearing.Heard (Walks pt t) o m id v
 
 pub hears_walks : (pt : Point) (b : Boot) (o : Point) (t : Trails) (m : ℕ) (id : MsgId) (u : Told) (ps : List Part) → ((p : Pid) → both_lists pt.view p ≡ o.view.queue m p ++ o.view.held m p)
-    → ((p : Pid) (n : Note) → o.kernel.notes p ≡ Some n → pt.kernel.notes p ≡ Some n) → pt.view.known pt.view.acting u.receiver ≡ o.view.known m u.receiver
+    → ((p : Pid) (n : MoveNote) → o.kernel.notes p ≡ Some n → pt.kernel.notes p ≡ Some n) → pt.view.known pt.view.acting u.receiver ≡ o.view.known m u.receiver
     → ((p : Pid) → u.about ≡ Of p → is_between u.kind ≡ true → Heard pt p u.kind) → ((to c : ℕ) → o.view.known m u.receiver ≡ Forward to c → Walks pt t (forwards_on o.addresses id u.kind manager to)) → Places pt.view t → rule.hears b o m id (Some u) ≡ Some ps → Walks pt t ps
 hears_walks pt b o t m id u ps same notes known kernels forwards h =
     let home = id.from.home in

@@ -11,7 +11,8 @@ use Rattle.dm_places.proofs.Keeps.{alive_of, kernel_sent, noted_mirrors, of_map,
 use Rattle.dm_places.proofs.Labels.Calls.{stands_here}
 use Rattle.dm_places.proofs.Whats.{move_what, read_what, write_what}
 use Rattle.dm_places.proofs.Labels.Acts.{Follows, mirrors_as}
-use Rattle.dm_places.proofs.Names.{Asker, AskedBy, Gets, MirrorsKernel, Note, Outcome, Pid, PlainProcess, Process, acting_place, asker_of, gets, id_of, manager, moved_answer, pid_eq-same, plain_note, request_of, with_note, without_note}
+use Rattle.dm_places.proofs.Names.{Asker, AskedBy, Gets, MirrorsKernel, MoveNote, Outcome, Pid, PlainProcess, Process, acting_place, asker_of, gets, id_of, manager, moved_answer, pid_eq-same, plain_note, manager_request, with_note}
+use Rattle.dm_places.proofs.Names.{without_note}
 use Rattle.dm_laws.proofs.Servers.{ends_move-is}
 use Rattle.dm_datamove.specs.Serving as serving
 use Rattle.dm_rule.specs.Given as giving
@@ -99,53 +100,53 @@ no_space_follows s t v a l id f b is h =
     )
 
 -- asked
-asked_row : (s t : OneKernel) (v : View) (a : Addresses) (l : Placed) (id : MsgId) (m : Message) (k : PlainMessage) (u : PlainWhat) → service.follows s id k u ≡ Some t → id ≡ id_of manager id.n → MirrorsMessage a id m
+asked_row : (s t : OneKernel) (v : View) (a : Addresses) (l : Placed) (id : MsgId) (m : Message) (k : PlainMessage) (u : PlainWhat) → service.follows_request s id k u ≡ Some t → id ≡ id_of manager id.n → MirrorsMessage a id m
     → plain_message m ≡ Some k → Mirrors s v a l
     → Mirrors t v (given a (gets (AskedBy k.to) (a (Sender id)) ∷ [])) (with_note (without_message l id) m.to.pid id (asker_of m))
 asked_row s t v a l id m k (PlainWhat.Move machine) is needs hm says h =
     let g = parts m k says in
     let w = asker_of m in
     let pl = a (Sender id) in
-    let name : request_of w ≡ id = ap (λ (i : MsgId). id_of manager i.n) hm.id ∙ sym needs in
-    let on : Note = record { id = id; asker = k.sender } in
+    let name : manager_request w ≡ id = ap (λ (i : MsgId). id_of manager i.n) hm.id ∙ sym needs in
+    let on : MoveNote = record { id = id; asker = k.sender } in
     let note : plain_note w ≡ on = λ i. record { id = name i; asker = g.sender i } in
     let eq : kernels.with_note (service.without_message s id) k.to on ≡ t = cc in
     let b = λ (p : Pid). given a (gets (AskedBy p) pl ∷ []) in
     let p = m.to.pid in
     let done = noted_mirrors (service.without_message s id) v a (b p) (without_message l id) p w (λ q. record { slot = λ i. refl; owner = refl }) (λ i. record { receiver = refl; sender = refl; enclosed = λ j. refl }) (λ n. refl) (λ n. refl) (λ n. refl)
     (λ q apart. ap (λ (c : Bool). if c then pl else a (AskedBy q)) apart) (ap (λ (c : Bool). if c then pl else a (AskedBy p)) (pid_eq-same p) ∙ hm.sender) (out_mirrors s v a l id h) in
-    mirrors_as (kernels.with_note (service.without_message s id) p (plain_note w)) t v (b p) (b k.to) (with_note (without_message l id) p (request_of w) w) (with_note (without_message l id) p id w)
+    mirrors_as (kernels.with_note (service.without_message s id) p (plain_note w)) t v (b p) (b k.to) (with_note (without_message l id) p (manager_request w) w) (with_note (without_message l id) p id w)
     ((λ i. kernels.with_note (service.without_message s id) (g.to i) (note i)) ∙ eq) (ap b g.to) (ap (λ (i : MsgId). with_note (without_message l id) p i w) name) done
 asked_row s t v a l id m k u is needs hm says h = cc
 
 pub asked_follows : (s t : OneKernel) (v : View) (a : Addresses) (l : Placed) (id : MsgId) → kernel.step s (Label.Asked id) ≡ Some t → id ≡ id_of manager id.n → Mirrors s v a l
     → Follows t v (given a (gives s v a (Label.Asked id))) (bind (l.bag id) (λ (m : Message). Some (with_note (without_message l id) m.to.pid id (asker_of m))))
 asked_follows s t v a l id is needs h =
-    let (k, there, rest) = bind-is (s.bag id) (λ (w : PlainMessage). bind (kernel.at_hand s w.to) (λ (p : PlainProcess). service.follows s id w w.what)) t is in
-    let (x, hand, last) = bind-is (kernel.at_hand s k.to) (λ (p : PlainProcess). service.follows s id k k.what) t rest in
+    let (k, there, rest) = bind-is (s.bag id) (λ (w : PlainMessage). bind (kernel.at_hand s w.to) (λ (p : PlainProcess). service.follows_request s id w w.what)) t is in
+    let (x, hand, last) = bind-is (kernel.at_hand s k.to) (λ (p : PlainProcess). service.follows_request s id k k.what) t rest in
     let (m, found, says) = there_of s l id k h.plain there in
     let on = with_note (without_message l id) m.to.pid id (asker_of m) in (
       on,
       ap (λ (o : Option Message). bind o (λ (n : Message). Some (with_note (without_message l id) n.to.pid id (asker_of n)))) found,
-      subst (λ (gs : List Gets). Mirrors t v (given a gs) on) (ap (giving.follows a id) (sym there)) (asked_row s t v a l id m k k.what last needs (h.places.message id m found) says h),
+      subst (λ (gs : List Gets). Mirrors t v (given a gs) on) (ap (giving.given_to_follow a id) (sym there)) (asked_row s t v a l id m k k.what last needs (h.places.message id m found) says h),
     )
 
 -- answered
-noted_of : (s : OneKernel) (l : Placed) (p : Pid) (n : Note) → MirrorsKernel s l → s.notes p ≡ Some n → (k : Asker) × (l.notes p ≡ Some k) × (plain_note k ≡ n)
+noted_of : (s : OneKernel) (l : Placed) (p : Pid) (n : MoveNote) → MirrorsKernel s l → s.notes p ≡ Some n → (k : Asker) × (l.notes p ≡ Some k) × (plain_note k ≡ n)
 noted_of s l p n h e = of_map plain_note (l.notes p) n (sym e ∙ sym (h.notes p))
 
 pub answered_follows : (s t : OneKernel) (v : View) (a : Addresses) (l : Placed) (id : MsgId) (o : Outcome) → kernel.step s (Label.Answered id o) ≡ Some t
-    → ((p : Pid) (n : Note) → s.noted id ≡ Some p → s.notes p ≡ Some n → (x : PlainProcess) × (n.id ≡ id) × (kernel.alive (s.processes p) ≡ Some x)) → Mirrors s v a l
+    → ((p : Pid) (n : MoveNote) → s.noted id ≡ Some p → s.notes p ≡ Some n → (x : PlainProcess) × (n.id ≡ id) × (kernel.alive (s.processes p) ≡ Some x)) → Mirrors s v a l
     → Follows t v (given a (gives s v a (Label.Answered id o))) (bind (l.noted id) (λ (p : Pid). placed.ends_move v.acting l id p o))
 answered_follows s t v a l id o is needs h =
-    let (p, noted, rest) = bind-is (s.noted id) (λ (q : Pid). bind (s.notes q) (λ (n : Note). service.ends_move s id q n o)) t is in
-    let (n, notes, last) = bind-is (s.notes p) (λ (m : Note). service.ends_move s id p m o) t rest in
+    let (p, noted, rest) = bind-is (s.noted id) (λ (q : Pid). bind (s.notes q) (λ (n : MoveNote). service.ends_move s id q n o)) t is in
+    let (n, notes, last) = bind-is (s.notes p) (λ (m : MoveNote). service.ends_move s id p m o) t rest in
     let (x, name, alive) = needs p n noted notes in
     let (k, waits, is_note) = noted_of s l p n h.plain notes in
     let (y, stands, is_process) = alive_of s l p x h.plain alive in
     let m = moved_answer v.acting y o k in
-    let to : k.addr.pid ≡ n.asker = ap (λ (w : Note). w.asker) is_note in
-    let asked : request_of k ≡ id = ap (λ (w : Note). w.id) is_note ∙ name in
+    let to : k.addr.pid ≡ n.asker = ap (λ (w : MoveNote). w.asker) is_note in
+    let asked : manager_request k ≡ id = ap (λ (w : MoveNote). w.id) is_note ∙ name in
     let hy = h.places.process p y stands in
     let q : PlainMessage = record { id = answer_id id; to = n.asker; sender = p; what = PlainWhat.Moved o } in
     let says : plain_message m ≡ Some q = λ i. Some (record { id = answer_id (asked i); to = to i; sender = hy.pid i; what = PlainWhat.Moved o }) in
@@ -158,5 +159,5 @@ answered_follows s t v a l id o is needs h =
           ∙ ap (λ (w : Option Asker). bind w (λ (c : Asker). bind (l.processes p) (λ (z : Process). Some (with_sent (without_note l p id) (Some (moved_answer v.acting z o c)))))) waits
           ∙ ap (λ (w : Option Process). bind w (λ (z : Process). Some (with_sent (without_note l p id) (Some (moved_answer v.acting z o k))))) stands,
       mirrors_as (service.move_ended s id p n o) t v (given a (two m.id (a (AskedBy p)) (acting_place v p))) (given a (gives s v a (Label.Answered id o))) on on (ends_move-is s t id p n o last)
-          (ap (λ (i : MsgId). given a (two (answer_id i) (a (AskedBy p)) (acting_place v p))) asked ∙ ap (λ (w : Option Pid). given a (giving.ends_move v a id w)) (sym noted)) refl done,
+          (ap (λ (i : MsgId). given a (two (answer_id i) (a (AskedBy p)) (acting_place v p))) asked ∙ ap (λ (w : Option Pid). given a (giving.given_at_end v a id w)) (sym noted)) refl done,
     )

@@ -154,7 +154,7 @@ control_by s v a l id mid code child false false false links to en h = bad_mirro
 
 -- a child is to move
 moves_mirrors : (s : OneKernel) (v : View) (a : Addresses) (l : Placed) (id mid : MsgId) (code : ℕ) (child : Addr) (machine : ℕ) (links : List Link) → a (Child code) ≡ place_of child → LinksKept a mid links → InOrder l.manager → Mirrors s v a l
-    → TookAt s v a l id mid code (one.asks (plain_manager l.manager) PendingKind.Move child.pid (PlainWhat.Move machine) (one.first_link (map plain_link links)))
+    → TookAt s v a l id mid code (one.sends_request (plain_manager l.manager) PendingKind.Move child.pid (PlainWhat.Move machine) (one.first_link (map plain_link links)))
     (take.asks v.acting l.manager PendingKind.Move child (What.Move machine) (take.first_link links))
 moves_mirrors s v a l id mid code child machine links to en order h =
     let g = l.manager in
@@ -163,7 +163,7 @@ moves_mirrors s v a l id mid code child machine links to en order h =
     let pl = a (Enclosed mid 0) in
     let b = given a (gets (Answer n) pl ∷ []) in
     let r : Pending = record { n = n; kind = PendingKind.Move; answer = take.first_link links } in
-    let k = one.asks (plain_manager g) PendingKind.Move child.pid (PlainWhat.Move machine) (one.first_link (map plain_link links)) in
+    let k = one.sends_request (plain_manager g) PendingKind.Move child.pid (PlainWhat.Move machine) (one.first_link (map plain_link links)) in
     let t = take.asks v.acting g PendingKind.Move child (What.Move machine) (take.first_link links) in
     let m = message_to v.acting n child (What.Move machine) in
     let q : PlainMessage = record { id = sent; to = child.pid; sender = manager; what = PlainWhat.Move machine } in
@@ -210,7 +210,7 @@ controls_mirrors s v a l id mid code (Some child) (op ∷ machine ∷ []) links 
     let bad = take.bad_request v.acting g links in
     let refused = bad_mirrors s v a l id mid code links en h in
     took_if s v a l id mid code (op == 5) (one.moves_child (plain_manager g) g.machines child.pid machine (map plain_link links)) one_bad (take.wants_move v.acting g child machine links) bad
-    (took_if s v a l id mid code (nat_lt machine g.machines) (one.asks (plain_manager g) PendingKind.Move child.pid (PlainWhat.Move machine) (one.first_link (map plain_link links))) one_bad
+    (took_if s v a l id mid code (nat_lt machine g.machines) (one.sends_request (plain_manager g) PendingKind.Move child.pid (PlainWhat.Move machine) (one.first_link (map plain_link links))) one_bad
     (take.asks v.acting g PendingKind.Move child (What.Move machine) (take.first_link links)) bad (moves_mirrors s v a l id mid code child machine links (h.places.child code child is) en order h) refused) refused
 controls_mirrors s v a l id mid code None (b ∷ []) links is en order h = bad_mirrors s v a l id mid code links en h
 controls_mirrors s v a l id mid code None (b ∷ machine ∷ []) links is en order h = bad_mirrors s v a l id mid code links en h

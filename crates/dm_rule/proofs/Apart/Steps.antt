@@ -1,7 +1,7 @@
 -- A step that is not of a process leaves its plain value.
 use Rattle.dm_rule.proofs.Names.{◌≡◌, ◌≢◌, ℕ, ◌+◌, ◌==◌, ◌&&◌, Bool, true, false, List, length, refl, ap, ⊤, if◌then◌else◌, slice_get, Option, None, Some, Pid, pid_of, pid_eq, PlainLink, MsgId, id_eq, Called, PlainMessage, PlainWhat}
 use Rattle.dm_rule.proofs.Names.{BootImage, Label, Reply, Why, first_number, switchboard, manager, reply_eq, why_eq, bind, when, PlainProcess, Life, Alive, OneKernel, with_process, with_sent, answer_to, without_message, begun, IsOthers}
-use Rattle.dm_rule.proofs.Names.{pid_eq-is, Note, Outcome}
+use Rattle.dm_rule.proofs.Names.{pid_eq-is, MoveNote, Outcome}
 use Rattle.dm_onekernel.specs.Kernel.{Ended}
 use Rattle.dm_onekernel.specs.Pieces as pieces
 use Rattle.dm_onekernel.specs.Receiving as receiving
@@ -115,11 +115,11 @@ keeps_no_room s p id m (PlainWhat.Create x1 x2) = keeps_when s p (service.is_ker
 keeps_no_room s p id m _ = tt
 
 -- a process is asked to move, or that is answered
-keeps_follows : (s : OneKernel) (p : Pid) (id : MsgId) (m : PlainMessage) (k : PlainWhat) → Keeps s p (service.follows s id m k)
+keeps_follows : (s : OneKernel) (p : Pid) (id : MsgId) (m : PlainMessage) (k : PlainWhat) → Keeps s p (service.follows_request s id m k)
 keeps_follows s p id m (PlainWhat.Move machine) = refl
 keeps_follows s p id m _ = tt
 
-keeps_ends_move : (s : OneKernel) (p : Pid) (id : MsgId) (q : Pid) (n : Note) (o : Outcome) → Keeps s p (service.ends_move s id q n o)
+keeps_ends_move : (s : OneKernel) (p : Pid) (id : MsgId) (q : Pid) (n : MoveNote) (o : Outcome) → Keeps s p (service.ends_move s id q n o)
 keeps_ends_move s p id q n Outcome.Ended = tt
 keeps_ends_move s p id q n _ = refl
 
@@ -148,7 +148,7 @@ keeps_step s p (Label.Took id) off = keeps_bind s p (s.bag id) (service.takes s 
 keeps_step s p (Label.Created id q) off = keeps_bind s p (s.bag id) (λ m. service.creates s id m q m.what) (λ m there. keeps_creates s p q id m m.what off)
 keeps_step s p (Label.NoSpace id a b) off = keeps_bind s p (s.bag id) (λ m. service.has_no_room s id m m.what) (λ m there. keeps_no_room s p id m m.what)
 keeps_step s p (Label.Asked id) off =
-    keeps_bind s p (s.bag id) (λ m. bind (kernel.at_hand s m.to) (λ x. service.follows s id m m.what))
-    (λ m there. keeps_bind s p (kernel.at_hand s m.to) (λ x. service.follows s id m m.what) (λ x is. keeps_follows s p id m m.what))
+    keeps_bind s p (s.bag id) (λ m. bind (kernel.at_hand s m.to) (λ x. service.follows_request s id m m.what))
+    (λ m there. keeps_bind s p (kernel.at_hand s m.to) (λ x. service.follows_request s id m m.what) (λ x is. keeps_follows s p id m m.what))
 keeps_step s p (Label.Answered id o) off =
     keeps_bind s p (s.noted id) (λ q. bind (s.notes q) (λ n. service.ends_move s id q n o)) (λ q noted. keeps_bind s p (s.notes q) (λ n. service.ends_move s id q n o) (λ n notes. keeps_ends_move s p id q n o))

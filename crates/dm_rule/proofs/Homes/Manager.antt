@@ -124,14 +124,14 @@ control_by P s v a id mid code child false false false links to en at h = bad_ho
 
 -- a child is to move
 moves_home : (P : Pid → Place → Type 0) (s : OneKernel) (v : View) (a : Addresses) (id mid : MsgId) (code : ℕ) (child : Pid) (machine : ℕ) (links : List PlainLink) → P child (a (Child code)) → LinksHome P a mid links → v.acting ≡ 0 → AtHome P s a
-    → TookAt P s v a id mid code (manage.asks s.manager PendingKind.Move child (PlainWhat.Move machine) (manage.first_link links))
+    → TookAt P s v a id mid code (manage.sends_request s.manager PendingKind.Move child (PlainWhat.Move machine) (manage.first_link links))
 moves_home P s v a id mid code child machine links to en at h =
     let u = at_home_out P s a id h in
     let n = s.manager.sent in
     let z : Pending = record { n = n; kind = PendingKind.Move; answer = manage.first_link links } in
     let pl = a (Enclosed mid 0) in
     let b = given a (gets (Answer n) pl ∷ []) in
-    let k = manage.asks s.manager PendingKind.Move child (PlainWhat.Move machine) (manage.first_link links) in
+    let k = manage.sends_request s.manager PendingKind.Move child (PlainWhat.Move machine) (manage.first_link links) in
     let m : PlainMessage = record { id = id_of manager n; to = child; sender = manager; what = PlainWhat.Move machine } in
     let kept : AtHome P (record (without_message s id) { manager = k.manager }) b = record {
       processes = λ q x e. process_same P a b q x (record { slot = λ i. refl; owner = refl }) (u.processes q x e);
@@ -159,7 +159,7 @@ controls_home : (P : Pid → Place → Type 0) (s : OneKernel) (v : View) (a : A
     → TookAt P s v a id mid code (manage.controls s.manager s.machines o body links)
 controls_home P s v a id mid code (Some child) (op ∷ []) links is en at h = control_by P s v a id mid code child (op == 2) (op == 3) (op == 4) links (h.children code child is) en at h
 controls_home P s v a id mid code (Some child) (op ∷ machine ∷ []) links is en at h =
-    let k = manage.asks s.manager PendingKind.Move child (PlainWhat.Move machine) (manage.first_link links) in
+    let k = manage.sends_request s.manager PendingKind.Move child (PlainWhat.Move machine) (manage.first_link links) in
     let bad = bad_home P s v a id mid code links en at h in
     took_if P s v a id mid code (op == 5) (manage.moves_child s.manager s.machines child machine links) (manage.bad_request s.manager links)
     (took_if P s v a id mid code (nat_lt machine s.machines) k (manage.bad_request s.manager links) (moves_home P s v a id mid code child machine links (h.children code child is) en at h) bad) bad

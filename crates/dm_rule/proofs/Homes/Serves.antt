@@ -2,7 +2,7 @@
 use Rattle.dm_rule.proofs.Names.{◌≡◌, ℕ, zero, suc, ◌+◌, ◌==◌, ◌&&◌, Bool, true, false, List, [], ◌∷◌, ◌++◌, refl, ap, ◌∙◌, sym, subst, arith, nat_le, length, ⊤, if◌then◌else◌, map, slice_get, Option, None, Some, nat_tests, Pid, Place}
 use Rattle.dm_rule.proofs.Names.{pid_eq, PlainLink, link_at, MsgId, id_eq, Label, Why, PlainMessage, PlainWhat, Reply, bind, PlainProcess, PlainStatus, Moving, Alive, OneKernel, with_process, with_sent, without_message, pid_eq-same}
 use Rattle.dm_rule.proofs.Names.{id_eq-same, bind-is, when-is, View, Addresses, Gets, gets, given, gives, Slot, Owner, Receiver, Sender, Enclosed, unmoved, acting_place, owner_in, replicate, ◌-◌, take, drop, Direction, BootImage, slots_of}
-use Rattle.dm_rule.proofs.Names.{first_number, answer_id, answer_to, begun, pid_of, answer_gets, serves_what, landing_gets, child_links, links_in, at_hand-is, AskedBy, Note, Outcome, with_note, without_note, cases_Bool, inl, inr}
+use Rattle.dm_rule.proofs.Names.{first_number, answer_id, answer_to, begun, pid_of, answer_gets, serves_what, landing_gets, child_links, links_in, at_hand-is, AskedBy, MoveNote, Outcome, with_note, without_note, cases_Bool, inl, inr}
 use Rattle.dm_rule.proofs.Names.{ends_move-is}
 use Rattle.dm_onekernel.specs.Kernel.{Ended}
 use Rattle.dm_onekernel.specs.Step as kernel
@@ -318,11 +318,11 @@ created_home P s t v a id child is named at h =
     subst (λ (gs : List Gets). AtHome P t (given a gs)) (ap (addresses.creation_gets v a id child) (sym there)) (creates_row P s t v a id m child m.what refl rest there named at h)
 
 -- a process is asked to move: it knows who sent the request
-asked_row : (P : Pid → Place → Type 0) (s t : OneKernel) (a : Addresses) (id : MsgId) (m : PlainMessage) (w : PlainWhat) → service.follows s id m w ≡ Some t → s.bag id ≡ Some m → AtHome P s a
+asked_row : (P : Pid → Place → Type 0) (s t : OneKernel) (a : Addresses) (id : MsgId) (m : PlainMessage) (w : PlainWhat) → service.follows_request s id m w ≡ Some t → s.bag id ≡ Some m → AtHome P s a
     → AtHome P t (given a (gets (AskedBy m.to) (a (Sender id)) ∷ []))
 asked_row P s t a id m (PlainWhat.Move machine) is there h =
     let u = at_home_out P s a id h in
-    let n : Note = record { id = id; asker = m.sender } in
+    let n : MoveNote = record { id = id; asker = m.sender } in
     let pl = a (Sender id) in
     let b = given a (gets (AskedBy m.to) pl ∷ []) in
     let k : with_note (without_message s id) m.to n ≡ t = cc in
@@ -337,7 +337,7 @@ asked_row P s t a id m (PlainWhat.Move machine) is there h =
         | inl same ↦
             let f : Some n ≡ Some o = sym (ap (λ (c : Bool). if c then Some n else s.notes q) same) ∙ e in
             let g : n ≡ o = cc in
-            place_as P (ap (λ (c : Bool). if c then pl else a (AskedBy q)) same) (pid_as P (ap (λ (v : Note). v.asker) g) (h.messages id m there).sender)
+            place_as P (ap (λ (c : Bool). if c then pl else a (AskedBy q)) same) (pid_as P (ap (λ (v : MoveNote). v.asker) g) (h.messages id m there).sender)
         | inr apart ↦ place_as P (ap (λ (c : Bool). if c then pl else a (AskedBy q)) apart) (h.askers q o (sym (ap (λ (c : Bool). if c then Some n else s.notes q) apart) ∙ e))
       ];
       rooted = u.rooted;
@@ -347,15 +347,15 @@ asked_row P s t a id m _ is there h = cc
 
 pub asked_home : (P : Pid → Place → Type 0) (s t : OneKernel) (v : View) (a : Addresses) (id : MsgId) → kernel.step s (Label.Asked id) ≡ Some t → AtHome P s a → AtHome P t (given a (gives s v a (Label.Asked id)))
 asked_home P s t v a id is h =
-    let (m, there, rest) = bind-is (s.bag id) (λ (w : PlainMessage). bind (kernel.at_hand s w.to) (λ (p : PlainProcess). service.follows s id w w.what)) t is in
-    let (x, hand, last) = bind-is (kernel.at_hand s m.to) (λ (p : PlainProcess). service.follows s id m m.what) t rest in
-    subst (λ (gs : List Gets). AtHome P t (given a gs)) (ap (giving.follows a id) (sym there)) (asked_row P s t a id m m.what last there h)
+    let (m, there, rest) = bind-is (s.bag id) (λ (w : PlainMessage). bind (kernel.at_hand s w.to) (λ (p : PlainProcess). service.follows_request s id w w.what)) t is in
+    let (x, hand, last) = bind-is (kernel.at_hand s m.to) (λ (p : PlainProcess). service.follows_request s id m m.what) t rest in
+    subst (λ (gs : List Gets). AtHome P t (given a gs)) (ap (giving.given_to_follow a id) (sym there)) (asked_row P s t a id m m.what last there h)
 
 -- the process that follows a request is where that is answered
 abbrev pub AnsweredAt : (Pid → Place → Type 0) → OneKernel → View → MsgId → Type 0
 AnsweredAt P s v id = (p : Pid) → s.noted id ≡ Some p → P p (acting_place v p)
 
-still_noted : (s : OneKernel) (p q : Pid) (id : MsgId) (n : Note) → (without_note s p id).notes q ≡ Some n → s.notes q ≡ Some n
+still_noted : (s : OneKernel) (p q : Pid) (id : MsgId) (n : MoveNote) → (without_note s p id).notes q ≡ Some n → s.notes q ≡ Some n
 still_noted s p q id n e = elim (cases_Bool (pid_eq p q)) [
   | inl same ↦ absurd (let f : None ≡ Some n = sym (ap (λ (c : Bool). if c then None else s.notes q) same) ∙ e in cc)
   | inr apart ↦ sym (ap (λ (c : Bool). if c then None else s.notes q) apart) ∙ e
@@ -364,8 +364,8 @@ still_noted s p q id n e = elim (cases_Bool (pid_eq p q)) [
 pub answered_home : (P : Pid → Place → Type 0) (s t : OneKernel) (v : View) (a : Addresses) (id : MsgId) (o : Outcome) → kernel.step s (Label.Answered id o) ≡ Some t → AnsweredAt P s v id
     → AtHome P s a → AtHome P t (given a (gives s v a (Label.Answered id o)))
 answered_home P s t v a id o is at h =
-    let (p, noted, rest) = bind-is (s.noted id) (λ (q : Pid). bind (s.notes q) (λ (n : Note). service.ends_move s id q n o)) t is in
-    let (n, notes, last) = bind-is (s.notes p) (λ (k : Note). service.ends_move s id p k o) t rest in
+    let (p, noted, rest) = bind-is (s.noted id) (λ (q : Pid). bind (s.notes q) (λ (n : MoveNote). service.ends_move s id q n o)) t is in
+    let (n, notes, last) = bind-is (s.notes p) (λ (k : MoveNote). service.ends_move s id p k o) t rest in
     let u = without_note s p id in
     let m : PlainMessage = record { id = answer_id id; to = n.asker; sender = p; what = PlainWhat.Moved o } in
     let left : AtHome P u a = record {
@@ -379,4 +379,4 @@ answered_home P s t v a id o is at h =
       pending = h.pending;
     } in
     subst (λ (w : OneKernel). AtHome P w (given a (gives s v a (Label.Answered id o)))) (ends_move-is s t id p n o last)
-    (subst (λ (gs : List Gets). AtHome P (service.move_ended s id p n o) (given a gs)) (ap (giving.ends_move v a id) (sym noted)) (two_sends P u a m (a (AskedBy p)) (acting_place v p) left refl (h.askers p n notes) (at p noted)))
+    (subst (λ (gs : List Gets). AtHome P (service.move_ended s id p n o) (given a gs)) (ap (giving.given_at_end v a id) (sym noted)) (two_sends P u a m (a (AskedBy p)) (acting_place v p) left refl (h.askers p n notes) (at p noted)))

@@ -3,7 +3,7 @@ use Rattle.dm_rule.proofs.Names.{◌≡◌, ℕ, ◌==◌, Bool, true, false, Li
 use Rattle.dm_rule.proofs.Names.{PlainProcess, Line, View, Told, About, NothingElse, Of, Known, Unknown, Here, Frozen, Forward, Ended, view_after, handled, handled_first, receiver_of, is_kernels, target_of, with_ring, knowing, released}
 use Rattle.dm_rule.proofs.Names.{after_proto, follows_up, asks_on, held_for, Addresses, Sender, Child, is_told_back, Point, moved, seen, Part, Says, Again, Owns, Spelled, spelled, to_kernel, forwards_on, moves_to, accepts, takes_chunk}
 use Rattle.dm_rule.proofs.Names.{takes_block, gives_piece, sends_on, leaves, kernel_told, chunks_of, pieces_of, here_told, ended_told, process_told, server_told, migrates, fits, free_room, kernel_hears, hears, Spot, Queue, Held, Inbox}
-use Rattle.dm_rule.proofs.Names.{Untaken, ids_at, bind-is, label_of, Label, Note, Outcome, Target, Routes, answer_id, answers_move, frozen_for, front_told, leaves_for, tells_asker}
+use Rattle.dm_rule.proofs.Names.{Untaken, ids_at, bind-is, label_of, Label, MoveNote, Outcome, Target, Routes, answer_id, answers_move, frozen_for, front_told, leaves_for, tells_asker}
 use Rattle.dm_onekernel.specs.Step as kernel
 use Rattle.dm_rule.specs.View as view
 use Rattle.dm_rule.proofs.Lines.{hidden, Stands-stays}
@@ -130,7 +130,7 @@ answers_row pt i o w h fit e =
     line_and_route pt (Line.Label (Label.Answered i o)) (answer_id i) w e refl fit (λ s k. quiet_label pt (Label.Answered i o) s (Some (answer_id i)) h k (bag_answered h.r h.e pt.kernel s i o k h.sound) (λ z. refl) (λ j. refl))
 
 -- a line that ends a move is followed by the answer, if somebody asked for it
-ends_row : (pt : Point) (l : Line) (q : Option Note) (o : Outcome) (w : Spelled) → label_of l ≡ None → touches l ≡ false → PairsFit pt.view → State None (moved pt l pt.kernel) → spelled pt (Says l ∷ tells_asker q o) ≡ Some w → State None w.point
+ends_row : (pt : Point) (l : Line) (q : Option MoveNote) (o : Outcome) (w : Spelled) → label_of l ≡ None → touches l ≡ false → PairsFit pt.view → State None (moved pt l pt.kernel) → spelled pt (Says l ∷ tells_asker q o) ≡ Some w → State None w.point
 ends_row pt l None o w none quiet fit h e = line_ends pt l w none h e
 ends_row pt l (Some n) o w none quiet fit h e =
     let k = line_next pt l (answers_move n.id o) w none e in

@@ -2,7 +2,7 @@
 use Rattle.dm_rule.proofs.Names.{◌≡◌, ℕ, ◌==◌, Bool, true, false, List, [], ◌∷◌, ◌++◌, refl, ap, ◌∙◌, sym, subst, length, arith, ◌/◌, if◌then◌else◌, Option, None, Some, false≢true, nat_tests, Pid, pid_eq, MsgId, MessageKind, Line, Stage}
 use Rattle.dm_rule.proofs.Names.{Boot, switchboard, manager, PlainProcess, View, Told, About, Of, Known, Unknown, Here, Forward, Ended, is_kernels, target_of, Addresses, Sender, is_told_back, Point, Part, Says, Owns, Spelled, spelled}
 use Rattle.dm_rule.proofs.Names.{to_kernel, forwards_on, moves_to, accepts, takes_chunk, takes_block, gives_piece, kernel_told, chunks_of, pieces_of, updates, here_told, ended_told, process_told, server_told, fits, free_room, kernel_hears}
-use Rattle.dm_rule.proofs.Names.{hears, is_between, bind-is, Label, Note, NothingElse, Outcome, bind, kernel_after, label_of, leaves_for, moved, tells_asker}
+use Rattle.dm_rule.proofs.Names.{hears, is_between, bind-is, Label, MoveNote, NothingElse, Outcome, bind, kernel_after, label_of, leaves_for, moved, tells_asker}
 use Rattle.dm_onekernel.specs.Step as kernel
 use Rattle.dm_rule.proofs.Hushed.{is_put}
 use Rattle.dm_rule.proofs.States.{State, State-at}
@@ -39,11 +39,11 @@ pub forwards_quiet : (v : View) (a : Addresses) (i : MsgId) (k : MessageKind) (s
 forwards_quiet v a i k sender to tame = (tame, (tame, told_quiet v (is_told_back k) sender (a (Sender i)).at))
 
 -- a line that ends a move is followed by the answer, if somebody asked for it
-asker_quiet : (v : View) (q : Option Note) (r : Outcome) → AllQuiet v (tells_asker q r)
+asker_quiet : (v : View) (q : Option MoveNote) (r : Outcome) → AllQuiet v (tells_asker q r)
 asker_quiet v None r = tt
 asker_quiet v (Some n) r = (tt, (tt, tt))
 
-ends_row : (pt : Point) (l : Line) (q : Option Note) (r : Outcome) (w : Spelled) → label_of l ≡ None → is_put l ≡ false → Whole (moved pt l pt.kernel) → Sane pt → State None w.point → spelled pt (Says l ∷ tells_asker q r) ≡ Some w → Whole w.point
+ends_row : (pt : Point) (l : Line) (q : Option MoveNote) (r : Outcome) (w : Spelled) → label_of l ≡ None → is_put l ≡ false → Whole (moved pt l pt.kernel) → Sane pt → State None w.point → spelled pt (Says l ∷ tells_asker q r) ≡ Some w → Whole w.point
 ends_row pt l q r w none quiet h sane state e =
     let next = moved pt l pt.kernel in
     let n = line_next pt l (tells_asker q r) w none e in

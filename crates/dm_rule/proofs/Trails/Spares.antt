@@ -224,11 +224,11 @@ takes_spares s t v a id m false true i out own e =
 takes_spares s t v a id m false false i out own e = cc
 
 -- a request to move
-follows_spares : (a : Addresses) (id : MsgId) (o : Option PlainMessage) (i : MsgId) → spares i (request.follows a id o) ≡ true
+follows_spares : (a : Addresses) (id : MsgId) (o : Option PlainMessage) (i : MsgId) → spares i (request.given_to_follow a id o) ≡ true
 follows_spares a id None i = refl
 follows_spares a id (Some m) i = refl
 
-ends_spares : (v : View) (a : Addresses) (id : MsgId) (o : Option Pid) (i : MsgId) → is_kernels i ≡ true → spares i (request.ends_move v a id o) ≡ true
+ends_spares : (v : View) (a : Addresses) (id : MsgId) (o : Option Pid) (i : MsgId) → is_kernels i ≡ true → spares i (request.given_at_end v a id o) ≡ true
 ends_spares v a id None i own = refl
 ends_spares v a id (Some p) i own = two_more i (answer_id id) [] (answers_apart i id own) refl
 

@@ -2,7 +2,7 @@
 use Rattle.dm_rule.proofs.Names.{◌≡◌, ◌≢◌, ℕ, ◌+◌, ◌≤◌, Bool, true, false, List, ◌++◌, length, refl, ap, ◌∙◌, sym, subst, ⊤, ◌==◌, not, filter, slice_get, Option, None, Some, Pid, MsgId, MessageKind, manager, Label, OneKernel, Step}
 use Rattle.dm_rule.proofs.Names.{bind-is, Line, Stage, View, Told, Known, Unknown, Here, Frozen, Forward, is_kernels, own_id, view_after, after_label, after_head, after_put, after_proto, handled, taken_id, queued_for, held_for}
 use Rattle.dm_rule.proofs.Names.{forwarded_for, forward_about, served_told, kills, receiver_of, Addresses, Receiver, Sender, given, forwards, all_follow, own_gives, first_gives, addresses_after, ascends, Nowhere, Moves, IsIn, is_restart}
-use Rattle.dm_rule.proofs.Names.{is_early, Point, moved, after_line, times, Trails, Trail, StoodOnTrail, IsOn, AddressesOn, OwnOn, trails_after, PlainMessage, PlainWhat, gives, machine_in, seen, machine_of}
+use Rattle.dm_rule.proofs.Names.{is_early, Point, moved, after_line, times, Trails, Trail, StoodOnTrail, IsOn, AddressesOn, OwnOn, trails_after, PlainMessage, PlainWhat, gives, machine_in, seen, move_target}
 use Rattle.dm_onekernel.specs.Step as kernel
 use Rattle.dm_rule.specs.View as view
 use Rattle.dm_rule.proofs.Hushed.{hushed}
@@ -173,7 +173,7 @@ label_trail pt t (Label.Dropped id) q fits h = trail_same pt.view (after_label p
 label_trail pt t any_ q fits h = trail_same pt.view (after_label pt.view any_) t t q (λ m. refl) refl h
 
 -- where an asked process goes is no place of a process
-move_place : (w : PlainWhat) (p : Pid) (m c : ℕ) → machine_of w ≡ view.Place p m c → ⊥
+move_place : (w : PlainWhat) (p : Pid) (m c : ℕ) → move_target w ≡ view.Place p m c → ⊥
 move_place (PlainWhat.Move machine) p m c e = cc
 move_place _ p m c e = cc
 

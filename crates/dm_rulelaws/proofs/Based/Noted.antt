@@ -1,6 +1,6 @@
 -- What follows a request to move is here on no machine: each group keeps it. Only between two lines of a group it may be here.
 use Rattle.dm_rulelaws.proofs.Names.{forwards_on, gives_piece, updates, IsNet, Addresses, Receiver, plain_kind, own_id, length, manager, ◌≡◌, ℕ, ◌==◌, ◌&&◌, Bool, true, false, List, [], ◌∷◌, ◌++◌, refl, ap, ◌∙◌, sym, subst, ⊤, inl, inr}
-use Rattle.dm_rulelaws.proofs.Names.{if◌then◌else◌, cases_Bool, false≢true, is_some, Option, None, Some, Pid, pid_of, pid_eq, MsgId, MessageKind, Stage, Boot, Label, OneKernel, PlainMessage, PlainWhat, Note, Outcome, Load, with_sent}
+use Rattle.dm_rulelaws.proofs.Names.{if◌then◌else◌, cases_Bool, false≢true, is_some, Option, None, Some, Pid, pid_of, pid_eq, MsgId, MessageKind, Stage, Boot, Label, OneKernel, PlainMessage, PlainWhat, MoveNote, Outcome, Load, with_sent}
 use Rattle.dm_rulelaws.proofs.Names.{with_note, without_note, without_message, bind, bind-is, first_number, Step, Line, View, Told, Known, Here, Frozen, Incoming, front_of, gone_to, handled, receiver_of, oldest, view_after, after_label}
 use Rattle.dm_rulelaws.proofs.Names.{is_here, is_away, at_record, Point, label_of, kernel_after, after_line, after, moved, Part, Says, Routes, Again, Owns, Transmits, Spelled, lines_of, puts, goes_out, packet_line, behind, spelled}
 use Rattle.dm_rulelaws.proofs.Names.{group_of, group_is, sends_on, to_kernel, IsNetLine, queued_known, held_known, dropped_known, forwarded_known, proto_known, by_step, by_parts, by_outcome, by_round, ends_move-is, by_handles, by_hears}
@@ -22,13 +22,13 @@ Apart None p = ⊤
 Apart (Some q) p = pid_eq q p ≡ false
 
 pub record Away (o : Option Pid) (s : OneKernel) (v : View) : Type 0 where
-  pub away : (p : Pid) (n : Note) → s.notes p ≡ Some n → Apart o p → (m : ℕ) → is_here (v.known m p) ≡ false
+  pub away : (p : Pid) (n : MoveNote) → s.notes p ≡ Some n → Apart o p → (m : ℕ) → is_here (v.known m p) ≡ false
 
 abbrev At : Option Pid → Point → Type 0
 At o pt = Away o pt.kernel pt.view
 
 -- no new note, and no process comes here
-away_on : (o : Option Pid) (s t : OneKernel) (v w : View) → ((p : Pid) (n : Note) → t.notes p ≡ Some n → s.notes p ≡ Some n) → ((m : ℕ) (p : Pid) → is_here (w.known m p) ≡ true → is_here (v.known m p) ≡ true) → Away o s v → Away o t w
+away_on : (o : Option Pid) (s t : OneKernel) (v w : View) → ((p : Pid) (n : MoveNote) → t.notes p ≡ Some n → s.notes p ≡ Some n) → ((m : ℕ) (p : Pid) → is_here (w.known m p) ≡ true → is_here (v.known m p) ≡ true) → Away o s v → Away o t w
 away_on o s t v w notes known h = record {
   away = λ p n is apart m. elim (cases_Bool (is_here (w.known m p))) [
     | inl here ↦ absurd (false≢true (sym (h.away p n (notes p n is) apart m) ∙ known m p here))
@@ -45,7 +45,7 @@ IsCalm (Line.Stays p) = ⊥
 IsCalm l = ⊤
 
 abbrev Fewer : OneKernel → OneKernel → Type 0
-Fewer s t = (p : Pid) (n : Note) → t.notes p ≡ Some n → s.notes p ≡ Some n
+Fewer s t = (p : Pid) (n : MoveNote) → t.notes p ≡ Some n → s.notes p ≡ Some n
 
 abbrev NotesBy : OneKernel → Label → OneKernel → Type 0
 NotesBy s (Label.Asked i) t = ⊤
@@ -228,17 +228,17 @@ then_of pt l ps w e =
 asked_away : (pt : Point) (t : OneKernel) (id : MsgId) (m : PlainMessage) → pt.kernel.bag id ≡ Some m → kernel.step pt.kernel (Label.Asked id) ≡ Some t → At None pt → At (Some m.to) (moved pt (Line.Label (Label.Asked id)) t)
 asked_away pt t id m there is h = record { away = λ p n noted apart k. h.away p n (asked_notes pt.kernel t id m there is p n apart noted) tt k }
   where
-    follows_notes : (s t : OneKernel) (id : MsgId) (m : PlainMessage) (w : PlainWhat) (p : Pid) (n : Note) → pid_eq m.to p ≡ false → service.follows s id m w ≡ Some t → t.notes p ≡ Some n → s.notes p ≡ Some n
+    follows_notes : (s t : OneKernel) (id : MsgId) (m : PlainMessage) (w : PlainWhat) (p : Pid) (n : MoveNote) → pid_eq m.to p ≡ false → service.follows_request s id m w ≡ Some t → t.notes p ≡ Some n → s.notes p ≡ Some n
     follows_notes s t id m (PlainWhat.Move machine) p n apart is noted =
-        let z : Note = record { id = id; asker = m.sender } in
+        let z : MoveNote = record { id = id; asker = m.sender } in
         let k : with_note (without_message s id) m.to z ≡ t = cc in
         sym (ap (λ (c : Bool). if c then Some z else s.notes p) apart) ∙ ap (λ (u : OneKernel). u.notes p) k ∙ noted
     follows_notes s t id m _ p n apart is noted = cc
 
-    asked_notes : (s t : OneKernel) (id : MsgId) (m : PlainMessage) → s.bag id ≡ Some m → kernel.step s (Label.Asked id) ≡ Some t → (p : Pid) (n : Note) → pid_eq m.to p ≡ false → t.notes p ≡ Some n → s.notes p ≡ Some n
+    asked_notes : (s t : OneKernel) (id : MsgId) (m : PlainMessage) → s.bag id ≡ Some m → kernel.step s (Label.Asked id) ≡ Some t → (p : Pid) (n : MoveNote) → pid_eq m.to p ≡ false → t.notes p ≡ Some n → s.notes p ≡ Some n
     asked_notes s t id m there is p n apart noted =
-        let (k, found, rest) = bind-is (s.bag id) (λ (v : PlainMessage). bind (kernel.at_hand s v.to) (λ x. service.follows s id v v.what)) t is in
-        let (x, hand, last) = bind-is (kernel.at_hand s k.to) (λ x. service.follows s id k k.what) t rest in
+        let (k, found, rest) = bind-is (s.bag id) (λ (v : PlainMessage). bind (kernel.at_hand s v.to) (λ x. service.follows_request s id v v.what)) t is in
+        let (x, hand, last) = bind-is (kernel.at_hand s k.to) (λ x. service.follows_request s id k k.what) t rest in
         let same : m ≡ k = (let f : Some m ≡ Some k = sym there ∙ found in cc) in
         follows_notes s t id k k.what p n (ap (λ (v : PlainMessage). pid_eq v.to p) (sym same) ∙ apart) last noted
 
@@ -255,7 +255,7 @@ answered_away pt t id r p noted is h =
           h.away k z off.0 (ap (λ (x : Pid). pid_eq x k) (sym same) ∙ off.1) m);
     }
   where
-    left_off : (s : OneKernel) (q k : Pid) (z : Note) (c : Bool) → pid_eq q k ≡ c → (if c then None else s.notes k) ≡ Some z → (s.notes k ≡ Some z) × (pid_eq q k ≡ false)
+    left_off : (s : OneKernel) (q k : Pid) (z : MoveNote) (c : Bool) → pid_eq q k ≡ c → (if c then None else s.notes k) ≡ Some z → (s.notes k ≡ Some z) × (pid_eq q k ≡ false)
     left_off s q k z true e f = cc
     left_off s q k z false e f = (f, e)
 
@@ -291,7 +291,7 @@ comes_away pt t l p fewer known h = record {
 }
 
 -- and follows no request
-free_away : (pt : Point) (p : Pid) → ((n : Note) → pt.kernel.notes p ≡ Some n → ⊥) → At (Some p) pt → At None pt
+free_away : (pt : Point) (p : Pid) → ((n : MoveNote) → pt.kernel.notes p ≡ Some n → ⊥) → At (Some p) pt → At None pt
 free_away pt p free h = record {
   away = λ q n noted apart m. elim (cases_Bool (pid_eq p q)) [
     | inl same ↦ absurd (free n (ap pt.kernel.notes (pid_eq-is p q same) ∙ noted))
@@ -299,7 +299,7 @@ free_away pt p free h = record {
   ];
 }
 
-none_free : (o : Option Note) (n : Note) → o ≡ None → o ≡ Some n → ⊥
+none_free : (o : Option MoveNote) (n : MoveNote) → o ≡ None → o ≡ Some n → ⊥
 none_free o n e f = let g : None ≡ Some n = sym e ∙ f in cc
 
 -- groups
@@ -310,7 +310,7 @@ calm_keeps : (pt : Point) (ps : List Part) → AllCalm ps → Keeps pt ps
 calm_keeps pt ps calm w is h = parts_away None ps pt w calm is h
 
 -- a line by which a process comes here, and follows no request
-comes_keeps : (pt : Point) (l : Line) (p : Pid) (ps : List Part) → (view_after pt.view l).known ≡ at_record pt.view.known pt.view.acting p Here → ((t : OneKernel) → kernel_after pt.kernel (label_of l) ≡ Some t → Fewer pt.kernel t) → ((n : Note) → pt.kernel.notes p ≡ Some n → ⊥) → AllCalm ps → Keeps pt (Says l ∷ ps)
+comes_keeps : (pt : Point) (l : Line) (p : Pid) (ps : List Part) → (view_after pt.view l).known ≡ at_record pt.view.known pt.view.acting p Here → ((t : OneKernel) → kernel_after pt.kernel (label_of l) ≡ Some t → Fewer pt.kernel t) → ((n : MoveNote) → pt.kernel.notes p ≡ Some n → ⊥) → AllCalm ps → Keeps pt (Says l ∷ ps)
 comes_keeps pt l p ps known fewer free calm w is h =
     let g = then_of pt l ps w is in
     let mid = moved pt l g.kernel in
@@ -318,7 +318,7 @@ comes_keeps pt l p ps known fewer free calm w is h =
     subst (At None) g.point (parts_away None ps mid g.rest calm g.is on)
 
 -- or follows one, and its end is answered
-answers_keeps : (pt : Point) (l : Line) (p : Pid) (n : Note) (r : Outcome) → label_of l ≡ None → (view_after pt.view l).known ≡ at_record pt.view.known pt.view.acting p Here → pt.kernel.noted n.id ≡ Some p → Keeps pt (Says l ∷ answers_move n.id r)
+answers_keeps : (pt : Point) (l : Line) (p : Pid) (n : MoveNote) (r : Outcome) → label_of l ≡ None → (view_after pt.view l).known ≡ at_record pt.view.known pt.view.acting p Here → pt.kernel.noted n.id ≡ Some p → Keeps pt (Says l ∷ answers_move n.id r)
 answers_keeps pt l p n r none known noted w is h =
     let g = then_of pt l (answers_move n.id r) w is in
     let mid = moved pt l g.kernel in
@@ -468,5 +468,5 @@ noted_group b pt d w e phased known h =
     let g = group_is b pt d w e in
     subst (At None) g.point (outcome_keeps b pt d g.parts phased known g.is g.rest g.said (line_away None pt pt.kernel (Line.Head d) tt refl h))
 
-pub noted_start : (s : OneKernel) (v : View) → ((p : Pid) (n : Note) → s.notes p ≡ Some n → ⊥) → Away None s v
+pub noted_start : (s : OneKernel) (v : View) → ((p : Pid) (n : MoveNote) → s.notes p ≡ Some n → ⊥) → Away None s v
 noted_start s v none = record { away = λ p n noted apart m. absurd (none p n noted) }

@@ -1,7 +1,8 @@
 -- What fits goes on fitting as long as processes are only made, end, and keep their memory.
 use Rattle.dm_rulelaws.proofs.Names.{◌≡◌, ℕ, ◌+◌, ◌≤◌, ◌&&◌, ◌||◌, Bool, true, false, List, [], ◌∷◌, length, refl, ap, ◌∙◌, sym, subst, inl, inr, arith, if◌then◌else◌, Option, None, Some, cases_Bool, Pid, pid_eq, PlainLink, MsgId}
 use Rattle.dm_rulelaws.proofs.Names.{PlainMessage, PlainWhat, PlainProcess, PlainStatus, Life, Alive, Ended, NamedLink, Pending, OneKernel, with_process, with_sent, without_message, pid_eq-is, pid_eq-same, stayed, came, Each, Lives}
-use Rattle.dm_rulelaws.proofs.Names.{has_bytes, is_server, takes_users, gives_no_right, LinkFits, SlotFits, move_fits, ProcessFits, awaits, IsPending, WhatFits, KernelFits, is_for, NoteFits, PendingFits, Manager, Note, PendingKind, nat_lt}
+use Rattle.dm_rulelaws.proofs.Names.{has_bytes, is_server, takes_users, gives_no_right, LinkFits, SlotFits, move_fits, ProcessFits, awaits, IsPending, WhatFits, KernelFits, is_for, NoteFits, PendingFits, Manager, MoveNote, PendingKind}
+use Rattle.dm_rulelaws.proofs.Names.{nat_lt}
 use Rattle.dm_onekernel.specs.Manager as manage
 pub use Rattle.dm_rule.proofs.Homes.Servers.{and-both as both}
 pub use Rattle.dm_line.proofs.Below.{both_true as two}
@@ -50,7 +51,7 @@ of_child w = false
 pub pending_on : (s t : OneKernel) (kind : PendingKind) (i : MsgId) → t.manager ≡ s.manager → IsPending s kind i → IsPending t kind i
 pending_on s t kind i same h = record { from = h.from; pending = ap (λ (g : Manager). is_for kind (manage.pending_numbered i.n g.pending)) same ∙ h.pending }
 
-pub note_on : (s t : OneKernel) (n : Note) → t.manager ≡ s.manager → NoteFits s n → NoteFits t n
+pub note_on : (s t : OneKernel) (n : MoveNote) → t.manager ≡ s.manager → NoteFits s n → NoteFits t n
 note_on s t n same h = record { asker = h.asker; unanswered = h.unanswered; pending = pending_on s t PendingKind.Move n.id same h.pending }
 
 -- a message fits on where processes rise, whoever awaits it still does, and its request is still pending
@@ -85,13 +86,13 @@ pub record Carries (s t : OneKernel) : Type 0 where
   pub images : t.images ≡ s.images
   pub names : Each (λ (k : NamedLink). LinkFits s.processes k.link) t.switchboard.names
   pub answers : Each (PendingFits s.processes) t.manager.pending
-  pub notes : (p : Pid) (n : Note) → t.notes p ≡ Some n → s.notes p ≡ Some n
-  pub noted : (p : Pid) (n : Note) → t.notes p ≡ Some n → IsPending s PendingKind.Move n.id → IsPending t PendingKind.Move n.id
+  pub notes : (p : Pid) (n : MoveNote) → t.notes p ≡ Some n → s.notes p ≡ Some n
+  pub noted : (p : Pid) (n : MoveNote) → t.notes p ≡ Some n → IsPending s PendingKind.Move n.id → IsPending t PendingKind.Move n.id
   pub children : Each (λ (p : Pid). has_bytes 0 (s.processes p) ≡ true) t.manager.children
 
 pub carries : (s t : OneKernel) → Carries s t → KernelFits s → KernelFits t
 carries s t c h =
-    let notes : (p : Pid) (n : Note) → t.notes p ≡ Some n → NoteFits t n = λ p n is. let f = h.notes p n (c.notes p n is) in record { asker = f.asker; unanswered = f.unanswered; pending = c.noted p n is f.pending } in
+    let notes : (p : Pid) (n : MoveNote) → t.notes p ≡ Some n → NoteFits t n = λ p n is. let f = h.notes p n (c.notes p n is) in record { asker = f.asker; unanswered = f.unanswered; pending = c.noted p n is f.pending } in
     search (arith, process_on, c.rises, c.alive, what_on, c.waits, c.pending, c.machines, c.images, h.messages, c.bag, Each-on, link_on, pending_fits, notes)
 
 -- a message goes

@@ -1,7 +1,7 @@
 -- What the servers do keeps that all fits.
 use Rattle.dm_rulelaws.proofs.Names.{◌≡◌, ℕ, zero, suc, ◌+◌, ◌==◌, ◌&&◌, Bool, true, false, List, [], ◌∷◌, ◌++◌, length, refl, ap, ◌∙◌, sym, subst, nat_lt, arith, ⊤, if◌then◌else◌, slice_get, Option, None, Some, nat_tests, Pid, PlainLink}
 use Rattle.dm_rulelaws.proofs.Names.{MsgId, PlainMessage, PlainWhat, manager, NamedLink, Pending, Manager, OneKernel, with_sent, without_message, id_eq-same, stayed, out_at, Sound, Each, Lives, has_bytes, LinkFits, awaits, WhatFits}
-use Rattle.dm_rulelaws.proofs.Names.{KernelFits, id_of, IsPending, nat_le, SlotFits, is_for, kind_eq, PendingFits, ascends, numbered_from, pid_of, answer_id, Note, PendingKind, code_of_outcome, cases_Bool, in_bag, inl, inr}
+use Rattle.dm_rulelaws.proofs.Names.{KernelFits, id_of, IsPending, nat_le, SlotFits, is_for, kind_eq, PendingFits, ascends, numbered_from, pid_of, answer_id, MoveNote, PendingKind, code_of_outcome, cases_Bool, in_bag, inl, inr}
 use Rattle.dm_onekernel.specs.Switchboard as board
 use Rattle.dm_onekernel.specs.Manager as manage
 use Rattle.dm_onekernel.specs.Service as service
@@ -166,8 +166,8 @@ Any n = ⊤
 
 -- a request is sent, and waits for its answer
 asks_fits : (s : OneKernel) (kind : PendingKind) (to : Pid) (w : PlainWhat) (o : Option PlainLink) → InOrder s.manager → PendingFits s.processes (record { n = s.manager.sent; kind = kind; answer = o })
-    → (IsPending (record s { manager = (manage.asks s.manager kind to w o).manager }) kind (id_of manager s.manager.sent) → SendsFit (record s { manager = (manage.asks s.manager kind to w o).manager }) (manage.asks s.manager kind to w o).message) → KernelFits s
-    → ManagerFits s Any (manage.asks s.manager kind to w o)
+    → (IsPending (record s { manager = (manage.sends_request s.manager kind to w o).manager }) kind (id_of manager s.manager.sent) → SendsFit (record s { manager = (manage.sends_request s.manager kind to w o).manager }) (manage.sends_request s.manager kind to w o).message) → KernelFits s
+    → ManagerFits s Any (manage.sends_request s.manager kind to w o)
 asks_fits s kind to w o order answer f h =
     let r : Pending = record { n = s.manager.sent; kind = kind; answer = o } in
     record {
@@ -219,7 +219,7 @@ other_number : (r e : MsgId → ℕ) (s : OneKernel) (id i : MsgId) (m k : Plain
 other_number r e s id i m k there answer stands from h = search (arith, i.n, id.n, i.answer, same_name, out_at, id_eq-same, h.entered.fewer, s.bag, h.entered.answers, stayed)
 
 -- a request that a process follows has no answer yet
-noted_apart : (r e : MsgId → ℕ) (s : OneKernel) (id : MsgId) (m : PlainMessage) (p : Pid) (n : Note) → s.bag id ≡ Some m → id.answer ≡ true → s.notes p ≡ Some n → n.id.from ≡ id.from → Sound r e s → OtherThan id.n n.id.n
+noted_apart : (r e : MsgId → ℕ) (s : OneKernel) (id : MsgId) (m : PlainMessage) (p : Pid) (n : MoveNote) → s.bag id ≡ Some m → id.answer ≡ true → s.notes p ≡ Some n → n.id.from ≡ id.from → Sound r e s → OtherThan id.n n.id.n
 noted_apart r e s id m p n there answer is from h = elim (cases_Bool (n.id.n == id.n)) [
   | inr apart ↦ apart
   | inl same ↦
@@ -233,7 +233,7 @@ noted_apart r e s id m p n there answer is from h = elim (cases_Bool (n.id.n == 
 ]
 
 manager_on : (s : OneKernel) (id : MsgId) (T : ℕ → Type 0) (k : manage.ManagerTook) → ManagerFits s T k → ((i : MsgId) (x : PlainMessage) → (without_message s id).bag i ≡ Some x → i.from ≡ manager → T i.n)
-    → ((p : Pid) (n : Note) → s.notes p ≡ Some n → n.id.from ≡ manager → T n.id.n) → KernelFits s → KernelFits (service.manager_took s id k)
+    → ((p : Pid) (n : MoveNote) → s.notes p ≡ Some n → n.id.from ≡ manager → T n.id.n) → KernelFits s → KernelFits (service.manager_took s id k)
 manager_on s id T k b others noted fits =
     let v = without_message s id in
     let u = record v { manager = k.manager } in
@@ -267,7 +267,7 @@ manager_row r e s id m w k name there f is h order fits =
       ignores = any (record { manager = g; message = None }) (record { answers = fits.answers; children = fits.children; sends = tt; stays = λ kind n t e. e });
       refuses = λ l ls u. any (manage.answers_byte g l 2 []) (record { answers = fits.answers; children = fits.children; sends = (link_users ps l (links (l ∷ ls) u).0, tt); stays = λ kind n t e. e });
       asks = λ machine image l ls u within. (let c = links (l ∷ ls) u in any (manage.asks_for g machine image l ls) (asks_for_fits s machine image l ls within c.0 c.1 order fits));
-      moves = λ code child machine ls u of_ within. any (manage.asks g PendingKind.Move child (PlainWhat.Move machine) (manage.first_link ls))
+      moves = λ code child machine ls u of_ within. any (manage.sends_request g PendingKind.Move child (PlainWhat.Move machine) (manage.first_link ls))
           (asks_fits s PendingKind.Move child (PlainWhat.Move machine) (manage.first_link ls) order (first_fits ps g.sent ls (links ls u)) (λ pending. (child_made ps g.children code child of_ fits.children, within, refl, refl, pending)) fits);
       tells = λ code child v of_ control.
           (let made = child_made ps g.children code child of_ fits.children in

@@ -1,8 +1,8 @@
 -- What kernels do with messages keeps that all fits.
 use Rattle.dm_rulelaws.proofs.Names.{◌≡◌, ℕ, ◌+◌, ◌-◌, ◌≤◌, ◌==◌, ◌&&◌, Bool, true, false, List, length, take, drop, refl, ap, ◌∙◌, sym, subst, nat_le, arith, if◌then◌else◌, Option, None, Some, nat_tests, length-take, length-drop, Pid}
 use Rattle.dm_rulelaws.proofs.Names.{MsgId, id_of, Reply, PlainMessage, PlainWhat, Direction, PlainProcess, PlainStatus, Moving, Life, Alive, OneKernel, with_process, with_sent, answer_id, answer_to, without_message, is_of_memory, is_piece}
-use Rattle.dm_rulelaws.proofs.Names.{pending_of, One, stayed, Sound, Each, Lives, has_bytes, SlotFits, move_fits, ProcessFits, piece_fits, status_awaits, awaits, WhatFits, KernelFits, inl, inr, cases_Bool, pid_eq, IsPending, Note, NoteFits}
-use Rattle.dm_rulelaws.proofs.Names.{Outcome, PendingKind, note-is, with_note, without_note, Label, id_eq-same, bind, bind-is}
+use Rattle.dm_rulelaws.proofs.Names.{pending_of, One, stayed, Sound, Each, Lives, has_bytes, SlotFits, move_fits, ProcessFits, piece_fits, status_awaits, awaits, WhatFits, KernelFits, inl, inr, cases_Bool, pid_eq, IsPending, MoveNote}
+use Rattle.dm_rulelaws.proofs.Names.{NoteFits, Outcome, PendingKind, note-is, with_note, without_note, Label, id_eq-same, bind, bind-is}
 use Rattle.dm_onekernel.specs.Step as kernel
 use Rattle.dm_rulelaws.proofs.Fits.Creates.{pending_at}
 use Rattle.dm_onekernel.specs.Pieces as pieces
@@ -213,7 +213,7 @@ write_fits r e s id m x base bytes w f there is h fits =
     (changed_fits s id m x y is refl (goes_same s m.to x y (written_longer x.memory base bytes) refl refl is fits) fits)
 
 -- a process begins to follow a request to move
-noted_fits : (s : OneKernel) (p : Pid) (n : Note) → NoteFits s n → KernelFits s → KernelFits (with_note s p n)
+noted_fits : (s : OneKernel) (p : Pid) (n : MoveNote) → NoteFits s n → KernelFits s → KernelFits (with_note s p n)
 noted_fits s p n new h =
     let t = with_note s p n in
     record {
@@ -238,17 +238,17 @@ asked_fits s id m machine f fits =
     noted_fits u m.to (record { id = id; asker = m.sender }) (record { asker = sender; unanswered = request; pending = pending_on s u PendingKind.Move id refl pending }) (out_fits s id fits)
 
 -- behind it the process follows the request
-follows_noted : (s t : OneKernel) (id : MsgId) (m : PlainMessage) (w : PlainWhat) → service.follows s id m w ≡ Some t → t.noted id ≡ Some m.to
+follows_noted : (s t : OneKernel) (id : MsgId) (m : PlainMessage) (w : PlainWhat) → service.follows_request s id m w ≡ Some t → t.noted id ≡ Some m.to
 follows_noted s t id m (PlainWhat.Move machine) is =
-    let n : Note = record { id = id; asker = m.sender } in
+    let n : MoveNote = record { id = id; asker = m.sender } in
     let k : with_note (without_message s id) m.to n ≡ t = cc in
     ap (λ (u : OneKernel). u.noted id) (sym k) ∙ ap (λ (c : Bool). if c then Some m.to else s.noted id) (id_eq-same id)
 follows_noted s t id m _ is = cc
 
 pub asked_noted : (s t : OneKernel) (id : MsgId) (m : PlainMessage) → kernel.step s (Label.Asked id) ≡ Some t → s.bag id ≡ Some m → t.noted id ≡ Some m.to
 asked_noted s t id m is there =
-    let (k, found, rest) = bind-is (s.bag id) (λ (v : PlainMessage). bind (kernel.at_hand s v.to) (λ p. service.follows s id v v.what)) t is in
-    let (x, hand, last) = bind-is (kernel.at_hand s k.to) (λ p. service.follows s id k k.what) t rest in
+    let (k, found, rest) = bind-is (s.bag id) (λ (v : PlainMessage). bind (kernel.at_hand s v.to) (λ p. service.follows_request s id v v.what)) t is in
+    let (x, hand, last) = bind-is (kernel.at_hand s k.to) (λ p. service.follows_request s id k k.what) t rest in
     let same : k ≡ m = (let f : Some k ≡ Some m = sym found ∙ there in cc) in
     follows_noted s t id k k.what last ∙ ap (λ (v : PlainMessage). Some v.to) same
 
@@ -258,11 +258,11 @@ unnoted_fits s p id h =
     let t = without_note s p id in
     carries s t (search (arith, h.processes, h.names, h.answers, h.children, pending_on, unnoted)) h
   where
-    unnoted : (q : Pid) (n : Note) (c : Bool) → (if c then None else s.notes q) ≡ Some n → s.notes q ≡ Some n
+    unnoted : (q : Pid) (n : MoveNote) (c : Bool) → (if c then None else s.notes q) ≡ Some n → s.notes q ≡ Some n
     unnoted q n true e = cc
     unnoted q n false e = e
 
-pub move_ended_fits : (r e : MsgId → ℕ) (s : OneKernel) (id : MsgId) (p : Pid) (n : Note) (o : Outcome) → s.noted id ≡ Some p → s.notes p ≡ Some n → Sound r e s → KernelFits s → KernelFits (service.move_ended s id p n o)
+pub move_ended_fits : (r e : MsgId → ℕ) (s : OneKernel) (id : MsgId) (p : Pid) (n : MoveNote) (o : Outcome) → s.noted id ≡ Some p → s.notes p ≡ Some n → Sound r e s → KernelFits s → KernelFits (service.move_ended s id p n o)
 move_ended_fits r e s id p n o noted notes h fits =
     let f = fits.notes p n notes in
     let u = without_note s p id in

@@ -3,7 +3,7 @@ use Rattle.dm_rulelaws.proofs.Names.{◌≡◌, ℕ, zero, suc, ◌+◌, ◌*◌
 use Rattle.dm_rulelaws.proofs.Names.{if◌then◌else◌, slice_get, option_map, Option, None, Some, cases_Bool, false≢true, nat_tests, length-append, length-replicate, Link, Pid, pid_eq, plain_link, MsgId, BootImage, BootProcess, Boot, Label}
 use Rattle.dm_rulelaws.proofs.Names.{IsValid, switchboard, manager, starting_at, processes_are_valid, process_is_valid, links_are_valid, link_is_valid, leads_to_process, leads_to_server, controls_child, process_named, memory_size}
 use Rattle.dm_rulelaws.proofs.Names.{area_is_empty, blocks_of_image, PlainProcess, Life, Alive, OneKernel, start, begun, memory_of, first_life, life_at, pid_eq-same, Sound, Each, has_bytes, gives_no_right, LinkFits, ProcessFits, KernelFits}
-use Rattle.dm_rulelaws.proofs.Names.{by_step, Changes, PlainMessage, PlainWhat, Why, Called, with_sent, without_message, answer_to, pid_of, first_number, pid_eq-is, WhatFits, Note, NoteFits}
+use Rattle.dm_rulelaws.proofs.Names.{by_step, Changes, PlainMessage, PlainWhat, Why, Called, with_sent, without_message, answer_to, pid_of, first_number, pid_eq-is, WhatFits, MoveNote, NoteFits}
 use Rattle.dm_onekernel.specs.Step as kernel
 use Rattle.dm_rulelaws.proofs.Fits.Rises.{both, Each-on, out_fits, put_fits, end_fits}
 use Rattle.dm_rulelaws.proofs.Fits.Creates.{begun_fits, created_fits, no_space_fits}
@@ -161,5 +161,5 @@ map_each P f (x ∷ xs) h = (h.0, map_each P f xs h.1)
 
 pub start_fits : (b : Boot) → IsValid b → KernelFits (start b)
 start_fits b valid =
-    let none : (p : Pid) (n : Note) → (start b).notes p ≡ Some n → NoteFits (start b) n = λ p n e. absurd (let f : None ≡ Some n = e in cc) in
+    let none : (p : Pid) (n : MoveNote) → (start b).notes p ≡ Some n → NoteFits (start b) n = λ p n e. absurd (let f : None ≡ Some n = e in cc) in
     search (arith, processes_are, b.processes, valid.processes, lives_fit, map_each, children_made, none)

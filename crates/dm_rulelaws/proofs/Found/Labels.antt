@@ -7,7 +7,7 @@ use Rattle.dm_rulelaws.proofs.Names.{with_sent, answer_to, without_message, is_k
 use Rattle.dm_rulelaws.proofs.Names.{serves_what, board_gets, manager_gets, not_true, nat_tests, unentered, Sound, id_in, landed_id, served_id, board_id, manager_id, took_id, bag_sends, bag_served, bag_gone, bag_no_space, bag_created}
 use Rattle.dm_rulelaws.proofs.Names.{bag_took, spares, spares_both, two_more, made_spares, sends_spares, receives_spares, creates_what_spares, finds_spares, keeps_spares, manager_takes_spares, WhatFits, KernelFits, topic_by, machine_in}
 use Rattle.dm_rulelaws.proofs.Names.{bag_answered}
-use Rattle.dm_rule.specs.Point.{machine_of}
+use Rattle.dm_rule.specs.Point.{move_target}
 use Rattle.dm_onekernel.specs.Step as kernel
 use Rattle.dm_rule.specs.View as view
 use Rattle.dm_rule.specs.View.{Ended}
@@ -71,11 +71,11 @@ took_spares r e s t v a id m i there is fresh h least =
     (λ j f. apart_from e i j least (fresh j f)) is
 
 -- requests to move
-follows_spares : (a : Addresses) (id : MsgId) (o : Option PlainMessage) (i : MsgId) → spares i (request.follows a id o) ≡ true
+follows_spares : (a : Addresses) (id : MsgId) (o : Option PlainMessage) (i : MsgId) → spares i (request.given_to_follow a id o) ≡ true
 follows_spares a id None i = refl
 follows_spares a id (Some m) i = refl
 
-ended_spares : (v : View) (a : Addresses) (id : MsgId) (o : Option Pid) (i : MsgId) → id_eq (answer_id id) i ≡ false → spares i (request.ends_move v a id o) ≡ true
+ended_spares : (v : View) (a : Addresses) (id : MsgId) (o : Option Pid) (i : MsgId) → id_eq (answer_id id) i ≡ false → spares i (request.given_at_end v a id o) ≡ true
 ended_spares v a id None i e = refl
 ended_spares v a id (Some p) i e = two_more i (answer_id id) [] e refl
 
@@ -253,7 +253,7 @@ label_home : (n : ℕ) (pt : Point) (s : OneKernel) (l : Label) → NeedsLabel p
 label_home n pt s l h1 h2 h3 h4 q h5 = search (arith, created_made, pt.kernel, q.home, pt.view, pt.view.acting, received_at, created_for, at_record_at, pt.view.known, other_home, step_made)
 
 -- where a process goes that is asked to move
-moves_within : (n : ℕ) (s : OneKernel) (v : View) (i : MsgId) (m : PlainMessage) (x : PlainWhat) → s.machines ≡ n → WhatFits s i m x → AboutIs n v (machine_of x)
+moves_within : (n : ℕ) (s : OneKernel) (v : View) (i : MsgId) (m : PlainMessage) (x : PlainWhat) → s.machines ≡ n → WhatFits s i m x → AboutIs n v (move_target x)
 moves_within n s v i m (PlainWhat.Move to) same e =
     let k : nat_lt to s.machines ≡ true = e.1 in
     let f : to < s.machines = grind (arith, nat_tests) in

@@ -2,7 +2,7 @@
 use Rattle.dm_rulelaws.proofs.Names.{◌≡◌, ◌⊎◌, ℕ, zero, suc, ◌<◌, ◌≤◌, ◌==◌, ◌||◌, Bool, true, false, is_some, nat_le, nat_lt, List, [], ◌∷◌, refl, ap, ◌∙◌, sym, subst, inl, inr, arith, if◌then◌else◌, slice_get, Option, None, Some}
 use Rattle.dm_rulelaws.proofs.Names.{nat_tests, Pid, pid_eq, PlainLink, link_at, MsgId, PlainMessage, PlainWhat, switchboard, manager, PlainProcess, PlainStatus, Life, NamedLink, Pending, OneKernel, Made, alive-is, View, Holder, Slot}
 use Rattle.dm_rulelaws.proofs.Names.{Owner, Receiver, Sender, Enclosed, Child, Name, Answer, link_target, slot_of, owner_in, owner_of, name_link, answer_link, links_in, to_of, sender_of, enclosed_of, names, Point, Each, has_bytes}
-use Rattle.dm_rulelaws.proofs.Names.{is_server, LinkFits, move_fits, WhatFits, awaits, is_fixed, or_first, SlotFits, PendingFits, Note, AskedBy, asker_in}
+use Rattle.dm_rulelaws.proofs.Names.{is_server, LinkFits, move_fits, WhatFits, awaits, is_fixed, or_first, SlotFits, PendingFits, MoveNote, AskedBy, asker_in}
 use Rattle.dm_onekernel.specs.Manager as manage
 use Rattle.dm_onekernel.specs.Step as kernel
 use Rattle.dm_rulelaws.proofs.Fits.Rises.{both}
@@ -115,7 +115,7 @@ answer_real pt n k q (Some r) h some is e =
     let fits : SlotFits pt.kernel.processes (Some l) = subst (SlotFits pt.kernel.processes) at (each_pending (PendingFits pt.kernel.processes) pt.kernel.manager.pending k r h.fits.answers is).answer in
     subst (IsReal n pt.view) to (link_real pt n l h some fits)
 
-asker_real : (pt : Point) (n : ℕ) (p q : Pid) (o : Option Note) → LineCore n pt → 0 < n → pt.kernel.notes p ≡ o → asker_in o ≡ Some q → IsReal n pt.view q
+asker_real : (pt : Point) (n : ℕ) (p q : Pid) (o : Option MoveNote) → LineCore n pt → 0 < n → pt.kernel.notes p ≡ o → asker_in o ≡ Some q → IsReal n pt.view q
 asker_real pt n p q None h some is e = cc
 asker_real pt n p q (Some z) h some is e =
     let f : z.asker ≡ q = cc in

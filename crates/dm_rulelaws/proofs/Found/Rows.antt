@@ -2,9 +2,9 @@
 use Rattle.dm_rulelaws.proofs.Names.{◌≡◌, ℕ, ◌+◌, List, [], ◌∷◌, ap, ◌∙◌, subst, Option, None, Some, Pid, pid_of, MsgId, plain_kind, Label, PlainMessage, Boot, first_number, PlainProcess, Line, Forward, Point, moved, Part, Says, Routes}
 use Rattle.dm_rulelaws.proofs.Names.{forwards_on, Stops, by_round, by_handles, ◌/◌, ◌<◌, ◌==◌, Bool, true, false, ◌++◌, length, refl, ◌||◌, if◌then◌else◌, pid_eq, MessageKind, Stage, switchboard, manager, bind, Told, About, Of, Known}
 use Rattle.dm_rulelaws.proofs.Names.{Unknown, Here, target_of, front_of, to_kernel, accepts, takes_chunk, takes_block, leaves, chunks_of, pieces_of, kernel_told, here_told, ended_told, process_told, server_told, is_between, is_fixed}
-use Rattle.dm_rulelaws.proofs.Names.{own_gives, own_id, goes_between, is_own, PlainWhat, Outcome, Note, OneKernel, machine_in, Target, answers_move, leaves_for, aim, label_of, kernel_after, at_record, at_record_at, tells_asker, sym, inr}
-use Rattle.dm_rulelaws.proofs.Names.{View}
-use Rattle.dm_rule.specs.Point.{machine_of}
+use Rattle.dm_rulelaws.proofs.Names.{own_gives, own_id, goes_between, is_own, PlainWhat, Outcome, MoveNote, OneKernel, machine_in, Target, answers_move, leaves_for, aim, label_of, kernel_after, at_record, at_record_at, tells_asker, sym}
+use Rattle.dm_rulelaws.proofs.Names.{inr, View}
+use Rattle.dm_rule.specs.Point.{move_target}
 use Rattle.dm_rulelaws.proofs.Fits.Serves.{asked_noted}
 use Rattle.dm_rulelaws.proofs.Found.Lines.{NeedsLine}
 use Rattle.dm_onekernel.specs.Pieces as pieces
@@ -74,7 +74,7 @@ asks_need n pt id k to there what le free = (
       let l = Line.Label (Label.Asked id) in
       let g = said_by pt next l (record { lines = ls; are = lines; leads = leads }) in
       let mid = moved pt l g.kernel in
-      let topic : machine_in (pt.kernel.bag id) ≡ Target to = ap machine_in there ∙ ap machine_of what in
+      let topic : machine_in (pt.kernel.bag id) ≡ Target to = ap machine_in there ∙ ap move_target what in
       let aims : aim mid.view (machine_in (pt.kernel.bag id)) < n = subst (λ (a : About). aim mid.view a < n) (sym topic) le in
       subst (λ (z : Point). AllNeed n z (leaves_for k.to to)) g.is
       (first_need n mid (Says (Line.Migration Stage.Frozen k.to)) (Says (Line.Migration Stage.Asked k.to) ∷ to_kernel MessageKind.Ask to ∷ []) (aims, free) (λ q. tt, to_one n MessageKind.Ask to (λ q. refl) (λ e. cc) refl le)),
@@ -120,11 +120,11 @@ block_need n pt id p false le = first_need n pt (Says (Line.Proto id)) (to_kerne
 -- where one between kernels is heard
 abbrev pub Heard : ℕ → Point → Point → ℕ → MsgId → Pid → MessageKind → Type 0
 Heard n pt o m id p k =
-    (id.from.home < n) × ((front_of (pt.view.inbox pt.view.acting) < n) × (is_fixed p ≡ false)) × ((z : Note) → o.kernel.notes p ≡ Some z → pt.kernel.noted z.id ≡ Some p) × (k ≡ MessageKind.AllTaken → NeedOf n pt (leaves id p (o.view.queue m p ++ o.view.held m p) (o.view.known m p)))
+    (id.from.home < n) × ((front_of (pt.view.inbox pt.view.acting) < n) × (is_fixed p ≡ false)) × ((z : MoveNote) → o.kernel.notes p ≡ Some z → pt.kernel.noted z.id ≡ Some p) × (k ≡ MessageKind.AllTaken → NeedOf n pt (leaves id p (o.view.queue m p ++ o.view.held m p) (o.view.known m p)))
 
 -- and told to who asked for it
-asker_need : (n : ℕ) (pt : Point) (l : Line) (o : Option Note) (r : Outcome) → NeedsLine n pt l
-    → ((z : Note) → o ≡ Some z → (s : OneKernel) → kernel_after pt.kernel (label_of l) ≡ Some s → (q : Pid) → s.noted z.id ≡ Some q → KnowsAt (moved pt l s).view q (moved pt l s).view.acting) → AllNeed n pt (Says l ∷ tells_asker o r)
+asker_need : (n : ℕ) (pt : Point) (l : Line) (o : Option MoveNote) (r : Outcome) → NeedsLine n pt l
+    → ((z : MoveNote) → o ≡ Some z → (s : OneKernel) → kernel_after pt.kernel (label_of l) ≡ Some s → (q : Pid) → s.noted z.id ≡ Some q → KnowsAt (moved pt l s).view q (moved pt l s).view.acting) → AllNeed n pt (Says l ∷ tells_asker o r)
 asker_need n pt l None r need knows = first_need n pt (Says l) [] need tt
 asker_need n pt l (Some z) r need knows = answers_need n pt l z.id r need (knows z refl)
 
@@ -134,7 +134,7 @@ comes_here v w p q known acting free same =
     let here : w.known w.acting p ≡ Here = ap (λ (m : ℕ). w.known m p) acting ∙ ap (λ (f : ℕ → Pid → Known). f v.acting p) known ∙ at_record_at v.known v.acting p Here in
     subst (λ (x : Pid). KnowsAt w x w.acting) same (inr (free, λ e. (let f : Here ≡ Unknown = sym here ∙ e in cc)))
 
-noted_same : (s t : OneKernel) (z : Note) (p q : Pid) → Some s ≡ Some t → s.noted z.id ≡ Some p → t.noted z.id ≡ Some q → p ≡ q
+noted_same : (s t : OneKernel) (z : MoveNote) (p q : Pid) → Some s ≡ Some t → s.noted z.id ≡ Some p → t.noted z.id ≡ Some q → p ≡ q
 noted_same s t z p q e f g =
     let same : s ≡ t = cc in
     let k : Some p ≡ Some q = sym f ∙ ap (λ (u : OneKernel). u.noted z.id) same ∙ g in

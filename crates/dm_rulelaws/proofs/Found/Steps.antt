@@ -1,5 +1,5 @@
 -- What a step of the kernel without machines leaves: how many machines there are, and who sends.
-use Rattle.dm_rulelaws.proofs.Names.{◌≡◌, ◌⊎◌, ℕ, ◌<◌, true, ◌∙◌, sym, subst, inl, inr, arith, is_some, ⊤, Some, nat_tests, Pid, MsgId, PlainMessage, Label, OneKernel, is_fixed, by_step, Note}
+use Rattle.dm_rulelaws.proofs.Names.{◌≡◌, ◌⊎◌, ℕ, ◌<◌, true, ◌∙◌, sym, subst, inl, inr, arith, is_some, ⊤, Some, nat_tests, Pid, MsgId, PlainMessage, Label, OneKernel, is_fixed, by_step, MoveNote}
 use Rattle.dm_onekernel.specs.Service as service
 use Rattle.dm_onekernel.specs.Step as kernel
 use Rattle.dm_rulelaws.proofs.Own.Senders.{Origin, brings}
@@ -55,7 +55,7 @@ origin_sends n s x same some h = elim h [
   ]
 ]
 
-pub step_leaves : (n : ℕ) (s t : OneKernel) (l : Label) → s.machines ≡ n → 0 < n → ((p : Pid) (k : Note) → s.notes p ≡ Some k → is_some (s.processes p) ≡ true) → kernel.step s l ≡ Some t → Leaves n s t
+pub step_leaves : (n : ℕ) (s t : OneKernel) (l : Label) → s.machines ≡ n → 0 < n → ((p : Pid) (k : MoveNote) → s.notes p ≡ Some k → is_some (s.processes p) ≡ true) → kernel.step s l ≡ Some t → Leaves n s t
 step_leaves n s t l same some lives is = record {
   machines = (step_constant s t l is).machines;
   senders = λ j x e. elim (brings s t l lives is j x e) [

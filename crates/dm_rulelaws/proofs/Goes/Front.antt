@@ -1,7 +1,7 @@
 -- The message at the front of the inbox: what it is for whom.
 use Rattle.dm_rulelaws.proofs.Names.{◌≡◌, ℕ, ◌≤◌, ◌==◌, ◌||◌, Bool, true, false, List, [], ◌∷◌, refl, ap, ◌∙◌, sym, subst, is_some, arith, Option, None, Some, Pid, pid_eq, MsgId, id_eq, plain_kind, Step, Line, PlainMessage, PlainWhat, Boot}
 use Rattle.dm_rulelaws.proofs.Names.{switchboard, manager, Life, OneKernel, with_sent, answer_id, answer_to, Made, id_eq-same, pid_eq-same, sent_at, Point, moved, Inbox, times, standing, View, Told, Sane, has_bytes, is_server, awaits}
-use Rattle.dm_rulelaws.proofs.Names.{WhatFits, is_fixed, are_home, Part, is_still, is_here, bind, Label, Note, Outcome, without_note, false≢true, Routes, answers_move}
+use Rattle.dm_rulelaws.proofs.Names.{WhatFits, is_fixed, are_home, Part, is_still, is_here, bind, Label, MoveNote, Outcome, without_note, false≢true, Routes, answers_move}
 use Rattle.dm_onekernel.specs.Service as service
 use Rattle.dm_onekernel.specs.Step as kernel
 use Rattle.dm_rulelaws.proofs.Goes.Parts.{does_label}
@@ -133,13 +133,13 @@ sent_there u None x e = cc
 sent_there u (Some y) x e = let f : y ≡ x = cc in subst (λ (z : PlainMessage). (with_sent u (Some y)).bag z.id ≡ Some z) f (sent_at u y y.id (id_eq-same y.id))
 
 -- the end of a move is answered
-pub does_answers : (C : Type 0) (pt : Point) (i : MsgId) (p : Pid) (n : Note) (r : Outcome) → pt.kernel.noted i ≡ Some p → pt.kernel.notes p ≡ Some n → service.ends_move pt.kernel i p n r ≡ Some (service.move_ended pt.kernel i p n r) → Does C pt (answers_move i r)
+pub does_answers : (C : Type 0) (pt : Point) (i : MsgId) (p : Pid) (n : MoveNote) (r : Outcome) → pt.kernel.noted i ≡ Some p → pt.kernel.notes p ≡ Some n → service.ends_move pt.kernel i p n r ≡ Some (service.move_ended pt.kernel i p n r) → Does C pt (answers_move i r)
 does_answers C pt i p n r noted notes ends =
     let s = pt.kernel in
     let k : PlainMessage = record { id = answer_id i; to = n.asker; sender = p; what = PlainWhat.Moved r } in
     let t = service.move_ended s i p n r in
     let step : kernel.step s (Label.Answered i r) ≡ Some t =
-    ap (λ (o : Option Pid). bind o (λ (q : Pid). bind (s.notes q) (λ (z : Note). service.ends_move s i q z r))) noted ∙ ap (λ (o : Option Note). bind o (λ (z : Note). service.ends_move s i p z r)) notes ∙ ends in
+    ap (λ (o : Option Pid). bind o (λ (q : Pid). bind (s.notes q) (λ (z : MoveNote). service.ends_move s i q z r))) noted ∙ ap (λ (o : Option MoveNote). bind o (λ (z : MoveNote). service.ends_move s i p z r)) notes ∙ ends in
     does_label C pt (Label.Answered i r) t (Routes (answer_id i) ∷ []) step
     (does_route C (moved pt (Line.Label (Label.Answered i r)) t) (answer_id i) k (sent_at (without_note s p i) k (answer_id i) (id_eq-same (answer_id i))) (λ c sane user. absurd (false≢true user)))
 
@@ -147,6 +147,6 @@ does_answers C pt i p n r noted notes ends =
 pub here_free : (s : OneKernel) (v : View) (m : ℕ) (p : Pid) → Away None s v → v.known m p ≡ view.Here → s.notes p ≡ None
 here_free s v m p h here = free (s.notes p) refl
   where
-    free : (o : Option Note) → s.notes p ≡ o → o ≡ None
+    free : (o : Option MoveNote) → s.notes p ≡ o → o ≡ None
     free None e = refl
     free (Some n) e = absurd (false≢true (sym (h.away p n e tt m) ∙ ap is_here here))

@@ -3,7 +3,7 @@ use Rattle.dm_rulelaws.proofs.Names.{◌≡◌, ◌≢◌, ℕ, ◌/◌, ◌≤�
 use Rattle.dm_rulelaws.proofs.Names.{pid_eq, MsgId, MessageKind, Line, Stage, Boot, switchboard, manager, bind, PlainProcess, Life, Alive, View, Told, Of, Known, Unknown, Here, Frozen, Forward, is_kernels, target_of, to_kernel, forwards_on}
 use Rattle.dm_rulelaws.proofs.Names.{moves_to, accepts, takes_chunk, takes_block, gives_piece, kernel_told, chunks_of, pieces_of, updates, here_told, ended_told, process_told, server_told, sends_on, fits, free_room, kernel_hears, hears}
 use Rattle.dm_rulelaws.proofs.Names.{is_between, is_restart, kind_comes, knows, is_away, Moves, sender_in, receiver_in, told_between, IsIn, Point, Part, Says, Spot, Queue, Held, Inbox, times, standing, token_is, token_at, is_server}
-use Rattle.dm_rulelaws.proofs.Names.{is_fixed, agrees, first_of, eq_self, inbox_is, about_same, kind_leaves, Label, Note, Outcome, label_of, with_label, is_put, moved, answers_move, tells_asker}
+use Rattle.dm_rulelaws.proofs.Names.{is_fixed, agrees, first_of, eq_self, inbox_is, about_same, kind_leaves, Label, MoveNote, Outcome, label_of, with_label, is_put, moved, answers_move, tells_asker}
 use Rattle.dm_onekernel.specs.Service as service
 use Rattle.dm_onekernel.specs.Step as kernel
 use Rattle.dm_rule.specs.Migrating as migrating
@@ -128,8 +128,8 @@ can_leave C never m o i p (Frozen to) d e told =
 can_leave C never m o i p _ d e told = absurd (false≢true e)
 
 -- whoever asked for the move is told
-can_asker : (C : Type 0) (never : C → ⊥) (b : Boot) (m : ℕ) (o : Point) (l : Line) (p : Pid) (q : Option Note) (r : Outcome) → o.kernel.notes p ≡ q → label_of l ≡ None → is_put l ≡ false
-    → ((n : Note) → service.ends_move o.kernel n.id p n r ≡ Some (service.move_ended o.kernel n.id p n r)) → Run b o → Can C m (begun o m) (Some (Says l ∷ tells_asker q r))
+can_asker : (C : Type 0) (never : C → ⊥) (b : Boot) (m : ℕ) (o : Point) (l : Line) (p : Pid) (q : Option MoveNote) (r : Outcome) → o.kernel.notes p ≡ q → label_of l ≡ None → is_put l ≡ false
+    → ((n : MoveNote) → service.ends_move o.kernel n.id p n r ≡ Some (service.move_ended o.kernel n.id p n r)) → Run b o → Can C m (begun o m) (Some (Says l ∷ tells_asker q r))
 can_asker C never b m o l p None r notes none quiet ends run = can_plain C m (begun o m) (Says l ∷ []) never (none, tt) (NoOwns (tt, tt))
 can_asker C never b m o l p (Some n) r notes none quiet ends run =
     let pt = begun o m in

@@ -2,7 +2,7 @@
 use Rattle.dm_rulelaws.proofs.Names.{◌≡◌, ◌≢◌, ℕ, ◌+◌, ◌≤◌, ◌==◌, ◌&&◌, ◌||◌, Bool, true, false, ◌∷◌, length, refl, ap, ◌∙◌, sym, subst, is_some, nat_le, arith, if◌then◌else◌, take, drop, Option, None, Some, false≢true, Pid, pid_eq, MsgId}
 use Rattle.dm_rulelaws.proofs.Names.{MessageKind, Label, Reply, Line, id_eq, plain_kind, PlainMessage, PlainWhat, Direction, Boot, Why, switchboard, manager, bind, PlainProcess, PlainStatus, Moving, Life, Alive, Ended, OneKernel}
 use Rattle.dm_rulelaws.proofs.Names.{with_process, with_sent, answer_id, answer_to, without_message, is_dropped, is_of_memory, id_eq-is, out_off, LandsSo, lands-is, Addresses, Sender, is_told_back, forwards_on, Point, moved, Says, Routes}
-use Rattle.dm_rulelaws.proofs.Names.{Owns, times, View, Known, has_bytes, is_server, awaits, status_awaits, move_fits, piece_fits, WhatFits, is_fixed, agrees, is_still, handled, Note, Outcome, with_note, id_eq-same, pid_eq-same}
+use Rattle.dm_rulelaws.proofs.Names.{Owns, times, View, Known, has_bytes, is_server, awaits, status_awaits, move_fits, piece_fits, WhatFits, is_fixed, agrees, is_still, handled, MoveNote, Outcome, with_note, id_eq-same, pid_eq-same}
 use Rattle.dm_rulelaws.proofs.Names.{answers_move, leaves_for, []}
 use Rattle.dm_onekernel.specs.Pieces as pieces
 use Rattle.dm_onekernel.specs.Service as service
@@ -110,14 +110,14 @@ queued_order b m o i x f home k q =
 asked_is : (s : OneKernel) (i : MsgId) (x : PlainMessage) (y : PlainProcess) (to : ℕ) → s.bag i ≡ Some x → s.processes x.to ≡ Some (Alive y) → s.notes x.to ≡ None → x.what ≡ PlainWhat.Move to
     → kernel.step s (Label.Asked i) ≡ Some (with_note (without_message s i) x.to (record { id = i; asker = x.sender }))
 asked_is s i x y to there alive free is =
-    ap (λ (o : Option PlainMessage). bind o (λ (v : PlainMessage). bind (kernel.at_hand s v.to) (λ p. service.follows s i v v.what))) there
-    ∙ ap (λ (o : Option PlainProcess). bind o (λ p. service.follows s i x x.what)) (at_hand_of s x.to y free alive) ∙ ap (service.follows s i x) is
+    ap (λ (o : Option PlainMessage). bind o (λ (v : PlainMessage). bind (kernel.at_hand s v.to) (λ p. service.follows_request s i v v.what))) there
+    ∙ ap (λ (o : Option PlainProcess). bind o (λ p. service.follows_request s i x x.what)) (at_hand_of s x.to y free alive) ∙ ap (service.follows_request s i x) is
 
 can_move : (b : Boot) (m : ℕ) (o : Point) (i : MsgId) (x : PlainMessage) (y : PlainProcess) (to : ℕ) (c : Bool) → x.what ≡ PlainWhat.Move to → o.kernel.processes x.to ≡ Some (Alive y) → o.kernel.notes x.to ≡ None → Front b m o i x
     → CanTurn m o (Some (rule.says (Label.Asked i) ∷ (if c then answers_move i Outcome.Done else leaves_for x.to to)))
 can_move b m o i x y to true is alive free f =
     let s = o.kernel in
-    let n : Note = record { id = i; asker = x.sender } in
+    let n : MoveNote = record { id = i; asker = x.sender } in
     let t = with_note (without_message s i) x.to n in
     let mid = moved (begun o m) (Line.Label (Label.Asked i)) t in
     record {

@@ -1,7 +1,7 @@
 -- No kernel sends what is told back when it is forwarded.
 use Rattle.dm_rulelaws.proofs.Names.{◌≡◌, ◌⊎◌, ℕ, ◌==◌, true, false, List, [], ◌∷◌, refl, ap, ◌∙◌, sym, subst, is_some, arith, length, inl, inr, ⊤, take, drop, Option, None, Some, false≢true, nat_tests, Pid, PlainLink, MsgId, plain_kind}
 use Rattle.dm_rulelaws.proofs.Names.{PlainMessage, PlainWhat, Label, switchboard, manager, Switchboard, Manager, OneKernel, with_sent, answer_to, without_message, Made, came, stayed, lands-is, Sound, is_told_back, by_step, is_server}
-use Rattle.dm_rulelaws.proofs.Names.{code_of_outcome, answer_id, without_note, ◌++◌, Pending, Note, ◌+◌}
+use Rattle.dm_rulelaws.proofs.Names.{code_of_outcome, answer_id, without_note, ◌++◌, Pending, MoveNote, ◌+◌}
 use Rattle.dm_onekernel.specs.Pieces as pieces
 use Rattle.dm_onekernel.specs.Switchboard as board
 use Rattle.dm_onekernel.specs.Manager as manage
@@ -65,7 +65,7 @@ server_brings s u q None sends server same i x there = inl (same i x there)
 server_brings s u q (Some m) sends server same i x there = in_brings s u m same (inr (inl (ap is_server sends ∙ server))) i x there
 
 -- a row a label
-pub brings : (s t : OneKernel) (l : Label) → ((p : Pid) (n : Note) → s.notes p ≡ Some n → is_some (s.processes p) ≡ true) → step.step s l ≡ Some t → Brings s t
+pub brings : (s t : OneKernel) (l : Label) → ((p : Pid) (n : MoveNote) → s.notes p ≡ Some n → is_some (s.processes p) ≡ true) → step.step s l ≡ Some t → Brings s t
 brings s t l lives =
     let taken : (id : MsgId) (u : OneKernel) → ((i : MsgId) → u.bag i ≡ (without_message s id).bag i) → Sub u s = λ id u same i x there. stayed s id i x (sym (same i) ∙ there) in
     by_step (Brings s) s t l (record {
