@@ -1,5 +1,6 @@
 -- Lemmas of the family Leave, by file.
 pub mod Fronts
+pub mod Answered
 pub mod Asks
 pub mod Stays
 pub mod Goes

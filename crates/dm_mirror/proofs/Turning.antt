@@ -37,8 +37,9 @@ pub record Elsewhere (m : ℕ) (pt : Point) (l : Placed) (next : Point) (placed 
   pub told : next.view.told ≡ pt.view.told
   pub machines : next.kernel.machines ≡ pt.kernel.machines
   pub made : (n : ℕ) → n ≢ m → next.kernel.made n ≡ pt.kernel.made n
-  -- what another machine has, holds back or expects stays, and so does what has ended there
+  -- what another machine has, holds back or expects stays, and so do who waits to hear of it and what has ended there
   pub process : (n : ℕ) (p : Pid) → n ≢ m → has_process (pt.view.known n p) ≡ true → placed.processes p ≡ l.processes p
+  pub notes : (n : ℕ) (p : Pid) → n ≢ m → has_process (pt.view.known n p) ≡ true → placed.notes p ≡ l.notes p
   pub ended : (n : ℕ) (p : Pid) → n ≢ m → pt.view.known n p ≡ Ended → next.kernel.processes p ≡ pt.kernel.processes p
   -- the blocks of what another machine knows stay
   pub life : (n : ℕ) (p : Pid) → n ≢ m → has_process (pt.view.known n p) ≡ true → next.kernel.processes p ≡ pt.kernel.processes p
@@ -73,7 +74,7 @@ pub record IsCarried (placed : Placed) (asked : ℕ) (records : AllRecords) (p :
   pub process : Process
   pub there : placed.processes p ≡ Some process
   pub sender : x.sender ≡ kernel_at x.id.from.home
-  pub carries : Carries p process asked (incoming_of (records (destination_of x.id (told_of x)) p)) x.what
+  pub carries : Carries p process (placed.notes p) asked (incoming_of (records (destination_of x.id (told_of x)) p)) x.what
 
 -- the machine's kernel may put its next message, where the machines have these records
 pub record MayOwn (pt : Point) (placed : Placed) (records : AllRecords) (x : Message) : Type 0 where
@@ -208,7 +209,7 @@ pub record Row (b : Boot) (m : ℕ) (pt : Point) (l : Placed) (k : KernelState) 
   pub still : are_still says ≡ true
   -- it counts no message of the kernel's own, and what leaves or comes here stays
   pub count : state.sent ≡ k.sent
-  pub moving : (p : Pid) → is_moving (pt.view.known m p) ≡ true → (placed.processes p ≡ l.processes p) × (state.records p ≡ k.records p)
+  pub moving : (p : Pid) → is_moving (pt.view.known m p) ≡ true → (placed.processes p ≡ l.processes p) × (state.records p ≡ k.records p) × (placed.notes p ≡ l.notes p)
   -- the kernels' own messages stay
   pub own : (i : MsgId) (x : Message) → plain_message x ≡ None → l.bag i ≡ Some x → placed.bag i ≡ Some x
   pub own_back : (i : MsgId) (x : Message) → plain_message x ≡ None → placed.bag i ≡ Some x → l.bag i ≡ Some x

@@ -6,6 +6,7 @@ use Rattle.dm_mirror.proofs.Names.{StandsAsBag-elsewhere, spot_cases, OwnTold, R
 use Rattle.dm_mirror.proofs.Names.{holds_is, ◌||◌, [], refl, Addr, pid_eq, place_of, nat_tests, kernel_at, id_of, What, MessageKind, Arrival, PlainMessage, Process, incoming_of, process_handles, Gets, Receiver, Sender, gets, given}
 use Rattle.dm_mirror.proofs.Names.{own_gives, unmoved, process_told, kernel_hears, at_machine, Known, own_id, not_kernels, is_fixed, enclosed, Carries, destination_of, about_same, cases_Bool, Record, Departure, pid_eq-is, HereStands}
 use Rattle.dm_mirror.proofs.Names.{KnownStands, LeavesStand}
+use Rattle.dm_message.specs.declared.Asker.{Asker}
 use Rattle.dm_rule.specs.Parts as rule
 use Rattle.dm_rule.specs.Rule as ruled
 use Rattle.dm_kernel.specs.State as machine
@@ -201,14 +202,14 @@ pub record Between (pt : Point) (placed : Placed) (records : AllRecords) (m c : 
   pub topic : pt.view.topic ≡ Of p
   pub process : Process
   pub there : placed.processes p ≡ Some process
-  pub carries : Carries p process (pt.view.asked p) (incoming_of (records (destination_of x.id (told_of x)) p)) x.what
+  pub carries : Carries p process (placed.notes p) (pt.view.asked p) (incoming_of (records (destination_of x.id (told_of x)) p)) x.what
 
 carried_of : (pt : Point) (placed : Placed) (records : AllRecords) (m c : ℕ) (p : Pid) (x : Message) → Between pt placed records m c p x → IsCarried placed (pt.view.asked p) records p x
 carried_of pt placed records m c p x h = record { process = h.process; there = h.there; sender = h.sender ∙ ap kernel_at (sym h.from); carries = h.carries }
 
 -- no message of a protocol asks to move
-no_request : (p : Pid) (x : Process) (n : ℕ) (a : Option Arrival) (w : What) → kind_of w ≡ MessageKind.Migrate → Carries p x n a w → ⊥
-no_request p x n a w e h = grind (arith, nat_tests)
+no_request : (p : Pid) (x : Process) (k : Option Asker) (n : ℕ) (a : Option Arrival) (w : What) → kind_of w ≡ MessageKind.Migrate → Carries p x k n a w → ⊥
+no_request p x k n a w e h = grind (arith, nat_tests)
 
 pub may_between : (pt : Point) (placed : Placed) (records : AllRecords) (m c : ℕ) (p : Pid) (x : Message) → Between pt placed records m c p x → MayOwn pt placed records x
 may_between pt placed records m c p x h =
@@ -226,7 +227,7 @@ may_between pt placed records m c p x h =
       sender = ap (λ (g : List Gets). given a g (Sender x.id)) h.gives ∙ ap (λ (e : Bool). if e then unmoved pt.view.acting else a (Sender x.id)) (id_eq-same x.id)
           ∙ ap unmoved h.acting ∙ ap place_of (sym h.sender);
       about = h.topic ∙ sym h.about;
-      asker = λ e. absurd (no_request p h.process (pt.view.asked p) (incoming_of (records (destination_of x.id (told_of x)) p)) x.what e h.carries);
+      asker = λ e. absurd (no_request p h.process (placed.notes p) (pt.view.asked p) (incoming_of (records (destination_of x.id (told_of x)) p)) x.what e h.carries);
       carried = λ between r of_r. subst (λ (z : Pid). IsCarried placed (pt.view.asked z) records z x) (about_same p r (sym h.about ∙ of_r)) (carried_of pt placed records m c p x h);
     }
 
@@ -273,6 +274,7 @@ pub record TokensOne (v w : View) (l placed : Placed) (before after : AllRecords
   pub told : w.told ≡ v.told
   pub asked : (q : Pid) → pid_eq p q ≡ false → w.asked q ≡ v.asked q
   pub processes : (q : Pid) → pid_eq p q ≡ false → placed.processes q ≡ l.processes q
+  pub notes : (q : Pid) → pid_eq p q ≡ false → placed.notes q ≡ l.notes q
   pub records : (n : ℕ) (q : Pid) → pid_eq p q ≡ false → after n q ≡ before n q
   pub came : (i : MsgId) (t : Told) (z : Spot) → v.told i ≡ Some t → is_between t.kind ≡ true → 1 ≤ standing w i z → ((y : Spot) × (1 ≤ standing v i y)) × (placed.bag i ≡ l.bag i)
   pub none : (i : MsgId) (t : Told) (z : Spot) → v.told i ≡ Some t → is_between t.kind ≡ true → t.about ≡ Of p → 1 ≤ standing w i z → ⊥
@@ -289,7 +291,9 @@ tokens_one v w l placed before after p c h q i t z told between about st =
           search (
             c.processes q apart ∙ x.there,
             g.1 ∙ x.is,
-            subst (λ (n : ℕ). Carries q x.process n (incoming_of (after d q)) x.message.what) (sym (c.asked q apart)) (subst (λ (r : Option machine.KernelKnown). Carries q x.process (v.asked q) (incoming_of r) x.message.what) (sym (c.records d q apart)) x.carries),
+            subst (λ (e : Option Asker). Carries q x.process e (w.asked q) (incoming_of (after d q)) x.message.what) (sym (c.notes q apart))
+                (subst (λ (n : ℕ). Carries q x.process (l.notes q) n (incoming_of (after d q)) x.message.what) (sym (c.asked q apart))
+                (subst (λ (r : Option machine.KernelKnown). Carries q x.process (l.notes q) (v.asked q) (incoming_of r) x.message.what) (sym (c.records d q apart)) x.carries)),
           )
     ]
 
