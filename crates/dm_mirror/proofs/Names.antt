@@ -37,6 +37,7 @@ pub use Rattle.dm_switchboard.proofs.Imports.{ArrayVec, Board, Named, named_is_b
 pub use Rattle.dm_switchboard.proofs.Plain.{plain_request}
 pub use Rattle.dm_procman.proofs.Names.{Boot, BootProcess, IsForManager, IsValid, Managing, PlainLink, answer_over, at_home, child_named, control_link, manager, message_to, moves_child, pending_is_behind, pending_request, plain_child}
 pub use Rattle.dm_procman.proofs.Names.{plain_manager, plain_pending, process_is_valid, processes_are_valid, slice_get-map, starting_at, tells_to_move, ◌||◌}
+pub use Rattle.dm_procman.specs.Making.{address_at}
 pub use Rattle.dm_procman.proofs.Plain.{plain_created, plain_no_room, plain_user}
 pub use Rattle.dm_laws.proofs.Counted.{is_of_memory}
 pub use Rattle.dm_laws.proofs.Names.{Alive, BootImage, Called, Label, Life, Manager, Moving, OneKernel, PlainMessage, PlainProcess, PlainStatus, Ready, Reply, Switchboard, Waiting, Why, answer_id, answer_to, bind, entry, false≢true}
@@ -102,7 +103,7 @@ pub use Rattle.dm_places.proofs.Keeps.{of_map, parts, there_of}
 pub use Rattle.dm_places.proofs.Labels.Serves.{plainly, plainly_is}
 pub use Rattle.dm_places.proofs.Lines.{lines_keep, mirrors_view, moves_label, routed_keeps, told_keeps}
 pub use Rattle.dm_places.proofs.Matches.{Ends, acted_with, answers_match, call_matches, completed_matches, fault_matches, lands_match, ran_matches}
-pub use Rattle.dm_places.proofs.Names.{Format, GroupNeeds, KeepsPlaces, Landed, Machine, Mirrors, MirrorsKernel, MirrorsPoint, Pending, Placed, StepNeeds, address, after_landing, and-both, board_took, by_migrates, call_plainly, enclosed}
+pub use Rattle.dm_places.proofs.Names.{Format, GroupNeeds, KeepsPlaces, Landed, Machine, Mirrors, MirrorsKernel, MirrorsPoint, Pending, Placed, StepNeeds, after_landing, and-both, board_took, by_migrates, call_plainly, enclosed}
 pub use Rattle.dm_places.proofs.Names.{ends_plainly, first_told, goes_on_plainly, gone_answer, is_among, is_own, manager_took, memory_of, not_kernels, or-right, or_second, placed_start, placed_step, plain_pending_numbered, sent_all}
 pub use Rattle.dm_places.proofs.Names.{started, started_at, status_plainly}
 pub use Rattle.dm_places.proofs.OwnPuts.{child_place, no_child, own_put_mirrors}
