@@ -5,13 +5,17 @@ pub mod Waiting
 use Rattle.dm_mirror.proofs.Names.{◌≡◌, inl, inr, ℕ, ◌+◌, ◌<◌, ◌≤◌, true, List, [], ◌∷◌, length, nat_le, refl, ap, ◌∙◌, sym, subst, arith, Some, nat_tests, Pid, Boot, IsValid, OneKernel, Step, Line, Stage, Known, ascends, IsStep, Leads}
 use Rattle.dm_mirror.proofs.Names.{Part, Says, Spelled, spelled, Point, first_point, moved, group_of, at_pid, at_record, View, actor, view_after, GroupIs, group_is, said, says_next, both, Both, RunGoes, RunStarts, both_group, both_start}
 use Rattle.dm_mirror.proofs.Names.{Run}
-use Rattle.dm_onekernel.specs.Kernel.{Pending}
-use Rattle.dm_mirror.proofs.Counts.AtEnds.{BearEnds, Ends, PutsOne, Under, bear_ends, ends, ends_before, own_puts, under_more, Bears, FrontRestarts, Pays, Restarts, Sort, SortIf, outcome_sort}
+use Rattle.dm_mirror.proofs.Names.{Label, None, Option, Routes, answer_id}
+use Rattle.dm_message.specs.declared.Outcome.{Outcome}
+use Rattle.dm_onekernel.specs.Kernel.{MoveNote, Pending}
+use Rattle.dm_rule.specs.Migrating.{tells_asker}
+use Rattle.dm_mirror.proofs.Counts.AtEnds.{BearEnds, Ends, PutsOne, Under, bear_ends, ends, ends_before, own_puts, routes_next, under_more, under_within, Bears, FrontRestarts, Pays, Restarts, Sort, SortIf, outcome_sort}
 use Rattle.dm_mirror.proofs.Counts.Pairs.{within_group, OwnFew, PairsWithin, own_group, line_still, CountsFew}
 use Rattle.dm_mirror.proofs.Counts.Waiting.{Routed, routed_group, routed_start, waiting_few, first_count, moves_start, own_start, pairs_start, under_start, MovesFew, moves_put, moves_restart, moves_still}
 use Rattle.dm_mirror.proofs.Machines.{few_machines, machines_group, some_machine}
 use Rattle.dm_mirror.proofs.Raises.{sent_of}
-use Rattle.dm_mirror.proofs.Totals.{Grows, grows_on, line_grows, total, total_grows, total_most, total_adds}
+use Rattle.dm_mirror.proofs.RaisesMade.{answered_raises}
+use Rattle.dm_mirror.proofs.Totals.{Grows, grows_on, grows_same, line_grows, total, total_grows, total_most, total_adds}
 
 -- what the counts of a run are below
 pub record Few (n : ℕ) (pt : Point) : Type 0 where
@@ -48,12 +52,12 @@ own_rises n pt start end kernel grows same h puts within under moves =
       moves = moves_put n pt.view end.view (omega (arith, first, adds)) (h.moves ∙ same) moves;
     }
 
-restart_rises : (b : Boot) (n m : ℕ) (pt end : Point) (p : Pid) → Run b pt → Run b end → FrontRestarts pt m p → end.kernel ≡ pt.kernel → Grows pt.view end.view → end.view.moves ≡ at_pid pt.view.moves p (pt.view.moves p + 1) → end.view.known ≡ at_record pt.view.known m p Known.Here
+restart_rises : (b : Boot) (n m : ℕ) (pt end : Point) (p : Pid) → Run b pt → Run b end → FrontRestarts pt m p → ((k : ℕ) → Under k pt.kernel → Under k end.kernel) → Grows pt.view end.view → end.view.moves ≡ at_pid pt.view.moves p (pt.view.moves p + 1) → end.view.known ≡ at_record pt.view.known m p Known.Here
     → Under (first_count + total pt.view n) pt.kernel → MovesFew n pt.view → Rises n end
 restart_rises b n m pt end p run after f kernel grows moves known under few =
     let more = total_grows pt.view end.view n grows in
     record {
-      under = under_more (first_count + total pt.view n) (first_count + total end.view n) end.kernel (omega (arith, more)) (subst (Under (first_count + total pt.view n)) (sym kernel) under);
+      under = under_more (first_count + total pt.view n) (first_count + total end.view n) end.kernel (omega (arith, more)) (kernel (first_count + total pt.view n) under);
       moves = moves_restart b pt m n p end.view run f more moves known after.based.phased.phases few;
     }
 
@@ -70,18 +74,43 @@ head_known v d = grind (arith, nat_tests)
 head_acting : (v : View) (d : Step) → (view_after v (Line.Head d)).acting ≡ actor d
 head_acting v d = grind (arith, nat_tests)
 
--- what a machine says of a process that restarts
-record Restarted (u : View) (p : Pid) (end : Point) (kernel : OneKernel) : Type 0 where
-  same : end.kernel ≡ kernel
-  view_is : end.view ≡ view_after u (Line.Migration Stage.Restarted p)
+-- whoever asked for a move is told that it has ended: no count is raised, and nothing moves
+record Answered (pt end : Point) : Type 0 where
+  under : (n : ℕ) → Under n pt.kernel → Under n end.kernel
+  grows : Grows pt.view end.view
+  moves : end.view.moves ≡ pt.view.moves
+  known : end.view.known ≡ pt.view.known
 
-restarted : (start : Point) (p : Pid) (ps : List Part) (w : Spelled) → ps ≡ Says (Line.Migration Stage.Restarted p) ∷ [] → spelled start ps ≡ Some w → Restarted start.view p w.point start.kernel
-restarted start p ps w is e =
+answered : (asked : Option MoveNote) (pt : Point) (w : Spelled) → spelled pt (tells_asker asked Outcome.Done) ≡ Some w → Answered pt w.point
+answered None pt w e = subst (Answered pt) (said pt w e) (record { under = λ n u. u; grows = grows_same pt.view pt.view refl; moves = refl; known = refl })
+answered (Some note) pt w e =
+    let l = Line.Label (Label.Answered note.id Outcome.Done) in
+    let k = says_next pt l (Routes (answer_id note.id) ∷ []) w e in
+    let r = routes_next (moved pt l k.s) (answer_id note.id) [] k.rest k.more in
+    let a = r.after_put in
+    let within = (answered_raises pt.kernel k.s note.id Outcome.Done k.is).within in
+    subst (Answered pt) (said r.next r.rest r.on ∙ r.end ∙ k.point)
+    (record { under = λ n u. subst (Under n) (sym a.kernel) (under_within n 0 n pt.kernel k.s (omega arith) within u); grows = a.grows; moves = a.still.moves; known = a.known })
+
+-- what a machine says of a process that restarts
+record Restarted (start : Point) (p : Pid) (end : Point) : Type 0 where
+  under : (n : ℕ) → Under n start.kernel → Under n end.kernel
+  grows : Grows start.view end.view
+  moves : end.view.moves ≡ at_pid start.view.moves p (start.view.moves p + 1)
+  known : end.view.known ≡ at_record start.view.known start.view.acting p Known.Here
+
+restarted : (start : Point) (p : Pid) (asked : Option MoveNote) (ps : List Part) (w : Spelled) → ps ≡ Says (Line.Migration Stage.Restarted p) ∷ tells_asker asked Outcome.Done → spelled start ps ≡ Some w → Restarted start p w.point
+restarted start p asked ps w is e =
     let l = Line.Migration Stage.Restarted p in
-    let k = says_next start l [] w (ap (spelled start) (sym is) ∙ e) in
+    let k = says_next start l (tells_asker asked Outcome.Done) w (ap (spelled start) (sym is) ∙ e) in
     let same : k.s ≡ start.kernel = (let i : Some start.kernel ≡ Some k.s = k.is in cc) in
-    let end : moved start l k.s ≡ w.point = said (moved start l k.s) k.rest k.more ∙ k.point in
-    record { same = ap (λ (q : Point). q.kernel) (sym end) ∙ same; view_is = ap (λ (q : Point). q.view) (sym end) }
+    let a = answered asked (moved start l k.s) k.rest k.more in
+    subst (Restarted start p) k.point (record {
+      under = λ n u. a.under n (subst (Under n) (sym same) u);
+      grows = grows_on start.view (view_after start.view l) k.rest.point.view (line_grows start.view l) a.grows;
+      moves = a.moves;
+      known = a.known;
+    })
 
 rises : (b : Boot) (pt : Point) (d : Step) (w : Spelled) (n : ℕ) (g : GroupIs b pt d w) → Sort pt (actor d) g.parts → Run b pt → Run b w.point → PairsWithin n w.point.view → Under (first_count + total pt.view n) pt.kernel → MovesFew n pt.view → Rises n w.point
 rises b pt d w n g (Pays paid) run after within under moves =
@@ -91,15 +120,12 @@ rises b pt d w n g (Pays paid) run after within under moves =
 rises b pt d w n g (Bears all own) run after within under moves =
     let start = begun pt d in
     own_rises n pt start w.point refl (line_grows pt.view (Line.Head d)) (head_moves pt d) (subst (BearEnds start) g.point (bear_ends g.parts start g.rest g.said all)) (subst (λ (q : Point). PutsOne start.view q.view) g.point (own_puts g.parts start g.rest g.said all own)) within under moves
-rises b pt d w n g (Restarts p front is) run after within under moves =
+rises b pt d w n g (Restarts p front asked is) run after within under moves =
     let start = begun pt d in
-    let l = Line.Migration Stage.Restarted p in
-    let r = restarted start p g.parts g.rest is g.said in
-    let end : w.point.view ≡ view_after start.view l = ap (λ (q : Point). q.view) (sym g.point) ∙ r.view_is in
-    let grows : Grows pt.view w.point.view = subst (Grows pt.view) (sym end) (grows_on pt.view start.view (view_after start.view l) (line_grows pt.view (Line.Head d)) (line_grows start.view l)) in
-    restart_rises b n (actor d) pt w.point p run after front (ap (λ (q : Point). q.kernel) (sym g.point) ∙ r.same) grows
-    (ap (λ (v : View). v.moves) end ∙ ap (λ (f : Pid → ℕ). at_pid f p (f p + 1)) (head_moves pt d))
-    (ap (λ (v : View). v.known) end ∙ ap (λ (m : ℕ). at_record start.view.known m p Known.Here) (head_acting pt.view d) ∙ ap (λ f. at_record f (actor d) p Known.Here) (head_known pt.view d)) under moves
+    let r = subst (Restarted start p) g.point (restarted start p asked g.parts g.rest is g.said) in
+    restart_rises b n (actor d) pt w.point p run after front r.under (grows_on pt.view start.view w.point.view (line_grows pt.view (Line.Head d)) r.grows)
+    (r.moves ∙ ap (λ (f : Pid → ℕ). at_pid f p (f p + 1)) (head_moves pt d))
+    (r.known ∙ ap (λ (m : ℕ). at_record start.view.known m p Known.Here) (head_acting pt.view d) ∙ ap (λ f. at_record f (actor d) p Known.Here) (head_known pt.view d)) under moves
 
 -- each group
 few_group : (b : Boot) (pt : Point) (d : Step) (w : Spelled) (n : ℕ) → 0 < n → pt.kernel.machines ≡ n → IsStep n d → group_of b pt d ≡ Some w → Run b pt → Run b w.point → Few n pt → Few n w.point

@@ -2,6 +2,8 @@
 use Rattle.dm_mirror.proofs.Names.{◌≡◌, inl, inr, ℕ, zero, suc, ◌+◌, ◌*◌, ◌<◌, ◌≤◌, ◌==◌, false, not, filter, [], ◌∷◌, ◌++◌, length, refl, ap, subst, arith, cases_Bool, nat_tests, Pid, MsgId, MessageKind, Step, Line, at_pair, View, Pair}
 use Rattle.dm_mirror.proofs.Names.{view_after, handled, eq_is, queued_pair, held_pair, forwarded_pair, taken_pair, label_pair, stage_pair, proto_pair}
 use Rattle.dm_rule.proofs.Lines.{parts}
+use Rattle.dm_mirror.proofs.Names.{OneKernel}
+use Rattle.dm_rule.specs.Point.{seen}
 use Rattle.dm_rule.specs.View as view
 use Rattle.dm_mirror.proofs.RaisesMade.{append-longer}
 
@@ -52,6 +54,10 @@ line_grows v (Line.Here i) = grows_same v (handled v i) refl
 line_grows v (Line.NoMove i) = grows_same v (handled v i) refl
 line_grows v (Line.Proto i) = grows_same v (view_after v (Line.Proto i)) (proto_pair (handled v i) (v.told i))
 line_grows v _ = grows_same v v refl
+
+-- the topic is no part of it
+pub seen_grows : (s : OneKernel) (v : View) (l : Line) → Grows v (seen s v l)
+seen_grows s v l = record { ids = (line_grows v l).ids }
 
 -- a route adds one
 pub put_adds : (v : View) (a b : ℕ) (i : MsgId) (k : MessageKind) (q : Pid) → ids_of (view.after_put v a b i k q) a b ≡ ids_of v a b + 1

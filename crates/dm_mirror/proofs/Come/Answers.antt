@@ -72,7 +72,7 @@ absent s _ e = absurd (false≢true e)
 
 -- there is no room for it
 lacks_row : (b : Boot) (m : ℕ) (pt : Point) (l : Placed) (records : AllRecords) (k : KernelState) (y : Message) (p : Pid) (c : Comes b m pt l records k y p) (a : Arrives b m pt l k y p) → kind_of y.what ≡ MessageKind.Ask
-    → kernel_handles b (record k { inbox = c.rest }) y y.what ≡ accepts b (record k { inbox = c.rest }) y p (length a.process.memory / 256) a.process.moves (length (state_of a.process)) None false
+    → kernel_handles b (record k { inbox = c.rest }) y y.what ≡ accepts b (record k { inbox = c.rest }) y p (length a.process.memory / 256) a.process.moves (length (state_of a.process)) (l.notes p) false
     → rule.has_room (free_room b pt m) (length a.process.memory / 256) ≡ false → TurnsAt b m pt l records k
 lacks_row b m pt l records k y p c a is handles none =
     let s = record k { inbox = c.rest } in
@@ -82,7 +82,7 @@ lacks_row b m pt l records k y p c a is handles none =
     let box = without_first (v.inbox m) in
     let next = come_point pt (come_view v m p box v.known v.asked) in
     turns_answer b m pt l records k y p c a (search (
-      turn_kernel b m pt l records k y p c a (accepts b s y p (length a.process.memory / 256) a.process.moves (length (state_of a.process)) None false) handles,
+      turn_kernel b m pt l records k y p c a (accepts b s y p (length a.process.memory / 256) a.process.moves (length (state_of a.process)) (l.notes p) false) handles,
       outcome_kernel b m pt l records k y p c a _ (ap (kernel_told pt m y.id p (fits r (length a.process.memory / 256)) (plain_process a.process)) is ∙ ap (λ (d : Bool). Some (rule_moves.accepts y.id.from.home p d r.slots r.blocks)) none ∙ (λ i. Some (rule_moves.accepts y.id.from.home p false (sym free.0 i) (sym free.1 i)))),
       after_lacks pt m p (free_slots k.room) (free_blocks k.room),
       first_gone y.id c.ids (v.inbox m) c.box,
@@ -131,7 +131,7 @@ taken_then b m pt l records k y p c a box from asked none =
     reserve new old none_ some_ taken more e f g h = omega (arith, e, f, g, h)
 
 accepts_row : (b : Boot) (m : ℕ) (pt : Point) (l : Placed) (records : AllRecords) (k : KernelState) (y : Message) (p : Pid) (c : Comes b m pt l records k y p) (a : Arrives b m pt l k y p) → kind_of y.what ≡ MessageKind.Ask
-    → kernel_handles b (record k { inbox = c.rest }) y y.what ≡ accepts b (record k { inbox = c.rest }) y p (length a.process.memory / 256) a.process.moves (length (state_of a.process)) None true
+    → kernel_handles b (record k { inbox = c.rest }) y y.what ≡ accepts b (record k { inbox = c.rest }) y p (length a.process.memory / 256) a.process.moves (length (state_of a.process)) (l.notes p) true
     → rule.has_room (free_room b pt m) (length a.process.memory / 256) ≡ true → CanMove (record a.process { queue = [] }) → length a.process.table ≡ slots_of b.format → TurnsAt b m pt l records k
 accepts_row b m pt l records k y p c a is handles some_ whole table =
     let s = record k { inbox = c.rest } in
@@ -144,10 +144,10 @@ accepts_row b m pt l records k y p c a is handles some_ whole table =
     let now = at_record v.known m p (Incoming from) in
     let asked = at_pid v.asked p 1 in
     let next = come_point pt (come_view v m p box now asked) in
-    let new = expected p (length x.memory / 256) x.moves (length (state_of x)) None (slots_of b.format) in
-    let state = machine.with_sent (with_expected b s p (length x.memory / 256) x.moves (length (state_of x)) None) in
+    let new = expected p (length x.memory / 256) x.moves (length (state_of x)) (l.notes p) (slots_of b.format) in
+    let state = machine.with_sent (with_expected b s p (length x.memory / 256) x.moves (length (state_of x)) (l.notes p)) in
     let named = a.named in
-    let pieces : new ≡ coming x None [] (Chunk 0) = λ i. expected (sym named i) (length x.memory / 256) x.moves (length (state_of x)) None (sym table i) in
+    let pieces : new ≡ coming x (l.notes p) [] (Chunk 0) = λ i. expected (sym named i) (length x.memory / 256) x.moves (length (state_of x)) (l.notes p) (sym table i) in
     let there : state.records p ≡ Some (Record.Incoming new) = ap (λ (d : Bool). if d then Some (Record.Incoming new) else k.records p) (pid_eq-same p) in
     let one : asked p ≡ 1 = ap (λ (d : Bool). if d then 1 else v.asked p) (pid_eq-same p) in
     let held : v.held m p ≡ [] = c.run.based.lists.held m p none.held in
@@ -159,7 +159,7 @@ accepts_row b m pt l records k y p c a is handles some_ whole table =
       box = box;
       known = now;
       asked = asked;
-      turn = turn_kernel b m pt l records k y p c a (accepts b s y p (length x.memory / 256) x.moves (length (state_of x)) None true) handles;
+      turn = turn_kernel b m pt l records k y p c a (accepts b s y p (length x.memory / 256) x.moves (length (state_of x)) (l.notes p) true) handles;
       outcome = outcome_kernel b m pt l records k y p c a _
           (ap (kernel_told pt m y.id p (fits r (length x.memory / 256)) (plain_process x)) is
           ∙ ap (λ (d : Bool). Some (rule_moves.accepts y.id.from.home p d r.slots r.blocks)) some_);
@@ -186,12 +186,12 @@ accepts_row b m pt l records k y p c a is handles some_ whole table =
       plain = refl;
       encloses = refl;
       gives = λ w i q. refl;
-      carries = subst (λ (o : Option machine.KernelKnown). Carries p x (asked p) (incoming_of o) (What.PullState p 0)) (sym there)
+      carries = subst (λ (o : Option machine.KernelKnown). Carries p x (l.notes p) (asked p) (incoming_of o) (What.PullState p 0)) (sym there)
           (refl, (one, first), refl);
     })
 
 ask_by : (b : Boot) (m : ℕ) (pt : Point) (l : Placed) (records : AllRecords) (k : KernelState) (y : Message) (p : Pid) (c : Comes b m pt l records k y p) (a : Arrives b m pt l k y p) (d : Bool) → kind_of y.what ≡ MessageKind.Ask
-    → kernel_handles b (record k { inbox = c.rest }) y y.what ≡ accepts b (record k { inbox = c.rest }) y p (length a.process.memory / 256) a.process.moves (length (state_of a.process)) None d
+    → kernel_handles b (record k { inbox = c.rest }) y y.what ≡ accepts b (record k { inbox = c.rest }) y p (length a.process.memory / 256) a.process.moves (length (state_of a.process)) (l.notes p) d
     → rule.has_room (free_room b pt m) (length a.process.memory / 256) ≡ d → CanMove (record a.process { queue = [] }) → length a.process.table ≡ slots_of b.format → TurnsAt b m pt l records k
 ask_by b m pt l records k y p c a true is handles room whole table = accepts_row b m pt l records k y p c a is handles room whole table
 ask_by b m pt l records k y p c a false is handles room whole table = lacks_row b m pt l records k y p c a is handles room
@@ -203,14 +203,14 @@ turns_ask b m pt l records k y p q blocks moves size asker c e nodes tables =
     let x = a.process in
     let s = record k { inbox = c.rest } in
     let r = free_room b pt m in
-    let carried = subst (λ (w : What). Carries p x (pt.view.asked p) (incoming_of (k.records p)) w) e a.carries in
+    let carried = subst (λ (w : What). Carries p x (l.notes p) (pt.view.asked p) (incoming_of (k.records p)) w) e a.carries in
     let is : kind_of y.what ≡ MessageKind.Ask = ap kind_of e in
     let free = free_as k.room (slice_get b.machines m) (taken_at pt m pt.kernel.machines) c.stands.room in
     let room : room_.has_room k.room (length x.memory / 256) ≡ rule.has_room r (length x.memory / 256) = room_as k.room r (length x.memory / 256) free in
     ask_by b m pt l records k y p c a (rule.has_room r (length x.memory / 256)) is
     (ap (kernel_handles b s y) (e ∙ carried)
-    ∙ ap (λ (z : Pid). accepts b s y z (length x.memory / 256) x.moves (length (state_of x)) None (room_.has_room k.room (length x.memory / 256))) a.named
-    ∙ ap (accepts b s y p (length x.memory / 256) x.moves (length (state_of x)) None) room)
+    ∙ ap (λ (z : Pid). accepts b s y z (length x.memory / 256) x.moves (length (state_of x)) (l.notes p) (room_.has_room k.room (length x.memory / 256))) a.named
+    ∙ ap (accepts b s y p (length x.memory / 256) x.moves (length (state_of x)) (l.notes p)) room)
     refl (can_come b m pt l records k y p c a is nodes) (tables x a.there)
 
 -- A turn that handles what the machine that a process leaves tells the machine that it comes to.

@@ -46,7 +46,7 @@ pub record Arrives (b : Boot) (m : ℕ) (pt : Point) (l : Placed) (k : KernelSta
   pub sender : y.sender ≡ kernel_at y.id.from.home
   pub process : Process
   pub there : l.processes p ≡ Some process
-  pub carries : Carries p process (pt.view.asked p) (incoming_of (k.records p)) y.what
+  pub carries : Carries p process (l.notes p) (pt.view.asked p) (incoming_of (k.records p)) y.what
   pub named : process.pid ≡ p
   pub alive : kernel.alive (pt.kernel.processes p) ≡ Some (plain_process process)
   pub is_made : is_some (pt.kernel.processes p) ≡ true
@@ -127,7 +127,7 @@ arrives b m pt l records k y p c =
     search (
       sym (c.mirrors.plain.bag y.id) ∙ ap (λ (o : Option Message). bind o plain_message) c.there ∙ c.plain,
       sym (ap (λ (x : Message). x.sender) same) ∙ token.sender,
-      subst (λ (x : Message). Carries p token.process (pt.view.asked p) (incoming_of (k.records p)) x.what) same (subst (λ o. Carries p token.process (pt.view.asked p) (incoming_of o) token.message.what) records_is token.carries),
+      subst (λ (x : Message). Carries p token.process (l.notes p) (pt.view.asked p) (incoming_of (k.records p)) x.what) same (subst (λ o. Carries p token.process (l.notes p) (pt.view.asked p) (incoming_of o) token.message.what) records_is token.carries),
       (c.mirrors.places.process p token.process token.there).pid,
       no_server pt.kernel p c.run.based.phased.sane.sound.made is_made,
     )

@@ -5,6 +5,7 @@ use Rattle.dm_mirror.proofs.Names.{is_between, is_early, is_of_source, Point, af
 use Rattle.dm_mirror.proofs.Names.{about_of, ComesStand, KnownStands, RoomStands, AllRecords, Carries, IsAsked, ◌+◌, ◌==◌, MessageKind, Step, Stage, arith, nat_tests, kind_comes, outcome, at_pid, without_front, About, without_first, Turned}
 use Rattle.dm_mirror.proofs.Names.{turn, apart_is, expects_is, not, nat_lt, What, Block, after_chunk, block_of, chunk_of, is_last, state_of, ComesByPieces, by_pieces, chunks_of, pieces_of, takes_block, takes_chunk, Wants}
 use Rattle.dm_kernel.specs.declared.part.Part.TheVariants as part
+use Rattle.dm_message.specs.declared.Asker.{Asker}
 use Rattle.dm_kernel.specs.State as machine
 use Rattle.dm_mirror.proofs.Come.Frames.{Arrives, Comes, arrives, asked_after_block, asked_after_chunk, block_last, chunk_last}
 use Rattle.dm_mirror.proofs.Come.Turns.{come_point, come_view, turns_answer, eq_self}
@@ -90,9 +91,9 @@ pull_encloses p w = grind (arith, nat_tests)
 pull_gives : (p : Pid) (w : Wanted) (s : OneKernel) (v : View) (a : Addresses) (i : MsgId) (q : Pid) → own_gives s v a i q (kind_of (pull p w)) ≡ goes_between v i q
 pull_gives p w s v a i q = grind (arith, nat_tests)
 
-pull_carries : (p : Pid) (x : Process) (n : ℕ) (held : List Message) (w : Wanted) → x.pid ≡ p → IsAsked x n w → Carries p x n (Some (coming x None held w)) (pull x.pid w)
-pull_carries p x n held Nothing named asked = (named, refl)
-pull_carries p x n held _ named asked = (named, asked, refl)
+pull_carries : (p : Pid) (x : Process) (k : Option Asker) (n : ℕ) (held : List Message) (w : Wanted) → x.pid ≡ p → IsAsked x n w → Carries p x k n (Some (coming x k held w)) (pull x.pid w)
+pull_carries p x k n held Nothing named asked = (named, refl)
+pull_carries p x k n held _ named asked = (named, asked, refl)
 
 -- where other records are, a machine's room is as it was
 pub room_kept : (b : Boot) (pt : Point) (m : ℕ) (p : Pid) (box : List MsgId) (asked : Pid → ℕ) (l : Placed) (records : AllRecords) (k : KernelState) (y : Message) (c : Comes b m pt l records k y p)
@@ -113,7 +114,7 @@ pub record Piece (b : Boot) (m : ℕ) (pt : Point) (l : Placed) (records : AllRe
   pub box : List MsgId
   pub asked : Pid → ℕ
   pub takes : kernel_handles b (record k { inbox = c.rest }) y y.what ≡ bind (incoming_of (k.records p)) (takes_piece (record k { inbox = c.rest }) y p)
-  pub took : with_piece arrival y.what ≡ Some (coming a.process None arrival.held wanted)
+  pub took : with_piece arrival y.what ≡ Some (coming a.process (l.notes p) arrival.held wanted)
   pub says : piece_line y.id p wanted ≡ line
   pub told : kernel_told pt m y.id p (fits (free_room b pt m) (length a.process.memory / 256)) (plain_process a.process) (kind_of y.what) ≡ Some (Part.Says line ∷ to_kernel (kind_of (pull a.process.pid wanted)) y.id.from.home ∷ [])
   pub after : after (begun pt m) (line ∷ []) ≡ Some (come_point pt (come_view pt.view m p box pt.view.known asked))
@@ -124,7 +125,7 @@ pub record Piece (b : Boot) (m : ℕ) (pt : Point) (l : Placed) (records : AllRe
 pub turns_piece : (b : Boot) (m : ℕ) (pt : Point) (l : Placed) (records : AllRecords) (k : KernelState) (y : Message) (p : Pid) (c : Comes b m pt l records k y p) (a : Arrives b m pt l k y p) → Piece b m pt l records k y p c a → TurnsAt b m pt l records k
 turns_piece b m pt l records k y p c a h =
     let s = record k { inbox = c.rest } in
-    let now = coming a.process None h.arrival.held h.wanted in
+    let now = coming a.process (l.notes p) h.arrival.held h.wanted in
     let state : KernelState = machine.with_sent (machine.with_known s p (Record.Incoming now)) in
     let next = come_point pt (come_view pt.view m p h.box pt.view.known h.asked) in
     turns_answer b m pt l records k y p c a (record {
@@ -163,8 +164,8 @@ turns_piece b m pt l records k y p c a h =
       plain = pull_plain a.process.pid h.wanted;
       encloses = pull_encloses a.process.pid h.wanted;
       gives = λ v i q. pull_gives a.process.pid h.wanted pt.kernel v pt.addresses i q;
-      carries = subst (λ (o : Option machine.KernelKnown). Carries p a.process (h.asked p) (incoming_of o) (pull a.process.pid h.wanted)) (sym (set_self k.records p (Record.Incoming now)))
-          (pull_carries p a.process (h.asked p) h.arrival.held h.wanted a.named h.is_asked);
+      carries = subst (λ (o : Option machine.KernelKnown). Carries p a.process (l.notes p) (h.asked p) (incoming_of o) (pull a.process.pid h.wanted)) (sym (set_self k.records p (Record.Incoming now)))
+          (pull_carries p a.process (l.notes p) (h.asked p) h.arrival.held h.wanted a.named h.is_asked);
     })
 
 -- A chunk of the state of a process that comes, and a block of its memory.
@@ -175,7 +176,7 @@ pub record Before (b : Boot) (m : ℕ) (pt : Point) (l : Placed) (k : KernelStat
   pub is : k.records p ≡ Some (Record.Incoming arrival)
   pub comes_ : ComesStand l p (pt.view.held m p) arrival
   pub whole : CanMove (record a.process { queue = [] })
-  pub pieces : arrival ≡ coming a.process None arrival.held w
+  pub pieces : arrival ≡ coming a.process (l.notes p) arrival.held w
 
 pub before : (b : Boot) (m : ℕ) (pt : Point) (l : Placed) (records : AllRecords) (k : KernelState) (y : Message) (p : Pid) (c : Comes b m pt l records k y p) (a : Arrives b m pt l k y p) (w : Wanted) → is_early (kind_of y.what) ≡ false → Wants (incoming_of (k.records p)) w → Before b m pt l k y p a w
 before b m pt l records k y p c a w late wants =
@@ -183,7 +184,7 @@ before b m pt l records k y p c a w late wants =
     let h = e.comes_ in
     let same : h.process ≡ a.process = some_same h.process a.process (sym h.there ∙ a.there) in
     let is_wanted : e.arrival.wanted ≡ w = subst (λ (o : Option machine.KernelKnown). Wants (incoming_of o) w) e.is wants in
-    search (subst (λ (z : Process). CanMove (record z { queue = [] })) same h.whole, h.pieces ∙ (λ i. coming (same i) None e.arrival.held (is_wanted i)))
+    search (subst (λ (z : Process). CanMove (record z { queue = [] })) same h.whole, h.pieces ∙ (λ i. coming (same i) (l.notes p) e.arrival.held (is_wanted i)))
 
 asked_more : (f : Pid → ℕ) (p : Pid) (n : ℕ) → at_pid f p n p ≡ n
 asked_more f p n = ap (λ (d : Bool). if d then n else f p) (pid_eq-same p)
@@ -194,7 +195,7 @@ asked_others f p q n off = ap (λ (d : Bool). if d then n else f q) off
 -- a chunk, the last or another
 state_by : (b : Boot) (m : ℕ) (pt : Point) (l : Placed) (records : AllRecords) (k : KernelState) (y : Message) (p : Pid) (c : Comes b m pt l records k y p) (a : Arrives b m pt l k y p) (chunk : ℕ) (h : Before b m pt l k y p a (Chunk chunk)) (d : Bool)
     → kind_of y.what ≡ MessageKind.State → kernel_handles b (record k { inbox = c.rest }) y y.what ≡ bind (incoming_of (k.records p)) (takes_piece (record k { inbox = c.rest }) y p)
-    → with_piece h.arrival y.what ≡ Some (coming a.process None h.arrival.held (after_chunk chunk d)) → IsAsked a.process (pt.view.asked p + 1) (after_chunk chunk d) → (pt.view.asked p == chunks_of (plain_process a.process)) ≡ d → TurnsAt b m pt l records k
+    → with_piece h.arrival y.what ≡ Some (coming a.process (l.notes p) h.arrival.held (after_chunk chunk d)) → IsAsked a.process (pt.view.asked p + 1) (after_chunk chunk d) → (pt.view.asked p == chunks_of (plain_process a.process)) ≡ d → TurnsAt b m pt l records k
 state_by b m pt l records k y p c a chunk h true is takes took asked test =
     let v = pt.view in
     turns_piece b m pt l records k y p c a (search (
@@ -226,10 +227,10 @@ turns_state b m pt l records k y p q chunk last bytes c e =
     let a = arrives b m pt l records k y p c in
     let x = a.process in
     let s = record k { inbox = c.rest } in
-    let carried = subst (λ (w : What). Carries p x (pt.view.asked p) (incoming_of (k.records p)) w) e a.carries in
+    let carried = subst (λ (w : What). Carries p x (l.notes p) (pt.view.asked p) (incoming_of (k.records p)) w) e a.carries in
     let is : kind_of y.what ≡ MessageKind.State = ap kind_of e in
     let h = before b m pt l records k y p c a (Chunk chunk) (ap is_early is) carried.2 in
-    let pieces : ComesByPieces (record x { queue = [] }) None h.arrival.held = by_pieces (record x { queue = [] }) None h.arrival.held h.whole in
+    let pieces : ComesByPieces (record x { queue = [] }) (l.notes p) h.arrival.held = by_pieces (record x { queue = [] }) (l.notes p) h.arrival.held h.whole in
     let named : q ≡ p = chunk_pid q x.pid chunk chunk last (is_last (state_of x) chunk) bytes _ carried.0 ∙ a.named in
     let content : y.what ≡ chunk_of x.pid (state_of x) chunk = e ∙ carried.0 in
     state_by b m pt l records k y p c a chunk h (is_last (state_of x) chunk) is
@@ -241,7 +242,7 @@ turns_state b m pt l records k y p q chunk last bytes c e =
 -- a block, another or the last
 memory_by : (b : Boot) (m : ℕ) (pt : Point) (l : Placed) (records : AllRecords) (k : KernelState) (y : Message) (p : Pid) (c : Comes b m pt l records k y p) (a : Arrives b m pt l k y p) (block : ℕ) (h : Before b m pt l k y p a (Block block)) (more : Bool)
     → kind_of y.what ≡ MessageKind.Memory → kernel_handles b (record k { inbox = c.rest }) y y.what ≡ bind (incoming_of (k.records p)) (takes_piece (record k { inbox = c.rest }) y p)
-    → with_piece h.arrival y.what ≡ Some (coming a.process None h.arrival.held (if more then Block (block + 1) else Nothing)) → IsAsked a.process (pt.view.asked p + 1) (if more then Block (block + 1) else Nothing)
+    → with_piece h.arrival y.what ≡ Some (coming a.process (l.notes p) h.arrival.held (if more then Block (block + 1) else Nothing)) → IsAsked a.process (pt.view.asked p + 1) (if more then Block (block + 1) else Nothing)
     → (pt.view.asked p == pieces_of (plain_process a.process)) ≡ not more → (block + 1 == 0) ≡ false → TurnsAt b m pt l records k
 memory_by b m pt l records k y p c a block h true is takes took asked test later =
     let v = pt.view in
@@ -272,10 +273,10 @@ turns_memory b m pt l records k y p q block bytes c e =
     let a = arrives b m pt l records k y p c in
     let x = a.process in
     let s = record k { inbox = c.rest } in
-    let carried = subst (λ (w : What). Carries p x (pt.view.asked p) (incoming_of (k.records p)) w) e a.carries in
+    let carried = subst (λ (w : What). Carries p x (l.notes p) (pt.view.asked p) (incoming_of (k.records p)) w) e a.carries in
     let is : kind_of y.what ≡ MessageKind.Memory = ap kind_of e in
     let h = before b m pt l records k y p c a (Block block) (ap is_early is) carried.2 in
-    let pieces : ComesByPieces (record x { queue = [] }) None h.arrival.held = by_pieces (record x { queue = [] }) None h.arrival.held h.whole in
+    let pieces : ComesByPieces (record x { queue = [] }) (l.notes p) h.arrival.held = by_pieces (record x { queue = [] }) (l.notes p) h.arrival.held h.whole in
     let named : q ≡ p = block_pid q x.pid block block bytes _ carried.0 ∙ a.named in
     let content : y.what ≡ block_of x.pid x.memory block = e ∙ carried.0 in
     memory_by b m pt l records k y p c a block h (nat_lt (block + 1) (length x.memory / 256)) is

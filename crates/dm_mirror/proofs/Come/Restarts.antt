@@ -96,7 +96,7 @@ tokens_back b m pt l records k y p c a o s records_off q i t z told between abou
           let r : at_machine records m s.records n q ≡ records n q = others_known records m n s k q c.mine (records_off q off) (m == n) refl in
           search (
             set_off l.processes p q o off ∙ h.there,
-            subst (λ (x : Option machine.KernelKnown). Carries q h.process (v.asked q) (incoming_of x) h.message.what) (sym r) h.carries,
+            subst (λ (x : Option machine.KernelKnown). Carries q h.process (l.notes q) (v.asked q) (incoming_of x) h.message.what) (sym r) h.carries,
           )
     ]
   where
@@ -150,7 +150,7 @@ turns_restart b m pt l records k y p q c e =
     let a = arrives b m pt l records k y p c in
     let x = a.process in
     let s = record k { inbox = c.rest } in
-    let carried = subst (λ (w : What). Carries p x (v.asked p) (incoming_of (k.records p)) w) e a.carries in
+    let carried = subst (λ (w : What). Carries p x (l.notes p) (v.asked p) (incoming_of (k.records p)) w) e a.carries in
     let is : kind_of y.what ≡ MessageKind.Restart = ap kind_of e in
     let late : is_early (kind_of y.what) ≡ false = ap is_early is in
     let h = before b m pt l records k y p c a Nothing late carried.1 in

@@ -86,7 +86,7 @@ pub record Answer (b : Boot) (m : ℕ) (pt : Point) (l : Placed) (records : AllR
   pub plain : plain_what what ≡ None
   pub encloses : enclosed what ≡ []
   pub gives : (v : View) (id : MsgId) (q : Pid) → own_gives pt.kernel v pt.addresses id q (kind_of what) ≡ goes_between v id q
-  pub carries : Carries p a.process (asked p) (incoming_of (state.records p)) what
+  pub carries : Carries p a.process (l.notes p) (asked p) (incoming_of (state.records p)) what
 
 -- the records of all machines then
 pub others_known : (records : AllRecords) (m n : ℕ) (s : KernelState) (k : KernelState) (q : Pid) → records m ≡ k.records → s.records q ≡ k.records q → (c : Bool) → (m == n) ≡ c → (if c then s.records else records n) q ≡ records n q
@@ -113,7 +113,7 @@ tokens_kept b m pt l records k y p c a box known asked s is_box asked_off record
           let n = destination_of i t in
           let r : at_machine records m s.records n q ≡ records n q = others_known records m n s k q c.mine (records_off q off) (m == n) refl in
           search
-          (subst (λ (o : Option machine.KernelKnown). Carries q h.process (asked q) (incoming_of o) h.message.what) (sym r) (subst (λ (j : ℕ). Carries q h.process j (incoming_of (records n q)) h.message.what) (sym (asked_off q off)) h.carries))
+          (subst (λ (o : Option machine.KernelKnown). Carries q h.process (l.notes q) (asked q) (incoming_of o) h.message.what) (sym r) (subst (λ (j : ℕ). Carries q h.process (l.notes q) j (incoming_of (records n q)) h.message.what) (sym (asked_off q off)) h.carries))
     ]
 
 -- the next message of the kernel may be put
@@ -143,7 +143,7 @@ may_answer b m pt l records k y p c a h =
       carried = λ between q about.
           let e : p ≡ q = of_same p q (sym h.about ∙ about) in
           subst (λ (z : Pid). IsCarried l (h.asked z) (at_machine records m h.state.records) z x) e (search
-          (subst (λ (o : Option machine.KernelKnown). Carries p a.process (h.asked p) (incoming_of o) h.what) (sym known) h.carries));
+          (subst (λ (o : Option machine.KernelKnown). Carries p a.process (l.notes p) (h.asked p) (incoming_of o) h.what) (sym known) h.carries));
     }
   where
     of_same : (i j : Pid) → Of i ≡ Of j → i ≡ j

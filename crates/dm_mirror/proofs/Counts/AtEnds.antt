@@ -3,11 +3,15 @@ use Rattle.dm_mirror.proofs.Names.{◌≡◌, ◌⊎◌, inl, inr, ℕ, ◌+◌,
 use Rattle.dm_mirror.proofs.Names.{bind-is, Line, Stage, Load, Receiver, Part, Says, Routes, Again, Owns, Transmits, Spelled, goes_out, packet_line, puts, spelled, Point, after, kernel_after, label_of, moved, View, own_id, view_after}
 use Rattle.dm_mirror.proofs.Names.{onward, said, says_next, transmits_next, ◌++◌, ⊤, slice_get, PlainMessage, Boot, manager, Step, migrates, sends_on, to_kernel, updates, outcome, About, Told, actor, arrives_net, resends_net, by_migrates}
 use Rattle.dm_mirror.proofs.Names.{by_hears, nat_tests}
+use Rattle.dm_message.specs.declared.Outcome.{Outcome}
+use Rattle.dm_onekernel.specs.Kernel.{MoveNote}
+use Rattle.dm_rule.specs.Migrating.{leaves_for, tells_asker}
+use Rattle.dm_rule.specs.Point.{seen}
 use Rattle.dm_rule.specs.Rule as rule
-use Rattle.dm_mirror.proofs.Paying.{Paid, AreMute, PaidIf, forwards_paid, front_paid, mute_paid, net_paid, round_paid}
+use Rattle.dm_mirror.proofs.Paying.{Paid, AreMute, PaidIf, answers_paid, forwards_paid, line_within, front_paid, mute_paid, net_paid, round_paid}
 use Rattle.dm_mirror.proofs.Raises.{Within, sent_of}
-use Rattle.dm_mirror.proofs.Totals.{Grows, grows_on, grows_same, ids_of, line_grows, put_adds}
-use Rattle.dm_mirror.proofs.Counts.Pairs.{Still, bears, line_moves, line_still, still_on, still_self}
+use Rattle.dm_mirror.proofs.Totals.{Grows, grows_on, grows_same, ids_of, line_grows, put_adds, seen_grows}
+use Rattle.dm_mirror.proofs.Counts.Pairs.{Still, bears, line_moves, line_still, seen_still, still_on, still_self}
 
 -- parts without a step, and after which as many moves are counted
 abbrev pub AllBear : List Part → Type 0
@@ -40,7 +44,7 @@ pub record FrontRestarts (pt : Point) (m : ℕ) (p : Pid) : Type 0 where
 pub data Sort (pt : Point) (m : ℕ) (ps : List Part) : Type 0 where
   Pays : (paid : Paid pt.kernel ps) → Sort pt m ps
   Bears : (all : AllBear ps) → (own : HasOwn ps) → Sort pt m ps
-  Restarts : (p : Pid) → (front : FrontRestarts pt m p) → (is : ps ≡ Says (Line.Migration Stage.Restarted p) ∷ []) → Sort pt m ps
+  Restarts : (p : Pid) → (front : FrontRestarts pt m p) → (asked : Option MoveNote) → (is : ps ≡ Says (Line.Migration Stage.Restarted p) ∷ tells_asker asked Outcome.Done) → Sort pt m ps
 
 abbrev pub SortIf : Point → ℕ → Option (List Part) → Type 0
 SortIf pt m None = ⊤
@@ -71,7 +75,8 @@ hears_sort b pt m i is o box told = sort_of pt m (rule.hears b pt m i o) (λ ps.
   told = λ p x about alive. record {
     accepted = λ ask. Bears (refl, tt) tt;
     lacks = λ slots blocks. mute pt m (Says (Line.Lacks p slots blocks) ∷ to_kernel MessageKind.Refuse i.from.home ∷ []) (refl, refl, tt);
-    stays = λ kind. mute pt m (Says (Line.Stays p) ∷ []) (refl, refl, tt);
+    stays = λ kind none. mute pt m (Says (Line.Stays p) ∷ []) (refl, refl, tt);
+    stays_asked = λ kind n asked. Pays (refl, λ s e. inl (line_within pt.kernel s None refl e, answers_paid s n.id Outcome.Stayed));
     state = mute pt m (Says (Line.Proto i) ∷ to_kernel MessageKind.State i.from.home ∷ []) (refl, refl, tt);
     next_chunk = mute pt m (Says (Line.Proto i) ∷ to_kernel MessageKind.PullState i.from.home ∷ []) (refl, refl, tt);
     last_chunk = mute pt m (Says (Line.Migration Stage.StateTaken p) ∷ to_kernel MessageKind.PullBlock i.from.home ∷ []) (refl, refl, tt);
@@ -79,7 +84,8 @@ hears_sort b pt m i is o box told = sort_of pt m (rule.hears b pt m i o) (λ ps.
     next_block = mute pt m (Says (Line.Proto i) ∷ to_kernel MessageKind.PullBlock i.from.home ∷ []) (refl, refl, tt);
     last_block = mute pt m (Says (Line.Migration Stage.MemoryTaken p) ∷ to_kernel MessageKind.AllTaken i.from.home ∷ []) (refl, refl, tt);
     left = λ ids to frozen. Bears (refl, sends_bear to ids (Says (Line.Migration Stage.Left p) ∷ to_kernel MessageKind.Restart i.from.home ∷ []) (refl, tt)) (sends_own to ids (Says (Line.Migration Stage.Left p) ∷ to_kernel MessageKind.Restart i.from.home ∷ []) tt);
-    restarted = λ kind. Restarts p (record { id = i; rest = is; told = t; box = box; told_is = told ∙ there; kind_is = kind; about = about }) refl;
+    restarted = λ kind none. Restarts p (record { id = i; rest = is; told = t; box = box; told_is = told ∙ there; kind_is = kind; about = about }) None refl;
+    restarted_asked = λ kind n asked. Restarts p (record { id = i; rest = is; told = t; box = box; told_is = told ∙ there; kind_is = kind; about = about }) (Some n) refl;
   };
   updated = λ kind. mute pt m (updates pt i t) (refl, refl, tt);
   updated_none = λ kind at_. mute pt m (Says (Line.Updated i 0) ∷ []) (refl, refl, tt);
@@ -88,7 +94,7 @@ hears_sort b pt m i is o box told = sort_of pt m (rule.hears b pt m i o) (λ ps.
   coming = λ from at_. mute pt m (Says (Line.Held i) ∷ []) (refl, refl, tt);
   forwarded = λ to moves at_. Pays (forwards_paid pt.kernel pt.addresses i t.kind manager to);
   stays_here = λ at_. mute pt m (Says (Line.Here i) ∷ []) (refl, refl, tt);
-  frozen = λ to at_. mute pt m (Says (Line.Migration Stage.Frozen t.receiver) ∷ Says (Line.Migration Stage.Asked t.receiver) ∷ to_kernel MessageKind.Ask to ∷ []) (refl, refl, (refl, refl, tt));
+  frozen = λ to at_. mute pt m (leaves_for t.receiver to) (refl, refl, (refl, refl, tt));
 }))
 
 comes_sort : (b : Boot) (pt : Point) (m : ℕ) (i : MsgId) (is : List MsgId) (o : Option PlainMessage) → pt.view.inbox m ≡ i ∷ is → pt.kernel.bag i ≡ o → SortIf pt m (rule.comes_to b pt m i o)
@@ -120,7 +126,7 @@ pub record Under (n : ℕ) (s : OneKernel) : Type 0 where
   pub made : (h : ℕ) → s.made h ≤ n
   pub names : length s.switchboard.names ≤ n
 
-under_within : (n k m : ℕ) (s t : OneKernel) → n + k ≤ m → Within k s t → Under n s → Under m t
+pub under_within : (n k m : ℕ) (s t : OneKernel) → n + k ≤ m → Within k s t → Under n s → Under m t
 under_within n k m s t le w h = record {
   sent = λ p. omega (arith, le, w.sent p, h.sent p);
   board = omega (arith, le, w.board, h.board);
@@ -155,6 +161,7 @@ puts_behind u v w g h = let more = h.more in let less = g.ids h.from h.to in rec
 -- one route
 pub record AfterPut (pt next : Point) : Type 0 where
   pub kernel : next.kernel ≡ pt.kernel
+  pub known : next.view.known ≡ pt.view.known
   pub grows : Grows pt.view next.view
   pub still : Still pt.view next.view
   pub puts : PutsOne pt.view next.view
@@ -163,7 +170,7 @@ packet_next : (pt mid : Point) (a b k : ℕ) (l : Load) → AfterPut pt mid → 
 packet_next pt mid a b k l h =
     let w = view_after mid.view (Line.Packet a b k l) in
     let g = line_grows mid.view (Line.Packet a b k l) in
-    record { kernel = h.kernel; grows = grows_on pt.view mid.view w h.grows g; still = still_on pt.view mid.view w h.still (line_still mid.view (Line.Packet a b k l) refl); puts = puts_behind pt.view mid.view w g h.puts }
+    record { kernel = h.kernel; known = h.known; grows = grows_on pt.view mid.view w h.grows g; still = still_on pt.view mid.view w h.still (line_still mid.view (Line.Packet a b k l) refl); puts = puts_behind pt.view mid.view w g h.puts }
 
 rest_next : (pt mid next : Point) (a b k : ℕ) (l : Load) (home out : Bool) → AfterPut pt mid → after mid (if home then [] else if out then Line.Packet a b k l ∷ [] else []) ≡ Some next → AfterPut pt next
 rest_next pt mid next a b k l true out h e = let f : mid ≡ next = cc in subst (AfterPut pt) f h
@@ -177,7 +184,7 @@ put_next pt next b i k q ls is e =
     let l = Line.Put a b i k q in
     let adds = put_adds pt.view a b i k q in
     rest_next pt (moved pt l pt.kernel) next a b (length (pt.view.pair a b).wire) (Load.Data (length (pt.view.pair a b).ids)) (a == b) (goes_out (pt.view.pair a b))
-    (record { kernel = refl; grows = line_grows pt.view l; still = line_still pt.view l refl; puts = record { from = a; to = b; more = omega (arith, adds) } }) (ap (after pt) f ∙ e)
+    (record { kernel = refl; known = refl; grows = line_grows pt.view l; still = line_still pt.view l refl; puts = record { from = a; to = b; more = omega (arith, adds) } }) (ap (after pt) f ∙ e)
 
 -- the first part is a route
 pub record PartNext (pt : Point) (ps : List Part) (w : Spelled) : Type 0 where
@@ -187,7 +194,7 @@ pub record PartNext (pt : Point) (ps : List Part) (w : Spelled) : Type 0 where
   pub on : spelled next ps ≡ Some rest
   pub end : rest.point ≡ w.point
 
-routes_next : (pt : Point) (i : MsgId) (ps : List Part) (w : Spelled) → spelled pt (Routes i ∷ ps) ≡ Some w → PartNext pt ps w
+pub routes_next : (pt : Point) (i : MsgId) (ps : List Part) (w : Spelled) → spelled pt (Routes i ∷ ps) ≡ Some w → PartNext pt ps w
 routes_next pt i ps w e =
     let o = onward pt (Routes i) ps w e in
     let (x, there, is) = bind-is (pt.kernel.bag i) (λ x. Some (puts pt.view (pt.addresses (Receiver i)).at i (plain_kind x.what) x.to)) o.lines o.lines_are in
@@ -239,8 +246,8 @@ pub ends : (ps : List Part) (n : ℕ) (pt : Point) (w : Spelled) → spelled pt 
 ends [] n pt w e paid under = subst (Ends n pt) (said pt w e) (record { grows = grows_same pt.view pt.view refl; still = still_self pt.view; under = inl under })
 ends (Says l ∷ ps) n pt w e paid under =
     let k = says_next pt l ps w e in
-    let g = line_grows pt.view l in
-    let s = line_still pt.view l paid.0 in
+    let g = seen_grows pt.kernel pt.view l in
+    let s = seen_still pt.kernel pt.view l paid.0 in
     subst (Ends n pt) k.point
     (elim (paid.1 k.s k.is) [
       | inl h ↦ ends_before n pt (moved pt l k.s) k.rest.point g s (ends ps n (moved pt l k.s) k.rest k.more h.1 (under_within n 0 n pt.kernel k.s (omega arith) h.0 under))
@@ -286,7 +293,7 @@ pub bear_ends : (ps : List Part) (pt : Point) (w : Spelled) → spelled pt ps �
 bear_ends [] pt w e h = subst (BearEnds pt) (said pt w e) (record { kernel = refl; grows = grows_same pt.view pt.view refl; moves = refl })
 bear_ends (Says l ∷ ps) pt w e h =
     let k = says_next pt l ps w e in
-    subst (BearEnds pt) k.point (bears_before pt (moved pt l k.s) k.rest.point (same_kernel pt.kernel k.s (label_of l) (bears_none l h.0) k.is) (line_grows pt.view l) (line_moves pt.view l h.0) (bear_ends ps (moved pt l k.s) k.rest k.more h.1))
+    subst (BearEnds pt) k.point (bears_before pt (moved pt l k.s) k.rest.point (same_kernel pt.kernel k.s (label_of l) (bears_none l h.0) k.is) (seen_grows pt.kernel pt.view l) (line_moves pt.view l h.0) (bear_ends ps (moved pt l k.s) k.rest k.more h.1))
 bear_ends (Routes i ∷ ps) pt w e h = let k = routes_next pt i ps w e in part_bears ps pt w k (bear_ends ps k.next k.rest k.on h)
 bear_ends (Again i b ∷ ps) pt w e h = let k = again_next pt i b ps w e in part_bears ps pt w k (bear_ends ps k.next k.rest k.on h)
 bear_ends (Owns c q b ∷ ps) pt w e h = let k = owns_next pt c q b ps w e in part_bears ps pt w k (bear_ends ps k.next k.rest k.on h)
@@ -299,7 +306,7 @@ pub own_puts : (ps : List Part) (pt : Point) (w : Spelled) → spelled pt ps ≡
 own_puts [] pt w e h own = absurd own
 own_puts (Says l ∷ ps) pt w e h own =
     let k = says_next pt l ps w e in
-    subst (λ (q : Point). PutsOne pt.view q.view) k.point (puts_before pt.view (view_after pt.view l) k.rest.point.view (line_grows pt.view l) (own_puts ps (moved pt l k.s) k.rest k.more h.1 own))
+    subst (λ (q : Point). PutsOne pt.view q.view) k.point (puts_before pt.view (seen pt.kernel pt.view l) k.rest.point.view (seen_grows pt.kernel pt.view l) (own_puts ps (moved pt l k.s) k.rest k.more h.1 own))
 own_puts (Routes i ∷ ps) pt w e h own = let k = routes_next pt i ps w e in subst (λ (q : Point). PutsOne pt.view q.view) k.end (puts_before pt.view k.next.view k.rest.point.view k.after_put.grows (own_puts ps k.next k.rest k.on h own))
 own_puts (Again i b ∷ ps) pt w e h own = let k = again_next pt i b ps w e in subst (λ (q : Point). PutsOne pt.view q.view) k.end (puts_before pt.view k.next.view k.rest.point.view k.after_put.grows (own_puts ps k.next k.rest k.on h own))
 own_puts (Owns c q b ∷ ps) pt w e h own =

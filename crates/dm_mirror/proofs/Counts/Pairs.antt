@@ -9,6 +9,8 @@ use Rattle.dm_rule.proofs.Names.{marked}
 use Rattle.dm_rule.proofs.Lines.{parts}
 pub use Rattle.dm_rule.proofs.Lines.{eq_is as same_of}
 use Rattle.dm_rule.specs.Rule as rule
+use Rattle.dm_rule.proofs.Seen.{aim, sets}
+use Rattle.dm_rule.specs.Point.{seen}
 use Rattle.dm_rule.specs.View as view
 use Rattle.dm_mirror.proofs.Totals.{ids_of, Grows, line_grows, put_adds, total, total_adds, total_grows}
 pub use Rattle.dm_mirror.proofs.Puts.{ids_if as set_ids}
@@ -123,7 +125,7 @@ line_still v (Line.Taken a b n) e = still_same v (view_after v (Line.Taken a b n
 line_still v (Line.Queued i) e = still_same v (view_after v (Line.Queued i)) (let h = queued_same (handled v i) i (view.receiver_of (v.told i)) in record { moves = h.moves; known = h.known })
 line_still v (Line.Held i) e = still_same v (view_after v (Line.Held i)) (let h = held_same (handled v i) i (view.receiver_of (v.told i)) in record { moves = h.moves; known = h.known })
 line_still v (Line.Forwarded i m) e = still_same v (view_after v (Line.Forwarded i m)) (let h = forwarded_same (handled v i) (view.receiver_of (v.told i)) in record { moves = h.moves; known = h.known })
-line_still v (Line.Migration Stage.Frozen p) e = still_set v (view_after v (Line.Migration Stage.Frozen p)) v.acting p (view.Frozen (view.target_of (view.front_told v (v.inbox v.acting)))) refl refl refl
+line_still v (Line.Migration Stage.Frozen p) e = let h = sets v p v.topic in still_set v (view_after v (Line.Migration Stage.Frozen p)) v.acting p (view.Frozen (aim v v.topic)) h.moves h.known refl
 line_still v (Line.Migration Stage.Asked p) e = still_same v (view_after v (Line.Migration Stage.Asked p)) (record { moves = refl; known = refl })
 line_still v (Line.Migration Stage.Accepted p) e = absurd (false≢true e)
 line_still v (Line.Migration Stage.StateTaken p) e = still_same v (view_after v (Line.Migration Stage.StateTaken p)) (record { moves = refl; known = refl })
@@ -134,8 +136,15 @@ line_still v (Line.Stays p) e = still_set v (view_after v (Line.Stays p)) v.acti
 line_still v (Line.Proto i) e = still_same v (view_after v (Line.Proto i)) (let h = proto_same (handled v i) (v.told i) in record { moves = h.moves; known = h.known })
 line_still v any_ e = still_same v (view_after v any_) (record { moves = refl; known = refl })
 
+-- the topic is no part of it
+pub seen_still : (s : OneKernel) (v : View) (l : Line) → is_free l ≡ true → Still v (seen s v l)
+seen_still s v l e = let h = line_still v l e in record { moves = h.moves; incoming = h.incoming; forward = h.forward }
+
+sets_moves : (v : View) (p : Pid) (a : About) → (view.sets_off v p a).moves ≡ v.moves
+sets_moves v p a = (sets v p a).moves
+
 pub line_moves : (v : View) (l : Line) → bears l ≡ true → (view_after v l).moves ≡ v.moves
-line_moves v l e = grind (arith, nat_tests)
+line_moves v l e = grind (arith, nat_tests, sets_moves)
 
 -- No count is too great.
 
@@ -156,6 +165,7 @@ pub record CountsFew (pt : Point) : Type 0 where
 -- The acting machine stays, but for heads and what comes over wires.
 
 stage_acting : (v : View) (p : Pid) (s : Stage) → (view.after_stage v p s).acting ≡ v.acting
+stage_acting v p Stage.Frozen = (sets v p v.topic).acting
 stage_acting v p s = grind (arith, nat_tests)
 
 pub line_acting : (v : View) (l : Line) → touches l ≡ false → (view_after v l).acting ≡ v.acting
@@ -171,24 +181,24 @@ pub within_before : (n : ℕ) (v w : View) → Grows v w → PairsWithin n w →
 within_before n v w g h = λ a c some. h a c (let k = g.ids a c in omega (arith, some, k))
 
 -- what each line keeps, each group keeps
-pub after_keeps : (P : View → Type 0) → ((v : View) (l : Line) → P v → P (view_after v l)) → (ls : List Line) (pt next : Point) → after pt ls ≡ Some next → P pt.view → P next.view
-after_keeps P keep [] pt next e h = let f : pt ≡ next = cc in subst (λ (q : Point). P q.view) f h
-after_keeps P keep (l ∷ ls) pt next e h =
+pub after_keeps : (P : View → Type 0) → ((v : View) (a : About) → P v → P (view.about v a)) → ((v : View) (l : Line) → P v → P (view_after v l)) → (ls : List Line) (pt next : Point) → after pt ls ≡ Some next → P pt.view → P next.view
+after_keeps P topic keep [] pt next e h = let f : pt ≡ next = cc in subst (λ (q : Point). P q.view) f h
+after_keeps P topic keep (l ∷ ls) pt next e h =
     let (mid, first, rest) = bind-is (after_line pt l) (λ n. after n ls) next e in
     let (s, is, last) = bind-is (kernel_after pt.kernel (label_of l)) (λ (s : OneKernel). Some (moved pt l s)) mid first in
     let f : moved pt l s ≡ mid = cc in
-    after_keeps P keep ls mid next rest (subst (λ (q : Point). P q.view) f (keep pt.view l h))
+    after_keeps P topic keep ls mid next rest (subst (λ (q : Point). P q.view) f (topic (view_after pt.view l) (seen pt.kernel pt.view l).topic (keep pt.view l h)))
 
-pub parts_keep : (P : View → Type 0) → ((v : View) (l : Line) → P v → P (view_after v l)) → (ps : List Part) (pt : Point) (w : Spelled) → spelled pt ps ≡ Some w → P pt.view → P w.point.view
-parts_keep P keep [] pt w e h = subst (λ (q : Point). P q.view) (said pt w e) h
-parts_keep P keep (p ∷ ps) pt w e h =
+pub parts_keep : (P : View → Type 0) → ((v : View) (a : About) → P v → P (view.about v a)) → ((v : View) (l : Line) → P v → P (view_after v l)) → (ps : List Part) (pt : Point) (w : Spelled) → spelled pt ps ≡ Some w → P pt.view → P w.point.view
+parts_keep P topic keep [] pt w e h = subst (λ (q : Point). P q.view) (said pt w e) h
+parts_keep P topic keep (p ∷ ps) pt w e h =
     let o = onward pt p ps w e in
-    subst (λ (q : Point). P q.view) o.end (parts_keep P keep ps o.next o.rest o.on (after_keeps P keep o.lines pt o.next o.leads h))
+    subst (λ (q : Point). P q.view) o.end (parts_keep P topic keep ps o.next o.rest o.on (after_keeps P topic keep o.lines pt o.next o.leads h))
 
-pub group_keeps : (P : View → Type 0) → ((v : View) (l : Line) → P v → P (view_after v l)) → (b : Boot) (pt : Point) (d : Step) (w : Spelled) → group_of b pt d ≡ Some w → P pt.view → P w.point.view
-group_keeps P keep b pt d w e h =
+pub group_keeps : (P : View → Type 0) → ((v : View) (a : About) → P v → P (view.about v a)) → ((v : View) (l : Line) → P v → P (view_after v l)) → (b : Boot) (pt : Point) (d : Step) (w : Spelled) → group_of b pt d ≡ Some w → P pt.view → P w.point.view
+group_keeps P topic keep b pt d w e h =
     let g = group_is b pt d w e in
-    subst (λ (q : Point). P q.view) g.point (parts_keep P keep g.parts (moved pt (Line.Head d) pt.kernel) g.rest g.said (keep pt.view (Line.Head d) h))
+    subst (λ (q : Point). P q.view) g.point (parts_keep P topic keep g.parts (moved pt (Line.Head d) pt.kernel) g.rest g.said (keep pt.view (Line.Head d) h))
 
 -- a put counts at most one
 abbrev pub OwnFew : ℕ → View → Type 0
@@ -225,7 +235,7 @@ line_own top v (Line.Put a b i k q) h = λ within m.
 line_own top v any_ h = still_own top v any_ refl h
 
 pub own_group : (n : ℕ) (b : Boot) (pt : Point) (d : Step) (w : Spelled) → group_of b pt d ≡ Some w → OwnFew n pt.view → OwnFew n w.point.view
-own_group n b pt d w e h = group_keeps (OwnFew n) (line_own n) b pt d w e h
+own_group n b pt d w e h = group_keeps (OwnFew n) (λ v a k. k) (line_own n) b pt d w e h
 
 -- Only pairs of machines that there are have messages.
 
@@ -308,7 +318,7 @@ fresh_parts : (ps : List Part) (f : ℕ → ℕ → Pair) (u : View) (m : ℕ) (
 fresh_parts [] f u m pt w fits e h = subst (λ (q : Point). Fresh u m q.view) (said pt w e) h
 fresh_parts (Says l ∷ ps) f u m pt w fits e h =
     let k = says_next pt l ps w e in
-    subst (λ (q : Point). Fresh u m q.view) k.point (fresh_parts ps f u m (moved pt l k.s) k.rest fits.1 k.more (fresh_same u m pt.view (view_after pt.view l) (line_acting pt.view l fits.0) (pair_same pt.view l fits.0) h))
+    subst (λ (q : Point). Fresh u m q.view) k.point (fresh_parts ps f u m (moved pt l k.s) k.rest fits.1 k.more (fresh_same u m pt.view (seen pt.kernel pt.view l) (line_acting pt.view l fits.0) (pair_same pt.view l fits.0) h))
 fresh_parts (Routes i ∷ ps) f u m pt w fits e h =
     let o = onward pt (Routes i) ps w e in
     let (x, there, is) = bind-is (pt.kernel.bag i) (λ x. Some (puts pt.view (pt.addresses (Receiver i)).at i (plain_kind x.what) x.to)) o.lines o.lines_are in
@@ -371,6 +381,12 @@ fresh_within b u m n end machines small run h within = λ a c some.
 
 pub net_ids : (v : View) (l : Line) → IsNetLine l → (a c : ℕ) → ((view_after v l).pair a c).ids ≡ (v.pair a c).ids
 net_ids v l h a c = grind (arith, nat_tests, taken_pair, set_ids)
+
+head_ids : (v : View) (d : Step) (x y : ℕ) → ((view_after v (Line.Head d)).pair x y).ids ≡ (v.pair x y).ids
+head_ids v d x y = grind (arith, nat_tests, set_ids)
+
+pub line_ids : (v : View) (l : Line) → is_put l ≡ false → (x y : ℕ) → ((view_after v l).pair x y).ids ≡ (v.pair x y).ids
+line_ids v l e x y = grind (arith, nat_tests, head_ids, set_ids, net_ids, pair_same)
 
 net_parts : (ps : List Part) (pt : Point) (w : Spelled) → IsNet ps → spelled pt ps ≡ Some w → (a c : ℕ) → (w.point.view.pair a c).ids ≡ (pt.view.pair a c).ids
 net_parts [] pt w h e a c = ap (λ (q : Point). (q.view.pair a c).ids) (sym (said pt w e))

@@ -6,7 +6,7 @@ use Rattle.dm_mirror.proofs.Names.{BootImage, BootProcess, IsValid, manager, pro
 use Rattle.dm_mirror.proofs.Names.{kind_leaves, at_pid, at_record, rests_here, InPhases, stands_first}
 use Rattle.dm_laws.proofs.Names.{begun}
 use Rattle.std.proofs.Common.{length-append}
-use Rattle.dm_mirror.proofs.Counts.Pairs.{net_ids, same_of, set_ids, PairsWithin, group_keeps, OwnFew, Still}
+use Rattle.dm_mirror.proofs.Counts.Pairs.{line_ids, same_of, PairsWithin, group_keeps, OwnFew, Still}
 use Rattle.dm_mirror.proofs.Totals.{from_one, ids_of, sum_to, total, sum_more, Grows, total_grows}
 use Rattle.dm_mirror.proofs.Counts.AtEnds.{Under, FrontRestarts}
 use Rattle.dm_mirror.proofs.Machines.{few_machines}
@@ -22,12 +22,6 @@ pub record IsRouted (v : View) (i : MsgId) : Type 0 where
 
 abbrev pub Routed : View → Type 0
 Routed v = (i : MsgId) → is_some (v.told i) ≡ true → IsRouted v i
-
-head_ids : (v : View) (d : Step) (x y : ℕ) → ((view_after v (Line.Head d)).pair x y).ids ≡ (v.pair x y).ids
-head_ids v d x y = grind (arith, nat_tests, set_ids)
-
-line_ids : (v : View) (l : Line) → is_put l ≡ false → (x y : ℕ) → ((view_after v l).pair x y).ids ≡ (v.pair x y).ids
-line_ids v l e x y = grind (arith, nat_tests, head_ids, set_ids, net_ids, pair_same)
 
 still_routed : (v : View) (l : Line) → is_put l ≡ false → Routed v → Routed (view_after v l)
 still_routed v l off h = λ i told.
@@ -59,7 +53,7 @@ line_routed v (Line.Put a b i k q) h = put_routed v a b i k q h
 line_routed v any_ h = still_routed v any_ refl h
 
 pub routed_group : (b : Boot) (pt : Point) (d : Step) (w : Spelled) → group_of b pt d ≡ Some w → Routed pt.view → Routed w.point.view
-routed_group b pt d w e h = group_keeps Routed line_routed b pt d w e h
+routed_group b pt d w e h = group_keeps Routed (λ v a k. k) line_routed b pt d w e h
 
 pub routed_start : (b : Boot) → Routed (first_view b)
 routed_start b = λ i told. absurd (false≢true told)

@@ -293,7 +293,7 @@ module _ (b : Boot) (w : WorldState) (pt : Point) (l : Placed) (h : History) (a 
       let k = s.tokens p i t y told between about there in
       let d : ℕ = destination_of i t in
       search
-      (subst (λ (f : Pid → Option machine.KernelKnown). Carries p k.process (pt.view.asked p) (incoming_of (f p)) k.message.what) (sym (records_at d)) k.carries)
+      (subst (λ (f : Pid → Option machine.KernelKnown). Carries p k.process (l.notes p) (pt.view.asked p) (incoming_of (f p)) k.message.what) (sym (records_at d)) k.carries)
 
   pub moves_stand : StandsWith b v q l g
   moves_stand = subst (λ (z : Point). StandsWith b v z l g) (sym e.point) (record {

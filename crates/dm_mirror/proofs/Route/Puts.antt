@@ -8,6 +8,8 @@ use Rattle.dm_mirror.proofs.Names.{Sort, sort_of, own_given, ◌≢◌, zero, su
 use Rattle.dm_mirror.proofs.Names.{taken_by, taken_of_home, Known, Unknown, Here, Frozen, Incoming, Forward, Ended, AreMessages, ComesStand, HereStands, KernelStands, KnownStands, LeavesStand, NodeStands, PairStands, RoomStands, servers_at}
 use Rattle.dm_places.specs.PlacedStep.{with_message}
 pub use Rattle.dm_rulelaws.proofs.Based.Queues.{told_kept as told_stays}
+use Rattle.dm_message.specs.declared.Asker.{Asker}
+use Rattle.dm_migrate.specs.Way.{coming}
 use Rattle.dm_kernel.specs.State as machine
 use Rattle.dm_rule.specs.Parts as rule
 use Rattle.dm_mirror.proofs.Turning.{Route, First, On, Own, MayOwn, MayPut, IsCarried, message_of, rule_part_of, Late, Nothing, Leaves, LateTopic, late_point}
@@ -27,6 +29,7 @@ core_of b w pt l h s = record { groups = s.groups; nodes = s.nodes; pairs = s.pa
 pub record MoreBag (l u : Placed) : Type 0 where
   pub bag : (i : MsgId) (x : Message) → l.bag i ≡ Some x → u.bag i ≡ Some x
   pub processes : (p : Pid) → u.processes p ≡ l.processes p
+  pub notes : (p : Pid) → u.notes p ≡ l.notes p
   pub board : u.board ≡ l.board
   pub manager : u.manager ≡ l.manager
 
@@ -55,10 +58,17 @@ module _ (b : Boot) (pt : Point) (l u : Placed) (a : Addresses) (e : MoreBag l u
   here_more p queue x h = ((h.0.0, e.processes p ∙ h.0.1), messages_more l.bag u.bag e.bag queue x.queue h.1)
 
   leaves_more : (p : Pid) (queue held : List MsgId) (to : ℕ) (d : Departure) → LeavesStand l p queue held to d → LeavesStand u p queue held to d
-  leaves_more p queue held to d h = record { to = h.to; asker = h.asker; here = here_more p queue d.process h.here; held = messages_more l.bag u.bag e.bag held d.held h.held; whole = h.whole }
+  leaves_more p queue held to d h =
+      record { to = h.to; asker = h.asker ∙ sym (e.notes p); here = here_more p queue d.process h.here; held = messages_more l.bag u.bag e.bag held d.held h.held; whole = h.whole }
 
   comes_more : (p : Pid) (held : List MsgId) (x : Arrival) → ComesStand l p held x → ComesStand u p held x
-  comes_more p held x h = record { process = h.process; there = e.processes p ∙ h.there; whole = h.whole; pieces = h.pieces; held = messages_more l.bag u.bag e.bag held x.held h.held }
+  comes_more p held x h = record {
+    process = h.process;
+    there = e.processes p ∙ h.there;
+    whole = h.whole;
+    pieces = h.pieces ∙ ap (λ (k : Option Asker). coming h.process k x.held x.wanted) (sym (e.notes p));
+    held = messages_more l.bag u.bag e.bag held x.held h.held;
+  }
 
   known_more : (p : Pid) (queue held : List MsgId) (k : Known) (r : Option machine.KernelKnown) → KnownStands pt l p queue held k r → KnownStands next u p queue held k r
   known_more p queue held Unknown None h = h
@@ -108,8 +118,8 @@ bag_kept : (l : Placed) (x : Message) → l.bag x.id ≡ None → (i : MsgId) (y
 bag_kept l x none i y e = grind (arith, nat_tests, id_eq-is, bag_off)
 
 pub route_more : (pt : Point) (l : Placed) (records : AllRecords) (r : Route) → MayPut pt l records r → MoreBag l (after_route l r)
-route_more pt l records (Own x) may = record { bag = bag_kept l x may.bag; processes = λ p. refl; board = refl; manager = refl }
-route_more pt l records _ may = record { bag = λ i x e. e; processes = λ p. refl; board = refl; manager = refl }
+route_more pt l records (Own x) may = record { bag = bag_kept l x may.bag; processes = λ p. refl; notes = λ p. refl; board = refl; manager = refl }
+route_more pt l records _ may = record { bag = λ i x e. e; processes = λ p. refl; notes = λ p. refl; board = refl; manager = refl }
 
 pub route_there : (pt : Point) (l : Placed) (records : AllRecords) (r : Route) → MayPut pt l records r → (after_route l r).bag (message_of r).id ≡ Some (message_of r)
 route_there pt l records r may = grind (arith, nat_tests, bag_here)
@@ -161,7 +171,8 @@ token_kept v u l k r s p i t more asked records h =
     search (
       more.processes p ∙ h.there,
       more.bag i h.message h.is,
-      subst (λ (n : ℕ). Carries p h.process n (incoming_of (s d p)) h.message.what) (sym asked) (subst (λ (f : Pid → Option machine.KernelKnown). Carries p h.process (v.asked p) (incoming_of (f p)) h.message.what) (sym (records d)) h.carries),
+      subst (λ (o : Option Asker). Carries p h.process o (u.asked p) (incoming_of (s d p)) h.message.what) (sym (more.notes p))
+      (subst (λ (n : ℕ). Carries p h.process (l.notes p) n (incoming_of (s d p)) h.message.what) (sym asked) (subst (λ (f : Pid → Option machine.KernelKnown). Carries p h.process (l.notes p) (v.asked p) (incoming_of (f p)) h.message.what) (sym (records d)) h.carries)),
     )
 
 first_kind : (o : Option Told) (u t : Told) → Some (first_told o u) ≡ Some t → is_between u.kind ≡ false → ((s : Told) → o ≡ Some s → is_between s.kind ≡ false) → is_between t.kind ≡ false
@@ -210,7 +221,7 @@ route_tokens pt l r s m (Own x) may records sane fits mirrors h =
     subst (λ (z : Told). TokenStands (after_put pt.view m x.to.at x.id (kind_of x.what) x.to.pid) (with_message l x.id (Some x)) s p x.id z) is
     (search (
       bag_here l x,
-      subst (λ (f : Pid → Option machine.KernelKnown). Carries p c.process (pt.view.asked p) (incoming_of (f p)) x.what) (sym (records (destination_of x.id (told_of x)))) c.carries,
+      subst (λ (f : Pid → Option machine.KernelKnown). Carries p c.process (l.notes p) (pt.view.asked p) (incoming_of (f p)) x.what) (sym (records (destination_of x.id (told_of x)))) c.carries,
     )))
 
 -- the world stands for the point behind the put

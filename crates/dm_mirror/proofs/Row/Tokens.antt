@@ -5,6 +5,7 @@ use Rattle.dm_mirror.proofs.Names.{Point, Spot, standing, View, Known, Of, Told,
 use Rattle.dm_mirror.proofs.Names.{List, [], ◌∷◌, ◌++◌, map, inl, inr, arith, eqb_tells, Boot, at_machine, Run, KernelState, nat_tests}
 use Rattle.dm_kernel.specs.declared.part.Part.{Part}
 use Rattle.dm_kernel.specs.State as machine
+use Rattle.dm_message.specs.declared.Asker.{Asker}
 use Rattle.dm_rule.specs.Parts as rule
 use Rattle.dm_mirror.proofs.Turning.{has_process, is_moving, AllMayPut, First, IsSent, Nothing, Route, Row, TurnsAt, begun, owns, part_of, routed, rule_part_of, rule_routed}
 use Rattle.dm_mirror.proofs.Kernel.Sets.{eq_self, not_is, off_if, on_if, eq_apart}
@@ -13,20 +14,20 @@ use Rattle.dm_mirror.proofs.Serve.Stops.{nothing_more}
 use Rattle.dm_mirror.proofs.Serve.Receives.{Ready, serve_row}
 
 -- what a message of a migration carries has no plain meaning
-pub carries_plain : (p : Pid) (x : Process) (n : ℕ) (a : Option Arrival) (w : What) → Carries p x n a w → plain_what w ≡ None
-carries_plain p x n a w h = grind (arith, nat_tests)
+pub carries_plain : (p : Pid) (x : Process) (k : Option Asker) (n : ℕ) (a : Option Arrival) (w : What) → Carries p x k n a w → plain_what w ≡ None
+carries_plain p x k n a w h = grind (arith, nat_tests)
 
 -- what it carries depends on what comes only once that was accepted
-carries_on : (p : Pid) (x : Process) (n : ℕ) (a c : Option Arrival) (w : What) → (is_early (kind_of w) ≡ false → a ≡ c) → Carries p x n a w → Carries p x n c w
-carries_on p x n a c (What.Ask pid blocks moves size asker) same h = h
-carries_on p x n a c (What.Refuse pid slots blocks) same h = h
-carries_on p x n a c (What.PullState pid chunk) same h = subst (λ (o : Option Arrival). Carries p x n o (What.PullState pid chunk)) (same refl) h
-carries_on p x n a c (What.State pid chunk last bytes) same h = subst (λ (o : Option Arrival). Carries p x n o (What.State pid chunk last bytes)) (same refl) h
-carries_on p x n a c (What.PullBlock pid block) same h = subst (λ (o : Option Arrival). Carries p x n o (What.PullBlock pid block)) (same refl) h
-carries_on p x n a c (What.Memory pid block bytes) same h = subst (λ (o : Option Arrival). Carries p x n o (What.Memory pid block bytes)) (same refl) h
-carries_on p x n a c (What.AllTaken pid) same h = subst (λ (o : Option Arrival). Carries p x n o (What.AllTaken pid)) (same refl) h
-carries_on p x n a c (What.Restart pid) same h = subst (λ (o : Option Arrival). Carries p x n o (What.Restart pid)) (same refl) h
-carries_on p x n a c w same h = absurd h
+carries_on : (p : Pid) (x : Process) (k : Option Asker) (n : ℕ) (a c : Option Arrival) (w : What) → (is_early (kind_of w) ≡ false → a ≡ c) → Carries p x k n a w → Carries p x k n c w
+carries_on p x k n a c (What.Ask pid blocks moves size asker) same h = h
+carries_on p x k n a c (What.Refuse pid slots blocks) same h = h
+carries_on p x k n a c (What.PullState pid chunk) same h = subst (λ (o : Option Arrival). Carries p x k n o (What.PullState pid chunk)) (same refl) h
+carries_on p x k n a c (What.State pid chunk last bytes) same h = subst (λ (o : Option Arrival). Carries p x k n o (What.State pid chunk last bytes)) (same refl) h
+carries_on p x k n a c (What.PullBlock pid block) same h = subst (λ (o : Option Arrival). Carries p x k n o (What.PullBlock pid block)) (same refl) h
+carries_on p x k n a c (What.Memory pid block bytes) same h = subst (λ (o : Option Arrival). Carries p x k n o (What.Memory pid block bytes)) (same refl) h
+carries_on p x k n a c (What.AllTaken pid) same h = subst (λ (o : Option Arrival). Carries p x k n o (What.AllTaken pid)) (same refl) h
+carries_on p x k n a c (What.Restart pid) same h = subst (λ (o : Option Arrival). Carries p x k n o (What.Restart pid)) (same refl) h
+carries_on p x k n a c w same h = absurd h
 
 -- what the two machines know
 early_leaves : (k : MessageKind) → is_early k ≡ true → is_restart k ≡ false
@@ -89,6 +90,7 @@ has_moving k h = grind (arith, nat_tests)
 -- what a row leaves of what moves
 pub record LeavesMoving (pt : Point) (l : Placed) (records : AllRecords) (next : Point) (placed : Placed) (after : AllRecords) : Type 0 where
   pub process : (n : ℕ) (p : Pid) → is_moving (pt.view.known n p) ≡ true → placed.processes p ≡ l.processes p
+  pub notes : (n : ℕ) (p : Pid) → is_moving (pt.view.known n p) ≡ true → placed.notes p ≡ l.notes p
   pub records_ : (n : ℕ) (p : Pid) → is_moving (pt.view.known n p) ≡ true → records n p ≡ after n p
   pub told : next.view.told ≡ pt.view.told
   pub lines : StillKeeps pt.view next.view
@@ -98,7 +100,7 @@ token_keeps : (pt : Point) (l : Placed) (records : AllRecords) (next : Point) (p
     → TokenStands pt.view l records p i t → TokenStands next.view placed after p i t
 token_keeps pt l records next placed after p i t g own h told s =
     let x = s.message in
-    let none : plain_message x ≡ None = ap (with_what x) (carries_plain p s.process (pt.view.asked p) (incoming_of (records (destination_of i t) p)) x.what s.carries) in
+    let none : plain_message x ≡ None = ap (with_what x) (carries_plain p s.process (l.notes p) (pt.view.asked p) (incoming_of (records (destination_of i t) p)) x.what s.carries) in
     let o = own i x s.is none in
     let is_ : Some t ≡ Some (told_of x) = sym told ∙ o.told in
     let is : t ≡ told_of x = cc in
@@ -108,7 +110,9 @@ token_keeps pt l records next placed after p i t g own h told s =
     search (
       g.process h.at p h.moving ∙ s.there,
       g.own i x none s.is,
-      subst (λ (n : ℕ). Carries p s.process n (incoming_of (after (destination_of i t) p)) x.what) (ap (λ (f : Pid → ℕ). f p) (sym g.lines.asked)) (carries_on p s.process (pt.view.asked p) (incoming_of (records (destination_of i t) p)) (incoming_of (after (destination_of i t) p)) x.what same s.carries),
+      subst (λ (o : Option Asker). Carries p s.process o (next.view.asked p) (incoming_of (after (destination_of i t) p)) x.what) (sym (g.notes h.at p h.moving))
+      (subst (λ (n : ℕ). Carries p s.process (l.notes p) n (incoming_of (after (destination_of i t) p)) x.what) (ap (λ (f : Pid → ℕ). f p) (sym g.lines.asked))
+      (carries_on p s.process (l.notes p) (pt.view.asked p) (incoming_of (records (destination_of i t) p)) (incoming_of (after (destination_of i t) p)) x.what same s.carries)),
     )
 
 -- a message of the protocol is a kernel's own
@@ -148,6 +152,10 @@ row_leaves b m pt l records k run same r = record {
   process = λ n p is. elim (eqb_tells n m) [
     | inl e ↦ (r.moving p (subst (λ (q : ℕ). is_moving (pt.view.known q p) ≡ true) e.1 is)).0
     | inr e ↦ r.elsewhere.process n p e.1 (has_moving (pt.view.known n p) is)
+  ];
+  notes = λ n p is. elim (eqb_tells n m) [
+    | inl e ↦ (r.moving p (subst (λ (q : ℕ). is_moving (pt.view.known q p) ≡ true) e.1 is)).2
+    | inr e ↦ r.elsewhere.notes n p e.1 (has_moving (pt.view.known n p) is)
   ];
   records_ = λ n p is. elim (eqb_tells n m) [
     | inl e ↦
