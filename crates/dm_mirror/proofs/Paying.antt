@@ -11,7 +11,10 @@ use Rattle.dm_onekernel.specs.Step as kernel
 use Rattle.dm_rule.specs.Rule as rule
 use Rattle.dm_rule.specs.View as view
 use Rattle.dm_mirror.proofs.Raises.{Within, ran_raises, call_raises, send_raises, wait_raises, out_raises, end_raises, receive_raises, refuse_raises}
-use Rattle.dm_mirror.proofs.RaisesMade.{board_raise, manager_raise, took_raise, took_raises, created_makes, landed_raise, served_raise, sent_raise, dropped_raises, gone_raises, no_space_raises, served_raises}
+use Rattle.dm_message.specs.declared.Outcome.{Outcome}
+use Rattle.dm_onekernel.specs.Kernel.{MoveNote}
+use Rattle.dm_rule.specs.Migrating.{answers_move, leaves_for, tells_asker}
+use Rattle.dm_mirror.proofs.RaisesMade.{board_raise, manager_raise, took_raise, took_raises, created_makes, landed_raise, served_raise, sent_raise, asked_raises, move_answered_raises, dropped_raises, gone_raises, no_space_raises, served_raises}
 use Rattle.dm_mirror.proofs.Counts.Pairs.{is_free}
 
 -- nothing is left but one message to route
@@ -148,6 +151,16 @@ lands_paid s i None h = tt
 lands_paid s i (Some (pieces.Next request x)) h = (refl, λ t e. inr (h t e, (request.id, refl)))
 lands_paid s i (Some (pieces.Done reply x)) h = (refl, λ t e. inl (h t e, tt))
 
+-- a request to move
+asked_paid : (s : OneKernel) (m : ℕ) (i : MsgId) (p : Pid) (to : ℕ) (c : Bool) → Paid s (rule.says (Label.Asked i) ∷ (if c then answers_move i Outcome.Done else leaves_for p to))
+asked_paid s m i p to true = (refl, λ t e. inl ((asked_raises s t i e).within, (refl, λ u f. inl ((move_answered_raises t u i Outcome.Done f).within, tt))))
+asked_paid s m i p to false = (refl, λ t e. inl ((asked_raises s t i e).within, (refl, λ u f. inl (line_within t u None refl f, (refl, λ v g. inl (line_within u v None refl g, tt))))))
+
+-- who asked for a move is told
+pub tells_paid : (s : OneKernel) (n : Option MoveNote) (o : Outcome) → Paid s (tells_asker n o)
+tells_paid s None o = tt
+tells_paid s (Some n) o = (refl, λ t e. inl ((move_answered_raises s t n.id o e).within, tt))
+
 here_paid : (pt : Point) (m : ℕ) (i : MsgId) (msg : PlainMessage) (x : PlainProcess) (w : PlainWhat) → msg.what ≡ w → pt.kernel.bag i ≡ Some msg → kernel.alive (pt.kernel.processes msg.to) ≡ Some x → PaidIf pt.kernel (rule.here_handles pt m i msg x w)
 here_paid pt m i msg x (PlainWhat.User code channel body links) w there alive = (refl, λ t e. inl (line_within pt.kernel t None refl e, tt))
 here_paid pt m i msg x PlainWhat.Stop w there alive = (refl, λ t e. inl (subst (λ v. Within (served_raise msg x v) pt.kernel t) w (serves_paid pt.kernel i msg x t there alive e), tt))
@@ -158,6 +171,7 @@ here_paid pt m i msg x (PlainWhat.Write base bytes) w there alive = (refl, λ t 
 here_paid pt m i msg x (PlainWhat.Block bytes) w there alive = lands_paid pt.kernel i (pieces.lands msg.to x msg x.status) (λ t e. subst (λ v. Within (served_raise msg x v) pt.kernel t) w (serves_paid pt.kernel i msg x t there alive e))
 here_paid pt m i msg x PlainWhat.Written w there alive = lands_paid pt.kernel i (pieces.lands msg.to x msg x.status) (λ t e. subst (λ v. Within (served_raise msg x v) pt.kernel t) w (serves_paid pt.kernel i msg x t there alive e))
 here_paid pt m i msg x PlainWhat.Gone w there alive = lands_paid pt.kernel i (pieces.lands msg.to x msg x.status) (λ t e. subst (λ v. Within (served_raise msg x v) pt.kernel t) w (serves_paid pt.kernel i msg x t there alive e))
+here_paid pt m i msg x (PlainWhat.Move machine) w there alive = asked_paid pt.kernel m i msg.to machine (m == machine)
 here_paid pt m i msg x _ w there alive = tt
 
 -- or an ended one's
@@ -167,7 +181,7 @@ ended_paid s i (PlainWhat.Write base bytes) = (refl, λ t e. inl ((gone_raises s
 ended_paid s i (PlainWhat.Create image links) = tt
 ended_paid s i (PlainWhat.Created pid) = tt
 ended_paid s i PlainWhat.NoRoom = tt
-ended_paid s i (PlainWhat.Move machine) = tt
+ended_paid s i (PlainWhat.Move machine) = (refl, λ t e. inl ((gone_raises s t i e).within, tt))
 ended_paid s i (PlainWhat.Moved outcome) = tt
 ended_paid s i _ = (refl, λ t e. inl ((dropped_raises s t i e).within, tt))
 

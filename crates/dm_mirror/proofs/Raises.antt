@@ -1,6 +1,7 @@
 -- How much a step of the kernel without machines raises its counts, and which processes there are behind it: what processes say.
 use Rattle.dm_mirror.proofs.Names.{◌≡◌, ℕ, ◌+◌, ◌≤◌, Bool, true, refl, ap, ◌∙◌, subst, is_some, arith, length, if◌then◌else◌, Option, None, Some, Pid, pid_eq, MsgId, Label, Called, Reply, Why, bind, PlainProcess, PlainStatus, nat_tests}
-use Rattle.dm_mirror.proofs.Names.{Life, Alive, Switchboard, Manager, OneKernel, with_process, without_message, pid_eq-is, bind-is, when-is, Nexts, nexts, alive-is, Completing, completing}
+use Rattle.dm_mirror.proofs.Names.{Life, Alive, Switchboard, Manager, OneKernel, with_process, without_message, pid_eq-is, bind-is, when-is, Nexts, nexts, Completing, completing}
+use Rattle.dm_laws.proofs.Steps.{at_hand-is}
 use Rattle.dm_onekernel.specs.Kernel.{Ended, with_sent}
 use Rattle.dm_onekernel.specs.Receiving as receiving
 use Rattle.dm_onekernel.specs.Step as step
@@ -86,11 +87,16 @@ stopped_is y c x e = grind (arith, nat_tests)
 ready_is : (y : PlainProcess) (st : PlainStatus) (x : PlainProcess) → step.if_ready y st ≡ Some x → y ≡ x
 ready_is y st x e = grind (arith, nat_tests, stopped_is)
 
+runs : (s : OneKernel) (p : Pid) (x : PlainProcess) → step.running s p ≡ Some x → s.processes p ≡ Some (Alive x)
+runs s p x e =
+    let (y, hand, ready) = bind-is (step.at_hand s p) (λ v. step.if_ready v v.status) x e in
+    (at_hand-is s p x (hand ∙ ap Some (ready_is y y.status x ready))).1
+
 pub ran_raises : (s t : OneKernel) (p : Pid) (k : ℕ) → step.step s (Label.Ran p k) ≡ Some t → Raises 0 s t
 ran_raises s t p k is =
     let (x, running, rest) = bind-is (step.running s p) (λ v. bind (step.plain_steps k (step.machine_of v)) (λ m. Some (step.goes_on s p (step.with_machine v m)))) t is in
     let (m, plain, last) = bind-is (step.plain_steps k (step.machine_of x)) (λ m. Some (step.goes_on s p (step.with_machine x m))) t rest in
-    goes_raises s t p x (step.with_machine x m) (let e : step.goes_on s p (step.with_machine x m) ≡ t = cc in e) (grind (arith, nat_tests, bind-is, alive-is, ready_is)) refl
+    goes_raises s t p x (step.with_machine x m) (let e : step.goes_on s p (step.with_machine x m) ≡ t = cc in e) (runs s p x running) refl
 
 replies_raise : (s t : OneKernel) (p : Pid) (n : ℕ) (c : Reply) (next : step.Trap) → Nexts s p next → step.replies s p n c next ≡ Some t → Raises 0 s t
 replies_raise s t p n c (step.Calls number (Called.Replies reply y)) w is =

@@ -1,10 +1,15 @@
 -- How much a step raises counts: what kernels and servers say.
 use Rattle.dm_mirror.proofs.Names.{◌≡◌, ◌≢◌, ◌⊎◌, inl, inr, ℕ, ◌+◌, ◌*◌, ◌<◌, ◌≤◌, ◌==◌, ◌&&◌, Bool, true, false, List, [], ◌∷◌, ◌++◌, refl, ap, ◌∙◌, sym, subst, is_some, nat_lt, arith, length, if◌then◌else◌, slice_get, Option, None, Some}
 use Rattle.dm_mirror.proofs.Names.{nat_tests, Pid, pid_eq, pid_of, PlainLink, MsgId, PlainMessage, PlainWhat, BootImage, Label, first_number, switchboard, manager, bind, Life, Alive, Manager, OneKernel, answer_to, without_message}
-use Rattle.dm_mirror.proofs.Names.{pid_eq-is, pid_eq-same, bind-is, when-is, ServerSends, manager_takes_lem, take, drop, Why, PlainProcess, NamedLink, Switchboard, with_process, is_of_memory, is_dropped, alive-is, LandsSo, lands-is}
+use Rattle.dm_mirror.proofs.Names.{pid_eq-is, pid_eq-same, bind-is, when-is, ServerSends, manager_takes_lem, take, drop, Why, PlainProcess, NamedLink, Switchboard, with_process, is_dropped, LandsSo, lands-is}
 use Rattle.dm_mirror.proofs.Names.{board_takes_lem, if_some-is}
 use Rattle.dm_laws.proofs.Names.{begun}
-use Rattle.dm_onekernel.specs.Kernel.{Pending, with_sent, Ended}
+use Rattle.dm_laws.proofs.Servers.{ends_move-is}
+use Rattle.dm_laws.proofs.Steps.{at_hand-is}
+use Rattle.dm_message.specs.declared.Outcome.{Outcome}
+use Rattle.dm_message.specs.Outcomes.{code_of_outcome}
+use Rattle.dm_onekernel.specs.declared.request.PendingKind.{PendingKind}
+use Rattle.dm_onekernel.specs.Kernel.{Pending, with_note, with_sent, Ended}
 use Rattle.dm_onekernel.specs.Switchboard as board
 use Rattle.dm_onekernel.specs.Manager as manage
 use Rattle.dm_onekernel.specs.Service as service
@@ -23,9 +28,31 @@ dropped_raises s t id is =
 pub gone_raises : (s t : OneKernel) (id : MsgId) → step.step s (Label.Gone id) ≡ Some t → Raises 0 s t
 gone_raises s t id is =
     let (m, there, rest) = bind-is (s.bag id) (λ v. bind (step.why_ended (s.processes v.to)) (step.says_gone s id v)) t is in
-    let (y, gone, last) = bind-is (step.why_ended (s.processes m.to)) (step.says_gone s id m) t rest in
-    let k = when-is (is_of_memory m.what) (with_sent (without_message s id) (Some (answer_to m PlainWhat.Gone))) t last in
-    subst (Raises 0 s) k.1 (bag_raises s (with_sent (without_message s id) (Some (answer_to m PlainWhat.Gone))) (λ p. refl) (λ h. refl) refl refl refl)
+    let (y, gone, says) = bind-is (step.why_ended (s.processes m.to)) (step.says_gone s id m) t rest in
+    let (w, what, last) = bind-is (service.gone_what m.what) (λ v. Some (with_sent (without_message s id) (Some (answer_to m v)))) t says in
+    let u = with_sent (without_message s id) (Some (answer_to m w)) in
+    let e : u ≡ t = cc in
+    subst (Raises 0 s) e (bag_raises s u (λ p. refl) (λ h. refl) refl refl refl)
+
+-- requests to move
+follows_raises : (s t : OneKernel) (id : MsgId) (m : PlainMessage) (w : PlainWhat) → service.follows_request s id m w ≡ Some t → Raises 0 s t
+follows_raises s t id m (PlainWhat.Move machine) is =
+    let u = with_note (without_message s id) m.to (record { id = id; asker = m.sender }) in
+    let e : u ≡ t = cc in
+    subst (Raises 0 s) e (bag_raises s u (λ p. refl) (λ h. refl) refl refl refl)
+follows_raises s t id m _ is = cc
+
+pub asked_raises : (s t : OneKernel) (id : MsgId) → step.step s (Label.Asked id) ≡ Some t → Raises 0 s t
+asked_raises s t id is =
+    let (m, there, rest) = bind-is (s.bag id) (λ v. bind (step.at_hand s v.to) (λ p. service.follows_request s id v v.what)) t is in
+    let (x, hand, last) = bind-is (step.at_hand s m.to) (λ p. service.follows_request s id m m.what) t rest in
+    follows_raises s t id m m.what last
+
+pub move_answered_raises : (s t : OneKernel) (id : MsgId) (o : Outcome) → step.step s (Label.Answered id o) ≡ Some t → Raises 0 s t
+move_answered_raises s t id o is =
+    let (p, noted, rest) = bind-is (s.noted id) (λ q. bind (s.notes q) (λ n. service.ends_move s id q n o)) t is in
+    let (n, notes, last) = bind-is (s.notes p) (λ k. service.ends_move s id p k o) t rest in
+    subst (Raises 0 s) (ends_move-is s t id p n o last) (bag_raises s (service.move_ended s id p n o) (λ q. refl) (λ h. refl) refl refl refl)
 
 no_room_raises : (s t : OneKernel) (id : MsgId) (m : PlainMessage) (w : PlainWhat) → service.has_no_room s id m w ≡ Some t → Raises 0 s t
 no_room_raises s t id m (PlainWhat.Create image links) is =
@@ -99,9 +126,9 @@ pub record ServedSo (s t : OneKernel) (id : MsgId) : Type 0 where
 
 pub served_raises : (s t : OneKernel) (id : MsgId) → step.step s (Label.Served id) ≡ Some t → ServedSo s t id
 served_raises s t id is =
-    let (m, there, rest) = bind-is (s.bag id) (λ v. bind (step.alive (s.processes v.to)) (λ p. service.serves s id v p v.what)) t is in
-    let (x, alive, last) = bind-is (step.alive (s.processes m.to)) (λ p. service.serves s id m p m.what) t rest in
-    let is_ = alive-is (s.processes m.to) x alive in
+    let (m, there, rest) = bind-is (s.bag id) (λ v. bind (step.at_hand s v.to) (λ p. service.serves s id v p v.what)) t is in
+    let (x, hand, last) = bind-is (step.at_hand s m.to) (λ p. service.serves s id m p m.what) t rest in
+    let is_ = (at_hand-is s m.to x hand).1 in
     record { m = m; there = there; x = x; alive = is_; raises = serves_raises s t id m x m.what is_ last }
 
 -- took: a server that sends raises its count
@@ -162,6 +189,10 @@ Paid g k = length k.manager.children + g.sent ≤ length g.children + k.manager.
 paid_answers : (g h : Manager) (l : PlainLink) (code : ℕ) (links : List PlainLink) → h.sent ≡ g.sent → length h.children ≤ length g.children + 1 → Paid g (manage.answers_byte h l code links)
 paid_answers g h l code links e le = omega (arith, e, le)
 
+paid_over : (g h : Manager) (o : Option PlainLink) (code : ℕ) (links : List PlainLink) → h.sent ≡ g.sent → length h.children ≤ length g.children → Paid g (manage.answers_over h o code links)
+paid_over g h None code links e le = omega (arith, e, le)
+paid_over g h (Some l) code links e le = paid_answers g h l code links e (omega (arith, le))
+
 paid_bad : (g : Manager) (links : List PlainLink) → Paid g (manage.bad_request g links)
 paid_bad g [] = omega arith
 paid_bad g (l ∷ ls) = paid_answers g g l 2 [] refl (omega arith)
@@ -184,32 +215,44 @@ paid_control : (g : Manager) (child : Pid) (o : Option PlainWhat) (links : List 
 paid_control g child None links = paid_bad g links
 paid_control g child (Some w) links = omega arith
 
-paid_controls : (g : Manager) (child : Option Pid) (body : List ℕ) (links : List PlainLink) → Paid g (manage.controls g child body links)
-paid_controls g (Some child) (a ∷ []) links = paid_control g child (manage.control_of a) links
-paid_controls g None (a ∷ []) links = paid_bad g links
-paid_controls g _ _ links = paid_bad g links
+paid_controls : (g : Manager) (machines : ℕ) (child : Option Pid) (body : List ℕ) (links : List PlainLink) → Paid g (manage.controls g machines child body links)
+paid_controls g machines (Some child) (a ∷ []) links = paid_control g child (manage.control_of a) links
+paid_controls g machines (Some child) (a ∷ machine ∷ []) links =
+    let bad = paid_bad g links in
+    paid_if g (a == 5) (manage.moves_child g machines child machine links) (manage.bad_request g links)
+    (paid_if g (nat_lt machine machines) (manage.sends_request g PendingKind.Move child (PlainWhat.Move machine) (manage.first_link links)) (manage.bad_request g links) (omega arith) bad) bad
+paid_controls g machines None (a ∷ []) links = paid_bad g links
+paid_controls g machines _ _ links = paid_bad g links
 
 paid_created : (g : Manager) (n : ℕ) (child : Pid) (o : Option Pending) (k : manage.ManagerTook) → manage.takes_created g n child o ≡ Some k → Paid g k
 paid_created g n child None k e = cc
 paid_created g n child (Some r) k e =
     let h = record g { children = g.children ++ child ∷ []; pending = manage.without_pending n g.pending } in
-    let f : manage.answers_byte h r.answer 0 (manage.control_link (length g.children + 1) ∷ []) ≡ k = cc in
-    subst (Paid g) f (paid_answers g h r.answer 0 (manage.control_link (length g.children + 1) ∷ []) refl (let z = append-longer g.children child in omega (arith, z)))
+    let f : manage.answers_over h r.answer 0 (manage.control_link (length g.children + 1) ∷ []) ≡ k = cc in
+    subst (Paid g) f (paid_over g h r.answer 0 (manage.control_link (length g.children + 1) ∷ []) refl (let z = append-longer g.children child in omega (arith, z)))
 
 paid_no_room : (g : Manager) (n : ℕ) (o : Option Pending) (k : manage.ManagerTook) → manage.takes_no_room g n o ≡ Some k → Paid g k
 paid_no_room g n None k e = cc
 paid_no_room g n (Some r) k e =
     let h = record g { pending = manage.without_pending n g.pending } in
-    let f : manage.answers_byte h r.answer 1 [] ≡ k = cc in
-    subst (Paid g) f (paid_answers g h r.answer 1 [] refl (omega arith))
+    let f : manage.answers_over h r.answer 1 [] ≡ k = cc in
+    subst (Paid g) f (paid_over g h r.answer 1 [] refl (omega arith))
+
+paid_moved : (g : Manager) (n : ℕ) (outcome : Outcome) (o : Option Pending) (k : manage.ManagerTook) → manage.takes_moved g n outcome o ≡ Some k → Paid g k
+paid_moved g n outcome None k e = cc
+paid_moved g n outcome (Some r) k e =
+    let h = record g { pending = manage.without_pending n g.pending } in
+    let f : manage.answers_over h r.answer (code_of_outcome outcome) [] ≡ k = cc in
+    subst (Paid g) f (paid_over g h r.answer (code_of_outcome outcome) [] refl (omega arith))
 
 paid_takes : (g : Manager) (machines images : ℕ) (m : PlainMessage) (w : PlainWhat) (k : manage.ManagerTook) → manage.manager_takes g machines images m w ≡ Some k → Paid g k
 paid_takes g machines images m (PlainWhat.User code channel body links) k e =
     let f : manage.takes_user g machines images code body links ≡ k = cc in
-    subst (Paid g) f (paid_if g (code == 0) (manage.requests_child g machines images body links) (manage.controls g (manage.child_numbered g.children code) body links)
-    (paid_requests g machines images body links) (paid_controls g (manage.child_numbered g.children code) body links))
+    subst (Paid g) f (paid_if g (code == 0) (manage.requests_child g machines images body links) (manage.controls g machines (manage.child_numbered g.children code) body links)
+    (paid_requests g machines images body links) (paid_controls g machines (manage.child_numbered g.children code) body links))
 paid_takes g machines images m (PlainWhat.Created child) k e = paid_created g m.id.n child (manage.pending_numbered m.id.n g.pending) k e
 paid_takes g machines images m PlainWhat.NoRoom k e = paid_no_room g m.id.n (manage.pending_numbered m.id.n g.pending) k e
+paid_takes g machines images m (PlainWhat.Moved outcome) k e = paid_moved g m.id.n outcome (manage.pending_numbered m.id.n g.pending) k e
 paid_takes g machines images m _ k e = cc
 
 manager_sent : (n after : ℕ) (o : Option PlainMessage) → ServerSends manager n o after → after ≡ n + sent_raise o
@@ -340,3 +383,5 @@ step_makes s t (Label.Dropped id) is = inl (dropped_raises s t id is).stays
 step_makes s t (Label.Gone id) is = inl (gone_raises s t id is).stays
 step_makes s t (Label.Created id child) is = inr (created_makes s t id child is)
 step_makes s t (Label.NoSpace id a b) is = inl (no_space_raises s t id a b is).stays
+step_makes s t (Label.Asked id) is = inl (asked_raises s t id is).stays
+step_makes s t (Label.Answered id o) is = inl (move_answered_raises s t id o is).stays

@@ -143,7 +143,7 @@ created_row b m pt l k y image ls g c num found some valid =
       sent = (a_there, refl);
       still = refl;
       count = refl;
-      moving = λ q is. let o = left q (Moves is) in (others_placed q o, ap (λ (d : Bool). if d then Some (Record.Here z) else k.records q) o);
+      moving = λ q is. let o = left q (Moves is) in (others_placed q o, ap (λ (d : Bool). if d then Some (Record.Here z) else k.records q) o, refl);
       own = own_kept b m pt l k y (PlainWhat.Create image ls) c on (Some a) bag_is other;
       own_back = own_back l on y.id (Some a) bag_is a_plain;
     }
@@ -167,45 +167,47 @@ kernel_row b m pt l k y w ps c num goes = absurd (let f : None ≡ Some ps = goe
 -- A message of the bag at the inbox's front, for a kernel, a server, or a process that is here or has ended here.
 
 -- whom the message is for
-pub data BagFor (m : ℕ) (pt : Point) (p : Pid) : Type 0 where
-  ForFixed : (fixed : is_fixed p ≡ true) → BagFor m pt p
-  ForHere : (here : pt.view.known m p ≡ Known.Here) → BagFor m pt p
-  ForEnded : (over : pt.view.known m p ≡ Known.Ended) → BagFor m pt p
+pub data BagFor (m : ℕ) (pt : Point) (p : Pid) (w : PlainWhat) : Type 0 where
+  ForFixed : (fixed : is_fixed p ≡ true) → BagFor m pt p w
+  -- a process that isn't asked to move
+  ForHere : (here : pt.view.known m p ≡ Known.Here) → (stays : (machine : ℕ) → w ≡ PlainWhat.Move machine → ⊥) → BagFor m pt p w
+  ForEnded : (over : pt.view.known m p ≡ Known.Ended) → BagFor m pt p w
 
 -- the receiver is here, a row a kind
-here_row : (b : Boot) (m : ℕ) (pt : Point) (l : Placed) (k : KernelState) (y : Message) (w : PlainWhat) (ps : List Part) (c : Taking b m pt l k y w) (h : IsHere b m pt l k y.to.pid) → WhatFits pt.kernel y.id (plainly y w) w
+here_row : (b : Boot) (m : ℕ) (pt : Point) (l : Placed) (k : KernelState) (y : Message) (w : PlainWhat) (ps : List Part) (c : Taking b m pt l k y w) (h : IsHere b m pt l k y.to.pid) → ((machine : ℕ) → w ≡ PlainWhat.Move machine → ⊥) → WhatFits pt.kernel y.id (plainly y w) w
     → rule.here_handles pt m y.id (plainly y w) (plain_process h.x) w ≡ Some ps → Row b m pt l k
-here_row b m pt l k y (PlainWhat.User code channel bytes ls) ps c h fits goes = user_row b m pt l k y code channel bytes ls c h
-here_row b m pt l k y PlainWhat.Stop ps c h fits goes = stop_row b m pt l k y c h
-here_row b m pt l k y PlainWhat.Resume ps c h fits goes = resume_row b m pt l k y c h
-here_row b m pt l k y PlainWhat.Kill ps c h fits goes = kill_row b m pt l k y c h
-here_row b m pt l k y (PlainWhat.Read base len) ps c h fits goes = read_row b m pt l k y base len c h fits
-here_row b m pt l k y (PlainWhat.Write base bytes) ps c h fits goes = write_row b m pt l k y base bytes c h fits
-here_row b m pt l k y (PlainWhat.Block bytes) ps c h fits goes = block_row b m pt l k y bytes ps c h goes
-here_row b m pt l k y PlainWhat.Written ps c h fits goes = written_row b m pt l k y ps c h goes
-here_row b m pt l k y PlainWhat.Gone ps c h fits goes = gone_row b m pt l k y ps c h goes
-here_row b m pt l k y _ ps c h fits goes = absurd (let f : None ≡ Some ps = goes in cc)
+here_row b m pt l k y (PlainWhat.User code channel bytes ls) ps c h stays fits goes = user_row b m pt l k y code channel bytes ls c h
+here_row b m pt l k y PlainWhat.Stop ps c h stays fits goes = stop_row b m pt l k y c h
+here_row b m pt l k y PlainWhat.Resume ps c h stays fits goes = resume_row b m pt l k y c h
+here_row b m pt l k y PlainWhat.Kill ps c h stays fits goes = kill_row b m pt l k y c h
+here_row b m pt l k y (PlainWhat.Read base len) ps c h stays fits goes = read_row b m pt l k y base len c h fits
+here_row b m pt l k y (PlainWhat.Write base bytes) ps c h stays fits goes = write_row b m pt l k y base bytes c h fits
+here_row b m pt l k y (PlainWhat.Block bytes) ps c h stays fits goes = block_row b m pt l k y bytes ps c h goes
+here_row b m pt l k y PlainWhat.Written ps c h stays fits goes = written_row b m pt l k y ps c h goes
+here_row b m pt l k y PlainWhat.Gone ps c h stays fits goes = gone_row b m pt l k y ps c h goes
+here_row b m pt l k y (PlainWhat.Move machine) ps c h stays fits goes = absurd (stays machine refl)
+here_row b m pt l k y _ ps c h stays fits goes = absurd (let f : None ≡ Some ps = goes in cc)
 
 -- a process, by what the machine knows of it
-process_row : (b : Boot) (m : ℕ) (pt : Point) (l : Placed) (k : KernelState) (y : Message) (w : PlainWhat) (ps : List Part) (c : Taking b m pt l k y w) → IsProcess y.to.pid → BagFor m pt y.to.pid → WhatFits pt.kernel y.id (plainly y w) w
+process_row : (b : Boot) (m : ℕ) (pt : Point) (l : Placed) (k : KernelState) (y : Message) (w : PlainWhat) (ps : List Part) (c : Taking b m pt l k y w) → IsProcess y.to.pid → BagFor m pt y.to.pid w → WhatFits pt.kernel y.id (plainly y w) w
     → rule.handles b pt m y.id (plainly y w) ≡ Some ps → Row b m pt l k
 process_row b m pt l k y w ps c process (ForFixed fixed) fits goes =
     let p = y.to.pid in
     absurd (false≢true (sym (ap (λ (d : Bool). d || is_server p) process.number ∙ not_server p process) ∙ fixed))
-process_row b m pt l k y w ps c process (ForHere here) fits goes =
+process_row b m pt l k y w ps c process (ForHere here stays) fits goes =
     let h = is_here b m pt l k y w c process here in
-    here_row b m pt l k y w ps c h fits (sym (here_outcome b m pt l k y w h (rule.here_handles pt m y.id (plainly y w) (plain_process h.x) w) refl) ∙ goes)
+    here_row b m pt l k y w ps c h stays fits (sym (here_outcome b m pt l k y w h (rule.here_handles pt m y.id (plainly y w) (plain_process h.x) w) refl) ∙ goes)
 process_row b m pt l k y w ps c process (ForEnded over) fits goes = ended_row b m pt l k y w c (is_ended b m pt l k y w c process over) fits
 
 -- a kernel, a server or a process
-row_by : (b : Boot) (m : ℕ) (pt : Point) (l : Placed) (k : KernelState) (y : Message) (w : PlainWhat) (ps : List Part) (d e f : Bool) (c : Taking b m pt l k y w) → (y.to.pid.num == 0) ≡ d → pid_eq y.to.pid switchboard ≡ e → pid_eq y.to.pid manager ≡ f → BagFor m pt y.to.pid
+row_by : (b : Boot) (m : ℕ) (pt : Point) (l : Placed) (k : KernelState) (y : Message) (w : PlainWhat) (ps : List Part) (d e f : Bool) (c : Taking b m pt l k y w) → (y.to.pid.num == 0) ≡ d → pid_eq y.to.pid switchboard ≡ e → pid_eq y.to.pid manager ≡ f → BagFor m pt y.to.pid w
     → WhatFits pt.kernel y.id (plainly y w) w → rule.handles b pt m y.id (plainly y w) ≡ Some ps → Row b m pt l k
 row_by b m pt l k y w ps true e f c num one two whom fits goes = kernel_row b m pt l k y w ps c num (sym (rule_to_kernel b pt m y.id (plainly y w) num) ∙ goes)
 row_by b m pt l k y w ps false true f c num one two whom fits goes = board_row b m pt l k y w ps c num one (sym (rule_to_board b pt m y.id (plainly y w) num one) ∙ goes)
 row_by b m pt l k y w ps false false true c num one two whom fits goes = manager_row b m pt l k y w ps c num one two fits (sym (rule_to_manager b pt m y.id (plainly y w) num one two) ∙ goes)
 row_by b m pt l k y w ps false false false c num one two whom fits goes = process_row b m pt l k y w ps c (record { number = num; no_board = one; no_manager = two }) whom fits goes
 
-pub taking_row : (b : Boot) (m : ℕ) (pt : Point) (l : Placed) (k : KernelState) (y : Message) (w : PlainWhat) → Taking b m pt l k y w → BagFor m pt y.to.pid → Row b m pt l k
+pub taking_row : (b : Boot) (m : ℕ) (pt : Point) (l : Placed) (k : KernelState) (y : Message) (w : PlainWhat) → Taking b m pt l k y w → BagFor m pt y.to.pid w → Row b m pt l k
 taking_row b m pt l k y w c whom =
     let x = plainly y w in
     let can = can_handle b m pt y.id x c.front c.told in
@@ -214,8 +216,8 @@ taking_row b m pt l k y w c whom =
 
 -- the machine's kernel handles the message of the bag that the lines say is at the front, as the rule says
 pub bag_row : (b : Boot) (m : ℕ) (pt : Point) (l : Placed) (k : KernelState) (i : MsgId) (is : List MsgId) (x : PlainMessage) → IsValid b → m < pt.kernel.machines → Run b pt → OwnTold pt → MadeStands pt.kernel → Mirrors pt.kernel pt.view pt.addresses l → KernelStands b pt l m k → AllOwnStand pt.view l
-    → pt.view.inbox m ≡ i ∷ is → pt.kernel.bag i ≡ Some x → BagFor m pt x.to → Row b m pt l k
+    → pt.view.inbox m ≡ i ∷ is → pt.kernel.bag i ≡ Some x → BagFor m pt x.to x.what → Row b m pt l k
 bag_row b m pt l k i is x valid below run told made mirrors stands own box there whom =
     let t = took b m pt l k i is x valid below run told made mirrors stands own box there in
     let to : x.to ≡ t.message.to.pid = ap (λ (z : PlainMessage). z.to) (plainly_is t.message x t.plain) in
-    taking_row b m pt l k t.message x.what t.taking (subst (BagFor m pt) to whom)
+    taking_row b m pt l k t.message x.what t.taking (subst (λ (p : Pid). BagFor m pt p x.what) to whom)

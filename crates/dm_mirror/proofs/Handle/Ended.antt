@@ -1,10 +1,13 @@
 -- Messages for a process that has ended here: dropped, or answered that it is gone.
 use Rattle.dm_mirror.proofs.Names.{◌≡◌, ℕ, true, List, [], ◌∷◌, refl, ap, ◌∙◌, sym, subst, is_some, Option, None, Some, false≢true, Pid, MsgId, Message, Record, Label, PlainWhat, plain_message, gone_answer, Boot, Why, bind, answer_id}
-use Rattle.dm_mirror.proofs.Names.{answer_to, without_message, is_dropped, is_of_memory, Point, Part, times, Known, View, handled, bag_none, bag_gone, agrees, ended_of, WhatFits, is_manager, dropped_is, Placed, plainly, user_what}
-use Rattle.dm_mirror.proofs.Names.{read_what, write_what, block_what, stop_what, resume_what, kill_what, written_what, gone_what, handles, process_handles, ended_handles, KernelState, Turned, turned, KnownStands, gone_is, ◌/◌, Bool, length}
+use Rattle.dm_mirror.proofs.Names.{answer_to, without_message, is_dropped, Point, Part, times, Known, View, handled, bag_none, bag_gone, agrees, ended_of, WhatFits, is_manager, dropped_is, Placed, plainly, user_what}
+use Rattle.dm_mirror.proofs.Names.{read_what, write_what, block_what, stop_what, resume_what, kill_what, written_what, gone_what, What, handles, process_handles, ended_handles, KernelState, Turned, turned, KnownStands, gone_is, ◌/◌, Bool, length}
 use Rattle.dm_mirror.proofs.Names.{map, if◌then◌else◌, plain_kind, PlainMessage, arith, nat_tests, Process, Alive, Life, OneKernel, plain_process, PlainProcess, pid_eq-same, blocks_of, alive_of, served_is, of_map, with_queue, here_handles}
 use Rattle.dm_mirror.proofs.Names.{with_here, AreMessages, is_server, pid_eq, false, begun}
 use Rattle.dm_onekernel.specs.Kernel.{Ended, with_sent}
+use Rattle.dm_message.specs.declared.Outcome.{Outcome}
+use Rattle.dm_places.proofs.Whats.{move_what}
+use Rattle.dm_rulelaws.proofs.Goes.Front.{here_free}
 use Rattle.dm_kernel.specs.declared.part.Part.TheVariants.{Routes}
 pub use Rattle.dm_rule.proofs.Turns.{without_front_none as front_none, at_record_same as queue_same}
 use Rattle.dm_rule.specs.Rule as rule
@@ -18,7 +21,7 @@ use Rattle.dm_onekernel.specs.Step as kernel
 use Rattle.dm_mirror.proofs.Handle.Rows.{IsLeft, turns_row, handled_point, here_left}
 use Rattle.dm_mirror.proofs.Handle.Taking.{Taking, sane_of, known_on, map_same, IsProcess, no_kernel, not_server, to_process, rule_to_process}
 use Rattle.dm_mirror.proofs.Turning.{Row, routed, rule_routed}
-use Rattle.dm_mirror.proofs.Handle.Servers.{sent_processes, sent_made, sent_machines, placed_processes, placed_bag, placed_servers}
+use Rattle.dm_mirror.proofs.Handle.Servers.{sent_processes, sent_made, sent_machines, placed_processes, placed_bag, placed_notes, placed_servers}
 
 -- what the machine knows of a process that has ended here
 pub record IsEnded (b : Boot) (m : ℕ) (pt : Point) (l : Placed) (k : KernelState) (p : Pid) : Type 0 where
@@ -71,21 +74,21 @@ drop_row b m pt l k y w c h drops turn outcome =
       outcome = ended_outcome b m pt l k y w (Some (rule.says (Label.Dropped y.id) ∷ [])) h outcome;
       fresh = λ a is. cc;
       plain = λ a is. cc;
-      mine = λ off bag holds. known_on pt (handled_point pt m y.id (Label.Dropped y.id) next) l (placed.without_message l y.id) p (pt.view.queue m p) (pt.view.held m p) (pt.view.known m p) (k.records p) refl refl bag holds (c.stands.known p off);
+      mine = λ off bag holds. known_on pt (handled_point pt m y.id (Label.Dropped y.id) next) l (placed.without_message l y.id) p (pt.view.queue m p) (pt.view.held m p) (pt.view.known m p) (k.records p) refl refl refl bag holds (c.stands.known p off);
       leaves = search (c.stands.servers);
     })
 
-gone_row : (b : Boot) (m : ℕ) (pt : Point) (l : Placed) (k : KernelState) (y : Message) (w : PlainWhat) (c : Taking b m pt l k y w) → IsEnded b m pt l k y.to.pid → is_of_memory w ≡ true → ended_handles (record k { inbox = c.rest }) y y.what ≡ machine.is_gone (record k { inbox = c.rest }) y
+gone_row : (b : Boot) (m : ℕ) (pt : Point) (l : Placed) (k : KernelState) (y : Message) (w : PlainWhat) (c : Taking b m pt l k y w) → IsEnded b m pt l k y.to.pid → (u : PlainWhat) → service.gone_what w ≡ Some u → is_some (plain_message (gone_answer m y)) ≡ true → ended_handles (record k { inbox = c.rest }) y y.what ≡ machine.is_gone (record k { inbox = c.rest }) y
     → rule.ended_handles y.id w ≡ Some (rule.says (Label.Gone y.id) ∷ Part.Routes (answer_id y.id) ∷ []) → Row b m pt l k
-gone_row b m pt l k y w c h memory turn outcome =
+gone_row b m pt l k y w c h u says plain turn outcome =
     let s = pt.kernel in
     let p = y.to.pid in
     let x = plainly y w in
     let k0 = record k { inbox = c.rest } in
-    let next = with_sent (without_message s y.id) (Some (answer_to x PlainWhat.Gone)) in
+    let next = with_sent (without_message s y.id) (Some (answer_to x u)) in
     let a = gone_answer m y in
     let on = placed.with_sent (placed.without_message l y.id) (Some a) in
-    let step = gone_is s y.id x h.because c.front.there h.life memory in
+    let step = gone_is s y.id x h.because u c.front.there h.life says in
     let seen = sane_of b m pt l k y w c in
     let bag = bag_gone seen.r seen.e s next y.id step seen.sound in
     turns_row b m pt l k y w c (record {
@@ -102,10 +105,14 @@ gone_row b m pt l k y w c h memory turn outcome =
       turn = ended_turn b m pt l k y w c (machine.is_gone k0 y) h turn ∙ ap (λ (n : ℕ). turned k0 (state.says (Label.Gone y.id) ∷ Routes (gone_answer n y) ∷ [])) c.stands.here;
       outcome = ended_outcome b m pt l k y w (Some (rule.says (Label.Gone y.id) ∷ Part.Routes (answer_id y.id) ∷ [])) h outcome;
       fresh = λ z is. let same : a ≡ z = cc in ap (λ (n : Message). s.bag n.id) (sym same) ∙ bag_none seen.r seen.e s (answer_id y.id) (bag.fresh (answer_id y.id) refl) seen.sound.entered;
-      plain = λ z is. let same : a ≡ z = cc in ap (λ (n : Message). is_some (plain_message n)) (sym same);
-      mine = λ off same holds. known_on pt (handled_point pt m y.id (Label.Gone y.id) next) l on p (pt.view.queue m p) (pt.view.held m p) (pt.view.known m p) (k.records p) refl refl same holds (c.stands.known p off);
+      plain = λ z is. let same : a ≡ z = cc in ap (λ (n : Message). is_some (plain_message n)) (sym same) ∙ plain;
+      mine = λ off same holds. known_on pt (handled_point pt m y.id (Label.Gone y.id) next) l on p (pt.view.queue m p) (pt.view.held m p) (pt.view.known m p) (k.records p) refl refl refl same holds (c.stands.known p off);
       leaves = search (c.stands.servers);
     })
+
+-- what is answered has a plain meaning
+gone_plain : (m : ℕ) (y : Message) (w : What) → y.what ≡ w → is_some (plain_message (gone_answer m (record y { what = w }))) ≡ true → is_some (plain_message (gone_answer m y)) ≡ true
+gone_plain m y w is e = ap (λ (v : What). is_some (plain_message (gone_answer m (record y { what = v })))) is ∙ e
 
 -- a row a kind
 pub ended_row : (b : Boot) (m : ℕ) (pt : Point) (l : Placed) (k : KernelState) (y : Message) (w : PlainWhat) (c : Taking b m pt l k y w) → IsEnded b m pt l k y.to.pid → WhatFits pt.kernel y.id (plainly y w) w → Row b m pt l k
@@ -116,11 +123,13 @@ ended_row b m pt l k y PlainWhat.Kill c h fits = drop_row b m pt l k y PlainWhat
 ended_row b m pt l k y (PlainWhat.Block bytes) c h fits = drop_row b m pt l k y (PlainWhat.Block bytes) c h refl (ap (ended_handles (record k { inbox = c.rest }) y) (block_what y.what bytes c.says).is) refl
 ended_row b m pt l k y PlainWhat.Written c h fits = drop_row b m pt l k y PlainWhat.Written c h refl (ap (ended_handles (record k { inbox = c.rest }) y) (written_what y.what c.says)) refl
 ended_row b m pt l k y PlainWhat.Gone c h fits = drop_row b m pt l k y PlainWhat.Gone c h refl (ap (ended_handles (record k { inbox = c.rest }) y) (gone_what y.what c.says)) refl
-ended_row b m pt l k y (PlainWhat.Read base len) c h fits = gone_row b m pt l k y (PlainWhat.Read base len) c h refl (ap (ended_handles (record k { inbox = c.rest }) y) (read_what y.what base len c.says)) refl
-ended_row b m pt l k y (PlainWhat.Write base bytes) c h fits = gone_row b m pt l k y (PlainWhat.Write base bytes) c h refl (ap (ended_handles (record k { inbox = c.rest }) y) (write_what y.what base bytes c.says).is) refl
+ended_row b m pt l k y (PlainWhat.Read base len) c h fits = gone_row b m pt l k y (PlainWhat.Read base len) c h PlainWhat.Gone refl (gone_plain m y (What.Read base len) (read_what y.what base len c.says) refl) (ap (ended_handles (record k { inbox = c.rest }) y) (read_what y.what base len c.says)) refl
+ended_row b m pt l k y (PlainWhat.Write base bytes) c h fits = (let g = write_what y.what base bytes c.says in
+    gone_row b m pt l k y (PlainWhat.Write base bytes) c h PlainWhat.Gone refl (gone_plain m y (What.Write base g.body) g.is refl) (ap (ended_handles (record k { inbox = c.rest }) y) g.is) refl)
 ended_row b m pt l k y (PlainWhat.Create image links) c h fits = absurd (no_kernel y.to.pid h.process fits.0)
-ended_row b m pt l k y (PlainWhat.Move a) c h fits = absurd fits
-ended_row b m pt l k y (PlainWhat.Moved a) c h fits = absurd fits
+ended_row b m pt l k y (PlainWhat.Move machine) c h fits =
+    let is = move_what y.what machine c.says in
+    gone_row b m pt l k y (PlainWhat.Move machine) c h (PlainWhat.Moved Outcome.Ended) refl (gone_plain m y (What.Move machine) is refl) (ap (ended_handles (record k { inbox = c.rest }) y) is) refl
 ended_row b m pt l k y _ c h fits = absurd (false≢true (sym h.process.no_manager ∙ is_manager y.to.pid fits.0))
 
 -- A message that is served by the kernel of its receiver, a process that is here and goes on.
@@ -134,6 +143,8 @@ pub record IsHere (b : Boot) (m : ℕ) (pt : Point) (l : Placed) (k : KernelStat
   pub placed : l.processes p ≡ Some (with_queue x queue)
   pub waits : AreMessages l.bag (pt.view.queue m p) x.queue
   pub life : pt.kernel.processes p ≡ Some (Alive (plain_process x))
+  -- it follows no request to move
+  pub free : pt.kernel.notes p ≡ None
   pub known : pt.view.known m p ≡ view.Here
   pub pid : x.pid ≡ p
 
@@ -156,7 +167,7 @@ is_here b m pt l k y w c h known =
     let f = here_record pt l p (pt.view.queue m p) (pt.view.held m p) (k.records p) (subst (λ (n : Known). KnownStands pt l p (pt.view.queue m p) (pt.view.held m p) n (k.records p)) known (c.stands.known p server)) in
     let (g, found, same) = of_map plain_process (l.processes p) z (sym (ap kernel.alive life) ∙ c.mirrors.plain.processes p) in
     let e : g ≡ with_queue f.x f.q = let d : Some g ≡ Some (with_queue f.x f.q) = sym found ∙ f.placed in cc in
-    search (life ∙ ap (λ (n : PlainProcess). Some (Alive n)) (sym same ∙ ap plain_process e), (c.mirrors.places.process p (with_queue f.x f.q) f.placed).pid)
+    search (here_free pt.kernel pt.view m p c.run.based.noted known, life ∙ ap (λ (n : PlainProcess). Some (Alive n)) (sym same ∙ ap plain_process e), (c.mirrors.places.process p (with_queue f.x f.q) f.placed).pid)
 
 -- the rows' parts
 pub here_turn : (b : Boot) (m : ℕ) (pt : Point) (l : Placed) (k : KernelState) (y : Message) (w : PlainWhat) (c : Taking b m pt l k y w) (h : IsHere b m pt l k y.to.pid) (o : Option Turned) → here_handles (record k { inbox = c.rest }) y h.x y.what ≡ o → handles b (record k { inbox = c.rest }) y ≡ o
@@ -166,8 +177,8 @@ pub here_outcome : (b : Boot) (m : ℕ) (pt : Point) (l : Placed) (k : KernelSta
 here_outcome b m pt l k y w h o e = grind (arith, nat_tests, rule_to_process)
 
 -- the kernel's step for a served message
-pub served_step : (s : OneKernel) (i : MsgId) (x : PlainMessage) (z : PlainProcess) (t : OneKernel) → s.bag i ≡ Some x → s.processes x.to ≡ Some (Alive z) → service.serves s i x z x.what ≡ Some t → kernel.step s (Label.Served i) ≡ Some t
-served_step s i x z t there alive e = grind (arith, nat_tests)
+pub served_step : (s : OneKernel) (i : MsgId) (x : PlainMessage) (z : PlainProcess) (t : OneKernel) → s.bag i ≡ Some x → s.processes x.to ≡ Some (Alive z) → s.notes x.to ≡ None → service.serves s i x z x.what ≡ Some t → kernel.step s (Label.Served i) ≡ Some t
+served_step s i x z t there alive free e = grind (arith, nat_tests)
 
 pub served_placed : (pt : Point) (l on : Placed) (m : ℕ) (y : Message) (x : Process) → l.bag y.id ≡ Some y → l.processes y.to.pid ≡ Some x → placed.serves m (placed.without_message l y.id) y x y.what ≡ Some on → placed.placed_step m pt.kernel.format pt.kernel.images l (Label.Served y.id) ≡ Some on
 served_placed pt l on m y x there stands e = grind (arith, nat_tests)
@@ -216,7 +227,7 @@ served_row b m pt l k y w c h d =
       state = with_here k0 p d.z;
       route = d.o;
       process = p;
-      step = served_step s y.id x (plain_process h.x) next c.front.there h.life d.serves;
+      step = served_step s y.id x (plain_process h.x) next c.front.there h.life h.free d.serves;
       view = served_is b m pt y.id x v w refl c.front ∙ d.quiet v p;
       needs = tt;
       placed_is = served_placed pt l on m y (with_queue h.x h.queue) c.there h.placed d.placed_is;
@@ -229,6 +240,7 @@ served_row b m pt l k y w c h d =
           (placed_processes set d.o p ∙ ap (λ (g : Bool). if g then Some (with_queue d.z h.queue) else l.processes p) (pid_eq-same p))
           (map_same l.bag on.bag (pt.view.queue m p) same ∙ h.waits ∙ ap (map Some) (sym d.queue));
       leaves = search (
+        placed_notes set d.o,
         sent_machines u d.q,
         sent_made u d.q,
         lives,

@@ -52,6 +52,7 @@ pub record Drops (pt : Point) (l : Placed) (p : Pid) (ids : List MsgId) : Type 0
   pub made : (n : ℕ) → next.kernel.made n ≡ pt.kernel.made n
   pub lives : (q : Pid) → next.kernel.processes q ≡ pt.kernel.processes q
   pub processes : (q : Pid) → on.processes q ≡ l.processes q
+  pub notes : (q : Pid) → on.notes q ≡ l.notes q
   pub bag : (j : MsgId) → times j ids ≡ 0 → on.bag j ≡ l.bag j
   pub back : (j : MsgId) (x : Message) → on.bag j ≡ Some x → l.bag j ≡ Some x
   pub board : on.board ≡ l.board
@@ -118,6 +119,7 @@ all_dropped (j ∷ js) pt l p y front ended drops told inbox h =
       made = g.made;
       lives = g.lives;
       processes = g.processes;
+      notes = g.notes;
       bag = λ i none. let f = times_off i j js none in g.bag i f.1 ∙ ap (λ (c : Bool). if c then None else l.bag i) f.0;
       back = λ i x there. out_back (id_eq j i) (l.bag i) x (g.back i x there);
       board = g.board;
@@ -208,7 +210,7 @@ goes b m pt l k y c h =
     let on = ended_placed l i p in
     let mid = ended_point pt m i p in
     let view_is : after_label (begun pt m).view (Label.Served i) ≡ ended_view pt m i p = served_is b m pt i x v w refl c.front in
-    let step = served_step s i x (plain_process h.x) t c.front.there h.life refl in
+    let step = served_step s i x (plain_process h.x) t c.front.there h.life h.free refl in
     let placed_is = served_placed pt l on m y (with_queue h.x h.queue) c.there h.placed (ap (placed.serves m (placed.without_message l i) y (with_queue h.x h.queue)) (kill_what y.what c.says)) in
     let mirrors = mirrors_one pt m (Label.Served i) t (ended_view pt m i p) l on step view_is tt placed_is c.mirrors in
     let ended : t.processes p ≡ Some (Ended Why.Killed) = ap (λ (d : Bool). if d then Some (Ended Why.Killed) else s.processes p) (pid_eq-same p) in
@@ -287,6 +289,7 @@ kill_row b m pt l k y c h =
             held = λ q off. g.held m q;
             known = others_known;
             processes = others_placed;
+            notes = λ q off. g.notes q;
             lives = others_live;
             bag = λ q j off least. g.bag j (in_queue pt m p (Queue m q) j b l k y w c (other_queue m p q off) least) ∙ kept (Queue m q) j (queue_apart m m q) least;
             holds = λ q j off least. g.bag j (in_queue pt m p (Held m q) j b l k y w c (held_no_queue m m p q) least) ∙ kept (Held m q) j (held_apart m m q) least;
@@ -316,13 +319,14 @@ kill_row b m pt l k y c h =
         λ (n : ℕ) (q : Pid) (off : n ≢ m) (has : has_process (pt.view.known n q) ≡ true). left q (Elsewhere n off has),
         λ (n : ℕ) (q : Pid) (off : n ≢ m) (over : pt.view.known n q ≡ view.Ended). left q (Over n off over),
         others_placed,
+        g.notes,
         others_live,
         stays,
       );
       sent = tt;
       still = drops_still ids;
       count = refl;
-      moving = λ q is. let off = left q (Moves is) in (others_placed q off, ap (λ (d : Bool). if d then Some (Record.Ended Why.Killed) else k.records q) off);
+      moving = λ q is. let off = left q (Moves is) in (others_placed q off, ap (λ (d : Bool). if d then Some (Record.Ended Why.Killed) else k.records q) off, g.notes q);
       own = λ j a none there. g.bag j (own_unqueued b pt m p l j a c.run c.mirrors none there) ∙ own_kept b m pt l k y w c on None (λ n. refl) (λ z f. absurd (cc)) j a none there;
       own_back = λ j a none there. own_back l on i None (λ n. refl) (λ z f. absurd (cc)) j a none (g.back j a there);
     }
@@ -380,7 +384,7 @@ no_room_row b m pt l k y image ls g c num found none =
       outcome = grind (arith, nat_tests, rule_to_kernel);
       fresh = λ z is. let same : a ≡ z = cc in ap (λ (n : Message). s.bag n.id) (sym same) ∙ bag_none seen.r seen.e s (answer_id y.id) (bag.fresh (answer_id y.id) refl) seen.sound.entered;
       plain = λ z is. let same : a ≡ z = cc in ap (λ (n : Message). is_some (plain_message n)) (sym same);
-      mine = λ off same holds. known_on pt (handled_point pt m y.id e next) l on p (pt.view.queue m p) (pt.view.held m p) (pt.view.known m p) (k.records p) refl refl same holds (c.stands.known p off);
+      mine = λ off same holds. known_on pt (handled_point pt m y.id e next) l on p (pt.view.queue m p) (pt.view.held m p) (pt.view.known m p) (k.records p) refl refl refl same holds (c.stands.known p off);
       leaves = search (c.stands.servers);
     })
 
@@ -443,7 +447,7 @@ user_row b m pt l k y code channel bytes ls c h =
       sent = tt;
       still = refl;
       count = refl;
-      moving = λ q is. (refl, ap (λ (d : Bool). if d then Some (Record.Here z) else k.records q) (here_left pt m p q c.run.based.phased.phases h.known (Moves is)));
+      moving = λ q is. (refl, ap (λ (d : Bool). if d then Some (Record.Here z) else k.records q) (here_left pt m p q c.run.based.phased.phases h.known (Moves is)), refl);
       own = λ j a none there. there;
       own_back = λ j a none there. there;
     }

@@ -1,10 +1,11 @@
 -- A row of a turn that says one label, by which one process may go on, and sends at most one message.
 use Rattle.dm_mirror.proofs.Names.{◌≡◌, ◌≢◌, ℕ, ◌≤◌, ◌==◌, Bool, true, false, List, [], ◌∷◌, map, refl, ap, ◌∙◌, sym, subst, inl, inr, is_some, arith, if◌then◌else◌, Option, None, Some, cases_Bool, false≢true, Pid, pid_eq, MsgId, nat_tests}
 use Rattle.dm_mirror.proofs.Names.{Message, id_eq, PlainWhat, plain_message, Boot, Label, Life, OneKernel, id_eq-is, pid_eq-is, Line, addresses_after, Point, after, Taken, Room, blocks_of, taken_by, takes_room, without_front, Spot, Queue}
-use Rattle.dm_mirror.proofs.Names.{Held, Inbox, times, standing, View, Unknown, Here, Ended, after_label, handled, is_kernels, Phase, Rests, is_away, is_here, knows, rests_here, InPhases, is_server, StepNeeds, Placed, Mirrors, placed_step}
+use Rattle.dm_mirror.proofs.Names.{Held, Inbox, times, standing, View, Unknown, Here, Ended, handled, is_kernels, Phase, Rests, is_away, is_here, knows, rests_here, InPhases, is_server, StepNeeds, Placed, Mirrors, placed_step}
 use Rattle.dm_mirror.proofs.Names.{mirrors_view, moves_label, plainly, placed_follows, handles, KernelState, KnownStands, servers_at, with_what, begun}
 use Rattle.dm_places.specs.PlacedStep.{with_sent, without_message}
 use Rattle.dm_onekernel.specs.Step as kernel
+use Rattle.dm_rule.specs.Point.{seen}
 use Rattle.dm_rule.specs.Rule as rule
 use Rattle.dm_kernel.specs.State as machine
 use Rattle.dm_mirror.proofs.Handle.Taking.{Taking, turn_is, outcome_is, sane_of, apart_at, apart_behind, fresh_at, sent_other, bag_kept, queue_apart, held_apart, sent_there, times_more, map_same, stands_set, eq_off, machine_self}
@@ -22,10 +23,10 @@ seen_point pt m e s v = record { kernel = s; view = v; addresses = addresses_aft
 abbrev pub handled_point : Point → ℕ → MsgId → Label → OneKernel → Point
 handled_point pt m i e s = seen_point pt m e s (handled (begun pt m).view i)
 
-pub after_one : (pt : Point) (m : ℕ) (e : Label) (s : OneKernel) (v : View) → kernel.step pt.kernel e ≡ Some s → after_label (begun pt m).view e ≡ v → after (begun pt m) (Line.Label e ∷ []) ≡ Some (seen_point pt m e s v)
+pub after_one : (pt : Point) (m : ℕ) (e : Label) (s : OneKernel) (v : View) → kernel.step pt.kernel e ≡ Some s → seen pt.kernel (begun pt m).view (Line.Label e) ≡ v → after (begun pt m) (Line.Label e ∷ []) ≡ Some (seen_point pt m e s v)
 after_one pt m e s v step is = grind (arith, nat_tests)
 
-pub mirrors_one : (pt : Point) (m : ℕ) (e : Label) (s : OneKernel) (v : View) (l placed : Placed) → kernel.step pt.kernel e ≡ Some s → after_label (begun pt m).view e ≡ v → StepNeeds pt.kernel (begun pt m).view e
+pub mirrors_one : (pt : Point) (m : ℕ) (e : Label) (s : OneKernel) (v : View) (l placed : Placed) → kernel.step pt.kernel e ≡ Some s → seen pt.kernel (begun pt m).view (Line.Label e) ≡ v → StepNeeds pt.kernel (begun pt m).view e
     → placed_step m pt.kernel.format pt.kernel.images l e ≡ Some placed → Mirrors pt.kernel pt.view pt.addresses l → Mirrors s v (addresses_after pt.kernel (begun pt m).view pt.addresses (Line.Label e)) placed
 mirrors_one pt m e s v l placed step is needs placed_is h =
     let start = mirrors_view pt.kernel pt.view (begun pt m).view pt.addresses l refl h in
@@ -82,6 +83,7 @@ pub record RowLeaves (m : ℕ) (pt : Point) (l : Placed) (k : KernelState) (rest
   pub blocks : blocks_of (kernel.alive (next.processes process)) ≡ blocks_of (kernel.alive (pt.kernel.processes process))
   -- the one with places
   pub processes : (q : Pid) → pid_eq process q ≡ false → placed.processes q ≡ l.processes q
+  pub notes : (q : Pid) → placed.notes q ≡ l.notes q
   pub bag : (j : MsgId) → placed.bag j ≡ (with_sent (without_message l i) route).bag j
   pub board : m ≢ 0 → placed.board ≡ l.board
   pub manager : m ≢ 0 → placed.manager ≡ l.manager
@@ -107,7 +109,7 @@ pub record Labelled (b : Boot) (m : ℕ) (pt : Point) (l : Placed) (k : KernelSt
   -- the process that may go on
   pub process : Pid
   pub step : kernel.step pt.kernel label ≡ Some next
-  pub view : after_label (begun pt m).view label ≡ handled (begun pt m).view y.id
+  pub view : seen pt.kernel (begun pt m).view (Line.Label label) ≡ handled (begun pt m).view y.id
   pub needs : StepNeeds pt.kernel (begun pt m).view label
   pub placed_is : placed_step m pt.kernel.format pt.kernel.images l label ≡ Some placed
   pub turn : handles b (record k { inbox = c.rest }) y ≡ Some (record { state = state; parts = machine.says label ∷ routed route })
@@ -200,7 +202,7 @@ turns_row b m pt l k y w c h =
       placed = h.placed;
       mirrors = mirrors;
       kernel = stands_set b pt next l h.placed m k h.state h.process
-          (search (h.leaves.here, h.leaves.records, h.leaves.processes, h.leaves.lives, waits, holds, mine, h.leaves.keeps)) stands
+          (search (h.leaves.here, h.leaves.records, h.leaves.processes, h.leaves.notes, h.leaves.lives, waits, holds, mine, h.leaves.keeps)) stands
           (h.leaves.ring ∙ stands.ring)
           (ap (map h.placed.bag) (machine_self pt.view.inbox m (without_front y.id (pt.view.inbox m)) ∙ front_gone y.id c.ids (pt.view.inbox m) c.box)
           ∙ map_same l.bag h.placed.bag c.ids behind ∙ c.others ∙ ap (map Some) (sym h.leaves.inbox))
@@ -214,6 +216,7 @@ turns_row b m pt l k y w c h =
       elsewhere = search (
         machine_off,
         h.leaves.made,
+        h.leaves.notes,
         λ (n : ℕ) (q : Pid) (off : n ≢ m) (has : has_process (pt.view.known n q) ≡ true). (h.leaves.left q (Elsewhere n off has)).0,
         λ (n : ℕ) (q : Pid) (off : n ≢ m) (has : has_process (pt.view.known n q) ≡ true). (h.leaves.left q (Elsewhere n off has)).1,
         λ (n : ℕ) (q : Pid) (off : n ≢ m) (over : pt.view.known n q ≡ Ended). (h.leaves.left q (Over n off over)).1,
@@ -222,7 +225,7 @@ turns_row b m pt l k y w c h =
       sent = sent;
       still = refl;
       count = h.leaves.sent;
-      moving = λ q is. let stays = h.leaves.left q (Moves is) in (stays.0, stays.2);
+      moving = λ q is. let stays = h.leaves.left q (Moves is) in (stays.0, stays.2, h.leaves.notes q);
       own = own_kept b m pt l k y w c h.placed h.route h.leaves.bag other;
       own_back = own_back l h.placed y.id h.route h.leaves.bag h.plain;
     }

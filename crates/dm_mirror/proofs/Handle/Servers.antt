@@ -5,6 +5,10 @@ use Rattle.dm_mirror.proofs.Names.{plain_manager, plain_pending, plain_created, 
 use Rattle.dm_mirror.proofs.Names.{is_server, IsPending, WhatFits, home_of, StepNeeds, Placed, MirrorsKernel, board_took, manager_took, of_map, parts, plainly, user_what, created_what, no_room_what, Servers, handles, board_handles}
 use Rattle.dm_mirror.proofs.Names.{manager_handles, KernelState, turned, servers_at, server_fixed, pending_is, ◌*◌, ◌&&◌, is_some, Addr, Link, What, plain_what, with_what, Board, answer_over, message_to, kernel_of, ◌≢◌, begun}
 pub use Rattle.dm_places.proofs.Frames.{kept_processes as placed_processes}
+use Rattle.dm_message.specs.Outcomes.{code_of_outcome}
+use Rattle.dm_onekernel.specs.declared.request.PendingKind.{PendingKind}
+use Rattle.dm_places.proofs.Whats.{moved_what}
+use Rattle.dm_procman.proofs.Plain.{plain_moved}
 use Rattle.dm_onekernel.specs.Kernel as kernels
 use Rattle.dm_onekernel.specs.Manager as one
 use Rattle.dm_onekernel.specs.Service as service
@@ -33,37 +37,41 @@ pub plain_one : (a : Message) → is_some (plain_message a) ≡ true → IsPlain
 plain_one a h x e = let f : a ≡ x = cc in ap (λ (n : Message). is_some (plain_message n)) (sym f) ∙ h
 
 -- what the switchboard sends
-pub board_plain : (g : Board) (body : List ℕ) (ls : List Link) → IsPlain (board.takes_request g body ls).took.answer
-board_plain g body [] a e = cc
-board_plain g body (k ∷ ks) a e = plain_one (board.answer_over g.sent k (board.asks g.names body ks).reply) refl a e
+pub board_plain : (here : ℕ) (g : Board) (body : List ℕ) (ls : List Link) → IsPlain (board.takes_request here g body ls).took.answer
+board_plain here g body [] a e = cc
+board_plain here g body (k ∷ ks) a e = plain_one (board.answer_over here g.sent k (board.asks g.names body ks).reply) refl a e
 
 -- what the manager sends
-pub answers_plain : (g : Managing) (l : Link) (code : ℕ) (ls : List Link) → IsPlain (manage.answers g l code ls).message
-answers_plain g l code ls = plain_one (answer_over g.sent l code ls) refl
+none_plain : IsPlain None
+none_plain a e = cc
 
-bad_plain : (g : Managing) (ls : List Link) → IsPlain (manage.bad_request g ls).message
-bad_plain g [] a e = cc
-bad_plain g (k ∷ ks) a e = answers_plain g k 2 [] a e
+pub answers_plain : (here : ℕ) (g : Managing) (o : Option Link) (code : ℕ) (ls : List Link) → IsPlain (manage.answers_over here g o code ls).message
+answers_plain here g None code ls = none_plain
+answers_plain here g (Some l) code ls = plain_one (answer_over here g.sent l code ls) refl
 
-wants_plain : (g : Managing) (machine image : ℕ) (ls : List Link) → IsPlain (manage.wants_child g machine image ls).message
-wants_plain g machine image [] = bad_plain g []
-wants_plain g machine image (k ∷ ks) = wants_if (nat_lt machine g.machines && nat_lt image g.images)
+bad_plain : (here : ℕ) (g : Managing) (ls : List Link) → IsPlain (manage.bad_request here g ls).message
+bad_plain here g [] = none_plain
+bad_plain here g (k ∷ ks) = answers_plain here g (Some k) 2 []
+
+wants_plain : (here : ℕ) (g : Managing) (machine image : ℕ) (ls : List Link) → IsPlain (manage.wants_child here g machine image ls).message
+wants_plain here g machine image [] = bad_plain here g []
+wants_plain here g machine image (k ∷ ks) = wants_if (nat_lt machine g.machines && nat_lt image g.images)
   where
-    wants_if : (c : Bool) → IsPlain (if c then manage.asks_for g machine image k ks else manage.bad_request g (k ∷ ks)).message
-    wants_if true = plain_one (message_to g.sent (kernel_of machine) (What.Create image (record { items = ks }))) refl
-    wants_if false = bad_plain g (k ∷ ks)
+    wants_if : (c : Bool) → IsPlain (if c then manage.asks_for here g machine image k ks else manage.bad_request here g (k ∷ ks)).message
+    wants_if true = plain_one (message_to here g.sent (kernel_of machine) (What.Create image (record { items = ks }))) refl
+    wants_if false = bad_plain here g (k ∷ ks)
 
-requests_plain : (g : Managing) (body : List ℕ) (ls : List Link) → IsPlain (manage.requests g body ls).message
-requests_plain g (operation ∷ machine ∷ high ∷ low ∷ []) ls = requests_if (operation == 1)
+requests_plain : (here : ℕ) (g : Managing) (body : List ℕ) (ls : List Link) → IsPlain (manage.requests here g body ls).message
+requests_plain here g (operation ∷ machine ∷ high ∷ low ∷ []) ls = requests_if (operation == 1)
   where
-    requests_if : (c : Bool) → IsPlain (if c then manage.wants_child g machine (256 * high + low) ls else manage.bad_request g ls).message
-    requests_if true = wants_plain g machine (256 * high + low) ls
-    requests_if false = bad_plain g ls
-requests_plain g _ ls = bad_plain g ls
+    requests_if : (c : Bool) → IsPlain (if c then manage.wants_child here g machine (256 * high + low) ls else manage.bad_request here g ls).message
+    requests_if true = wants_plain here g machine (256 * high + low) ls
+    requests_if false = bad_plain here g ls
+requests_plain here g _ ls = bad_plain here g ls
 
-control_plain : (g : Managing) (child : Addr) (o : Option What) (ls : List Link) → ((w : What) → o ≡ Some w → is_some (plain_what w) ≡ true) → IsPlain (manage.controls_child g child o ls).message
-control_plain g child None ls h = bad_plain g ls
-control_plain g child (Some w) ls h = plain_one (message_to g.sent child w) (plain_with (message_to g.sent child w) (plain_what w) (h w refl))
+control_plain : (here : ℕ) (g : Managing) (child : Addr) (o : Option What) (ls : List Link) → ((w : What) → o ≡ Some w → is_some (plain_what w) ≡ true) → IsPlain (manage.controls_child here g child o ls).message
+control_plain here g child None ls h = bad_plain here g ls
+control_plain here g child (Some w) ls h = plain_one (message_to here g.sent child w) (plain_with (message_to here g.sent child w) (plain_what w) (h w refl))
   where
     plain_with : (a : Message) (o : Option PlainWhat) → is_some o ≡ true → is_some (with_what a o) ≡ true
     plain_with a None e = cc
@@ -72,17 +80,26 @@ control_plain g child (Some w) ls h = plain_one (message_to g.sent child w) (pla
 control_of_plain : (operation : ℕ) (w : What) → manage.control_of operation ≡ Some w → is_some (plain_what w) ≡ true
 control_of_plain operation w e = grind (arith, nat_tests, is_some)
 
-controls_plain : (g : Managing) (o : Option Addr) (body : List ℕ) (ls : List Link) → IsPlain (manage.controls g o body ls).message
-controls_plain g (Some child) (operation ∷ []) ls = control_plain g child (manage.control_of operation) ls (control_of_plain operation)
-controls_plain g None body ls = bad_plain g ls
-controls_plain g (Some child) _ ls = bad_plain g ls
+plain_if : (c : Bool) (t u : manage.Taken) → IsPlain t.message → IsPlain u.message → IsPlain (if c then t else u).message
+plain_if true t u h k = h
+plain_if false t u h k = k
 
-pub user_plain : (g : Managing) (code : ℕ) (body : List ℕ) (ls : List Link) → IsPlain (manage.takes_user g code body ls).message
-user_plain g code body ls = user_if (code == 0)
+controls_plain : (here : ℕ) (g : Managing) (o : Option Addr) (body : List ℕ) (ls : List Link) → IsPlain (manage.controls here g o body ls).message
+controls_plain here g (Some child) (operation ∷ []) ls = control_plain here g child (manage.control_of operation) ls (control_of_plain operation)
+controls_plain here g (Some child) (operation ∷ machine ∷ []) ls =
+    let bad = bad_plain here g ls in
+    let asks = manage.asks here g PendingKind.Move child (What.Move machine) (manage.first_link ls) in
+    plain_if (operation == 5) (manage.wants_move here g child machine ls) (manage.bad_request here g ls)
+    (plain_if (nat_lt machine g.machines) asks (manage.bad_request here g ls) (plain_one (message_to here g.sent child (What.Move machine)) refl) bad) bad
+controls_plain here g None body ls = bad_plain here g ls
+controls_plain here g (Some child) _ ls = bad_plain here g ls
+
+pub user_plain : (here : ℕ) (g : Managing) (code : ℕ) (body : List ℕ) (ls : List Link) → IsPlain (manage.takes_user here g code body ls).message
+user_plain here g code body ls = user_if (code == 0)
   where
-    user_if : (c : Bool) → IsPlain (if c then manage.requests g body ls else manage.controls g (manage.child_address g.children code) body ls).message
-    user_if true = requests_plain g body ls
-    user_if false = controls_plain g (manage.child_address g.children code) body ls
+    user_if : (c : Bool) → IsPlain (if c then manage.requests here g body ls else manage.controls here g (manage.child_address g.children code) body ls).message
+    user_if true = requests_plain here g body ls
+    user_if false = controls_plain here g (manage.child_address g.children code) body ls
 
 -- Messages that a server takes, and what it sends.
 
@@ -101,6 +118,9 @@ sent_machines u o = grind (arith, nat_tests)
 
 pub placed_bag : (l n : Placed) (o : Option Message) (j : MsgId) → l.bag j ≡ n.bag j → (placed.with_sent l o).bag j ≡ (placed.with_sent n o).bag j
 placed_bag l n o j e = grind (arith, nat_tests)
+
+pub placed_notes : (l : Placed) (o : Option Message) (q : Pid) → (placed.with_sent l o).notes q ≡ l.notes q
+placed_notes l o q = grind (arith, nat_tests)
 
 pub placed_servers : (l : Placed) (o : Option Message) (m : ℕ) → servers_at (placed.with_sent l o) m ≡ servers_at l m
 placed_servers l o m = grind (arith, nat_tests)
@@ -121,6 +141,7 @@ pub record Takes (b : Boot) (m : ℕ) (pt : Point) (l : Placed) (k : KernelState
   pub made : (n : ℕ) → u.made n ≡ pt.kernel.made n
   pub lives : (q : Pid) → u.processes q ≡ pt.kernel.processes q
   pub processes : (q : Pid) → on.processes q ≡ l.processes q
+  pub notes : (q : Pid) → on.notes q ≡ l.notes q
   pub bag : (j : MsgId) → on.bag j ≡ (placed.without_message l y.id).bag j
   pub servers_is : Some servers ≡ servers_at on m
   pub plain : IsPlain sent
@@ -165,6 +186,7 @@ took_row b m pt l k y w c h =
         lives,
         ap (λ (o : Option Life). blocks_of (kernel.alive o)) (lives p),
         processes,
+        λ (q : Pid). placed_notes h.on h.sent q ∙ h.notes q,
         λ (j : MsgId). placed_bag h.on (placed.without_message l y.id) h.sent j (h.bag j),
         board,
         manager,
@@ -181,12 +203,12 @@ user_row b m pt l k y code channel bytes ls c num is =
     let server : is_server y.to.pid ≡ true = ap (λ (d : Bool). d || pid_eq y.to.pid manager) is in
     let at = let z : y.to.pid.home ≡ 0 = grind (arith, nat_tests) in sym (home_of b m pt y.id x (server_fixed y.to.pid server) c.front) ∙ z in
     let u = user_what y.what code channel bytes ls c.says in
-    let t = board.takes_request l.board u.body.items u.links.items in
+    let t = board.takes_request m l.board u.body.items u.links.items in
     let v : Servers = record { board = l.board; manager = l.manager } in
     let kk : boards.BoardTook = record { switchboard = plain_board t.board; answer = bind t.took.answer plain_message } in
     let takes : boards.board_takes s.switchboard x w ≡ Some kk =
-    (λ i. Some (boards.takes_request (sym c.mirrors.plain.board i) (sym u.bytes_are i) (sym u.links_are i))) ∙ sym (plain_request l.board u.body.items u.links.items t refl) in
-    let taken : board.takes l.board y.what ≡ Some t = ap (board.takes l.board) u.is in
+    (λ i. Some (boards.takes_request (sym c.mirrors.plain.board i) (sym u.bytes_are i) (sym u.links_are i))) ∙ sym (plain_request m l.board u.body.items u.links.items t refl) in
+    let taken : board.takes m l.board y.what ≡ Some t = ap (board.takes m l.board) u.is in
     took_row b m pt l k y w c (record {
       u = record (service.without_message s y.id) { switchboard = kk.switchboard };
       on = record (placed.without_message l y.id) { board = t.board };
@@ -197,18 +219,19 @@ user_row b m pt l k y code channel bytes ls c num is =
       step = ap (λ (o : Option PlainMessage). bind o (service.takes s y.id)) c.front.there
           ∙ ap (λ (d : Bool). if d then bind (boards.board_takes s.switchboard x x.what) (λ (z : boards.BoardTook). Some (service.switchboard_took s y.id z)) else if pid_eq x.to manager then bind (one.manager_takes s.manager s.machines (length s.images) x x.what) (λ (z : one.ManagerTook). Some (service.manager_took s y.id z)) else None) is
           ∙ ap (λ (o : Option boards.BoardTook). bind o (λ (z : boards.BoardTook). Some (service.switchboard_took s y.id z))) takes;
-      placed_is = ap (λ (o : Option Message). bind o (placed.takes (placed.without_message l y.id))) c.there
-          ∙ ap (λ (d : Bool). if d then bind (board.takes l.board y.what) (λ (z : board.Taken). Some (board_took (placed.without_message l y.id) z)) else if pid_eq y.to.pid manager then bind (manage.takes l.manager y.id.n y.what) (λ (z : manage.Taken). Some (manager_took (placed.without_message l y.id) z)) else None) is
+      placed_is = ap (λ (o : Option Message). bind o (placed.takes m (placed.without_message l y.id))) c.there
+          ∙ ap (λ (d : Bool). if d then bind (board.takes m l.board y.what) (λ (z : board.Taken). Some (board_took (placed.without_message l y.id) z)) else if pid_eq y.to.pid manager then bind (manage.takes m l.manager y.id.n y.what) (λ (z : manage.Taken). Some (manager_took (placed.without_message l y.id) z)) else None) is
           ∙ ap (λ (o : Option board.Taken). bind o (λ (z : board.Taken). Some (board_took (placed.without_message l y.id) z))) taken;
-      turn = to_board b k0 y num is ∙ ap (board_handles k0 y) (c.stands.servers ∙ servers_zero l m at) ∙ ap (machine.board_took k0 y v) taken;
+      turn = to_board b k0 y num is ∙ ap (board_handles k0 y) (c.stands.servers ∙ servers_zero l m at) ∙ ap (λ (n : ℕ). machine.board_took k0 y v (board.takes n l.board y.what)) c.stands.here ∙ ap (machine.board_took k0 y v) taken;
       outcome = rule_to_board b pt m y.id x num is ∙ ap (rule.board_took y.id) takes;
       machines = refl;
       made = λ n. refl;
       lives = λ q. refl;
       processes = λ q. refl;
+      notes = λ q. refl;
       bag = λ j. refl;
       servers_is = sym (servers_zero (record (placed.without_message l y.id) { board = t.board }) m at);
-      plain = board_plain l.board u.body.items u.links.items;
+      plain = board_plain m l.board u.body.items u.links.items;
       fresh = λ q e.
           let sends = subst (λ (o : Option PlainMessage). ServerSends switchboard s.switchboard.sent o kk.switchboard.sent) e (board_takes_lem s.switchboard x w kk takes).2 in
           ap (counts s) sends.0 ∙ (let z : nat_lt s.switchboard.sent s.switchboard.sent ≡ false = grind (arith, nat_tests) in z);
@@ -220,7 +243,7 @@ board_row b m pt l k y (PlainWhat.User code channel bytes ls) ps c num is goes =
 board_row b m pt l k y w ps c num is goes = absurd (let f : None ≡ Some ps = goes in cc)
 
 manager_by : (b : Boot) (m : ℕ) (pt : Point) (l : Placed) (k : KernelState) (y : Message) (w : PlainWhat) (t : manage.Taken) → Taking b m pt l k y w → (y.to.pid.num == 0) ≡ false → pid_eq y.to.pid switchboard ≡ false → pid_eq y.to.pid manager ≡ true
-    → manage.takes l.manager y.id.n y.what ≡ Some t → one.manager_takes pt.kernel.manager pt.kernel.machines (length pt.kernel.images) (plainly y w) w ≡ Some (record { manager = plain_manager t.manager; message = bind t.message plain_message }) → IsPlain t.message → Row b m pt l k
+    → manage.takes m l.manager y.id.n y.what ≡ Some t → one.manager_takes pt.kernel.manager pt.kernel.machines (length pt.kernel.images) (plainly y w) w ≡ Some (record { manager = plain_manager t.manager; message = bind t.message plain_message }) → IsPlain t.message → Row b m pt l k
 manager_by b m pt l k y w t c num off is taken takes plain =
     let s = pt.kernel in
     let x = plainly y w in
@@ -240,16 +263,17 @@ manager_by b m pt l k y w t c num off is taken takes plain =
           ∙ ap (λ (d : Bool). if d then bind (boards.board_takes s.switchboard x x.what) (λ (z : boards.BoardTook). Some (service.switchboard_took s y.id z)) else if pid_eq x.to manager then bind (one.manager_takes s.manager s.machines (length s.images) x x.what) (λ (z : one.ManagerTook). Some (service.manager_took s y.id z)) else None) off
           ∙ ap (λ (d : Bool). if d then bind (one.manager_takes s.manager s.machines (length s.images) x x.what) (λ (z : one.ManagerTook). Some (service.manager_took s y.id z)) else None) is
           ∙ ap (λ (o : Option one.ManagerTook). bind o (λ (z : one.ManagerTook). Some (service.manager_took s y.id z))) takes;
-      placed_is = ap (λ (o : Option Message). bind o (placed.takes (placed.without_message l y.id))) c.there
-          ∙ ap (λ (d : Bool). if d then bind (board.takes l.board y.what) (λ (z : board.Taken). Some (board_took (placed.without_message l y.id) z)) else if pid_eq y.to.pid manager then bind (manage.takes l.manager y.id.n y.what) (λ (z : manage.Taken). Some (manager_took (placed.without_message l y.id) z)) else None) off
-          ∙ ap (λ (d : Bool). if d then bind (manage.takes l.manager y.id.n y.what) (λ (z : manage.Taken). Some (manager_took (placed.without_message l y.id) z)) else None) is
+      placed_is = ap (λ (o : Option Message). bind o (placed.takes m (placed.without_message l y.id))) c.there
+          ∙ ap (λ (d : Bool). if d then bind (board.takes m l.board y.what) (λ (z : board.Taken). Some (board_took (placed.without_message l y.id) z)) else if pid_eq y.to.pid manager then bind (manage.takes m l.manager y.id.n y.what) (λ (z : manage.Taken). Some (manager_took (placed.without_message l y.id) z)) else None) off
+          ∙ ap (λ (d : Bool). if d then bind (manage.takes m l.manager y.id.n y.what) (λ (z : manage.Taken). Some (manager_took (placed.without_message l y.id) z)) else None) is
           ∙ ap (λ (o : Option manage.Taken). bind o (λ (z : manage.Taken). Some (manager_took (placed.without_message l y.id) z))) taken;
-      turn = to_manager b k0 y num off is ∙ ap (manager_handles k0 y) (c.stands.servers ∙ servers_zero l m at) ∙ ap (machine.manager_took k0 y v) taken;
+      turn = to_manager b k0 y num off is ∙ ap (manager_handles k0 y) (c.stands.servers ∙ servers_zero l m at) ∙ ap (λ (n : ℕ). machine.manager_took k0 y v (manage.takes n l.manager y.id.n y.what)) c.stands.here ∙ ap (machine.manager_took k0 y v) taken;
       outcome = rule_to_manager b pt m y.id x num off is ∙ ap (rule.manager_parts y.id) takes;
       machines = refl;
       made = λ n. refl;
       lives = λ q. refl;
       processes = λ q. refl;
+      notes = λ q. refl;
       bag = λ j. refl;
       servers_is = sym (servers_zero (record (placed.without_message l y.id) { manager = t.manager }) m at);
       plain = plain;
@@ -261,45 +285,58 @@ manager_by b m pt l k y w t c num off is taken takes plain =
 numbered : (s : OneKernel) (l : Placed) (n : ℕ) → MirrorsKernel s l → one.pending_numbered n s.manager.pending ≡ option_map plain_pending (manage.pending_request n l.manager.pending)
 numbered s l n h = ap (λ (g : Manager). one.pending_numbered n g.pending) (sym h.manager) ∙ plain_pending_numbered n l.manager.pending
 
-asked : (s : OneKernel) (l : Placed) (i : MsgId) → MirrorsKernel s l → IsPending s i → (r : Pending) × (manage.pending_request i.n l.manager.pending ≡ Some r)
-asked s l i h p =
-    let (r, there) = pending_is (one.pending_numbered i.n s.manager.pending) p.pending in
+asked : (s : OneKernel) (l : Placed) (kind : PendingKind) (i : MsgId) → MirrorsKernel s l → IsPending s kind i → (r : Pending) × (manage.pending_request i.n l.manager.pending ≡ Some r)
+asked s l kind i h p =
+    let (r, there) = pending_is kind (one.pending_numbered i.n s.manager.pending) p.pending in
     let (z, found, same) = of_map plain_pending (manage.pending_request i.n l.manager.pending) r (sym there ∙ numbered s l i.n h) in
     (z, found)
 
-abbrev created_of : Managing → ℕ → Pid → Pending → manage.Taken
-created_of g n child r = manage.answers (record (manage.settled g n) { children = g.children ++ at_home child ∷ [] }) r.answer 0 (control_link (length g.children + 1) ∷ [])
+abbrev created_of : ℕ → Managing → ℕ → Pid → Pending → manage.Taken
+created_of here g n child r = manage.answers_over here (record (manage.settled g n) { children = g.children ++ at_home child ∷ [] }) r.answer 0 (control_link here (length g.children + 1) ∷ [])
 
-abbrev no_room_of : Managing → ℕ → Pending → manage.Taken
-no_room_of g n r = manage.answers (manage.settled g n) r.answer 1 []
+-- the request is taken off, and its answer has one byte
+abbrev settled_of : ℕ → Managing → ℕ → ℕ → Pending → manage.Taken
+settled_of here g n code r = manage.answers_over here (manage.settled g n) r.answer code []
 
 pub manager_row : (b : Boot) (m : ℕ) (pt : Point) (l : Placed) (k : KernelState) (y : Message) (w : PlainWhat) (ps : List Part) → Taking b m pt l k y w → (y.to.pid.num == 0) ≡ false → pid_eq y.to.pid switchboard ≡ false → pid_eq y.to.pid manager ≡ true → WhatFits pt.kernel y.id (plainly y w) w
     → rule.manager_parts y.id (one.manager_takes pt.kernel.manager pt.kernel.machines (length pt.kernel.images) (plainly y w) w) ≡ Some ps → Row b m pt l k
 manager_row b m pt l k y (PlainWhat.User code channel bytes ls) ps c num off is fits goes =
     let h = c.mirrors.plain in
     let u = user_what y.what code channel bytes ls c.says in
-    let t = manage.takes_user l.manager code u.body.items u.links.items in
-    manager_by b m pt l k y (PlainWhat.User code channel bytes ls) t c num off is (ap (manage.takes l.manager y.id.n) u.is)
-    ((λ i. Some (one.takes_user (sym h.manager i) (sym h.machines i) (sym h.images i) code (sym u.bytes_are i) (sym u.links_are i))) ∙ sym (plain_user l.manager code u.body.items u.links.items))
-    (user_plain l.manager code u.body.items u.links.items)
+    let t = manage.takes_user m l.manager code u.body.items u.links.items in
+    manager_by b m pt l k y (PlainWhat.User code channel bytes ls) t c num off is (ap (manage.takes m l.manager y.id.n) u.is)
+    ((λ i. Some (one.takes_user (sym h.manager i) (sym h.machines i) (sym h.images i) code (sym u.bytes_are i) (sym u.links_are i))) ∙ sym (plain_user m l.manager code u.body.items u.links.items))
+    (user_plain m l.manager code u.body.items u.links.items)
 manager_row b m pt l k y (PlainWhat.Created child) ps c num off is fits goes =
     let s = pt.kernel in
     let h = c.mirrors.plain in
-    let (r, found) = asked s l y.id h fits.2 in
-    let t = created_of l.manager y.id.n child r in
-    let taken : manage.takes_created l.manager y.id.n child (manage.pending_request y.id.n l.manager.pending) ≡ Some t = ap (manage.takes_created l.manager y.id.n child) found in
-    manager_by b m pt l k y (PlainWhat.Created child) t c num off is (ap (manage.takes l.manager y.id.n) (created_what y.what child c.says) ∙ taken)
+    let (r, found) = asked s l PendingKind.Create y.id h fits.2 in
+    let t = created_of m l.manager y.id.n child r in
+    let taken : manage.takes_created m l.manager y.id.n child (manage.pending_request y.id.n l.manager.pending) ≡ Some t = ap (manage.takes_created m l.manager y.id.n child) found in
+    manager_by b m pt l k y (PlainWhat.Created child) t c num off is (ap (manage.takes m l.manager y.id.n) (created_what y.what child c.says) ∙ taken)
     (ap (one.takes_created s.manager y.id.n child) (numbered s l y.id.n h) ∙ ap (λ (g : Manager). one.takes_created g y.id.n child (option_map plain_pending (manage.pending_request y.id.n l.manager.pending))) (sym h.manager)
-    ∙ sym (plain_created l.manager y.id.n child (manage.pending_request y.id.n l.manager.pending) t taken))
-    (answers_plain (record (manage.settled l.manager y.id.n) { children = l.manager.children ++ at_home child ∷ [] }) r.answer 0 (control_link (length l.manager.children + 1) ∷ []))
+    ∙ sym (plain_created m l.manager y.id.n child (manage.pending_request y.id.n l.manager.pending) t taken))
+    (answers_plain m (record (manage.settled l.manager y.id.n) { children = l.manager.children ++ at_home child ∷ [] }) r.answer 0 (control_link m (length l.manager.children + 1) ∷ []))
 manager_row b m pt l k y PlainWhat.NoRoom ps c num off is fits goes =
     let s = pt.kernel in
     let h = c.mirrors.plain in
-    let (r, found) = asked s l y.id h fits.2 in
-    let t = no_room_of l.manager y.id.n r in
-    let taken : manage.takes_no_room l.manager y.id.n (manage.pending_request y.id.n l.manager.pending) ≡ Some t = ap (manage.takes_no_room l.manager y.id.n) found in
-    manager_by b m pt l k y PlainWhat.NoRoom t c num off is (ap (manage.takes l.manager y.id.n) (no_room_what y.what c.says) ∙ taken)
-    (ap (one.takes_no_room s.manager y.id.n) (numbered s l y.id.n h) ∙ ap (λ (g : Manager). one.takes_no_room g y.id.n (option_map plain_pending (manage.pending_request y.id.n l.manager.pending))) (sym h.manager)
-    ∙ sym (plain_no_room l.manager y.id.n (manage.pending_request y.id.n l.manager.pending) t taken))
-    (answers_plain (manage.settled l.manager y.id.n) r.answer 1 [])
+    let n = y.id.n in
+    let (r, found) = asked s l PendingKind.Create y.id h fits.2 in
+    let t = settled_of m l.manager n 1 r in
+    let taken : manage.takes_no_room m l.manager n (manage.pending_request n l.manager.pending) ≡ Some t = ap (manage.takes_no_room m l.manager n) found in
+    manager_by b m pt l k y PlainWhat.NoRoom t c num off is (ap (manage.takes m l.manager n) (no_room_what y.what c.says) ∙ taken)
+    (ap (one.takes_no_room s.manager n) (numbered s l n h) ∙ ap (λ (g : Manager). one.takes_no_room g n (option_map plain_pending (manage.pending_request n l.manager.pending))) (sym h.manager)
+    ∙ sym (plain_no_room m l.manager n (manage.pending_request n l.manager.pending) t taken))
+    (answers_plain m (manage.settled l.manager n) r.answer 1 [])
+manager_row b m pt l k y (PlainWhat.Moved outcome) ps c num off is fits goes =
+    let s = pt.kernel in
+    let h = c.mirrors.plain in
+    let n = y.id.n in
+    let (r, found) = asked s l PendingKind.Move y.id h fits.2 in
+    let t = settled_of m l.manager n (code_of_outcome outcome) r in
+    let taken : manage.takes_moved m l.manager n outcome (manage.pending_request n l.manager.pending) ≡ Some t = ap (manage.takes_moved m l.manager n outcome) found in
+    manager_by b m pt l k y (PlainWhat.Moved outcome) t c num off is (ap (manage.takes m l.manager n) (moved_what y.what outcome c.says) ∙ taken)
+    (ap (one.takes_moved s.manager n outcome) (numbered s l n h) ∙ ap (λ (g : Manager). one.takes_moved g n outcome (option_map plain_pending (manage.pending_request n l.manager.pending))) (sym h.manager)
+    ∙ sym (plain_moved m l.manager n outcome (manage.pending_request n l.manager.pending) t taken))
+    (answers_plain m (manage.settled l.manager n) r.answer (code_of_outcome outcome) [])
 manager_row b m pt l k y w ps c num off is fits goes = absurd (let f : None ≡ Some ps = goes in cc)

@@ -42,6 +42,7 @@ pub record Sets (pt next : Point) (l placed : Placed) (m : ℕ) (k s : KernelSta
   pub held : (q : Pid) → pid_eq p q ≡ false → next.view.held m q ≡ pt.view.held m q
   pub known : (q : Pid) → pid_eq p q ≡ false → next.view.known m q ≡ pt.view.known m q
   pub processes : (q : Pid) → pid_eq p q ≡ false → placed.processes q ≡ l.processes q
+  pub notes : (q : Pid) → pid_eq p q ≡ false → placed.notes q ≡ l.notes q
   pub lives : (q : Pid) → pid_eq p q ≡ false → next.kernel.processes q ≡ pt.kernel.processes q
   pub bag : (q : Pid) (j : MsgId) → pid_eq p q ≡ false → 1 ≤ times j (pt.view.queue m q) → placed.bag j ≡ l.bag j
   pub holds : (q : Pid) (j : MsgId) → pid_eq p q ≡ false → 1 ≤ times j (pt.view.held m q) → placed.bag j ≡ l.bag j
@@ -55,7 +56,7 @@ known_sets b pt next l placed m k s p q server w h = elim (cases_Bool (pid_eq p 
       let e : p ≡ q = pid_eq-is p q same in
       subst (λ (z : Pid). KnownStands next placed z (next.view.queue m z) (next.view.held m z) (next.view.known m z) (s.records z)) e (w.mine (ap is_server e ∙ server))
   | inr apart ↦
-      let on = known_on pt next l placed q (pt.view.queue m q) (pt.view.held m q) (pt.view.known m q) (k.records q) (w.processes q apart) (w.lives q apart) (λ j least. w.bag q j apart least) (λ j least. w.holds q j apart least) (h.known q server) in
+      let on = known_on pt next l placed q (pt.view.queue m q) (pt.view.held m q) (pt.view.known m q) (k.records q) (w.processes q apart) (w.notes q apart) (w.lives q apart) (λ j least. w.bag q j apart least) (λ j least. w.holds q j apart least) (h.known q server) in
       subst (KnownStands next placed q (next.view.queue m q) (next.view.held m q) (next.view.known m q)) (sym (w.records q apart))
       (subst (λ (z : Known). KnownStands next placed q (next.view.queue m q) (next.view.held m q) z (k.records q)) (sym (w.known q apart))
       (subst (λ (z : List MsgId). KnownStands next placed q (next.view.queue m q) z (pt.view.known m q) (k.records q)) (sym (w.held q apart))

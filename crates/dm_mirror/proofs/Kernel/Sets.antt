@@ -3,12 +3,13 @@
 use Rattle.dm_mirror.proofs.Names.{◌≡◌, ◌≢◌, ℕ, ◌≤◌, ◌==◌, ◌&&◌, not, Bool, true, false, List, [], ◌∷◌, map, refl, ap, ◌∙◌, sym, subst, inl, inr, arith, is_some, if◌then◌else◌, slice_get, Option, None, Some, cases_Bool, false≢true}
 use Rattle.dm_mirror.proofs.Names.{nat_tests, Pid, pid_eq, Message, MsgId, plain_message, Taken, with_released, Record, Boot, Life, OneKernel, KernelState, room_of, pid_eq-is, Point, Room, taken_at, taken_by, takes_room, blocks_of, Spot}
 use Rattle.dm_mirror.proofs.Names.{Queue, Held, Inbox, times, ids_at, standing, View, Known, Unknown, Here, Frozen, Incoming, Forward, Ended, is_away, is_server, Placed, MadeStands, AreMessages, KnownStands, KernelStands, RoomStands}
-use Rattle.dm_mirror.proofs.Names.{servers_at, ◌/◌, length, Process, Why, Alive, plain_process, with_queue, id_eq, PlainMessage, Label, bind, id_eq-is, pid_eq-same, Line, moved, after, at_machine, at_record, without, without_front}
+use Rattle.dm_mirror.proofs.Names.{servers_at, coming, ◌/◌, length, Process, Why, Alive, plain_process, with_queue, id_eq, PlainMessage, Label, bind, id_eq-is, pid_eq-same, Line, moved, after, at_machine, at_record, without, without_front}
 use Rattle.dm_mirror.proofs.Names.{moved_back, StandsNowhere, StandsOutside, StandsRight, serving, handled, is_kernels, Mirrors, MirrorsKernel, placed_step, StepNeeds, mirrors_view, moves_label, placed_follows, ended}
 pub use Rattle.dm_rulelaws.proofs.Goes.Turns.{times_self, times_more}
 pub use Rattle.dm_rule.proofs.Lines.{eq_self}
 pub use Rattle.dm_rule.proofs.Trails.Spares.{not_is}
 pub use Rattle.dm_rule.proofs.Phases.Pieces.{and_false as right_off}
+use Rattle.dm_message.specs.declared.Asker.{Asker}
 use Rattle.dm_places.specs.PlacedStep.{with_message, with_process, with_sent, without_message}
 use Rattle.dm_onekernel.specs.Step as kernel
 use Rattle.dm_kernel.specs.State as machine
@@ -55,6 +56,7 @@ pub record KernelLeaves (p : Pid) (s u : OneKernel) : Type 0 where
 -- of the kernel with places they change p, and messages with a plain meaning that stand at those spots or nowhere
 pub record PlacedLeaves (t : Spot → Bool) (p : Pid) (v : View) (l placed : Placed) : Type 0 where
   pub process : (q : Pid) → pid_eq p q ≡ false → placed.processes q ≡ l.processes q
+  pub notes : (q : Pid) → placed.notes q ≡ l.notes q
   pub bag : (i : MsgId) (s : Spot) → t s ≡ false → 1 ≤ standing v i s → placed.bag i ≡ l.bag i
   pub own : (i : MsgId) (x : Message) → plain_message x ≡ None → l.bag i ≡ Some x → placed.bag i ≡ Some x
   pub own_back : (i : MsgId) (x : Message) → plain_message x ≡ None → placed.bag i ≡ Some x → l.bag i ≡ Some x
@@ -86,6 +88,7 @@ kernel_leaves_on p s t u g h = record { machines = h.machines ∙ g.machines; ma
 pub placed_leaves_on : (t : Spot → Bool) (p : Pid) (v : View) (k l n : Placed) → PlacedLeaves t p v k l → PlacedLeaves t p v l n → PlacedLeaves t p v k n
 placed_leaves_on t p v k l n g h = record {
   process = λ q off. h.process q off ∙ g.process q off;
+  notes = λ q. h.notes q ∙ g.notes q;
   bag = λ i s off least. h.bag i s off least ∙ g.bag i s off least;
   own = λ i x none there. h.own i x none (g.own i x none there);
   own_back = λ i x none there. g.own_back i x none (h.own_back i x none there);
@@ -96,6 +99,7 @@ placed_leaves_on t p v k l n g h = record {
 placed_leaves_from : (m : ℕ) (t : Spot → Bool) (p : Pid) (v w : View) (l n : Placed) → ViewLeaves m t p v w → PlacedLeaves t p w l n → PlacedLeaves t p v l n
 placed_leaves_from m t p v w l n g h = record {
   process = h.process;
+  notes = h.notes;
   bag = λ i s off least. h.bag i s off (subst (λ (k : ℕ). 1 ≤ k) (sym (ap (times i) (g.lists s off))) least);
   own = h.own;
   own_back = h.own_back;
@@ -133,6 +137,7 @@ elsewhere_of m t p pt next l placed away at off h = record {
   machines = h.kernel.machines;
   made = λ n apart. h.kernel.made n;
   process = λ n q apart has. h.placed_.process q (others n q apart (λ a. away_process (pt.view.known n q) a has));
+  notes = λ n q apart has. h.placed_.notes q;
   ended = λ n q apart is. h.kernel.life q (others n q apart (λ a. false≢true (sym (ap is_away is) ∙ a)));
   life = λ n q apart has. h.kernel.life q (others n q apart (λ a. away_process (pt.view.known n q) a has));
   bag = λ i s away least. h.placed_.bag i s (off s away) least;
@@ -163,17 +168,17 @@ pub messages_on : (f g : MsgId → Option Message) (ids : List MsgId) (ms : List
 messages_on f g ids ms same h = map_same f g ids same ∙ h
 
 -- what a machine knows of a process that stays
-pub known_at : (pt next : Point) (l placed : Placed) (q : Pid) (ids held_ : List MsgId) (w : Known) (r : Option machine.KernelKnown) → placed.processes q ≡ l.processes q → next.kernel.processes q ≡ pt.kernel.processes q
+pub known_at : (pt next : Point) (l placed : Placed) (q : Pid) (ids held_ : List MsgId) (w : Known) (r : Option machine.KernelKnown) → placed.processes q ≡ l.processes q → placed.notes q ≡ l.notes q → next.kernel.processes q ≡ pt.kernel.processes q
     → ((i : MsgId) → 1 ≤ times i ids → placed.bag i ≡ l.bag i) → ((i : MsgId) → 1 ≤ times i held_ → placed.bag i ≡ l.bag i) → KnownStands pt l q ids held_ w r → KnownStands next placed q ids held_ w r
-known_at pt next l placed q ids held_ Unknown None p e b c h = tt
-known_at pt next l placed q ids held_ Here (Some (Record.Here x)) p e b c h = ((h.0.0, p ∙ h.0.1), messages_on l.bag placed.bag ids x.queue b h.1)
-known_at pt next l placed q ids held_ (Frozen to) (Some (Record.Frozen d)) p e b c h = search
-    (p ∙ h.here.0.1, messages_on l.bag placed.bag ids d.process.queue b h.here.1, messages_on l.bag placed.bag held_ d.held c h.held)
-known_at pt next l placed q ids held_ (Incoming from) (Some (Record.Incoming a)) p e b c h = search
-    (p ∙ h.there, messages_on l.bag placed.bag held_ a.held c h.held)
-known_at pt next l placed q ids held_ (Forward at moves) (Some (Record.Forward to count)) p e b c h = h
-known_at pt next l placed q ids held_ Ended (Some (Record.Ended y)) p e b c h = ap kernel.why_ended e ∙ h
-known_at pt next l placed q ids held_ w r p e b c h = absurd h
+known_at pt next l placed q ids held_ Unknown None p n e b c h = tt
+known_at pt next l placed q ids held_ Here (Some (Record.Here x)) p n e b c h = ((h.0.0, p ∙ h.0.1), messages_on l.bag placed.bag ids x.queue b h.1)
+known_at pt next l placed q ids held_ (Frozen to) (Some (Record.Frozen d)) p n e b c h = search
+    (h.asker ∙ sym n, p ∙ h.here.0.1, messages_on l.bag placed.bag ids d.process.queue b h.here.1, messages_on l.bag placed.bag held_ d.held c h.held)
+known_at pt next l placed q ids held_ (Incoming from) (Some (Record.Incoming a)) p n e b c h = search
+    (p ∙ h.there, h.pieces ∙ ap (λ (o : Option Asker). coming h.process o a.held a.wanted) (sym n), messages_on l.bag placed.bag held_ a.held c h.held)
+known_at pt next l placed q ids held_ (Forward at moves) (Some (Record.Forward to count)) p n e b c h = h
+known_at pt next l placed q ids held_ Ended (Some (Record.Ended y)) p n e b c h = ap kernel.why_ended e ∙ h
+known_at pt next l placed q ids held_ w r p n e b c h = absurd h
 
 -- what a machine keeps where process p changes
 pub record Stays (k n : KernelState) (p : Pid) : Type 0 where
@@ -195,7 +200,7 @@ set_stands b m t p pt next l placed k n g s queues helds server known ring inbox
     | inl same ↦ subst (λ (z : Pid). KnownStands next placed z (next.view.queue m z) (next.view.held m z) (next.view.known m z) (n.records z)) (pid_eq-is p q same) known
     | inr apart ↦
         let w : KnownStands next placed q (pt.view.queue m q) (pt.view.held m q) (pt.view.known m q) (k.records q) =
-        known_at pt next l placed q (pt.view.queue m q) (pt.view.held m q) (pt.view.known m q) (k.records q) (g.placed_.process q apart) (g.kernel.life q apart)
+        known_at pt next l placed q (pt.view.queue m q) (pt.view.held m q) (pt.view.known m q) (k.records q) (g.placed_.process q apart) (g.placed_.notes q) (g.kernel.life q apart)
         (λ i least. g.placed_.bag i (Queue m q) (queues q apart) least) (λ i least. g.placed_.bag i (Held m q) (helds q) least) (h.known q off)
         in
         let ids : next.view.queue m q ≡ pt.view.queue m q = g.view.lists (Queue m q) (queues q apart) in
@@ -272,6 +277,8 @@ pub record LivesHere (m : ℕ) (pt : Point) (l : Placed) (k : KernelState) (p : 
   pub away : IsAway pt.view m p
   pub server : is_server p ≡ false
   pub alive : pt.kernel.processes p ≡ Some (Alive (plain_process x))
+  -- it follows no request to move
+  pub free : pt.kernel.notes p ≡ None
   pub record_is : k.records p ≡ Some (Record.Here x)
   pub known : pt.view.known m p ≡ view.Here
   pub queue : List Message
@@ -397,15 +404,16 @@ not_own_there s l i u h there x e none = let g : None ≡ Some u = sym none ∙ 
 
 -- the kernel with places, the same
 pub placed_same : (t : Spot → Bool) (p : Pid) (v : View) (l : Placed) → PlacedLeaves t p v l l
-placed_same t p v l = record { process = λ q off. refl; bag = λ i s off least. refl; own = λ i x none there. there; own_back = λ i x none there. there; board = refl; manager = refl }
+placed_same t p v l = record { process = λ q off. refl; notes = λ q. refl; bag = λ i s off least. refl; own = λ i x none there. there; own_back = λ i x none there. there; board = refl; manager = refl }
 
 pub placed_sets : (t : Spot → Bool) (p : Pid) (v : View) (l : Placed) (y : Option Process) → PlacedLeaves t p v l (with_process l p y)
 placed_sets t p v l y =
-    record { process = λ q off. off_if (pid_eq p q) y (l.processes q) off; bag = λ i s off least. refl; own = λ i x none there. there; own_back = λ i x none there. there; board = refl; manager = refl }
+    record { process = λ q off. off_if (pid_eq p q) y (l.processes q) off; notes = λ q. refl; bag = λ i s off least. refl; own = λ i x none there. there; own_back = λ i x none there. there; board = refl; manager = refl }
 
 pub placed_message : (t : Spot → Bool) (p : Pid) (v : View) (l : Placed) (id : MsgId) (x : Option Message) → NotOwn (l.bag id) → NotOwn x → ((i : MsgId) (s : Spot) → t s ≡ false → 1 ≤ standing v i s → id_eq id i ≡ false) → PlacedLeaves t p v l (with_message l id x)
 placed_message t p v l id x was is alone = record {
   process = λ q off. refl;
+  notes = λ q. refl;
   bag = λ i s off least. off_if (id_eq id i) x (l.bag i) (alone i s off least);
   own = λ i y none there. elim (cases_Bool (id_eq id i)) [
     | inl same ↦ absurd (was y (ap l.bag (id_eq-is id i same) ∙ there) none)

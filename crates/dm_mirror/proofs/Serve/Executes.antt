@@ -43,7 +43,7 @@ called_acts b m pt l k p x y z c n (Called.Replied reply) cl s r plain next with
     let goes = kernel.goes_on u p (plain_process z) in
     acts_as b m pt l k p t t (Some (rule.says (Label.Ran p c) ∷ rule.called p n (pt.view.queue m p) cl)) (Some (rule.says (Label.Ran p c) ∷ rule.says (Label.Call p n reply) ∷ [])) refl
     (ap (λ (v : calls.Called). Some (rule.says (Label.Ran p c) ∷ rule.called p n (pt.view.queue m p) v)) f)
-    (goes_acts b m pt l k p x y z c (Label.Call p n reply) s r (λ v. refl) tt
+    (goes_acts b m pt l k p x y z c (Label.Call p n reply) s r (λ u v. refl) tt
     (ap (λ (o : Option kernel.Trap). bind o (kernel.replies u p n reply)) (next ∙ ap (λ (v : calls.Called). Some (kernel.Calls n v)) f) ∙ ap (λ (d : Bool). when d goes) (reply_same n reply)) with_ queue memory)
 called_acts b m pt l k p x y z c n (Called.Sent w) cl s r plain next with_ queue memory = message_acts b m pt l k p x y z c n w cl s r plain next with_ queue memory
 called_acts b m pt l k p x y z c n (Called.Moving w) cl s r plain next with_ queue memory = message_acts b m pt l k p x y z c n w cl s r plain next with_ queue memory
@@ -53,7 +53,7 @@ called_acts b m pt l k p x y z c n Called.Waits cl s r plain next with_ queue me
     let u = ran_kernel pt p y in
     acts_as b m pt l k p t t (Some (rule.says (Label.Ran p c) ∷ rule.called p n (pt.view.queue m p) cl)) (Some (rule.says (Label.Ran p c) ∷ rule.says (Label.Wait p) ∷ [])) refl
     (ap (λ (v : calls.Called). Some (rule.says (Label.Ran p c) ∷ rule.called p n (pt.view.queue m p) v)) f)
-    (goes_acts b m pt l k p x y z c (Label.Wait p) s r (λ v. refl) tt (ap (λ (o : Option kernel.Trap). bind o (kernel.waits u p)) (next ∙ ap (λ (v : calls.Called). Some (kernel.Calls n v)) f)) with_ queue memory)
+    (goes_acts b m pt l k p x y z c (Label.Wait p) s r (λ u v. refl) tt (ap (λ (o : Option kernel.Trap). bind o (kernel.waits u p)) (next ∙ ap (λ (v : calls.Called). Some (kernel.Calls n v)) f)) with_ queue memory)
 called_acts b m pt l k p x y z c n (Called.Out word) cl s r plain next with_ queue memory =
     let f : cl ≡ calls.Outputs word (plain_process z) = cc in
     let t = serve.called_with (with_here (moved_round k p) p z) p c n z (Called.Out word) in
@@ -61,7 +61,7 @@ called_acts b m pt l k p x y z c n (Called.Out word) cl s r plain next with_ que
     let goes = kernel.goes_on u p (plain_process z) in
     acts_as b m pt l k p t t (Some (rule.says (Label.Ran p c) ∷ rule.called p n (pt.view.queue m p) cl)) (Some (rule.says (Label.Ran p c) ∷ rule.says (Label.Out p word) ∷ [])) refl
     (ap (λ (v : calls.Called). Some (rule.says (Label.Ran p c) ∷ rule.called p n (pt.view.queue m p) v)) f)
-    (goes_acts b m pt l k p x y z c (Label.Out p word) s r (λ v. refl) tt
+    (goes_acts b m pt l k p x y z c (Label.Out p word) s r (λ u v. refl) tt
     (ap (λ (o : Option kernel.Trap). bind o (kernel.outputs u p word)) (next ∙ ap (λ (v : calls.Called). Some (kernel.Calls n v)) f) ∙ ap (λ (d : Bool). when d goes) (eq_self word)) with_ queue memory)
 called_acts b m pt l k p x y z c n (Called.Ended because) cl s r plain next with_ queue memory =
     let f : cl ≡ calls.Ends because = cc in

@@ -21,6 +21,8 @@ use Rattle.dm_mirror.proofs.Kernel.Sets.{Leaves, view_leaves_on, kernel_leaves_o
 use Rattle.dm_mirror.proofs.Kernel.Sets.{kernel_sets, kernel_out, placed_sets, placed_out, NotOwn, not_own_some, machine_on, record_on, label_mirrors, after_label, view_same, kernel_same, placed_same}
 use Rattle.dm_mirror.proofs.Serve.Runs.{Found, found, here_of, in_ring, first_runs, first_same}
 use Rattle.dm_mirror.proofs.Serving.{Served, Acts, acts_as, moved_round, served_goes, is_for, queue_alone}
+use Rattle.dm_rulelaws.proofs.Goes.Front.{here_free}
+use Rattle.dm_rulelaws.proofs.Goes.Turns.{at_hand_of}
 use Rattle.dm_mirror.proofs.Turning.{Elsewhere, Row, begun, is_moving}
 use Rattle.dm_mirror.proofs.Rooms.{taken_same}
 use Rattle.dm_mirror.proofs.Serve.Executes.{executes_acts}
@@ -80,7 +82,7 @@ completes_of b m pt l k p x mask base size w d s waits f e =
       machine_ = e;
       parts = ap (λ (o : Option PlainMessage). bind o (λ (u : PlainMessage). bind (receiving.completes_with p (plain_process x) u) (λ (v : receiving.Completed). Some (rule.completion_parts p w.id v)))) c.there
           ∙ ap (λ (o : Option receiving.Completed). bind o (λ (v : receiving.Completed). Some (rule.completion_parts p w.id v))) with_;
-      completing_ = ap (λ (o : Option Life). bind (kernel.alive o) (λ (v : PlainProcess). bind (pt.kernel.bag w.id) (receiving.completes_with p v))) s.at.alive
+      completing_ = ap (λ (o : Option PlainProcess). bind o (λ (v : PlainProcess). bind (pt.kernel.bag w.id) (receiving.completes_with p v))) (at_hand_of pt.kernel p (plain_process x) s.at.free s.at.alive)
           ∙ ap (λ (o : Option PlainMessage). bind o (receiving.completes_with p (plain_process x))) c.there ∙ with_;
       ends = completed_matches l p w.id x s.at.queue 0 w d s.at.there f.there e;
     }
@@ -252,7 +254,7 @@ chosen b m pt l k p h first =
     record {
       x = at.x;
       served = record {
-        at = search (away_elsewhere pt.view m p h.run.based.phased.phases r.here, r.alive ∙ ap (λ (z : PlainProcess). Some (Alive z)) at.plain);
+        at = search (away_elsewhere pt.view m p h.run.based.phased.phases r.here, here_free pt.kernel pt.view m p h.run.based.noted r.here, r.alive ∙ ap (λ (z : PlainProcess). Some (Alive z)) at.plain);
         acting = refl;
         mirrors = begun_mirrors pt l m h.mirrors;
         stands = begun_stands b pt l m k h.stands;
@@ -298,7 +300,7 @@ pub record Round (b : Boot) (m : ℕ) (pt : Point) (l : Placed) (k : KernelState
   pub p : Pid
   pub acts : Acts b m (begun pt m) l k p (turn.goes_round b k o) (rule.goes_round b pt m o)
   pub elsewhere : Elsewhere m (begun pt m) l acts.next acts.placed
-  pub moving : (q : Pid) → is_moving (pt.view.known m q) ≡ true → (acts.placed.processes q ≡ l.processes q) × (acts.state.records q ≡ k.records q)
+  pub moving : (q : Pid) → is_moving (pt.view.known m q) ≡ true → (acts.placed.processes q ≡ l.processes q) × (acts.state.records q ≡ k.records q) × (acts.placed.notes q ≡ l.notes q)
 
 abbrev idle_acts : (b : Boot) (m : ℕ) (pt : Point) (l : Placed) (k : KernelState) (p : Pid) → Mirrors pt.kernel pt.view pt.addresses l → KernelStands b pt l m k → Acts b m (begun pt m) l k p (turn.goes_round b k None) (rule.goes_round b pt m None)
 idle_acts b m pt l k p mirrors stands = record {
@@ -324,7 +326,7 @@ idle_round b m pt l k h = record {
   p = pid_of m 0;
   acts = idle_acts b m pt l k (pid_of m 0) h.mirrors h.stands;
   elsewhere = search;
-  moving = λ q is. (refl, refl);
+  moving = λ q is. (refl, refl, refl);
 }
 
 -- a process that is here doesn't move
@@ -341,7 +343,7 @@ round_of b m pt l k (Some p) first h =
       p = p;
       acts = a;
       elsewhere = elsewhere_of m (is_queue_of m p) p (begun pt m) a.next l a.placed s.at.away refl (queue_not_elsewhere m p) a.leaves;
-      moving = λ q is. (let off = here_apart pt.view m p q s.at.known is in (a.leaves.placed_.process q off, a.records q off));
+      moving = λ q is. (let off = here_apart pt.view m p q s.at.known is in (a.leaves.placed_.process q off, a.records q off, a.leaves.placed_.notes q));
     }
 
 no_messages : (bag : MsgId → Option Message) (ms : List Message) → AreMessages bag [] ms → ms ≡ []

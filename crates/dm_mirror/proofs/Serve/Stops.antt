@@ -12,7 +12,7 @@ use Rattle.dm_rule.specs.Rule as rule
 use Rattle.dm_places.specs.PlacedStep as placed
 use Rattle.dm_kernel.specs.State as machine
 use Rattle.dm_kernel.specs.Serve as serve
-use Rattle.dm_rule.specs.View as view
+use Rattle.dm_rule.specs.Point.{seen}
 use Rattle.dm_mirror.proofs.Kernel.Sets.{Leaves, leaves_on, kernel_leaves_on, placed_leaves_on, is_queue_of, off_if, on_if, queue_of_others, inbox_stands, messages_on, ViewLeaves, ends_stands, view_same, view_ended, kernel_sets}
 use Rattle.dm_mirror.proofs.Kernel.Sets.{kernel_puts, placed_sets, placed_puts, NotOwn, machine_on, record_on, nowhere_alone, label_mirrors, after_label, view_serving}
 use Rattle.dm_mirror.proofs.Serving.{Served, Acts, moved_round, served_goes, is_for, queue_alone}
@@ -48,7 +48,7 @@ ran_of b m pt l k p x c n s ready steps memory =
     let t = ran_kernel pt p y in
     let plain : plain_status x.status ≡ Ready = ap plain_status ready in
     let step : kernel.step pt.kernel (Label.Ran p c) ≡ Some t =
-    ap (λ (o : Option PlainProcess). bind o (λ (v : PlainProcess). bind (kernel.plain_steps c (kernel.machine_of v)) (λ (z : Machine). Some (kernel.goes_on pt.kernel p (kernel.with_machine v z))))) (running_of pt.kernel p (plain_process x) s.at.alive s.going plain)
+    ap (λ (o : Option PlainProcess). bind o (λ (v : PlainProcess). bind (kernel.plain_steps c (kernel.machine_of v)) (λ (z : Machine). Some (kernel.goes_on pt.kernel p (kernel.with_machine v z))))) (running_of pt.kernel p (plain_process x) s.at.alive s.at.free s.going plain)
     ∙ ap (λ (o : Option Machine). bind o (λ (z : Machine). Some (kernel.goes_on pt.kernel p (kernel.with_machine (plain_process x) z)))) steps
     in
     let ready_x : placed.if_ready x x.status ≡ Some x = ap (placed.if_ready x) ready ∙ ap (λ (d : Bool). if d then None else Some x) s.going in
@@ -58,7 +58,7 @@ ran_of b m pt l k p x c n s ready steps memory =
       kernel_sets p pt.kernel (Alive (plain_process y)),
       placed_sets (is_queue_of m p) p pt.view l (Some (with_queue y queue)),
       ap (placed.if_ready y) ready ∙ ap (λ (d : Bool). if d then None else Some y) s.going,
-      running_of t p (plain_process y) (set_at pt.kernel p (Alive (plain_process y))) s.going plain,
+      running_of t p (plain_process y) (set_at pt.kernel p (Alive (plain_process y))) s.at.free s.going plain,
       on_if (pid_eq p p) (Some (with_queue y queue)) (l.processes p) (pid_eq-same p),
       machine_on pt.view.ring pt.view.acting m (moved_back p (pt.view.ring pt.view.acting)) s.acting ∙ ap (λ (a : ℕ). moved_back p (pt.view.ring a)) s.acting,
     )
@@ -86,7 +86,7 @@ whole_acts b m pt l k p x y c s r = record {
 }
 
 -- a call after which it goes on, and sends nothing
-pub goes_acts : (b : Boot) (m : ℕ) (pt : Point) (l : Placed) (k : KernelState) (p : Pid) (x y z : Process) (c : ℕ) (e : Label) (s : Served b m pt l k p x) → Ran m pt l p x s.at.queue c y → ((v : View) → view.after_label v e ≡ v) → StepNeeds (ran_kernel pt p y) (ran_point pt p c y).view e
+pub goes_acts : (b : Boot) (m : ℕ) (pt : Point) (l : Placed) (k : KernelState) (p : Pid) (x y z : Process) (c : ℕ) (e : Label) (s : Served b m pt l k p x) → Ran m pt l p x s.at.queue c y → ((u : OneKernel) (v : View) → seen u v (Line.Label e) ≡ v) → StepNeeds (ran_kernel pt p y) (ran_point pt p c y).view e
     → kernel.step (ran_kernel pt p y) e ≡ Some (kernel.goes_on (ran_kernel pt p y) p (plain_process z))
     → placed.placed_step m pt.kernel.format pt.kernel.images (ran_placed l p y s.at.queue) e ≡ Some (placed.with_process (ran_placed l p y s.at.queue) p (Some (with_queue z s.at.queue))) → z.queue ≡ x.queue → length z.memory ≡ length x.memory
     → Acts b m pt l k p (turned (with_here (moved_round k p) p z) (machine.says (Label.Ran p c) ∷ machine.says e ∷ [])) (Some (rule.says (Label.Ran p c) ∷ rule.says e ∷ []))
@@ -98,7 +98,7 @@ goes_acts b m pt l k p x y z c e s r still needs step with_ queue_is memory =
     let u = kernel.goes_on (ran_kernel pt p y) p (plain_process z) in
     let next = moved o (Line.Label e) u in
     let on = placed.with_process lm p (Some (with_queue z queue)) in
-    let same : next.view ≡ o.view = still o.view in
+    let same : next.view ≡ o.view = still (ran_kernel pt p y) o.view in
     let second : Leaves m t p o lm next on = record { view = subst (λ (v : View). ViewLeaves m t p o.view v) (sym same) (view_same m t p o.view); kernel = kernel_sets p (ran_kernel pt p y) (Alive (plain_process z)); placed_ = placed_sets t p o.view lm (Some (with_queue z queue)) } in
     let leaves = leaves_on m t p pt o next l lm on r.leaves second in
     record {
