@@ -10,6 +10,7 @@ use Rattle.dm_rule.specs.Ends as rule
 use Rattle.dm_kernel.specs.State as machine
 use Rattle.dm_world.specs.Ends as world
 pub use Rattle.dm_mirror.proofs.Row.Tokens.{carries_plain as carried_own}
+use Rattle.dm_message.specs.declared.Asker.{Asker}
 use Rattle.dm_mirror.proofs.End.Servers.{first_at, first_none, names_are, alive_same, ComesTo, HasIt, OverAt, away_silent, is_silent, where_is}
 use Rattle.dm_mirror.proofs.Handle.Taking.{some_same}
 pub use Rattle.dm_mirror.proofs.Handle.Kills.{child_off as no_server}
@@ -90,9 +91,9 @@ is_coming pt l p q held from (Some (Record.Incoming x)) h = record { arrival = x
 is_coming pt l p q held from _ h = absurd h
 
 -- the message that lets a process restart tells that all of it has come
-pub restart_wants : (p : Pid) (x : Process) (n : ℕ) (o : Option Arrival) (w : What) → kind_of w ≡ MessageKind.Restart → Carries p x n o w → Wants o Nothing
-restart_wants p x n o (What.Restart pid) e h = h.1
-restart_wants p x n o _ e h = cc
+pub restart_wants : (p : Pid) (x : Process) (k : Option Asker) (n : ℕ) (o : Option Arrival) (w : What) → kind_of w ≡ MessageKind.Restart → Carries p x k n o w → Wants o Nothing
+restart_wants p x k n o (What.Restart pid) e h = h.1
+restart_wants p x k n o _ e h = cc
 
 -- all its pieces give the process
 pub come_all : (l : Placed) (p : Pid) (held : List MsgId) (a : Arrival) (c : ComesStand l p held a) → a.wanted ≡ Nothing → come_whole a a.wanted ≡ Some (moved c.process)
@@ -232,11 +233,11 @@ all_come b w pt l h p a g c is =
     let told = a.token.told in
     let t = g.stands.tokens p a.id (record { kind = MessageKind.Restart; receiver = pid_of a.to 0; about = About.Of p }) a.token.spot told refl refl a.token.stands in
     let m = t.message in
-    let none : plain_what m.what ≡ None = carried_own p t.process (pt.view.asked p) (incoming_of ((w.nodes a.to).kernel.records p)) m.what t.carries in
+    let none : plain_what m.what ≡ None = carried_own p t.process (l.notes p) (pt.view.asked p) (incoming_of ((w.nodes a.to).kernel.records p)) m.what t.carries in
     let own = g.stands.own a.id m t.is (ap (with_what m) none) in
     let same : told_of m ≡ record { kind = MessageKind.Restart; receiver = pid_of a.to 0; about = About.Of p } = some_same (told_of m) (record { kind = MessageKind.Restart; receiver = pid_of a.to 0; about = About.Of p }) (sym own.told ∙ told) in
     subst (λ (o : Option machine.KernelKnown). Wants (incoming_of o) Nothing) is
-    (restart_wants p t.process (pt.view.asked p) (incoming_of ((w.nodes a.to).kernel.records p)) m.what (ap (λ (x : Told). x.kind) same) t.carries)
+    (restart_wants p t.process (l.notes p) (pt.view.asked p) (incoming_of ((w.nodes a.to).kernel.records p)) m.what (ap (λ (x : Told). x.kind) same) t.carries)
 
 to_said : (b : Boot) (w : WorldState) (pt : Point) (l : Placed) (h : History) (p : Pid) (a : ComesTo pt.view p) → IsOfHome b w pt l h p → world.process_lines pt.kernel.machines w p ≡ rule.process_lines pt p (pt.kernel.processes p)
 to_said b w pt l h p a g =

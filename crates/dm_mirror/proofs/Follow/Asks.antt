@@ -1,6 +1,6 @@
 -- A directive to move a process: the manager's message goes to its child, or a line says why none does.
 use Rattle.dm_mirror.proofs.Names.{◌≡◌, ℕ, ◌+◌, ◌≤◌, ◌==◌, ◌||◌, Bool, true, false, List, [], ◌∷◌, refl, ap, ◌∙◌, sym, subst, inl, inr, arith, if◌then◌else◌, cond, Option, None, Some, Err, cases_Bool, false≢true, nat_tests, Addr, Pid}
-use Rattle.dm_mirror.proofs.Names.{pid_eq, pid_of, place_of, Message, MsgId, What, MessageKind, MoveError, Step, id_of, incoming_of, Boot, manager, switchboard, address, child_named, moves_child, tells_to_move, asks_manager, asks_move}
+use Rattle.dm_mirror.proofs.Names.{pid_eq, pid_of, place_of, Message, MsgId, What, MessageKind, MoveError, Step, id_of, incoming_of, Boot, manager, switchboard, address_at, child_named, moves_child, tells_to_move, asks_manager, asks_move}
 use Rattle.dm_mirror.proofs.Names.{told_to_move, KernelState, id_eq-same, pid_eq-is, Line, Receiver, Sender, child_number, place_of_child, unmoved, migrates, migrates_child, Point, after, moved, at_machine, Spot, standing, Run, Placed}
 use Rattle.dm_mirror.proofs.Names.{Mirrors, mirrors_view, child_place, no_child, AllOwnStand, KernelStands, AllRecords, TokensStand, Wants, destination_of, ◌≢◌, ◌&&◌, not, kind_of, plain_what, Inbox, Known, Unknown, Here, Frozen, Incoming}
 use Rattle.dm_mirror.proofs.Names.{Forward, Ended, is_server, is_fixed, is_place, is_target, own_sort}
@@ -39,7 +39,7 @@ tokens_asked b pt l records k c p to q i t z told between about least =
     let one = c.tokens q i t z told between about (stood pt p to i z least) in
     let n = destination_of i t in
     search
-    (carries_on q one.process (pt.view.asked q) (incoming_of (records n q)) (incoming_of (at_machine records 0 k.records n q)) one.message.what (λ u w. subst (λ (f : Pid → Option machine.KernelKnown). Wants (incoming_of (f q)) u) (sym (same_records records k n (0 == n) c.mine refl)) w) one.carries)
+    (carries_on q one.process (l.notes q) (pt.view.asked q) (incoming_of (records n q)) (incoming_of (at_machine records 0 k.records n q)) one.message.what (λ u w. subst (λ (f : Pid → Option machine.KernelKnown). Wants (incoming_of (f q)) u) (sym (same_records records k n (0 == n) c.mine refl)) w) one.carries)
 
 own_asked : (b : Boot) (pt : Point) (l : Placed) (records : AllRecords) (k : KernelState) (c : Asks b pt l records k) (p : Pid) (to : ℕ) → AllOwnStand (asked_point pt p to).view l
 own_asked b pt l records k c p to i x there plain = let o = c.own i x there plain in record { told = o.told; mine = o.mine; sender = o.sender }
@@ -90,7 +90,7 @@ named_is (d ∷ ds) p c e = elim (cases_Bool (pid_eq d.pid p)) [
 
 -- the message that tells a child to move
 abbrev move_of : KernelState → Addr → ℕ → Message
-move_of k child to = record { id = machine.own_id k; to = child; sender = address; what = What.Migrate to }
+move_of k child to = record { id = machine.own_id k; to = child; sender = address_at 0; what = What.Migrate to }
 
 move_may : (b : Boot) (pt : Point) (l : Placed) (records all : AllRecords) (k : KernelState) (c : Asks b pt l records k) (p : Pid) (to : ℕ) (child : Addr) → child_named p l.manager.children ≡ Some child → MayOwn (asked_point pt p to) l all (move_of k child to)
 move_may b pt l records all k c p to child found =

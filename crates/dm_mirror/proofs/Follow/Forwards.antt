@@ -186,7 +186,7 @@ forward_row b m pt l records k y c at moves back is knows has =
       sent = same.sent;
       single = own_most y (machine.own_id k) k.here at moves back;
       known = λ server. subst (KnownStands (handled_point pt m y.id pt.view.held topic next.addresses) placed p (pt.view.queue m p) (pt.view.held m p) (pt.view.known m p)) (ap (λ (f : Pid → Option machine.KernelKnown). f p) (sym same.records))
-          (known_on pt (handled_point pt m y.id pt.view.held topic next.addresses) l placed p (pt.view.queue m p) (pt.view.held m p) (pt.view.known m p) (k.records p) refl refl
+          (known_on pt (handled_point pt m y.id pt.view.held topic next.addresses) l placed p (pt.view.queue m p) (pt.view.held m p) (pt.view.known m p) (k.records p) refl refl refl
           (λ j least. bag_off j (apart_at b m pt l records k y c (Queue m p) j (queue_apart m m p) least)) (λ j least. bag_off j (apart_at b m pt l records k y c (Held m p) j (held_apart m m p) least)) (c.stands.known p server));
       still = front_still b m pt l records k y c is.number;
       may = all_may b m pt l records (at_machine records m state.records) k y c at moves back is knows has;

@@ -10,6 +10,7 @@ pub use Rattle.dm_rule.proofs.Lines.{eq_self, at_machine_at as machine_self}
 pub use Rattle.dm_rulelaws.proofs.Goes.Always.{queue_apart}
 use Rattle.dm_rule.specs.Rule.{process_handles}
 use Rattle.dm_kernel.specs.declared.part.Part.{Part}
+use Rattle.dm_message.specs.declared.Asker.{Asker}
 use Rattle.dm_kernel.specs.State as machine
 use Rattle.dm_kernel.specs.Handle as machine_handle
 use Rattle.dm_rule.specs.Parts as rule
@@ -216,16 +217,16 @@ set_other records p r q off = ap (λ (c : Bool). if c then Some r else records q
 -- A row of a turn that says one line of the message at its front, and puts messages on: it leads to what a turn owes.
 
 -- what is asked for stays, so what a message carries does
-pub carries_on : (p : Pid) (x : Process) (n : ℕ) (a c : Option Arrival) (w : What) → ((u : Wanted) → Wants a u → Wants c u) → Carries p x n a w → Carries p x n c w
-carries_on p x n a c (What.Ask pid blocks moves size asker) same h = h
-carries_on p x n a c (What.Refuse pid slots blocks) same h = h
-carries_on p x n a c (What.PullState pid chunk) same h = (h.0, h.1, same (Wanted.Chunk chunk) h.2)
-carries_on p x n a c (What.State pid chunk last bytes) same h = (h.0, h.1, same (Wanted.Chunk chunk) h.2)
-carries_on p x n a c (What.PullBlock pid block) same h = (h.0, h.1, same (Wanted.Block block) h.2)
-carries_on p x n a c (What.Memory pid block bytes) same h = (h.0, h.1, same (Wanted.Block block) h.2)
-carries_on p x n a c (What.AllTaken pid) same h = (h.0, same Wanted.Nothing h.1)
-carries_on p x n a c (What.Restart pid) same h = (h.0, same Wanted.Nothing h.1)
-carries_on p x n a c _ same h = absurd h
+pub carries_on : (p : Pid) (x : Process) (k : Option Asker) (n : ℕ) (a c : Option Arrival) (w : What) → ((u : Wanted) → Wants a u → Wants c u) → Carries p x k n a w → Carries p x k n c w
+carries_on p x k n a c (What.Ask pid blocks moves size asker) same h = h
+carries_on p x k n a c (What.Refuse pid slots blocks) same h = h
+carries_on p x k n a c (What.PullState pid chunk) same h = (h.0, h.1, same (Wanted.Chunk chunk) h.2)
+carries_on p x k n a c (What.State pid chunk last bytes) same h = (h.0, h.1, same (Wanted.Chunk chunk) h.2)
+carries_on p x k n a c (What.PullBlock pid block) same h = (h.0, h.1, same (Wanted.Block block) h.2)
+carries_on p x k n a c (What.Memory pid block bytes) same h = (h.0, h.1, same (Wanted.Block block) h.2)
+carries_on p x k n a c (What.AllTaken pid) same h = (h.0, same Wanted.Nothing h.1)
+carries_on p x k n a c (What.Restart pid) same h = (h.0, same Wanted.Nothing h.1)
+carries_on p x k n a c _ same h = absurd h
 
 -- the message is handled, held lists may have grown, and addresses may have changed
 abbrev pub handled_view : Point → ℕ → MsgId → (ℕ → Pid → List MsgId) → About → View
@@ -242,6 +243,7 @@ pub record FollowLeaves (m : ℕ) (pt : Point) (l : Placed) (k : KernelState) (r
   pub held_from : (n : ℕ) (q : Pid) (j : MsgId) → id_eq i j ≡ false → times j (held n q) ≡ times j (pt.view.held n q)
   -- the kernel with places
   pub processes : (q : Pid) → pid_eq process q ≡ false → placed.processes q ≡ l.processes q
+  pub notes : (q : Pid) → placed.notes q ≡ l.notes q
   pub elsewhere : (n : ℕ) → n ≢ m → has_process (pt.view.known n process) ≡ true → placed.processes process ≡ l.processes process
   pub moving : (j : MsgId) (t : Told) (z : Spot) → pt.view.told j ≡ Some t → is_between t.kind ≡ true → t.about ≡ Of process → 1 ≤ standing pt.view j z → placed.processes process ≡ l.processes process
   pub bag : (j : MsgId) → id_eq i j ≡ false → placed.bag j ≡ l.bag j
@@ -342,7 +344,9 @@ tokens_follow b m pt l records k y c h p i t z told between about least =
     search (
       process_stays b m pt l records k y c h p i t z told between about before ∙ one.there,
       h.leaves.bag i off ∙ one.is,
-      carries_on p one.process (pt.view.asked p) (incoming_of (records (destination_of i t) p)) (incoming_of (at_machine records m h.state.records (destination_of i t) p)) one.message.what (λ u w. all_wants b m pt l records k y c h p (destination_of i t) u (m == destination_of i t) refl w) one.carries,
+      subst (λ (o : Option Asker). Carries p one.process o (pt.view.asked p) (incoming_of (at_machine records m h.state.records (destination_of i t) p)) one.message.what) (sym (h.leaves.notes p))
+      (carries_on p one.process (l.notes p) (pt.view.asked p) (incoming_of (records (destination_of i t) p)) (incoming_of (at_machine records m h.state.records (destination_of i t) p)) one.message.what
+      (λ u w. all_wants b m pt l records k y c h p (destination_of i t) u (m == destination_of i t) refl w) one.carries),
     )
 
 own_follows : (b : Boot) (m : ℕ) (pt : Point) (l : Placed) (records : AllRecords) (k : KernelState) (y : Message) (c : Fronts b m pt l records k y) (h : Follows b m pt l records k y c) → AllOwnStand (handled_view pt m y.id h.held h.topic) h.placed
@@ -368,7 +372,7 @@ kernel_follows b m pt l records k y c h =
     let waits : (q : Pid) (j : MsgId) → 1 ≤ times j (pt.view.queue m q) → h.placed.bag j ≡ l.bag j = λ q j least. kept_at b m pt l records k y c h (Queue m q) j (queue_apart m m q) least in
     let holds : (q : Pid) (j : MsgId) → 1 ≤ times j (pt.view.held m q) → h.placed.bag j ≡ l.bag j = λ q j least. kept_at b m pt l records k y c h (Held m q) j (held_apart m m q) least in
     stands_set b pt next l h.placed m k h.state h.process
-    (search (h.leaves.here, h.leaves.records_, h.leaves.held_others, h.leaves.processes, waits, holds, h.known, h.leaves.keeps)) stands
+    (search (h.leaves.here, h.leaves.records_, h.leaves.held_others, h.leaves.processes, h.leaves.notes, waits, holds, h.known, h.leaves.keeps)) stands
     (h.leaves.ring ∙ stands.ring)
     (ap (map h.placed.bag) (machine_self pt.view.inbox m (without_front y.id (pt.view.inbox m)) ∙ front_gone y.id c.ids (pt.view.inbox m) c.box)
     ∙ map_same l.bag h.placed.bag c.ids (λ j least. h.leaves.bag j (apart_behind b m pt l records k y c j least)) ∙ c.others ∙ ap (map Some) (sym h.leaves.inbox))
@@ -380,6 +384,7 @@ elsewhere_follows : (b : Boot) (m : ℕ) (pt : Point) (l : Placed) (records : Al
 elsewhere_follows b m pt l records k y c h = search (
   machine_off,
   h.leaves.held_off,
+  h.leaves.notes,
   others,
   λ (i : MsgId) (s : Spot) (is : is_elsewhere m s ≡ true) (least : 1 ≤ standing (begun pt m).view i s). kept_at b m pt l records k y c h s i (elsewhere_apart m s is) (standing_begun s i least),
 )
