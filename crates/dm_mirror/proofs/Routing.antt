@@ -8,6 +8,11 @@ use Rattle.dm_stream.specs.Packets.{Load}
 use Rattle.dm_node.specs.declared.out.Out.TheVariants.{Says}
 use Rattle.dm_kernel.specs.declared.part.Part.{Part}
 use Rattle.dm_line.specs.declared.line.Load.TheVariants as load
+use Rattle.dm_mirror.proofs.Names.{MsgId, nat_le, routed_on}
+use Rattle.dm_rule.specs.Acts.{Act, act_of}
+use Rattle.dm_rule.specs.Acts as act
+use Rattle.dm_rule.specs.Point.{seen}
+use Rattle.dm_rule.specs.Worn.{full_route}
 use Rattle.dm_rule.specs.Parts as rule
 use Rattle.dm_mirror.proofs.Puts.{point_put, wire_length, with_put}
 use Rattle.dm_mirror.proofs.Giving.{with_gift, count_given, node_gave, node_went, same_records, stands_gave, stands_went, world_gave}
@@ -15,6 +20,7 @@ use Rattle.dm_mirror.proofs.Turning.{Route, MayPut, message_of, rule_part_of}
 use Rattle.dm_mirror.proofs.Route.Puts.{after_route, route_more, route_there, stands_routed, RouteGoes, RouteOn, RouteWorn, with_acted, CoreStands, core_more, core_of}
 use Rattle.dm_mirror.proofs.Home.{node_home, stands_home}
 use Rattle.dm_mirror.proofs.Streams.{apart_is}
+use Rattle.dm_mirror.proofs.Counts.Pairs.{line_ids}
 use Rattle.dm_mirror.proofs.Join.{line_put, lines_put, part_is, put_end, put_point}
 use Rattle.dm_mirror.proofs.Route.Parts.{Next, next_of}
 
@@ -266,6 +272,26 @@ spoken_says wires (l ∷ ls) outs = ap (says l) (spoken_says wires ls outs)
 pub no_put : (numbers : ℕ) (v : View) (l : Line) → is_put l ≡ false → full_pair numbers v l ≡ None
 no_put numbers v l e = grind (arith, nat_tests)
 
+-- which pair is worn out depends on how many messages the pairs have, and on nothing else
+abbrev pub SameIds : View → View → Type 0
+SameIds v w = (a c : ℕ) → (w.pair a c).ids ≡ (v.pair a c).ids
+
+put_alike : (v w : View) (a b : ℕ) (i : MsgId) (c d : ℕ) (t : Bool) → SameIds v w → (if t then routed_on a b (w.pair a b) i else w.pair c d).ids ≡ (if t then routed_on a b (v.pair a b) i else v.pair c d).ids
+put_alike v w a b i c d true h = ap (λ (ids : List MsgId). ids ++ i ∷ []) (h a b)
+put_alike v w a b i c d false h = h c d
+
+line_alike : (v w : View) (l : Line) → SameIds v w → SameIds (view_after v l) (view_after w l)
+line_alike v w (Line.Put a b i k q) h c d = put_alike v w a b i c d ((a == c) && (b == d)) h
+line_alike v w any_ h c d = line_ids w any_ refl c d ∙ h c d ∙ sym (line_ids v any_ refl c d)
+
+full_alike : (numbers : ℕ) (v w : View) (x : Act) → SameIds v w → full_route numbers w x ≡ full_route numbers v x
+full_alike numbers v w (act.Routes a b i k q) h = ap (λ (ids : List MsgId). if nat_le numbers (length ids) then Some (record { from = a; to = b }) else None) (h a b)
+full_alike numbers v w _ h = refl
+
+pub worn_alike : (numbers : ℕ) (ls : List Line) (v w : View) → SameIds v w → worn_in numbers w ls ≡ worn_in numbers v ls
+worn_alike numbers [] v w h = refl
+worn_alike numbers (l ∷ ls) v w h = λ i. or (full_alike numbers v w (act_of l) h i) (worn_alike numbers ls (view_after v l) (view_after w l) (line_alike v w l h) i)
+
 -- such lines wear no pair out
 pub worn_behind : (numbers : ℕ) (ls : List Line) (pt next : Point) (ms : List Line) (ps : List rule.Part) → AllSayable (map rule.Says ls ++ ps) → after pt ls ≡ Some next
     → worn_in numbers pt.view (ls ++ ms) ≡ worn_in numbers next.view ms
@@ -275,6 +301,7 @@ worn_behind numbers (l ∷ ls) pt next ms ps fits comes =
     let (s, there, is) = bind-is (kernel_after pt.kernel (label_of l)) (λ (s : OneKernel). Some (moved pt l s)) n one in
     let same : moved pt l s ≡ n = cc in
     ap (λ (o : Option Two). or o (worn_in numbers (view_after pt.view l) (ls ++ ms))) (no_put numbers pt.view l fits.0)
+    ∙ worn_alike numbers (ls ++ ms) (seen pt.kernel pt.view l) (view_after pt.view l) (λ a c. refl)
     ∙ ap (λ (k : Point). worn_in numbers k.view (ls ++ ms)) same
     ∙ worn_behind numbers ls n next ms ps fits.1 more
 

@@ -5,15 +5,23 @@ use Rattle.dm_mirror.proofs.Names.{pid_eq-is, pid_eq-same, kernel_told, Moves, i
 use Rattle.dm_mirror.proofs.Names.{Unknown, Here, Frozen, Incoming, Forward, Ended, Of, View, without_first, once_at, times-append, is_server, has_no_queue, Placed, restarted_mirrors, mirrors_view, room_of, restarts, restarts_as}
 use Rattle.dm_mirror.proofs.Names.{kernel_handles, KernelState, AreMessages, KnownStands, RoomStands, AllRecords, Carries, TokensStand, destination_of, and_false, least_of, at_record_at}
 use Rattle.dm_places.specs.PlacedStep.{with_process}
+use Rattle.dm_message.specs.declared.Asker.{Asker}
+use Rattle.dm_message.specs.declared.Outcome.{Outcome}
+use Rattle.dm_migrate.specs.Arrival.{Arrival}
+use Rattle.dm_migrate.specs.Way.{coming}
 use Rattle.dm_migrate.specs.Way as way
 use Rattle.dm_onekernel.specs.Step as kernel
 use Rattle.dm_rule.specs.Rule as group
 use Rattle.dm_kernel.specs.declared.part.Part.TheVariants as part
 use Rattle.dm_kernel.specs.State as machine
+use Rattle.dm_kernel.specs.Departing.{tells_asker}
+use Rattle.dm_rule.specs.Migrating as migrating
+use Rattle.dm_mirror.proofs.Names.{Told}
+use Rattle.dm_mirror.proofs.Leave.Answered.{EndsMove, ends_move_row}
 use Rattle.dm_mirror.proofs.Come.Frames.{Arrives, Comes, arrives, own_once}
 use Rattle.dm_mirror.proofs.Come.Turns.{come_view, eq_off, fewer, gone, machine_self, others_known}
 use Rattle.dm_mirror.proofs.Rooms.{taken_same}
-use Rattle.dm_mirror.proofs.Turning.{Nothing as NoLate, TurnsAt, begun, has_process}
+use Rattle.dm_mirror.proofs.Turning.{TurnsAt, begun, has_process}
 use Rattle.dm_mirror.proofs.Leave.Stays.{messages_append as are_both}
 use Rattle.dm_mirror.proofs.Come.Pieces.{first_gone, known_incoming, outcome_kernel, turn_kernel, before}
 use Rattle.dm_mirror.proofs.Handle.Taking.{machine_off, record_off as record_away}
@@ -22,17 +30,23 @@ abbrev pub back_point : Point → ℕ → Pid → Point
 back_point pt m p = moved (begun pt m) (Line.Migration Stage.Restarted p) pt.kernel
 
 -- what is known of another process
-known_apart : (pt next : Point) (l placed : Placed) (p : Pid) (queue held_ : List MsgId) (k : Known) (r : Option machine.KernelKnown) → placed.processes p ≡ l.processes p → placed.bag ≡ l.bag → next.kernel.processes p ≡ pt.kernel.processes p
+known_apart : (pt next : Point) (l placed : Placed) (p : Pid) (queue held_ : List MsgId) (k : Known) (r : Option machine.KernelKnown) → placed.processes p ≡ l.processes p → placed.notes p ≡ l.notes p → placed.bag ≡ l.bag → next.kernel.processes p ≡ pt.kernel.processes p
     → KnownStands pt l p queue held_ k r → KnownStands next placed p queue held_ k r
-known_apart pt next l placed p queue held_ Unknown None same bag life h = tt
-known_apart pt next l placed p queue held_ Here (Some (Record.Here x)) same bag life h = ((h.0.0, same ∙ h.0.1), ap (λ f. map f queue) bag ∙ h.1)
-known_apart pt next l placed p queue held_ (Frozen to) (Some (Record.Frozen d)) same bag life h = search
-    (same ∙ h.here.0.1, ap (λ f. map f queue) bag ∙ h.here.1, ap (λ f. map f held_) bag ∙ h.held)
-known_apart pt next l placed p queue held_ (Incoming from) (Some (Record.Incoming a)) same bag life h =
-    record { process = h.process; there = same ∙ h.there; whole = h.whole; pieces = h.pieces; held = ap (λ f. map f held_) bag ∙ h.held }
-known_apart pt next l placed p queue held_ (Forward at_ moves) (Some (Record.Forward to count)) same bag life h = h
-known_apart pt next l placed p queue held_ Ended (Some (Record.Ended y)) same bag life h = ap kernel.why_ended life ∙ h
-known_apart pt next l placed p queue held_ k r same bag life h = absurd h
+known_apart pt next l placed p queue held_ Unknown None same notes bag life h = tt
+known_apart pt next l placed p queue held_ Here (Some (Record.Here x)) same notes bag life h = ((h.0.0, same ∙ h.0.1), ap (λ f. map f queue) bag ∙ h.1)
+known_apart pt next l placed p queue held_ (Frozen to) (Some (Record.Frozen d)) same notes bag life h = search
+    (h.asker ∙ sym notes, same ∙ h.here.0.1, ap (λ f. map f queue) bag ∙ h.here.1, ap (λ f. map f held_) bag ∙ h.held)
+known_apart pt next l placed p queue held_ (Incoming from) (Some (Record.Incoming a)) same notes bag life h =
+    record {
+      process = h.process;
+      there = same ∙ h.there;
+      whole = h.whole;
+      pieces = h.pieces ∙ ap (λ (k : Option Asker). coming h.process k a.held a.wanted) (sym notes);
+      held = ap (λ f. map f held_) bag ∙ h.held;
+    }
+known_apart pt next l placed p queue held_ (Forward at_ moves) (Some (Record.Forward to count)) same notes bag life h = h
+known_apart pt next l placed p queue held_ Ended (Some (Record.Ended y)) same notes bag life h = ap kernel.why_ended life ∙ h
+known_apart pt next l placed p queue held_ k r same notes bag life h = absurd h
 
 record_off : {X : Type 0} (f : ℕ → Pid → X) (m n : ℕ) (p q : Pid) (x : X) → pid_eq p q ≡ false → at_record f m p x n q ≡ f n q
 record_off f m n p q x off = ap (λ (d : Bool). if d then x else f n q) (and_false (m == n) (pid_eq p q) off)
@@ -71,40 +85,49 @@ back_standing : (pt : Point) (m : ℕ) (p : Pid) (j : MsgId) (z : Spot)
     → standing (back_point pt m p).view j z ≤ standing (come_view pt.view m p (without_first (pt.view.inbox m)) pt.view.known pt.view.asked) j z + standing pt.view j (Held m p)
 back_standing pt m p j z = grind (arith, nat_tests, held_fewer, inbox_back)
 
+-- what stands then stood before, and no message of its migration stands
+back_stood : (b : Boot) (m : ℕ) (pt : Point) (l : Placed) (records : AllRecords) (k : KernelState) (y : Message) (p : Pid) (c : Comes b m pt l records k y p) (i : MsgId) (z : Spot)
+    → 1 ≤ standing (back_point pt m p).view i z → (x : Spot) × (1 ≤ standing pt.view i x)
+back_stood b m pt l records k y p c i z st =
+    let v = pt.view in
+    let box = without_first (v.inbox m) in
+    let bound = back_standing pt m p i z in
+    elim (least_of (standing (come_view v m p box v.known v.asked) i z) (standing v i (Held m p)) (omega (arith, bound, st))) [
+      | inl e ↦ (z, (let f = fewer v m p c.ids box v.known v.asked y.id i z c.box (first_gone y.id c.ids (v.inbox m) c.box) in omega (arith, e, f)))
+      | inr e ↦ (Held m p, e)
+    ]
+
+none_back : (b : Boot) (m : ℕ) (pt : Point) (l : Placed) (records : AllRecords) (k : KernelState) (y : Message) (p : Pid) (c : Comes b m pt l records k y p) (a : Arrives b m pt l k y p) (i : MsgId) (t : Told) (z : Spot)
+    → pt.view.told i ≡ Some t → is_between t.kind ≡ true → t.about ≡ Of p → 1 ≤ standing (back_point pt m p).view i z → ⊥
+none_back b m pt l records k y p c a i t z told between about st =
+    let v = pt.view in
+    let box = without_first (v.inbox m) in
+    let bound = back_standing pt m p i z in
+    let (where_, least) = back_stood b m pt l records k y p c i z st in
+    let mine : Some y.id ≡ Some i = a.phase.alone i t where_ told between about least in
+    let is : y.id ≡ i = cc in
+    let once = own_once b pt y.id (Inbox m) c.run a.unplain a.mine a.first in
+    let one = once_at (standing v y.id) (Inbox m) once a.first in
+    let none : standing (come_view v m p box v.known v.asked) i z ≡ 0 =
+    ap (λ (j : MsgId). standing (come_view v m p box v.known v.asked) j z) (sym is) ∙ gone v m p c.ids box v.known v.asked y.id z c.box (first_gone y.id c.ids (v.inbox m) c.box) one.0 one.1 in
+    let held : standing v i (Held m p) ≡ 0 = ap (λ (j : MsgId). standing v j (Held m p)) (sym is) ∙ one.1 (Held m p) (λ x. cc) in
+    omega (arith, bound, none, held, st)
+
 -- the tokens of other processes
 tokens_back : (b : Boot) (m : ℕ) (pt : Point) (l : Placed) (records : AllRecords) (k : KernelState) (y : Message) (p : Pid) (c : Comes b m pt l records k y p) (a : Arrives b m pt l k y p) (o : Option Process) (s : KernelState) → ((q : Pid) → pid_eq p q ≡ false → s.records q ≡ k.records q)
     → TokensStand (back_point pt m p).view (with_process l p o) (at_machine records m s.records)
-tokens_back b m pt l records k y p c a o s records_off q i t z told between about st =
-    let v = pt.view in
-    let box = without_first (v.inbox m) in
-    let is_box = first_gone y.id c.ids (v.inbox m) c.box in
-    let bound = back_standing pt m p i z in
-    let (where_, least) = came (least_of (standing (come_view v m p box v.known v.asked) i z) (standing v i (Held m p)) (omega (arith, bound, st))) in
-    elim (cases_Bool (pid_eq p q)) [
-      | inl same ↦
-          let e : p ≡ q = pid_eq-is p q same in
-          let mine : Some y.id ≡ Some i = a.phase.alone i t where_ told between (about ∙ ap Of (sym e)) least in
-          let is : y.id ≡ i = cc in
-          let once = own_once b pt y.id (Inbox m) c.run a.unplain a.mine a.first in
-          let one = once_at (standing v y.id) (Inbox m) once a.first in
-          let none : standing (come_view v m p box v.known v.asked) i z ≡ 0 = ap (λ (j : MsgId). standing (come_view v m p box v.known v.asked) j z) (sym is) ∙ gone v m p c.ids box v.known v.asked y.id z c.box is_box one.0 one.1 in
-          let held : standing v i (Held m p) ≡ 0 = ap (λ (j : MsgId). standing v j (Held m p)) (sym is) ∙ one.1 (Held m p) (λ x. cc) in
-          absurd (omega (arith, bound, none, held, st))
-      | inr off ↦
-          let h = c.tokens q i t where_ told between about least in
-          let n = destination_of i t in
-          let r : at_machine records m s.records n q ≡ records n q = others_known records m n s k q c.mine (records_off q off) (m == n) refl in
-          search (
-            set_off l.processes p q o off ∙ h.there,
-            subst (λ (x : Option machine.KernelKnown). Carries q h.process (l.notes q) (v.asked q) (incoming_of x) h.message.what) (sym r) h.carries,
-          )
-    ]
-  where
-    came : (1 ≤ standing (come_view pt.view m p (without_first (pt.view.inbox m)) pt.view.known pt.view.asked) i z) ⊎ (1 ≤ standing pt.view i (Held m p)) → (x : Spot) × (1 ≤ standing pt.view i x)
-    came d = elim d [
-      | inl e ↦ (z, (let f = fewer pt.view m p c.ids (without_first (pt.view.inbox m)) pt.view.known pt.view.asked y.id i z c.box (first_gone y.id c.ids (pt.view.inbox m) c.box) in omega (arith, e, f)))
-      | inr e ↦ (Held m p, e)
-    ]
+tokens_back b m pt l records k y p c a o s records_off q i t z told between about st = elim (cases_Bool (pid_eq p q)) [
+  | inl same ↦ absurd (none_back b m pt l records k y p c a i t z told between (about ∙ ap Of (sym (pid_eq-is p q same))) st)
+  | inr off ↦
+      let (where_, least) = back_stood b m pt l records k y p c i z st in
+      let h = c.tokens q i t where_ told between about least in
+      let n = destination_of i t in
+      let r : at_machine records m s.records n q ≡ records n q = others_known records m n s k q c.mine (records_off q off) (m == n) refl in
+      search (
+        set_off l.processes p q o off ∙ h.there,
+        subst (λ (x : Option machine.KernelKnown). Carries q h.process (l.notes q) (pt.view.asked q) (incoming_of x) h.message.what) (sym r) h.carries,
+      )
+]
 
 -- what the machine knows then
 known_back : (b : Boot) (m : ℕ) (pt : Point) (l : Placed) (records : AllRecords) (k : KernelState) (y : Message) (p : Pid) (c : Comes b m pt l records k y p) (a : Arrives b m pt l k y p) (s : KernelState) (q : Pid) → pt.view.known m p ≡ Incoming a.source → s.records p ≡ Some (Record.Here (way.moved a.process))
@@ -125,7 +148,7 @@ known_back b m pt l records k y p c a s q incoming there records_off server =
           subst (KnownStands next placed q (v.queue m q) (next.view.held m q) (next.view.known m q)) (sym (records_off q off))
           (subst (λ (n : Known). KnownStands next placed q (v.queue m q) (next.view.held m q) n (k.records q)) (sym (record_off v.known m m p q Here off))
           (subst (λ (x : List MsgId). KnownStands next placed q (v.queue m q) x (v.known m q) (k.records q)) (sym (record_off v.held m m p q [] off))
-          (known_apart pt next l placed q (v.queue m q) (v.held m q) (v.known m q) (k.records q) (set_off l.processes p q (Some (way.moved a.process)) off) refl refl (c.stands.known q server))))
+          (known_apart pt next l placed q (v.queue m q) (v.held m q) (v.known m q) (k.records q) (set_off l.processes p q (Some (way.moved a.process)) off) refl refl refl (c.stands.known q server))))
     ]
 
 -- it takes what it took
@@ -155,7 +178,7 @@ turns_restart b m pt l records k y p q c e =
     let late : is_early (kind_of y.what) ≡ false = ap is_early is in
     let h = before b m pt l records k y p c a Nothing late carried.1 in
     let incoming = known_incoming b m pt l k y p a late in
-    let pieces : ComesByPieces (record x { queue = [] }) None h.arrival.held = by_pieces (record x { queue = [] }) None h.arrival.held h.whole in
+    let pieces : ComesByPieces (record x { queue = [] }) (l.notes p) h.arrival.held = by_pieces (record x { queue = [] }) (l.notes p) h.arrival.held h.whole in
     let whole : restarted h.arrival ≡ Some (way.moved x) = ap restarted h.pieces ∙ pieces.whole in
     let state : KernelState = record s { records = with_record k.records p (Record.Here (way.moved x)); ring = k.ring ++ p ∷ []; inbox = h.arrival.held ++ c.rest } in
     let next = back_point pt m p in
@@ -169,21 +192,11 @@ turns_restart b m pt l records k y p q c e =
       | inl same ↦ absurd (false≢true (sym (not_elsewhere b m pt l k y p a n is off) ∙ ap (λ (z : Pid). has_process (v.known n z)) (pid_eq-is p r same) ∙ has))
       | inr apart ↦ set_off l.processes p r (Some (way.moved x)) apart
     ] in
-    record {
-      state = state;
-      says = Line.Migration Stage.Restarted p ∷ [];
-      routes = [];
-      late = NoLate;
-      turn = turn_kernel b m pt l records k y p c a (Some (record { state = state; parts = part.Says (Line.Migration Stage.Restarted p) ∷ [] }))
-          (ap (kernel_handles b s y) e
-          ∙ ap (λ (z : Pid). bind (incoming_of (k.records z)) (restarts s z)) carried.0
-          ∙ ap (λ (o : Option machine.KernelKnown). bind (incoming_of o) (restarts s p)) h.is
-          ∙ ap (restarts_as s p h.arrival) whole);
-      outcome = outcome_kernel b m pt l records k y p c a (Some (Part.Says (Line.Migration Stage.Restarted p) ∷ []))
-          (ap (kernel_told pt m y.id p (fits (free_room b pt m) (length x.memory / 256)) (plain_process x)) is);
-      next = next;
-      after = refl;
-      placed = placed;
+    let line = Line.Migration Stage.Restarted p in
+    let asker : h.arrival.asker ≡ l.notes p = ap (λ (z : Arrival). z.asker) h.pieces in
+    let ends : EndsMove b m pt l records k p line state next.view placed = record {
+      run = c.run;
+      said = refl;
       mirrors = restarted_mirrors (begun pt m) l p x (mirrors_view pt.kernel v (begun pt m).view pt.addresses l refl c.mirrors) a.there;
       kernel = record {
         here = stands.here;
@@ -197,12 +210,24 @@ turns_restart b m pt l records k y p q c e =
         room = subst (RoomStands k.room (room_of (slice_get b.machines m))) (sym (taken_back b m pt l k y p a incoming)) stands.room;
         servers = stands.servers;
       };
-      sent = λ count. omega (arith, count);
+      sent = λ count. count;
       elsewhere = search (boxes, machine_off, record_away, processes);
-      may = tt;
-      late_may = tt;
-      single = omega arith;
-      topic = tt;
       own = λ i z f plain. let g = c.own i z f plain in record { told = g.told; mine = g.mine; sender = g.sender };
       tokens = tokens_back b m pt l records k y p c a (Some (way.moved x)) state others;
-    }
+      process = way.moved x;
+      is = there;
+      known = at_record_at v.known m p Here;
+      server = a.server;
+      alone = λ n off. not_elsewhere b m pt l k y p a n is off;
+      stood = back_stood b m pt l records k y p c;
+      none = none_back b m pt l records k y p c a;
+    } in
+    ends_move_row b m pt l records k p line state next.view placed ends Outcome.Done (l.notes p) refl (λ n. refl)
+    (turn_kernel b m pt l records k y p c a (Some (record { state = state; parts = part.Says line ∷ tells_asker m (way.moved x) Outcome.Done (l.notes p) }))
+    (ap (kernel_handles b s y) e
+    ∙ ap (λ (z : Pid). bind (incoming_of (k.records z)) (restarts s z)) carried.0
+    ∙ ap (λ (o : Option machine.KernelKnown). bind (incoming_of o) (restarts s p)) h.is
+    ∙ ap (restarts_as s p h.arrival) whole
+    ∙ (λ i. Some (record { state = state; parts = part.Says line ∷ tells_asker (stands.here i) (way.moved x) Outcome.Done (asker i) }))))
+    (outcome_kernel b m pt l records k y p c a (Some (Part.Says line ∷ migrating.tells_asker (pt.kernel.notes p) Outcome.Done))
+    (ap (kernel_told pt m y.id p (fits (free_room b pt m) (length x.memory / 256)) (plain_process x)) is))

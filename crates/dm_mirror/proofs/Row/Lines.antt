@@ -7,6 +7,8 @@ use Rattle.dm_rule.proofs.Lines.{parts}
 use Rattle.dm_rulelaws.specs.KnownStands.{KnownStands}
 use Rattle.dm_rulelaws.proofs.Based.Groups.{begins}
 use Rattle.dm_rulelaws.proofs.Based.Rows.{turned}
+use Rattle.dm_rule.proofs.Seen.{about_off}
+use Rattle.dm_rule.specs.Point.{seen}
 use Rattle.dm_rule.specs.View as view
 use Rattle.dm_rule.specs.Rule as rule
 use Rattle.dm_mirror.proofs.Turning.{is_still, are_still, rule_routed}
@@ -76,6 +78,7 @@ label_fewer v (Label.Gone id) = handled_fewer v id
 label_fewer v (Label.Took id) = handled_fewer v id
 label_fewer v (Label.Created id p) = fewer_on v (handled v id) (after_label v (Label.Created id p)) (handled_fewer v id) (created_fewer v id p)
 label_fewer v (Label.NoSpace id s b) = handled_fewer v id
+label_fewer v (Label.Asked id) = handled_fewer v id
 label_fewer v _ = same_fewer v
 
 -- the pieces that were asked for
@@ -116,6 +119,13 @@ line_keeps pt (Line.Queued id) still need =
 line_keeps pt (Line.Idle m) still need = fewer_keeps pt.view pt.view refl (same_fewer pt.view)
 line_keeps pt l still need = absurd (false≢true still)
 
+-- the topic is no part of it
+seen_keeps : (pt : Point) (l : Line) → is_still l ≡ true → Needs pt l → StillKeeps pt.view (seen pt.kernel pt.view l)
+seen_keeps pt l still need =
+    let h = line_keeps pt l still need in
+    let w = view_after pt.view l in
+    record { asked = h.asked; stood = λ i z mine least. h.stood i z mine (subst (λ (is : List MsgId). 1 ≤ times i is) (about_off w (seen pt.kernel pt.view l).topic z) least) }
+
 -- all lines of the row
 pub still_keeps : (rest : List Part) (says : List Line) (pt next : Point) → are_still says ≡ true → Walks pt (map Says says ++ rest) → after pt says ≡ Some next → StillKeeps pt.view next.view
 still_keeps rest [] pt next still walks leads = let e : pt ≡ next = cc in subst (λ (q : Point). StillKeeps pt.view q.view) e (fewer_keeps pt.view pt.view refl (same_fewer pt.view))
@@ -124,7 +134,7 @@ still_keeps rest (l ∷ ls) pt next still walks leads =
     let (mid, first, last) = bind-is (after_line pt l) (λ (q : Point). after q ls) next leads in
     let (s, step_, then_) = bind-is (kernel_after pt.kernel (label_of l)) (λ (s : OneKernel). Some (moved pt l s)) mid first in
     let is : moved pt l s ≡ mid = cc in
-    let one : StillKeeps pt.view mid.view = subst (λ (q : Point). StillKeeps pt.view q.view) is (line_keeps pt l two.0 walks.0) in
+    let one : StillKeeps pt.view mid.view = subst (λ (q : Point). StillKeeps pt.view q.view) is (seen_keeps pt l two.0 walks.0) in
     let leads_one : after pt (l ∷ []) ≡ Some mid = ap (λ (o : Option Point). bind o (λ (q : Point). after q [])) first in
     still_on pt.view mid.view next.view one (still_keeps rest ls mid next two.1 (walks.1 mid (record { lines = l ∷ []; are = refl; leads = leads_one })) last)
 
@@ -153,7 +163,8 @@ hears_loud b pt m id o = loud_of (rule.hears b pt m id o) (λ ps. by_hears Loud 
   told = λ p x about alive. record {
     accepted = λ ask. refl;
     lacks = λ slots blocks. refl;
-    stays = λ kind. refl;
+    stays = λ kind none. refl;
+    stays_asked = λ kind n asked. refl;
     state = refl;
     next_chunk = refl;
     last_chunk = refl;
@@ -161,7 +172,8 @@ hears_loud b pt m id o = loud_of (rule.hears b pt m id o) (λ ps. by_hears Loud 
     next_block = refl;
     last_block = refl;
     left = λ ids to frozen. refl;
-    restarted = λ kind. refl;
+    restarted = λ kind none. refl;
+    restarted_asked = λ kind n asked. refl;
   };
   updated = λ kind. refl;
   updated_none = λ kind at_. refl;
