@@ -204,7 +204,7 @@ comes_walk b pt m i None says route h there still e = absurd (still_not_loud say
 comes_walk b pt m i (Some msg) says route h there still e =
     let s = h.state in
     let (t, told) = told_some (pt.view.told i) msg.to (s.stands.told i msg.to (letter_of s.r s.e s.own pt.kernel i msg there s.sound)) in
-    subst (WalksOf (turned pt m)) e (handles_walks b pt m i msg h.sane h.phases h.rooted (record { there = there; told = t; is = told }))
+    subst (WalksOf (turned pt m)) e (handles_walks b pt m i msg h.sane h.phases h.rooted h.known (record { there = there; told = t; is = told }))
 
 turn_walk : (b : Boot) (pt : Point) (m : ℕ) (inbox : List MsgId) (says : List Line) (route : Option Message) → Begins pt m → are_still says ≡ true → rule.turns b pt m inbox ≡ Some (still_parts says route) → Walks (turned pt m) (still_parts says route)
 turn_walk b pt m [] says route h still e =
