@@ -2,11 +2,9 @@
 use Rattle.dm_mirror.proofs.Names.{◌≡◌, ℕ, ◌<◌, true, List, length, ap, ◌∙◌, sym, subst, inl, nat_le, arith, option_map, Some, nat_tests, length-map, Pid, IsMachine, plain_link, Boot, IsValid, slots_of, Alive, plain_process, PlainProcess}
 use Rattle.dm_mirror.proofs.Names.{Step, Leads, Point, first_point, run_always, run_group, run_start, format_always, tables_always, Placed, MayStep, AreWhole, WorldState, EndIsSaid, EndMay, RunGoesOn, StepsStand, Steps, History, Stands}
 use Rattle.dm_mirror.proofs.Names.{StandsWith, RanGoesOn, alive-is, ◌==◌, [], ◌∷◌, ◌++◌, refl, Inbox, tells_right_always, is_server, GroupNeeds, group_needs, places_follow_by, PlacesFollow, or_second}
-use Rattle.dm_mirror.proofs.Names.{MsgId, OneKernel, PlainMessage, id_of, manager}
-use Rattle.dm_message.specs.Plain.{PlainWhat}
-use Rattle.dm_rulelaws.specs.Fits.{WhatFits}
 use Rattle.dm_onekernel.specs.Step as kernel
 use Rattle.dm_mirror.proofs.Counts.{counts_few}
+use Rattle.dm_mirror.proofs.Leave.Asked.{asked_by_manager}
 use Rattle.dm_mirror.proofs.Deliver.{OthersLawful, deliver_goes, may_deliver}
 use Rattle.dm_mirror.proofs.Follow.Asks.{asks_turn}
 use Rattle.dm_mirror.proofs.Going.{run_goes_on_by, leads_last}
@@ -100,14 +98,6 @@ pub end_is_said : EndIsSaid
 end_is_said = end_is_said_by (λ b es pt valid leads. (run_always b es pt valid leads).run)
 
 -- Wherever the rule leads, a kernel with places goes along.
-
--- a request to move is one of the manager's messages
-asked_by_manager : (s : OneKernel) (i : MsgId) (x : PlainMessage) (machine : ℕ) → x.what ≡ PlainWhat.Move machine → WhatFits s i x x.what → i ≡ id_of manager i.n
-asked_by_manager s i x machine is fits =
-    let f = subst (WhatFits s i x) is fits in
-    let from = f.4.from in
-    let answer = f.3 in
-    λ c. record { from = from c; n = i.n; answer = answer c }
 
 -- the rule leads here
 abbrev Reached : Boot → Point → Type 0

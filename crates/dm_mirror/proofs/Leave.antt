@@ -2,5 +2,6 @@
 pub mod Fronts
 pub mod Answered
 pub mod Asks
+pub mod Asked
 pub mod Stays
 pub mod Goes

@@ -3,6 +3,8 @@ use Rattle.dm_mirror.proofs.Names.{◌≡◌, ◌≢◌, ℕ, zero, suc, ◌+◌
 use Rattle.dm_mirror.proofs.Names.{Message, MsgId, Record, Process, Receiving, kept_under, Sending, Boot, first_number, Point, Room, and, blocks_of, has, takes_room, taken_at, taken_by, taken_of_home, Queue, Held, Inbox, Untaken, times}
 use Rattle.dm_mirror.proofs.Names.{standing, Pair, Placed, KernelState, room_of, WorldState, AreMessages, HereStands, KnownStands, RoomStands, servers_at, KernelStands, History, PairStands}
 pub use Rattle.dm_rule.proofs.QuietTests.{eq_not as apart_tells}
+use Rattle.dm_message.specs.declared.Asker.{Asker}
+use Rattle.dm_migrate.specs.Way.{coming}
 use Rattle.dm_stream.specs.Order as order
 use Rattle.dm_onekernel.specs.Step as kernel
 use Rattle.dm_rule.specs.View as view
@@ -18,15 +20,15 @@ module _ (pt next : Point) (l placed : Placed) (p : Pid) (ids js : List MsgId) (
   here_stays : (x : Process) → placed.processes p ≡ l.processes p → HereStands l p ids x → HereStands placed p ids x
   here_stays x process h = ((h.0.0, process ∙ h.0.1), messages_stay l.bag placed.bag ids x.queue queue h.1)
 
-  pub known_same : (k : view.Known) (r : Option machine.KernelKnown) → (has_process k ≡ true → placed.processes p ≡ l.processes p) → (k ≡ view.Ended → next.kernel.processes p ≡ pt.kernel.processes p)
+  pub known_same : (k : view.Known) (r : Option machine.KernelKnown) → (has_process k ≡ true → placed.processes p ≡ l.processes p) → (has_process k ≡ true → placed.notes p ≡ l.notes p) → (k ≡ view.Ended → next.kernel.processes p ≡ pt.kernel.processes p)
       → KnownStands pt l p ids js k r → KnownStands next placed p ids js k r
-  known_same view.Unknown None process ended h = tt
-  known_same view.Here (Some (Record.Here x)) process ended h = here_stays x (process refl) h
-  known_same (view.Frozen to) (Some (Record.Frozen d)) process ended h = record { to = h.to; asker = h.asker; here = here_stays d.process (process refl) h.here; held = messages_stay l.bag placed.bag js d.held held h.held; whole = h.whole }
-  known_same (view.Incoming from) (Some (Record.Incoming a)) process ended h = record { process = h.process; there = process refl ∙ h.there; whole = h.whole; pieces = h.pieces; held = messages_stay l.bag placed.bag js a.held held h.held }
-  known_same (view.Forward at_ moves) (Some (Record.Forward to n)) process ended h = h
-  known_same view.Ended (Some (Record.Ended y)) process ended h = ap kernel.why_ended (ended refl) ∙ h
-  known_same k r process ended h = h
+  known_same view.Unknown None process notes ended h = tt
+  known_same view.Here (Some (Record.Here x)) process notes ended h = here_stays x (process refl) h
+  known_same (view.Frozen to) (Some (Record.Frozen d)) process notes ended h = record { to = h.to; asker = h.asker ∙ sym (notes refl); here = here_stays d.process (process refl) h.here; held = messages_stay l.bag placed.bag js d.held held h.held; whole = h.whole }
+  known_same (view.Incoming from) (Some (Record.Incoming a)) process notes ended h = record { process = h.process; there = process refl ∙ h.there; whole = h.whole; pieces = h.pieces ∙ ap (λ (k : Option Asker). coming h.process k a.held a.wanted) (sym (notes refl)); held = messages_stay l.bag placed.bag js a.held held h.held }
+  known_same (view.Forward at_ moves) (Some (Record.Forward to n)) process notes ended h = h
+  known_same view.Ended (Some (Record.Ended y)) process notes ended h = ap kernel.why_ended (ended refl) ∙ h
+  known_same k r process notes ended h = h
 
 -- what a process takes of a machine's room
 abbrev no_room : Room
@@ -100,7 +102,7 @@ kernel_stays b m n pt next l placed k apart made e h =
           (subst (λ (js : List MsgId). KnownStands next placed p (pt.view.queue n p) js (next.view.known n p) (k.records p)) (sym (e.held n p apart))
           (subst (λ (c : view.Known). KnownStands next placed p (pt.view.queue n p) (pt.view.held n p) c (k.records p)) (sym (e.known n p apart))
           (known_same pt next l placed p (pt.view.queue n p) (pt.view.held n p) (λ i stands. e.bag i (Queue n p) other stands) (λ i stands. e.bag i (Held n p) other stands) (pt.view.known n p) (k.records p)
-          (λ is. e.process n p apart is) (λ is. e.ended n p apart is) (h.known p server))));
+          (λ is. e.process n p apart is) (λ is. e.notes n p apart is) (λ is. e.ended n p apart is) (h.known p server))));
       no_server = h.no_server;
       ring = h.ring ∙ sym (e.ring n apart);
       inbox = subst (λ (ids : List MsgId). AreMessages placed.bag ids k.inbox) (sym (e.inbox n apart)) (messages_stay l.bag placed.bag (pt.view.inbox n) k.inbox (λ i stands. e.bag i (Inbox n) other stands) h.inbox);

@@ -3,8 +3,12 @@ use Rattle.dm_mirror.proofs.Names.{◌≡◌, ℕ, ◌<◌, false, List, [], ◌
 use Rattle.dm_mirror.proofs.Names.{Point, Known, Unknown, Here, Ended, is_fixed, OwnTold, Run, Placed, Mirrors, parts, MadeStands, AllOwnStand, KernelStands, AllRecords, TokensStand, true, subst, false≢true, Pid, What, kind_of, PlainWhat}
 use Rattle.dm_mirror.proofs.Names.{plain_what, with_what, FreezesReceiverWhole, is_between, is_of_source, Frozen, Incoming, Forward, Of, own_sort, about_of, told_of}
 use Rattle.dm_mirror.proofs.Follow.Fronts.{fronted, Fronts}
-use Rattle.dm_mirror.proofs.Leave.Fronts.{heard, Hearing}
+use Rattle.dm_mirror.proofs.Leave.Fronts.{heard, Hearing, three_off}
 use Rattle.dm_mirror.proofs.Turning.{TurnsAt}
+use Rattle.dm_mirror.proofs.Names.{◌==◌, manager, pid_eq, switchboard}
+use Rattle.dm_mirror.proofs.Handle.Ended.{is_here}
+use Rattle.dm_mirror.proofs.Handle.Taking.{IsProcess, Taking, took}
+use Rattle.dm_mirror.proofs.Leave.Asked.{asked_turn}
 use Rattle.dm_mirror.proofs.Leave.Asks.{hears_migrate, hears_pull_block, hears_pull_state}
 use Rattle.dm_mirror.proofs.Leave.Goes.{hears_all_taken}
 use Rattle.dm_mirror.proofs.Leave.Stays.{hears_refuse}
@@ -78,13 +82,26 @@ pub record About (b : Boot) (m : ℕ) (pt : Point) (l : Placed) (records : AllRe
 
 module _ (b : Boot) (m : ℕ) (pt : Point) (l : Placed) (records : AllRecords) (k : KernelState) (h : About b m pt l records k) where
   -- a message of the bag that is for a kernel, a server, or a process that is here or has ended
-  bag_turn : (i : MsgId) (is : List MsgId) (x : PlainMessage) → pt.view.inbox m ≡ i ∷ is → pt.kernel.bag i ≡ Some x → BagFor m pt x.to → TurnsAt b m pt l records k
+  bag_turn : (i : MsgId) (is : List MsgId) (x : PlainMessage) → pt.view.inbox m ≡ i ∷ is → pt.kernel.bag i ≡ Some x → BagFor m pt x.to x.what → TurnsAt b m pt l records k
   bag_turn i is x box there whom = row_turns b m pt l records k h.run h.own h.tokens h.mine (bag_row b m pt l k i is x h.valid h.below h.run h.told h.made h.mirrors h.stands h.own box there whom)
 
-  -- and one for a process, by what the machine knows of it
+  -- and one for a process that is here: it may be asked to move
+  here_turn : (y : Message) (c : Fronts b m pt l records k y) (x : PlainMessage) (w : PlainWhat) → x.what ≡ w → pt.kernel.bag y.id ≡ Some x → y.to.pid ≡ x.to → is_fixed y.to.pid ≡ false → pt.view.known m y.to.pid ≡ Here → TurnsAt b m pt l records k
+  here_turn y c x (PlainWhat.Move machine) is there to fixed knows =
+      let t = took b m pt l k y.id c.ids x h.valid h.below h.run h.told h.made h.mirrors h.stands h.own c.box there in
+      let z = t.message in
+      let taking : Taking b m pt l k z (PlainWhat.Move machine) = subst (Taking b m pt l k z) is t.taking in
+      let who : z.to.pid ≡ y.to.pid = (parts z x t.plain).to ∙ sym to in
+      let (number, board, other) = three_off (z.to.pid.num == 0) (pid_eq z.to.pid switchboard) (pid_eq z.to.pid manager) (ap is_fixed who ∙ fixed) in
+      let process : IsProcess z.to.pid = record { number = number; no_board = board; no_manager = other } in
+      asked_turn b m pt l records k z machine taking (is_here b m pt l k z (PlainWhat.Move machine) taking process (ap (pt.view.known m) who ∙ knows)) h.tokens h.mine h.counted (subst (FreezesWhole k) taking.inbox h.whole)
+  here_turn y c x w is there to fixed knows =
+      bag_turn y.id c.ids x c.box there (ForHere (ap (pt.view.known m) (sym to) ∙ knows) (λ machine e. let f : w ≡ PlainWhat.Move machine = sym is ∙ e in cc))
+
+  -- and by what the machine knows of it
   process_turn : (y : Message) (c : Fronts b m pt l records k y) (x : PlainMessage) (w : Known) → pt.kernel.bag y.id ≡ Some x → y.to.pid ≡ x.to → is_fixed y.to.pid ≡ false → pt.view.known m y.to.pid ≡ w → TurnsAt b m pt l records k
   process_turn y c x Unknown there to fixed knows = absurd (front_known b m pt l records k y c fixed knows)
-  process_turn y c x Here there to fixed knows = bag_turn y.id c.ids x c.box there (ForHere (ap (pt.view.known m) (sym to) ∙ knows))
+  process_turn y c x Here there to fixed knows = here_turn y c x x.what refl there to fixed knows
   process_turn y c x Ended there to fixed knows = bag_turn y.id c.ids x c.box there (ForEnded (ap (pt.view.known m) (sym to) ∙ knows))
   process_turn y c x any_ there to fixed knows = apart_turn b m pt l records k y c any_ fixed knows refl
 

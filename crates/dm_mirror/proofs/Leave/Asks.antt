@@ -4,7 +4,12 @@ use Rattle.dm_mirror.proofs.Names.{MsgId, What, MessageKind, Record, Line, Stage
 use Rattle.dm_mirror.proofs.Names.{pid_eq-is, pid_eq-same, to_kernel, Point, moved, Room, taken_by, takes_room, at_machine, at_record, without, without_front, times, Here, Frozen, Known, Of, front_told, own_id, target_of, without_first}
 use Rattle.dm_mirror.proofs.Names.{is_server, has_nothing_held, is_fixed, Placed, mirrors_view, told_of, KnownStands, LeavesStand, RoomStands, AllRecords, eq_not, or-right, ◌/◌, length, option_map, Option, Addr, pid_of, kind_of, plain_what}
 use Rattle.dm_mirror.proofs.Names.{with_what, frozen_of, incoming_of, Departure, block_of, chunk_of, state_of, OneKernel, bind, plain_process, gives_piece, kernel_handles, Addresses, Receiver, Sender, gets, own_gives, unmoved, kernel_told}
-use Rattle.dm_mirror.proofs.Names.{is_between, is_of_source, fits, free_room, kernel_hears, Inbox, standing, Told, Unknown, View, after_proto, handled, Run, enclosed, about_of, Carries, destination_of, false≢true}
+use Rattle.dm_mirror.proofs.Names.{is_between, is_of_source, fits, free_room, kernel_hears, Inbox, standing, Told, Unknown, View, after_proto, handled, Run, enclosed, about_of, Carries, destination_of, false≢true, ◌++◌, turn, outcome, after, Step, plain_message, HereStands, Mirrors, AllOwnStand, KernelStands, TokensStand}
+use Rattle.dm_mirror.proofs.Names.{Spot, Queue, Held, spot_cases}
+use Rattle.dm_message.specs.declared.Asker.{Asker}
+use Rattle.dm_places.specs.Placed.{plain_note}
+use Rattle.dm_rule.specs.Migrating.{leaves_for}
+use Rattle.dm_rulelaws.proofs.Goes.Front.{here_free}
 use Rattle.dm_kernel.specs.declared.part.Part.{Part}
 use Rattle.dm_kernel.specs.State.{with_sent}
 use Rattle.dm_onekernel.specs.Step as kernel
@@ -15,9 +20,10 @@ use Rattle.dm_rule.specs.View as view
 use Rattle.dm_mirror.proofs.Rooms.{taken_same}
 use Rattle.dm_mirror.proofs.Leave.Fronts.{FrontGone, Hearing, none_rests, outcome_hears, stood, turn_hears, Leaving, front_nowhere, leaving, stands_first, absent_next, may_between, own_is, process_hears, records_as, three_off, to_process}
 use Rattle.dm_mirror.proofs.Leave.Fronts.{untold_next, to_kernel_hears, here_is, own_stays, tokens_one, IsLeaving, leaving_is}
-use Rattle.dm_mirror.proofs.Turning.{Nothing, Own, TurnsAt, begun}
-use Rattle.dm_mirror.proofs.Handle.Taking.{eq_self, machine_self, machine_off, record_self, record_off, record_others, some_same, stands_set}
-use Rattle.dm_mirror.proofs.Follow.Fronts.{front_gone as front_off}
+use Rattle.dm_mirror.proofs.Turning.{Nothing, Own, TurnsAt, begun, has_process, is_elsewhere, late_parts, late_rule_parts, part_of, rule_part_of}
+use Rattle.dm_mirror.proofs.Handle.Taking.{eq_self, machine_self, machine_off, record_self, record_off, record_others, some_same, stands_set, held_apart, map_same, queue_apart}
+use Rattle.dm_mirror.proofs.Handle.Rows.{Elsewhere, here_left, standing_begun}
+use Rattle.dm_mirror.proofs.Follow.Fronts.{front_gone as front_off, elsewhere_apart}
 use Rattle.dm_mirror.proofs.Leave.Fronts as owns
 
 -- the room is the same where machine m has the same of each process
@@ -79,14 +85,164 @@ here_already b m pt l records k y machine h at_m is =
             told = refl;
             asked = λ q off. refl;
             processes = λ q off. refl;
+            notes = λ q off. refl;
             records = λ n q off. records_as records m n k.records k.records q h.records_here refl;
             came = λ i t spot told between least. (let g = stood m y.id h.ids pt.view next.view i spot h.box gone least in ((g.spot, g.stands), refl));
             none = λ i t spot told between about least. (let g = stood m y.id h.ids pt.view next.view i spot h.box gone least in none_rests b pt m p i t g.spot h.run at_m told between about g.stands);
           }) h.tokens;
     }
 
-pub taken_at_record : (pt next : Point) (m : ℕ) (p q : Pid) (n : Known) → next.kernel.processes ≡ pt.kernel.processes → next.view.known m q ≡ at_record pt.view.known m p n m q → takes_room n ≡ takes_room (pt.view.known m p) → taken_by next m q ≡ taken_by pt m q
+pub taken_at_record : (pt next : Point) (m : ℕ) (p q : Pid) (n : Known) → next.kernel.processes q ≡ pt.kernel.processes q → next.view.known m q ≡ at_record pt.view.known m p n m q → takes_room n ≡ takes_room (pt.view.known m p) → taken_by next m q ≡ taken_by pt m q
 taken_at_record pt next m p q n lives known same = grind (arith, nat_tests, pid_eq-is, record_self, pid_eq-same, record_others)
+
+-- where a process has been frozen, and the other machine asked
+abbrev pub off_view : Point → ℕ → Pid → List MsgId → ℕ → View
+off_view pt m p box to = view.frozen_for (record (begun pt m).view { inbox = at_machine pt.view.inbox m box }) p to
+
+abbrev pub off_state : KernelState → List Message → Pid → Process → ℕ → Option Asker → KernelState
+off_state k rest p x machine asker = with_sent (with_frozen (record k { inbox = rest }) p x machine asker)
+
+abbrev pub off_ask : KernelState → ℕ → Process → Option Asker → Message
+off_ask k machine x asker = own k (kernel_at machine) (ask_of x asker)
+
+-- a process that is here is frozen, and another machine is asked: told to move or asked to, and after these lines
+pub record SetsOff (b : Boot) (m : ℕ) (pt : Point) (l : Placed) (records : AllRecords) (k : KernelState) (p : Pid) (machine : ℕ) (asker : Option Asker) (says : List Line) (t : OneKernel) (a : Addresses) (box : List MsgId) (to : ℕ) (on : Placed) : Type 0 where
+  pub run : Run b pt
+  pub mirrors : Mirrors pt.kernel pt.view pt.addresses l
+  pub stands : KernelStands b pt l m k
+  pub own : AllOwnStand pt.view l
+  pub tokens : TokensStand pt.view l records
+  pub records_here : records m ≡ k.records
+  pub sent : k.sent ≡ pt.view.count m
+  pub process : Process
+  pub is : k.records p ≡ Some (Record.Here process)
+  pub here : HereStands l p (pt.view.queue m p) process
+  pub whole : CanMove process
+  pub at_m : pt.view.known m p ≡ Here
+  pub server : is_server p ≡ false
+  pub to_is : to ≡ machine
+  -- the message at the front has gone from the inbox
+  pub front : MsgId
+  pub ids : List MsgId
+  pub first : pt.view.inbox m ≡ front ∷ ids
+  pub gone : box ≡ ids
+  pub rest : List Message
+  pub others : AreMessages l.bag ids rest
+  -- what the machine does, and what the lines come to
+  pub turn : turn b k ≡ Some (record { state = off_state k rest p process machine asker; parts = map Part.Says says ++ map part_of (Own (off_ask k machine process asker) ∷ []) ++ late_parts Nothing })
+  pub outcome : outcome b pt (Step.Turn m) ≡ Some (map rule.Says says ++ map rule_part_of (Own (off_ask k machine process asker) ∷ []) ++ late_rule_parts Nothing)
+  pub after : after (begun pt m) says ≡ Some (record { kernel = t; view = off_view pt m p box to; addresses = a })
+  pub on_mirrors : Mirrors t (off_view pt m p box to) a on
+  -- both kernels stay but for the message that goes, and for who waits to hear
+  pub lives : (q : Pid) → t.processes q ≡ pt.kernel.processes q
+  pub made : (n : ℕ) → t.made n ≡ pt.kernel.made n
+  pub machines : t.machines ≡ pt.kernel.machines
+  pub processes : (q : Pid) → on.processes q ≡ l.processes q
+  pub board : on.board ≡ l.board
+  pub manager : on.manager ≡ l.manager
+  pub note : on.notes p ≡ asker
+  pub notes : (q : Pid) → pid_eq p q ≡ false → on.notes q ≡ l.notes q
+  pub kept : (z : Spot) (j : MsgId) → z ≢ Inbox m → 1 ≤ standing pt.view j z → on.bag j ≡ l.bag j
+  pub behind : (j : MsgId) → 1 ≤ times j ids → on.bag j ≡ l.bag j
+  pub absent : (j : MsgId) → l.bag j ≡ None → on.bag j ≡ None
+  pub back : (j : MsgId) (x : Message) → plain_message x ≡ None → on.bag j ≡ Some x → l.bag j ≡ Some x
+
+pub sets_off : (b : Boot) (m : ℕ) (pt : Point) (l : Placed) (records : AllRecords) (k : KernelState) (p : Pid) (machine : ℕ) (asker : Option Asker) (says : List Line) (t : OneKernel) (a : Addresses) (box : List MsgId) (to : ℕ) (on : Placed)
+    → SetsOff b m pt l records k p machine asker says t a box to on → TurnsAt b m pt l records k
+sets_off b m pt l records k p machine asker says t a box to on h =
+    let v = pt.view in
+    let x = h.process in
+    let placed_x : Process = record x { queue = h.here.0.0 } in
+    let x_is : x.pid ≡ p = (h.mirrors.places.process p placed_x h.here.0.1).pid in
+    let state : KernelState = off_state k h.rest p x machine asker in
+    let ask : Message = off_ask k machine x asker in
+    let next : Point = record { kernel = t; view = off_view pt m p box to; addresses = a } in
+    let after_records : AllRecords = at_machine records m state.records in
+    let box_is : next.view.inbox m ≡ h.ids = machine_self v.inbox m box ∙ h.gone in
+    let gone : FrontGone m h.ids v next.view = record {
+      inbox = λ j least. inl (subst (λ (ids : List MsgId). 1 ≤ times j ids) box_is least);
+      others = λ n off. machine_off v.inbox m n box off;
+      queue = λ n q j least. least;
+      held = λ n q j least. least;
+      pair = λ a c. refl;
+    } in
+    let none_held : v.held m p ≡ [] = h.run.based.lists.held m p (ap has_nothing_held h.at_m) in
+    let frozen_known : next.view.known m p ≡ Frozen machine = record_self v.known m p (Frozen to) (pid_eq-same p) ∙ ap Frozen h.to_is in
+    let frozen_record : state.records p ≡ Some (Record.Frozen (frozen x machine asker)) = ap (λ (c : Bool). if c then Some (Record.Frozen (frozen x machine asker)) else k.records p) (pid_eq-same p) in
+    let queued : HereStands on p (v.queue m p) x = ((h.here.0.0, h.processes p ∙ h.here.0.1), map_same l.bag on.bag (v.queue m p) (λ j least. h.kept (Queue m p) j (queue_apart m m p) least) ∙ h.here.1) in
+    let leaves : LeavesStand on p (v.queue m p) (v.held m p) machine (frozen x machine asker) = search (sym h.note, queued, ap (map on.bag) none_held, h.whole) in
+    let mine : KnownStands next on p (v.queue m p) (v.held m p) (next.view.known m p) (state.records p) =
+    subst (KnownStands next on p (v.queue m p) (v.held m p) (next.view.known m p)) (sym frozen_record)
+    (subst (λ (n : Known). KnownStands next on p (v.queue m p) (v.held m p) n (Some (Record.Frozen (frozen x machine asker)))) (sym frozen_known) leaves) in
+    let taken = taken_same pt next m h.machines h.made (λ q. taken_at_record pt next m p q (Frozen to) (h.lives q) refl (sym (ap takes_room h.at_m))) in
+    let id_is : ask.id ≡ own_id next.view = λ i. record { from = record { home = h.stands.here i; num = 0 }; n = h.sent i; answer = false } in
+    let sets : (q : Pid) → pid_eq p q ≡ false → state.records q ≡ k.records q = λ q off. ap (λ (c : Bool). if c then Some (Record.Frozen (frozen x machine asker)) else k.records q) off in
+    let keeps : is_server p ≡ true → state.records p ≡ k.records p = λ is. absurd (false≢true (sym h.server ∙ is)) in
+    let queues : (q : Pid) (j : MsgId) → pid_eq p q ≡ false → 1 ≤ times j (v.queue m q) → on.bag j ≡ l.bag j = λ q j off least. h.kept (Queue m q) j (queue_apart m m q) least in
+    let holds : (q : Pid) (j : MsgId) → pid_eq p q ≡ false → 1 ≤ times j (v.held m q) → on.bag j ≡ l.bag j = λ q j off least. h.kept (Held m q) j (held_apart m m q) least in
+    let lives : (q : Pid) → pid_eq p q ≡ false → t.processes q ≡ pt.kernel.processes q = λ q off. h.lives q in
+    let processes : (q : Pid) → pid_eq p q ≡ false → on.processes q ≡ l.processes q = λ q off. h.processes q in
+    record {
+      state = state;
+      says = says;
+      routes = Own ask ∷ [];
+      late = Nothing;
+      turn = h.turn;
+      outcome = h.outcome;
+      next = next;
+      after = h.after;
+      placed = on;
+      mirrors = h.on_mirrors;
+      kernel = stands_set b pt next l on m k state p
+          (search (sets, record_others, processes, h.notes, lives, queues, holds, mine, keeps)) h.stands
+          (ap (without p) h.stands.ring ∙ sym (machine_self v.ring m (without p (v.ring m))))
+          (ap (map on.bag) box_is ∙ map_same l.bag on.bag h.ids h.behind ∙ h.others)
+          (h.stands.made ∙ sym (h.made m))
+          (room_stays k.room _ _ _ taken h.stands.room)
+          (h.stands.servers ∙ (λ i. if m == 0 then Some (record { board = sym h.board i; manager = sym h.manager i }) else None));
+      sent = λ e. ap (λ (n : ℕ). n + 1) e;
+      elsewhere = search (
+        machine_off,
+        record_off,
+        h.made,
+        h.processes,
+        h.lives,
+        λ (n : ℕ) (q : Pid) (off : n ≢ m) (has : has_process (pt.view.known n q) ≡ true). h.notes q (here_left pt m p q h.run.based.phased.phases h.at_m (Elsewhere n off has)),
+        λ (j : MsgId) (z : Spot) (is : is_elsewhere m z ≡ true) (least : 1 ≤ standing (begun pt m).view j z). h.kept z j (elsewhere_apart m z is) (subst (λ (n : ℕ). 1 ≤ n) (standing_begun pt m j z) least),
+      );
+      may = (
+        may_between next on after_records m machine p ask (search
+            (ap kernel_at h.stands.here, h.absent ask.id (ap l.bag id_is ∙ absent_next b pt l m h.run h.mirrors h.own), ap v.told id_is ∙ untold_next b pt m h.run, ap Of x_is, h.processes p ∙ h.here.0.1, h.note)),
+        tt,
+      );
+      late_may = tt;
+      single = omega arith;
+      topic = tt;
+      own = λ j w there none. (let g = h.own j w (h.back j w none there) none in record { told = g.told; mine = g.mine; sender = g.sender });
+      tokens = tokens_one v next.view l on records after_records p
+          (record {
+            told = refl;
+            asked = λ q off. refl;
+            processes = processes;
+            notes = h.notes;
+            records = λ n q off. records_as records m n k.records state.records q h.records_here (sets q off);
+            came = λ i u z told between least. (
+                let e = stood m h.front h.ids v next.view i z h.first gone least in
+                ((e.spot, e.stands), elim (spot_cases e.spot (Inbox m)) [
+                  | inl is ↦ h.behind i (e.behind is)
+                  | inr off ↦ h.kept e.spot i off e.stands
+                ]));
+            none = λ i u z told between about least. (let e = stood m h.front h.ids v next.view i z h.first gone least in none_rests b pt m p i u e.spot h.run h.at_m told between about e.stands);
+          }) h.tokens;
+    }
+
+-- nobody waits to hear of a process that is here
+nobody : (o : Option Asker) → option_map plain_note o ≡ None → o ≡ None
+nobody None e = refl
+nobody (Some k) e = cc
+
+pub unasked_here : (b : Boot) (m : ℕ) (pt : Point) (l : Placed) (p : Pid) → Run b pt → Mirrors pt.kernel pt.view pt.addresses l → pt.view.known m p ≡ Here → l.notes p ≡ None
+unasked_here b m pt l p run mirrors at_m = nobody (l.notes p) (mirrors.plain.notes p ∙ here_free pt.kernel pt.view m p run.based.noted at_m)
 
 -- to another machine
 asks_other : (b : Boot) (m : ℕ) (pt : Point) (l : Placed) (records : AllRecords) (k : KernelState) (y : Message) (machine : ℕ) → Hearing b m pt l records k (record y { what = What.Migrate machine }) → pt.view.known m y.to.pid ≡ Here → m ≢ machine
@@ -100,77 +256,50 @@ asks_other b m pt l records k y machine h at_m apart whole =
     let server : is_server p ≡ false = or-right (p.num == 0) (is_server p) loose in
     let here = here_is pt l p (v.queue m p) (v.held m p) (k.records p) (subst (λ (n : Known). KnownStands pt l p (v.queue m p) (v.held m p) n (k.records p)) at_m (h.stands.known p server)) in
     let x = here.process in
-    let placed_x : Process = record x { queue = here.stands.0.0 } in
-    let x_is : x.pid ≡ p = (h.mirrors.places.process p placed_x here.stands.0.1).pid in
-    let state : KernelState = with_sent (with_frozen s p x machine) in
-    let ask : Message = own s (kernel_at machine) (ask_of x None) in
     let to : ℕ = target_of (front_told v (v.inbox m)) in
-    let to_is : to ≡ machine = ap (λ (ids : List MsgId). target_of (front_told v ids)) h.box ∙ ap target_of h.told in
     let next : Point = moved (moved (begun pt m) (Line.Migration Stage.Frozen p) pt.kernel) (Line.Migration Stage.Asked p) pt.kernel in
-    let after_records : AllRecords = at_machine records m state.records in
-    let box : next.view.inbox m ≡ h.ids = machine_self v.inbox m (without_first (v.inbox m)) ∙ ap without_first h.box in
-    let gone : FrontGone m h.ids v next.view = record {
-      inbox = λ j least. inl (subst (λ (ids : List MsgId). 1 ≤ times j ids) box least);
-      others = λ n off. machine_off v.inbox m n (without_first (v.inbox m)) off;
-      queue = λ n q j least. least;
-      held = λ n q j least. least;
-      pair = λ a c. refl;
-    } in
-    let none_held : v.held m p ≡ [] = h.run.based.lists.held m p (ap has_nothing_held at_m) in
-    let frozen_known : next.view.known m p ≡ Frozen machine = record_self v.known m p (Frozen to) (pid_eq-same p) ∙ ap Frozen to_is in
-    let frozen_record : state.records p ≡ Some (Record.Frozen (frozen x machine None)) = ap (λ (c : Bool). if c then Some (Record.Frozen (frozen x machine None)) else k.records p) (pid_eq-same p) in
-    let leaves : LeavesStand l p (v.queue m p) (v.held m p) machine (frozen x machine None) = search (ap (map l.bag) none_held, whole x here.is) in
-    let mine : KnownStands next l p (v.queue m p) (v.held m p) (next.view.known m p) (state.records p) =
-    subst (KnownStands next l p (v.queue m p) (v.held m p) (next.view.known m p)) (sym frozen_record)
-    (subst (λ (n : Known). KnownStands next l p (v.queue m p) (v.held m p) n (Some (Record.Frozen (frozen x machine None)))) (sym frozen_known) leaves) in
-    let taken = taken_same pt next m refl (λ n. refl) (λ q. taken_at_record pt next m p q (Frozen to) refl refl (sym (ap takes_room at_m))) in
     let off_here : (machine == k.here) ≡ false = ap (λ (n : ℕ). machine == n) h.stands.here ∙ eq_not machine m (λ e. apart (sym e)) in
     let off_rule : (m == machine) ≡ false = eq_not m machine apart in
-    let id_is : ask.id ≡ own_id next.view = own_is b m pt l records k z h in
-    let sets : (q : Pid) → pid_eq p q ≡ false → state.records q ≡ k.records q = λ q off. ap (λ (c : Bool). if c then Some (Record.Frozen (frozen x machine None)) else k.records q) off in
-    let keeps : is_server p ≡ true → state.records p ≡ k.records p = λ is. absurd (false≢true (sym server ∙ is)) in
-    record {
-      state = state;
-      says = Line.Migration Stage.Frozen p ∷ Line.Migration Stage.Asked p ∷ [];
-      routes = Own ask ∷ [];
-      late = Nothing;
+    sets_off b m pt l records k p machine None (Line.Migration Stage.Frozen p ∷ Line.Migration Stage.Asked p ∷ []) pt.kernel pt.addresses (without_first (v.inbox m)) to l (record {
+      run = h.run;
+      mirrors = h.mirrors;
+      stands = h.stands;
+      own = h.own;
+      tokens = h.tokens;
+      records_here = h.records_here;
+      sent = h.sent;
+      process = x;
+      is = here.is;
+      here = here.stands;
+      whole = whole x here.is;
+      at_m = at_m;
+      server = server;
+      to_is = ap (λ (ids : List MsgId). target_of (front_told v ids)) h.box ∙ ap target_of h.told;
+      front = y.id;
+      ids = h.ids;
+      first = h.box;
+      gone = ap without_first h.box;
+      rest = h.rest;
+      others = h.others;
       turn = turn_hears b m pt l records k z h (freezes s p x machine)
           (to_process b s z (Some (Record.Here x)) loose here.is ∙ ap (λ (c : Bool). if c then turned s (Part.Says (Line.Here y.id) ∷ []) else freezes s p x machine) off_here);
-      outcome = outcome_hears b m pt l records k z h (Some (rule.Says (Line.Migration Stage.Frozen p) ∷ rule.Says (Line.Migration Stage.Asked p) ∷ to_kernel MessageKind.Ask machine ∷ []))
-          (process_hears b pt m y.id (told_of z) Here loose at_m
-          ∙ ap (λ (c : Bool). Some (if c then rule.Says (Line.Here y.id) ∷ [] else rule.Says (Line.Migration Stage.Frozen p) ∷ rule.Says (Line.Migration Stage.Asked p) ∷ to_kernel MessageKind.Ask machine ∷ [])) off_rule);
-      next = next;
+      outcome = outcome_hears b m pt l records k z h (Some (leaves_for p machine))
+          (process_hears b pt m y.id (told_of z) Here loose at_m ∙ ap (λ (c : Bool). Some (if c then rule.Says (Line.Here y.id) ∷ [] else leaves_for p machine)) off_rule);
       after = refl;
-      placed = l;
-      mirrors = mirrors_view pt.kernel v next.view pt.addresses l refl h.mirrors;
-      kernel = stands_set b pt next l l m k state p
-          (search (sets, record_others, mine, keeps)) h.stands
-          (ap (without p) h.stands.ring ∙ sym (machine_self v.ring m (without p (v.ring m))))
-          (ap (map l.bag) box ∙ h.others)
-          h.stands.made
-          (room_stays k.room _ _ _ taken h.stands.room)
-          h.stands.servers;
-      sent = λ e. ap (λ (n : ℕ). n + 1) e;
-      elsewhere = search (machine_off, v.inbox, v.ring, record_off, Frozen);
-      may = (
-        may_between next l after_records m machine p ask (search
-            (ap kernel_at h.stands.here, ap l.bag id_is ∙ absent_next b pt l m h.run h.mirrors h.own, ap v.told id_is ∙ untold_next b pt m h.run, ap Of x_is)),
-        tt,
-      );
-      late_may = tt;
-      single = omega arith;
-      topic = tt;
-      own = own_stays v next.view l refl h.own;
-      tokens = tokens_one v next.view l l records after_records p
-          (record {
-            told = refl;
-            asked = λ q off. refl;
-            processes = λ q off. refl;
-            records = λ n q off. records_as records m n k.records state.records q h.records_here (ap (λ (c : Bool). if c then Some (Record.Frozen (frozen x machine None)) else k.records q) off);
-            came = λ i t spot told between least. (let g = stood m y.id h.ids v next.view i spot h.box gone least in ((g.spot, g.stands), refl));
-            none = λ i t spot told between about least. (let g = stood m y.id h.ids v next.view i spot h.box gone least in none_rests b pt m p i t g.spot h.run at_m told between about g.stands);
-          }) h.tokens;
-    }
+      on_mirrors = mirrors_view pt.kernel v next.view pt.addresses l refl h.mirrors;
+      lives = λ q. refl;
+      made = λ n. refl;
+      machines = refl;
+      processes = λ q. refl;
+      board = refl;
+      manager = refl;
+      note = unasked_here b m pt l p h.run h.mirrors at_m;
+      notes = λ q off. refl;
+      kept = λ spot j off least. refl;
+      behind = λ j least. refl;
+      absent = λ j none. none;
+      back = λ j w none there. there;
+    })
 
 -- the process can be carried whole, where it is sent off
 whole_here : (b : Boot) (m : ℕ) (k : KernelState) (y : Message) (machine : ℕ) (x : Process) → is_fixed y.to.pid ≡ false → k.here ≡ m → m ≢ machine → FreezesReceiverWhole k (record y { what = What.Migrate machine }) → k.records y.to.pid ≡ Some (Record.Here x) → CanMove x
@@ -210,7 +339,7 @@ pub record Carried (pt : Point) (l : Placed) (records : AllRecords) (p : Pid) (y
   pub process : Process
   pub there : l.processes p ≡ Some process
   pub sender : y.sender ≡ kernel_at y.id.from.home
-  pub carries : Carries p process (pt.view.asked p) (incoming_of (records (destination_of y.id (told_of y)) p)) y.what
+  pub carries : Carries p process (l.notes p) (pt.view.asked p) (incoming_of (records (destination_of y.id (told_of y)) p)) y.what
 
 pub process_same : (o : Option Process) (x y : Process) → o ≡ Some x → o ≡ Some y → x ≡ y
 process_same o x y e f = let g : Some x ≡ Some y = sym e ∙ f in cc
@@ -221,7 +350,7 @@ carried b m pt l records k y p h between about =
     let same : t.message ≡ y = some_same t.message y (sym t.is ∙ h.there) in
     search (
       ap (λ (x : Message). x.sender) (sym same) ∙ t.sender,
-      subst (λ (x : Message). Carries p t.process (pt.view.asked p) (incoming_of (records (destination_of y.id (told_of y)) p)) x.what) same t.carries,
+      subst (λ (x : Message). Carries p t.process (l.notes p) (pt.view.asked p) (incoming_of (records (destination_of y.id (told_of y)) p)) x.what) same t.carries,
     )
 
 pub kernel_number : (m : ℕ) (p : Pid) → p ≡ pid_of m 0 → (p.num == 0) ≡ true
@@ -239,7 +368,7 @@ gives : (b : Boot) (m : ℕ) (pt : Point) (l : Placed) (records : AllRecords) (k
     → kernel_handles b (record k { inbox = h.rest }) y y.what ≡ gives_piece (record k { inbox = h.rest }) y w
     → kernel_hears b pt m y.id (kind_of y.what) (about_of y.what) ≡ Some (migrating.gives_piece y.id (kind_of w))
     → after_proto (handled (begun pt m).view y.id) (Some (told_of y)) ≡ view.about (handled (begun pt m).view y.id) (Of p)
-    → (x : Process) → l.processes p ≡ Some x → Carries p x (pt.view.asked p) (incoming_of (records y.id.from.home p)) w → TurnsAt b m pt l records k
+    → (x : Process) → l.processes p ≡ Some x → Carries p x (l.notes p) (pt.view.asked p) (incoming_of (records y.id.from.home p)) w → TurnsAt b m pt l records k
 gives b m pt l records k y p w h g piece c turn hears proto x there carries =
     let v = pt.view in
     let s : KernelState = record k { inbox = h.rest } in
@@ -283,7 +412,7 @@ gives b m pt l records k y p w h g piece c turn hears proto x there carries =
           ap kernel_at h.stands.here,
           ap l.bag id_is ∙ absent_next b pt l m h.run h.mirrors h.own,
           ap v.told id_is ∙ untold_next b pt m h.run,
-          subst (λ (n : ℕ). Carries p x (v.asked p) (incoming_of (after_records n p)) w) (sym to_is) (subst (λ (r : Option machine.KernelKnown). Carries p x (v.asked p) (incoming_of r) w) (sym same_there) carries),
+          subst (λ (n : ℕ). Carries p x (l.notes p) (v.asked p) (incoming_of (after_records n p)) w) (sym to_is) (subst (λ (r : Option machine.KernelKnown). Carries p x (l.notes p) (v.asked p) (incoming_of r) w) (sym same_there) carries),
         )),
         tt,
       );
@@ -296,6 +425,7 @@ gives b m pt l records k y p w h g piece c turn hears proto x there carries =
             told = refl;
             asked = λ q off. refl;
             processes = λ q off. refl;
+            notes = λ q off. refl;
             records = λ n q off. records_as records m n k.records state.records q h.records_here refl;
             came = λ i t spot told between least. (let d = stood m y.id h.ids v next.view i spot h.box gone least in ((d.spot, d.stands), refl));
             none = λ i t spot told between about least. (

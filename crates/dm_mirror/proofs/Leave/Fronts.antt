@@ -136,6 +136,7 @@ pub record Leaving (m : ℕ) (pt : Point) (y : Message) (p : Pid) : Type 0 where
   pub from : y.id.from ≡ pid_of to 0
   pub apart : to ≢ m
   pub receiver : y.to.pid ≡ pid_of m 0
+  pub phase : (n : ℕ) → knows (Moves (kind_of y.what) m to (Some y.id)) n (pt.view.known n p) ≡ true
 
 off_source : (c : Bool) (s d : ℕ) → (c && not (s == d)) ≡ true → d ≢ s
 off_source c s d e = grind (arith, nat_tests, eq_self)
@@ -164,6 +165,7 @@ leaving b m pt l records k y p h between source restart about =
       from = token.from ∙ ap (λ (c : Bool). pid_of (if c then s else d) 0) of_source;
       apart = λ e. off (e ∙ here);
       receiver = ap (λ (t : Told). t.receiver) (sym told) ∙ ap (λ (x : ℕ). pid_of x 0) (sym to_m);
+      phase = λ n. sym (ap (λ (x : Phase). knows x n (v.known n p)) (phase ∙ (λ i. Moves (kind i) (sym here i) d (Some y.id)))) ∙ each.known n;
     }
 
 -- The next message of a machine's kernel, where it goes to another kernel and is about a process that leaves.

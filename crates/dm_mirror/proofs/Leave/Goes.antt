@@ -322,6 +322,7 @@ goes b m pt l records k y p h made =
             told = refl;
             asked = λ q off. refl;
             processes = λ q off. refl;
+            notes = λ q off. refl;
             records = λ r q off. records_as records m r k.records state.records q h.records_here (ap (λ (e : Bool). if e then Some (Record.Forward to moves) else k.records q) off);
             came = λ i t spot told between least. (
                 let e = stood m y.id h.ids v end.view i spot h.box gone least in

@@ -2,12 +2,19 @@
 use Rattle.dm_mirror.proofs.Names.{◌≡◌, ◌≢◌, ◌⊎◌, ℕ, ◌+◌, ◌≤◌, Bool, true, false, List, [], ◌∷◌, ◌++◌, map, nat_le, refl, ap, ◌∙◌, sym, subst, inl, inr, arith, if◌then◌else◌, Option, Some, nat_tests, Pid, pid_eq, Message, MsgId, What}
 use Rattle.dm_mirror.proofs.Names.{MessageKind, Record, Line, Part, frozen_of, with_record, Boot, bind, stays, KernelState, pid_eq-same, Point, moved, takes_room, at_machine, standing, times, Here, Known, without_first, times-append}
 use Rattle.dm_mirror.proofs.Names.{Placed, mirrors_view, told_of, AreMessages, KnownStands, AllRecords, is_server, false≢true}
+use Rattle.dm_mirror.proofs.Names.{◌==◌, Moves, Told, is_away, is_between, kind_comes, knows, Of, turned}
+use Rattle.dm_message.specs.declared.Outcome.{Outcome}
+use Rattle.dm_kernel.specs.declared.part.Part as part
+use Rattle.dm_kernel.specs.Departing.{tells_asker}
 use Rattle.dm_kernel.specs.State as machine
+use Rattle.dm_rule.specs.Migrating as migrating
+use Rattle.dm_rule.specs.Parts as rule
+use Rattle.dm_mirror.proofs.Leave.Answered.{ends_move_row}
 use Rattle.dm_mirror.proofs.Rooms.{taken_same}
 use Rattle.dm_mirror.proofs.Leave.Fronts.{FrontGone, Hearing, front_nowhere, leaving, outcome_hears, stood, turn_hears, records_as, to_kernel, to_kernel_hears, own_stays, tokens_one}
 use Rattle.dm_mirror.proofs.Leave.Asks.{room_stays, taken_at_record, departing, kernel_number, leaves_alive, leaves_no_server}
-use Rattle.dm_mirror.proofs.Turning.{Nothing, TurnsAt, begun}
-use Rattle.dm_mirror.proofs.Handle.Taking.{machine_self, machine_off, record_self, record_off, record_others, stands_set}
+use Rattle.dm_mirror.proofs.Turning.{TurnsAt, begun, has_process}
+use Rattle.dm_mirror.proofs.Handle.Taking.{eq_off, machine_self, machine_off, record_self, record_off, record_others, stands_set}
 
 -- messages of two lists, one after the other
 pub messages_append : (bag : MsgId → Option Message) (is js : List MsgId) (ms ns : List Message) → AreMessages bag is ms → AreMessages bag js ns → AreMessages bag (is ++ js) (ms ++ ns)
@@ -23,6 +30,16 @@ messages_append bag (i ∷ is) js (m ∷ ms) ns e f =
 -- what stands in two lists stands in one of them
 pub in_one : (j : MsgId) (is js : List MsgId) → 1 ≤ times j (is ++ js) → (1 ≤ times j js) ⊎ (1 ≤ times j is)
 in_one j is js least = grind (arith, nat_tests, nat_le, times-append)
+
+-- where the destination refused it, no machine but the source has it
+early_comes : (s : ℕ) (k : Known) → kind_comes MessageKind.Refuse s k ≡ true → has_process k ≡ false
+early_comes s k e = grind (arith, nat_tests)
+
+away_none : (k : Known) → is_away k ≡ true → has_process k ≡ false
+away_none k e = grind (arith, nat_tests)
+
+refused_away : (m d n : ℕ) (i : Option MsgId) (k : Known) (at_source at_destination : Bool) → (m == n) ≡ at_source → (d == n) ≡ at_destination → at_source ≡ false → knows (Moves MessageKind.Refuse m d i) n k ≡ true → has_process k ≡ false
+refused_away m d n i k at_source at_destination e f off h = grind (arith, nat_tests, early_comes, away_none)
 
 refuses : (b : Boot) (m : ℕ) (pt : Point) (l : Placed) (records : AllRecords) (k : KernelState) (y : Message) (p : Pid) (slots blocks : ℕ) → Hearing b m pt l records k (record y { what = What.Refuse p slots blocks }) → TurnsAt b m pt l records k
 refuses b m pt l records k y p slots blocks h =
@@ -60,17 +77,14 @@ refuses b m pt l records k y p slots blocks h =
     let taken = taken_same pt next m refl (λ n. refl) (λ q. taken_at_record pt next m p q Here refl refl (sym (ap takes_room g.known))) in
     let sets : (q : Pid) → pid_eq p q ≡ false → state.records q ≡ k.records q = λ q off. ap (λ (c : Bool). if c then Some (Record.Here x) else k.records q) off in
     let keeps : is_server p ≡ true → state.records p ≡ k.records p = λ is. absurd (false≢true (sym server ∙ is)) in
-    record {
-      state = state;
-      says = Line.Stays p ∷ [];
-      routes = [];
-      late = Nothing;
-      turn = turn_hears b m pt l records k z h (stays s p d.departure) (to_kernel b s z num ∙ ap (λ (r : Option machine.KernelKnown). bind (frozen_of r) (stays s p)) d.is);
-      outcome = outcome_hears b m pt l records k z h (Some (Part.Says (Line.Stays p) ∷ []))
-          (to_kernel_hears b pt m y.id (told_of z) num ∙ leaves_alive b m pt l p (record x { queue = d.stands.here.0.0 }) y.id MessageKind.Refuse (Some (Part.Says (Line.Stays p) ∷ [])) there (h.mirrors.plain.processes p) refl);
-      next = next;
-      after = refl;
-      placed = l;
+    let none : (i : MsgId) (t : Told) (spot : Spot) → v.told i ≡ Some t → is_between t.kind ≡ true → t.about ≡ Of p → 1 ≤ standing next.view i spot → ⊥ = λ i t spot told between about least. (
+      let e = stood m y.id h.ids v next.view i spot h.box gone least in
+      let is : i ≡ y.id = g.alone i t e.spot told between about e.stands in
+      front_nowhere b m pt l records k z h next.view spot gone (subst (λ (j : MsgId). 1 ≤ standing next.view j spot) is least)) in
+    let away : (n : ℕ) → n ≢ m → has_process (v.known n p) ≡ false = λ n off. refused_away m g.to n (Some y.id) (v.known n p) (m == n) (g.to == n) refl refl (eq_off m n off) (g.phase n) in
+    ends_move_row b m pt l records k p (Line.Stays p) state next.view l (record {
+      run = h.run;
+      said = refl;
       mirrors = mirrors_view pt.kernel v next.view pt.addresses l refl h.mirrors;
       kernel = stands_set b pt next l l m k state p
           (search (sets, record_others, mine, keeps)) h.stands
@@ -79,26 +93,32 @@ refuses b m pt l records k y p slots blocks h =
           h.stands.made
           (room_stays k.room _ _ _ taken h.stands.room)
           h.stands.servers;
-      sent = λ e. e ∙ (let f : (n : ℕ) → n ≡ n + 0 = λ n. omega arith in f (v.count m));
+      sent = λ e. e;
       elsewhere = search (machine_off, v.ring, record_off);
-      may = tt;
-      late_may = tt;
-      single = omega arith;
-      topic = tt;
       own = own_stays v next.view l refl h.own;
       tokens = tokens_one v next.view l l records after_records p
           (record {
             told = refl;
             asked = λ q off. refl;
             processes = λ q off. refl;
-            records = λ n q off. records_as records m n k.records state.records q h.records_here (ap (λ (c : Bool). if c then Some (Record.Here x) else k.records q) off);
+            notes = λ q off. refl;
+            records = λ n q off. records_as records m n k.records state.records q h.records_here (sets q off);
             came = λ i t spot told between least. (let e = stood m y.id h.ids v next.view i spot h.box gone least in ((e.spot, e.stands), refl));
-            none = λ i t spot told between about least. (
-                let e = stood m y.id h.ids v next.view i spot h.box gone least in
-                let is : i ≡ y.id = g.alone i t e.spot told between about e.stands in
-                front_nowhere b m pt l records k z h next.view spot gone (subst (λ (j : MsgId). 1 ≤ standing next.view j spot) is least));
+            none = none;
           }) h.tokens;
-    }
+      process = x;
+      is = here_record;
+      known = here_known;
+      server = server;
+      alone = away;
+      stood = λ i spot least. (let e = stood m y.id h.ids v next.view i spot h.box gone least in (e.spot, e.stands));
+      none = none;
+    }) Outcome.Stayed d.departure.asker (sym d.stands.asker) (λ n. refl)
+    (turn_hears b m pt l records k z h (stays s p d.departure) (to_kernel b s z num ∙ ap (λ (r : Option machine.KernelKnown). bind (frozen_of r) (stays s p)) d.is)
+    ∙ ap (λ (n : ℕ). turned state (part.Part.Says (Line.Stays p) ∷ tells_asker n x Outcome.Stayed d.departure.asker)) h.stands.here)
+    (outcome_hears b m pt l records k z h (Some (rule.Says (Line.Stays p) ∷ migrating.tells_asker (pt.kernel.notes p) Outcome.Stayed))
+    (to_kernel_hears b pt m y.id (told_of z) num
+    ∙ leaves_alive b m pt l p (record x { queue = d.stands.here.0.0 }) y.id MessageKind.Refuse (Some (rule.Says (Line.Stays p) ∷ migrating.tells_asker (pt.kernel.notes p) Outcome.Stayed)) there (h.mirrors.plain.processes p) refl))
 
 pub hears_refuse : (b : Boot) (m : ℕ) (pt : Point) (l : Placed) (records : AllRecords) (k : KernelState) (y : Message) (p : Pid) (slots blocks : ℕ) → Hearing b m pt l records k y → y.what ≡ What.Refuse p slots blocks → TurnsAt b m pt l records k
 hears_refuse b m pt l records k y p slots blocks h is = refuses b m pt l records k y p slots blocks (subst (Hearing b m pt l records k) (ap (λ (w : What). record y { what = w }) is) h)

@@ -7,6 +7,10 @@ use Rattle.dm_mirror.proofs.Names.{pid_eq-same, Known, WhatFits, awaits, has_byt
 use Rattle.dm_mirror.proofs.Names.{suc, ◌/◌, is_some, if◌then◌else◌, option_map, cases_Bool, pid_of, HasTaken, first_number, alive-is, blocks_of, taken_at, taken_by, taken_of_home, takes_room, IsLawfulState, of_known, MadeStands, [], map}
 use Rattle.dm_mirror.proofs.Names.{with_what, Pending, plain_manager, IsForManager, pending_request, OneKernel, front, ForOthers, ForWhom, for_whom, home_of, told_receiver, create_what, created_what, no_room_what, FitsKernel, managed_fits}
 use Rattle.dm_mirror.proofs.Names.{user_fits}
+use Rattle.dm_onekernel.specs.declared.request.PendingKind.{PendingKind}
+use Rattle.dm_rulelaws.specs.Fits.{is_for}
+use Rattle.dm_places.proofs.Whats.{move_what, moved_what}
+use Rattle.dm_mirror.proofs.Names.{IsPending}
 use Rattle.dm_kernel.specs.May.{MayAct}
 pub use Rattle.dm_rulelaws.proofs.Goes.Servers.{server_fixed as fixed_server}
 use Rattle.dm_kernel.specs.State as machine
@@ -76,6 +80,7 @@ abbrev is_managed : PlainWhat → Bool
 is_managed (PlainWhat.User code channel body links) = true
 is_managed (PlainWhat.Created child) = true
 is_managed PlainWhat.NoRoom = true
+is_managed (PlainWhat.Moved outcome) = true
 is_managed w = false
 
 other_managed : (x : PlainMessage) (w : PlainWhat) → ForOthers x w → x.to ≡ manager → is_managed w ≡ true
@@ -104,13 +109,20 @@ pending_plainly : (n : ℕ) (ps : List Pending) → is_some (manage.pending_numb
 pending_plainly n [] = refl
 pending_plainly n (r ∷ rs) = pending_plainly_if n r (r.n == n) (manage.pending_numbered n (map plain_pending rs)) (pending_request n rs) (pending_plainly n rs)
 
-is_pending : (s : OneKernel) (l : Placed) (i : MsgId) (n : ℕ) → n ≡ i.n → plain_manager l.manager ≡ s.manager → is_some (manage.pending_numbered i.n s.manager.pending) ≡ true → is_some (pending_request n l.manager.pending) ≡ true
-is_pending s l i n same e pending = grind (arith, nat_tests, pending_plainly)
+for_some : (kind : PendingKind) (o : Option one.Pending) → is_for kind o ≡ true → is_some o ≡ true
+for_some kind None e = cc
+for_some kind (Some r) e = refl
+
+is_pending : (s : OneKernel) (l : Placed) (kind : PendingKind) (i : MsgId) (n : ℕ) → n ≡ i.n → plain_manager l.manager ≡ s.manager → IsPending s kind i → is_some (pending_request n l.manager.pending) ≡ true
+is_pending s l kind i n same e h =
+    let pending = for_some kind (manage.pending_numbered i.n s.manager.pending) h.pending in
+    grind (arith, nat_tests, pending_plainly)
 
 managed_row : (s : OneKernel) (l : Placed) (i : MsgId) (x : Message) (p : PlainMessage) (w : PlainWhat) → plain_what x.what ≡ Some w → is_managed w ≡ true → WhatFits s i p w → x.id ≡ i → plain_manager l.manager ≡ s.manager → IsForManager l.manager x.id.n x.what
 managed_row s l i x p (PlainWhat.User code channel body links) e c fits id g = subst (IsForManager l.manager x.id.n) (sym (user_what x.what code channel body links e).is) tt
-managed_row s l i x p (PlainWhat.Created child) e c fits id g = subst (IsForManager l.manager x.id.n) (sym (created_what x.what child e)) (is_pending s l i x.id.n (ap (λ (j : MsgId). j.n) id) g fits.2.pending)
-managed_row s l i x p PlainWhat.NoRoom e c fits id g = subst (IsForManager l.manager x.id.n) (sym (no_room_what x.what e)) (is_pending s l i x.id.n (ap (λ (j : MsgId). j.n) id) g fits.2.pending)
+managed_row s l i x p (PlainWhat.Created child) e c fits id g = subst (IsForManager l.manager x.id.n) (sym (created_what x.what child e)) (is_pending s l PendingKind.Create i x.id.n (ap (λ (j : MsgId). j.n) id) g fits.2)
+managed_row s l i x p PlainWhat.NoRoom e c fits id g = subst (IsForManager l.manager x.id.n) (sym (no_room_what x.what e)) (is_pending s l PendingKind.Create i x.id.n (ap (λ (j : MsgId). j.n) id) g fits.2)
+managed_row s l i x p (PlainWhat.Moved outcome) e c fits id g = subst (IsForManager l.manager x.id.n) (sym (moved_what x.what outcome e)) (is_pending s l PendingKind.Move i x.id.n (ap (λ (j : MsgId). j.n) id) g fits.2)
 managed_row s l i x p _ e c fits id g = cc
 
 pub for_board : (pt : Point) (l : Placed) (m : ℕ) (k : KernelState) (x : Message) (i : MsgId) (p : PlainMessage) → MadeStands pt.kernel → CountsFew pt → Mirrors pt.kernel pt.view pt.addresses l → k.servers ≡ servers_at l m → FrontSo pt m i x p → p.to ≡ switchboard → FitsBoard x k.servers
@@ -265,32 +277,31 @@ awaits_alive pt y i p w to life e = sym (ap (λ (o : Option Life). awaits o i.n 
 
 -- it is here, a row a kind
 here_row : (k : KernelState) (pt : Point) (y : Process) (i : MsgId) (x : Message) (p : PlainMessage) (w : PlainWhat) → plain_what x.what ≡ Some w → WhatFits pt.kernel i p w → pt.kernel.processes p.to ≡ Some (Alive (plain_process y)) → x.id ≡ i
-    → (p.to.num == 0) ≡ false → pid_eq p.to manager ≡ false → FitsHere k x y x.what
-here_row k pt y i x p (PlainWhat.User code channel body links) e fits life id num other = subst (FitsHere k x y) (sym (user_what x.what code channel body links e).is) tt
-here_row k pt y i x p PlainWhat.Stop e fits life id num other = subst (FitsHere k x y) (sym (stop_what x.what e)) tt
-here_row k pt y i x p PlainWhat.Resume e fits life id num other = subst (FitsHere k x y) (sym (resume_what x.what e)) tt
-here_row k pt y i x p PlainWhat.Kill e fits life id num other = subst (FitsHere k x y) (sym (kill_what x.what e)) tt
-here_row k pt y i x p (PlainWhat.Read base len) e fits life id num other =
+    → (p.to.num == 0) ≡ false → pid_eq p.to manager ≡ false → (y.moves < 4294967295) × (k.sent < 4294967295) → FitsHere k x y x.what
+here_row k pt y i x p (PlainWhat.User code channel body links) e fits life id num other few = subst (FitsHere k x y) (sym (user_what x.what code channel body links e).is) tt
+here_row k pt y i x p PlainWhat.Stop e fits life id num other few = subst (FitsHere k x y) (sym (stop_what x.what e)) tt
+here_row k pt y i x p PlainWhat.Resume e fits life id num other few = subst (FitsHere k x y) (sym (resume_what x.what e)) tt
+here_row k pt y i x p PlainWhat.Kill e fits life id num other few = subst (FitsHere k x y) (sym (kill_what x.what e)) tt
+here_row k pt y i x p (PlainWhat.Read base len) e fits life id num other few =
     let is = read_what x.what base len e in
     subst (FitsHere k x y) (sym is) (subst (IsWithin (length y.memory)) (sym is) (within_memory (base + len) y (pt.kernel.processes p.to) life fits.0))
-here_row k pt y i x p (PlainWhat.Write base bytes) e fits life id num other =
+here_row k pt y i x p (PlainWhat.Write base bytes) e fits life id num other few =
     let q = write_what x.what base bytes e in
     let long : length q.body.items ≡ length bytes = ap length q.bytes_are in
     let le = within_memory (base + length bytes) y (pt.kernel.processes p.to) life fits.0 in
     subst (FitsHere k x y) (sym q.is) (subst (IsWithin (length y.memory)) (sym q.is) (let h : base + length q.body.items ≤ length y.memory = omega (arith, long, le) in h))
-here_row k pt y i x p (PlainWhat.Block bytes) e fits life id num other =
+here_row k pt y i x p (PlainWhat.Block bytes) e fits life id num other few =
     subst (FitsHere k x y) (sym (block_what x.what bytes e).is)
     (awaited_by y.status i.n x (PlainWhat.Block bytes) (ap (λ (j : MsgId). j.n) id) e (awaits_alive pt y i p.to (PlainWhat.Block bytes) fits.0 life fits.1) (block_answer x bytes e))
-here_row k pt y i x p PlainWhat.Written e fits life id num other =
+here_row k pt y i x p PlainWhat.Written e fits life id num other few =
     subst (FitsHere k x y) (sym (written_what x.what e))
     (awaited_by y.status i.n x PlainWhat.Written (ap (λ (j : MsgId). j.n) id) e (awaits_alive pt y i p.to PlainWhat.Written fits.0 life fits.1) (written_answer x e))
-here_row k pt y i x p PlainWhat.Gone e fits life id num other =
+here_row k pt y i x p PlainWhat.Gone e fits life id num other few =
     subst (FitsHere k x y) (sym (gone_what x.what e))
     (awaited_by y.status i.n x PlainWhat.Gone (ap (λ (j : MsgId). j.n) id) e (awaits_alive pt y i p.to PlainWhat.Gone fits.0 life fits.1) (gone_answer x e))
-here_row k pt y i x p (PlainWhat.Create image links) e fits life id num other = absurd (let z : p.to.num ≡ 0 = fits.0 in let t : (p.to.num == 0) ≡ true = grind (arith, nat_tests) in false≢true (sym num ∙ t))
-here_row k pt y i x p (PlainWhat.Move machine_) e fits life id num other = absurd fits
-here_row k pt y i x p (PlainWhat.Moved outcome) e fits life id num other = absurd fits
-here_row k pt y i x p _ e fits life id num other = absurd (false≢true (sym other ∙ (ap (λ (q : Pid). pid_eq q manager) fits.0 ∙ pid_eq-same manager)))
+here_row k pt y i x p (PlainWhat.Create image links) e fits life id num other few = absurd (let z : p.to.num ≡ 0 = fits.0 in let t : (p.to.num == 0) ≡ true = grind (arith, nat_tests) in false≢true (sym num ∙ t))
+here_row k pt y i x p (PlainWhat.Move machine_) e fits life id num other few = subst (FitsHere k x y) (sym (move_what x.what machine_ e)) few
+here_row k pt y i x p _ e fits life id num other few = absurd (false≢true (sym other ∙ (ap (λ (q : Pid). pid_eq q manager) fits.0 ∙ pid_eq-same manager)))
 
 -- it has ended
 ended_row : (pt : Point) (i : MsgId) (x : Message) (p : PlainMessage) (w : PlainWhat) → plain_what x.what ≡ Some w → WhatFits pt.kernel i p w → (p.to.num == 0) ≡ false → pid_eq p.to manager ≡ false → FitsEnded x.what
@@ -304,8 +315,7 @@ ended_row pt i x p (PlainWhat.Block bytes) e fits num other = subst FitsEnded (s
 ended_row pt i x p PlainWhat.Written e fits num other = subst FitsEnded (sym (written_what x.what e)) tt
 ended_row pt i x p PlainWhat.Gone e fits num other = subst FitsEnded (sym (gone_what x.what e)) tt
 ended_row pt i x p (PlainWhat.Create image links) e fits num other = absurd (let z : p.to.num ≡ 0 = fits.0 in let t : (p.to.num == 0) ≡ true = grind (arith, nat_tests) in false≢true (sym num ∙ t))
-ended_row pt i x p (PlainWhat.Move machine_) e fits num other = absurd fits
-ended_row pt i x p (PlainWhat.Moved outcome) e fits num other = absurd fits
+ended_row pt i x p (PlainWhat.Move machine_) e fits num other = subst FitsEnded (sym (move_what x.what machine_ e)) tt
 ended_row pt i x p _ e fits num other = absurd (false≢true (sym other ∙ (ap (λ (q : Pid). pid_eq q manager) fits.0 ∙ pid_eq-same manager)))
 
 -- where nothing is known of a process there is no record of it, and only there
@@ -313,20 +323,22 @@ pub known_some : (pt : Point) (l : Placed) (p : Pid) (ids held_ : List MsgId) (k
 known_some pt l p ids held_ k h = grind (arith, nat_tests)
 
 -- what the machine knows of it
-process_row : (b : Boot) (pt : Point) (l : Placed) (m : ℕ) (k : KernelState) (i : MsgId) (x : Message) (p : PlainMessage) (o : Option machine.KernelKnown) → Mirrors pt.kernel pt.view pt.addresses l → KernelStands b pt l m k → k.sent < 4294967295 → FrontSo pt m i x p
+process_row : (b : Boot) (pt : Point) (l : Placed) (m : ℕ) (k : KernelState) (i : MsgId) (x : Message) (p : PlainMessage) (o : Option machine.KernelKnown) → Mirrors pt.kernel pt.view pt.addresses l → KernelStands b pt l m k → CountsFew pt → k.sent < 4294967295 → FrontSo pt m i x p
     → (p.to.num == 0) ≡ false → pid_eq p.to manager ≡ false → is_server p.to ≡ false → k.records p.to ≡ o → FitsKnown k x o
-process_row b pt l m k i x p None mirrors h sent f num other server is =
+process_row b pt l m k i x p None mirrors h counts sent f num other server is =
     f.known (ap (λ (c : Bool). c || is_server p.to) num ∙ server) (known_some pt l p.to (pt.view.queue m p.to) (pt.view.held m p.to) (pt.view.known m p.to) (subst (KnownStands pt l p.to (pt.view.queue m p.to) (pt.view.held m p.to) (pt.view.known m p.to)) is (h.known p.to server)))
-process_row b pt l m k i x p (Some (Record.Here y)) mirrors h sent f num other server is =
+process_row b pt l m k i x p (Some (Record.Here y)) mirrors h counts sent f num other server is =
     let so = here_so b pt l m k p.to y mirrors h server is in
-    here_row k pt y i x p p.what f.what_is f.fits so.life f.id num other
-process_row b pt l m k i x p (Some (Record.Forward place moves)) mirrors h sent f num other server is = sent
-process_row b pt l m k i x p (Some (Record.Ended y)) mirrors h sent f num other server is = ended_row pt i x p p.what f.what_is f.fits num other
-process_row b pt l m k i x p _ mirrors h sent f num other server is = tt
+    let moves = (mirrors.places.process p.to (record y { queue = so.queue }) so.there).moves in
+    let few = counts.moves p.to in
+    here_row k pt y i x p p.what f.what_is f.fits so.life f.id num other (omega (arith, moves, few), sent)
+process_row b pt l m k i x p (Some (Record.Forward place moves)) mirrors h counts sent f num other server is = sent
+process_row b pt l m k i x p (Some (Record.Ended y)) mirrors h counts sent f num other server is = ended_row pt i x p p.what f.what_is f.fits num other
+process_row b pt l m k i x p _ mirrors h counts sent f num other server is = tt
 
-pub for_process : (b : Boot) (pt : Point) (l : Placed) (m : ℕ) (k : KernelState) (i : MsgId) (x : Message) (p : PlainMessage) → Mirrors pt.kernel pt.view pt.addresses l → KernelStands b pt l m k → k.sent < 4294967295 → FrontSo pt m i x p
+pub for_process : (b : Boot) (pt : Point) (l : Placed) (m : ℕ) (k : KernelState) (i : MsgId) (x : Message) (p : PlainMessage) → Mirrors pt.kernel pt.view pt.addresses l → KernelStands b pt l m k → CountsFew pt → k.sent < 4294967295 → FrontSo pt m i x p
     → (p.to.num == 0) ≡ false → pid_eq p.to manager ≡ false → is_server p.to ≡ false → FitsKnown k x (k.records p.to)
-for_process b pt l m k i x p mirrors h sent f num other server = process_row b pt l m k i x p (k.records p.to) mirrors h sent f num other server refl
+for_process b pt l m k i x p mirrors h counts sent f num other server = process_row b pt l m k i x p (k.records p.to) mirrors h counts sent f num other server refl
 
 -- A kernel's own message at the front of a machine's inbox is one that the machine can handle: for a process or a server.
 

@@ -6,6 +6,7 @@ use Rattle.dm_mirror.proofs.Names.{kind_comes, is_apart, is_away, is_between, is
 use Rattle.dm_mirror.proofs.Names.{Incoming, Of, Told, token_at, token_is, is_server, Run, Placed, IsSuch, KernelState, about_of, ComesStand, KernelStands, KnownStands, LeavesStand, Carries, TokensStand, Wants, destination_of, eq_self}
 use Rattle.dm_mirror.proofs.Names.{apart_is, inbox_is, about_same, ◌<◌, ◌||◌, [], IsSome, Chunk, Block, Nothing, IsNextPiece, restarted, block_of, chunk_of, coming, by_pieces, takes_room, own_sort, Mirrors, FitsKernel, MayLeave, MayRestart}
 use Rattle.dm_mirror.proofs.Names.{MadeStands, nat_tests}
+use Rattle.dm_message.specs.declared.Asker.{Asker}
 use Rattle.dm_migrate.specs.Way.{moved}
 use Rattle.dm_kernel.specs.State as machine
 use Rattle.dm_mirror.proofs.May.Own.{OwnFront, has_taken, life_is}
@@ -100,7 +101,7 @@ comes_at b pt l n k p from run h known =
 pub record IsToken (pt : Point) (l : Placed) (ks : ℕ → KernelState) (m : ℕ) (i : MsgId) (x : Message) (w : What) (p : Pid) : Type 0 where
   pub process : Process
   pub there : l.processes p ≡ Some process
-  pub carries : Carries p process (pt.view.asked p) (incoming_of ((ks (destination_of i (record { kind = kind_of w; receiver = x.to.pid; about = about_of w }))).records p)) w
+  pub carries : Carries p process (l.notes p) (pt.view.asked p) (incoming_of ((ks (destination_of i (record { kind = kind_of w; receiver = x.to.pid; about = about_of w }))).records p)) w
   pub moved : IsMoved pt m p (kind_of w)
 
 abbrev pub own_told : Message → What → Told
@@ -114,7 +115,7 @@ token_of b pt l ks m i x w p e run tokens f between about =
     let same : t.message ≡ x = (let g : Some t.message ≡ Some x = sym t.is ∙ f.there in cc) in
     let what_is : t.message.what ≡ w = ap (λ (v : Message). v.what) same ∙ e in
     search (
-      subst (Carries p t.process (pt.view.asked p) (incoming_of ((ks (destination_of i (own_told x w))).records p))) what_is t.carries,
+      subst (Carries p t.process (l.notes p) (pt.view.asked p) (incoming_of ((ks (destination_of i (own_told x w))).records p))) what_is t.carries,
       is_moved b pt m i (own_told x w) p run told between about f.first,
     )
 
@@ -139,8 +140,8 @@ destination_comes b pt l m k p c run stands h side early =
     comes_at b pt l m k p from run stands (ap (λ (n : ℕ). pt.view.known n p) here ∙ known)
 
 -- it asks to come
-pub whole_asks : (p : Process) → CanMove p → IsAskOfProcess (ask_of p None)
-whole_asks p h =
+pub whole_asks : (p : Process) (k : Option Asker) → CanMove p → IsAskOfProcess (ask_of p k)
+whole_asks p k h =
     let n : ℕ = h.lawful.size.0 in
     let e : length p.memory ≡ 256 * n = h.lawful.size.1 in
     let d : length p.memory / 256 ≡ n = omega (arith, e) in
@@ -164,24 +165,24 @@ pub record Around (b : Boot) (pt : Point) (l : Placed) (ks : ℕ → KernelState
   pub front : OwnFront pt l m i x
 
 -- the piece that is asked for
-next_chunk : (z y : Process) (a : Arrival) (w : What) (n : ℕ) → CanMove (record z { queue = [] }) → y ≡ z → a ≡ coming z None a.held a.wanted → a.wanted ≡ Chunk n → w ≡ chunk_of y.pid (state_of y) n → HasChunk (state_of y) n → IsNextPiece a w
-next_chunk z y a w n whole same pieces wanted is there =
+next_chunk : (z y : Process) (k : Option Asker) (a : Arrival) (w : What) (n : ℕ) → CanMove (record z { queue = [] }) → y ≡ z → a ≡ coming z k a.held a.wanted → a.wanted ≡ Chunk n → w ≡ chunk_of y.pid (state_of y) n → HasChunk (state_of y) n → IsNextPiece a w
+next_chunk z y k a w n whole same pieces wanted is there =
     let there_ : HasChunk (state_of z) n = subst (λ (v : Process). HasChunk (state_of v) n) same there in
     let is_ : w ≡ chunk_of z.pid (state_of z) n = is ∙ ap (λ (v : Process). chunk_of v.pid (state_of v) n) same in
-    let come : a ≡ coming z None a.held (Chunk n) = pieces ∙ ap (coming z None a.held) wanted in
-    subst (λ (v : Arrival). IsNextPiece v w) (sym come) (subst (IsNextPiece (coming z None a.held (Chunk n))) (sym is_) ((by_pieces (record z { queue = [] }) None a.held whole).chunk_asked n there_))
+    let come : a ≡ coming z k a.held (Chunk n) = pieces ∙ ap (coming z k a.held) wanted in
+    subst (λ (v : Arrival). IsNextPiece v w) (sym come) (subst (IsNextPiece (coming z k a.held (Chunk n))) (sym is_) ((by_pieces (record z { queue = [] }) k a.held whole).chunk_asked n there_))
 
-next_block : (z y : Process) (a : Arrival) (w : What) (n : ℕ) → CanMove (record z { queue = [] }) → y ≡ z → a ≡ coming z None a.held a.wanted → a.wanted ≡ Block n → w ≡ block_of y.pid y.memory n → HasBlock y.memory n → IsNextPiece a w
-next_block z y a w n whole same pieces wanted is there =
+next_block : (z y : Process) (k : Option Asker) (a : Arrival) (w : What) (n : ℕ) → CanMove (record z { queue = [] }) → y ≡ z → a ≡ coming z k a.held a.wanted → a.wanted ≡ Block n → w ≡ block_of y.pid y.memory n → HasBlock y.memory n → IsNextPiece a w
+next_block z y k a w n whole same pieces wanted is there =
     let there_ : HasBlock z.memory n = subst (λ (v : Process). HasBlock v.memory n) same there in
     let is_ : w ≡ block_of z.pid z.memory n = is ∙ ap (λ (v : Process). block_of v.pid v.memory n) same in
-    let come : a ≡ coming z None a.held (Block n) = pieces ∙ ap (coming z None a.held) wanted in
-    subst (λ (v : Arrival). IsNextPiece v w) (sym come) (subst (IsNextPiece (coming z None a.held (Block n))) (sym is_) ((by_pieces (record z { queue = [] }) None a.held whole).block_asked n there_))
+    let come : a ≡ coming z k a.held (Block n) = pieces ∙ ap (coming z k a.held) wanted in
+    subst (λ (v : Arrival). IsNextPiece v w) (sym come) (subst (IsNextPiece (coming z k a.held (Block n))) (sym is_) ((by_pieces (record z { queue = [] }) k a.held whole).block_asked n there_))
 
-all_come : (z : Process) (a : Arrival) → CanMove (record z { queue = [] }) → a ≡ coming z None a.held a.wanted → a.wanted ≡ Nothing → MayRestart a
-all_come z a whole pieces wanted =
-    let come : a ≡ coming z None a.held Nothing = pieces ∙ ap (coming z None a.held) wanted in
-    record { whole = wanted; process = moved z; restarts = ap restarted come ∙ (by_pieces (record z { queue = [] }) None a.held whole).whole; lawful = moved_lawful (record z { queue = [] }) whole.lawful }
+all_come : (z : Process) (k : Option Asker) (a : Arrival) → CanMove (record z { queue = [] }) → a ≡ coming z k a.held a.wanted → a.wanted ≡ Nothing → MayRestart a
+all_come z k a whole pieces wanted =
+    let come : a ≡ coming z k a.held Nothing = pieces ∙ ap (coming z k a.held) wanted in
+    record { whole = wanted; process = moved z; restarts = ap restarted come ∙ (by_pieces (record z { queue = [] }) k a.held whole).whole; lawful = moved_lawful (record z { queue = [] }) whole.lawful }
 
 -- the machine is the receiver's home
 home_is : (b : Boot) (pt : Point) (l : Placed) (ks : ℕ → KernelState) (m : ℕ) (i : MsgId) (x : Message) → Around b pt l ks m i x → (x.to.pid.num == 0) ≡ true → x.to.pid.home ≡ m
@@ -203,14 +204,14 @@ leaves_here b pt l ks m i x p h d =
 not_unknown : (to : ℕ) → Frozen to ≡ Unknown → ⊥
 not_unknown to e = cc
 
-asks_to_come : (b : Boot) (pt : Point) (l : Placed) (ks : ℕ → KernelState) (m : ℕ) (i : MsgId) (x : Message) (w : What) (p : Pid) → Around b pt l ks m i x → (t : IsToken pt l ks m i x w p) → kind_of w ≡ MessageKind.Ask → w ≡ ask_of t.process None → IsAskOfProcess w
+asks_to_come : (b : Boot) (pt : Point) (l : Placed) (ks : ℕ → KernelState) (m : ℕ) (i : MsgId) (x : Message) (w : What) (p : Pid) → Around b pt l ks m i x → (t : IsToken pt l ks m i x w p) → kind_of w ≡ MessageKind.Ask → w ≡ ask_of t.process (l.notes p) → IsAskOfProcess w
 asks_to_come b pt l ks m i x w p h t is asked =
     let s = t.moved.s in
     let (to, known) = frozen_at (kind_of w) t.moved.d (pt.view.known s p) t.moved.source (ap is_restart is) in
     let within : s < pt.kernel.machines = h.run.found.known_within s p (λ none. not_unknown to (sym known ∙ none)) in
     let d = leaves_at b pt l s (ks s) p to h.run (h.nodes s within) known in
     let same = same_process (l.processes p) t.process (record d.departure.process { queue = d.stands.here.0.0 }) t.there d.stands.here.0.1 in
-    subst IsAskOfProcess (sym (asked ∙ ap (λ (v : Process). ask_of v None) same)) (whole_asks d.departure.process d.stands.whole)
+    subst IsAskOfProcess (sym (asked ∙ ap (λ (v : Process). ask_of v (l.notes p)) same)) (whole_asks d.departure.process (l.notes p) d.stands.whole)
 
 sort_of : (b : Boot) (pt : Point) (l : Placed) (ks : ℕ → KernelState) (m : ℕ) (i : MsgId) (x : Message) (w : What) → x.what ≡ w → Around b pt l ks m i x → own_sort (kind_of w) x.to.pid (about_of w) ≡ true
 sort_of b pt l ks m i x w e h = ap (λ (v : What). own_sort (kind_of v) x.to.pid (about_of v)) (sym e) ∙ h.front.sort
@@ -234,7 +235,7 @@ kernel_row b pt l ks m i x (What.State pid chunk last bytes) e h num sent =
     let c = destination_comes b pt l m (ks m) pid MessageKind.State h.run (h.nodes m h.within) t.moved refl refl in
     let wanted = subst (λ (v : Option Arrival). Wants v (Chunk chunk)) (ap (λ (n : ℕ). incoming_of ((ks n).records pid)) (home_is b pt l ks m i x h num) ∙ ap incoming_of c.is) t.carries.2 in
     let same = same_process (l.processes pid) t.process c.stands.process t.there c.stands.there in
-    (incoming_is (ks m) pid c.arrival (λ (a : Arrival). IsNextPiece a w) c.is (next_chunk c.stands.process t.process c.arrival w chunk c.stands.whole same c.stands.pieces wanted t.carries.0 t.carries.1.1), sent)
+    (incoming_is (ks m) pid c.arrival (λ (a : Arrival). IsNextPiece a w) c.is (next_chunk c.stands.process t.process (l.notes pid) c.arrival w chunk c.stands.whole same c.stands.pieces wanted t.carries.0 t.carries.1.1), sent)
 kernel_row b pt l ks m i x (What.PullBlock pid block) e h num sent =
     let t = token_of b pt l ks m i x (What.PullBlock pid block) pid e h.run h.tokens h.front refl refl in
     let d = source_leaves b pt l m (ks m) pid MessageKind.PullBlock h.run (h.nodes m h.within) t.moved refl refl in
@@ -246,7 +247,7 @@ kernel_row b pt l ks m i x (What.Memory pid block bytes) e h num sent =
     let c = destination_comes b pt l m (ks m) pid MessageKind.Memory h.run (h.nodes m h.within) t.moved refl refl in
     let wanted = subst (λ (v : Option Arrival). Wants v (Block block)) (ap (λ (n : ℕ). incoming_of ((ks n).records pid)) (home_is b pt l ks m i x h num) ∙ ap incoming_of c.is) t.carries.2 in
     let same = same_process (l.processes pid) t.process c.stands.process t.there c.stands.there in
-    (incoming_is (ks m) pid c.arrival (λ (a : Arrival). IsNextPiece a w) c.is (next_block c.stands.process t.process c.arrival w block c.stands.whole same c.stands.pieces wanted t.carries.0 t.carries.1.1), sent)
+    (incoming_is (ks m) pid c.arrival (λ (a : Arrival). IsNextPiece a w) c.is (next_block c.stands.process t.process (l.notes pid) c.arrival w block c.stands.whole same c.stands.pieces wanted t.carries.0 t.carries.1.1), sent)
 kernel_row b pt l ks m i x (What.AllTaken pid) e h num sent =
     let t = token_of b pt l ks m i x (What.AllTaken pid) pid e h.run h.tokens h.front refl refl in
     let d = source_leaves b pt l m (ks m) pid MessageKind.AllTaken h.run (h.nodes m h.within) t.moved refl refl in
@@ -256,7 +257,7 @@ kernel_row b pt l ks m i x (What.Restart pid) e h num sent =
     let t = token_of b pt l ks m i x w pid e h.run h.tokens h.front refl refl in
     let c = destination_comes b pt l m (ks m) pid MessageKind.Restart h.run (h.nodes m h.within) t.moved refl refl in
     let wanted = subst (λ (v : Option Arrival). Wants v Nothing) (ap (λ (n : ℕ). incoming_of ((ks n).records pid)) (home_is b pt l ks m i x h num) ∙ ap incoming_of c.is) t.carries.1 in
-    incoming_is (ks m) pid c.arrival MayRestart c.is (all_come c.stands.process c.arrival c.stands.whole c.stands.pieces wanted)
+    incoming_is (ks m) pid c.arrival MayRestart c.is (all_come c.stands.process (l.notes pid) c.arrival c.stands.whole c.stands.pieces wanted)
 kernel_row b pt l ks m i x (What.Migrate machine_) e h num sent = absurd (false≢true (sym (ap (λ (c : Bool). not (c || is_server x.to.pid) && true) num) ∙ sort_of b pt l ks m i x (What.Migrate machine_) e h))
 kernel_row b pt l ks m i x (What.Update about) e h num sent = absurd (false≢true (sym (ap (λ (c : Bool). not c && true) num) ∙ sort_of b pt l ks m i x (What.Update about) e h))
 kernel_row b pt l ks m i x any_ e h num sent = absurd (false≢true (sort_of b pt l ks m i x any_ e h))

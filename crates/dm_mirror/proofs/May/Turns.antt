@@ -22,7 +22,7 @@ handles b pt l m k i x p run made counts mirrors h sent lawful f = record {
       let board_ : pid_eq p.to switchboard ≡ false = ap (λ (q : Pid). pid_eq q switchboard) (sym f.to) ∙ board in
       let other_ : pid_eq p.to manager ≡ false = ap (λ (q : Pid). pid_eq q manager) (sym f.to) ∙ other in
       let server : is_server p.to ≡ false = ap (λ (c : Bool). c || pid_eq p.to manager) board_ ∙ other_ in
-      subst (λ (q : Pid). FitsKnown k x (k.records q)) (sym f.to) (for_process b pt l m k i x p mirrors h sent f num_ other_ server);
+      subst (λ (q : Pid). FitsKnown k x (k.records q)) (sym f.to) (for_process b pt l m k i x p mirrors h counts sent f num_ other_ server);
 }
 
 -- or a kernel's own
