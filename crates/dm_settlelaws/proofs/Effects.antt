@@ -1,16 +1,17 @@
 -- What each line does to inboxes, and to what was routed and not taken.
 use Rattle.dm_settlelaws.proofs.Names.{◌≡◌, ℕ, ◌+◌, ◌<◌, ◌≤◌, ◌==◌, ◌&&◌, Bool, true, false, not, filter, List, [], ◌∷◌, ◌++◌, drop, refl, ap, ◌∙◌, inl, inr, arith, ⊤, if◌then◌else◌, Option, None, Some, cases_Bool, eqb_tells, nat_tests}
-use Rattle.dm_settlelaws.proofs.Names.{Pid, MsgId, MessageKind, Label, Step, Line, Stage, sum_below, at_machine, at_pair, without_front, untaken, About, NothingElse, Pair, Told, View, asks_on, dropped_for, follows_up, forwarded_for}
+use Rattle.dm_settlelaws.proofs.Names.{Pid, MsgId, MessageKind, Label, Step, Line, Stage, sum_below, at_machine, at_pair, without_front, untaken, About, NothingElse, Target, Pair, Told, View, asks_on, dropped_for, follows_up, forwarded_for}
 use Rattle.dm_settlelaws.proofs.Names.{handled, held_for, kills, queued_for, receiver_of, served_told, view_after, without_first, pair_same, touches, weight, weight_of, weight_to, at_machine_at}
 use Rattle.dm_rule.specs.View as view
 use Rattle.dm_settlelaws.proofs.Weights.{first_weight, front_taken, front_weight, spike, spike_here, spike_off, sum_le, sum_moves, weight-append}
 
--- what a line does to the acting machine's inbox: nothing, its front goes, if it is this message, or whatever it is, or it goes and
--- what was held for a process comes before the others
+-- what a line does to the acting machine's inbox: nothing, its front goes, if it is this message, or whatever it is, or whatever it
+-- is unless it has gone already, or it goes and what was held for a process comes before the others
 pub data Effect : Type 0 where
   Stays : Effect
   Front : (id : MsgId) → Effect
   First : Effect
+  Sets : Effect
   Returns : (process : Pid) → Effect
 
 abbrev pub label_effect : Label → Effect
@@ -20,9 +21,11 @@ label_effect (Label.Gone id) = Front id
 label_effect (Label.Took id) = Front id
 label_effect (Label.Created id p) = Front id
 label_effect (Label.NoSpace id a b) = Front id
+label_effect (Label.Asked id) = Front id
 label_effect _ = Stays
 
 abbrev pub stage_effect : Pid → Stage → Effect
+stage_effect p Stage.Frozen = Sets
 stage_effect p Stage.Asked = Stays
 stage_effect p Stage.Left = Stays
 stage_effect p Stage.Restarted = Returns p
@@ -52,10 +55,16 @@ comes_in l = false
 abbrev first_gone : View → ℕ → List MsgId
 first_gone v = at_machine v.inbox v.acting (without_first (v.inbox v.acting))
 
+-- where the group has said already that a process is asked to move, the front has gone
+abbrev pub sets_inbox : View → About → ℕ → List MsgId
+sets_inbox v (Target m) = v.inbox
+sets_inbox v a = first_gone v
+
 abbrev pub inbox_by : View → Effect → ℕ → List MsgId
 inbox_by v Stays = v.inbox
 inbox_by v (Front id) = at_machine v.inbox v.acting (without_front id (v.inbox v.acting))
 inbox_by v First = first_gone v
+inbox_by v Sets = sets_inbox v v.topic
 inbox_by v (Returns p) = at_machine (first_gone v) v.acting (v.held v.acting p ++ first_gone v v.acting)
 
 queued_inbox : (v : View) (id : MsgId) (o : Option Pid) → (queued_for v id o).inbox ≡ v.inbox
@@ -101,8 +110,12 @@ label_inbox v (Label.Dropped id) = dropped_inbox (handled v id) id (receiver_of 
 label_inbox v (Label.Served id) = served_inbox (handled v id) (v.told id)
 label_inbox v _ = refl
 
+sets_off_inbox : (v : View) (p : Pid) (a : About) → (view.sets_off v p a).inbox ≡ sets_inbox v a
+sets_off_inbox v p (Target m) = refl
+sets_off_inbox v p _ = refl
+
 stage_inbox : (v : View) (p : Pid) (s : Stage) → (view.after_stage v p s).inbox ≡ inbox_by v (stage_effect p s)
-stage_inbox v p Stage.Frozen = refl
+stage_inbox v p Stage.Frozen = sets_off_inbox v p v.topic
 stage_inbox v p _ = refl
 
 head_inbox : (v : View) (d : Step) → (view.after_head v d).inbox ≡ v.inbox
@@ -147,12 +160,20 @@ set_weight f inbox a ys x y m h = elim (eqb_tells a m) [
       omega (arith, same, p)
 ]
 
+first_less : (f : MsgId → ℕ) (v : View) (m : ℕ) → weight f (first_gone v m) ≤ weight f (v.inbox m) + spike v.acting 0 m
+first_less f v m = let h = set_weight f v.inbox v.acting (without_first (v.inbox v.acting)) 0 0 m (let g = first_weight f (v.inbox v.acting) in omega (arith, g)) in omega (arith, h)
+
+sets_less : (f : MsgId → ℕ) (v : View) (a : About) (m : ℕ) → weight f (sets_inbox v a m) ≤ weight f (v.inbox m) + spike v.acting 0 m
+sets_less f v (Target k) m = omega arith
+sets_less f v _ m = first_less f v m
+
 -- an inbox gains no more than what comes back
 pub effect_weight : (f : MsgId → ℕ) (v : View) (e : Effect) (m : ℕ) → weight f (inbox_by v e m) ≤ weight f (v.inbox m) + spike v.acting (weight f (back_in v e)) m
 effect_weight f v Stays m = omega arith
 effect_weight f v (Front id) m =
     let h = set_weight f v.inbox v.acting (without_front id (v.inbox v.acting)) 0 0 m (let g = front_weight f id (v.inbox v.acting) in omega (arith, g)) in omega (arith, h)
-effect_weight f v First m = let h = set_weight f v.inbox v.acting (without_first (v.inbox v.acting)) 0 0 m (let g = first_weight f (v.inbox v.acting) in omega (arith, g)) in omega (arith, h)
+effect_weight f v First m = first_less f v m
+effect_weight f v Sets m = sets_less f v v.topic m
 effect_weight f v (Returns p) m =
     let ys = v.held v.acting p in
     let first = first_gone v in
@@ -162,20 +183,27 @@ effect_weight f v (Returns p) m =
     let b = set_weight f first v.acting (ys ++ first v.acting) 0 (weight f ys) m (omega (arith, all)) in
     omega (arith, a, b)
 
+first_loses : (f : MsgId → ℕ) (v : View) (i : MsgId) (is : List MsgId) (m : ℕ) → v.inbox v.acting ≡ i ∷ is → weight f (first_gone v m) + spike v.acting (f i) m ≤ weight f (v.inbox m) + spike v.acting 0 m
+first_loses f v i is m front =
+    let all : weight f (v.inbox v.acting) ≡ weight f (i ∷ is) = ap (weight f) front in
+    let less : weight f (without_first (v.inbox v.acting)) ≡ weight f is = ap (λ (xs : List MsgId). weight f (without_first xs)) front in
+    set_weight f v.inbox v.acting (without_first (v.inbox v.acting)) (f i) 0 m (omega (arith, all, less))
+
 -- and where the front goes it loses that
-pub effect_takes : (f : MsgId → ℕ) (v : View) (e : Effect) (i : MsgId) (is : List MsgId) (m : ℕ) → v.inbox v.acting ≡ i ∷ is → takes_front i e
+pub effect_takes : (f : MsgId → ℕ) (v : View) (e : Effect) (i : MsgId) (is : List MsgId) (m : ℕ) → v.inbox v.acting ≡ i ∷ is → v.topic ≡ NothingElse → takes_front i e
     → weight f (inbox_by v e m) + spike v.acting (f i) m ≤ weight f (v.inbox m) + spike v.acting (weight f (back_in v e)) m
-effect_takes f v Stays i is m front takes = absurd takes
-effect_takes f v (Front id) i is m front takes =
+effect_takes f v Stays i is m front topic takes = absurd takes
+effect_takes f v (Front id) i is m front topic takes =
     let all : weight f (v.inbox v.acting) ≡ weight f (i ∷ is) = ap (weight f) front in
     let less : weight f (without_front id (v.inbox v.acting)) ≡ weight f (without_front i (i ∷ is)) = ap (λ (j : MsgId). weight f (without_front j (v.inbox v.acting))) takes ∙ ap (λ (xs : List MsgId). weight f (without_front i xs)) front in
     let g = front_taken f i is in
     set_weight f v.inbox v.acting (without_front id (v.inbox v.acting)) (f i) 0 m (omega (arith, all, less, g))
-effect_takes f v First i is m front takes =
-    let all : weight f (v.inbox v.acting) ≡ weight f (i ∷ is) = ap (weight f) front in
-    let less : weight f (without_first (v.inbox v.acting)) ≡ weight f is = ap (λ (xs : List MsgId). weight f (without_first xs)) front in
-    set_weight f v.inbox v.acting (without_first (v.inbox v.acting)) (f i) 0 m (omega (arith, all, less))
-effect_takes f v (Returns p) i is m front takes =
+effect_takes f v First i is m front topic takes = first_loses f v i is m front
+effect_takes f v Sets i is m front topic takes =
+    let same : weight f (sets_inbox v v.topic m) ≡ weight f (first_gone v m) = ap (λ (a : About). weight f (sets_inbox v a m)) topic in
+    let h = first_loses f v i is m front in
+    omega (arith, same, h)
+effect_takes f v (Returns p) i is m front topic takes =
     let ys = v.held v.acting p in
     let first = first_gone v in
     let all : weight f (v.inbox v.acting) ≡ weight f (i ∷ is) = ap (weight f) front in
@@ -229,18 +257,18 @@ line_weight f n v l e m =
     omega (arith, box, h, s)
 
 -- and loses the front that goes
-pub line_takes_to : (f : MsgId → ℕ) (n : ℕ) (v : View) (l : Line) (i : MsgId) (is : List MsgId) → comes_in l ≡ false → v.inbox v.acting ≡ i ∷ is → takes_front i (effect l) → (m : ℕ)
+pub line_takes_to : (f : MsgId → ℕ) (n : ℕ) (v : View) (l : Line) (i : MsgId) (is : List MsgId) → comes_in l ≡ false → v.inbox v.acting ≡ i ∷ is → v.topic ≡ NothingElse → takes_front i (effect l) → (m : ℕ)
     → weight_to f n (view_after v l) m + spike v.acting (f i) m ≤ weight_to f n v m + spike v.acting (weight f (back_in v (effect l))) m
-line_takes_to f n v l i is e front takes m =
+line_takes_to f n v l i is e front topic takes m =
     let box : weight f ((view_after v l).inbox m) ≡ weight f (inbox_by v (effect l) m) = ap (λ (g : ℕ → List MsgId). weight f (g m)) (line_inbox v l e) in
-    let k = effect_takes f v (effect l) i is m front takes in
+    let k = effect_takes f v (effect l) i is m front topic takes in
     let s = sum_untaken f n v (view_after v l) m (line_untaken v l e) in
     omega (arith, box, k, s)
 
-pub line_takes : (f : MsgId → ℕ) (n : ℕ) (v : View) (l : Line) (i : MsgId) (is : List MsgId) → comes_in l ≡ false → v.inbox v.acting ≡ i ∷ is → takes_front i (effect l) → v.acting < n
+pub line_takes : (f : MsgId → ℕ) (n : ℕ) (v : View) (l : Line) (i : MsgId) (is : List MsgId) → comes_in l ≡ false → v.inbox v.acting ≡ i ∷ is → v.topic ≡ NothingElse → takes_front i (effect l) → v.acting < n
     → weight_of f n (view_after v l) + f i ≤ weight_of f n v + weight f (back_in v (effect l))
-line_takes f n v l i is e front takes small =
-    sum_moves (weight_to f n v) (weight_to f n (view_after v l)) n v.acting (f i) v.acting (weight f (back_in v (effect l))) small (λ m h. line_takes_to f n v l i is e front takes m)
+line_takes f n v l i is e front topic takes small =
+    sum_moves (weight_to f n v) (weight_to f n (view_after v l)) n v.acting (f i) v.acting (weight f (back_in v (effect l))) small (λ m h. line_takes_to f n v l i is e front topic takes m)
 
 -- a line that brings nothing back
 no_spike : (k m : ℕ) → spike k 0 m ≡ 0

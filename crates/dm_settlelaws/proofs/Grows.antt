@@ -1,7 +1,7 @@
 -- What was routed on each pair only grows, and a route makes one pair longer.
 use Rattle.dm_settlelaws.proofs.Names.{◌≡◌, ℕ, ◌+◌, ◌<◌, ◌≤◌, ◌==◌, ◌&&◌, ◌||◌, Bool, true, false, List, [], ◌∷◌, ◌++◌, length, length-append, refl, ap, ◌∙◌, sym, subst, inl, inr, arith, ⊤, if◌then◌else◌, Some, cases_Bool, false≢true}
 use Rattle.dm_settlelaws.proofs.Names.{nat_tests, Pid, MsgId, MessageKind, plain_kind, Line, Load, at_pair, Receiver, Part, Says, Routes, Again, Owns, Transmits, Spelled, goes_out, packet_line, puts, spelled, Point, after, Pair, View}
-use Rattle.dm_settlelaws.proofs.Names.{own_id, routed_on, view_after, hushed, is_put, set_is, set_other, set_same, Onward, bind-is, one_view, onward, pair_same, says_view, touches, transmits_view, two_views, weight_of}
+use Rattle.dm_settlelaws.proofs.Names.{own_id, routed_on, seen, OneKernel, hushed, is_put, set_is, set_other, set_same, Onward, bind-is, one_view, onward, pair_same, says_view, touches, transmits_view, two_views, weight_of}
 use Rattle.dm_settlelaws.proofs.Effects.{Effect, Returns, back_in, calm_weight, comes_in, effect}
 use Rattle.dm_settlelaws.proofs.Falls.Handles.{AllCalm, IsCalm, is_back}
 use Rattle.dm_settlelaws.proofs.Rests.RestsPairs.{repeated}
@@ -84,7 +84,7 @@ puts_by pt next b id k q false true is =
     let p = packet_line pt.view a b (Load.Data n) in
     let first = route_grows f a b id in
     let second = packet_grows g a b (Load.Data n) in
-    subst (λ (v : View). Routed f v.pair) (sym (two_views pt next (Line.Put a b id k q) p is))
+    subst (λ (v : View). Routed f v.pair) (sym (two_views pt next (Line.Put a b id k q) p tt tt is))
     (record { grows = grows_on f g (at_pair g a b (repeated (Load.Data n) (g a b))) first second; longer = longer_first f g (at_pair g a b (repeated (Load.Data n) (g a b))) (route_longer f a b id) second })
 
 puts_lead : (pt next : Point) (b : ℕ) (id : MsgId) (k : MessageKind) (q : Pid) (ls : List Line) → Some (puts pt.view b id k q) ≡ Some ls → after pt ls ≡ Some next → Routed pt.view.pair next.view.pair
@@ -173,8 +173,8 @@ pub no_back : (v : View) (e : Effect) → is_back e ≡ false → back_in v e �
 no_back v (Returns p) h = absurd (false≢true (sym h))
 no_back v _ h = refl
 
-lowers_line : (v : View) (l : Line) → touches l ≡ false → is_back (effect l) ≡ false → Lowers v (view_after v l)
-lowers_line v l touch back =
+lowers_line : (s : OneKernel) (v : View) (l : Line) → touches l ≡ false → is_back (effect l) ≡ false → Lowers v (seen s v l)
+lowers_line s v l touch back =
     let none = touches_none l touch in
     record { weight_ = λ f n. calm_weight f n v l none.0 (no_back v (effect l) back); told = (hushed v l none.1).told; pair = pair_same v l touch }
 
@@ -187,7 +187,7 @@ parts_lower [] pt w calm none e =
     subst (λ (x : Spelled). Lowers pt.view x.point.view) f (record { weight_ = λ f n. omega arith; told = refl; pair = refl })
 parts_lower (Says l ∷ ps) pt w calm none e =
     let o = onward pt (Says l) ps w e in
-    let first : Lowers pt.view o.next.view = subst (Lowers pt.view) (sym (says_view pt l ps w o)) (lowers_line pt.view l calm.0.0 calm.0.1) in
+    let first : Lowers pt.view o.next.view = subst (Lowers pt.view) (sym (says_view pt l ps w o)) (lowers_line pt.kernel pt.view l calm.0.0 calm.0.1) in
     subst (λ (q : Point). Lowers pt.view q.view) o.end (lowers_on pt.view o.next.view o.rest.point.view first (parts_lower ps o.next o.rest calm.1 none o.on))
 parts_lower (Transmits a b l ∷ ps) pt w calm none e = absurd calm.0
 parts_lower _ pt w calm none e = absurd (false≢true (sym none))

@@ -149,7 +149,7 @@ puts_by n pt next b id k q false true home is =
     let a = pt.view.acting in
     let put = Line.Put a b id k q in
     let packet = packet_line pt.view a b (Load.Data (length (pt.view.pair a b).ids)) in
-    subst (λ (v : View). Puts n pt.view v b id k q) (sym (two_views pt next put packet is))
+    subst (λ (v : View). Puts n pt.view v b id k q) (sym (two_views pt next put packet tt tt is))
     (put_packet n pt.view (view_after pt.view put) b id k q a b (length (pt.view.pair a b).wire) (Load.Data (length (pt.view.pair a b).ids)) (put_alone n pt.view b id k q home))
 
 pub puts_lead : (n : ℕ) (pt next : Point) (b : ℕ) (id : MsgId) (k : MessageKind) (q : Pid) (ls : List Line) → Home pt.view.pair → Some (puts pt.view b id k q) ≡ Some ls → after pt ls ≡ Some next → Puts n pt.view next.view b id k q

@@ -1,8 +1,8 @@
 -- A packet that was never delivered comes: less is left for the wires, and no more of anything else.
 use Rattle.dm_settlelaws.proofs.Names.{◌≡◌, ◌≢◌, ℕ, zero, suc, ◌+◌, ◌-◌, ◌<◌, ◌≤◌, ◌==◌, Bool, true, false, List, [], ◌∷◌, ◌++◌, drop, length, nat_lt, refl, ap, ◌∙◌, sym, subst, inl, inr, arith, ⊤, if◌then◌else◌, slice_get, slice_set}
-use Rattle.dm_settlelaws.proofs.Names.{Option, None, Some, eqb_tells, nat_tests, MsgId, Boot, Step, Line, Load, sum_below, at_machine, at_pair, first_undelivered, undelivered, Leads, Part, Says, Routes, Again, Owns, Transmits, Spelled}
-use Rattle.dm_settlelaws.proofs.Names.{packet_line, spelled, pair_window, Point, first_point, moved, arrives, comes, group_of, kept_from, less, let_go, more, numbers_from, repeats, taking_parts, takes_on, untaken, Pair, SentLoad, View}
-use Rattle.dm_settlelaws.proofs.Names.{gone_after, marked, oldest, taken_id, view_after, IsNet, IsNetLine, arrives_net, group_is, hushed, pairs_stand_always, onward, says_view, taken_pair, transmits_view, IsLess, Packets, left, load_left}
+use Rattle.dm_settlelaws.proofs.Names.{Option, None, Some, eqb_tells, nat_tests, MsgId, Boot, Step, Line, Load, sum_below, at_machine, at_pair, first_undelivered, undelivered, Leads, Part, Says, Transmits, Spelled, packet_line, spelled}
+use Rattle.dm_settlelaws.proofs.Names.{pair_window, Point, first_point, moved, arrives, comes, group_of, kept_from, less, let_go, more, numbers_from, repeats, taking_parts, takes_on, untaken, Pair, SentLoad, View, gone_after, marked}
+use Rattle.dm_settlelaws.proofs.Names.{oldest, taken_id, view_after, seen, OneKernel, IsNet, IsNetLine, arrives_net, group_is, hushed, pairs_stand_always, onward, says_view, taken_pair, transmits_view, IsLess, Packets, left, load_left}
 use Rattle.dm_settlelaws.proofs.Names.{one_each, one_let_go, pair_left, weight, weight_of, weight_to, wire_left, less-left}
 use Rattle.dm_rule.specs.View as view
 use Rattle.dm_settlelaws.proofs.Falls.Delivers.{parts_ids, set_ids}
@@ -216,24 +216,24 @@ abbrev AllTakeIn : ℕ → List Part → Type 0
 AllTakeIn n [] = ⊤
 AllTakeIn n (p ∷ ps) = TakesIn n p × AllTakeIn n ps
 
-line_keeps : (n : ℕ) (v : View) (l : Line) → IsNetLine l → TakesIn n (Says l) → Keeps n v (view_after v l)
-line_keeps n v (Line.Taken a b k) net small = record {
+line_keeps : (n : ℕ) (s : OneKernel) (v : View) (l : Line) → IsNetLine l → TakesIn n (Says l) → Keeps n v (seen s v l)
+line_keeps n s v (Line.Taken a b k) net small = record {
   weight_ = λ f m. taken_to f n v a b k small m;
   told = (hushed v (Line.Taken a b k) refl).told;
   known = taken_known (view.with_pair v a b (took k (v.pair a b))) b (oldest (v.pair a b));
 }
-line_keeps n v (Line.Old a b k) net small = keeps_all n v
-line_keeps n v (Line.Early a b k) net small = record { weight_ = λ f m. calm_to f n v (Line.Early a b k) refl refl m; told = refl; known = refl }
-line_keeps n v (Line.Acked a b k) net small = record { weight_ = λ f m. calm_to f n v (Line.Acked a b k) refl refl m; told = refl; known = refl }
-line_keeps n v Line.Nothing net small = keeps_all n v
-line_keeps n v (Line.Resent m k) net small = keeps_all n v
-line_keeps n v l net small = absurd net
+line_keeps n s v (Line.Old a b k) net small = keeps_all n v
+line_keeps n s v (Line.Early a b k) net small = record { weight_ = λ f m. calm_to f n v (Line.Early a b k) refl refl m; told = refl; known = refl }
+line_keeps n s v (Line.Acked a b k) net small = record { weight_ = λ f m. calm_to f n v (Line.Acked a b k) refl refl m; told = refl; known = refl }
+line_keeps n s v Line.Nothing net small = keeps_all n v
+line_keeps n s v (Line.Resent m k) net small = keeps_all n v
+line_keeps n s v l net small = absurd net
 
 parts_keep : (n : ℕ) (ps : List Part) (pt : Point) (w : Spelled) → IsNet ps → AllTakeIn n ps → spelled pt ps ≡ Some w → Keeps n pt.view w.point.view
 parts_keep n [] pt w net small e = let f : record { lines = []; point = pt } ≡ w = cc in subst (λ (x : Spelled). Keeps n pt.view x.point.view) f (keeps_all n pt.view)
 parts_keep n (Says l ∷ ps) pt w net small e =
     let o = onward pt (Says l) ps w e in
-    let first : Keeps n pt.view o.next.view = subst (Keeps n pt.view) (sym (says_view pt l ps w o)) (line_keeps n pt.view l net.0 small.0) in
+    let first : Keeps n pt.view o.next.view = subst (Keeps n pt.view) (sym (says_view pt l ps w o)) (line_keeps n pt.kernel pt.view l net.0 small.0) in
     subst (λ (q : Point). Keeps n pt.view q.view) o.end (keeps_on n pt.view o.next.view o.rest.point.view first (parts_keep n ps o.next o.rest net.1 small.1 o.on))
 parts_keep n (Transmits a b l ∷ ps) pt w net small e =
     let o = onward pt (Transmits a b l) ps w e in

@@ -3,12 +3,12 @@ use Rattle.dm_settlelaws.proofs.Names.{◌≡◌, ℕ, ◌+◌, ◌/◌, ◌==�
 use Rattle.dm_settlelaws.proofs.Names.{Stage, plain_kind, PlainMessage, PlainWhat, Boot, BootImage, first_number, switchboard, manager, PlainProcess, answer_id, bind-is, Line, Sender, is_told_back, accepts, chunks_of, ended_told}
 use Rattle.dm_settlelaws.proofs.Names.{forwards_on, here_told, kernel_told, leaves, pieces_of, process_told, sends_on, server_told, takes_block, takes_chunk, to_kernel, Part, Says, Routes, Again, Owns, Transmits, Point, Room, board_took}
 use Rattle.dm_settlelaws.proofs.Names.{comes_to, creation_parts, drop_parts, ended_handles, fits, free_room, handles, has_room, hears, here_handles, kernel_handles, kernel_hears, landing_parts, manager_parts, process_handles, routes, says}
-use Rattle.dm_settlelaws.proofs.Names.{About, Known, Of, Told, target_of, touches, lets_go, told_lets_go}
+use Rattle.dm_settlelaws.proofs.Names.{About, Known, Of, Told, target_of, touches, lets_go, told_lets_go, MoveNote, Outcome, answers_move, leaves_for, tells_asker}
 use Rattle.dm_onekernel.specs.Pieces as pieces
 use Rattle.dm_onekernel.specs.Switchboard as board
 use Rattle.dm_onekernel.specs.Manager as manage
 use Rattle.dm_onekernel.specs.Step as kernel
-use Rattle.dm_settlelaws.proofs.Effects.{Effect, Returns, Stays, effect, takes_front}
+use Rattle.dm_settlelaws.proofs.Effects.{Effect, Returns, effect, takes_front}
 
 -- a line that changes no pair and brings nothing back; a route is no such line
 abbrev pub is_back : Effect → Bool
@@ -24,7 +24,7 @@ abbrev pub AllCalm : List Part → Type 0
 AllCalm [] = ⊤
 AllCalm (p ∷ ps) = IsCalm p × AllCalm ps
 
--- the parts of such a turn; only a restart or a refusal brings messages back, and then no part follows
+-- the parts of such a turn; only a restart or a refusal brings messages back
 pub record Handles (i : MsgId) (told : Option Told) (ps : List Part) : Type 0 where
   pub first : Line
   pub rest : List Part
@@ -32,7 +32,7 @@ pub record Handles (i : MsgId) (told : Option Told) (ps : List Part) : Type 0 wh
   pub takes : takes_front i (effect first)
   pub touches_ : touches first ≡ false
   pub calm : AllCalm rest
-  pub back : is_back (effect first) ≡ true → (rest ≡ []) × (told_lets_go told ≡ true)
+  pub back : is_back (effect first) ≡ true → told_lets_go told ≡ true
 
 abbrev HandlesBy : MsgId → Option Told → Option (List Part) → Type 0
 HandlesBy i told o = (ps : List Part) → o ≡ Some ps → Handles i told ps
@@ -44,10 +44,10 @@ quiet_row i told l rest ps takes touch back calm e =
     record { first = l; rest = rest; is = sym f; takes = takes; touches_ = touch; calm = calm; back = λ g. absurd (false≢true (sym back ∙ g)) }
 
 -- and one that does
-back_row : (i : MsgId) (told : Option Told) (l : Line) (ps : List Part) → takes_front i (effect l) → touches l ≡ false → told_lets_go told ≡ true → Some (Says l ∷ []) ≡ Some ps → Handles i told ps
-back_row i told l ps takes touch lets e =
-    let f : Says l ∷ [] ≡ ps = cc in
-    record { first = l; rest = []; is = sym f; takes = takes; touches_ = touch; calm = tt; back = λ g. (refl, lets) }
+back_row : (i : MsgId) (told : Option Told) (l : Line) (rest ps : List Part) → takes_front i (effect l) → touches l ≡ false → told_lets_go told ≡ true → AllCalm rest → Some (Says l ∷ rest) ≡ Some ps → Handles i told ps
+back_row i told l rest ps takes touch lets calm e =
+    let f : Says l ∷ rest ≡ ps = cc in
+    record { first = l; rest = rest; is = sym f; takes = takes; touches_ = touch; calm = calm; back = λ g. lets }
 
 drops_calm : (ids : List MsgId) → AllCalm (drop_parts ids)
 drops_calm [] = tt
@@ -64,6 +64,10 @@ sends_calm to (i ∷ is) = (tt, sends_calm to is)
 routes_calm : (o : Option PlainMessage) → AllCalm (routes o)
 routes_calm None = tt
 routes_calm (Some m) = (tt, tt)
+
+asker_calm : (o : Option MoveNote) (r : Outcome) → AllCalm (tells_asker o r)
+asker_calm None r = tt
+asker_calm (Some n) r = ((refl, refl), (tt, tt))
 
 if_calm : (c : Bool) (ps qs : List Part) → AllCalm ps → AllCalm qs → AllCalm (if c then ps else qs)
 if_calm true ps qs h k = h
@@ -106,11 +110,15 @@ here_row pt m i told msg x (PlainWhat.Write base bytes) ps e = quiet_row i told 
 here_row pt m i told msg x (PlainWhat.Block bytes) ps e = lands_row i told (pieces.lands msg.to x msg x.status) ps e
 here_row pt m i told msg x PlainWhat.Written ps e = lands_row i told (pieces.lands msg.to x msg x.status) ps e
 here_row pt m i told msg x PlainWhat.Gone ps e = lands_row i told (pieces.lands msg.to x msg x.status) ps e
+here_row pt m i told msg x (PlainWhat.Move machine) ps e =
+    quiet_row i told (Line.Label (Label.Asked i)) _ ps refl refl refl
+    (if_calm (m == machine) (answers_move i Outcome.Done) (leaves_for msg.to machine) ((refl, refl), (tt, tt)) ((refl, refl), ((refl, refl), (tt, tt)))) e
 here_row pt m i told msg x w ps e = cc
 
 ended_row : (i : MsgId) (told : Option Told) (w : PlainWhat) → HandlesBy i told (ended_handles i w)
 ended_row i told (PlainWhat.Read base len) ps e = quiet_row i told (Line.Label (Label.Gone i)) (Routes (answer_id i) ∷ []) ps refl refl refl (tt, tt) e
 ended_row i told (PlainWhat.Write base bytes) ps e = quiet_row i told (Line.Label (Label.Gone i)) (Routes (answer_id i) ∷ []) ps refl refl refl (tt, tt) e
+ended_row i told (PlainWhat.Move machine) ps e = quiet_row i told (Line.Label (Label.Gone i)) (Routes (answer_id i) ∷ []) ps refl refl refl (tt, tt) e
 ended_row i told (PlainWhat.User code channel body links) ps e = quiet_row i told (Line.Label (Label.Dropped i)) [] ps refl refl refl tt e
 ended_row i told PlainWhat.Stop ps e = quiet_row i told (Line.Label (Label.Dropped i)) [] ps refl refl refl tt e
 ended_row i told PlainWhat.Resume ps e = quiet_row i told (Line.Label (Label.Dropped i)) [] ps refl refl refl tt e
@@ -165,13 +173,15 @@ leaves_row i told p ids k ps e = cc
 
 kernel_told_row : (pt : Point) (m : ℕ) (i : MsgId) (t : Told) (p : Pid) (room : Bool × ℕ × ℕ) (x : PlainProcess) (k : MessageKind) → t.kind ≡ k → HandlesBy i (Some t) (kernel_told pt m i p room x k)
 kernel_told_row pt m i t p room x MessageKind.Ask is ps e = accepts_row i (Some t) i.from.home p room.0 room.1 room.2 ps e
-kernel_told_row pt m i t p room x MessageKind.Refuse is ps e = back_row i (Some t) (Line.Stays p) ps tt refl (ap lets_go is) e
+kernel_told_row pt m i t p room x MessageKind.Refuse is ps e =
+    back_row i (Some t) (Line.Stays p) (tells_asker (pt.kernel.notes p) Outcome.Stayed) ps tt refl (ap lets_go is) (asker_calm (pt.kernel.notes p) Outcome.Stayed) e
 kernel_told_row pt m i t p room x MessageKind.PullState is ps e = quiet_row i (Some t) (Line.Proto i) (to_kernel MessageKind.State i.from.home ∷ []) ps refl refl refl (tt, tt) e
 kernel_told_row pt m i t p room x MessageKind.State is ps e = chunk_row i (Some t) p (pt.view.asked p == chunks_of x) ps e
 kernel_told_row pt m i t p room x MessageKind.PullBlock is ps e = quiet_row i (Some t) (Line.Proto i) (to_kernel MessageKind.Memory i.from.home ∷ []) ps refl refl refl (tt, tt) e
 kernel_told_row pt m i t p room x MessageKind.Memory is ps e = block_row i (Some t) p (pt.view.asked p == pieces_of x) ps e
 kernel_told_row pt m i t p room x MessageKind.AllTaken is ps e = leaves_row i (Some t) p (pt.view.queue m p ++ pt.view.held m p) (pt.view.known m p) ps e
-kernel_told_row pt m i t p room x MessageKind.Restart is ps e = back_row i (Some t) (Line.Migration Stage.Restarted p) ps tt refl (ap lets_go is) e
+kernel_told_row pt m i t p room x MessageKind.Restart is ps e =
+    back_row i (Some t) (Line.Migration Stage.Restarted p) (tells_asker (pt.kernel.notes p) Outcome.Done) ps tt refl (ap lets_go is) (asker_calm (pt.kernel.notes p) Outcome.Done) e
 kernel_told_row pt m i t p room x k is ps e = cc
 
 kernel_hears_row : (b : Boot) (pt : Point) (m : ℕ) (i : MsgId) (t : Told) (a : About) → HandlesBy i (Some t) (kernel_hears b pt m i t.kind a)

@@ -1,7 +1,7 @@
 -- The turn of a machine that has mail leaves less.
 use Rattle.dm_settlelaws.proofs.Names.{◌≡◌, ℕ, suc, ◌+◌, ◌-◌, ◌<◌, ◌≤◌, Bool, true, false, List, [], ◌∷◌, ◌++◌, drop, length, length-drop, nat_lt, refl, ap, ◌∙◌, sym, subst, inl, inr, arith, if◌then◌else◌, Option, None, Some, cases_Bool}
 use Rattle.dm_settlelaws.proofs.Names.{false≢true, eqb_tells, leb_tells, Pid, MsgId, MessageKind, Boot, IsValid, id_eq-same, Step, Line, sum_below, IsKept, Leads, Part, Says, Spelled, spelled, is_between, Point, first_point, moved}
-use Rattle.dm_settlelaws.proofs.Names.{has_mail, group_of, turns, Held, Untaken, times, untaken, Pair, Told, View, view_after, group_is, hushed, pairs_stand_always, onward, pair_same, says_view, touches, run_always, IsOfMove, within}
+use Rattle.dm_settlelaws.proofs.Names.{has_mail, group_of, turns, Held, Untaken, times, untaken, Pair, Told, View, view_after, group_is, hushed, pairs_stand_always, onward, pair_same, says_view, seen, touches, run_always, IsOfMove, within}
 use Rattle.dm_settlelaws.proofs.Names.{routed_always, leads_append, protocol_moves, IsLess, Left, Messages, Numbers, Releases, left, lets_go, numbers_left, one_each, one_let_go, told_lets_go, weight, weight_of}
 use Rattle.dm_settlelaws.proofs.Effects.{Effect, Returns, back_in, effect, line_takes, takes_front}
 use Rattle.dm_settlelaws.proofs.Grows.{Grows, Longer, Lowers, calm_light, grows_on, grows_same, has_route, longer_last, no_back, parts_grow, parts_longer, parts_lower, touches_none}
@@ -117,7 +117,7 @@ record Begins (pt : Point) (m : ℕ) (i : MsgId) (w : Point) : Type 0 where
   first : Line
   rest : List Part
   next : Point
-  view_ : next.view ≡ view_after (behind_head pt m).view first
+  view_ : next.view ≡ seen pt.kernel (behind_head pt m).view first
   takes : takes_front i (effect first)
   touches_ : touches first ≡ false
   calm : AllCalm rest
@@ -137,7 +137,7 @@ begins b pt m i is w front e =
       takes = h.takes;
       touches_ = h.touches_;
       calm = h.calm;
-      back = λ x. (h.back x).1;
+      back = h.back;
       on = (o.rest, o.on, o.end ∙ g.point);
     }
 
@@ -145,7 +145,7 @@ first_takes : (f : MsgId → ℕ) (n : ℕ) (pt : Point) (m : ℕ) (i : MsgId) (
     → weight_of f n h.next.view + f i ≤ weight_of f n pt.view + weight f (back_in (behind_head pt m).view (effect h.first))
 first_takes f n pt m i is w h front small =
     let none = touches_none h.first h.touches_ in
-    let t = line_takes f n (behind_head pt m).view h.first i is none.0 front h.takes small in
+    let t = line_takes f n (behind_head pt m).view h.first i is none.0 front refl h.takes small in
     let v : weight_of f n h.next.view ≡ weight_of f n (view_after (behind_head pt m).view h.first) = ap (weight_of f n) h.view_ in
     omega (arith, t, v)
 

@@ -1,7 +1,7 @@
 -- Whatever was told of was routed from one machine to another.
 use Rattle.dm_settlelaws.proofs.Names.{◌≡◌, ℕ, ◌+◌, ◌≤◌, ◌==◌, ◌&&◌, Bool, true, false, is_some, List, [], ◌∷◌, refl, ap, ◌∙◌, sym, subst, inl, inr, arith, if◌then◌else◌, Option, Some, cases_Bool, false≢true, nat_tests, Pid, MsgId}
-use Rattle.dm_settlelaws.proofs.Names.{MessageKind, id_eq, Boot, id_eq-is, id_eq-same, bind-is, Step, Line, Leads, Point, after, after_line, first_point, times, Pair, Told, View, view_after, hushed, is_put, line_view, set_is, set_other}
-use Rattle.dm_settlelaws.proofs.Names.{times-append, group_after, line_ids}
+use Rattle.dm_settlelaws.proofs.Names.{MessageKind, id_eq, Boot, id_eq-is, id_eq-same, bind-is, Step, Line, Leads, Point, after, after_line, first_point, times, Pair, Told, View, seen, OneKernel, hushed, is_put, line_view, set_is}
+use Rattle.dm_settlelaws.proofs.Names.{set_other, times-append, group_after, line_ids}
 use Rattle.dm_rule.specs.View as view
 
 pub record WasRouted (v : View) (i : MsgId) : Type 0 where
@@ -12,8 +12,8 @@ pub record WasRouted (v : View) (i : MsgId) : Type 0 where
 abbrev pub Covers : View → Type 0
 Covers v = (i : MsgId) → is_some (v.told i) ≡ true → WasRouted v i
 
-quiet_covers : (v : View) (l : Line) → is_put l ≡ false → Covers v → Covers (view_after v l)
-quiet_covers v l e h i told =
+quiet_covers : (s : OneKernel) (v : View) (l : Line) → is_put l ≡ false → Covers v → Covers (seen s v l)
+quiet_covers s v l e h i told =
     let same : is_some (v.told i) ≡ true = ap (λ (f : MsgId → Option Told). is_some (f i)) (sym (hushed v l e).told) ∙ told in
     let r = h i same in
     record { from = r.from; to = r.to; is = subst (λ (ids : List MsgId). 1 ≤ times i ids) (sym (line_ids v l e r.from r.to)) r.is }
@@ -51,15 +51,15 @@ put_covers v a b id k q h i told = elim (cases_Bool (id_eq id i)) [
       record { from = r.from; to = r.to; is = omega (arith, longer, is) }
 ]
 
-line_covers : (v : View) (l : Line) → Covers v → Covers (view_after v l)
-line_covers v (Line.Put a b id k q) h = put_covers v a b id k q h
-line_covers v any_ h = quiet_covers v any_ refl h
+line_covers : (s : OneKernel) (v : View) (l : Line) → Covers v → Covers (seen s v l)
+line_covers s v (Line.Put a b id k q) h = put_covers v a b id k q h
+line_covers s v any_ h = quiet_covers s v any_ refl h
 
 lines_cover : (ls : List Line) (pt next : Point) → after pt ls ≡ Some next → Covers pt.view → Covers next.view
 lines_cover [] pt next e h = let f : pt ≡ next = cc in subst (λ (q : Point). Covers q.view) f h
 lines_cover (l ∷ ls) pt next e h =
     let (mid, first, rest) = bind-is (after_line pt l) (λ (q : Point). after q ls) next e in
-    lines_cover ls mid next rest (subst Covers (sym (line_view pt mid l first)) (line_covers pt.view l h))
+    lines_cover ls mid next rest (subst Covers (sym (line_view pt mid l first)) (line_covers pt.kernel pt.view l h))
 
 covers_on : (b : Boot) (es : List Step) (pt end : Point) → Leads b pt es end → Covers pt.view → Covers end.view
 covers_on b [] pt end leads h = subst (λ (q : Point). Covers q.view) leads h

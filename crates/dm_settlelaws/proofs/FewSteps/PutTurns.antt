@@ -2,8 +2,8 @@
 use Rattle.dm_settlelaws.proofs.Names.{◌≡◌, ℕ, suc, ◌+◌, ◌-◌, ◌*◌, ◌<◌, ◌≤◌, ◌==◌, Bool, true, false, List, [], ◌∷◌, refl, ap, ◌∙◌, sym, subst, inl, inr, arith, suc-mul, mul-one, if◌then◌else◌, Option, None, Some, cases_Bool, Pid, pid_of}
 use Rattle.dm_settlelaws.proofs.Names.{MsgId, MessageKind, id_eq, id_of, PlainMessage, Boot, IsValid, id_eq-is, id_eq-same, bind-is, Step, Line, at_machine, Receiver, is_told_back, to_of, Leads, Part, Says, Again, Owns, Spelled, puts}
 use Rattle.dm_settlelaws.proofs.Names.{spelled, Point, first_point, moved, has_mail, group_of, Inbox, Spot, StandsOutside, StandsRight, standing, times, leads, Told, View, first_told, is_kernels, own_id, view_after, group_is}
-use Rattle.dm_settlelaws.proofs.Names.{stands_once_always, hushed, Pairs-always, pair_home, onward, pair_same, says_view, tells_right_always, found_always, run_always, count, ByHolder, ByOwn, IsNamed, addresses_lead, weight, weight_to}
-use Rattle.dm_settlelaws.proofs.Names.{is_light, says_put}
+use Rattle.dm_settlelaws.proofs.Names.{stands_once_always, hushed, Pairs-always, pair_home, onward, pair_same, says_view, seen, OneKernel, tells_right_always, found_always, run_always, count, ByHolder, ByOwn, IsNamed, addresses_lead}
+use Rattle.dm_settlelaws.proofs.Names.{weight, weight_to, is_light, says_put}
 use Rattle.dm_rule.specs.View as view
 use Rattle.dm_settlelaws.proofs.FewSteps.Distances.{Knows, distance, nearer, within_steps}
 use Rattle.dm_settlelaws.proofs.Effects.{back_in, effect, line_takes_to}
@@ -36,14 +36,14 @@ leads_here b es pt m i t valid way told stands num =
     subst (λ (k : ℕ). leads pt.view t.receiver (pt.kernel.machines - 1) (pt.addresses (Receiver i)).moves k ≡ true) at ((addresses_lead b es pt t.receiver (pt.addresses (Receiver i)) valid way named).led num)
 
 -- the first line: the front goes
-first_carries : (n : ℕ) (v w : View) (m : ℕ) (l : Line) (i : MsgId) (is : List MsgId) → FrontLine i l → v.inbox m ≡ i ∷ is → w ≡ view_after (view.begins v m view.NothingElse) l → Carries n v w m i []
-first_carries n v w m l i is h front at =
+first_carries : (n : ℕ) (s : OneKernel) (v w : View) (m : ℕ) (l : Line) (i : MsgId) (is : List MsgId) → FrontLine i l → v.inbox m ≡ i ∷ is → w ≡ seen s (view.begins v m view.NothingElse) l → Carries n v w m i []
+first_carries n s v w m l i is h front at =
     let start = view.begins v m view.NothingElse in
     let none = touches_none l h.touches_ in
     let told : w.told ≡ v.told = ap (λ (x : View). x.told) at ∙ (hushed start l none.1).told in
     record {
       weight_ = λ f x.
-          let k = line_takes_to f n start l i is none.0 front h.takes x in
+          let k = line_takes_to f n start l i is none.0 front refl h.takes x in
           let z : spike m (weight f (back_in start (effect l))) x ≡ 0 = ap (λ (xs : List MsgId). spike m (weight f xs) x) (no_back start (effect l) h.back) ∙ no_spike m x in
           let s : weight_to f n w x ≡ weight_to f n (view_after start l) x = ap (λ (y : View). weight_to f n y x) at in
           omega (arith, k, z, s);
@@ -128,8 +128,8 @@ stops_falls b pt m i is l ps rest n h small front f are said =
     let start = moved pt (Line.Head (Step.Turn m)) pt.kernel in
     let o = onward start (Says l) [] rest (ap (spelled start) (sym are) ∙ said) in
     let end : record { lines = []; point = o.next } ≡ o.rest = let e = o.on in cc in
-    let at : rest.point.view ≡ view_after start.view l = ap (λ (q : Point). q.view) (sym o.end) ∙ ap (λ (x : Spelled). x.point.view) (sym end) ∙ says_view start l [] rest o in
-    let c = first_carries n pt.view rest.point.view m l i is f front at in
+    let at : rest.point.view ≡ seen start.kernel start.view l = ap (λ (q : Point). q.view) (sym o.end) ∙ ap (λ (x : Spelled). x.point.view) (sym end) ∙ says_view start l [] rest o in
+    let c = first_carries n start.kernel pt.view rest.point.view m l i is f front at in
     let routes : all_routes ps ≡ (if says_put l then 1 else 0) + 0 + 0 = ap all_routes are in
     let zero_ : ◌≡◌ {A = ℕ} (if says_put l then 1 else 0) 0 = ap (λ (c : Bool). if c then 1 else 0) f.put in
     carries_fall n pt.view rest.point.view m i [] (all_routes ps) h c small (omega (arith, routes, zero_))
@@ -145,8 +145,8 @@ goes_falls b es pt m i is t ps rest at moves sender to back valid way h small fr
     let tail = Again i at ∷ (if back then Owns MessageKind.Update sender to ∷ [] else []) in
     let f = forwarded i at in
     let o = onward start (Says (Line.Forwarded i at)) tail rest (ap (spelled start) (sym are) ∙ said) in
-    let first_view : o.next.view ≡ view_after start.view (Line.Forwarded i at) = says_view start (Line.Forwarded i at) tail rest o in
-    let first = first_carries n v o.next.view m (Line.Forwarded i at) i is f front first_view in
+    let first_view : o.next.view ≡ seen start.kernel start.view (Line.Forwarded i at) = says_view start (Line.Forwarded i at) tail rest o in
+    let first = first_carries n start.kernel v o.next.view m (Line.Forwarded i at) i is f front first_view in
     let home : Home o.next.view.pair = subst Home (sym (ap (λ (x : View). x.pair) first_view ∙ pair_same start.view (Line.Forwarded i at) refl)) (λ a. (pair_home v a (Pairs-always b es pt way)).taken) in
     let told_one : o.next.view.told i ≡ Some t = first.kept i t told in
     let again = onward o.next (Again i at) (if back then Owns MessageKind.Update sender to ∷ [] else []) o.rest o.on in

@@ -3,8 +3,7 @@ use Rattle.dm_settlelaws.proofs.Names.{◌≡◌, ℕ, zero, suc, ◌+◌, true,
 use Rattle.dm_settlelaws.proofs.Names.{MsgId, id_of, first_number, manager, switchboard, PlainProcess, Life, Alive, NamedLink, Pending, EndLine, Standing, block_line, each_machine, home_with, list_line, memory_lines, trimmed, or, Addresses}
 use Rattle.dm_settlelaws.proofs.Names.{Child, Name, Slot, Stood, alive_lines, awaits, child_lines, doing_of, each_process, end_lines, first_with, holding_lines, homes_with, inbox_lines, leading, link_lines, name_lines, pending_lines}
 use Rattle.dm_settlelaws.proofs.Names.{process_lines, queue_at, queue_lines, server_lines, slot_line, state_lines, stood, stood_at, stream_lines, Point, untaken, Known, View, AtRest, is_moving, at_rest_always, EndsAtRest, is_at_rest}
-use Rattle.dm_settlelaws.proofs.Names.{stands_here}
-use Rattle.dm_rule.specs.Ends.{standing_of}
+use Rattle.dm_settlelaws.proofs.Names.{stands_here, standing_of}
 
 abbrev Rests : EndLine → Type 0
 Rests l = is_at_rest l ≡ true

@@ -99,7 +99,7 @@ puts_rest pt next b id k q false false e f is paired h =
     subst (λ (v : View). Rest v.pair) (sym (one_view pt next (Line.Put pt.view.acting b id k q) is)) (route_rest pt.view.pair pt.view.acting b id e f paired h)
 puts_rest pt next b id k q false true e f is paired h =
     let p = packet_line pt.view pt.view.acting b (Load.Data (length (pt.view.pair pt.view.acting b).ids)) in
-    subst (λ (v : View). Rest v.pair) (sym (two_views pt next (Line.Put pt.view.acting b id k q) p is)) (out_rest pt.view.pair pt.view.acting b id e f h)
+    subst (λ (v : View). Rest v.pair) (sym (two_views pt next (Line.Put pt.view.acting b id k q) p tt tt is)) (out_rest pt.view.pair pt.view.acting b id e f h)
 
 puts_lead : (pt next : Point) (b : ℕ) (id : MsgId) (k : MessageKind) (q : Pid) (ls : List Line) → Some (puts pt.view b id k q) ≡ Some ls → after pt ls ≡ Some next → Paired pt.view.pair → Rest pt.view.pair → Rest next.view.pair
 puts_lead pt next b id k q ls is leads paired h =
