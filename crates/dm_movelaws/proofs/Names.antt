@@ -86,7 +86,7 @@ pub use Rattle.dm_rule.specs.Addresses.{creates_what}
 pub use Rattle.dm_rule.specs.Ends.{Stood, alive_lines, child_lines, doing_of, each_process, end_lines, first_with, holding_lines, homes_with, inbox_lines, link_lines, name_lines, pending_lines, process_lines, queue_at, queue_lines}
 pub use Rattle.dm_rule.specs.Ends.{server_lines, slot_line, standing_of, state_lines, stood, stood_at, stream_lines}
 pub use Rattle.dm_rule.specs.Migrating.{answers_in, behind_among, holders_numbered, holders_of, slot_holders, slots_from}
-pub use Rattle.dm_rule.specs.Phases.{is_unknown, tells_between}
+pub use Rattle.dm_rule.specs.Phases.{is_unknown}
 pub use Rattle.dm_rule.specs.Rule.{handles, landing_parts}
 pub use Rattle.dm_rulelaws.proofs.Based.Always.{based_always, based_group}
 pub use Rattle.dm_rulelaws.proofs.Based.Groups.{Begins, begins, group_keeps}
@@ -119,9 +119,10 @@ pub use Rattle.dm_rulelaws.proofs.Names.{Stops, WhatFits, about_same, agrees, ai
 pub use Rattle.dm_rulelaws.proofs.Names.{bag_out, bag_ran, bag_receive, bag_refuse, bag_sends, bag_served, bag_took, bag_wait, both_lists, both_times, by_forwards, by_group, by_handles, by_hears, by_migrates, by_net, by_outcome, by_parts}
 pub use Rattle.dm_rulelaws.proofs.Names.{by_round, by_step, calm_phases, came, child_is, destination_expects, dropped_known, due, eq_is, eq_self, first_off, forwarded_back, forwarded_known, front_gone, front_kernels, front_way}
 pub use Rattle.dm_rulelaws.proofs.Names.{goes_between, group_is, grown_none, has_bytes, has_no_queue, has_nothing_held, head_calm, held_known, hidden, homes_are, hushed, is_fixed, is_kill, is_of_memory, is_piece, is_put, is_server}
-pub use Rattle.dm_rulelaws.proofs.Names.{kernels_fresh, kind_eq, label_on, label_topic, labels, left_parts, length-drop, length-take, letters, move_fits, moves_away, not_false, not_kernels, not_true, note-is, numbered_from, one_of}
-pub use Rattle.dm_rulelaws.proofs.Names.{or_first, out_off, outcome_sayable, pair_keeps, part_sane, parts, phased_group, phased_start, pid_eq-swap, piece_fits, proto_acting, proto_known, put_at, put_told_off, queued_known, rejoins}
-pub use Rattle.dm_rulelaws.proofs.Names.{resends_net, rests_here, rooted, sane_line, second, seen_none, served_keeps, sets, source_holds, stands_right, status_awaits, times-append, token_is, told_some, turn_off, under_way, with_label}
+pub use Rattle.dm_rulelaws.proofs.Names.{kernels_fresh, kind_eq, label_on, label_topic, labels, left_parts, length-drop, length-take, letters, machine_of, move_fits, moves_away, not_false, not_kernels, not_true, note-is, numbered_from}
+pub use Rattle.dm_rulelaws.proofs.Names.{one_of, or_first, out_off, outcome_sayable, pair_keeps, part_sane, parts, phased_group, phased_start, pid_eq-swap, piece_fits, proto_acting, proto_known, put_at, put_told_off, queued_known, rejoins}
+pub use Rattle.dm_rulelaws.proofs.Names.{resends_net, rests_here, rooted, sane_line, second, seen_none, served_keeps, sets, source_holds, stands_right, status_awaits, tells_between, times-append, token_is, told_some, turn_off, under_way}
+pub use Rattle.dm_rulelaws.proofs.Names.{with_label}
 pub use Rattle.dm_rulelaws.proofs.Own.Told.{is_place, own_sort}
 pub use Rattle.dm_rulelaws.proofs.Queued.{IsQueued}
 pub use Rattle.dm_rulelaws.proofs.RunLabels.{after_replay, group_replay, labels-append, replay-append}
