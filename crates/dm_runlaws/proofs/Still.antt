@@ -90,7 +90,7 @@ run_still b (g ∷ gs) pt end t left machines todo none (n, w, due, is, said, ke
     }
 
 pub good_in_order : GoodInOrder
-good_in_order b ds gs end left before between after from to n k channel valid fit none good are first second =
+good_in_order b ds gs end left before between after from to n k channel valid fit none unasked good are first second =
     let run =
     run_still b gs (first_point b) end (all_of ds) left refl (record { pairs = All-nil (IsTwo (length b.machines)); machines_ = All-nil _; directives = fit }) none good.run in
-    receives_in_order b run.steps (joined gs) end before between after from to n k channel valid run.still run.leads are first second
+    receives_in_order b run.steps (joined gs) end before between after from to n k channel valid run.still unasked run.leads are first second

@@ -2,6 +2,7 @@
 use Rattle.dm_runlaws.proofs.Names.{◌≡◌, ◌⊎◌, ℕ, ◌+◌, ◌≤◌, ◌<◌, ◌==◌, ◌&&◌, Bool, true, false, not, filter, List, [], ◌∷◌, ◌++◌, length, refl, ap, ◌∙◌, sym, subst, inl, inr, arith, if◌then◌else◌, Option, None, Some, cases_Bool, nat_tests}
 use Rattle.dm_runlaws.proofs.Names.{Pid, MsgId, MessageKind, bind-is, Step, Line, at_pair, Two, or, Point, after, after_line, View, Pair, view_after, after_put, marked, routed_on, gone_after, at_least, oldest, with_pair, is_full, full_pair}
 use Rattle.dm_runlaws.proofs.Names.{worn_in, is_put, pair_same, taken_pair, line_view, one_longer}
+use Rattle.dm_mirror.proofs.Routing.{worn_alike}
 
 -- a pair is set to one with the same value of something
 pub set_keeps : {X : Type 0} (f : Pair → X) (g : ℕ → ℕ → Pair) (a b : ℕ) (p : Pair) (c d : ℕ) → f p ≡ f (g a b) → f (at_pair g a b p c d) ≡ f (g c d)
@@ -107,7 +108,8 @@ lines_count numbers (l ∷ ls) pt q e none h =
     let (next, first, rest) = bind-is (after_line pt l) (λ (x : Point). after x ls) q e in
     let view_is = line_view pt next l first in
     let (here, later) = or_none (full_pair numbers pt.view l) (worn_in numbers (view_after pt.view l) ls) none in
-    lines_count numbers ls next q rest (ap (λ (v : View). worn_in numbers v ls) view_is ∙ later) (subst (Counts numbers) (sym view_is) (line_counts numbers pt.view l here h))
+    let same = worn_alike numbers ls (view_after pt.view l) next.view (λ c d. ap (λ (v : View). ids_on v c d) view_is) in
+    lines_count numbers ls next q rest (same ∙ later) (subst (Counts numbers) (sym view_is) (line_counts numbers pt.view l here h))
 
 or_some : (x y : Option Two) (p : Two) → or x y ≡ Some p → (x ≡ Some p) ⊎ (y ≡ Some p)
 or_some None y p e = inr e
@@ -134,11 +136,12 @@ lines_wear numbers [] pt q p e worn = cc
 lines_wear numbers (l ∷ ls) pt q p e worn =
     let (next, first, rest) = bind-is (after_line pt l) (λ (x : Point). after x ls) q e in
     let view_is = line_view pt next l first in
+    let alike = worn_alike numbers ls (view_after pt.view l) next.view (λ c d. ap (λ (v : View). ids_on v c d) view_is) in
     elim (or_some (full_pair numbers pt.view l) (worn_in numbers (view_after pt.view l) ls) p worn) [
       | inl here ↦
           let full = line_wears numbers pt.view l p here in
           let same : length (ids_on next.view p.from p.to) ≡ length (ids_on (view_after pt.view l) p.from p.to) = ap (λ (v : View). length (ids_on v p.from p.to)) view_is in
           let more = lines_grow ls next q p.from p.to rest in
           omega (arith, full, same, more)
-      | inr later ↦ lines_wear numbers ls next q p rest (ap (λ (v : View). worn_in numbers v ls) view_is ∙ later)
+      | inr later ↦ lines_wear numbers ls next q p rest (alike ∙ later)
     ]
