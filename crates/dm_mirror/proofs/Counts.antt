@@ -14,7 +14,7 @@ use Rattle.dm_mirror.proofs.Counts.Pairs.{within_group, OwnFew, PairsWithin, own
 use Rattle.dm_mirror.proofs.Counts.Waiting.{Routed, routed_group, routed_start, waiting_few, first_count, moves_start, own_start, pairs_start, under_start, MovesFew, moves_put, moves_restart, moves_still}
 use Rattle.dm_mirror.proofs.Machines.{few_machines, machines_group, some_machine}
 use Rattle.dm_mirror.proofs.Raises.{sent_of}
-use Rattle.dm_mirror.proofs.RaisesMade.{answered_raises}
+use Rattle.dm_mirror.proofs.RaisesMade.{move_answered_raises}
 use Rattle.dm_mirror.proofs.Totals.{Grows, grows_on, grows_same, line_grows, total, total_grows, total_most, total_adds}
 
 -- what the counts of a run are below
@@ -88,7 +88,7 @@ answered (Some note) pt w e =
     let k = says_next pt l (Routes (answer_id note.id) ∷ []) w e in
     let r = routes_next (moved pt l k.s) (answer_id note.id) [] k.rest k.more in
     let a = r.after_put in
-    let within = (answered_raises pt.kernel k.s note.id Outcome.Done k.is).within in
+    let within = (move_answered_raises pt.kernel k.s note.id Outcome.Done k.is).within in
     subst (Answered pt) (said r.next r.rest r.on ∙ r.end ∙ k.point)
     (record { under = λ n u. subst (Under n) (sym a.kernel) (under_within n 0 n pt.kernel k.s (omega arith) within u); grows = a.grows; moves = a.still.moves; known = a.known })
 

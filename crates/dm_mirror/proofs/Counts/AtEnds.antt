@@ -8,7 +8,7 @@ use Rattle.dm_onekernel.specs.Kernel.{MoveNote}
 use Rattle.dm_rule.specs.Migrating.{leaves_for, tells_asker}
 use Rattle.dm_rule.specs.Point.{seen}
 use Rattle.dm_rule.specs.Rule as rule
-use Rattle.dm_mirror.proofs.Paying.{Paid, AreMute, PaidIf, answers_paid, forwards_paid, line_within, front_paid, mute_paid, net_paid, round_paid}
+use Rattle.dm_mirror.proofs.Paying.{Paid, AreMute, PaidIf, forwards_paid, line_within, front_paid, mute_paid, net_paid, round_paid, tells_paid}
 use Rattle.dm_mirror.proofs.Raises.{Within, sent_of}
 use Rattle.dm_mirror.proofs.Totals.{Grows, grows_on, grows_same, ids_of, line_grows, put_adds, seen_grows}
 use Rattle.dm_mirror.proofs.Counts.Pairs.{Still, bears, line_moves, line_still, seen_still, still_on, still_self}
@@ -76,7 +76,7 @@ hears_sort b pt m i is o box told = sort_of pt m (rule.hears b pt m i o) (λ ps.
     accepted = λ ask. Bears (refl, tt) tt;
     lacks = λ slots blocks. mute pt m (Says (Line.Lacks p slots blocks) ∷ to_kernel MessageKind.Refuse i.from.home ∷ []) (refl, refl, tt);
     stays = λ kind none. mute pt m (Says (Line.Stays p) ∷ []) (refl, refl, tt);
-    stays_asked = λ kind n asked. Pays (refl, λ s e. inl (line_within pt.kernel s None refl e, answers_paid s n.id Outcome.Stayed));
+    stays_asked = λ kind n asked. Pays (refl, λ s e. inl (line_within pt.kernel s None refl e, tells_paid s (Some n) Outcome.Stayed));
     state = mute pt m (Says (Line.Proto i) ∷ to_kernel MessageKind.State i.from.home ∷ []) (refl, refl, tt);
     next_chunk = mute pt m (Says (Line.Proto i) ∷ to_kernel MessageKind.PullState i.from.home ∷ []) (refl, refl, tt);
     last_chunk = mute pt m (Says (Line.Migration Stage.StateTaken p) ∷ to_kernel MessageKind.PullBlock i.from.home ∷ []) (refl, refl, tt);
