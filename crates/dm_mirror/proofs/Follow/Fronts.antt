@@ -345,8 +345,8 @@ tokens_follow b m pt l records k y c h p i t z told between about least =
       process_stays b m pt l records k y c h p i t z told between about before ∙ one.there,
       h.leaves.bag i off ∙ one.is,
       subst (λ (o : Option Asker). Carries p one.process o (pt.view.asked p) (incoming_of (at_machine records m h.state.records (destination_of i t) p)) one.message.what) (sym (h.leaves.notes p))
-      (carries_on p one.process (l.notes p) (pt.view.asked p) (incoming_of (records (destination_of i t) p)) (incoming_of (at_machine records m h.state.records (destination_of i t) p)) one.message.what
-      (λ u w. all_wants b m pt l records k y c h p (destination_of i t) u (m == destination_of i t) refl w) one.carries),
+          (carries_on p one.process (l.notes p) (pt.view.asked p) (incoming_of (records (destination_of i t) p)) (incoming_of (at_machine records m h.state.records (destination_of i t) p)) one.message.what
+          (λ u w. all_wants b m pt l records k y c h p (destination_of i t) u (m == destination_of i t) refl w) one.carries),
     )
 
 own_follows : (b : Boot) (m : ℕ) (pt : Point) (l : Placed) (records : AllRecords) (k : KernelState) (y : Message) (c : Fronts b m pt l records k y) (h : Follows b m pt l records k y c) → AllOwnStand (handled_view pt m y.id h.held h.topic) h.placed
