@@ -1,7 +1,7 @@
 -- A move has ended: whoever asked for it is told.
 use Rattle.dm_mirror.proofs.Names.{◌≡◌, ◌≢◌, ℕ, ◌+◌, ◌≤◌, true, false, List, [], ◌∷◌, map, refl, ap, ◌∙◌, sym, subst, inl, inr, arith, Option, None, Some, option_map, cases_Bool, false≢true, Pid, pid_eq, pid_eq-is, Message, MsgId, id_eq, plain_message, Record, Label, Line}
 use Rattle.dm_mirror.proofs.Names.{Process, PlainMessage, PlainProcess, Boot, OneKernel, Step, bind, answer_id, bag_none, Point, View, Told, Of, Here, Known, Spot, Queue, Held, Inbox, standing, times, is_between, is_server, after, after_line, moved}
-use Rattle.dm_mirror.proofs.Names.{at_machine, outcome, Run, Placed, Mirrors, placed_step, StepNeeds, KernelState, turn, AllOwnStand, KernelStands, KnownStands, HereStands, AllRecords, TokensStand}
+use Rattle.dm_mirror.proofs.Names.{at_machine, outcome, Run, Placed, Mirrors, placed_step, StepNeeds, KernelState, turn, AllOwnStand, KernelStands, KnownStands, HereStands, RoomStands, AllRecords, TokensStand, room_of, slice_get}
 use Rattle.dm_message.specs.declared.Asker.{Asker}
 use Rattle.dm_message.specs.declared.Outcome.{Outcome}
 use Rattle.dm_migrate.specs.Asking.{manager_request, moved_answer}
@@ -21,6 +21,7 @@ use Rattle.dm_mirror.proofs.Turning.{Elsewhere, First, Nothing, TurnsAt, begun, 
 use Rattle.dm_mirror.proofs.Handle.Taking.{fresh_at, map_same, sent_there, some_same, stands_set}
 use Rattle.dm_mirror.proofs.Handle.Rows.{standing_begun}
 use Rattle.dm_mirror.proofs.Leave.Fronts.{tokens_one}
+use Rattle.dm_mirror.proofs.Rooms.{taken_same}
 
 -- the point behind a line that changes what was seen alone
 abbrev pub with_view : Point → View → Point
@@ -127,7 +128,8 @@ ends_asked b m pt l records k p line state v placed h o n notes ends turns due =
       placed = on;
       mirrors = label_mirrors mid placed on m e t h.mirrors g.acting needs step placed_is;
       kernel = stands_set b mid next placed on m state state p (search (others, queues, holds, here)) h.kernel h.kernel.ring
-          (map_same placed.bag on.bag (v.inbox m) (λ j least. same j (Inbox m) least) ∙ h.kernel.inbox) h.kernel.made h.kernel.room h.kernel.servers;
+          (map_same placed.bag on.bag (v.inbox m) (λ j least. same j (Inbox m) least) ∙ h.kernel.inbox) h.kernel.made
+          (subst (RoomStands state.room (room_of (slice_get b.machines m))) (sym (taken_same mid next m refl (λ w. refl) (λ q. refl))) h.kernel.room) h.kernel.servers;
       sent = λ f. h.sent f ∙ (let z : (w : ℕ) → w ≡ w + 0 = λ w. omega arith in z (v.count m));
       single = omega arith;
       topic = tt;

@@ -13,8 +13,7 @@ use Rattle.dm_onekernel.specs.Step as kernel
 use Rattle.dm_rule.specs.Parts as rule
 use Rattle.dm_rule.specs.Migrating as migrating
 use Rattle.dm_rule.specs.View as view
-use Rattle.dm_rule.specs.Point.{machine_in}
-use Rattle.dm_rulelaws.proofs.Goes.Front.{here_free}
+use Rattle.dm_rule.specs.Point.{machine_in, seen}
 use Rattle.dm_rulelaws.proofs.Goes.Turns.{at_hand_of}
 use Rattle.dm_places.specs.PlacedStep as placed
 use Rattle.dm_places.specs.PlacedStep.{ends_move, with_note, with_sent, without_note}
@@ -30,7 +29,7 @@ use Rattle.dm_mirror.proofs.Handle.Ended.{IsHere, here_outcome, here_turn}
 use Rattle.dm_mirror.proofs.Follow.Fronts.{elsewhere_apart, front_gone}
 use Rattle.dm_mirror.proofs.Rooms.{taken_same}
 use Rattle.dm_mirror.proofs.Row.Tokens.{row_turns}
-use Rattle.dm_mirror.proofs.Leave.Asks.{SetsOff, off_ask, off_state, off_view, sets_off}
+use Rattle.dm_mirror.proofs.Leave.Asks.{SetsOff, room_stays, off_ask, off_state, off_view, sets_off}
 
 -- a request to move is one of the manager's messages
 pub asked_by_manager : (s : OneKernel) (i : MsgId) (x : PlainMessage) (machine : ℕ) → x.what ≡ PlainWhat.Move machine → WhatFits s i x x.what → i ≡ id_of manager i.n
@@ -47,7 +46,6 @@ still_none false o e = e
 
 -- from now on the process follows the request
 record Asked (b : Boot) (m : ℕ) (pt : Point) (l : Placed) (k : KernelState) (y : Message) (machine : ℕ) (next : OneKernel) (mid : Point) (on : Placed) : Type 0 where
-  free : pt.kernel.notes y.to.pid ≡ None
   named : y.id ≡ id_of manager y.id.n
   step : kernel.step pt.kernel (Label.Asked y.id) ≡ Some next
   point : moved (begun pt m) (Line.Label (Label.Asked y.id)) next ≡ mid
@@ -72,20 +70,19 @@ follows_on b m pt l k y machine c h =
     let e = Label.Asked i in
     let x = plainly y (PlainWhat.Move machine) in
     let t = asked_kernel s y in
-    let v = handled (begun pt m).view i in
-    let free : s.notes p ≡ None = here_free s pt.view m p c.run.based.noted h.known in
+    let v = view.about (handled (begun pt m).view i) (Target machine) in
     let named = asked_by_manager s i x machine refl (c.run.based.fits.messages i x c.front.there) in
     let step : kernel.step s e ≡ Some t =
     ap (λ (o : Option PlainMessage). bind o (λ (q : PlainMessage). bind (kernel.at_hand s q.to) (λ (z : PlainProcess). service.follows_request s i q q.what))) c.front.there
-    ∙ ap (λ (o : Option PlainProcess). bind o (λ (z : PlainProcess). service.follows_request s i x (PlainWhat.Move machine))) (at_hand_of s p _ free h.life) in
+    ∙ ap (λ (o : Option PlainProcess). bind o (λ (z : PlainProcess). service.follows_request s i x (PlainWhat.Move machine))) (at_hand_of s p _ h.free h.life) in
     let placed_is : placed_step m s.format s.images l e ≡ Some (asked_placed l y) = ap (λ (o : Option Message). bind o (λ (q : Message). Some (with_note (placed.without_message l i) q.to.pid i (asker_of q)))) c.there in
     let a = (asked_point pt m y machine).addresses in
+    let seen_is : seen s (begun pt m).view (Line.Label e) ≡ v = λ j. view.about (handled (begun pt m).view i) (machine_in (c.front.there j)) in
     record {
-      free = free;
       named = named;
       step = step;
-      point = λ j. record { kernel = t; view = view.about v (machine_in (c.front.there j)); addresses = a };
-      mirrors = mirrors_view t v (view.about v (Target machine)) a (asked_placed l y) refl (mirrors_one pt m e t v l (asked_placed l y) step refl named placed_is c.mirrors);
+      point = λ j. record { kernel = t; view = seen_is j; addresses = a };
+      mirrors = mirrors_one pt m e t v l (asked_placed l y) step seen_is named placed_is c.mirrors;
     }
 
 -- to another machine
@@ -223,7 +220,7 @@ asked_here b m pt l k y machine c h is =
           c.stands.ring
           (ap (map on.bag) (machine_self pt.view.inbox m (without_front i (pt.view.inbox m)) ∙ front_gone i c.ids (pt.view.inbox m) c.box) ∙ map_same l.bag on.bag c.ids behind ∙ c.others)
           c.stands.made
-          c.stands.room
+          (room_stays k.room _ _ _ taken c.stands.room)
           c.stands.servers;
       elsewhere = search (
         machine_off,
