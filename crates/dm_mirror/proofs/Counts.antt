@@ -132,7 +132,7 @@ few_group : (b : Boot) (pt : Point) (d : Step) (w : Spelled) (n : ℕ) → 0 < n
 few_group b pt d w n some machines fit is run after h =
     let g = group_is b pt d w is in
     let within = within_group b pt d w n some machines (machines_group b pt d w is ∙ machines) fit is run.based.phased.pairs after h.within in
-    let r = rises b pt d w n g (subst (SortIf pt (actor d)) g.is (outcome_sort b pt d)) run after within h.under h.moves in
+    let r = rises b pt d w n g (subst (SortIf pt (actor d)) g.is (outcome_sort b pt d run)) run after within h.under h.moves in
     record { within = within; own = own_group n b pt d w is h.own; under = r.under; moves = r.moves; routed = routed_group b pt d w is h.routed }
 
 few_start : (b : Boot) (n : ℕ) → IsValid b → Few n (first_point b)

@@ -1,5 +1,5 @@
 -- Where a turn raises a count, it routes a message.
-use Rattle.dm_mirror.proofs.Names.{◌≡◌, ◌⊎◌, inl, inr, ℕ, ◌+◌, ◌==◌, Bool, true, false, List, [], ◌∷◌, length, refl, ap, ◌∙◌, sym, subst, arith, ⊤, if◌then◌else◌, slice_get, Option, None, Some, Pid, pid_eq, pid_of, MsgId, Why, PlainMessage}
+use Rattle.dm_mirror.proofs.Names.{Run, ◌≡◌, ◌⊎◌, inl, inr, ℕ, ◌+◌, ◌==◌, Bool, true, false, List, [], ◌∷◌, length, refl, ap, ◌∙◌, sym, subst, arith, ⊤, if◌then◌else◌, slice_get, Option, None, Some, Pid, pid_eq, pid_of, MsgId, Why, PlainMessage}
 use Rattle.dm_mirror.proofs.Names.{PlainWhat, instruction, Boot, BootImage, Label, first_number, switchboard, manager, bind, PlainProcess, PlainStatus, Ready, Waiting, Moving, Alive, OneKernel, answer_id, alive-is, Line, Point, label_of}
 use Rattle.dm_mirror.proofs.Names.{kernel_after, Part, Says, Routes, Again, Owns, Transmits, IsNetLine, IsNet, Addresses, Sender, is_told_back, forwards_on, plain_kind, MessageKind, nat_tests}
 use Rattle.dm_onekernel.specs.Calls as calls
@@ -12,9 +12,11 @@ use Rattle.dm_rule.specs.Rule as rule
 use Rattle.dm_rule.specs.View as view
 use Rattle.dm_mirror.proofs.Raises.{Within, ran_raises, call_raises, send_raises, wait_raises, out_raises, end_raises, receive_raises, refuse_raises}
 use Rattle.dm_message.specs.declared.Outcome.{Outcome}
-use Rattle.dm_onekernel.specs.Kernel.{MoveNote}
+use Rattle.dm_onekernel.specs.declared.request.PendingKind.{PendingKind}
+use Rattle.dm_onekernel.specs.Kernel.{MoveNote, Pending}
+use Rattle.dm_rulelaws.specs.Fits.{Each, PendingFits, WhatFits, is_for, kind_eq}
 use Rattle.dm_rule.specs.Migrating.{answers_move, leaves_for, tells_asker}
-use Rattle.dm_mirror.proofs.RaisesMade.{board_raise, manager_raise, took_raise, took_raises, created_makes, landed_raise, served_raise, sent_raise, asked_raises, move_answered_raises, dropped_raises, gone_raises, no_space_raises, served_raises}
+use Rattle.dm_mirror.proofs.RaisesMade.{board_raise, manager_raise, HasAnswer, took_raise, took_raises, created_makes, landed_raise, served_raise, sent_raise, asked_raises, move_answered_raises, dropped_raises, gone_raises, no_space_raises, served_raises}
 use Rattle.dm_mirror.proofs.Counts.Pairs.{is_free}
 
 -- nothing is left but one message to route
@@ -114,27 +116,27 @@ kernel_paid b pt m i (PlainWhat.Create image links) = creates_paid pt m i (rule.
 kernel_paid b pt m i _ = tt
 
 -- a server takes a message
-took_paid : (s : OneKernel) (i : MsgId) (m : PlainMessage) (o : Option PlainMessage) → s.bag i ≡ Some m → took_raise s m ≡ sent_raise o → Paid s (rule.says (Label.Took i) ∷ rule.routes o)
-took_paid s i m o there is = (refl, λ t e. by o is t (within t e))
+took_paid : (s : OneKernel) (i : MsgId) (m : PlainMessage) (o : Option PlainMessage) → HasAnswer s.manager m.id.n m.what → s.bag i ≡ Some m → took_raise s m ≡ sent_raise o → Paid s (rule.says (Label.Took i) ∷ rule.routes o)
+took_paid s i m o has there is = (refl, λ t e. by o is t (within t e))
   where
     within : (t : OneKernel) → kernel.step s (Label.Took i) ≡ Some t → Within (took_raise s m) s t
     within t e =
         let k = took_raises s t i e in
         let f : Some k.m ≡ Some m = sym k.there ∙ there in
         let g : k.m ≡ m = cc in
-        subst (λ (v : PlainMessage). Within (took_raise s v) s t) g k.raises.within
+        subst (λ (v : PlainMessage). Within (took_raise s v) s t) g (k.raises (subst (λ (v : PlainMessage). HasAnswer s.manager v.id.n v.what) (sym g) has)).within
 
     by : (o : Option PlainMessage) → took_raise s m ≡ sent_raise o → (t : OneKernel) → Within (took_raise s m) s t → (Within 0 s t × Paid t (rule.routes o)) ⊎ (Within 1 s t × RoutesOne (rule.routes o))
     by None e t w = inl (subst (λ n. Within n s t) e w, tt)
     by (Some x) e t w = inr (subst (λ n. Within n s t) e w, (x.id, refl))
 
-board_paid : (s : OneKernel) (i : MsgId) (m : PlainMessage) (o : Option board.BoardTook) → s.bag i ≡ Some m → took_raise s m ≡ board_raise o → PaidIf s (rule.board_took i o)
-board_paid s i m None there is = tt
-board_paid s i m (Some k) there is = took_paid s i m k.answer there is
+board_paid : (s : OneKernel) (i : MsgId) (m : PlainMessage) (o : Option board.BoardTook) → HasAnswer s.manager m.id.n m.what → s.bag i ≡ Some m → took_raise s m ≡ board_raise o → PaidIf s (rule.board_took i o)
+board_paid s i m None has there is = tt
+board_paid s i m (Some k) has there is = took_paid s i m k.answer has there is
 
-manager_paid : (s : OneKernel) (i : MsgId) (m : PlainMessage) (o : Option manage.ManagerTook) → s.bag i ≡ Some m → took_raise s m ≡ manager_raise o → PaidIf s (rule.manager_parts i o)
-manager_paid s i m None there is = tt
-manager_paid s i m (Some k) there is = took_paid s i m k.message there is
+manager_paid : (s : OneKernel) (i : MsgId) (m : PlainMessage) (o : Option manage.ManagerTook) → HasAnswer s.manager m.id.n m.what → s.bag i ≡ Some m → took_raise s m ≡ manager_raise o → PaidIf s (rule.manager_parts i o)
+manager_paid s i m None has there is = tt
+manager_paid s i m (Some k) has there is = took_paid s i m k.message has there is
 
 -- a message for a living process's kernel
 serves_paid : (s : OneKernel) (i : MsgId) (m : PlainMessage) (x : PlainProcess) (t : OneKernel) → s.bag i ≡ Some m → kernel.alive (s.processes m.to) ≡ Some x → kernel.step s (Label.Served i) ≡ Some t → Within (served_raise m x m.what) s t
@@ -203,22 +205,44 @@ process_paid pt m i msg (view.Forward at moves) there = forwards_paid pt.kernel 
 process_paid pt m i msg view.Ended there = ended_paid pt.kernel i msg.what
 process_paid pt m i msg _ there = (refl, λ t e. inl (line_within pt.kernel t None refl e, tt))
 
-handles_paid : (b : Boot) (pt : Point) (m : ℕ) (i : MsgId) (msg : PlainMessage) (c d e : Bool) → pid_eq msg.to switchboard ≡ d → pt.kernel.bag i ≡ Some msg
+handles_paid : (b : Boot) (pt : Point) (m : ℕ) (i : MsgId) (msg : PlainMessage) (c d e : Bool) → pid_eq msg.to switchboard ≡ d → HasAnswer pt.kernel.manager msg.id.n msg.what → pt.kernel.bag i ≡ Some msg
     → PaidIf pt.kernel (if c then rule.kernel_handles b pt m i msg.what
     else if d then rule.board_took i (board.board_takes pt.kernel.switchboard msg msg.what)
     else if e then rule.manager_parts i (manage.manager_takes pt.kernel.manager pt.kernel.machines (length pt.kernel.images) msg msg.what)
     else rule.process_handles pt m i msg (pt.view.known m msg.to))
-handles_paid b pt m i msg true d e is there = kernel_paid b pt m i msg.what
-handles_paid b pt m i msg false true e is there =
-    board_paid pt.kernel i msg (board.board_takes pt.kernel.switchboard msg msg.what) there
+handles_paid b pt m i msg true d e is has there = kernel_paid b pt m i msg.what
+handles_paid b pt m i msg false true e is has there =
+    board_paid pt.kernel i msg (board.board_takes pt.kernel.switchboard msg msg.what) has there
     (ap (λ (c : Bool). if c then board_raise (board.board_takes pt.kernel.switchboard msg msg.what) else manager_raise (manage.manager_takes pt.kernel.manager pt.kernel.machines (length pt.kernel.images) msg msg.what)) is)
-handles_paid b pt m i msg false false true is there =
-    manager_paid pt.kernel i msg (manage.manager_takes pt.kernel.manager pt.kernel.machines (length pt.kernel.images) msg msg.what) there
+handles_paid b pt m i msg false false true is has there =
+    manager_paid pt.kernel i msg (manage.manager_takes pt.kernel.manager pt.kernel.machines (length pt.kernel.images) msg msg.what) has there
     (ap (λ (c : Bool). if c then board_raise (board.board_takes pt.kernel.switchboard msg msg.what) else manager_raise (manage.manager_takes pt.kernel.manager pt.kernel.machines (length pt.kernel.images) msg msg.what)) is)
-handles_paid b pt m i msg false false false is there = process_paid pt m i msg (pt.view.known m msg.to) there
+handles_paid b pt m i msg false false false is has there = process_paid pt m i msg (pt.view.known m msg.to) there
 
-pub front_paid : (b : Boot) (pt : Point) (m : ℕ) (i : MsgId) (msg : PlainMessage) → pt.kernel.bag i ≡ Some msg → PaidIf pt.kernel (rule.handles b pt m i msg)
-front_paid b pt m i msg e = handles_paid b pt m i msg (msg.to.num == 0) (pid_eq msg.to switchboard) (pid_eq msg.to manager) refl e
+-- a request to make a process has a link for the answer
+each_pending : (P : Pending → Type 0) (rs : List Pending) (k : ℕ) (r : Pending) → Each P rs → manage.pending_numbered k rs ≡ Some r → P r
+each_pending P [] k r h e = cc
+each_pending P (x ∷ xs) k r h e = by (x.n == k) (each_pending P xs k r h.1) e
+  where
+    by : (c : Bool) → (manage.pending_numbered k xs ≡ Some r → P r) → (if c then Some x else manage.pending_numbered k xs) ≡ Some r → P r
+    by true more f = let g : x ≡ r = cc in subst P g h.0
+    by false more f = more f
+
+creates_kind : (k : PendingKind) → kind_eq PendingKind.Create k ≡ true → k ≡ PendingKind.Create
+creates_kind PendingKind.Create e = refl
+creates_kind PendingKind.Move e = cc
+
+has_answer : (b : Boot) (pt : Point) (i : MsgId) (msg : PlainMessage) → Run b pt → pt.kernel.bag i ≡ Some msg → HasAnswer pt.kernel.manager msg.id.n msg.what
+has_answer b pt i msg run there child r is found =
+    let rs = pt.kernel.manager.pending in
+    let name : msg.id ≡ i = run.based.phased.sane.sound.entered.named i msg there in
+    let fits = subst (WhatFits pt.kernel i msg) is (run.based.fits.messages i msg there) in
+    let asked : manage.pending_numbered i.n rs ≡ Some r = ap (λ (j : MsgId). manage.pending_numbered j.n rs) (sym name) ∙ found in
+    let kind = creates_kind r.kind (sym (ap (is_for PendingKind.Create) asked) ∙ fits.2.pending) in
+    (each_pending (PendingFits pt.kernel.processes) rs msg.id.n r run.based.fits.answers found).making kind
+
+pub front_paid : (b : Boot) (pt : Point) (m : ℕ) (i : MsgId) (msg : PlainMessage) → Run b pt → pt.kernel.bag i ≡ Some msg → PaidIf pt.kernel (rule.handles b pt m i msg)
+front_paid b pt m i msg run e = handles_paid b pt m i msg (msg.to.num == 0) (pid_eq msg.to switchboard) (pid_eq msg.to manager) refl (has_answer b pt i msg run e) e
 
 -- lines without a step that move nothing
 abbrev pub AreMute : List Part → Type 0

@@ -182,6 +182,10 @@ board_raises s id m k took =
 
 -- How much a step raises counts: what the manager says, and a process that is made.
 
+-- a request to make a process has a link for the answer, where this is its answer
+abbrev pub HasAnswer : Manager → ℕ → PlainWhat → Type 0
+HasAnswer g n w = (child : Pid) (r : Pending) → w ≡ PlainWhat.Created child → manage.pending_numbered n g.pending ≡ Some r → is_some r.answer ≡ true
+
 -- a child comes only with an answer
 abbrev Paid : Manager → manage.ManagerTook → Type 0
 Paid g k = length k.manager.children + g.sent ≤ length g.children + k.manager.sent
@@ -192,6 +196,10 @@ paid_answers g h l code links e le = omega (arith, e, le)
 paid_over : (g h : Manager) (o : Option PlainLink) (code : ℕ) (links : List PlainLink) → h.sent ≡ g.sent → length h.children ≤ length g.children → Paid g (manage.answers_over h o code links)
 paid_over g h None code links e le = omega (arith, e, le)
 paid_over g h (Some l) code links e le = paid_answers g h l code links e (omega (arith, le))
+
+paid_made : (g h : Manager) (o : Option PlainLink) (code : ℕ) (links : List PlainLink) → is_some o ≡ true → h.sent ≡ g.sent → length h.children ≤ length g.children + 1 → Paid g (manage.answers_over h o code links)
+paid_made g h None code links has e le = cc
+paid_made g h (Some l) code links has e le = paid_answers g h l code links e le
 
 paid_bad : (g : Manager) (links : List PlainLink) → Paid g (manage.bad_request g links)
 paid_bad g [] = omega arith
@@ -224,12 +232,12 @@ paid_controls g machines (Some child) (a ∷ machine ∷ []) links =
 paid_controls g machines None (a ∷ []) links = paid_bad g links
 paid_controls g machines _ _ links = paid_bad g links
 
-paid_created : (g : Manager) (n : ℕ) (child : Pid) (o : Option Pending) (k : manage.ManagerTook) → manage.takes_created g n child o ≡ Some k → Paid g k
-paid_created g n child None k e = cc
-paid_created g n child (Some r) k e =
+paid_created : (g : Manager) (n : ℕ) (child : Pid) (o : Option Pending) (k : manage.ManagerTook) → ((r : Pending) → o ≡ Some r → is_some r.answer ≡ true) → manage.takes_created g n child o ≡ Some k → Paid g k
+paid_created g n child None k has e = cc
+paid_created g n child (Some r) k has e =
     let h = record g { children = g.children ++ child ∷ []; pending = manage.without_pending n g.pending } in
     let f : manage.answers_over h r.answer 0 (manage.control_link (length g.children + 1) ∷ []) ≡ k = cc in
-    subst (Paid g) f (paid_over g h r.answer 0 (manage.control_link (length g.children + 1) ∷ []) refl (let z = append-longer g.children child in omega (arith, z)))
+    subst (Paid g) f (paid_made g h r.answer 0 (manage.control_link (length g.children + 1) ∷ []) (has r refl) refl (let z = append-longer g.children child in omega (arith, z)))
 
 paid_no_room : (g : Manager) (n : ℕ) (o : Option Pending) (k : manage.ManagerTook) → manage.takes_no_room g n o ≡ Some k → Paid g k
 paid_no_room g n None k e = cc
@@ -245,15 +253,15 @@ paid_moved g n outcome (Some r) k e =
     let f : manage.answers_over h r.answer (code_of_outcome outcome) [] ≡ k = cc in
     subst (Paid g) f (paid_over g h r.answer (code_of_outcome outcome) [] refl (omega arith))
 
-paid_takes : (g : Manager) (machines images : ℕ) (m : PlainMessage) (w : PlainWhat) (k : manage.ManagerTook) → manage.manager_takes g machines images m w ≡ Some k → Paid g k
-paid_takes g machines images m (PlainWhat.User code channel body links) k e =
+paid_takes : (g : Manager) (machines images : ℕ) (m : PlainMessage) (w : PlainWhat) (k : manage.ManagerTook) → HasAnswer g m.id.n w → manage.manager_takes g machines images m w ≡ Some k → Paid g k
+paid_takes g machines images m (PlainWhat.User code channel body links) k has e =
     let f : manage.takes_user g machines images code body links ≡ k = cc in
     subst (Paid g) f (paid_if g (code == 0) (manage.requests_child g machines images body links) (manage.controls g machines (manage.child_numbered g.children code) body links)
     (paid_requests g machines images body links) (paid_controls g machines (manage.child_numbered g.children code) body links))
-paid_takes g machines images m (PlainWhat.Created child) k e = paid_created g m.id.n child (manage.pending_numbered m.id.n g.pending) k e
-paid_takes g machines images m PlainWhat.NoRoom k e = paid_no_room g m.id.n (manage.pending_numbered m.id.n g.pending) k e
-paid_takes g machines images m (PlainWhat.Moved outcome) k e = paid_moved g m.id.n outcome (manage.pending_numbered m.id.n g.pending) k e
-paid_takes g machines images m _ k e = cc
+paid_takes g machines images m (PlainWhat.Created child) k has e = paid_created g m.id.n child (manage.pending_numbered m.id.n g.pending) k (λ r there. has child r refl there) e
+paid_takes g machines images m PlainWhat.NoRoom k has e = paid_no_room g m.id.n (manage.pending_numbered m.id.n g.pending) k e
+paid_takes g machines images m (PlainWhat.Moved outcome) k has e = paid_moved g m.id.n outcome (manage.pending_numbered m.id.n g.pending) k e
+paid_takes g machines images m _ k has e = cc
 
 manager_sent : (n after : ℕ) (o : Option PlainMessage) → ServerSends manager n o after → after ≡ n + sent_raise o
 manager_sent n after o h = grind (arith, nat_tests)
@@ -268,11 +276,11 @@ manager_raises_of s id g (Some m) k e le = record {
   stays = record { machines = refl; made = λ h. refl; lives = λ p. refl };
 }
 
-manager_raises : (s : OneKernel) (id : MsgId) (m : PlainMessage) (k : manage.ManagerTook) → manage.manager_takes s.manager s.machines (length s.images) m m.what ≡ Some k → Raises (sent_raise k.message) s (service.manager_took s id k)
-manager_raises s id m k took =
+manager_raises : (s : OneKernel) (id : MsgId) (m : PlainMessage) (k : manage.ManagerTook) → HasAnswer s.manager m.id.n m.what → manage.manager_takes s.manager s.machines (length s.images) m m.what ≡ Some k → Raises (sent_raise k.message) s (service.manager_took s id k)
+manager_raises s id m k has took =
     let (memory, piece, sends) = manager_takes_lem s.manager s.machines (length s.images) m m.what k took in
     let count = manager_sent s.manager.sent k.manager.sent k.message sends.sends in
-    let paid = paid_takes s.manager s.machines (length s.images) m m.what k took in
+    let paid = paid_takes s.manager s.machines (length s.images) m m.what k has took in
     manager_raises_of s id k.manager k.message (sent_raise k.message) count (omega (arith, count, paid))
 
 -- what the servers' messages raise
@@ -289,30 +297,51 @@ took_raise s m =
     if pid_eq m.to switchboard then board_raise (board.board_takes s.switchboard m m.what)
     else manager_raise (manage.manager_takes s.manager s.machines (length s.images) m m.what)
 
-took_raises_of : (s t : OneKernel) (id : MsgId) (m : PlainMessage) (c d : Bool)
+took_raises_of : (s t : OneKernel) (id : MsgId) (m : PlainMessage) (c d : Bool) → HasAnswer s.manager m.id.n m.what
     → (if c then bind (board.board_takes s.switchboard m m.what) (λ k. Some (service.switchboard_took s id k))
     else if d then bind (manage.manager_takes s.manager s.machines (length s.images) m m.what) (λ k. Some (service.manager_took s id k))
     else None) ≡ Some t
     → Raises (if c then board_raise (board.board_takes s.switchboard m m.what) else manager_raise (manage.manager_takes s.manager s.machines (length s.images) m m.what)) s t
-took_raises_of s t id m true d is =
+took_raises_of s t id m true d has is =
     let (k, took, last) = bind-is (board.board_takes s.switchboard m m.what) (λ v. Some (service.switchboard_took s id v)) t is in
     let f : service.switchboard_took s id k ≡ t = cc in
     subst (λ (o : Option board.BoardTook). Raises (board_raise o) s t) (sym took) (subst (Raises (sent_raise k.answer) s) f (board_raises s id m k took))
-took_raises_of s t id m false true is =
+took_raises_of s t id m false true has is =
     let (k, took, last) = bind-is (manage.manager_takes s.manager s.machines (length s.images) m m.what) (λ v. Some (service.manager_took s id v)) t is in
     let f : service.manager_took s id k ≡ t = cc in
-    subst (λ (o : Option manage.ManagerTook). Raises (manager_raise o) s t) (sym took) (subst (Raises (sent_raise k.message) s) f (manager_raises s id m k took))
-took_raises_of s t id m false false is = cc
+    subst (λ (o : Option manage.ManagerTook). Raises (manager_raise o) s t) (sym took) (subst (Raises (sent_raise k.message) s) f (manager_raises s id m k has took))
+took_raises_of s t id m false false has is = cc
+
+-- nobody is made
+stays_sent : (s u : OneKernel) (o : Option PlainMessage) → Stays s u → Stays s (with_sent u o)
+stays_sent s u None h = h
+stays_sent s u (Some m) h = record { machines = h.machines; made = h.made; lives = h.lives }
+
+took_stays : (s t : OneKernel) (id : MsgId) (m : PlainMessage) (c d : Bool)
+    → (if c then bind (board.board_takes s.switchboard m m.what) (λ k. Some (service.switchboard_took s id k))
+    else if d then bind (manage.manager_takes s.manager s.machines (length s.images) m m.what) (λ k. Some (service.manager_took s id k))
+    else None) ≡ Some t
+    → Stays s t
+took_stays s t id m true d is =
+    let (k, took, last) = bind-is (board.board_takes s.switchboard m m.what) (λ v. Some (service.switchboard_took s id v)) t is in
+    let f : service.switchboard_took s id k ≡ t = cc in
+    subst (Stays s) f (stays_sent s (record (without_message s id) { switchboard = k.switchboard }) k.answer (record { machines = refl; made = λ h. refl; lives = λ p. refl }))
+took_stays s t id m false true is =
+    let (k, took, last) = bind-is (manage.manager_takes s.manager s.machines (length s.images) m m.what) (λ v. Some (service.manager_took s id v)) t is in
+    let f : service.manager_took s id k ≡ t = cc in
+    subst (Stays s) f (stays_sent s (record (without_message s id) { manager = k.manager }) k.message (record { machines = refl; made = λ h. refl; lives = λ p. refl }))
+took_stays s t id m false false is = cc
 
 pub record TookSo (s t : OneKernel) (id : MsgId) : Type 0 where
   pub m : PlainMessage
   pub there : s.bag id ≡ Some m
-  pub raises : Raises (took_raise s m) s t
+  pub raises : HasAnswer s.manager m.id.n m.what → Raises (took_raise s m) s t
+  pub stays : Stays s t
 
 pub took_raises : (s t : OneKernel) (id : MsgId) → step.step s (Label.Took id) ≡ Some t → TookSo s t id
 took_raises s t id is =
     let (m, there, rest) = bind-is (s.bag id) (service.takes s id) t is in
-    record { m = m; there = there; raises = took_raises_of s t id m (pid_eq m.to switchboard) (pid_eq m.to manager) rest }
+    record { m = m; there = there; raises = λ has. took_raises_of s t id m (pid_eq m.to switchboard) (pid_eq m.to manager) has rest; stays = took_stays s t id m (pid_eq m.to switchboard) (pid_eq m.to manager) rest }
 
 -- a process is made: the next of its home
 pub record Makes (s t : OneKernel) : Type 0 where
@@ -378,7 +407,7 @@ step_makes s t (Label.End p y) is = inl (end_raises s t p y is).stays
 step_makes s t (Label.Receive p id) is = inl (receive_raises s t p id is).stays
 step_makes s t (Label.Refuse p id d) is = inl (refuse_raises s t p id d is).stays
 step_makes s t (Label.Served id) is = inl (served_raises s t id is).raises.stays
-step_makes s t (Label.Took id) is = inl (took_raises s t id is).raises.stays
+step_makes s t (Label.Took id) is = inl (took_raises s t id is).stays
 step_makes s t (Label.Dropped id) is = inl (dropped_raises s t id is).stays
 step_makes s t (Label.Gone id) is = inl (gone_raises s t id is).stays
 step_makes s t (Label.Created id child) is = inr (created_makes s t id child is)

@@ -1,5 +1,5 @@
 -- What a group may do to counts: raise them and route a message, put a message of a kernel's own, or restart a process.
-use Rattle.dm_mirror.proofs.Names.{◌≡◌, ◌⊎◌, inl, inr, ℕ, ◌+◌, ◌≤◌, ◌==◌, Bool, true, false, List, [], ◌∷◌, length, refl, ap, ◌∙◌, sym, subst, arith, if◌then◌else◌, Option, None, Some, Pid, MsgId, MessageKind, plain_kind, Label, OneKernel}
+use Rattle.dm_mirror.proofs.Names.{Run, ◌≡◌, ◌⊎◌, inl, inr, ℕ, ◌+◌, ◌≤◌, ◌==◌, Bool, true, false, List, [], ◌∷◌, length, refl, ap, ◌∙◌, sym, subst, arith, if◌then◌else◌, Option, None, Some, Pid, MsgId, MessageKind, plain_kind, Label, OneKernel}
 use Rattle.dm_mirror.proofs.Names.{bind-is, Line, Stage, Load, Receiver, Part, Says, Routes, Again, Owns, Transmits, Spelled, goes_out, packet_line, puts, spelled, Point, after, kernel_after, label_of, moved, View, own_id, view_after}
 use Rattle.dm_mirror.proofs.Names.{onward, said, says_next, transmits_next, ◌++◌, ⊤, slice_get, PlainMessage, Boot, manager, Step, migrates, sends_on, to_kernel, updates, outcome, About, Told, actor, arrives_net, resends_net, by_migrates}
 use Rattle.dm_mirror.proofs.Names.{by_hears, nat_tests}
@@ -97,23 +97,23 @@ hears_sort b pt m i is o box told = sort_of pt m (rule.hears b pt m i o) (λ ps.
   frozen = λ to at_. mute pt m (leaves_for t.receiver to) (refl, refl, (refl, refl, tt));
 }))
 
-comes_sort : (b : Boot) (pt : Point) (m : ℕ) (i : MsgId) (is : List MsgId) (o : Option PlainMessage) → pt.view.inbox m ≡ i ∷ is → pt.kernel.bag i ≡ o → SortIf pt m (rule.comes_to b pt m i o)
-comes_sort b pt m i is None box there = hears_sort b pt m i is (pt.view.told i) box refl
-comes_sort b pt m i is (Some msg) box there = paid_sort pt m (rule.handles b pt m i msg) (front_paid b pt m i msg there)
+comes_sort : (b : Boot) (pt : Point) (m : ℕ) (i : MsgId) (is : List MsgId) (o : Option PlainMessage) → Run b pt → pt.view.inbox m ≡ i ∷ is → pt.kernel.bag i ≡ o → SortIf pt m (rule.comes_to b pt m i o)
+comes_sort b pt m i is None run box there = hears_sort b pt m i is (pt.view.told i) box refl
+comes_sort b pt m i is (Some msg) run box there = paid_sort pt m (rule.handles b pt m i msg) (front_paid b pt m i msg run there)
 
-turns_sort : (b : Boot) (pt : Point) (m : ℕ) (box : List MsgId) → pt.view.inbox m ≡ box → SortIf pt m (rule.turns b pt m box)
-turns_sort b pt m [] e =
+turns_sort : (b : Boot) (pt : Point) (m : ℕ) (box : List MsgId) → Run b pt → pt.view.inbox m ≡ box → SortIf pt m (rule.turns b pt m box)
+turns_sort b pt m [] run e =
     let p = rule.first_runnable pt.kernel (pt.view.queue m) (pt.view.ring m) in
     paid_sort pt m (rule.goes_round b pt m p) (round_paid b pt m p)
-turns_sort b pt m (i ∷ is) e = comes_sort b pt m i is (pt.kernel.bag i) e refl
+turns_sort b pt m (i ∷ is) run e = comes_sort b pt m i is (pt.kernel.bag i) run e refl
 
-pub outcome_sort : (b : Boot) (pt : Point) (d : Step) → SortIf pt (actor d) (outcome b pt d)
-outcome_sort b pt (Step.Turn m) = turns_sort b pt m (pt.view.inbox m) refl
-outcome_sort b pt (Step.Tick m) = Pays (net_paid (Says (Line.Resent m (rule.outstanding_count pt.view m pt.kernel.machines)) ∷ rule.resends pt.view m pt.kernel.machines) pt.kernel (tt, resends_net pt.view m pt.kernel.machines))
-outcome_sort b pt (Step.Deliver a c k) =
+pub outcome_sort : (b : Boot) (pt : Point) (d : Step) → Run b pt → SortIf pt (actor d) (outcome b pt d)
+outcome_sort b pt (Step.Turn m) run = turns_sort b pt m (pt.view.inbox m) run refl
+outcome_sort b pt (Step.Tick m) run = Pays (net_paid (Says (Line.Resent m (rule.outstanding_count pt.view m pt.kernel.machines)) ∷ rule.resends pt.view m pt.kernel.machines) pt.kernel (tt, resends_net pt.view m pt.kernel.machines))
+outcome_sort b pt (Step.Deliver a c k) run =
     let there = slice_get (pt.view.pair a c).wire k in
     Pays (net_paid (rule.arrives a c (pt.view.pair a c) (pt.view.pair c a) there) pt.kernel (arrives_net a c (pt.view.pair a c) (pt.view.pair c a) there))
-outcome_sort b pt (Step.Migrate p m) = mute pt 0 (migrates pt p) (by_migrates AreMute pt p (refl, refl, tt) (refl, refl, tt) (λ n off is. tt))
+outcome_sort b pt (Step.Migrate p m) run = mute pt 0 (migrates pt p) (by_migrates AreMute pt p (refl, refl, tt) (refl, refl, tt) (λ n off is. tt))
 
 -- Where a group ends: what was routed, how high its counts are, and what has moved.
 
