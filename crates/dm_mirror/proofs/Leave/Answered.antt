@@ -98,10 +98,10 @@ ends_asked b m pt l records k p line state v placed h o n notes ends turns due =
     (subst (λ (w : Known). KnownStands mid placed p (v.queue m p) (v.held m p) w (state.records p)) h.known (h.kernel.known p h.server)) in
     let there : placed.processes p ≡ Some (record h.process { queue = mine.0.0 }) = mine.0.1 in
     let needs : StepNeeds s v e = λ q w noted_ notes_. (
-      let f = sane.sound.notes.follows id q noted_ in
-      let same : f.0 ≡ w = some_same f.0 w (sym f.1 ∙ notes_) in
-      let x = sane.sound.notes.lives q w notes_ in
-      (x.0, sym (ap (λ (z : MoveNote). z.id) same) ∙ f.2, ap kernel.alive x.1)) in
+    let f = sane.sound.notes.follows id q noted_ in
+    let same : f.0 ≡ w = some_same f.0 w (sym f.1 ∙ notes_) in
+    let x = sane.sound.notes.lives q w notes_ in
+    (x.0, sym (ap (λ (z : MoveNote). z.id) same) ∙ f.2, ap kernel.alive x.1)) in
     let placed_is : placed_step m s.format s.images placed e ≡ Some on =
     ap (λ (q : Option Pid). bind q (λ (r : Pid). ends_move m placed id r o)) (h.mirrors.plain.noted id ∙ noted)
     ∙ ap (λ (q : Option Asker). bind q (λ (w : Asker). bind (placed.processes p) (λ (y : Process). Some (with_sent (without_note placed p id) (Some (moved_answer m y o w)))))) notes

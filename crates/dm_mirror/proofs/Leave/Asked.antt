@@ -168,9 +168,9 @@ asked_here b m pt l k y machine c h is =
     let step : kernel.step mid.kernel e ≡ Some t =
     ap (λ (q : Option Pid). bind q (λ (r : Pid). bind (mid.kernel.notes r) (λ (z : MoveNote). service.ends_move mid.kernel i r z Outcome.Done))) noted ∙ ap (λ (q : Option MoveNote). bind q (λ (z : MoveNote). service.ends_move mid.kernel i p z Outcome.Done)) notes in
     let needs : StepNeeds mid.kernel mid.view e = λ q z noted_ notes_. (
-      let same : p ≡ q = some_same p q (sym noted ∙ noted_) in
-      let as_ : note ≡ z = some_same note z (sym notes ∙ ap mid.kernel.notes same ∙ notes_) in
-      (_, ap (λ (n : MoveNote). n.id) (sym as_), ap (λ (r : Pid). kernel.alive (s.processes r)) (sym same) ∙ ap kernel.alive h.life)) in
+    let same : p ≡ q = some_same p q (sym noted ∙ noted_) in
+    let as_ : note ≡ z = some_same note z (sym notes ∙ ap mid.kernel.notes same ∙ notes_) in
+    (_, ap (λ (n : MoveNote). n.id) (sym as_), ap (λ (r : Pid). kernel.alive (s.processes r)) (sym same) ∙ ap kernel.alive h.life)) in
     let placed_is : placed_step m s.format s.images mid_placed e ≡ Some on =
     ap (λ (q : Option Pid). bind q (λ (r : Pid). ends_move m mid_placed i r Outcome.Done)) (on_if _ (Some p) (l.noted i) (id_eq-same i))
     ∙ ap (λ (q : Option Asker). bind q (λ (z : Asker). bind (l.processes p) (λ (x : Process). Some (with_sent (without_note mid_placed p i) (Some (moved_answer m x Outcome.Done z)))))) waits
@@ -179,9 +179,9 @@ asked_here b m pt l k y machine c h is =
     let sane = sane_of b m pt l k y w c in
     let fits = c.run.based.fits.messages i (plainly y w) c.front.there in
     let zero_ : sane.e (answer_id i) ≡ 0 = zero_if (sane.e (answer_id i)) (λ least. (
-      let gone : s.bag i ≡ None = sym (ap s.bag (λ j. record { from = i.from; n = i.n; answer = sym fits.3 j })) ∙ sane.sound.entered.answers (answer_id i) refl least in
-      let g : None ≡ Some (plainly y w) = sym gone ∙ c.front.there in
-      cc)) in
+    let gone : s.bag i ≡ None = sym (ap s.bag (λ j. record { from = i.from; n = i.n; answer = sym fits.3 j })) ∙ sane.sound.entered.answers (answer_id i) refl least in
+    let g : None ≡ Some (plainly y w) = sym gone ∙ c.front.there in
+    cc)) in
     let answer_is : a.id ≡ answer_id i = ap answer_id (sym f.named) in
     let fresh : s.bag a.id ≡ None = ap s.bag answer_is ∙ bag_none sane.r sane.e s (answer_id i) zero_ sane.sound.entered in
     let bag_is : (j : MsgId) → on.bag j ≡ (with_sent (placed.without_message l i) (Some a)).bag j = λ j. refl in

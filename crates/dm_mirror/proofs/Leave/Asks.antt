@@ -227,11 +227,13 @@ sets_off b m pt l records k p machine asker says t a box to on h =
             notes = h.notes;
             records = λ n q off. records_as records m n k.records state.records q h.records_here (sets q off);
             came = λ i u z told between least. (
-                let e = stood m h.front h.ids v next.view i z h.first gone least in
-                ((e.spot, e.stands), elim (spot_cases e.spot (Inbox m)) [
-                  | inl is ↦ h.behind i (e.behind is)
-                  | inr off ↦ h.kept e.spot i off e.stands
-                ]));
+                let e = stood m h.front h.ids v next.view i z h.first gone least in (
+                  (e.spot, e.stands),
+                  elim (spot_cases e.spot (Inbox m)) [
+                    | inl is ↦ h.behind i (e.behind is)
+                    | inr off ↦ h.kept e.spot i off e.stands
+                  ],
+                ));
             none = λ i u z told between about least. (let e = stood m h.front h.ids v next.view i z h.first gone least in none_rests b pt m p i u e.spot h.run h.at_m told between about e.stands);
           }) h.tokens;
     }

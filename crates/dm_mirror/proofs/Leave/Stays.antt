@@ -78,9 +78,9 @@ refuses b m pt l records k y p slots blocks h =
     let sets : (q : Pid) → pid_eq p q ≡ false → state.records q ≡ k.records q = λ q off. ap (λ (c : Bool). if c then Some (Record.Here x) else k.records q) off in
     let keeps : is_server p ≡ true → state.records p ≡ k.records p = λ is. absurd (false≢true (sym server ∙ is)) in
     let none : (i : MsgId) (t : Told) (spot : Spot) → v.told i ≡ Some t → is_between t.kind ≡ true → t.about ≡ Of p → 1 ≤ standing next.view i spot → ⊥ = λ i t spot told between about least. (
-      let e = stood m y.id h.ids v next.view i spot h.box gone least in
-      let is : i ≡ y.id = g.alone i t e.spot told between about e.stands in
-      front_nowhere b m pt l records k z h next.view spot gone (subst (λ (j : MsgId). 1 ≤ standing next.view j spot) is least)) in
+    let e = stood m y.id h.ids v next.view i spot h.box gone least in
+    let is : i ≡ y.id = g.alone i t e.spot told between about e.stands in
+    front_nowhere b m pt l records k z h next.view spot gone (subst (λ (j : MsgId). 1 ≤ standing next.view j spot) is least)) in
     let away : (n : ℕ) → n ≢ m → has_process (v.known n p) ≡ false = λ n off. refused_away m g.to n (Some y.id) (v.known n p) (m == n) (g.to == n) refl refl (eq_off m n off) (g.phase n) in
     ends_move_row b m pt l records k p (Line.Stays p) state next.view l (record {
       run = h.run;
