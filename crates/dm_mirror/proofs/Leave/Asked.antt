@@ -23,7 +23,7 @@ use Rattle.dm_kernel.specs.State as kernels
 use Rattle.dm_kernel.specs.Departing.{asked_to_move, freezing, with_frozen}
 use Rattle.dm_mirror.proofs.Turning.{Row, TurnsAt, has_process, is_elsewhere}
 use Rattle.dm_mirror.proofs.Kernel.Sets.{after_label, label_mirrors, off_if, on_if}
-use Rattle.dm_mirror.proofs.Handle.Taking.{IsProcess, Taking, held_apart, known_on, machine_off, machine_self, map_same, not_server, outcome_is, queue_apart, sane_of, sent_there, some_same, stands_set, turn_is}
+use Rattle.dm_mirror.proofs.Handle.Taking.{Taking, eq_self, held_apart, known_on, machine_off, machine_self, map_same, not_server, outcome_is, queue_apart, sane_of, sent_there, some_same, stands_set, turn_is}
 use Rattle.dm_mirror.proofs.Handle.Rows.{Elsewhere, Moves, here_left, kept_at, kept_behind, mirrors_one, own_back, own_kept, standing_begun}
 use Rattle.dm_mirror.proofs.Handle.Ended.{IsHere, here_outcome, here_turn}
 use Rattle.dm_mirror.proofs.Follow.Fronts.{elsewhere_apart, front_gone}
@@ -197,8 +197,8 @@ asked_here b m pt l k y machine c h is =
     (subst (KnownStands next on p (pt.view.queue m p) (pt.view.held m p) Here) (sym h.there)
     ((h.queue, h.placed), map_same l.bag on.bag (pt.view.queue m p) (queues p) ∙ h.waits)) in
     let taken = taken_same pt next m refl (λ n. refl) (λ q. refl) in
-    let to_here : (machine == k.here) ≡ true = grind (arith, nat_tests) in
-    let to_rule : (m == machine) ≡ true = grind (arith, nat_tests) in
+    let to_here : (machine == k.here) ≡ true = ap (λ (n : ℕ). n == k.here) (sym is ∙ sym c.stands.here) ∙ eq_self k.here in
+    let to_rule : (m == machine) ≡ true = ap (λ (n : ℕ). m == n) (sym is) ∙ eq_self m in
     let parts = λ (n : MsgId) (z : ℕ). kernels.says (Label.Asked i) ∷ kernels.says (Label.Answered n Outcome.Done) ∷ Part.Routes (moved_answer z h.x Outcome.Done asker) ∷ [] in
     let sent_off = turned (kernels.with_sent (with_frozen k0 p h.x machine (Some asker))) (kernels.says (Label.Asked i) ∷ freezing k0 p h.x machine (Some asker)) in
     record {

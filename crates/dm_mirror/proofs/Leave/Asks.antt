@@ -5,7 +5,7 @@ use Rattle.dm_mirror.proofs.Names.{pid_eq-is, pid_eq-same, to_kernel, Point, mov
 use Rattle.dm_mirror.proofs.Names.{is_server, has_nothing_held, is_fixed, Placed, mirrors_view, told_of, KnownStands, LeavesStand, RoomStands, AllRecords, eq_not, or-right, ◌/◌, length, option_map, Option, Addr, pid_of, kind_of, plain_what}
 use Rattle.dm_mirror.proofs.Names.{with_what, frozen_of, incoming_of, Departure, block_of, chunk_of, state_of, OneKernel, bind, plain_process, gives_piece, kernel_handles, Addresses, Receiver, Sender, gets, own_gives, unmoved, kernel_told}
 use Rattle.dm_mirror.proofs.Names.{is_between, is_of_source, fits, free_room, kernel_hears, Inbox, standing, Told, Unknown, View, after_proto, handled, Run, enclosed, about_of, Carries, destination_of, false≢true, ◌++◌, turn, outcome, after, Step, plain_message, HereStands, Mirrors, AllOwnStand, KernelStands, TokensStand}
-use Rattle.dm_mirror.proofs.Names.{Spot, Queue, Held, spot_cases}
+use Rattle.dm_mirror.proofs.Names.{AreMessages, Spot, Queue, Held, spot_cases}
 use Rattle.dm_message.specs.declared.Asker.{Asker}
 use Rattle.dm_places.specs.Placed.{plain_note}
 use Rattle.dm_rule.specs.Migrating.{leaves_for}
