@@ -16,7 +16,7 @@ use Rattle.dm_kernel.specs.declared.part.Part.TheVariants as part
 use Rattle.dm_kernel.specs.State as machine
 use Rattle.dm_kernel.specs.Departing.{tells_asker}
 use Rattle.dm_rule.specs.Migrating as migrating
-use Rattle.dm_mirror.proofs.Names.{Told}
+use Rattle.dm_mirror.proofs.Names.{Told, is_between}
 use Rattle.dm_mirror.proofs.Leave.Answered.{EndsMove, ends_move_row}
 use Rattle.dm_mirror.proofs.Come.Frames.{Arrives, Comes, arrives, own_once}
 use Rattle.dm_mirror.proofs.Come.Turns.{come_view, eq_off, fewer, gone, machine_self, others_known}

@@ -53,7 +53,7 @@ line_routed v (Line.Put a b i k q) h = put_routed v a b i k q h
 line_routed v any_ h = still_routed v any_ refl h
 
 pub routed_group : (b : Boot) (pt : Point) (d : Step) (w : Spelled) → group_of b pt d ≡ Some w → Routed pt.view → Routed w.point.view
-routed_group b pt d w e h = group_keeps Routed (λ v a k. k) line_routed b pt d w e h
+routed_group b pt d w e h = group_keeps Routed (λ v a k i told. let r = k i told in record { from = r.from; to = r.to; there = r.there }) line_routed b pt d w e h
 
 pub routed_start : (b : Boot) → Routed (first_view b)
 routed_start b = λ i told. absurd (false≢true told)
