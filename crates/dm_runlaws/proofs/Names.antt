@@ -2,7 +2,8 @@
 pub use Rattle.dm_records.proofs.Names.{Bool, Option, Pid, Some, ap, arith, false, if◌then◌else◌, refl, sym, true, ◌∙◌, ◌≡◌}
 pub use Rattle.dm_processor.proofs.Names.{List, [], drop, length, nat_tests, suc, zero, ℕ, ◌++◌, ◌+◌, ◌-◌, ◌<◌, ◌∷◌, ◌≤◌}
 pub use Rattle.dm_room.proofs.Names.{slice_get}
-pub use Rattle.dm_stream.proofs.Names.{cases_Bool, inl, inr, is_some, nat_lt, subst, ◌≢◌, ◌⊎◌}
+pub use Rattle.dm_wire.proofs.Names.{inl, inr}
+pub use Rattle.dm_stream.proofs.Names.{cases_Bool, is_some, nat_lt, subst, ◌≢◌, ◌⊎◌}
 unfoldable pub use Rattle.dm_stream.specs.Packets.{load_at}
 pub use Rattle.dm_linktable.proofs.Names.{map, ◌&&◌, ◌==◌}
 pub use Rattle.dm_packet.proofs.Names.{All, Message, MessageKind, MsgId, append-nil, nat_le, not, spelling}
@@ -30,18 +31,18 @@ pub use Rattle.dm_settlelaws.proofs.Names.{next_and_left, next_delivery, next_di
 pub use Rattle.dm_settlelaws.proofs.Names.{undelivered}
 pub use Rattle.dm_settlelaws.proofs.PassHas.{settles_always}
 pub use Rattle.dm_settlelaws.proofs.Rests.EndsQuiet.{or_is, pass_stays, settles_is, unless_is}
-pub use Rattle.dm_node.specs.Out.{packet_of_load}
 pub use Rattle.dm_world.proofs.Names.{Round, WorldState, bytes_at, is_pair}
 pub use Rattle.dm_mirror.proofs.Deliver.Events.{mark_next}
 pub use Rattle.dm_mirror.proofs.Deliver.Outs.{bytes_marked}
 pub use Rattle.dm_mirror.proofs.Going.{leads_last}
 pub use Rattle.dm_mirror.proofs.Local.{acts_locally}
 pub use Rattle.dm_mirror.proofs.Machines.{machines_group, plainly_is, some_machine}
-pub use Rattle.dm_mirror.proofs.Names.{AreMessages, GoesOn, History, IsDirective, IsTodo, IsTwo, PairStands, PutsFrom, Stands, StandsWith, bytes_of, following, full_pair, is_full, joined, line_of, load_of, marked_by, received_once, worn_in}
+pub use Rattle.dm_mirror.proofs.Names.{AreMessages, GoesOn, History, IsDirective, IsTodo, IsTwo, PairStands, PutsFrom, Stands, StandsWith, bytes_of, following, full_pair, is_full, joined, line_of, load_of, marked_by, message_id}
+pub use Rattle.dm_mirror.proofs.Names.{packet_of_load, received_once, worn_in}
 pub use Rattle.dm_mirror.proofs.Next.{IsBelow, all_below, all_pairs, next_fits}
+pub use Rattle.dm_mirror.proofs.Routing.{worn_alike}
 pub use Rattle.dm_mirror.proofs.Staying.{kernel_stays}
 pub use Rattle.dm_mirror.specs.Run.{IsGood}
-pub use Rattle.dm_mirror.specs.Stands.{message_id}
 pub use Rattle.dm_runlaws.specs.Order.{GoodInOrder, MoveNothing}
 pub use Rattle.dm_runlaws.specs.Packets.{GoesTo, HasNumber, PacketsAgree, PacketsSpell, Spells, number_in, number_of}
 pub use Rattle.dm_runlaws.specs.Settling.{SettleFew, puts_in}
