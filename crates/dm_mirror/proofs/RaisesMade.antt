@@ -276,7 +276,8 @@ manager_raises_of s id g (Some m) k e le = record {
   stays = record { machines = refl; made = λ h. refl; lives = λ p. refl };
 }
 
-manager_raises : (s : OneKernel) (id : MsgId) (m : PlainMessage) (k : manage.ManagerTook) → HasAnswer s.manager m.id.n m.what → manage.manager_takes s.manager s.machines (length s.images) m m.what ≡ Some k → Raises (sent_raise k.message) s (service.manager_took s id k)
+manager_raises : (s : OneKernel) (id : MsgId) (m : PlainMessage) (k : manage.ManagerTook) → HasAnswer s.manager m.id.n m.what
+    → manage.manager_takes s.manager s.machines (length s.images) m m.what ≡ Some k → Raises (sent_raise k.message) s (service.manager_took s id k)
 manager_raises s id m k has took =
     let (memory, piece, sends) = manager_takes_lem s.manager s.machines (length s.images) m m.what k took in
     let count = manager_sent s.manager.sent k.manager.sent k.message sends.sends in

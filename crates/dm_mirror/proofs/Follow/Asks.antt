@@ -39,7 +39,8 @@ tokens_asked b pt l records k c p to q i t z told between about least =
     let one = c.tokens q i t z told between about (stood pt p to i z least) in
     let n = destination_of i t in
     search
-    (carries_on q one.process (l.notes q) (pt.view.asked q) (incoming_of (records n q)) (incoming_of (at_machine records 0 k.records n q)) one.message.what (λ u w. subst (λ (f : Pid → Option machine.KernelKnown). Wants (incoming_of (f q)) u) (sym (same_records records k n (0 == n) c.mine refl)) w) one.carries)
+    (carries_on q one.process (l.notes q) (pt.view.asked q) (incoming_of (records n q)) (incoming_of (at_machine records 0 k.records n q)) one.message.what
+    (λ u w. subst (λ (f : Pid → Option machine.KernelKnown). Wants (incoming_of (f q)) u) (sym (same_records records k n (0 == n) c.mine refl)) w) one.carries)
 
 own_asked : (b : Boot) (pt : Point) (l : Placed) (records : AllRecords) (k : KernelState) (c : Asks b pt l records k) (p : Pid) (to : ℕ) → AllOwnStand (asked_point pt p to).view l
 own_asked b pt l records k c p to i x there plain = let o = c.own i x there plain in record { told = o.told; mine = o.mine; sender = o.sender }

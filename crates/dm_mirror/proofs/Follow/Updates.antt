@@ -59,7 +59,8 @@ turns_quiet b m pt l records k y c h =
       own_front = λ z e plain. c.own y.id z e plain;
       sent = (let e : k.sent ≡ k.sent + 0 = omega arith in e);
       single = omega arith;
-      known = λ server. known_on pt (handled_point pt m y.id pt.view.held topic h.addresses) l placed p (pt.view.queue m p) (pt.view.held m p) (pt.view.known m p) (k.records p) refl refl refl (λ j least. refl) (λ j least. refl) (c.stands.known p server);
+      known = λ server. known_on pt (handled_point pt m y.id pt.view.held topic h.addresses) l placed p (pt.view.queue m p) (pt.view.held m p) (pt.view.known m p) (k.records p)
+          refl refl refl (λ j least. refl) (λ j least. refl) (c.stands.known p server);
       still = front_still b m pt l records k y c h.number;
       may = tt;
       leaves = search (h.board_stays, h.manager_stays, h.same);

@@ -174,8 +174,8 @@ pub data BagFor (m : ℕ) (pt : Point) (p : Pid) (w : PlainWhat) : Type 0 where
   ForEnded : (over : pt.view.known m p ≡ Known.Ended) → BagFor m pt p w
 
 -- the receiver is here, a row a kind
-here_row : (b : Boot) (m : ℕ) (pt : Point) (l : Placed) (k : KernelState) (y : Message) (w : PlainWhat) (ps : List Part) (c : Taking b m pt l k y w) (h : IsHere b m pt l k y.to.pid) → ((machine : ℕ) → w ≡ PlainWhat.Move machine → ⊥) → WhatFits pt.kernel y.id (plainly y w) w
-    → rule.here_handles pt m y.id (plainly y w) (plain_process h.x) w ≡ Some ps → Row b m pt l k
+here_row : (b : Boot) (m : ℕ) (pt : Point) (l : Placed) (k : KernelState) (y : Message) (w : PlainWhat) (ps : List Part) (c : Taking b m pt l k y w) (h : IsHere b m pt l k y.to.pid)
+    → ((machine : ℕ) → w ≡ PlainWhat.Move machine → ⊥) → WhatFits pt.kernel y.id (plainly y w) w → rule.here_handles pt m y.id (plainly y w) (plain_process h.x) w ≡ Some ps → Row b m pt l k
 here_row b m pt l k y (PlainWhat.User code channel bytes ls) ps c h stays fits goes = user_row b m pt l k y code channel bytes ls c h
 here_row b m pt l k y PlainWhat.Stop ps c h stays fits goes = stop_row b m pt l k y c h
 here_row b m pt l k y PlainWhat.Resume ps c h stays fits goes = resume_row b m pt l k y c h
@@ -200,8 +200,8 @@ process_row b m pt l k y w ps c process (ForHere here stays) fits goes =
 process_row b m pt l k y w ps c process (ForEnded over) fits goes = ended_row b m pt l k y w c (is_ended b m pt l k y w c process over) fits
 
 -- a kernel, a server or a process
-row_by : (b : Boot) (m : ℕ) (pt : Point) (l : Placed) (k : KernelState) (y : Message) (w : PlainWhat) (ps : List Part) (d e f : Bool) (c : Taking b m pt l k y w) → (y.to.pid.num == 0) ≡ d → pid_eq y.to.pid switchboard ≡ e → pid_eq y.to.pid manager ≡ f → BagFor m pt y.to.pid w
-    → WhatFits pt.kernel y.id (plainly y w) w → rule.handles b pt m y.id (plainly y w) ≡ Some ps → Row b m pt l k
+row_by : (b : Boot) (m : ℕ) (pt : Point) (l : Placed) (k : KernelState) (y : Message) (w : PlainWhat) (ps : List Part) (d e f : Bool) (c : Taking b m pt l k y w) → (y.to.pid.num == 0) ≡ d → pid_eq y.to.pid switchboard ≡ e
+    → pid_eq y.to.pid manager ≡ f → BagFor m pt y.to.pid w → WhatFits pt.kernel y.id (plainly y w) w → rule.handles b pt m y.id (plainly y w) ≡ Some ps → Row b m pt l k
 row_by b m pt l k y w ps true e f c num one two whom fits goes = kernel_row b m pt l k y w ps c num (sym (rule_to_kernel b pt m y.id (plainly y w) num) ∙ goes)
 row_by b m pt l k y w ps false true f c num one two whom fits goes = board_row b m pt l k y w ps c num one (sym (rule_to_board b pt m y.id (plainly y w) num one) ∙ goes)
 row_by b m pt l k y w ps false false true c num one two whom fits goes = manager_row b m pt l k y w ps c num one two fits (sym (rule_to_manager b pt m y.id (plainly y w) num one two) ∙ goes)

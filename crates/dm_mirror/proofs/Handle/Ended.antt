@@ -74,11 +74,14 @@ drop_row b m pt l k y w c h drops turn outcome =
       outcome = ended_outcome b m pt l k y w (Some (rule.says (Label.Dropped y.id) ∷ [])) h outcome;
       fresh = λ a is. cc;
       plain = λ a is. cc;
-      mine = λ off bag holds. known_on pt (handled_point pt m y.id (Label.Dropped y.id) next) l (placed.without_message l y.id) p (pt.view.queue m p) (pt.view.held m p) (pt.view.known m p) (k.records p) refl refl refl bag holds (c.stands.known p off);
+      mine = λ off bag holds. known_on pt (handled_point pt m y.id (Label.Dropped y.id) next) l (placed.without_message l y.id) p (pt.view.queue m p) (pt.view.held m p) (pt.view.known m p) (k.records p)
+          refl refl refl bag holds (c.stands.known p off);
       leaves = search (c.stands.servers);
     })
 
-gone_row : (b : Boot) (m : ℕ) (pt : Point) (l : Placed) (k : KernelState) (y : Message) (w : PlainWhat) (c : Taking b m pt l k y w) → IsEnded b m pt l k y.to.pid → (u : PlainWhat) → service.gone_what w ≡ Some u → is_some (plain_message (gone_answer m y)) ≡ true → ended_handles (record k { inbox = c.rest }) y y.what ≡ machine.is_gone (record k { inbox = c.rest }) y
+gone_row : (b : Boot) (m : ℕ) (pt : Point) (l : Placed) (k : KernelState) (y : Message) (w : PlainWhat) (c : Taking b m pt l k y w) → IsEnded b m pt l k y.to.pid → (u : PlainWhat)
+    → service.gone_what w ≡ Some u → is_some (plain_message (gone_answer m y)) ≡ true
+    → ended_handles (record k { inbox = c.rest }) y y.what ≡ machine.is_gone (record k { inbox = c.rest }) y
     → rule.ended_handles y.id w ≡ Some (rule.says (Label.Gone y.id) ∷ Part.Routes (answer_id y.id) ∷ []) → Row b m pt l k
 gone_row b m pt l k y w c h u says plain turn outcome =
     let s = pt.kernel in
@@ -106,7 +109,8 @@ gone_row b m pt l k y w c h u says plain turn outcome =
       outcome = ended_outcome b m pt l k y w (Some (rule.says (Label.Gone y.id) ∷ Part.Routes (answer_id y.id) ∷ [])) h outcome;
       fresh = λ z is. let same : a ≡ z = cc in ap (λ (n : Message). s.bag n.id) (sym same) ∙ bag_none seen.r seen.e s (answer_id y.id) (bag.fresh (answer_id y.id) refl) seen.sound.entered;
       plain = λ z is. let same : a ≡ z = cc in ap (λ (n : Message). is_some (plain_message n)) (sym same) ∙ plain;
-      mine = λ off same holds. known_on pt (handled_point pt m y.id (Label.Gone y.id) next) l on p (pt.view.queue m p) (pt.view.held m p) (pt.view.known m p) (k.records p) refl refl refl same holds (c.stands.known p off);
+      mine = λ off same holds. known_on pt (handled_point pt m y.id (Label.Gone y.id) next) l on p (pt.view.queue m p) (pt.view.held m p) (pt.view.known m p) (k.records p)
+          refl refl refl same holds (c.stands.known p off);
       leaves = search (c.stands.servers);
     })
 
@@ -123,9 +127,12 @@ ended_row b m pt l k y PlainWhat.Kill c h fits = drop_row b m pt l k y PlainWhat
 ended_row b m pt l k y (PlainWhat.Block bytes) c h fits = drop_row b m pt l k y (PlainWhat.Block bytes) c h refl (ap (ended_handles (record k { inbox = c.rest }) y) (block_what y.what bytes c.says).is) refl
 ended_row b m pt l k y PlainWhat.Written c h fits = drop_row b m pt l k y PlainWhat.Written c h refl (ap (ended_handles (record k { inbox = c.rest }) y) (written_what y.what c.says)) refl
 ended_row b m pt l k y PlainWhat.Gone c h fits = drop_row b m pt l k y PlainWhat.Gone c h refl (ap (ended_handles (record k { inbox = c.rest }) y) (gone_what y.what c.says)) refl
-ended_row b m pt l k y (PlainWhat.Read base len) c h fits = gone_row b m pt l k y (PlainWhat.Read base len) c h PlainWhat.Gone refl (gone_plain m y (What.Read base len) (read_what y.what base len c.says) refl) (ap (ended_handles (record k { inbox = c.rest }) y) (read_what y.what base len c.says)) refl
-ended_row b m pt l k y (PlainWhat.Write base bytes) c h fits = (let g = write_what y.what base bytes c.says in
-    gone_row b m pt l k y (PlainWhat.Write base bytes) c h PlainWhat.Gone refl (gone_plain m y (What.Write base g.body) g.is refl) (ap (ended_handles (record k { inbox = c.rest }) y) g.is) refl)
+ended_row b m pt l k y (PlainWhat.Read base len) c h fits =
+    let is = read_what y.what base len c.says in
+    gone_row b m pt l k y (PlainWhat.Read base len) c h PlainWhat.Gone refl (gone_plain m y (What.Read base len) is refl) (ap (ended_handles (record k { inbox = c.rest }) y) is) refl
+ended_row b m pt l k y (PlainWhat.Write base bytes) c h fits =
+    let g = write_what y.what base bytes c.says in
+    gone_row b m pt l k y (PlainWhat.Write base bytes) c h PlainWhat.Gone refl (gone_plain m y (What.Write base g.body) g.is refl) (ap (ended_handles (record k { inbox = c.rest }) y) g.is) refl
 ended_row b m pt l k y (PlainWhat.Create image links) c h fits = absurd (no_kernel y.to.pid h.process fits.0)
 ended_row b m pt l k y (PlainWhat.Move machine) c h fits =
     let is = move_what y.what machine c.says in
@@ -177,7 +184,8 @@ pub here_outcome : (b : Boot) (m : ℕ) (pt : Point) (l : Placed) (k : KernelSta
 here_outcome b m pt l k y w h o e = grind (arith, nat_tests, rule_to_process)
 
 -- the kernel's step for a served message
-pub served_step : (s : OneKernel) (i : MsgId) (x : PlainMessage) (z : PlainProcess) (t : OneKernel) → s.bag i ≡ Some x → s.processes x.to ≡ Some (Alive z) → s.notes x.to ≡ None → service.serves s i x z x.what ≡ Some t → kernel.step s (Label.Served i) ≡ Some t
+pub served_step : (s : OneKernel) (i : MsgId) (x : PlainMessage) (z : PlainProcess) (t : OneKernel) → s.bag i ≡ Some x → s.processes x.to ≡ Some (Alive z) → s.notes x.to ≡ None
+    → service.serves s i x z x.what ≡ Some t → kernel.step s (Label.Served i) ≡ Some t
 served_step s i x z t there alive free e = grind (arith, nat_tests)
 
 pub served_placed : (pt : Point) (l on : Placed) (m : ℕ) (y : Message) (x : Process) → l.bag y.id ≡ Some y → l.processes y.to.pid ≡ Some x → placed.serves m (placed.without_message l y.id) y x y.what ≡ Some on → placed.placed_step m pt.kernel.format pt.kernel.images l (Label.Served y.id) ≡ Some on

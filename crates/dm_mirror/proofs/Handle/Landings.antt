@@ -265,7 +265,8 @@ read_row b m pt l k y base len c h fits =
       outcome = refl;
       queue = ap (λ (v : What). (after_serving h.x v).queue) is;
       memory = refl;
-      fresh = λ n e. let f : a ≡ n = cc in ap (λ (g : Message). s.bag g.id) (sym f) ∙ served_fresh b m pt l k y w c h (kernels.with_sent (service.changed s y.id x px) (Some q)) (answer_id y.id) (served_step s y.id x px (kernels.with_sent (service.changed s y.id x px) (Some q)) c.front.there h.life h.free serves) refl;
+      fresh = λ n e. let f : a ≡ n = cc in ap (λ (g : Message). s.bag g.id) (sym f) ∙ served_fresh b m pt l k y w c h (kernels.with_sent (service.changed s y.id x px) (Some q)) (answer_id y.id)
+          (served_step s y.id x px (kernels.with_sent (service.changed s y.id x px) (Some q)) c.front.there h.life h.free serves) refl;
       plain = λ n e. let f : a ≡ n = cc in ap (λ (v : Message). is_some (plain_message v)) (sym f);
       quiet = λ v p. refl;
     })
@@ -297,7 +298,8 @@ write_row b m pt l k y base bytes c h fits =
       outcome = refl;
       queue = ap (λ (v : What). (after_serving h.x v).queue) g.is;
       memory = length-written h.x.memory base bytes (let f : base + length bytes ≤ length h.x.memory = grind (arith, nat_tests) in f);
-      fresh = λ n e. let f : a ≡ n = cc in ap (λ (v : Message). s.bag v.id) (sym f) ∙ served_fresh b m pt l k y w c h (kernels.with_sent (service.changed s y.id x pz) (Some q)) (answer_id y.id) (served_step s y.id x px (kernels.with_sent (service.changed s y.id x pz) (Some q)) c.front.there h.life h.free serves) refl;
+      fresh = λ n e. let f : a ≡ n = cc in ap (λ (v : Message). s.bag v.id) (sym f) ∙ served_fresh b m pt l k y w c h (kernels.with_sent (service.changed s y.id x pz) (Some q)) (answer_id y.id)
+          (served_step s y.id x px (kernels.with_sent (service.changed s y.id x pz) (Some q)) c.front.there h.life h.free serves) refl;
       plain = λ n e. let f : a ≡ n = cc in ap (λ (v : Message). is_some (plain_message v)) (sym f);
       quiet = λ v p. refl;
     })

@@ -220,9 +220,11 @@ user_row b m pt l k y code channel bytes ls c num is =
           ∙ ap (λ (d : Bool). if d then bind (boards.board_takes s.switchboard x x.what) (λ (z : boards.BoardTook). Some (service.switchboard_took s y.id z)) else if pid_eq x.to manager then bind (one.manager_takes s.manager s.machines (length s.images) x x.what) (λ (z : one.ManagerTook). Some (service.manager_took s y.id z)) else None) is
           ∙ ap (λ (o : Option boards.BoardTook). bind o (λ (z : boards.BoardTook). Some (service.switchboard_took s y.id z))) takes;
       placed_is = ap (λ (o : Option Message). bind o (placed.takes m (placed.without_message l y.id))) c.there
-          ∙ ap (λ (d : Bool). if d then bind (board.takes m l.board y.what) (λ (z : board.Taken). Some (board_took (placed.without_message l y.id) z)) else if pid_eq y.to.pid manager then bind (manage.takes m l.manager y.id.n y.what) (λ (z : manage.Taken). Some (manager_took (placed.without_message l y.id) z)) else None) is
+          ∙ ap (λ (d : Bool). if d then bind (board.takes m l.board y.what) (λ (z : board.Taken). Some (board_took (placed.without_message l y.id) z))
+          else if pid_eq y.to.pid manager then bind (manage.takes m l.manager y.id.n y.what) (λ (z : manage.Taken). Some (manager_took (placed.without_message l y.id) z)) else None) is
           ∙ ap (λ (o : Option board.Taken). bind o (λ (z : board.Taken). Some (board_took (placed.without_message l y.id) z))) taken;
-      turn = to_board b k0 y num is ∙ ap (board_handles k0 y) (c.stands.servers ∙ servers_zero l m at) ∙ ap (λ (n : ℕ). machine.board_took k0 y v (board.takes n l.board y.what)) c.stands.here ∙ ap (machine.board_took k0 y v) taken;
+      turn = to_board b k0 y num is ∙ ap (board_handles k0 y) (c.stands.servers ∙ servers_zero l m at)
+          ∙ ap (λ (n : ℕ). machine.board_took k0 y v (board.takes n l.board y.what)) c.stands.here ∙ ap (machine.board_took k0 y v) taken;
       outcome = rule_to_board b pt m y.id x num is ∙ ap (rule.board_took y.id) takes;
       machines = refl;
       made = λ n. refl;
@@ -243,7 +245,8 @@ board_row b m pt l k y (PlainWhat.User code channel bytes ls) ps c num is goes =
 board_row b m pt l k y w ps c num is goes = absurd (let f : None ≡ Some ps = goes in cc)
 
 manager_by : (b : Boot) (m : ℕ) (pt : Point) (l : Placed) (k : KernelState) (y : Message) (w : PlainWhat) (t : manage.Taken) → Taking b m pt l k y w → (y.to.pid.num == 0) ≡ false → pid_eq y.to.pid switchboard ≡ false → pid_eq y.to.pid manager ≡ true
-    → manage.takes m l.manager y.id.n y.what ≡ Some t → one.manager_takes pt.kernel.manager pt.kernel.machines (length pt.kernel.images) (plainly y w) w ≡ Some (record { manager = plain_manager t.manager; message = bind t.message plain_message }) → IsPlain t.message → Row b m pt l k
+    → manage.takes m l.manager y.id.n y.what ≡ Some t
+    → one.manager_takes pt.kernel.manager pt.kernel.machines (length pt.kernel.images) (plainly y w) w ≡ Some (record { manager = plain_manager t.manager; message = bind t.message plain_message }) → IsPlain t.message → Row b m pt l k
 manager_by b m pt l k y w t c num off is taken takes plain =
     let s = pt.kernel in
     let x = plainly y w in
@@ -264,10 +267,12 @@ manager_by b m pt l k y w t c num off is taken takes plain =
           ∙ ap (λ (d : Bool). if d then bind (one.manager_takes s.manager s.machines (length s.images) x x.what) (λ (z : one.ManagerTook). Some (service.manager_took s y.id z)) else None) is
           ∙ ap (λ (o : Option one.ManagerTook). bind o (λ (z : one.ManagerTook). Some (service.manager_took s y.id z))) takes;
       placed_is = ap (λ (o : Option Message). bind o (placed.takes m (placed.without_message l y.id))) c.there
-          ∙ ap (λ (d : Bool). if d then bind (board.takes m l.board y.what) (λ (z : board.Taken). Some (board_took (placed.without_message l y.id) z)) else if pid_eq y.to.pid manager then bind (manage.takes m l.manager y.id.n y.what) (λ (z : manage.Taken). Some (manager_took (placed.without_message l y.id) z)) else None) off
+          ∙ ap (λ (d : Bool). if d then bind (board.takes m l.board y.what) (λ (z : board.Taken). Some (board_took (placed.without_message l y.id) z))
+          else if pid_eq y.to.pid manager then bind (manage.takes m l.manager y.id.n y.what) (λ (z : manage.Taken). Some (manager_took (placed.without_message l y.id) z)) else None) off
           ∙ ap (λ (d : Bool). if d then bind (manage.takes m l.manager y.id.n y.what) (λ (z : manage.Taken). Some (manager_took (placed.without_message l y.id) z)) else None) is
           ∙ ap (λ (o : Option manage.Taken). bind o (λ (z : manage.Taken). Some (manager_took (placed.without_message l y.id) z))) taken;
-      turn = to_manager b k0 y num off is ∙ ap (manager_handles k0 y) (c.stands.servers ∙ servers_zero l m at) ∙ ap (λ (n : ℕ). machine.manager_took k0 y v (manage.takes n l.manager y.id.n y.what)) c.stands.here ∙ ap (machine.manager_took k0 y v) taken;
+      turn = to_manager b k0 y num off is ∙ ap (manager_handles k0 y) (c.stands.servers ∙ servers_zero l m at)
+          ∙ ap (λ (n : ℕ). machine.manager_took k0 y v (manage.takes n l.manager y.id.n y.what)) c.stands.here ∙ ap (machine.manager_took k0 y v) taken;
       outcome = rule_to_manager b pt m y.id x num off is ∙ ap (rule.manager_parts y.id) takes;
       machines = refl;
       made = λ n. refl;

@@ -56,7 +56,8 @@ known_sets b pt next l placed m k s p q server w h = elim (cases_Bool (pid_eq p 
       let e : p ≡ q = pid_eq-is p q same in
       subst (λ (z : Pid). KnownStands next placed z (next.view.queue m z) (next.view.held m z) (next.view.known m z) (s.records z)) e (w.mine (ap is_server e ∙ server))
   | inr apart ↦
-      let on = known_on pt next l placed q (pt.view.queue m q) (pt.view.held m q) (pt.view.known m q) (k.records q) (w.processes q apart) (w.notes q apart) (w.lives q apart) (λ j least. w.bag q j apart least) (λ j least. w.holds q j apart least) (h.known q server) in
+      let on = known_on pt next l placed q (pt.view.queue m q) (pt.view.held m q) (pt.view.known m q) (k.records q)
+      (w.processes q apart) (w.notes q apart) (w.lives q apart) (λ j least. w.bag q j apart least) (λ j least. w.holds q j apart least) (h.known q server) in
       subst (KnownStands next placed q (next.view.queue m q) (next.view.held m q) (next.view.known m q)) (sym (w.records q apart))
       (subst (λ (z : Known). KnownStands next placed q (next.view.queue m q) (next.view.held m q) z (k.records q)) (sym (w.known q apart))
       (subst (λ (z : List MsgId). KnownStands next placed q (next.view.queue m q) z (pt.view.known m q) (k.records q)) (sym (w.held q apart))

@@ -168,8 +168,8 @@ pub messages_on : (f g : MsgId → Option Message) (ids : List MsgId) (ms : List
 messages_on f g ids ms same h = map_same f g ids same ∙ h
 
 -- what a machine knows of a process that stays
-pub known_at : (pt next : Point) (l placed : Placed) (q : Pid) (ids held_ : List MsgId) (w : Known) (r : Option machine.KernelKnown) → placed.processes q ≡ l.processes q → placed.notes q ≡ l.notes q → next.kernel.processes q ≡ pt.kernel.processes q
-    → ((i : MsgId) → 1 ≤ times i ids → placed.bag i ≡ l.bag i) → ((i : MsgId) → 1 ≤ times i held_ → placed.bag i ≡ l.bag i) → KnownStands pt l q ids held_ w r → KnownStands next placed q ids held_ w r
+pub known_at : (pt next : Point) (l placed : Placed) (q : Pid) (ids held_ : List MsgId) (w : Known) (r : Option machine.KernelKnown) → placed.processes q ≡ l.processes q → placed.notes q ≡ l.notes q
+    → next.kernel.processes q ≡ pt.kernel.processes q → ((i : MsgId) → 1 ≤ times i ids → placed.bag i ≡ l.bag i) → ((i : MsgId) → 1 ≤ times i held_ → placed.bag i ≡ l.bag i) → KnownStands pt l q ids held_ w r → KnownStands next placed q ids held_ w r
 known_at pt next l placed q ids held_ Unknown None p n e b c h = tt
 known_at pt next l placed q ids held_ Here (Some (Record.Here x)) p n e b c h = ((h.0.0, p ∙ h.0.1), messages_on l.bag placed.bag ids x.queue b h.1)
 known_at pt next l placed q ids held_ (Frozen to) (Some (Record.Frozen d)) p n e b c h = search

@@ -48,7 +48,8 @@ ran_of b m pt l k p x c n s ready steps memory =
     let t = ran_kernel pt p y in
     let plain : plain_status x.status ≡ Ready = ap plain_status ready in
     let step : kernel.step pt.kernel (Label.Ran p c) ≡ Some t =
-    ap (λ (o : Option PlainProcess). bind o (λ (v : PlainProcess). bind (kernel.plain_steps c (kernel.machine_of v)) (λ (z : Machine). Some (kernel.goes_on pt.kernel p (kernel.with_machine v z))))) (running_of pt.kernel p (plain_process x) s.at.alive s.at.free s.going plain)
+    ap (λ (o : Option PlainProcess). bind o (λ (v : PlainProcess). bind (kernel.plain_steps c (kernel.machine_of v)) (λ (z : Machine). Some (kernel.goes_on pt.kernel p (kernel.with_machine v z)))))
+    (running_of pt.kernel p (plain_process x) s.at.alive s.at.free s.going plain)
     ∙ ap (λ (o : Option Machine). bind o (λ (z : Machine). Some (kernel.goes_on pt.kernel p (kernel.with_machine (plain_process x) z)))) steps
     in
     let ready_x : placed.if_ready x x.status ≡ Some x = ap (placed.if_ready x) ready ∙ ap (λ (d : Bool). if d then None else Some x) s.going in
@@ -86,7 +87,8 @@ whole_acts b m pt l k p x y c s r = record {
 }
 
 -- a call after which it goes on, and sends nothing
-pub goes_acts : (b : Boot) (m : ℕ) (pt : Point) (l : Placed) (k : KernelState) (p : Pid) (x y z : Process) (c : ℕ) (e : Label) (s : Served b m pt l k p x) → Ran m pt l p x s.at.queue c y → ((u : OneKernel) (v : View) → seen u v (Line.Label e) ≡ v) → StepNeeds (ran_kernel pt p y) (ran_point pt p c y).view e
+pub goes_acts : (b : Boot) (m : ℕ) (pt : Point) (l : Placed) (k : KernelState) (p : Pid) (x y z : Process) (c : ℕ) (e : Label) (s : Served b m pt l k p x) → Ran m pt l p x s.at.queue c y
+    → ((u : OneKernel) (v : View) → seen u v (Line.Label e) ≡ v) → StepNeeds (ran_kernel pt p y) (ran_point pt p c y).view e
     → kernel.step (ran_kernel pt p y) e ≡ Some (kernel.goes_on (ran_kernel pt p y) p (plain_process z))
     → placed.placed_step m pt.kernel.format pt.kernel.images (ran_placed l p y s.at.queue) e ≡ Some (placed.with_process (ran_placed l p y s.at.queue) p (Some (with_queue z s.at.queue))) → z.queue ≡ x.queue → length z.memory ≡ length x.memory
     → Acts b m pt l k p (turned (with_here (moved_round k p) p z) (machine.says (Label.Ran p c) ∷ machine.says e ∷ [])) (Some (rule.says (Label.Ran p c) ∷ rule.says e ∷ []))
