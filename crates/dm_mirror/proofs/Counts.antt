@@ -3,11 +3,9 @@ pub mod Pairs
 pub mod AtEnds
 pub mod Waiting
 use Rattle.dm_mirror.proofs.Names.{◌≡◌, inl, inr, ℕ, ◌+◌, ◌<◌, ◌≤◌, true, List, [], ◌∷◌, length, nat_le, refl, ap, ◌∙◌, sym, subst, arith, Some, nat_tests, Pid, Boot, IsValid, OneKernel, Step, Line, Stage, Known, ascends, IsStep, Leads}
-use Rattle.dm_mirror.proofs.Names.{Part, Says, Spelled, spelled, Point, first_point, moved, group_of, at_pid, at_record, View, actor, view_after, GroupIs, group_is, said, says_next, both, Both, RunGoes, RunStarts, both_group, both_start}
-use Rattle.dm_mirror.proofs.Names.{Run}
-use Rattle.dm_mirror.proofs.Names.{Label, None, Option, Routes, answer_id}
-use Rattle.dm_message.specs.declared.Outcome.{Outcome}
-use Rattle.dm_onekernel.specs.Kernel.{MoveNote, Pending}
+use Rattle.dm_mirror.proofs.Names.{Says, Spelled, spelled, Point, first_point, moved, group_of, at_pid, at_record, View, actor, view_after, GroupIs, group_is, said, says_next, both, Both, RunGoes, RunStarts, both_group, both_start, Run}
+use Rattle.dm_mirror.proofs.Names.{Label, None, Option, Routes, answer_id, Outcome, MoveNote, Pending}
+use Rattle.dm_rule.proofs.Names.{Part}
 use Rattle.dm_rule.specs.Migrating.{tells_asker}
 use Rattle.dm_mirror.proofs.Counts.AtEnds.{BearEnds, Ends, PutsOne, Under, bear_ends, ends, ends_before, own_puts, routes_next, under_more, under_within, Bears, FrontRestarts, Pays, Restarts, Sort, SortIf, outcome_sort}
 use Rattle.dm_mirror.proofs.Counts.Pairs.{within_group, OwnFew, PairsWithin, own_group, line_still, CountsFew}

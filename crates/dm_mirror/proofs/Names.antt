@@ -19,8 +19,8 @@ unfoldable pub use Rattle.dm_stream.specs.Packets.{load_at}
 pub use Rattle.dm_stream.specs.Receiving.{advanced}
 pub use Rattle.dm_message.specs.Kinds.{IsKindOfPlain}
 pub use Rattle.dm_linktable.proofs.Names.{Link, Ok, count_by, length-map, link_at, map, slot_is_behind, ◌&&◌, ◌==◌}
-pub use Rattle.dm_packet.proofs.Names.{Addr, All, All-push, IfSome, IsLawfulMessage, IsMachine, IsRoute, Message, MessageKind, MsgId, What, append-nil, append_assoc, eq-eqb, eqb-true, flat_map, flat_map-cons, kind_of, length-append}
-pub use Rattle.dm_packet.proofs.Names.{message, nat_le, not, only_packet, spell_message, ◌>>=◌}
+pub use Rattle.dm_packet.proofs.Names.{Addr, All, All-push, Asker, IfSome, IsLawfulMessage, IsMachine, IsRoute, Message, MessageKind, MsgId, Outcome, What, append-nil, append_assoc, code_of_outcome, eq-eqb, eqb-true, flat_map}
+pub use Rattle.dm_packet.proofs.Names.{flat_map-cons, kind_of, length-append, message, nat_le, not, only_packet, spell_message, ◌>>=◌}
 pub use Rattle.dm_packet.proofs.Packets.{packet_again}
 unfoldable pub use Rattle.dm_packet.specs.Packets.{packet_of, read_rest, spelling}
 pub use Rattle.dm_process.proofs.Names.{first_on, is_on, without_first_on}
@@ -35,18 +35,17 @@ pub use Rattle.dm_migrate.proofs.Way.{by_pieces}
 pub use Rattle.dm_migrate.specs.Answer.{IsAskOfProcess}
 pub use Rattle.dm_switchboard.proofs.Imports.{ArrayVec, Board, Named, named_is_behind, plain_board, plain_link, plain_named, switchboard}
 pub use Rattle.dm_switchboard.proofs.Plain.{plain_request}
-pub use Rattle.dm_procman.proofs.Names.{Boot, BootProcess, IsForManager, IsValid, Managing, PlainLink, answer_over, at_home, child_named, control_link, manager, message_to, moves_child, pending_is_behind, pending_request, plain_child}
-pub use Rattle.dm_procman.proofs.Names.{plain_manager, plain_pending, process_is_valid, processes_are_valid, slice_get-map, starting_at, tells_to_move, ◌||◌}
+pub use Rattle.dm_procman.proofs.Names.{Boot, BootProcess, IsForManager, IsValid, Managing, PendingKind, PlainLink, answer_over, at_home, child_named, control_link, kernel_at, manager, message_to, moves_child, pending_is_behind}
+pub use Rattle.dm_procman.proofs.Names.{pending_request, plain_child, plain_manager, plain_pending, process_is_valid, processes_are_valid, slice_get-map, starting_at, tells_to_move, ◌||◌}
+pub use Rattle.dm_procman.proofs.Plain.{plain_created, plain_moved, plain_no_room, plain_user}
 pub use Rattle.dm_procman.specs.Making.{address_at}
-pub use Rattle.dm_procman.proofs.Plain.{plain_created, plain_no_room, plain_user}
-pub use Rattle.dm_laws.proofs.Counted.{is_of_memory}
-pub use Rattle.dm_laws.proofs.Names.{Alive, BootImage, Called, Label, Life, Manager, Moving, OneKernel, PlainMessage, PlainProcess, PlainStatus, Ready, Reply, Switchboard, Waiting, Why, answer_id, answer_to, bind, entry, false≢true}
-pub use Rattle.dm_laws.proofs.Names.{first_failed, first_life, first_number, id_eq, id_of, life_at, option_map, pid_of, reception, replay, start, when, with_process, without_message, ⊤}
+pub use Rattle.dm_laws.proofs.Names.{Alive, BootImage, Called, Label, Life, Manager, MoveNote, Moving, OneKernel, Pending, PlainMessage, PlainProcess, PlainStatus, Ready, Reply, Switchboard, Waiting, Why, answer_id, answer_to, bind, entry}
+pub use Rattle.dm_laws.proofs.Names.{false≢true, first_failed, first_life, first_number, id_eq, id_of, life_at, option_map, pid_of, reception, replay, start, when, with_process, without_message, ⊤}
 pub use Rattle.dm_laws.proofs.Runs.{reached, received_once}
-pub use Rattle.dm_laws.proofs.Servers.{board_takes_lem, why_ended-is as ended_is, manager_takes_lem}
+pub use Rattle.dm_laws.proofs.Servers.{why_ended-is as ended_is}
 pub use Rattle.dm_laws.proofs.Sound.{not_counted}
 pub use Rattle.dm_laws.proofs.Steps.{after_ran}
-pub use Rattle.dm_datamove.proofs.Names.{All-nil, IsAnswerOf, IsAwaited, IsWithin, Landing, after_serving, answer, answer_of, answer_with, piece_of, plain_landed, plain_process, plain_status, serving_answer, written_at}
+pub use Rattle.dm_datamove.proofs.Names.{All-nil, IsAnswerOf, IsAwaited, IsWithin, Landing, after_serving, answer, answer_of, answer_with, gone_answer, piece_of, plain_landed, plain_process, plain_status, serving_answer, written_at}
 pub use Rattle.dm_syscall.proofs.Names.{All-drop, Completion, Rest, length-written, plain_called, plain_completed, receive_refusals, reply_code, what_is_on}
 pub use Rattle.dm_syscall.specs.Plainly.{plain_sent}
 pub use Rattle.dm_line.proofs.Below.{all_same}
@@ -59,16 +58,17 @@ pub use Rattle.dm_rule.proofs.Homes.Lines.{acting_label}
 pub use Rattle.dm_rule.proofs.Letters.{letter_of}
 pub use Rattle.dm_rule.proofs.Moves.Sent.{fits_packet, fits_put}
 pub use Rattle.dm_rule.proofs.Names.{About, Addresses, Again, Child, Completing, Directive, Ended, Fault, Forward, Frozen, Gets, Held, Here, HomeStands, Inbox, Incoming, IsIn, IsStep, IsToken, Known, LandsSo, Leads, Line, Load, Made, Moves}
-pub use Rattle.dm_rule.proofs.Names.{Name, NamedLink, Next, Nexts, NothingElse, Nowhere, Of, Over, Owns, Pair, Part, Phase, Place, Point, Queue, Receiver, Rests, Room, Routes, Says, Sender, SentLoad, ServerSends, Slot, Sort, Sound, Spelled}
-pub use Rattle.dm_rule.proofs.Names.{Spot, Stage, StandsAsBag, StandsNowhere, StandsOnce, StandsOutside, StandsRight, Step, Todo, Told, Transmits, Unknown, Untaken, View, actor, addresses_after, after, after_label, after_line, after_packet}
-pub use Rattle.dm_rule.proofs.Names.{after_proto, after_put, after_step, alive-is, all_of, ascends, at_id, at_least, at_machine, at_pair, at_pid, at_record, begins, behind, behind_count, bind-is, child_number, chunks_of, comes_to}
-pub use Rattle.dm_rule.proofs.Names.{completing, counts, counts_process, dropped_for, ended, ended_told, filter, first_gives, first_point, first_view, fits, forward_about, forwarded_for, forwards_on, free_room, front_of, front_told, gets}
-pub use Rattle.dm_rule.proofs.Names.{given, goes_out, gone_after, gone_to, group_of, handled, has, has_mail, headed, hears, here_told, id_eq-is, id_eq-same, id_eq-swap, ids_at, is_apart, is_away, is_between, is_counted, is_dropped, is_due}
-pub use Rattle.dm_rule.proofs.Names.{is_early, is_here, is_kernels, is_over, is_quiet, is_restart, is_told_back, kept_from, kernel_after, kernel_hears, kernel_told, kind_comes, known_at, knows, label_of, lands-is, left_true, less, lines_of}
-pub use Rattle.dm_rule.proofs.Names.{migrates, migrates_child, more, moved, moved_back, next_step, nexts, not_server, numbers_from, oldest, outcome, own_given, own_gives, own_id, packet_line, pair_is_quiet, pid_eq-is, pid_eq-same}
-pub use Rattle.dm_rule.proofs.Names.{pieces_of, place_of, place_of_child, place_told, plain_kind, process_told, puts, queued_for, receiver_in, receiver_of, repeats, resends, right_true, ring_at, routed_on, sender_in, sends_on, server_told}
-pub use Rattle.dm_rule.proofs.Names.{slice_get_cases, slots_of, slots_with, sort_of, spelled, standing, takes_block, takes_chunk, taking_parts, target_of, times, to_kernel, to_of, token_in, told_between, unentered, unmoved, untaken}
-pub use Rattle.dm_rule.proofs.Names.{updates, view_after, when-is, with_pair, without, without_first, without_front, without_id}
+pub use Rattle.dm_rule.proofs.Names.{Name, NamedLink, Next, Nexts, NothingElse, Nowhere, Of, Over, Owns, Pair, Phase, Place, Point, Queue, Receiver, Rests, Room, Routes, Says, Sender, SentLoad, ServerSends, Slot, Sort, Sound, Spelled, Spot}
+pub use Rattle.dm_rule.proofs.Names.{Stage, StandsAsBag, StandsNowhere, StandsOnce, StandsOutside, StandsRight, Step, Target, Todo, Told, Transmits, Unknown, Untaken, View, actor, addresses_after, after, after_label, after_line}
+pub use Rattle.dm_rule.proofs.Names.{after_packet, after_proto, after_put, after_step, alive-is, all_of, answers_move, ascends, at_hand-is, at_id, at_least, at_machine, at_pair, at_pid, at_record, begins, behind, behind_count, bind-is}
+pub use Rattle.dm_rule.proofs.Names.{board_takes_lem, child_number, chunks_of, comes_to, completing, counts, counts_process, dropped_for, ended, ended_told, ends_move-is, filter, first_gives, first_point, first_view, fits, forward_about}
+pub use Rattle.dm_rule.proofs.Names.{forwarded_for, forwards_on, free_room, front_of, front_told, gets, given, goes_out, gone_after, gone_to, group_of, handled, has, has_mail, headed, hears, here_told, id_eq-is, id_eq-same, id_eq-swap}
+pub use Rattle.dm_rule.proofs.Names.{ids_at, is_apart, is_away, is_between, is_counted, is_dropped, is_due, is_early, is_here, is_kernels, is_over, is_quiet, is_restart, is_told_back, kept_from, kernel_after, kernel_hears, kernel_told}
+pub use Rattle.dm_rule.proofs.Names.{kind_comes, kind_leaves, known_at, knows, label_of, lands-is, leaves_for, left_true, less, lines_of, machine_in, manager_takes_lem, migrates, migrates_child, more, moved, moved_back, next_step, nexts}
+pub use Rattle.dm_rule.proofs.Names.{not_server, numbers_from, oldest, outcome, own_given, own_gives, own_id, packet_line, pair_is_quiet, pid_eq-is, pid_eq-same, pieces_of, place_of, place_of_child, place_told, plain_kind, process_told}
+pub use Rattle.dm_rule.proofs.Names.{puts, queued_for, receiver_in, receiver_of, repeats, resends, right_true, ring_at, routed_on, seen, sender_in, sends_on, server_told, slice_get_cases, slots_of, slots_with, sort_of, spelled, standing}
+pub use Rattle.dm_rule.proofs.Names.{takes_block, takes_chunk, taking_parts, target_of, times, to_kernel, to_of, token_in, told_between, unentered, unmoved, untaken, updates, view_after, when-is, with_pair, without, without_first}
+pub use Rattle.dm_rule.proofs.Names.{without_front, without_id}
 pub use Rattle.dm_rule.proofs.Pairs.{Pairs, pair_home, pair_stands, pairs_stand_always}
 pub use Rattle.dm_rule.proofs.Pairs.Comes.{less-right, more-is}
 pub use Rattle.dm_rule.proofs.Pairs.Lines.{AllFit, forwarded_pair, held_pair, label_pair, onward, pair_same, proto_pair, queued_pair, stage_pair, taken_pair, touches}
@@ -80,19 +80,21 @@ pub use Rattle.dm_rule.proofs.Phases.Pieces.{and_false}
 pub use Rattle.dm_rule.proofs.Phases.Put.{first_none, last_there, of_same, put_spot, put_there}
 pub use Rattle.dm_rule.proofs.Phases.Stand.{held_plain, queued_plain}
 pub use Rattle.dm_rule.proofs.QuietTests.{eq_not, passes_quiet, quiet_passes}
+pub use Rattle.dm_rule.proofs.Seen.{about_off}
 pub use Rattle.dm_rule.proofs.Standing.{once_at, spot_cases}
 pub use Rattle.dm_rule.proofs.States.{PairsFit, said, says_next, transmits_next}
 pub use Rattle.dm_rule.proofs.Telling.{plain_not, tells_right_always}
 pub use Rattle.dm_rule.proofs.Trails.Steps.{expects_is, holds_is}
 pub use Rattle.dm_rule.proofs.Trails.Within.{forwarded_acting, held_acting, queued_acting}
 pub use Rattle.dm_rule.proofs.Turns.{machine_same}
+pub use Rattle.dm_rule.specs.Acts.{Act, act_of}
 pub use Rattle.dm_rule.specs.Ends.{Stood, first_with, standing_of, stood_at}
 pub use Rattle.dm_rule.specs.Good.{IsKept, first_undelivered, undelivered}
 pub use Rattle.dm_rule.specs.Migrating.{link_size, links_size, status_size}
-pub use Rattle.dm_rule.specs.Phases.{is_unknown, kind_leaves}
+pub use Rattle.dm_rule.specs.Phases.{is_unknown}
 pub use Rattle.dm_rule.specs.Rule.{and, blocks_of, taken_at, taken_by, taken_of_home, takes_room}
 pub use Rattle.dm_rule.specs.View.{serving}
-pub use Rattle.dm_rule.specs.Worn.{full_pair, is_full, worn_in}
+pub use Rattle.dm_rule.specs.Worn.{full_pair, full_route, is_full, worn_in}
 pub use Rattle.dm_places.proofs.Any.AnyLine.{no_process}
 pub use Rattle.dm_places.proofs.Any.AnyRun.{group_needs, places_follow_by}
 pub use Rattle.dm_places.proofs.Following.Changed.{free_off, plain_sent_on}
@@ -103,28 +105,28 @@ pub use Rattle.dm_places.proofs.Keeps.{of_map, parts, there_of}
 pub use Rattle.dm_places.proofs.Labels.Serves.{plainly, plainly_is}
 pub use Rattle.dm_places.proofs.Lines.{lines_keep, mirrors_view, moves_label, routed_keeps, told_keeps}
 pub use Rattle.dm_places.proofs.Matches.{Ends, acted_with, answers_match, call_matches, completed_matches, fault_matches, lands_match, ran_matches}
-pub use Rattle.dm_places.proofs.Names.{Format, GroupNeeds, KeepsPlaces, Landed, Machine, Mirrors, MirrorsKernel, MirrorsPoint, Pending, Placed, StepNeeds, after_landing, and-both, board_took, by_migrates, call_plainly, enclosed}
-pub use Rattle.dm_places.proofs.Names.{ends_plainly, first_told, goes_on_plainly, gone_answer, is_among, is_own, manager_took, memory_of, not_kernels, or-right, or_second, placed_start, placed_step, plain_pending_numbered, sent_all}
-pub use Rattle.dm_places.proofs.Names.{started, started_at, status_plainly}
+pub use Rattle.dm_places.proofs.Names.{Format, GroupNeeds, KeepsPlaces, Landed, Machine, Mirrors, MirrorsKernel, MirrorsPoint, Placed, StepNeeds, after_landing, and-both, asker_of, board_took, by_migrates, call_plainly, enclosed, ends_move}
+pub use Rattle.dm_places.proofs.Names.{ends_plainly, first_told, goes_on_plainly, is_among, is_own, manager_request, manager_took, memory_of, moved_answer, not_kernels, or-right, or_second, placed_start, placed_step, plain_note}
+pub use Rattle.dm_places.proofs.Names.{plain_pending_numbered, sent_all, started, started_at, status_plainly, with_note, without_note}
 pub use Rattle.dm_places.proofs.OwnPuts.{child_place, no_child, own_put_mirrors}
 pub use Rattle.dm_places.proofs.Queues.{calls_with, with_queue}
 pub use Rattle.dm_places.proofs.Starts.{start_mirrors}
 pub use Rattle.dm_places.proofs.Steps.{placed_follows}
-pub use Rattle.dm_places.proofs.Whats.{block_what, create_what, created_what, gone_what, kill_what, no_room_what, read_what, resume_what, stop_what, user_what, write_what, written_what}
+pub use Rattle.dm_places.proofs.Whats.{block_what, create_what, created_what, gone_what, kill_what, move_what, moved_what, no_room_what, read_what, resume_what, stop_what, user_what, write_what, written_what}
 pub use Rattle.dm_kernel.proofs.Fitting.{managed_fits, user_fits}
 pub use Rattle.dm_kernel.proofs.LawfulRows.{of_known}
 pub use Rattle.dm_kernel.proofs.LawfulStart.{opened_lawful, opened_may}
 pub use Rattle.dm_kernel.proofs.Making.{image_fits}
 pub use Rattle.dm_kernel.proofs.Names.{All-head, All-tail, Block, BootMachine, Chunk, FitsBoardWhat, FitsEnded, FitsHere, FitsKernel, FitsKnown, FitsManager, FitsManagerWhat, FrontMay, IsLawfulPair, IsLawfulPart, IsLawfulState}
 pub use Rattle.dm_kernel.proofs.Names.{IsLawfulTurned, IsSuch, KernelKnown, KernelState, MayHandle, MayRestart, MayTurn, MoveError, Nothing, Taken, Turned, Wanted, accepts, all_sent_on, ask_of, asks_manager, asks_move, begins_process}
-pub use Rattle.dm_kernel.proofs.Names.{blocks_at, blocks_of_image, board_handles, child_of, empty, ended_handles, expected, forwards_and, free_blocks, free_slots, freezes, frozen, frozen_of, gives_piece, handles, here_handles}
-pub use Rattle.dm_kernel.proofs.Names.{image_is_valid, images_are_valid, incoming_of, kernel_at, kernel_handles, leaves, links_are_valid, makes, manager_handles, next_pid, opened, own, process_handles, process_named, restarts, restarts_as}
-pub use Rattle.dm_kernel.proofs.Names.{room_of, stays, takes_piece, told_to_move, took_piece, turn, turned, turns, update_of, with_all, with_child, with_here, with_record, with_reserved, without_process}
+pub use Rattle.dm_kernel.proofs.Names.{blocks_at, blocks_of_image, board_handles, child_of, empty, ended_handles, expected, forwards_and, free_blocks, free_slots, freezes, freezing, frozen, frozen_of, gives_piece, handles, here_handles}
+pub use Rattle.dm_kernel.proofs.Names.{image_is_valid, images_are_valid, incoming_of, kernel_handles, leaves, links_are_valid, makes, manager_handles, next_pid, opened, own, process_handles, process_named, restarts, restarts_as, room_of}
+pub use Rattle.dm_kernel.proofs.Names.{stays, takes_piece, tells_asker, told_to_move, took_piece, turn, turned, turns, update_of, with_all, with_child, with_frozen, with_here, with_record, with_reserved, without_process}
 pub use Rattle.dm_kernel.proofs.Opening.{room_from}
 pub use Rattle.dm_kernel.proofs.Serving.{call_keeps, ran_keeps}
 pub use Rattle.dm_kernel.specs.Carried.{FreezesReceiverWhole, KnownIsWhole}
 pub use Rattle.dm_kernel.specs.Coming.{piece_line, with_expected}
-pub use Rattle.dm_kernel.specs.Departing.{with_frozen, without_leaving}
+pub use Rattle.dm_kernel.specs.Departing.{without_leaving}
 pub use Rattle.dm_kernel.specs.Handle.{queued}
 pub use Rattle.dm_kernel.specs.May.{FitsBoard, MayLeave}
 pub use Rattle.dm_kernel.specs.State.{with_known}
@@ -140,17 +142,18 @@ pub use Rattle.dm_rulelaws.proofs.Fits.Start.{get_some}
 pub use Rattle.dm_rulelaws.proofs.Found.Groups.{told_there}
 pub use Rattle.dm_rulelaws.proofs.Found.Lists.{more_front}
 pub use Rattle.dm_rulelaws.proofs.Goes.Always.{front, goes_on, own_by, stands_first}
-pub use Rattle.dm_rulelaws.proofs.Goes.Front.{ForOthers, ForWhom, Front, begun, for_whom, home_of, is_manager, served_is, told_receiver}
+pub use Rattle.dm_rulelaws.proofs.Goes.Front.{ForOthers, ForWhom, Front, begun, for_whom, here_free, home_of, is_manager, served_is, told_receiver}
 pub use Rattle.dm_rulelaws.proofs.Goes.Own.{apart_is, is_it, source_knows}
 pub use Rattle.dm_rulelaws.proofs.Goes.Process.{alive_of, ended_of, gone_is}
 pub use Rattle.dm_rulelaws.proofs.Goes.Runs.{Both, RunGoes, RunStarts, both_group, both_start}
 pub use Rattle.dm_rulelaws.proofs.Goes.Servers.{can_handle, pending_is, server_fixed}
 pub use Rattle.dm_rulelaws.proofs.Goes.Serves.{reply_same, running_of}
-pub use Rattle.dm_rulelaws.proofs.Goes.Turns.{Droppable, IsFor, droppable_on, dropped_is, queue_drops, user_dropped}
-pub use Rattle.dm_rulelaws.proofs.Names.{AllSayable, InPhases, IsNet, IsNetLine, IsPending, IsRun, LeadsBy, Phased, Sane, Sayable, StandsAsBag-elsewhere, StandsAsBag-one, Target, WhatFits, about_same, agrees, arrives_net, at_record_at}
-pub use Rattle.dm_rulelaws.proofs.Names.{awaits, bag_created, bag_gone, bag_no_space, bag_served, by_hears, eq_is, eq_self, goes_between, group_is, has_bytes, has_no_queue, has_nothing_held, hushed, if_some-is, inbox_is, is_fixed}
-pub use Rattle.dm_rulelaws.proofs.Names.{is_of_source, is_put, is_server, kernels_fresh, labels, least_of, letters, machine_of, not_false, not_first, not_true, out_off, outcome_sayable, pair_keeps, part_sane, piece_fits, proto_acting}
-pub use Rattle.dm_rulelaws.proofs.Names.{put_at, put_told_off, resends_net, rests_here, rings, sane_line, served_id, stands_right, status_awaits, times-append, token_at, token_is, told_some, why_code, zero_if}
+pub use Rattle.dm_rulelaws.proofs.Goes.Turns.{Droppable, IsFor, at_hand_of, droppable_on, dropped_is, queue_drops, user_dropped}
+pub use Rattle.dm_rulelaws.proofs.Names.{AllSayable, Each, InPhases, IsNet, IsNetLine, IsPending, IsRun, LeadsBy, PendingFits, Phased, Sane, Sayable, StandsAsBag-elsewhere, StandsAsBag-one, WhatFits, about_same, agrees, aim, arrives_net}
+pub use Rattle.dm_rulelaws.proofs.Names.{at_record_at, awaits, bag_answered, bag_created, bag_gone, bag_no_space, bag_served, by_hears, eq_is, eq_self, goes_between, group_is, has_bytes, has_no_queue, has_nothing_held, hushed, if_some-is}
+pub use Rattle.dm_rulelaws.proofs.Names.{inbox_is, is_fixed, is_for, is_of_source, is_put, is_server, kernels_fresh, kind_eq, labels, least_of, letters, machine_of, not_false, not_first, not_true, out_off, outcome_sayable, pair_keeps}
+pub use Rattle.dm_rulelaws.proofs.Names.{part_sane, piece_fits, proto_acting, put_at, put_told_off, resends_net, rests_here, rings, sane_line, served_id, sets, stands_right, status_awaits, times-append, token_at, token_is, told_some}
+pub use Rattle.dm_rulelaws.proofs.Names.{why_code, zero_if}
 pub use Rattle.dm_rulelaws.proofs.Own.Told.{OwnTold, is_place, is_target, own_server, own_sort}
 pub use Rattle.dm_rulelaws.proofs.Queued.{IsQueued}
 pub use Rattle.dm_rulelaws.proofs.RunLabels.{after_replay, group_replay, labels-append, replay-append}
@@ -158,9 +161,9 @@ pub use Rattle.dm_rulelaws.proofs.Runs.{Run}
 pub use Rattle.dm_rulelaws.proofs.RunsAlways.{run_always, run_group, run_start}
 pub use Rattle.dm_rulelaws.proofs.Tables.Always.{format_always, tables_always}
 pub use Rattle.dm_node.proofs.Here.{StaysAt, asks_move_stays, turn_stays}
-pub use Rattle.dm_node.proofs.Names.{Acted, Acts, All-get_or, Arrived, Early, FreezesWhole, Goes, Halt, MayAct, MayArrive, MayAskMove, NodeState, Old, Packet, Servers, Worn, acknowledges, acts, after_arrival, after_next, again, all_out}
-pub use Rattle.dm_node.proofs.Names.{arrival, asked_lawful, before, comes_in, count_out, counts_out, first_out, fresh_receiving, fresh_sender, fresh_sending, get_or_from_slice_get, gives, here, is_worn, lets_next, none_waits, numbered}
-pub use Rattle.dm_node.proofs.Names.{put_line, routes, routes_away, routes_home, sends_due, takes_next, then_, then_acknowledges, tick, turn_lawful, with_acked, with_given, with_message, with_receiver, with_sender, with_sent}
+pub use Rattle.dm_node.proofs.Names.{Acted, Acts, All-get_or, Arrived, Early, FreezesWhole, Goes, Halt, MayAct, MayArrive, MayAskMove, NodeState, Old, Packet, Part, Servers, Worn, acknowledges, acts, after_arrival, after_next, again}
+pub use Rattle.dm_node.proofs.Names.{all_out, arrival, asked_lawful, before, comes_in, count_out, counts_out, first_out, fresh_receiving, fresh_sender, fresh_sending, get_or_from_slice_get, gives, here, is_worn, lets_next, none_waits}
+pub use Rattle.dm_node.proofs.Names.{numbered, put_line, routes, routes_away, routes_home, sends_due, takes_next, then_, then_acknowledges, tick, turn_lawful, with_acked, with_given, with_message, with_receiver, with_sender, with_sent}
 pub use Rattle.dm_node.proofs.Staying.{MayAfter, arrives_may, turn_may}
 pub use Rattle.dm_node.specs.Acts.{sends}
 unfoldable pub use Rattle.dm_node.specs.Acts.{lets_go, takes_kept}

@@ -1,10 +1,8 @@
 -- A turn on one machine leaves the kernels of the others as they stand, and each pair.
 use Rattle.dm_mirror.proofs.Names.{◌≡◌, ◌≢◌, ℕ, zero, suc, ◌+◌, ◌≤◌, ◌==◌, true, not, List, refl, ap, ◌∙◌, sym, subst, is_some, inl, inr, arith, if◌then◌else◌, drop, take, slice_get, Option, None, Some, eqb_tells, Pid, nat_tests, pid_of}
 use Rattle.dm_mirror.proofs.Names.{Message, MsgId, Record, Process, Receiving, kept_under, Sending, Boot, first_number, Point, Room, and, blocks_of, has, takes_room, taken_at, taken_by, taken_of_home, Queue, Held, Inbox, Untaken, times}
-use Rattle.dm_mirror.proofs.Names.{standing, Pair, Placed, KernelState, room_of, WorldState, AreMessages, HereStands, KnownStands, RoomStands, servers_at, KernelStands, History, PairStands}
+use Rattle.dm_mirror.proofs.Names.{standing, Pair, Placed, KernelState, room_of, WorldState, AreMessages, HereStands, KnownStands, RoomStands, servers_at, KernelStands, History, PairStands, Asker, coming}
 pub use Rattle.dm_rule.proofs.QuietTests.{eq_not as apart_tells}
-use Rattle.dm_message.specs.declared.Asker.{Asker}
-use Rattle.dm_migrate.specs.Way.{coming}
 use Rattle.dm_stream.specs.Order as order
 use Rattle.dm_onekernel.specs.Step as kernel
 use Rattle.dm_rule.specs.View as view

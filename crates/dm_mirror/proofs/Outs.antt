@@ -2,12 +2,11 @@
 use Rattle.dm_mirror.proofs.Names.{◌≡◌, ◌≢◌, ℕ, zero, suc, ◌==◌, Bool, true, false, List, [], ◌∷◌, ◌++◌, refl, ap, ◌∙◌, sym, subst, append_assoc, arith, ⊤, if◌then◌else◌, All, Option, None, Some, nat_tests, append-nil, All-nil, All-cons}
 use Rattle.dm_mirror.proofs.Names.{All-append, Message, Packet, Line, spelling, Sent, Data, Ack, Sending, window, due, outstanding, with_given, with_sent, with_acked, arrival, after_arrival, next, after_next, Arrived, NodeState, here}
 use Rattle.dm_mirror.proofs.Names.{with_sender, with_message, with_receiver, Out, Sends, Acted, Acts, Goes, Worn, then_, acts, routes, routes_home, routes_away, gives, sends, sends_due, put_line, is_worn, none_waits, count_out, again}
-use Rattle.dm_mirror.proofs.Names.{first_out, all_out, acknowledges, before, takes_next, takes_kept, then_acknowledges, comes_in, lets_next, lets_go, with_packet, spoken, IsFresh}
+use Rattle.dm_mirror.proofs.Names.{first_out, all_out, acknowledges, before, takes_next, takes_kept, then_acknowledges, comes_in, lets_next, lets_go, with_packet, spoken, IsFresh, Part}
 use Rattle.dm_node.proofs.Names.{behind}
 use Rattle.dm_wire.specs.Sent.{just_put}
 use Rattle.dm_stream.specs.Packets.{Load}
 use Rattle.dm_stream.specs.declared.receiver.Arrived.TheVariants.{Taken}
-use Rattle.dm_kernel.specs.declared.part.Part.{Part}
 use Rattle.dm_node.specs.declared.out.Out.TheVariants.{Says}
 use Rattle.dm_node.specs.Acts as node
 

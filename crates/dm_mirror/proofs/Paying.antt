@@ -1,7 +1,9 @@
 -- Where a turn raises a count, it routes a message.
-use Rattle.dm_mirror.proofs.Names.{Run, ◌≡◌, ◌⊎◌, inl, inr, ℕ, ◌+◌, ◌==◌, Bool, true, false, List, [], ◌∷◌, length, refl, ap, ◌∙◌, sym, subst, arith, ⊤, if◌then◌else◌, slice_get, Option, None, Some, Pid, pid_eq, pid_of, MsgId, Why, PlainMessage}
-use Rattle.dm_mirror.proofs.Names.{PlainWhat, instruction, Boot, BootImage, Label, first_number, switchboard, manager, bind, PlainProcess, PlainStatus, Ready, Waiting, Moving, Alive, OneKernel, answer_id, alive-is, Line, Point, label_of}
-use Rattle.dm_mirror.proofs.Names.{kernel_after, Part, Says, Routes, Again, Owns, Transmits, IsNetLine, IsNet, Addresses, Sender, is_told_back, forwards_on, plain_kind, MessageKind, nat_tests}
+use Rattle.dm_mirror.proofs.Names.{Run, ◌≡◌, ◌⊎◌, inl, inr, ℕ, ◌+◌, ◌==◌, Bool, true, false, List, [], ◌∷◌, length, refl, ap, ◌∙◌, sym, subst, arith, ⊤, if◌then◌else◌, slice_get, Option, None, Some, Pid, pid_eq, pid_of, MsgId, Why}
+use Rattle.dm_mirror.proofs.Names.{PlainMessage, PlainWhat, instruction, Boot, BootImage, Label, first_number, switchboard, manager, bind, PlainProcess, PlainStatus, Ready, Waiting, Moving, Alive, OneKernel, answer_id, alive-is, Line}
+use Rattle.dm_mirror.proofs.Names.{Point, label_of, kernel_after, Says, Routes, Again, Owns, Transmits, IsNetLine, IsNet, Addresses, Sender, is_told_back, forwards_on, plain_kind, MessageKind, nat_tests, Outcome, PendingKind, MoveNote}
+use Rattle.dm_mirror.proofs.Names.{Pending, Each, PendingFits, WhatFits, is_for, kind_eq, answers_move, leaves_for}
+use Rattle.dm_rule.proofs.Names.{Part}
 use Rattle.dm_onekernel.specs.Calls as calls
 use Rattle.dm_onekernel.specs.Pieces as pieces
 use Rattle.dm_onekernel.specs.Receiving as receiving
@@ -11,11 +13,7 @@ use Rattle.dm_onekernel.specs.Step as kernel
 use Rattle.dm_rule.specs.Rule as rule
 use Rattle.dm_rule.specs.View as view
 use Rattle.dm_mirror.proofs.Raises.{Within, ran_raises, call_raises, send_raises, wait_raises, out_raises, end_raises, receive_raises, refuse_raises}
-use Rattle.dm_message.specs.declared.Outcome.{Outcome}
-use Rattle.dm_onekernel.specs.declared.request.PendingKind.{PendingKind}
-use Rattle.dm_onekernel.specs.Kernel.{MoveNote, Pending}
-use Rattle.dm_rulelaws.specs.Fits.{Each, PendingFits, WhatFits, is_for, kind_eq}
-use Rattle.dm_rule.specs.Migrating.{answers_move, leaves_for, tells_asker}
+use Rattle.dm_rule.specs.Migrating.{tells_asker}
 use Rattle.dm_mirror.proofs.RaisesMade.{board_raise, manager_raise, HasAnswer, took_raise, took_raises, created_makes, landed_raise, served_raise, sent_raise, asked_raises, move_answered_raises, dropped_raises, gone_raises, no_space_raises, served_raises}
 use Rattle.dm_mirror.proofs.Counts.Pairs.{is_free}
 

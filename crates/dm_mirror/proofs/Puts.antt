@@ -1,7 +1,8 @@
 -- A packet goes on the wire of a pair: the world has it, and so have the lines.
 use Rattle.dm_mirror.proofs.Names.{◌≡◌, ◌≢◌, ℕ, ◌+◌, ◌≤◌, ◌==◌, ◌&&◌, Bool, false, List, [], ◌∷◌, ◌++◌, length, refl, ap, ◌∙◌, sym, subst, if◌then◌else◌, Some, eqb-true, eq-eqb, length-map, Message, Sending, Stream, spelling, arith}
-use Rattle.dm_mirror.proofs.Names.{nat_tests, Boot, NodeState, Out, Sends, Spoken, spoken, says, with_packet, Line, at_machine, at_pair, Load, Spot, standing, About, Pair, View, after_packet, begins, pair_keeps, MsgId, Part, Spelled}
-use Rattle.dm_mirror.proofs.Names.{lines_of, spelled, Point, after, two_of, Placed, WorldState, History, NodeStands, PairStands, StandsWith, load_of, stream_of, packet_of_load, behind}
+use Rattle.dm_mirror.proofs.Names.{nat_tests, Boot, NodeState, Out, Sends, Spoken, spoken, says, with_packet, Line, at_machine, at_pair, Load, Spot, standing, About, Pair, View, after_packet, begins, pair_keeps, MsgId, Spelled, lines_of}
+use Rattle.dm_mirror.proofs.Names.{spelled, Point, after, two_of, Placed, WorldState, History, NodeStands, PairStands, StandsWith, load_of, stream_of, packet_of_load, behind}
+use Rattle.dm_rule.proofs.Names.{Part}
 use Rattle.dm_wire.specs.Wire.{after_put}
 use Rattle.dm_node.specs.declared.out.Out.TheVariants.{Says}
 use Rattle.dm_node.specs.Wired.{packet_line}

@@ -2,17 +2,13 @@
 use Rattle.dm_mirror.proofs.Names.{◌≡◌, ◌≢◌, ℕ, ◌+◌, ◌-◌, ◌<◌, ◌≤◌, ◌==◌, ◌&&◌, nat_lt, Bool, true, false, List, [], ◌∷◌, ◌++◌, length, refl, ap, ◌∙◌, sym, subst, arith, inl, inr, if◌then◌else◌, slice_get, Option, None, Some, eqb-true}
 use Rattle.dm_mirror.proofs.Names.{nat_tests, Message, kind_of, IsLawfulMessage, Sending, due, given_count, numbered, with_given, Boot, NodeState, here, Out, Sends, Acts, Goes, Worn, gives, is_worn, none_waits, put_line, routes}
 use Rattle.dm_mirror.proofs.Names.{routes_away, routes_home, sends_due, Line, or, after_put, view_after, goes_out, Point, moved, at_machine, PairsFit, Sane, is_full, worn_in, Placed, WorldState, History, PairStands, StandsWith, AllRecords}
-use Rattle.dm_mirror.proofs.Names.{map, OneKernel, bind, bind-is, Two, Spelled, spelled, label_of, kernel_after, after_line, after, View, full_pair, is_put, AllSayable, sane_line, Sent, acts, says, spoken, packet_of_load}
+use Rattle.dm_mirror.proofs.Names.{map, OneKernel, bind, bind-is, Two, Spelled, spelled, label_of, kernel_after, after_line, after, View, full_pair, is_put, AllSayable, sane_line, Sent, acts, says, spoken, packet_of_load, Part, MsgId}
+use Rattle.dm_mirror.proofs.Names.{nat_le, routed_on, Act, act_of, seen, full_route}
 use Rattle.dm_node.proofs.Names.{behind}
 use Rattle.dm_stream.specs.Packets.{Load}
 use Rattle.dm_node.specs.declared.out.Out.TheVariants.{Says}
-use Rattle.dm_kernel.specs.declared.part.Part.{Part}
 use Rattle.dm_line.specs.declared.line.Load.TheVariants as load
-use Rattle.dm_mirror.proofs.Names.{MsgId, nat_le, routed_on}
-use Rattle.dm_rule.specs.Acts.{Act, act_of}
 use Rattle.dm_rule.specs.Acts as act
-use Rattle.dm_rule.specs.Point.{seen}
-use Rattle.dm_rule.specs.Worn.{full_route}
 use Rattle.dm_rule.specs.Parts as rule
 use Rattle.dm_mirror.proofs.Puts.{point_put, wire_length, with_put}
 use Rattle.dm_mirror.proofs.Giving.{with_gift, count_given, node_gave, node_went, same_records, stands_gave, stands_went, world_gave}

@@ -1,8 +1,9 @@
 -- A tick: what is out and not acknowledged goes out again, by the machine and by the rule.
 use Rattle.dm_mirror.proofs.Names.{◌≡◌, ◌≢◌, ℕ, zero, suc, ◌+◌, ◌-◌, ◌<◌, ◌≤◌, ◌==◌, nat_lt, Bool, true, false, List, [], ◌∷◌, ◌++◌, length, refl, ap, ◌∙◌, sym, subst, arith, if◌then◌else◌, slice_get, Option, None, Some, nat_tests}
 use Rattle.dm_mirror.proofs.Names.{append-nil, length-drop, map-append, Message, Data, outstanding, numbered, Stream, Boot, bind, Step, Load, NodeState, here, Out, Sends, again, all_out, count_out, counts_out, first_out, sends, tick}
-use Rattle.dm_mirror.proofs.Names.{spoken, Line, View, NothingElse, after_packet, begins, Part, Transmits, Spelled, spelled, Point, headed, numbers_from, repeats, resends, Placed, WorldState, acted, at_machine, CountsStand, History}
-use Rattle.dm_mirror.proofs.Names.{PairStands, StandsWith, stream_of, GoesOn, packet_of_load, behind}
+use Rattle.dm_mirror.proofs.Names.{spoken, Line, View, NothingElse, after_packet, begins, Transmits, Spelled, spelled, Point, headed, numbers_from, repeats, resends, Placed, WorldState, acted, at_machine, CountsStand, History, PairStands}
+use Rattle.dm_mirror.proofs.Names.{StandsWith, stream_of, GoesOn, packet_of_load, behind}
+use Rattle.dm_rule.proofs.Names.{Part}
 use Rattle.std.proofs.lemmas.List.{append_assoc}
 use Rattle.dm_stream.specs.Order as order
 use Rattle.dm_rule.specs.Parts as rule

@@ -1,11 +1,10 @@
 -- A turn with a kernel's own message at the inbox's front, a row a kind.
 use Rattle.dm_mirror.proofs.Names.{◌≡◌, ℕ, ◌<◌, false, List, [], ◌∷◌, refl, ap, ◌∙◌, sym, inl, inr, Option, None, Some, cases_Bool, Message, MsgId, PlainMessage, plain_message, Boot, IsValid, bind, FreezesWhole, IsLawfulState, KernelState}
 use Rattle.dm_mirror.proofs.Names.{Point, Known, Unknown, Here, Ended, is_fixed, OwnTold, Run, Placed, Mirrors, parts, MadeStands, AllOwnStand, KernelStands, AllRecords, TokensStand, true, subst, false≢true, Pid, What, kind_of, PlainWhat}
-use Rattle.dm_mirror.proofs.Names.{plain_what, with_what, FreezesReceiverWhole, is_between, is_of_source, Frozen, Incoming, Forward, Of, own_sort, about_of, told_of}
+use Rattle.dm_mirror.proofs.Names.{plain_what, with_what, FreezesReceiverWhole, is_between, is_of_source, Frozen, Incoming, Forward, Of, own_sort, about_of, told_of, ◌==◌, manager, pid_eq, switchboard}
 use Rattle.dm_mirror.proofs.Follow.Fronts.{fronted, Fronts}
 use Rattle.dm_mirror.proofs.Leave.Fronts.{heard, Hearing, three_off}
 use Rattle.dm_mirror.proofs.Turning.{TurnsAt}
-use Rattle.dm_mirror.proofs.Names.{◌==◌, manager, pid_eq, switchboard}
 use Rattle.dm_mirror.proofs.Handle.Ended.{is_here}
 use Rattle.dm_mirror.proofs.Handle.Taking.{IsProcess, Taking, took}
 use Rattle.dm_mirror.proofs.Leave.Asked.{asked_turn}

@@ -2,11 +2,10 @@
 use Rattle.dm_mirror.proofs.Names.{◌≡◌, ℕ, ◌+◌, ◌<◌, ◌≤◌, ◌==◌, List, [], ◌∷◌, ◌++◌, length, map, refl, ap, ◌∙◌, sym, subst, inl, inr, All, Option, Some, cases_Bool, eqb-true, All-head, All-tail, Boot, OneKernel, bind, bind-is, Step, Line}
 use Rattle.dm_mirror.proofs.Names.{Stage, Out, Spelled, spelled, Point, after_line, moved, group_of, headed, outcome, at_machine, standing, About, Pair, begins, worn_in, PairsFit, AllSayable, Sane, outcome_sayable, sane_line, machine_of}
 use Rattle.dm_mirror.proofs.Names.{Run, Placed, Mirrors, lines_keep, IsLawfulPart, IsLawfulTurned, NodeState, Acts, Goes, Worn, acts, Spoken, spoken, WorldState, acted, world_step, GoesOn, StopsWorn, Steps, CountsStand, History, StandsWith}
-use Rattle.dm_mirror.proofs.Names.{Pid, IsMachine, IsValid, NothingElse, Target, goes_on, RunGoes, OwnTold, asks_move, MayTurn, turn, asked_lawful, turn_lawful}
+use Rattle.dm_mirror.proofs.Names.{Pid, IsMachine, IsValid, NothingElse, Target, goes_on, RunGoes, OwnTold, asks_move, MayTurn, turn, asked_lawful, turn_lawful, Part}
 use Rattle.dm_node.proofs.Names.{behind}
 use Rattle.std.proofs.lemmas.List.{append_assoc}
 use Rattle.dm_rule.proofs.Groups.{fits}
-use Rattle.dm_kernel.specs.declared.part.Part.{Part}
 use Rattle.dm_world.specs.World.{turned}
 use Rattle.dm_rule.specs.Parts as rule
 use Rattle.dm_kernel.specs.State as machine

@@ -1,5 +1,5 @@
 -- A machine is asked to take a process: there is room for it, or what is free is said.
-use Rattle.dm_mirror.proofs.Names.{◌≡◌, ◌≢◌, ℕ, ◌+◌, ◌/◌, ◌<◌, ◌==◌, ◌&&◌, Bool, true, false, nat_le, List, [], length, map, refl, ap, ◌∙◌, sym, subst, arith, if◌then◌else◌, slice_get, Option, None, Some, false≢true, All-nil, Pid, pid_eq}
+use Rattle.dm_mirror.proofs.Names.{◌≡◌, ◌≢◌, ℕ, ◌+◌, ◌/◌, ◌<◌, ◌==◌, ◌&&◌, Bool, true, false, nat_le, List, [], length, map, refl, ap, ◌∙◌, sym, subst, arith, if◌then◌else◌, slice_get, Option, Some, false≢true, All-nil, Pid, pid_eq}
 use Rattle.dm_mirror.proofs.Names.{Message, MsgId, What, Record, Line, Stage, MessageKind, kind_of, IsLawfulMessage, Process, Taken, free_blocks, free_slots, with_reserved, incoming_of, Chunk, expected, CanMove, HasChunk, state_of, coming}
 use Rattle.dm_mirror.proofs.Names.{Boot, slots_of, plain_process, PlainProcess, pid_eq-same, kernel_told, Moves, kind_comes, knows, kind_leaves, Point, Room, fits, free_room, taken_at, taken_by, at_pid, at_record, Known, Unknown, Frozen}
 use Rattle.dm_mirror.proofs.Names.{Incoming, Forward, front_of, without_first, is_server, has_nothing_held, Placed, room_of, accepts, with_expected, kernel_handles, KernelState, KnownStands, KernelStands, RoomStands, AllRecords, Carries}

@@ -1,11 +1,11 @@
 -- What a machine and the rule do with a message about a process that comes, and where the lines of it lead.
 use Rattle.dm_mirror.proofs.Names.{◌≡◌, ℕ, ◌/◌, Bool, true, false, List, [], ◌∷◌, length, refl, ap, ◌∙◌, sym, subst, if◌then◌else◌, slice_get, Option, None, Some, Pid, pid_eq, Message, MsgId, kind_of, plain_what, Process, Record}
-use Rattle.dm_mirror.proofs.Names.{incoming_of, Wanted, Chunk, Nothing, Arrival, pull, with_piece, CanMove, coming, Boot, OneKernel, bind, plain_process, pid_eq-same, Line, Addresses, goes_between, own_gives, kernel_told, to_kernel, Part}
+use Rattle.dm_mirror.proofs.Names.{incoming_of, Wanted, Chunk, Nothing, Arrival, pull, with_piece, CanMove, coming, Boot, OneKernel, bind, plain_process, pid_eq-same, Line, Addresses, goes_between, own_gives, kernel_told, to_kernel}
 use Rattle.dm_mirror.proofs.Names.{is_between, is_early, is_of_source, Point, after, fits, free_room, taken_at, Incoming, Known, Of, View, Placed, enclosed, room_of, piece_line, takes_piece, took_piece, kernel_handles, KernelState}
 use Rattle.dm_mirror.proofs.Names.{about_of, ComesStand, KnownStands, RoomStands, AllRecords, Carries, IsAsked, ◌+◌, ◌==◌, MessageKind, Step, Stage, arith, nat_tests, kind_comes, outcome, at_pid, without_front, About, without_first, Turned}
-use Rattle.dm_mirror.proofs.Names.{turn, apart_is, expects_is, not, nat_lt, What, Block, after_chunk, block_of, chunk_of, is_last, state_of, ComesByPieces, by_pieces, chunks_of, pieces_of, takes_block, takes_chunk, Wants}
+use Rattle.dm_mirror.proofs.Names.{turn, apart_is, expects_is, not, nat_lt, What, Block, after_chunk, block_of, chunk_of, is_last, state_of, ComesByPieces, by_pieces, chunks_of, pieces_of, takes_block, takes_chunk, Wants, Asker}
+use Rattle.dm_rule.proofs.Names.{Part}
 use Rattle.dm_kernel.specs.declared.part.Part.TheVariants as part
-use Rattle.dm_message.specs.declared.Asker.{Asker}
 use Rattle.dm_kernel.specs.State as machine
 use Rattle.dm_mirror.proofs.Come.Frames.{Arrives, Comes, arrives, asked_after_block, asked_after_chunk, block_last, chunk_last}
 use Rattle.dm_mirror.proofs.Come.Turns.{come_point, come_view, turns_answer, eq_self}

@@ -1,22 +1,18 @@
 -- A process that has come goes on: it is here, at the ring's back, and what was held for it comes before the inbox.
-use Rattle.dm_mirror.proofs.Names.{◌≡◌, ◌≢◌, ◌⊎◌, ℕ, ◌+◌, ◌/◌, ◌≤◌, ◌==◌, Bool, true, false, List, [], ◌∷◌, ◌++◌, length, map, refl, ap, ◌∙◌, sym, subst, inl, inr, arith, if◌then◌else◌, slice_get, Option, None, Some, cases_Bool, nat_tests}
-use Rattle.dm_mirror.proofs.Names.{false≢true, Pid, pid_eq, Message, MsgId, What, Record, Line, Stage, Part, MessageKind, kind_of, Process, incoming_of, with_record, Nothing, restarted, ComesByPieces, by_pieces, Boot, bind, plain_process}
+use Rattle.dm_mirror.proofs.Names.{◌≡◌, ◌≢◌, ℕ, ◌+◌, ◌/◌, ◌≤◌, ◌==◌, Bool, true, false, List, [], ◌∷◌, ◌++◌, length, map, refl, ap, ◌∙◌, sym, subst, inl, inr, arith, if◌then◌else◌, slice_get, Option, None, Some, cases_Bool, nat_tests}
+use Rattle.dm_mirror.proofs.Names.{false≢true, Pid, pid_eq, Message, MsgId, What, Record, Line, Stage, MessageKind, kind_of, Process, incoming_of, with_record, Nothing, restarted, ComesByPieces, by_pieces, Boot, bind, plain_process}
 use Rattle.dm_mirror.proofs.Names.{pid_eq-is, pid_eq-same, kernel_told, Moves, is_away, is_early, knows, kind_leaves, Point, moved, Room, fits, free_room, taken_at, taken_by, at_machine, at_record, Spot, Held, Inbox, standing, times, Known}
 use Rattle.dm_mirror.proofs.Names.{Unknown, Here, Frozen, Incoming, Forward, Ended, Of, View, without_first, once_at, times-append, is_server, has_no_queue, Placed, restarted_mirrors, mirrors_view, room_of, restarts, restarts_as}
-use Rattle.dm_mirror.proofs.Names.{kernel_handles, KernelState, AreMessages, KnownStands, RoomStands, AllRecords, Carries, TokensStand, destination_of, and_false, least_of, at_record_at}
+use Rattle.dm_mirror.proofs.Names.{kernel_handles, KernelState, AreMessages, KnownStands, RoomStands, AllRecords, Carries, TokensStand, destination_of, and_false, least_of, at_record_at, Asker, Outcome, Arrival, coming, tells_asker, Told}
+use Rattle.dm_mirror.proofs.Names.{is_between}
+use Rattle.dm_rule.proofs.Names.{Part}
 use Rattle.dm_places.specs.PlacedStep.{with_process}
-use Rattle.dm_message.specs.declared.Asker.{Asker}
-use Rattle.dm_message.specs.declared.Outcome.{Outcome}
-use Rattle.dm_migrate.specs.Arrival.{Arrival}
-use Rattle.dm_migrate.specs.Way.{coming}
 use Rattle.dm_migrate.specs.Way as way
 use Rattle.dm_onekernel.specs.Step as kernel
 use Rattle.dm_rule.specs.Rule as group
 use Rattle.dm_kernel.specs.declared.part.Part.TheVariants as part
 use Rattle.dm_kernel.specs.State as machine
-use Rattle.dm_kernel.specs.Departing.{tells_asker}
 use Rattle.dm_rule.specs.Migrating as migrating
-use Rattle.dm_mirror.proofs.Names.{Told, is_between}
 use Rattle.dm_mirror.proofs.Leave.Answered.{EndsMove, ends_move_row}
 use Rattle.dm_mirror.proofs.Come.Frames.{Arrives, Comes, arrives, own_once}
 use Rattle.dm_mirror.proofs.Come.Turns.{come_view, eq_off, fewer, gone, machine_self, others_known}

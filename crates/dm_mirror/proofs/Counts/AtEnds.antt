@@ -1,12 +1,10 @@
 -- What a group may do to counts: raise them and route a message, put a message of a kernel's own, or restart a process.
-use Rattle.dm_mirror.proofs.Names.{Run, ◌≡◌, ◌⊎◌, inl, inr, ℕ, ◌+◌, ◌≤◌, ◌==◌, Bool, true, false, List, [], ◌∷◌, length, refl, ap, ◌∙◌, sym, subst, arith, if◌then◌else◌, Option, None, Some, Pid, MsgId, MessageKind, plain_kind, Label, OneKernel}
-use Rattle.dm_mirror.proofs.Names.{bind-is, Line, Stage, Load, Receiver, Part, Says, Routes, Again, Owns, Transmits, Spelled, goes_out, packet_line, puts, spelled, Point, after, kernel_after, label_of, moved, View, own_id, view_after}
+use Rattle.dm_mirror.proofs.Names.{Run, ◌≡◌, ◌⊎◌, inl, inr, ℕ, ◌+◌, ◌≤◌, ◌==◌, Bool, true, false, List, [], ◌∷◌, length, refl, ap, ◌∙◌, sym, subst, arith, if◌then◌else◌, Option, None, Some, Pid, MsgId, MessageKind, plain_kind, Label}
+use Rattle.dm_mirror.proofs.Names.{OneKernel, bind-is, Line, Stage, Load, Receiver, Says, Routes, Again, Owns, Transmits, Spelled, goes_out, packet_line, puts, spelled, Point, after, kernel_after, label_of, moved, View, own_id, view_after}
 use Rattle.dm_mirror.proofs.Names.{onward, said, says_next, transmits_next, ◌++◌, ⊤, slice_get, PlainMessage, Boot, manager, Step, migrates, sends_on, to_kernel, updates, outcome, About, Told, actor, arrives_net, resends_net, by_migrates}
-use Rattle.dm_mirror.proofs.Names.{by_hears, nat_tests}
-use Rattle.dm_message.specs.declared.Outcome.{Outcome}
-use Rattle.dm_onekernel.specs.Kernel.{MoveNote}
-use Rattle.dm_rule.specs.Migrating.{leaves_for, tells_asker}
-use Rattle.dm_rule.specs.Point.{seen}
+use Rattle.dm_mirror.proofs.Names.{by_hears, nat_tests, Outcome, MoveNote, leaves_for, seen}
+use Rattle.dm_rule.proofs.Names.{Part}
+use Rattle.dm_rule.specs.Migrating.{tells_asker}
 use Rattle.dm_rule.specs.Rule as rule
 use Rattle.dm_mirror.proofs.Paying.{Paid, AreMute, PaidIf, forwards_paid, line_within, front_paid, mute_paid, net_paid, round_paid, tells_paid}
 use Rattle.dm_mirror.proofs.Raises.{Within, sent_of}

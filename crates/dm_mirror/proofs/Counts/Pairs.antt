@@ -1,16 +1,15 @@
 -- Which lines leave what has moved, comes or has gone on.
 use Rattle.dm_mirror.proofs.Names.{◌≡◌, ◌≢◌, ◌⊎◌, inl, inr, ℕ, ◌+◌, ◌<◌, ◌≤◌, ◌==◌, ◌&&◌, Bool, true, false, List, [], ◌∷◌, ◌++◌, length, drop, filter, not, refl, ap, ◌∙◌, sym, subst, arith, if◌then◌else◌, slice_get, Option, None, Some}
-use Rattle.dm_mirror.proofs.Names.{cases_Bool, false≢true, nat_tests, Pid, MsgId, MessageKind, plain_kind, PlainMessage, Boot, id_eq-same, bind-is, Step, Line, Load, Receiver, IsStep, Part, Says, Routes, Again, Owns, Transmits, Spelled}
-use Rattle.dm_mirror.proofs.Names.{goes_out, packet_line, puts, spelled, Point, after, moved, group_of, Spot, Untaken, standing, times, View, Pair, after_put, gone_after, is_kernels, oldest, own_id, view_after, routed_on, with_pair}
-use Rattle.dm_mirror.proofs.Names.{migrates, to_of, machine_of, Pairs, pair_stands, IsNet, IsNetLine, arrives_net, group_is, resends_net, stands_right, AllFit, onward, pair_same, migrates_fit, turns_fit, said, says_next, transmits_next}
-use Rattle.dm_mirror.proofs.Names.{Run, told_there, cases_zero, own_by, taken_pair, OneKernel, after_line, kernel_after, label_of, is_own, hushed, is_put, pid_eq, Stage, Label, at_record, About, Known, Told, handled, first_number, Alive}
-use Rattle.dm_mirror.proofs.Names.{PlainProcess, touches, proto_acting, queued_acting, held_acting, forwarded_acting, acting_label}
+use Rattle.dm_mirror.proofs.Names.{cases_Bool, false≢true, nat_tests, Pid, MsgId, MessageKind, plain_kind, PlainMessage, Boot, id_eq-same, bind-is, Step, Line, Load, Receiver, IsStep, Says, Routes, Again, Owns, Transmits, Spelled, goes_out}
+use Rattle.dm_mirror.proofs.Names.{packet_line, puts, spelled, Point, after, moved, group_of, Spot, Untaken, standing, times, View, Pair, after_put, gone_after, is_kernels, oldest, own_id, view_after, routed_on, with_pair, migrates, to_of}
+use Rattle.dm_mirror.proofs.Names.{machine_of, Pairs, pair_stands, IsNet, IsNetLine, arrives_net, group_is, resends_net, stands_right, AllFit, onward, pair_same, migrates_fit, turns_fit, said, says_next, transmits_next, Run, told_there}
+use Rattle.dm_mirror.proofs.Names.{cases_zero, own_by, taken_pair, OneKernel, after_line, kernel_after, label_of, is_own, hushed, is_put, pid_eq, Stage, Label, at_record, About, Known, Told, handled, first_number, Alive, PlainProcess}
+use Rattle.dm_mirror.proofs.Names.{touches, proto_acting, queued_acting, held_acting, forwarded_acting, acting_label, aim, sets, seen}
+use Rattle.dm_rule.proofs.Names.{Part}
 use Rattle.dm_rule.proofs.Names.{marked}
 use Rattle.dm_rule.proofs.Lines.{parts}
 pub use Rattle.dm_rule.proofs.Lines.{eq_is as same_of}
 use Rattle.dm_rule.specs.Rule as rule
-use Rattle.dm_rule.proofs.Seen.{aim, sets}
-use Rattle.dm_rule.specs.Point.{seen}
 use Rattle.dm_rule.specs.View as view
 use Rattle.dm_mirror.proofs.Totals.{ids_of, Grows, line_grows, put_adds, total, total_adds, total_grows}
 pub use Rattle.dm_mirror.proofs.Puts.{ids_if as set_ids}

@@ -5,12 +5,11 @@ use Rattle.dm_mirror.proofs.Names.{Data, Ack, Sending, due, window, with_acked, 
 use Rattle.dm_mirror.proofs.Names.{with_sender, Acted, Acts, Goes, Worn, then_, acts, comes_in, gives, is_worn, lets_go, lets_next, none_waits, routes, routes_away, routes_home, sends_due, takes_kept, takes_next, FitsLoad, spoken}
 use Rattle.dm_mirror.proofs.Names.{with_packet, AreReadBack, NodeReads, SenderReads, WiresRead, ◌+◌, nat_lt, arith, fresh_sending, Boot, Step, tick, WorldState, acted, first_world, IsReadable, ◌-◌, ◌<◌, ◌≤◌, length, slice_get, cases_Bool}
 use Rattle.dm_mirror.proofs.Names.{nat_tests, length-append, length-drop, slice_get_within, numbered, outstanding, get-drop, ◌≢◌, All-push, MsgId, IsLawfulMessage, advanced, kept_once, load_at, Line, at_machine, at_pair, NothingElse, Pair}
-use Rattle.dm_mirror.proofs.Names.{at_least, oldest, Inbox, times, Point, moved, Placed, lines_keep, AreMessages, History, StandsWith, marked}
+use Rattle.dm_mirror.proofs.Names.{at_least, oldest, Inbox, times, Point, moved, Placed, lines_keep, AreMessages, History, StandsWith, marked, Part}
 use Rattle.dm_node.proofs.Names.{behind}
 use Rattle.dm_stream.specs.Packets.{Load}
 use Rattle.dm_stream.specs.declared.receiver.Arrived.TheVariants.{Taken}
 use Rattle.dm_wire.specs.Wire.{after_put}
-use Rattle.dm_kernel.specs.declared.part.Part.{Part}
 use Rattle.dm_node.specs.Acts.{arrives}
 use Rattle.dm_wire.specs.Sent as wire
 use Rattle.dm_rule.specs.View as view

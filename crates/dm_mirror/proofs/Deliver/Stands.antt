@@ -1,8 +1,9 @@
 -- What a machine gives, in order, is what the rule's parts say, and the world behind it stands.
 use Rattle.dm_mirror.proofs.Names.{◌≡◌, ◌≢◌, ℕ, ◌≤◌, ◌==◌, ◌&&◌, false, List, length, ap, ◌∙◌, sym, subst, inl, inr, arith, Option, All, cases_Bool, eqb_tells, nat_tests, Pid, incoming_of, Message, MsgId, IsLawfulMessage, Sending}
 use Rattle.dm_mirror.proofs.Names.{Receiving, Sent, Boot, About, Pair, Point, Spot, Queue, Held, Inbox, Untaken, standing, times, two_of, Placed, Mirrors, NodeState, WorldState, AreMessages, History, KernelStands, NodeStands, PairStands}
-use Rattle.dm_mirror.proofs.Names.{StandsWith, Carries, TokensStand, destination_of, Bool, [], ◌∷◌, refl, if◌then◌else◌, Some, Packet, Line, Load, at_machine, Part, Spelled, spelled, after_line, Sends, Acted, before, spoken, with_packet}
-use Rattle.dm_mirror.proofs.Names.{zero, suc, ◌+◌, ◌++◌, drop, slice_get, id_eq, id_eq-is, id_eq-same, at_pair, untaken, View, oldest, times-append, behind}
+use Rattle.dm_mirror.proofs.Names.{StandsWith, Carries, TokensStand, destination_of, Bool, [], ◌∷◌, refl, if◌then◌else◌, Some, Packet, Line, Load, at_machine, Spelled, spelled, after_line, Sends, Acted, before, spoken, with_packet, zero}
+use Rattle.dm_mirror.proofs.Names.{suc, ◌+◌, ◌++◌, drop, slice_get, id_eq, id_eq-is, id_eq-same, at_pair, untaken, View, oldest, times-append, behind}
+use Rattle.dm_rule.proofs.Names.{Part}
 use Rattle.dm_node.specs.declared.out.Out.TheVariants.{Says}
 use Rattle.dm_node.specs.Wired.{packet_line}
 pub use Rattle.dm_rule.proofs.Lines.{at_machine_at as machine_same}

@@ -3,14 +3,13 @@ use Rattle.dm_mirror.proofs.Names.{◌≡◌, ◌≢◌, ◌⊎◌, ℕ, ◌<◌
 use Rattle.dm_mirror.proofs.Names.{Process, incoming_of, Arrival, Nothing, Boot, Why, Alive, plain_process, EndLine, Standing, or, list_line, Stood, stood_at, first_with, is_away, is_due, Point, Known, Unknown, Incoming, Ended, Told}
 use Rattle.dm_mirror.proofs.Names.{not_true, is_server, Run, Placed, WorldState, alive_lines, awaited_lines, come_lines, first_awaited, first_had, first_says, lines_in, record_lines, record_queue, told_of, History, KnownStands, StandsWith}
 use Rattle.dm_mirror.proofs.Names.{Wants, alive-is, [], Message, MsgId, What, kind_of, Here, Frozen, Forward, come_whole, held_for, names_of, has_nothing_held, AreMessages, ComesStand, Carries, ended_is, ◌≤◌, ◌∷◌, length, map, IfSome}
-use Rattle.dm_mirror.proofs.Names.{IsValid, Manager, plain_child, IsLawfulPair, Servers, Step, Leads, first_point, HasPlainEnd, EndMay, servers_at}
+use Rattle.dm_mirror.proofs.Names.{IsValid, Manager, plain_child, IsLawfulPair, Servers, Step, Leads, first_point, HasPlainEnd, EndMay, servers_at, Asker}
 use Rattle.dm_migrate.specs.Way.{moved}
 use Rattle.dm_onekernel.specs.Step as kernel
 use Rattle.dm_rule.specs.Ends as rule
 use Rattle.dm_kernel.specs.State as machine
 use Rattle.dm_world.specs.Ends as world
 pub use Rattle.dm_mirror.proofs.Row.Tokens.{carries_plain as carried_own}
-use Rattle.dm_message.specs.declared.Asker.{Asker}
 use Rattle.dm_mirror.proofs.End.Servers.{first_at, first_none, names_are, alive_same, ComesTo, HasIt, OverAt, away_silent, is_silent, where_is}
 use Rattle.dm_mirror.proofs.Handle.Taking.{some_same}
 pub use Rattle.dm_mirror.proofs.Handle.Kills.{child_off as no_server}

@@ -3,8 +3,7 @@ use Rattle.dm_mirror.proofs.Names.{◌≡◌, ℕ, ◌+◌, ◌≤◌, ◌==◌,
 use Rattle.dm_mirror.proofs.Names.{pid_eq, pid_of, place_of, Message, MsgId, What, MessageKind, MoveError, Step, id_of, incoming_of, Boot, manager, switchboard, address_at, child_named, moves_child, tells_to_move, asks_manager, asks_move}
 use Rattle.dm_mirror.proofs.Names.{told_to_move, KernelState, id_eq-same, pid_eq-is, Line, Receiver, Sender, child_number, place_of_child, unmoved, migrates, migrates_child, Point, after, moved, at_machine, Spot, standing, Run, Placed}
 use Rattle.dm_mirror.proofs.Names.{Mirrors, mirrors_view, child_place, no_child, AllOwnStand, KernelStands, AllRecords, TokensStand, Wants, destination_of, ◌≢◌, ◌&&◌, not, kind_of, plain_what, Inbox, Known, Unknown, Here, Frozen, Incoming}
-use Rattle.dm_mirror.proofs.Names.{Forward, Ended, is_server, is_fixed, is_place, is_target, own_sort}
-use Rattle.dm_kernel.specs.declared.part.Part.{Part}
+use Rattle.dm_mirror.proofs.Names.{Forward, Ended, is_server, is_fixed, is_place, is_target, own_sort, Part}
 use Rattle.dm_kernel.specs.State.{with_sent}
 use Rattle.dm_kernel.specs.State as machine
 use Rattle.dm_rule.specs.Parts as rule

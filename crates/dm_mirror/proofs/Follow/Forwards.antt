@@ -3,8 +3,7 @@ use Rattle.dm_mirror.proofs.Names.{◌≡◌, ℕ, ◌+◌, ◌≤◌, Bool, tru
 use Rattle.dm_mirror.proofs.Names.{nat_tests, What, Record, Line, MessageKind, id_eq, id_of, kind_of, plain_kind, PlainMessage, plain_message, plain_what, with_what, incoming_of, sent_on, Boot, manager, bind, forwards_and, KernelState}
 use Rattle.dm_mirror.proofs.Names.{id_eq-same, id_eq-swap, Addresses, Receiver, Sender, is_told_back, unmoved, forwards_on, process_told, Point, moved, at_machine, Spot, Queue, Held, StandsOnce, standing, About, Known, Forward, Told}
 use Rattle.dm_mirror.proofs.Names.{forward_about, forwarded_for, handled, own_id, receiver_of, stands_right, is_fixed, Run, Placed, Mirrors, free_off, plain_sent_on, forwarded_mirrors, moves_forwarded, update_gets, parts, mirrors_view}
-use Rattle.dm_mirror.proofs.Names.{AllOwnStand, OwnStands, KnownStands, AllRecords, Wants, ◌++◌, Wanted, Arrival, Departure, with_known, pid_eq-is, at_record, times, Frozen, Incoming, AreMessages, ComesStand, LeavesStand, is_server}
-use Rattle.dm_kernel.specs.declared.part.Part.{Part}
+use Rattle.dm_mirror.proofs.Names.{AllOwnStand, OwnStands, KnownStands, AllRecords, Wants, ◌++◌, Wanted, Arrival, Departure, with_known, pid_eq-is, at_record, times, Frozen, Incoming, AreMessages, ComesStand, LeavesStand, is_server, Part}
 use Rattle.dm_kernel.specs.State.{with_sent}
 use Rattle.dm_rule.specs.Rule.{process_handles}
 use Rattle.dm_places.specs.PlacedStep.{with_message}

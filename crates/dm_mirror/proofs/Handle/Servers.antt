@@ -1,14 +1,13 @@
 -- What the servers send has a plain meaning.
 use Rattle.dm_mirror.proofs.Names.{◌≡◌, ℕ, ◌+◌, ◌==◌, ◌||◌, Bool, true, false, List, [], ◌∷◌, ◌++◌, length, refl, ap, ◌∙◌, sym, subst, nat_lt, arith, if◌then◌else◌, option_map, Option, None, Some, false≢true, nat_tests, Pid, pid_eq}
-use Rattle.dm_mirror.proofs.Names.{PlainLink, MsgId, Message, Label, PlainMessage, PlainWhat, plain_message, Boot, switchboard, manager, Life, Manager, OneKernel, bind, plain_board, plain_request, Pending, control_link, Managing, at_home}
-use Rattle.dm_mirror.proofs.Names.{plain_manager, plain_pending, plain_created, plain_no_room, plain_pending_numbered, plain_user, counts, unentered, ServerSends, board_takes_lem, manager_takes_lem, Part, Point, blocks_of, bag_none}
-use Rattle.dm_mirror.proofs.Names.{is_server, IsPending, WhatFits, home_of, StepNeeds, Placed, MirrorsKernel, board_took, manager_took, of_map, parts, plainly, user_what, created_what, no_room_what, Servers, handles, board_handles}
-use Rattle.dm_mirror.proofs.Names.{manager_handles, KernelState, turned, servers_at, server_fixed, pending_is, ◌*◌, ◌&&◌, is_some, Addr, Link, What, plain_what, with_what, Board, answer_over, message_to, kernel_of, ◌≢◌, begun}
+use Rattle.dm_mirror.proofs.Names.{PlainLink, MsgId, Message, Label, PlainMessage, PlainWhat, plain_message, Boot, switchboard, manager, Life, Manager, OneKernel, bind, plain_board, plain_request, control_link, Managing, at_home}
+use Rattle.dm_mirror.proofs.Names.{plain_manager, plain_pending, plain_created, plain_no_room, plain_pending_numbered, plain_user, counts, unentered, ServerSends, board_takes_lem, manager_takes_lem, Point, blocks_of, bag_none, is_server}
+use Rattle.dm_mirror.proofs.Names.{IsPending, WhatFits, home_of, StepNeeds, Placed, MirrorsKernel, board_took, manager_took, of_map, parts, plainly, user_what, created_what, no_room_what, Servers, handles, board_handles, manager_handles}
+use Rattle.dm_mirror.proofs.Names.{KernelState, turned, servers_at, server_fixed, pending_is, ◌*◌, ◌&&◌, is_some, Addr, Link, What, plain_what, with_what, Board, answer_over, message_to, kernel_of, ◌≢◌, begun, code_of_outcome, PendingKind}
+use Rattle.dm_mirror.proofs.Names.{moved_what, plain_moved}
+use Rattle.dm_places.proofs.Names.{Pending}
+use Rattle.dm_rule.proofs.Names.{Part}
 pub use Rattle.dm_places.proofs.Frames.{kept_processes as placed_processes}
-use Rattle.dm_message.specs.Outcomes.{code_of_outcome}
-use Rattle.dm_onekernel.specs.declared.request.PendingKind.{PendingKind}
-use Rattle.dm_places.proofs.Whats.{moved_what}
-use Rattle.dm_procman.proofs.Plain.{plain_moved}
 use Rattle.dm_onekernel.specs.Kernel as kernels
 use Rattle.dm_onekernel.specs.Manager as one
 use Rattle.dm_onekernel.specs.Service as service

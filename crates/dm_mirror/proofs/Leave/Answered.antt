@@ -1,21 +1,14 @@
 -- A move has ended: whoever asked for it is told.
-use Rattle.dm_mirror.proofs.Names.{◌≡◌, ◌≢◌, ℕ, ◌+◌, ◌≤◌, true, false, List, [], ◌∷◌, map, refl, ap, ◌∙◌, sym, subst, inl, inr, arith, Option, None, Some, option_map, cases_Bool, false≢true, Pid, pid_eq, pid_eq-is, Message, MsgId, id_eq, plain_message, Record, Label, Line}
-use Rattle.dm_mirror.proofs.Names.{Process, PlainMessage, PlainProcess, Boot, OneKernel, Step, bind, answer_id, bag_none, Point, View, Told, Of, Here, Known, Spot, Queue, Held, Inbox, standing, times, is_between, is_server, after, after_line, moved}
-use Rattle.dm_mirror.proofs.Names.{at_machine, outcome, Run, Placed, Mirrors, placed_step, StepNeeds, KernelState, turn, AllOwnStand, KernelStands, KnownStands, HereStands, RoomStands, AllRecords, TokensStand, room_of, slice_get}
-use Rattle.dm_message.specs.declared.Asker.{Asker}
-use Rattle.dm_message.specs.declared.Outcome.{Outcome}
-use Rattle.dm_migrate.specs.Asking.{manager_request, moved_answer}
-use Rattle.dm_onekernel.specs.Kernel.{MoveNote}
+use Rattle.dm_mirror.proofs.Names.{◌≡◌, ◌≢◌, ℕ, ◌+◌, ◌≤◌, true, false, [], ◌∷◌, refl, ap, ◌∙◌, sym, subst, inl, inr, arith, Option, None, Some, option_map, cases_Bool, false≢true, Pid, pid_eq, pid_eq-is, Message, MsgId, id_eq}
+use Rattle.dm_mirror.proofs.Names.{plain_message, Record, Label, Line, Process, Boot, OneKernel, Step, bind, answer_id, bag_none, Point, View, Told, Of, Here, Known, Spot, Queue, Held, Inbox, standing, times, is_between, is_server, after}
+use Rattle.dm_mirror.proofs.Names.{after_line, moved, at_machine, outcome, Run, Placed, Mirrors, placed_step, StepNeeds, KernelState, turn, AllOwnStand, KernelStands, KnownStands, HereStands, RoomStands, AllRecords, TokensStand, room_of}
+use Rattle.dm_mirror.proofs.Names.{slice_get, Asker, Outcome, manager_request, moved_answer, MoveNote, bag_answered, plain_note, ends_move, without_note, Part, tells_asker}
 use Rattle.dm_onekernel.specs.Service as service
 use Rattle.dm_onekernel.specs.Step as kernel
 use Rattle.dm_rule.specs.Parts as rule
 use Rattle.dm_rule.specs.Migrating as migrating
-use Rattle.dm_rule.proofs.Bags.{bag_answered}
-use Rattle.dm_places.specs.Placed.{plain_note}
-use Rattle.dm_places.specs.PlacedStep.{ends_move, with_sent, without_note}
-use Rattle.dm_kernel.specs.declared.part.Part.{Part}
+use Rattle.dm_places.specs.PlacedStep.{with_sent}
 use Rattle.dm_kernel.specs.State as machine
-use Rattle.dm_kernel.specs.Departing.{tells_asker}
 use Rattle.dm_mirror.proofs.Kernel.Sets.{after_label, label_mirrors, off_if, on_if}
 use Rattle.dm_mirror.proofs.Turning.{Elsewhere, First, Nothing, TurnsAt, begun, has_process}
 use Rattle.dm_mirror.proofs.Handle.Taking.{fresh_at, map_same, sent_there, some_same, stands_set}

@@ -1,35 +1,27 @@
 -- A process is asked to move: to where it is, which is answered at once, or it is frozen, and the other machine is asked.
-use Rattle.dm_mirror.proofs.Names.{◌≡◌, ◌≢◌, ℕ, ◌≤◌, ◌==◌, Bool, true, false, List, [], ◌∷◌, map, refl, ap, ◌∙◌, sym, subst, inl, inr, arith, is_some, if◌then◌else◌, Option, None, Some, eqb_tells, eq_not, Pid, pid_eq, pid_eq-same, nat_tests}
-use Rattle.dm_mirror.proofs.Names.{Message, MsgId, id_eq-same, id_of, manager, switchboard, PlainMessage, PlainProcess, PlainWhat, plain_message, Process, Label, Line, Record, Stage, Boot, OneKernel, bind, answer_id, bag_none, zero_if, without_message}
-use Rattle.dm_mirror.proofs.Names.{Point, View, Target, Here, Spot, Queue, Held, Inbox, standing, times, handled, is_kernels, is_server, after, moved, addresses_after, without_front, WhatFits, StepNeeds, Placed, Mirrors, mirrors_view, placed_step}
-use Rattle.dm_mirror.proofs.Names.{plainly, here_handles, turned, KernelState, KnownStands, AllRecords, TokensStand, FreezesReceiverWhole, KnownIsWhole, CanMove, What, HereStands, taken_at, begun}
-use Rattle.dm_message.specs.declared.Asker.{Asker}
-use Rattle.dm_message.specs.declared.Outcome.{Outcome}
-use Rattle.dm_migrate.specs.Asking.{asker_of, manager_request, moved_answer}
+use Rattle.dm_mirror.proofs.Names.{◌≡◌, ◌≢◌, ℕ, ◌≤◌, ◌==◌, Bool, true, false, List, [], ◌∷◌, map, refl, ap, ◌∙◌, sym, subst, inl, inr, is_some, if◌then◌else◌, Option, None, Some, eqb_tells, eq_not, Pid, pid_eq, pid_eq-same, Message, MsgId}
+use Rattle.dm_mirror.proofs.Names.{id_eq-same, id_of, manager, PlainMessage, PlainProcess, PlainWhat, plain_message, Process, Label, Line, Record, Stage, Boot, OneKernel, bind, answer_id, bag_none, zero_if, without_message, Point, Target}
+use Rattle.dm_mirror.proofs.Names.{Here, Spot, Queue, Held, Inbox, standing, times, handled, is_kernels, after, moved, addresses_after, without_front, WhatFits, StepNeeds, Placed, Mirrors, mirrors_view, placed_step, plainly, here_handles}
+use Rattle.dm_mirror.proofs.Names.{turned, KernelState, KnownStands, AllRecords, TokensStand, FreezesReceiverWhole, KnownIsWhole, CanMove, What, begun, Asker, Outcome, asker_of, manager_request, moved_answer, MoveNote, machine_in, seen}
+use Rattle.dm_mirror.proofs.Names.{at_hand_of, ends_move, with_note, without_note, move_what, Part, freezing, with_frozen}
 use Rattle.dm_onekernel.specs.Kernel as one
-use Rattle.dm_onekernel.specs.Kernel.{MoveNote}
 use Rattle.dm_onekernel.specs.Service as service
 use Rattle.dm_onekernel.specs.Step as kernel
 use Rattle.dm_rule.specs.Parts as rule
 use Rattle.dm_rule.specs.Migrating as migrating
 use Rattle.dm_rule.specs.View as view
-use Rattle.dm_rule.specs.Point.{machine_in, seen}
-use Rattle.dm_rulelaws.proofs.Goes.Turns.{at_hand_of}
 use Rattle.dm_places.specs.PlacedStep as placed
-use Rattle.dm_places.specs.PlacedStep.{ends_move, with_note, with_sent, without_note}
-use Rattle.dm_places.proofs.Whats.{move_what}
-use Rattle.dm_kernel.specs.declared.part.Part.{Part}
+use Rattle.dm_places.specs.PlacedStep.{with_sent}
 use Rattle.dm_kernel.specs.State as kernels
-use Rattle.dm_kernel.specs.Departing.{asked_to_move, freezing, with_frozen}
 use Rattle.dm_mirror.proofs.Turning.{Row, TurnsAt, has_process, is_elsewhere}
 use Rattle.dm_mirror.proofs.Kernel.Sets.{after_label, label_mirrors, off_if, on_if}
-use Rattle.dm_mirror.proofs.Handle.Taking.{Taking, eq_self, held_apart, known_on, machine_off, machine_self, map_same, not_server, outcome_is, queue_apart, sane_of, sent_there, some_same, stands_set, turn_is}
+use Rattle.dm_mirror.proofs.Handle.Taking.{Taking, eq_self, held_apart, machine_off, machine_self, map_same, not_server, outcome_is, queue_apart, sane_of, sent_there, some_same, stands_set, turn_is}
 use Rattle.dm_mirror.proofs.Handle.Rows.{Elsewhere, Moves, here_left, kept_at, kept_behind, mirrors_one, own_back, own_kept, standing_begun}
 use Rattle.dm_mirror.proofs.Handle.Ended.{IsHere, here_outcome, here_turn}
 use Rattle.dm_mirror.proofs.Follow.Fronts.{elsewhere_apart, front_gone}
 use Rattle.dm_mirror.proofs.Rooms.{taken_same}
 use Rattle.dm_mirror.proofs.Row.Tokens.{row_turns}
-use Rattle.dm_mirror.proofs.Leave.Asks.{SetsOff, room_stays, off_ask, off_state, off_view, sets_off}
+use Rattle.dm_mirror.proofs.Leave.Asks.{room_stays, off_state, off_view, sets_off}
 
 -- a request to move is one of the manager's messages
 pub asked_by_manager : (s : OneKernel) (i : MsgId) (x : PlainMessage) (machine : ℕ) → x.what ≡ PlainWhat.Move machine → WhatFits s i x x.what → i ≡ id_of manager i.n

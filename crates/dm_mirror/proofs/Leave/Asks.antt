@@ -4,13 +4,8 @@ use Rattle.dm_mirror.proofs.Names.{MsgId, What, MessageKind, Record, Line, Stage
 use Rattle.dm_mirror.proofs.Names.{pid_eq-is, pid_eq-same, to_kernel, Point, moved, Room, taken_by, takes_room, at_machine, at_record, without, without_front, times, Here, Frozen, Known, Of, front_told, own_id, target_of, without_first}
 use Rattle.dm_mirror.proofs.Names.{is_server, has_nothing_held, is_fixed, Placed, mirrors_view, told_of, KnownStands, LeavesStand, RoomStands, AllRecords, eq_not, or-right, ◌/◌, length, option_map, Option, Addr, pid_of, kind_of, plain_what}
 use Rattle.dm_mirror.proofs.Names.{with_what, frozen_of, incoming_of, Departure, block_of, chunk_of, state_of, OneKernel, bind, plain_process, gives_piece, kernel_handles, Addresses, Receiver, Sender, gets, own_gives, unmoved, kernel_told}
-use Rattle.dm_mirror.proofs.Names.{is_between, is_of_source, fits, free_room, kernel_hears, Inbox, standing, Told, Unknown, View, after_proto, handled, Run, enclosed, about_of, Carries, destination_of, false≢true, ◌++◌, turn, outcome, after, Step, plain_message, HereStands, Mirrors, AllOwnStand, KernelStands, TokensStand}
-use Rattle.dm_mirror.proofs.Names.{AreMessages, Spot, Queue, Held, spot_cases}
-use Rattle.dm_message.specs.declared.Asker.{Asker}
-use Rattle.dm_places.specs.Placed.{plain_note}
-use Rattle.dm_rule.specs.Migrating.{leaves_for}
-use Rattle.dm_rulelaws.proofs.Goes.Front.{here_free}
-use Rattle.dm_kernel.specs.declared.part.Part.{Part}
+use Rattle.dm_mirror.proofs.Names.{is_between, is_of_source, fits, free_room, kernel_hears, Inbox, standing, Told, Unknown, View, after_proto, handled, Run, enclosed, about_of, Carries, destination_of, false≢true, ◌++◌, turn, outcome}
+use Rattle.dm_mirror.proofs.Names.{after, Step, plain_message, HereStands, Mirrors, AllOwnStand, KernelStands, TokensStand, AreMessages, Spot, Queue, Held, spot_cases, Asker, plain_note, leaves_for, here_free, Part}
 use Rattle.dm_kernel.specs.State.{with_sent}
 use Rattle.dm_onekernel.specs.Step as kernel
 use Rattle.dm_rule.specs.Parts as rule
@@ -212,7 +207,7 @@ sets_off b m pt l records k p machine asker says t a box to on h =
       );
       may = (
         may_between next on after_records m machine p ask (search
-            (ap kernel_at h.stands.here, h.absent ask.id (ap l.bag id_is ∙ absent_next b pt l m h.run h.mirrors h.own), ap v.told id_is ∙ untold_next b pt m h.run, ap Of x_is, h.processes p ∙ h.here.0.1, h.note)),
+            (ap kernel_at h.stands.here, h.absent ask.id (ap l.bag id_is ∙ absent_next b pt l m h.run h.mirrors h.own), ap v.told id_is ∙ untold_next b pt m h.run, ap Of x_is, h.processes p ∙ h.here.0.1)),
         tt,
       );
       late_may = tt;

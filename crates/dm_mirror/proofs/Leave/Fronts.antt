@@ -5,8 +5,7 @@ use Rattle.dm_mirror.proofs.Names.{token_in, Point, comes_to, hears, outcome, Sp
 use Rattle.dm_mirror.proofs.Names.{StandsAsBag-elsewhere, spot_cases, OwnTold, Run, Placed, Mirrors, AllOwnStand, about_of, told_of, AreMessages, KernelStands, AllRecords, TokensStand, eq_self, source_knows, inbox_is, of_same, more_front}
 use Rattle.dm_mirror.proofs.Names.{holds_is, ◌||◌, [], refl, Addr, pid_eq, place_of, nat_tests, kernel_at, id_of, What, MessageKind, Arrival, PlainMessage, Process, incoming_of, process_handles, Gets, Receiver, Sender, gets, given}
 use Rattle.dm_mirror.proofs.Names.{own_gives, unmoved, process_told, kernel_hears, at_machine, Known, own_id, not_kernels, is_fixed, enclosed, Carries, destination_of, about_same, cases_Bool, Record, Departure, pid_eq-is, HereStands}
-use Rattle.dm_mirror.proofs.Names.{KnownStands, LeavesStand}
-use Rattle.dm_message.specs.declared.Asker.{Asker}
+use Rattle.dm_mirror.proofs.Names.{KnownStands, LeavesStand, Asker}
 use Rattle.dm_rule.specs.Parts as rule
 use Rattle.dm_rule.specs.Rule as ruled
 use Rattle.dm_kernel.specs.State as machine

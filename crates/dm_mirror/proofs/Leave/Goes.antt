@@ -4,8 +4,7 @@ use Rattle.dm_mirror.proofs.Names.{nat_tests, pid_eq, kernel_at, Message, MsgId,
 use Rattle.dm_mirror.proofs.Names.{PlainProcess, without_leaving, KernelState, own, turned, pid_eq-same, sends_on, to_kernel, Point, moved, Room, blocks_of, taken_at, taken_by, takes_room, at_machine, Spot, Held, Inbox, Queue, standing}
 use Rattle.dm_mirror.proofs.Names.{times, Forward, Frozen, Known, gone_to, own_id, without_first, MirrorsPoint, sent_all, Placed, sent_on_mirrors, mirrors_view, MadeStands, told_of, AreMessages, KnownStands, RoomStands, AllRecords, Wants}
 use Rattle.dm_mirror.proofs.Names.{◌||◌, inr, None, cases_Bool, id_eq, IsKindOfPlain, kind_of, PlainMessage, PlainWhat, plain_message, plain_what, with_what, sent_on, id_eq-swap, is_between, Told, View, letters, held_plain, queued_plain}
-use Rattle.dm_mirror.proofs.Names.{StandsAsBag-elsewhere, Run, Mirrors, is_among, among_times, parts, AllOwnStand, told_there, more_front, leaves, is_server}
-use Rattle.dm_kernel.specs.declared.part.Part.{Part}
+use Rattle.dm_mirror.proofs.Names.{StandsAsBag-elsewhere, Run, Mirrors, is_among, among_times, parts, AllOwnStand, told_there, more_front, leaves, is_server, Part}
 use Rattle.dm_kernel.specs.State.{with_sent}
 use Rattle.dm_onekernel.specs.Step as kernel
 use Rattle.dm_kernel.specs.State as machine

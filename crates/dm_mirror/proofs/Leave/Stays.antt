@@ -1,11 +1,8 @@
 -- A process that was to leave stays: it is served again, and what was held comes before the inbox.
-use Rattle.dm_mirror.proofs.Names.{◌≡◌, ◌≢◌, ◌⊎◌, ℕ, ◌+◌, ◌≤◌, Bool, true, false, List, [], ◌∷◌, ◌++◌, map, nat_le, refl, ap, ◌∙◌, sym, subst, inl, inr, arith, if◌then◌else◌, Option, Some, nat_tests, Pid, pid_eq, Message, MsgId, What}
-use Rattle.dm_mirror.proofs.Names.{MessageKind, Record, Line, Part, frozen_of, with_record, Boot, bind, stays, KernelState, pid_eq-same, Point, moved, takes_room, at_machine, standing, times, Here, Known, without_first, times-append}
-use Rattle.dm_mirror.proofs.Names.{Placed, mirrors_view, told_of, AreMessages, KnownStands, AllRecords, is_server, false≢true}
-use Rattle.dm_mirror.proofs.Names.{◌==◌, Moves, Spot, Told, is_away, is_between, kind_comes, knows, Of, turned}
-use Rattle.dm_message.specs.declared.Outcome.{Outcome}
+use Rattle.dm_mirror.proofs.Names.{◌≡◌, ◌≢◌, ◌⊎◌, ℕ, ◌≤◌, Bool, true, false, List, [], ◌∷◌, ◌++◌, map, nat_le, refl, ap, ◌∙◌, sym, subst, inl, inr, arith, if◌then◌else◌, Option, Some, nat_tests, Pid, pid_eq, Message, MsgId, What}
+use Rattle.dm_mirror.proofs.Names.{MessageKind, Record, Line, frozen_of, with_record, Boot, bind, stays, KernelState, pid_eq-same, Point, moved, takes_room, at_machine, standing, times, Here, Known, without_first, times-append, Placed}
+use Rattle.dm_mirror.proofs.Names.{mirrors_view, told_of, AreMessages, KnownStands, AllRecords, is_server, false≢true, ◌==◌, Moves, Spot, Told, is_away, is_between, kind_comes, knows, Of, turned, Outcome, tells_asker}
 use Rattle.dm_kernel.specs.declared.part.Part as part
-use Rattle.dm_kernel.specs.Departing.{tells_asker}
 use Rattle.dm_kernel.specs.State as machine
 use Rattle.dm_rule.specs.Migrating as migrating
 use Rattle.dm_rule.specs.Parts as rule

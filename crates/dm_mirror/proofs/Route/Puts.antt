@@ -6,10 +6,9 @@ use Rattle.dm_mirror.proofs.Names.{PairsFit, put_told_off, Sane, plain_not, Plac
 use Rattle.dm_mirror.proofs.Names.{Carries, TokenStands, TokensStand, destination_of, first_none, length, ◌⊎◌, at_machine, is_full, routes, Acted, Goes, Worn, spoken, Line, Load, Stage, OneKernel, Addresses, given, moved, at_id, About}
 use Rattle.dm_mirror.proofs.Names.{Sort, sort_of, own_given, ◌≢◌, zero, suc, ◌+◌, ◌<◌, ◌==◌, List, ◌∷◌, map, drop, slice_get, pid_of, Record, Process, Departure, Arrival, first_number, KernelState, room_of, NodeState, and, taken_at}
 use Rattle.dm_mirror.proofs.Names.{taken_by, taken_of_home, Known, Unknown, Here, Frozen, Incoming, Forward, Ended, AreMessages, ComesStand, HereStands, KernelStands, KnownStands, LeavesStand, NodeStands, PairStands, RoomStands, servers_at}
+use Rattle.dm_mirror.proofs.Names.{Asker, coming}
 use Rattle.dm_places.specs.PlacedStep.{with_message}
 pub use Rattle.dm_rulelaws.proofs.Based.Queues.{told_kept as told_stays}
-use Rattle.dm_message.specs.declared.Asker.{Asker}
-use Rattle.dm_migrate.specs.Way.{coming}
 use Rattle.dm_kernel.specs.State as machine
 use Rattle.dm_rule.specs.Parts as rule
 use Rattle.dm_mirror.proofs.Turning.{Route, First, On, Own, MayOwn, MayPut, IsCarried, message_of, rule_part_of, Late, Nothing, Leaves, LateTopic, late_point}
@@ -172,7 +171,7 @@ token_kept v u l k r s p i t more asked records h =
       more.processes p ∙ h.there,
       more.bag i h.message h.is,
       subst (λ (o : Option Asker). Carries p h.process o (u.asked p) (incoming_of (s d p)) h.message.what) (sym (more.notes p))
-      (subst (λ (n : ℕ). Carries p h.process (l.notes p) n (incoming_of (s d p)) h.message.what) (sym asked) (subst (λ (f : Pid → Option machine.KernelKnown). Carries p h.process (l.notes p) (v.asked p) (incoming_of (f p)) h.message.what) (sym (records d)) h.carries)),
+          (subst (λ (n : ℕ). Carries p h.process (l.notes p) n (incoming_of (s d p)) h.message.what) (sym asked) (subst (λ (f : Pid → Option machine.KernelKnown). Carries p h.process (l.notes p) (v.asked p) (incoming_of (f p)) h.message.what) (sym (records d)) h.carries)),
     )
 
 first_kind : (o : Option Told) (u t : Told) → Some (first_told o u) ≡ Some t → is_between u.kind ≡ false → ((s : Told) → o ≡ Some s → is_between s.kind ≡ false) → is_between t.kind ≡ false

@@ -1,14 +1,13 @@
 -- Behind the lines of a still row as many pieces were asked for as before, and a kernel's own message that stands somewhere stood there before.
 use Rattle.dm_mirror.proofs.Names.{◌≡◌, ℕ, ◌≤◌, ◌&&◌, Bool, true, false, List, [], ◌∷◌, ◌++◌, map, refl, ap, ◌∙◌, subst, arith, if◌then◌else◌, Option, None, Some, false≢true, Pid, MsgId, id_eq, nat_tests, MessageKind, Label, OneKernel}
-use Rattle.dm_mirror.proofs.Names.{bind, id_eq-is, pid_eq-is, bind-is, Line, Part, Says, Point, after, after_line, kernel_after, label_of, moved, without_front, without_id, Spot, Queue, Inbox, times, standing, View, Told, after_label}
-use Rattle.dm_mirror.proofs.Names.{view_after, handled, queued_for, dropped_for, receiver_of, is_kernels, eq_is, queued_spots, Needs, Walks, not, ⊤, Message, PlainMessage, Step, Boot, letter_of, Phased, told_some, Begins, WalksOf, resting}
-use Rattle.dm_mirror.proofs.Names.{round_walks, handles_walks, by_hears}
+use Rattle.dm_mirror.proofs.Names.{bind, id_eq-is, pid_eq-is, bind-is, Line, Says, Point, after, after_line, kernel_after, label_of, moved, without_front, without_id, Spot, Queue, Inbox, times, standing, View, Told, after_label, view_after}
+use Rattle.dm_mirror.proofs.Names.{handled, queued_for, dropped_for, receiver_of, is_kernels, eq_is, queued_spots, Needs, Walks, not, ⊤, Message, PlainMessage, Step, Boot, letter_of, Phased, told_some, Begins, WalksOf, resting, round_walks}
+use Rattle.dm_mirror.proofs.Names.{handles_walks, by_hears, about_off, seen}
+use Rattle.dm_rule.proofs.Names.{Part}
 use Rattle.dm_rule.proofs.Lines.{parts}
 use Rattle.dm_rulelaws.specs.KnownStands.{KnownStands}
 use Rattle.dm_rulelaws.proofs.Based.Groups.{begins}
 use Rattle.dm_rulelaws.proofs.Based.Rows.{turned}
-use Rattle.dm_rule.proofs.Seen.{about_off}
-use Rattle.dm_rule.specs.Point.{seen}
 use Rattle.dm_rule.specs.View as view
 use Rattle.dm_rule.specs.Rule as rule
 use Rattle.dm_mirror.proofs.Turning.{is_still, are_still, rule_routed}

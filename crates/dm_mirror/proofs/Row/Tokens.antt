@@ -2,10 +2,8 @@
 use Rattle.dm_mirror.proofs.Names.{◌≡◌, ℕ, ◌≤◌, ◌==◌, ◌&&◌, Bool, true, false, not, refl, ap, ◌∙◌, sym, subst, if◌then◌else◌, Option, None, Some, false≢true, Pid, pid_of, Message, MsgId, What, MessageKind, kind_of, plain_message}
 use Rattle.dm_mirror.proofs.Names.{plain_what, with_what, Process, incoming_of, Arrival, Phase, Moves, kind_comes, is_apart, is_away, is_between, is_early, is_of_source, is_restart, knows, kind_leaves, receiver_in, sender_in, told_between}
 use Rattle.dm_mirror.proofs.Names.{Point, Spot, standing, View, Known, Of, Told, is_kernels, InPhases, token_is, token_at, Placed, AllOwnStand, told_of, AllRecords, Carries, TokenStands, TokensStand, destination_of, left_true, right_true}
-use Rattle.dm_mirror.proofs.Names.{List, [], ◌∷◌, ◌++◌, map, inl, inr, arith, eqb_tells, Boot, at_machine, Run, KernelState, nat_tests}
-use Rattle.dm_kernel.specs.declared.part.Part.{Part}
+use Rattle.dm_mirror.proofs.Names.{List, [], ◌∷◌, ◌++◌, map, inl, inr, arith, eqb_tells, Boot, at_machine, Run, KernelState, nat_tests, Part, Asker}
 use Rattle.dm_kernel.specs.State as machine
-use Rattle.dm_message.specs.declared.Asker.{Asker}
 use Rattle.dm_rule.specs.Parts as rule
 use Rattle.dm_mirror.proofs.Turning.{has_process, is_moving, AllMayPut, First, IsSent, Nothing, Route, Row, TurnsAt, begun, owns, part_of, routed, rule_part_of, rule_routed}
 use Rattle.dm_mirror.proofs.Kernel.Sets.{eq_self, not_is, off_if, on_if, eq_apart}
@@ -111,8 +109,8 @@ token_keeps pt l records next placed after p i t g own h told s =
       g.process h.at p h.moving ∙ s.there,
       g.own i x none s.is,
       subst (λ (o : Option Asker). Carries p s.process o (next.view.asked p) (incoming_of (after (destination_of i t) p)) x.what) (sym (g.notes h.at p h.moving))
-      (subst (λ (n : ℕ). Carries p s.process (l.notes p) n (incoming_of (after (destination_of i t) p)) x.what) (ap (λ (f : Pid → ℕ). f p) (sym g.lines.asked))
-      (carries_on p s.process (l.notes p) (pt.view.asked p) (incoming_of (records (destination_of i t) p)) (incoming_of (after (destination_of i t) p)) x.what same s.carries)),
+          (subst (λ (n : ℕ). Carries p s.process (l.notes p) n (incoming_of (after (destination_of i t) p)) x.what) (ap (λ (f : Pid → ℕ). f p) (sym g.lines.asked))
+          (carries_on p s.process (l.notes p) (pt.view.asked p) (incoming_of (records (destination_of i t) p)) (incoming_of (after (destination_of i t) p)) x.what same s.carries)),
     )
 
 -- a message of the protocol is a kernel's own

@@ -1,8 +1,7 @@
 -- A ready process is served: all that it can come to.
 use Rattle.dm_mirror.proofs.Names.{◌≡◌, ℕ, ◌<◌, ◌==◌, Bool, true, false, List, [], ◌∷◌, length, refl, ap, ◌∙◌, sym, arith, if◌then◌else◌, Option, Some, nat_tests, Pid, Message, PlainMessage, plain_message, Regs, Fault, Row, instruction}
 use Rattle.dm_mirror.proofs.Names.{Status, Label, Why, Process, Boot, why_code, bind, when, with_process, plain_process, Machine, plain_called, plain_sent, call_plainly, bind-is, Point, Placed, acted_with, call_matches, fault_matches}
-use Rattle.dm_mirror.proofs.Names.{with_queue, calls_with, KernelState, turned, with_here, call_keeps, ran_keeps, reply_same}
-use Rattle.dm_kernel.specs.declared.part.Part.{Part}
+use Rattle.dm_mirror.proofs.Names.{with_queue, calls_with, KernelState, turned, with_here, call_keeps, ran_keeps, reply_same, Part}
 use Rattle.dm_onekernel.specs.Kernel.{Ended}
 use Rattle.dm_syscall.specs.declared.Called.{Called}
 use Rattle.dm_onekernel.specs.Calls as calls

@@ -4,9 +4,8 @@ use Rattle.dm_mirror.proofs.Names.{plain_link, Message, MsgId, What, Record, Lab
 use Rattle.dm_mirror.proofs.Names.{bind, when, Life, Alive, OneKernel, plain_process, plain_status, PlainProcess, receive_refusals, first_failed, length-written, Completion, plain_completed, status_plainly, id_eq-is, pid_eq-same, Point}
 use Rattle.dm_mirror.proofs.Names.{moved, moved_back, without_id, Spot, Queue, times, standing, StandsRight, View, serving, once_at, set_at, Placed, Ends, completed_matches, with_queue, KernelState, turned, with_here, AreMessages, ◌&&◌}
 use Rattle.dm_mirror.proofs.Names.{not, is_some, option_map, slice_get, pid_of, status_is_runnable, pid_eq-is, Phase, Rests, knows, stands_right, letter_of, InPhases, rests_here, rings, both, Run, queue_drops, Mirrors, mirrors_view}
-use Rattle.dm_mirror.proofs.Names.{room_of, IsLawfulState, of_known, AllOwnStand, MadeStands, KernelStands, RoomStands}
+use Rattle.dm_mirror.proofs.Names.{room_of, IsLawfulState, of_known, AllOwnStand, MadeStands, KernelStands, RoomStands, Part, here_free, at_hand_of}
 use Rattle.dm_syscall.specs.Completing.{IsAwaited}
-use Rattle.dm_kernel.specs.declared.part.Part.{Part}
 use Rattle.dm_onekernel.specs.Receiving as receiving
 use Rattle.dm_onekernel.specs.Service as service
 use Rattle.dm_onekernel.specs.Step as kernel
@@ -21,8 +20,6 @@ use Rattle.dm_mirror.proofs.Kernel.Sets.{Leaves, view_leaves_on, kernel_leaves_o
 use Rattle.dm_mirror.proofs.Kernel.Sets.{kernel_sets, kernel_out, placed_sets, placed_out, NotOwn, not_own_some, machine_on, record_on, label_mirrors, after_label, view_same, kernel_same, placed_same}
 use Rattle.dm_mirror.proofs.Serve.Runs.{Found, found, here_of, in_ring, first_runs, first_same}
 use Rattle.dm_mirror.proofs.Serving.{Served, Acts, acts_as, moved_round, served_goes, is_for, queue_alone}
-use Rattle.dm_rulelaws.proofs.Goes.Front.{here_free}
-use Rattle.dm_rulelaws.proofs.Goes.Turns.{at_hand_of}
 use Rattle.dm_mirror.proofs.Turning.{Elsewhere, Row, begun, is_moving}
 use Rattle.dm_mirror.proofs.Rooms.{taken_same}
 use Rattle.dm_mirror.proofs.Serve.Executes.{executes_acts}

@@ -2,9 +2,8 @@
 use Rattle.dm_mirror.proofs.Names.{◌≡◌, ℕ, ◌+◌, ◌≤◌, Bool, false, List, [], ◌∷◌, map, length, refl, ap, ◌∙◌, sym, subst, arith, nat_lt, nat_le, is_some, true, not, ◌==◌, ◌&&◌, Option, None, Some, false≢true, nat_tests, Pid, pid_eq, Message}
 use Rattle.dm_mirror.proofs.Names.{MsgId, id_eq, PlainMessage, plain_message, Process, Record, Label, Called, Line, Known, Boot, Why, bind, when, Alive, OneKernel, with_process, plain_process, PlainProcess, counts, is_counted, id_eq-same}
 use Rattle.dm_mirror.proofs.Names.{pid_eq-same, not_counted, counts_process, not_server, after_ran, nexts, Point, moved, moved_back, without, Spot, Queue, times, standing, View, is_kernels, set_at, droppable_on, Placed, parts, with_queue}
-use Rattle.dm_mirror.proofs.Names.{KernelState, turned, with_here, without_process, AllOwnStand, AreMessages, if◌then◌else◌, Status, plain_status, Ready, Machine, Mirrors, StepNeeds, ran_matches, running_of}
+use Rattle.dm_mirror.proofs.Names.{KernelState, turned, with_here, without_process, AllOwnStand, AreMessages, if◌then◌else◌, Status, plain_status, Ready, Machine, Mirrors, StepNeeds, ran_matches, running_of, Part, seen}
 use Rattle.dm_onekernel.specs.Kernel.{Ended, with_sent}
-use Rattle.dm_kernel.specs.declared.part.Part.{Part}
 pub use Rattle.dm_rulelaws.proofs.Goes.Serves.{ran_steps}
 use Rattle.dm_onekernel.specs.Step as kernel
 use Rattle.dm_rule.specs.Parts as rule_part
@@ -12,7 +11,6 @@ use Rattle.dm_rule.specs.Rule as rule
 use Rattle.dm_places.specs.PlacedStep as placed
 use Rattle.dm_kernel.specs.State as machine
 use Rattle.dm_kernel.specs.Serve as serve
-use Rattle.dm_rule.specs.Point.{seen}
 use Rattle.dm_mirror.proofs.Kernel.Sets.{Leaves, leaves_on, kernel_leaves_on, placed_leaves_on, is_queue_of, off_if, on_if, queue_of_others, inbox_stands, messages_on, ViewLeaves, ends_stands, view_same, view_ended, kernel_sets}
 use Rattle.dm_mirror.proofs.Kernel.Sets.{kernel_puts, placed_sets, placed_puts, NotOwn, machine_on, record_on, nowhere_alone, label_mirrors, after_label, view_serving}
 use Rattle.dm_mirror.proofs.Serving.{Served, Acts, moved_round, served_goes, is_for, queue_alone}
