@@ -50,7 +50,9 @@ own_rises n pt start end kernel grows same h puts within under moves =
       moves = moves_put n pt.view end.view (omega (arith, first, adds)) (h.moves ∙ same) moves;
     }
 
-restart_rises : (b : Boot) (n m : ℕ) (pt end : Point) (p : Pid) → Run b pt → Run b end → FrontRestarts pt m p → ((k : ℕ) → Under k pt.kernel → Under k end.kernel) → Grows pt.view end.view → end.view.moves ≡ at_pid pt.view.moves p (pt.view.moves p + 1) → end.view.known ≡ at_record pt.view.known m p Known.Here
+restart_rises : (b : Boot) (n m : ℕ) (pt end : Point) (p : Pid) → Run b pt → Run b end → FrontRestarts pt m p
+    → ((k : ℕ) → Under k pt.kernel → Under k end.kernel) → Grows pt.view end.view → end.view.moves ≡ at_pid pt.view.moves p (pt.view.moves p + 1)
+    → end.view.known ≡ at_record pt.view.known m p Known.Here
     → Under (first_count + total pt.view n) pt.kernel → MovesFew n pt.view → Rises n end
 restart_rises b n m pt end p run after f kernel grows moves known under few =
     let more = total_grows pt.view end.view n grows in

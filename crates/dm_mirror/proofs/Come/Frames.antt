@@ -127,7 +127,8 @@ arrives b m pt l records k y p c =
     search (
       sym (c.mirrors.plain.bag y.id) ∙ ap (λ (o : Option Message). bind o plain_message) c.there ∙ c.plain,
       sym (ap (λ (x : Message). x.sender) same) ∙ token.sender,
-      subst (λ (x : Message). Carries p token.process (l.notes p) (pt.view.asked p) (incoming_of (k.records p)) x.what) same (subst (λ o. Carries p token.process (l.notes p) (pt.view.asked p) (incoming_of o) token.message.what) records_is token.carries),
+      subst (λ (x : Message). Carries p token.process (l.notes p) (pt.view.asked p) (incoming_of (k.records p)) x.what) same
+          (subst (λ o. Carries p token.process (l.notes p) (pt.view.asked p) (incoming_of o) token.message.what) records_is token.carries),
       (c.mirrors.places.process p token.process token.there).pid,
       no_server pt.kernel p c.run.based.phased.sane.sound.made is_made,
     )

@@ -195,7 +195,8 @@ asked_others f p q n off = ap (λ (d : Bool). if d then n else f q) off
 -- a chunk, the last or another
 state_by : (b : Boot) (m : ℕ) (pt : Point) (l : Placed) (records : AllRecords) (k : KernelState) (y : Message) (p : Pid) (c : Comes b m pt l records k y p) (a : Arrives b m pt l k y p) (chunk : ℕ) (h : Before b m pt l k y p a (Chunk chunk)) (d : Bool)
     → kind_of y.what ≡ MessageKind.State → kernel_handles b (record k { inbox = c.rest }) y y.what ≡ bind (incoming_of (k.records p)) (takes_piece (record k { inbox = c.rest }) y p)
-    → with_piece h.arrival y.what ≡ Some (coming a.process (l.notes p) h.arrival.held (after_chunk chunk d)) → IsAsked a.process (pt.view.asked p + 1) (after_chunk chunk d) → (pt.view.asked p == chunks_of (plain_process a.process)) ≡ d → TurnsAt b m pt l records k
+    → with_piece h.arrival y.what ≡ Some (coming a.process (l.notes p) h.arrival.held (after_chunk chunk d))
+    → IsAsked a.process (pt.view.asked p + 1) (after_chunk chunk d) → (pt.view.asked p == chunks_of (plain_process a.process)) ≡ d → TurnsAt b m pt l records k
 state_by b m pt l records k y p c a chunk h true is takes took asked test =
     let v = pt.view in
     turns_piece b m pt l records k y p c a (search (

@@ -26,7 +26,8 @@ abbrev pub back_point : Point → ℕ → Pid → Point
 back_point pt m p = moved (begun pt m) (Line.Migration Stage.Restarted p) pt.kernel
 
 -- what is known of another process
-known_apart : (pt next : Point) (l placed : Placed) (p : Pid) (queue held_ : List MsgId) (k : Known) (r : Option machine.KernelKnown) → placed.processes p ≡ l.processes p → placed.notes p ≡ l.notes p → placed.bag ≡ l.bag → next.kernel.processes p ≡ pt.kernel.processes p
+known_apart : (pt next : Point) (l placed : Placed) (p : Pid) (queue held_ : List MsgId) (k : Known) (r : Option machine.KernelKnown)
+    → placed.processes p ≡ l.processes p → placed.notes p ≡ l.notes p → placed.bag ≡ l.bag → next.kernel.processes p ≡ pt.kernel.processes p
     → KnownStands pt l p queue held_ k r → KnownStands next placed p queue held_ k r
 known_apart pt next l placed p queue held_ Unknown None same notes bag life h = tt
 known_apart pt next l placed p queue held_ Here (Some (Record.Here x)) same notes bag life h = ((h.0.0, same ∙ h.0.1), ap (λ f. map f queue) bag ∙ h.1)
@@ -110,7 +111,8 @@ none_back b m pt l records k y p c a i t z told between about st =
     omega (arith, bound, none, held, st)
 
 -- the tokens of other processes
-tokens_back : (b : Boot) (m : ℕ) (pt : Point) (l : Placed) (records : AllRecords) (k : KernelState) (y : Message) (p : Pid) (c : Comes b m pt l records k y p) (a : Arrives b m pt l k y p) (o : Option Process) (s : KernelState) → ((q : Pid) → pid_eq p q ≡ false → s.records q ≡ k.records q)
+tokens_back : (b : Boot) (m : ℕ) (pt : Point) (l : Placed) (records : AllRecords) (k : KernelState) (y : Message) (p : Pid) (c : Comes b m pt l records k y p) (a : Arrives b m pt l k y p) (o : Option Process) (s : KernelState)
+    → ((q : Pid) → pid_eq p q ≡ false → s.records q ≡ k.records q)
     → TokensStand (back_point pt m p).view (with_process l p o) (at_machine records m s.records)
 tokens_back b m pt l records k y p c a o s records_off q i t z told between about st = elim (cases_Bool (pid_eq p q)) [
   | inl same ↦ absurd (none_back b m pt l records k y p c a i t z told between (about ∙ ap Of (sym (pid_eq-is p q same))) st)

@@ -114,7 +114,8 @@ tokens_kept b m pt l records k y p c a box known asked s is_box asked_off record
           let n = destination_of i t in
           let r : at_machine records m s.records n q ≡ records n q = others_known records m n s k q c.mine (records_off q off) (m == n) refl in
           search
-          (subst (λ (o : Option machine.KernelKnown). Carries q h.process (l.notes q) (asked q) (incoming_of o) h.message.what) (sym r) (subst (λ (j : ℕ). Carries q h.process (l.notes q) j (incoming_of (records n q)) h.message.what) (sym (asked_off q off)) h.carries))
+          (subst (λ (o : Option machine.KernelKnown). Carries q h.process (l.notes q) (asked q) (incoming_of o) h.message.what) (sym r)
+          (subst (λ (j : ℕ). Carries q h.process (l.notes q) j (incoming_of (records n q)) h.message.what) (sym (asked_off q off)) h.carries))
     ]
 
 -- the next message of the kernel may be put

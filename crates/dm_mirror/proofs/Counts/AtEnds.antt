@@ -291,7 +291,8 @@ pub bear_ends : (ps : List Part) (pt : Point) (w : Spelled) → spelled pt ps �
 bear_ends [] pt w e h = subst (BearEnds pt) (said pt w e) (record { kernel = refl; grows = grows_same pt.view pt.view refl; moves = refl })
 bear_ends (Says l ∷ ps) pt w e h =
     let k = says_next pt l ps w e in
-    subst (BearEnds pt) k.point (bears_before pt (moved pt l k.s) k.rest.point (same_kernel pt.kernel k.s (label_of l) (bears_none l h.0) k.is) (seen_grows pt.kernel pt.view l) (line_moves pt.view l h.0) (bear_ends ps (moved pt l k.s) k.rest k.more h.1))
+    subst (BearEnds pt) k.point (bears_before pt (moved pt l k.s) k.rest.point (same_kernel pt.kernel k.s (label_of l) (bears_none l h.0) k.is)
+    (seen_grows pt.kernel pt.view l) (line_moves pt.view l h.0) (bear_ends ps (moved pt l k.s) k.rest k.more h.1))
 bear_ends (Routes i ∷ ps) pt w e h = let k = routes_next pt i ps w e in part_bears ps pt w k (bear_ends ps k.next k.rest k.on h)
 bear_ends (Again i b ∷ ps) pt w e h = let k = again_next pt i b ps w e in part_bears ps pt w k (bear_ends ps k.next k.rest k.on h)
 bear_ends (Owns c q b ∷ ps) pt w e h = let k = owns_next pt c q b ps w e in part_bears ps pt w k (bear_ends ps k.next k.rest k.on h)

@@ -188,13 +188,15 @@ after_keeps P topic keep (l ∷ ls) pt next e h =
     let f : moved pt l s ≡ mid = cc in
     after_keeps P topic keep ls mid next rest (subst (λ (q : Point). P q.view) f (topic (view_after pt.view l) (seen pt.kernel pt.view l).topic (keep pt.view l h)))
 
-pub parts_keep : (P : View → Type 0) → ((v : View) (a : About) → P v → P (view.about v a)) → ((v : View) (l : Line) → P v → P (view_after v l)) → (ps : List Part) (pt : Point) (w : Spelled) → spelled pt ps ≡ Some w → P pt.view → P w.point.view
+pub parts_keep : (P : View → Type 0) → ((v : View) (a : About) → P v → P (view.about v a)) → ((v : View) (l : Line) → P v → P (view_after v l))
+    → (ps : List Part) (pt : Point) (w : Spelled) → spelled pt ps ≡ Some w → P pt.view → P w.point.view
 parts_keep P topic keep [] pt w e h = subst (λ (q : Point). P q.view) (said pt w e) h
 parts_keep P topic keep (p ∷ ps) pt w e h =
     let o = onward pt p ps w e in
     subst (λ (q : Point). P q.view) o.end (parts_keep P topic keep ps o.next o.rest o.on (after_keeps P topic keep o.lines pt o.next o.leads h))
 
-pub group_keeps : (P : View → Type 0) → ((v : View) (a : About) → P v → P (view.about v a)) → ((v : View) (l : Line) → P v → P (view_after v l)) → (b : Boot) (pt : Point) (d : Step) (w : Spelled) → group_of b pt d ≡ Some w → P pt.view → P w.point.view
+pub group_keeps : (P : View → Type 0) → ((v : View) (a : About) → P v → P (view.about v a)) → ((v : View) (l : Line) → P v → P (view_after v l))
+    → (b : Boot) (pt : Point) (d : Step) (w : Spelled) → group_of b pt d ≡ Some w → P pt.view → P w.point.view
 group_keeps P topic keep b pt d w e h =
     let g = group_is b pt d w e in
     subst (λ (q : Point). P q.view) g.point (parts_keep P topic keep g.parts (moved pt (Line.Head d) pt.kernel) g.rest g.said (keep pt.view (Line.Head d) h))

@@ -171,7 +171,8 @@ token_kept v u l k r s p i t more asked records h =
       more.processes p ∙ h.there,
       more.bag i h.message h.is,
       subst (λ (o : Option Asker). Carries p h.process o (u.asked p) (incoming_of (s d p)) h.message.what) (sym (more.notes p))
-          (subst (λ (n : ℕ). Carries p h.process (l.notes p) n (incoming_of (s d p)) h.message.what) (sym asked) (subst (λ (f : Pid → Option machine.KernelKnown). Carries p h.process (l.notes p) (v.asked p) (incoming_of (f p)) h.message.what) (sym (records d)) h.carries)),
+          (subst (λ (n : ℕ). Carries p h.process (l.notes p) n (incoming_of (s d p)) h.message.what) (sym asked)
+          (subst (λ (f : Pid → Option machine.KernelKnown). Carries p h.process (l.notes p) (v.asked p) (incoming_of (f p)) h.message.what) (sym (records d)) h.carries)),
     )
 
 first_kind : (o : Option Told) (u t : Told) → Some (first_told o u) ≡ Some t → is_between u.kind ≡ false → ((s : Told) → o ≡ Some s → is_between s.kind ≡ false) → is_between t.kind ≡ false
