@@ -1,7 +1,7 @@
 -- A delivery leaves one packet fewer on its wire that was never delivered.
 use Rattle.dm_runlaws.proofs.Names.{◌≡◌, ◌≢◌, ℕ, suc, ◌+◌, ◌==◌, ◌&&◌, Bool, true, false, not, filter, nat_lt, List, [], ◌∷◌, ◌++◌, length, refl, ap, ◌∙◌, sym, subst, inl, inr, arith, ⊤, if◌then◌else◌, slice_get, Option, None, Some}
-use Rattle.dm_runlaws.proofs.Names.{cases_Bool, nat_tests, Boot, Step, Line, Load, first_undelivered, undelivered, Part, Says, Routes, Again, Owns, Transmits, Spelled, spelled, pair_window, Point, moved, group_of, View, Pair, SentLoad}
-use Rattle.dm_runlaws.proofs.Names.{view_after, after_head, after_packet, marked, marked_at, gone_after, at_least, IsNetLine, group_is, onward, says_view, transmits_view, said, mark_next}
+use Rattle.dm_runlaws.proofs.Names.{cases_Bool, nat_tests, Boot, Step, Line, Load, first_undelivered, undelivered, Part, Says, Transmits, Spelled, spelled, pair_window, Point, moved, group_of, View, Pair, SentLoad, view_after, after_head}
+use Rattle.dm_runlaws.proofs.Names.{after_packet, marked, marked_at, gone_after, at_least, IsNetLine, group_is, onward, says_view, transmits_view, said, mark_next}
 use Rattle.dm_rule.specs.Rule as rule
 use Rattle.dm_runlaws.proofs.Wires.{set_keeps, taken_keeps}
 

@@ -11,9 +11,8 @@ pub use Rattle.dm_linkupdate.proofs.Names.{None}
 pub use Rattle.dm_procman.proofs.Names.{Boot, IsValid}
 pub use Rattle.dm_laws.proofs.Names.{false≢true, option_map, replay, ⊤}
 pub use Rattle.dm_datamove.proofs.Names.{All-nil}
-pub use Rattle.dm_rule.proofs.Names.{Again, AreStill, Directive, IsStep, IsStill, Leads, Line, Load, Next, Owns, Pair, Part, Point, Routes, Says, SentLoad, Spelled, Step, Todo, Transmits, View, actor, after, after_head, after_line}
-pub use Rattle.dm_rule.proofs.Names.{after_packet, after_put, all_of, at_least, at_pair, bind-is, filter, first_point, gone_after, group_of, has_mail, is_quiet, marked, marked_at, moved, next_step, oldest, pair_window, routed_on, spelled}
-pub use Rattle.dm_rule.proofs.Names.{view_after, with_pair}
+pub use Rattle.dm_rule.proofs.Names.{AreStill, Directive, IsStep, IsStill, Leads, Line, Load, Next, Pair, Part, Point, Says, SentLoad, Spelled, Step, Todo, Transmits, View, actor, after, after_head, after_line, after_packet, after_put}
+pub use Rattle.dm_rule.proofs.Names.{all_of, at_least, at_pair, bind-is, filter, first_point, gone_after, group_of, has_mail, is_quiet, marked, marked_at, moved, next_step, oldest, pair_window, routed_on, spelled, view_after, with_pair}
 pub use Rattle.dm_rule.specs.Worn.{IsWorn}
 pub use Rattle.dm_places.proofs.Names.{Placed}
 pub use Rattle.dm_kernel.proofs.Names.{All-head, All-tail}
