@@ -18,12 +18,16 @@ module _ (pt next : Point) (l placed : Placed) (p : Pid) (ids js : List MsgId) (
   here_stays : (x : Process) → placed.processes p ≡ l.processes p → HereStands l p ids x → HereStands placed p ids x
   here_stays x process h = ((h.0.0, process ∙ h.0.1), messages_stay l.bag placed.bag ids x.queue queue h.1)
 
-  pub known_same : (k : view.Known) (r : Option machine.KernelKnown) → (has_process k ≡ true → placed.processes p ≡ l.processes p) → (has_process k ≡ true → placed.notes p ≡ l.notes p) → (k ≡ view.Ended → next.kernel.processes p ≡ pt.kernel.processes p)
+  pub known_same : (k : view.Known) (r : Option machine.KernelKnown) → (has_process k ≡ true → placed.processes p ≡ l.processes p) → (has_process k ≡ true → placed.notes p ≡ l.notes p)
+      → (k ≡ view.Ended → next.kernel.processes p ≡ pt.kernel.processes p)
       → KnownStands pt l p ids js k r → KnownStands next placed p ids js k r
   known_same view.Unknown None process notes ended h = tt
   known_same view.Here (Some (Record.Here x)) process notes ended h = here_stays x (process refl) h
-  known_same (view.Frozen to) (Some (Record.Frozen d)) process notes ended h = record { to = h.to; asker = h.asker ∙ sym (notes refl); here = here_stays d.process (process refl) h.here; held = messages_stay l.bag placed.bag js d.held held h.held; whole = h.whole }
-  known_same (view.Incoming from) (Some (Record.Incoming a)) process notes ended h = record { process = h.process; there = process refl ∙ h.there; whole = h.whole; pieces = h.pieces ∙ ap (λ (k : Option Asker). coming h.process k a.held a.wanted) (sym (notes refl)); held = messages_stay l.bag placed.bag js a.held held h.held }
+  known_same (view.Frozen to) (Some (Record.Frozen d)) process notes ended h =
+      record { to = h.to; asker = h.asker ∙ sym (notes refl); here = here_stays d.process (process refl) h.here; held = messages_stay l.bag placed.bag js d.held held h.held; whole = h.whole }
+  known_same (view.Incoming from) (Some (Record.Incoming a)) process notes ended h =
+      let pieces = h.pieces ∙ ap (λ (k : Option Asker). coming h.process k a.held a.wanted) (sym (notes refl)) in
+      record { process = h.process; there = process refl ∙ h.there; whole = h.whole; pieces = pieces; held = messages_stay l.bag placed.bag js a.held held h.held }
   known_same (view.Forward at_ moves) (Some (Record.Forward to n)) process notes ended h = h
   known_same view.Ended (Some (Record.Ended y)) process notes ended h = ap kernel.why_ended (ended refl) ∙ h
   known_same k r process notes ended h = h

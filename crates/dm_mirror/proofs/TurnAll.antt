@@ -85,7 +85,8 @@ module _ (b : Boot) (m : ℕ) (pt : Point) (l : Placed) (records : AllRecords) (
   bag_turn i is x box there whom = row_turns b m pt l records k h.run h.own h.tokens h.mine (bag_row b m pt l k i is x h.valid h.below h.run h.told h.made h.mirrors h.stands h.own box there whom)
 
   -- and one for a process that is here: it may be asked to move
-  here_turn : (y : Message) (c : Fronts b m pt l records k y) (x : PlainMessage) (w : PlainWhat) → x.what ≡ w → pt.kernel.bag y.id ≡ Some x → y.to.pid ≡ x.to → is_fixed y.to.pid ≡ false → pt.view.known m y.to.pid ≡ Here → TurnsAt b m pt l records k
+  here_turn : (y : Message) (c : Fronts b m pt l records k y) (x : PlainMessage) (w : PlainWhat) → x.what ≡ w → pt.kernel.bag y.id ≡ Some x → y.to.pid ≡ x.to → is_fixed y.to.pid ≡ false → pt.view.known m y.to.pid ≡ Here
+      → TurnsAt b m pt l records k
   here_turn y c x (PlainWhat.Move machine) is there to fixed knows =
       let t = took b m pt l k y.id c.ids x h.valid h.below h.run h.told h.made h.mirrors h.stands h.own c.box there in
       let z = t.message in

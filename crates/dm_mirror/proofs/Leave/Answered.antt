@@ -43,7 +43,8 @@ pub record EndsMove (b : Boot) (m : ℕ) (pt : Point) (l : Placed) (records : Al
 module _ (b : Boot) (m : ℕ) (pt : Point) (l : Placed) (records : AllRecords) (k : KernelState) (p : Pid) (line : Line) (state : KernelState) (v : View) (placed : Placed)
     (h : EndsMove b m pt l records k p line state v placed) where
   -- nobody asked
-  ends_alone : turn b k ≡ Some (record { state = state; parts = Part.Says line ∷ [] }) → outcome b pt (Step.Turn m) ≡ Some (rule.Says line ∷ []) → TurnsAt b m pt l records k
+  ends_alone : turn b k ≡ Some (record { state = state; parts = Part.Says line ∷ [] }) → outcome b pt (Step.Turn m) ≡ Some (rule.Says line ∷ [])
+      → TurnsAt b m pt l records k
   ends_alone turns due = record {
     state = state;
     says = line ∷ [];
@@ -76,7 +77,8 @@ module _ (b : Boot) (m : ℕ) (pt : Point) (l : Placed) (records : AllRecords) (
   -- somebody did
   ends_asked : (o : Outcome) (n : Asker) → placed.notes p ≡ Some n
       → service.ends_move pt.kernel (manager_request n) p (plain_note n) o ≡ Some (service.move_ended pt.kernel (manager_request n) p (plain_note n) o)
-      → turn b k ≡ Some (record { state = state; parts = Part.Says line ∷ tells_asker m h.process o (Some n) }) → outcome b pt (Step.Turn m) ≡ Some (rule.Says line ∷ migrating.answers_move (manager_request n) o) → TurnsAt b m pt l records k
+      → turn b k ≡ Some (record { state = state; parts = Part.Says line ∷ tells_asker m h.process o (Some n) })
+      → outcome b pt (Step.Turn m) ≡ Some (rule.Says line ∷ migrating.answers_move (manager_request n) o) → TurnsAt b m pt l records k
   ends_asked o n notes ends turns due =
       let s = pt.kernel in
       let mid = with_view pt v in
@@ -91,7 +93,8 @@ module _ (b : Boot) (m : ℕ) (pt : Point) (l : Placed) (records : AllRecords) (
       let is_note : s.notes p ≡ Some note = sym (h.mirrors.plain.notes p) ∙ ap (option_map plain_note) notes in
       let noted : s.noted id ≡ Some p = sane.sound.notes.noted p note is_note in
       let step : kernel.step s e ≡ Some t =
-      ap (λ (q : Option Pid). bind q (λ (r : Pid). bind (s.notes r) (λ (w : MoveNote). service.ends_move s id r w o))) noted ∙ ap (λ (q : Option MoveNote). bind q (λ (w : MoveNote). service.ends_move s id p w o)) is_note ∙ ends in
+      ap (λ (q : Option Pid). bind q (λ (r : Pid). bind (s.notes r) (λ (w : MoveNote). service.ends_move s id r w o))) noted
+      ∙ ap (λ (q : Option MoveNote). bind q (λ (w : MoveNote). service.ends_move s id p w o)) is_note ∙ ends in
       let bag = bag_answered sane.r sane.e s t id o step sane.sound in
       let free : s.bag a.id ≡ None = bag_none sane.r sane.e s (answer_id id) (bag.fresh (answer_id id) refl) sane.sound.entered in
       let mine : HereStands placed p (v.queue m p) h.process =
@@ -108,13 +111,15 @@ module _ (b : Boot) (m : ℕ) (pt : Point) (l : Placed) (records : AllRecords) (
       ∙ ap (λ (q : Option Asker). bind q (λ (w : Asker). bind (placed.processes p) (λ (y : Process). Some (with_sent (without_note placed p id) (Some (moved_answer m y o w)))))) notes
       ∙ ap (λ (q : Option Process). bind q (λ (y : Process). Some (with_sent (without_note placed p id) (Some (moved_answer m y o n))))) there in
       let apart : (j : MsgId) (z : Spot) → 1 ≤ standing pt.view j z → id_eq a.id j ≡ false = λ j z least. fresh_at b pt z a.id j h.run free refl least in
-      let same : (j : MsgId) (z : Spot) → 1 ≤ standing v j z → on.bag j ≡ placed.bag j = λ j z least. (let f = h.stood j z least in off_if (id_eq a.id j) (Some a) (placed.bag j) (apart j f.0 f.1)) in
+      let same : (j : MsgId) (z : Spot) → 1 ≤ standing v j z → on.bag j ≡ placed.bag j =
+      λ j z least. (let f = h.stood j z least in off_if (id_eq a.id j) (Some a) (placed.bag j) (apart j f.0 f.1)) in
       let others : (q : Pid) → pid_eq p q ≡ false → on.notes q ≡ placed.notes q = λ q off. off_if (pid_eq p q) None (placed.notes q) off in
       let here : KnownStands next on p (v.queue m p) (v.held m p) (v.known m p) (state.records p) =
       subst (λ (w : Known). KnownStands next on p (v.queue m p) (v.held m p) w (state.records p)) (sym h.known)
       (subst (KnownStands next on p (v.queue m p) (v.held m p) Here) (sym h.is)
       ((mine.0.0, there), map_same placed.bag on.bag (v.queue m p) (λ j least. same j (Queue m p) least) ∙ mine.1)) in
-      let queues : (q : Pid) (j : MsgId) → pid_eq p q ≡ false → 1 ≤ times j (v.queue m q) → on.bag j ≡ placed.bag j = λ q j off least. same j (Queue m q) least in
+      let queues : (q : Pid) (j : MsgId) → pid_eq p q ≡ false → 1 ≤ times j (v.queue m q) → on.bag j ≡ placed.bag j =
+      λ q j off least. same j (Queue m q) least in
       let holds : (q : Pid) (j : MsgId) → pid_eq p q ≡ false → 1 ≤ times j (v.held m q) → on.bag j ≡ placed.bag j = λ q j off least. same j (Held m q) least in
       let g = h.elsewhere in
       record {
@@ -161,7 +166,8 @@ module _ (b : Boot) (m : ℕ) (pt : Point) (l : Placed) (records : AllRecords) (
   -- by who waits to hear
   pub ends_move_row : (o : Outcome) (asker : Option Asker) → placed.notes p ≡ asker
       → ((n : MoveNote) → service.ends_move pt.kernel n.id p n o ≡ Some (service.move_ended pt.kernel n.id p n o))
-      → turn b k ≡ Some (record { state = state; parts = Part.Says line ∷ tells_asker m h.process o asker }) → outcome b pt (Step.Turn m) ≡ Some (rule.Says line ∷ migrating.tells_asker (pt.kernel.notes p) o) → TurnsAt b m pt l records k
+      → turn b k ≡ Some (record { state = state; parts = Part.Says line ∷ tells_asker m h.process o asker })
+      → outcome b pt (Step.Turn m) ≡ Some (rule.Says line ∷ migrating.tells_asker (pt.kernel.notes p) o) → TurnsAt b m pt l records k
   ends_move_row o None notes ends turns due =
       let free : pt.kernel.notes p ≡ None = sym (h.mirrors.plain.notes p) ∙ ap (option_map plain_note) notes in
       ends_alone turns (due ∙ ap (λ (q : Option MoveNote). Some (rule.Says line ∷ migrating.tells_asker q o)) free)

@@ -24,7 +24,8 @@ use Rattle.dm_mirror.proofs.Row.Tokens.{row_turns}
 use Rattle.dm_mirror.proofs.Leave.Asks.{room_stays, off_state, off_view, sets_off}
 
 -- a request to move is one of the manager's messages
-pub asked_by_manager : (s : OneKernel) (i : MsgId) (x : PlainMessage) (machine : ℕ) → x.what ≡ PlainWhat.Move machine → WhatFits s i x x.what → i ≡ id_of manager i.n
+pub asked_by_manager : (s : OneKernel) (i : MsgId) (x : PlainMessage) (machine : ℕ) → x.what ≡ PlainWhat.Move machine → WhatFits s i x x.what
+    → i ≡ id_of manager i.n
 asked_by_manager s i x machine is fits =
     let f = subst (WhatFits s i x) is fits in
     let from = f.4.from in
@@ -53,7 +54,8 @@ asked_point pt m y machine =
 abbrev asked_placed : Placed → Message → Placed
 asked_placed l y = with_note (placed.without_message l y.id) y.to.pid y.id (asker_of y)
 
-follows_on : (b : Boot) (m : ℕ) (pt : Point) (l : Placed) (k : KernelState) (y : Message) (machine : ℕ) → Taking b m pt l k y (PlainWhat.Move machine) → IsHere b m pt l k y.to.pid
+follows_on : (b : Boot) (m : ℕ) (pt : Point) (l : Placed) (k : KernelState) (y : Message) (machine : ℕ) → Taking b m pt l k y (PlainWhat.Move machine)
+    → IsHere b m pt l k y.to.pid
     → Asked b m pt l k y machine (asked_kernel pt.kernel y) (asked_point pt m y machine) (asked_placed l y)
 follows_on b m pt l k y machine c h =
     let s = pt.kernel in
@@ -67,7 +69,8 @@ follows_on b m pt l k y machine c h =
     let step : kernel.step s e ≡ Some t =
     ap (λ (o : Option PlainMessage). bind o (λ (q : PlainMessage). bind (kernel.at_hand s q.to) (λ (z : PlainProcess). service.follows_request s i q q.what))) c.front.there
     ∙ ap (λ (o : Option PlainProcess). bind o (λ (z : PlainProcess). service.follows_request s i x (PlainWhat.Move machine))) (at_hand_of s p _ h.free h.life) in
-    let placed_is : placed_step m s.format s.images l e ≡ Some (asked_placed l y) = ap (λ (o : Option Message). bind o (λ (q : Message). Some (with_note (placed.without_message l i) q.to.pid i (asker_of q)))) c.there in
+    let placed_is : placed_step m s.format s.images l e ≡ Some (asked_placed l y) =
+    ap (λ (o : Option Message). bind o (λ (q : Message). Some (with_note (placed.without_message l i) q.to.pid i (asker_of q)))) c.there in
     let a = (asked_point pt m y machine).addresses in
     let seen_is : seen s (begun pt m).view (Line.Label e) ≡ v = λ j. view.about (handled (begun pt m).view i) (machine_in (c.front.there j)) in
     record {
@@ -78,7 +81,8 @@ follows_on b m pt l k y machine c h =
     }
 
 -- to another machine
-asked_other : (b : Boot) (m : ℕ) (pt : Point) (l : Placed) (records : AllRecords) (k : KernelState) (y : Message) (machine : ℕ) (c : Taking b m pt l k y (PlainWhat.Move machine)) (h : IsHere b m pt l k y.to.pid) → TokensStand pt.view l records → records m ≡ k.records → k.sent ≡ pt.view.count m
+asked_other : (b : Boot) (m : ℕ) (pt : Point) (l : Placed) (records : AllRecords) (k : KernelState) (y : Message) (machine : ℕ) (c : Taking b m pt l k y (PlainWhat.Move machine)) (h : IsHere b m pt l k y.to.pid)
+    → TokensStand pt.view l records → records m ≡ k.records → k.sent ≡ pt.view.count m
     → m ≢ machine → CanMove h.x → TurnsAt b m pt l records k
 asked_other b m pt l records k y machine c h tokens mine counted apart whole =
     let i = y.id in
@@ -93,7 +97,8 @@ asked_other b m pt l records k y machine c h tokens mine counted apart whole =
     let frozen : List Line = Line.Migration Stage.Frozen p ∷ Line.Migration Stage.Asked p ∷ [] in
     let off_here : (machine == k.here) ≡ false = ap (λ (n : ℕ). machine == n) c.stands.here ∙ eq_not machine m (λ e. apart (sym e)) in
     let off_rule : (m == machine) ≡ false = eq_not m machine apart in
-    let at_once = kernels.says (Label.Asked i) ∷ kernels.says (Label.Answered (manager_request (asker_of y)) Outcome.Done) ∷ Part.Routes (moved_answer k.here h.x Outcome.Done (asker_of y)) ∷ [] in
+    let at_once =
+    kernels.says (Label.Asked i) ∷ kernels.says (Label.Answered (manager_request (asker_of y)) Outcome.Done) ∷ Part.Routes (moved_answer k.here h.x Outcome.Done (asker_of y)) ∷ [] in
     let sent_off = turned (off_state k c.rest p h.x machine asker) (kernels.says (Label.Asked i) ∷ freezing s0 p h.x machine asker) in
     let next : Point = record { kernel = mid.kernel; view = off_view pt m p box machine; addresses = mid.addresses } in
     sets_off b m pt l records k p machine asker (Line.Label (Label.Asked i) ∷ frozen) mid.kernel mid.addresses box machine on (record {
@@ -138,7 +143,8 @@ asked_other b m pt l records k y machine c h tokens mine counted apart whole =
     })
 
 -- to where it is
-asked_here : (b : Boot) (m : ℕ) (pt : Point) (l : Placed) (k : KernelState) (y : Message) (machine : ℕ) (c : Taking b m pt l k y (PlainWhat.Move machine)) → IsHere b m pt l k y.to.pid → m ≡ machine → Row b m pt l k
+asked_here : (b : Boot) (m : ℕ) (pt : Point) (l : Placed) (k : KernelState) (y : Message) (machine : ℕ) (c : Taking b m pt l k y (PlainWhat.Move machine))
+    → IsHere b m pt l k y.to.pid → m ≡ machine → Row b m pt l k
 asked_here b m pt l k y machine c h is =
     let s = pt.kernel in
     let i = y.id in
@@ -158,7 +164,8 @@ asked_here b m pt l k y machine c h is =
     let notes : mid.kernel.notes p ≡ Some note = on_if (pid_eq p p) (Some note) (s.notes p) (pid_eq-same p) in
     let waits : mid_placed.notes p ≡ Some asker = on_if (pid_eq p p) (Some asker) (l.notes p) (pid_eq-same p) in
     let step : kernel.step mid.kernel e ≡ Some t =
-    ap (λ (q : Option Pid). bind q (λ (r : Pid). bind (mid.kernel.notes r) (λ (z : MoveNote). service.ends_move mid.kernel i r z Outcome.Done))) noted ∙ ap (λ (q : Option MoveNote). bind q (λ (z : MoveNote). service.ends_move mid.kernel i p z Outcome.Done)) notes in
+    ap (λ (q : Option Pid). bind q (λ (r : Pid). bind (mid.kernel.notes r) (λ (z : MoveNote). service.ends_move mid.kernel i r z Outcome.Done))) noted
+    ∙ ap (λ (q : Option MoveNote). bind q (λ (z : MoveNote). service.ends_move mid.kernel i p z Outcome.Done)) notes in
     let needs : StepNeeds mid.kernel mid.view e = λ q z noted_ notes_. (
     let same : p ≡ q = some_same p q (sym noted ∙ noted_) in
     let as_ : note ≡ z = some_same note z (sym notes ∙ ap mid.kernel.notes same ∙ notes_) in
@@ -171,19 +178,23 @@ asked_here b m pt l k y machine c h is =
     let sane = sane_of b m pt l k y w c in
     let fits = c.run.based.fits.messages i (plainly y w) c.front.there in
     let zero_ : sane.e (answer_id i) ≡ 0 = zero_if (sane.e (answer_id i)) (λ least. (
-    let gone : s.bag i ≡ None = sym (ap s.bag (λ j. record { from = i.from; n = i.n; answer = sym fits.3 j })) ∙ sane.sound.entered.answers (answer_id i) refl least in
+    let gone : s.bag i ≡ None =
+    sym (ap s.bag (λ j. record { from = i.from; n = i.n; answer = sym fits.3 j })) ∙ sane.sound.entered.answers (answer_id i) refl least in
     let g : None ≡ Some (plainly y w) = sym gone ∙ c.front.there in
     cc)) in
     let answer_is : a.id ≡ answer_id i = ap answer_id (sym f.named) in
     let fresh : s.bag a.id ≡ None = ap s.bag answer_is ∙ bag_none sane.r sane.e s (answer_id i) zero_ sane.sound.entered in
     let bag_is : (j : MsgId) → on.bag j ≡ (with_sent (placed.without_message l i) (Some a)).bag j = λ j. refl in
-    let both : (n : Message) → Some a ≡ Some n → (s.bag n.id ≡ None) × (is_kernels n.id ≡ false) = λ n same. subst (λ (z : Message). (s.bag z.id ≡ None) × (is_kernels z.id ≡ false)) (some_same a n same) (fresh, refl) in
-    let plain : (n : Message) → Some a ≡ Some n → is_some (plain_message n) ≡ true = λ n same. subst (λ (z : Message). is_some (plain_message z) ≡ true) (some_same a n same) refl in
+    let both : (n : Message) → Some a ≡ Some n → (s.bag n.id ≡ None) × (is_kernels n.id ≡ false) =
+    λ n same. subst (λ (z : Message). (s.bag z.id ≡ None) × (is_kernels z.id ≡ false)) (some_same a n same) (fresh, refl) in
+    let plain : (n : Message) → Some a ≡ Some n → is_some (plain_message n) ≡ true =
+    λ n same. subst (λ (z : Message). is_some (plain_message z) ≡ true) (some_same a n same) refl in
     let kept : (z : Spot) (j : MsgId) → z ≢ Inbox m → 1 ≤ standing pt.view j z → on.bag j ≡ l.bag j = kept_at b m pt l k y w c on (Some a) bag_is both in
     let behind : (j : MsgId) → 1 ≤ times j c.ids → on.bag j ≡ l.bag j = kept_behind b m pt l k y w c on (Some a) bag_is both in
     let queues : (q : Pid) (j : MsgId) → 1 ≤ times j (pt.view.queue m q) → on.bag j ≡ l.bag j = λ q j least. kept (Queue m q) j (queue_apart m m q) least in
     let holds : (q : Pid) (j : MsgId) → 1 ≤ times j (pt.view.held m q) → on.bag j ≡ l.bag j = λ q j least. kept (Held m q) j (held_apart m m q) least in
-    let others : (q : Pid) → pid_eq p q ≡ false → on.notes q ≡ l.notes q = λ q off. off_if (pid_eq p q) None (mid_placed.notes q) off ∙ off_if (pid_eq p q) (Some asker) (l.notes q) off in
+    let others : (q : Pid) → pid_eq p q ≡ false → on.notes q ≡ l.notes q =
+    λ q off. off_if (pid_eq p q) None (mid_placed.notes q) off ∙ off_if (pid_eq p q) (Some asker) (l.notes q) off in
     let here : KnownStands next on p (pt.view.queue m p) (pt.view.held m p) (pt.view.known m p) (k.records p) =
     subst (λ (z : view.Known). KnownStands next on p (pt.view.queue m p) (pt.view.held m p) z (k.records p)) (sym h.known)
     (subst (KnownStands next on p (pt.view.queue m p) (pt.view.held m p) Here) (sym h.there)
@@ -191,8 +202,10 @@ asked_here b m pt l k y machine c h is =
     let taken = taken_same pt next m refl (λ n. refl) (λ q. refl) in
     let to_here : (machine == k.here) ≡ true = ap (λ (n : ℕ). n == k.here) (sym is ∙ sym c.stands.here) ∙ eq_self k.here in
     let to_rule : (m == machine) ≡ true = ap (λ (n : ℕ). m == n) (sym is) ∙ eq_self m in
-    let parts = λ (n : MsgId) (z : ℕ). kernels.says (Label.Asked i) ∷ kernels.says (Label.Answered n Outcome.Done) ∷ Part.Routes (moved_answer z h.x Outcome.Done asker) ∷ [] in
-    let sent_off = turned (kernels.with_sent (with_frozen k0 p h.x machine (Some asker))) (kernels.says (Label.Asked i) ∷ freezing k0 p h.x machine (Some asker)) in
+    let parts =
+    λ (n : MsgId) (z : ℕ). kernels.says (Label.Asked i) ∷ kernels.says (Label.Answered n Outcome.Done) ∷ Part.Routes (moved_answer z h.x Outcome.Done asker) ∷ [] in
+    let sent_off =
+    turned (kernels.with_sent (with_frozen k0 p h.x machine (Some asker))) (kernels.says (Label.Asked i) ∷ freezing k0 p h.x machine (Some asker)) in
     record {
       state = k0;
       says = Line.Label (Label.Asked i) ∷ Line.Label e ∷ [];
@@ -228,7 +241,9 @@ asked_here b m pt l k y machine c h is =
     }
 
 -- a process that is here is asked to move
-pub asked_turn : (b : Boot) (m : ℕ) (pt : Point) (l : Placed) (records : AllRecords) (k : KernelState) (y : Message) (machine : ℕ) → Taking b m pt l k y (PlainWhat.Move machine) → IsHere b m pt l k y.to.pid → TokensStand pt.view l records → records m ≡ k.records → k.sent ≡ pt.view.count m → FreezesReceiverWhole k y → TurnsAt b m pt l records k
+pub asked_turn : (b : Boot) (m : ℕ) (pt : Point) (l : Placed) (records : AllRecords) (k : KernelState) (y : Message) (machine : ℕ)
+    → Taking b m pt l k y (PlainWhat.Move machine) → IsHere b m pt l k y.to.pid → TokensStand pt.view l records → records m ≡ k.records
+    → k.sent ≡ pt.view.count m → FreezesReceiverWhole k y → TurnsAt b m pt l records k
 asked_turn b m pt l records k y machine c h tokens mine counted whole = elim (eqb_tells m machine) [
   | inl is ↦ row_turns b m pt l records k c.run c.own tokens mine (asked_here b m pt l k y machine c h is.1)
   | inr off ↦

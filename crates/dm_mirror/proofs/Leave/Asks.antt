@@ -87,7 +87,8 @@ here_already b m pt l records k y machine h at_m is =
           }) h.tokens;
     }
 
-pub taken_at_record : (pt next : Point) (m : ℕ) (p q : Pid) (n : Known) → next.kernel.processes q ≡ pt.kernel.processes q → next.view.known m q ≡ at_record pt.view.known m p n m q → takes_room n ≡ takes_room (pt.view.known m p) → taken_by next m q ≡ taken_by pt m q
+pub taken_at_record : (pt next : Point) (m : ℕ) (p q : Pid) (n : Known) → next.kernel.processes q ≡ pt.kernel.processes q
+    → next.view.known m q ≡ at_record pt.view.known m p n m q → takes_room n ≡ takes_room (pt.view.known m p) → taken_by next m q ≡ taken_by pt m q
 taken_at_record pt next m p q n lives known same = grind (arith, nat_tests, pid_eq-is, record_self, pid_eq-same, record_others)
 
 -- where a process has been frozen, and the other machine asked
@@ -101,7 +102,8 @@ abbrev pub off_ask : KernelState → ℕ → Process → Option Asker → Messag
 off_ask k machine x asker = own k (kernel_at machine) (ask_of x asker)
 
 -- a process that is here is frozen, and another machine is asked: told to move or asked to, and after these lines
-pub record SetsOff (b : Boot) (m : ℕ) (pt : Point) (l : Placed) (records : AllRecords) (k : KernelState) (p : Pid) (machine : ℕ) (asker : Option Asker) (says : List Line) (t : OneKernel) (a : Addresses) (box : List MsgId) (to : ℕ) (on : Placed) : Type 0 where
+pub record SetsOff (b : Boot) (m : ℕ) (pt : Point) (l : Placed) (records : AllRecords) (k : KernelState) (p : Pid) (machine : ℕ) (asker : Option Asker) (says : List Line) (t : OneKernel) (a : Addresses) (box : List MsgId)
+    (to : ℕ) (on : Placed) : Type 0 where
   pub run : Run b pt
   pub mirrors : Mirrors pt.kernel pt.view pt.addresses l
   pub stands : KernelStands b pt l m k
@@ -163,18 +165,24 @@ sets_off b m pt l records k p machine asker says t a box to on h =
     } in
     let none_held : v.held m p ≡ [] = h.run.based.lists.held m p (ap has_nothing_held h.at_m) in
     let frozen_known : next.view.known m p ≡ Frozen machine = record_self v.known m p (Frozen to) (pid_eq-same p) ∙ ap Frozen h.to_is in
-    let frozen_record : state.records p ≡ Some (Record.Frozen (frozen x machine asker)) = ap (λ (c : Bool). if c then Some (Record.Frozen (frozen x machine asker)) else k.records p) (pid_eq-same p) in
-    let queued : HereStands on p (v.queue m p) x = ((h.here.0.0, h.processes p ∙ h.here.0.1), map_same l.bag on.bag (v.queue m p) (λ j least. h.kept (Queue m p) j (queue_apart m m p) least) ∙ h.here.1) in
-    let leaves : LeavesStand on p (v.queue m p) (v.held m p) machine (frozen x machine asker) = search (sym h.note, queued, ap (map on.bag) none_held, h.whole) in
+    let frozen_record : state.records p ≡ Some (Record.Frozen (frozen x machine asker)) =
+    ap (λ (c : Bool). if c then Some (Record.Frozen (frozen x machine asker)) else k.records p) (pid_eq-same p) in
+    let queued : HereStands on p (v.queue m p) x =
+    ((h.here.0.0, h.processes p ∙ h.here.0.1), map_same l.bag on.bag (v.queue m p) (λ j least. h.kept (Queue m p) j (queue_apart m m p) least) ∙ h.here.1) in
+    let leaves : LeavesStand on p (v.queue m p) (v.held m p) machine (frozen x machine asker) =
+    search (sym h.note, queued, ap (map on.bag) none_held, h.whole) in
     let mine : KnownStands next on p (v.queue m p) (v.held m p) (next.view.known m p) (state.records p) =
     subst (KnownStands next on p (v.queue m p) (v.held m p) (next.view.known m p)) (sym frozen_record)
     (subst (λ (n : Known). KnownStands next on p (v.queue m p) (v.held m p) n (Some (Record.Frozen (frozen x machine asker)))) (sym frozen_known) leaves) in
     let taken = taken_same pt next m h.machines h.made (λ q. taken_at_record pt next m p q (Frozen to) (h.lives q) refl (sym (ap takes_room h.at_m))) in
     let id_is : ask.id ≡ own_id next.view = λ i. record { from = record { home = h.stands.here i; num = 0 }; n = h.sent i; answer = false } in
-    let sets : (q : Pid) → pid_eq p q ≡ false → state.records q ≡ k.records q = λ q off. ap (λ (c : Bool). if c then Some (Record.Frozen (frozen x machine asker)) else k.records q) off in
+    let sets : (q : Pid) → pid_eq p q ≡ false → state.records q ≡ k.records q =
+    λ q off. ap (λ (c : Bool). if c then Some (Record.Frozen (frozen x machine asker)) else k.records q) off in
     let keeps : is_server p ≡ true → state.records p ≡ k.records p = λ is. absurd (false≢true (sym h.server ∙ is)) in
-    let queues : (q : Pid) (j : MsgId) → pid_eq p q ≡ false → 1 ≤ times j (v.queue m q) → on.bag j ≡ l.bag j = λ q j off least. h.kept (Queue m q) j (queue_apart m m q) least in
-    let holds : (q : Pid) (j : MsgId) → pid_eq p q ≡ false → 1 ≤ times j (v.held m q) → on.bag j ≡ l.bag j = λ q j off least. h.kept (Held m q) j (held_apart m m q) least in
+    let queues : (q : Pid) (j : MsgId) → pid_eq p q ≡ false → 1 ≤ times j (v.queue m q) → on.bag j ≡ l.bag j =
+    λ q j off least. h.kept (Queue m q) j (queue_apart m m q) least in
+    let holds : (q : Pid) (j : MsgId) → pid_eq p q ≡ false → 1 ≤ times j (v.held m q) → on.bag j ≡ l.bag j =
+    λ q j off least. h.kept (Held m q) j (held_apart m m q) least in
     let lives : (q : Pid) → pid_eq p q ≡ false → t.processes q ≡ pt.kernel.processes q = λ q off. h.lives q in
     let processes : (q : Pid) → pid_eq p q ≡ false → on.processes q ≡ l.processes q = λ q off. h.processes q in
     record {
@@ -238,11 +246,13 @@ nobody : (o : Option Asker) → option_map plain_note o ≡ None → o ≡ None
 nobody None e = refl
 nobody (Some k) e = cc
 
-pub unasked_here : (b : Boot) (m : ℕ) (pt : Point) (l : Placed) (p : Pid) → Run b pt → Mirrors pt.kernel pt.view pt.addresses l → pt.view.known m p ≡ Here → l.notes p ≡ None
+pub unasked_here : (b : Boot) (m : ℕ) (pt : Point) (l : Placed) (p : Pid) → Run b pt → Mirrors pt.kernel pt.view pt.addresses l → pt.view.known m p ≡ Here
+    → l.notes p ≡ None
 unasked_here b m pt l p run mirrors at_m = nobody (l.notes p) (mirrors.plain.notes p ∙ here_free pt.kernel pt.view m p run.based.noted at_m)
 
 -- to another machine
-asks_other : (b : Boot) (m : ℕ) (pt : Point) (l : Placed) (records : AllRecords) (k : KernelState) (y : Message) (machine : ℕ) → Hearing b m pt l records k (record y { what = What.Migrate machine }) → pt.view.known m y.to.pid ≡ Here → m ≢ machine
+asks_other : (b : Boot) (m : ℕ) (pt : Point) (l : Placed) (records : AllRecords) (k : KernelState) (y : Message) (machine : ℕ)
+    → Hearing b m pt l records k (record y { what = What.Migrate machine }) → pt.view.known m y.to.pid ≡ Here → m ≢ machine
     → ((x : Process) → k.records y.to.pid ≡ Some (Record.Here x) → CanMove x) → TurnsAt b m pt l records k
 asks_other b m pt l records k y machine h at_m apart whole =
     let z : Message = record y { what = What.Migrate machine } in
@@ -251,7 +261,8 @@ asks_other b m pt l records k y machine h at_m apart whole =
     let s : KernelState = record k { inbox = h.rest } in
     let loose = migrates_loose b m pt l records k y machine h in
     let server : is_server p ≡ false = or-right (p.num == 0) (is_server p) loose in
-    let here = here_is pt l p (v.queue m p) (v.held m p) (k.records p) (subst (λ (n : Known). KnownStands pt l p (v.queue m p) (v.held m p) n (k.records p)) at_m (h.stands.known p server)) in
+    let here =
+    here_is pt l p (v.queue m p) (v.held m p) (k.records p) (subst (λ (n : Known). KnownStands pt l p (v.queue m p) (v.held m p) n (k.records p)) at_m (h.stands.known p server)) in
     let x = here.process in
     let to : ℕ = target_of (front_told v (v.inbox m)) in
     let next : Point = moved (moved (begun pt m) (Line.Migration Stage.Frozen p) pt.kernel) (Line.Migration Stage.Asked p) pt.kernel in

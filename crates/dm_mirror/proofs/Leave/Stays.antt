@@ -35,7 +35,8 @@ early_comes s k e = grind (arith, nat_tests)
 away_none : (k : Known) → is_away k ≡ true → has_process k ≡ false
 away_none k e = grind (arith, nat_tests)
 
-refused_away : (m d n : ℕ) (i : Option MsgId) (k : Known) (at_source at_destination : Bool) → (m == n) ≡ at_source → (d == n) ≡ at_destination → at_source ≡ false → knows (Moves MessageKind.Refuse m d i) n k ≡ true → has_process k ≡ false
+refused_away : (m d n : ℕ) (i : Option MsgId) (k : Known) (at_source at_destination : Bool) → (m == n) ≡ at_source → (d == n) ≡ at_destination
+    → at_source ≡ false → knows (Moves MessageKind.Refuse m d i) n k ≡ true → has_process k ≡ false
 refused_away m d n i k at_source at_destination e f off h = grind (arith, nat_tests, early_comes, away_none)
 
 refuses : (b : Boot) (m : ℕ) (pt : Point) (l : Placed) (records : AllRecords) (k : KernelState) (y : Message) (p : Pid) (slots blocks : ℕ) → Hearing b m pt l records k (record y { what = What.Refuse p slots blocks }) → TurnsAt b m pt l records k
@@ -74,11 +75,13 @@ refuses b m pt l records k y p slots blocks h =
     let taken = taken_same pt next m refl (λ n. refl) (λ q. taken_at_record pt next m p q Here refl refl (sym (ap takes_room g.known))) in
     let sets : (q : Pid) → pid_eq p q ≡ false → state.records q ≡ k.records q = λ q off. ap (λ (c : Bool). if c then Some (Record.Here x) else k.records q) off in
     let keeps : is_server p ≡ true → state.records p ≡ k.records p = λ is. absurd (false≢true (sym server ∙ is)) in
-    let none : (i : MsgId) (t : Told) (spot : Spot) → v.told i ≡ Some t → is_between t.kind ≡ true → t.about ≡ Of p → 1 ≤ standing next.view i spot → ⊥ = λ i t spot told between about least. (
+    let none : (i : MsgId) (t : Told) (spot : Spot) → v.told i ≡ Some t → is_between t.kind ≡ true → t.about ≡ Of p → 1 ≤ standing next.view i spot → ⊥ =
+    λ i t spot told between about least. (
     let e = stood m y.id h.ids v next.view i spot h.box gone least in
     let is : i ≡ y.id = g.alone i t e.spot told between about e.stands in
     front_nowhere b m pt l records k z h next.view spot gone (subst (λ (j : MsgId). 1 ≤ standing next.view j spot) is least)) in
-    let away : (n : ℕ) → n ≢ m → has_process (v.known n p) ≡ false = λ n off. refused_away m g.to n (Some y.id) (v.known n p) (m == n) (g.to == n) refl refl (eq_off m n off) (g.phase n) in
+    let away : (n : ℕ) → n ≢ m → has_process (v.known n p) ≡ false =
+    λ n off. refused_away m g.to n (Some y.id) (v.known n p) (m == n) (g.to == n) refl refl (eq_off m n off) (g.phase n) in
     ends_move_row b m pt l records k p (Line.Stays p) state next.view l (record {
       run = h.run;
       said = refl;

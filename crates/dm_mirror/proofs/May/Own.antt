@@ -320,7 +320,8 @@ pub known_some : (pt : Point) (l : Placed) (p : Pid) (ids held_ : List MsgId) (k
 known_some pt l p ids held_ k h = grind (arith, nat_tests)
 
 -- what the machine knows of it
-process_row : (b : Boot) (pt : Point) (l : Placed) (m : ℕ) (k : KernelState) (i : MsgId) (x : Message) (p : PlainMessage) (o : Option machine.KernelKnown) → Mirrors pt.kernel pt.view pt.addresses l → KernelStands b pt l m k → CountsFew pt → k.sent < 4294967295 → FrontSo pt m i x p
+process_row : (b : Boot) (pt : Point) (l : Placed) (m : ℕ) (k : KernelState) (i : MsgId) (x : Message) (p : PlainMessage) (o : Option machine.KernelKnown) → Mirrors pt.kernel pt.view pt.addresses l → KernelStands b pt l m k → CountsFew pt
+    → k.sent < 4294967295 → FrontSo pt m i x p
     → (p.to.num == 0) ≡ false → pid_eq p.to manager ≡ false → is_server p.to ≡ false → k.records p.to ≡ o → FitsKnown k x o
 process_row b pt l m k i x p None mirrors h counts sent f num other server is =
     f.known (ap (λ (c : Bool). c || is_server p.to) num ∙ server) (known_some pt l p.to (pt.view.queue m p.to) (pt.view.held m p.to) (pt.view.known m p.to) (subst (KnownStands pt l p.to (pt.view.queue m p.to) (pt.view.held m p.to) (pt.view.known m p.to)) is (h.known p.to server)))
@@ -333,7 +334,8 @@ process_row b pt l m k i x p (Some (Record.Forward place moves)) mirrors h count
 process_row b pt l m k i x p (Some (Record.Ended y)) mirrors h counts sent f num other server is = ended_row pt i x p p.what f.what_is f.fits num other
 process_row b pt l m k i x p _ mirrors h counts sent f num other server is = tt
 
-pub for_process : (b : Boot) (pt : Point) (l : Placed) (m : ℕ) (k : KernelState) (i : MsgId) (x : Message) (p : PlainMessage) → Mirrors pt.kernel pt.view pt.addresses l → KernelStands b pt l m k → CountsFew pt → k.sent < 4294967295 → FrontSo pt m i x p
+pub for_process : (b : Boot) (pt : Point) (l : Placed) (m : ℕ) (k : KernelState) (i : MsgId) (x : Message) (p : PlainMessage) → Mirrors pt.kernel pt.view pt.addresses l → KernelStands b pt l m k → CountsFew pt → k.sent < 4294967295
+    → FrontSo pt m i x p
     → (p.to.num == 0) ≡ false → pid_eq p.to manager ≡ false → is_server p.to ≡ false → FitsKnown k x (k.records p.to)
 for_process b pt l m k i x p mirrors h counts sent f num other server = process_row b pt l m k i x p (k.records p.to) mirrors h counts sent f num other server refl
 

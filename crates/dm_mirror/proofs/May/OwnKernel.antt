@@ -164,14 +164,16 @@ pub record Around (b : Boot) (pt : Point) (l : Placed) (ks : ℕ → KernelState
   pub front : OwnFront pt l m i x
 
 -- the piece that is asked for
-next_chunk : (z y : Process) (k : Option Asker) (a : Arrival) (w : What) (n : ℕ) → CanMove (record z { queue = [] }) → y ≡ z → a ≡ coming z k a.held a.wanted → a.wanted ≡ Chunk n → w ≡ chunk_of y.pid (state_of y) n → HasChunk (state_of y) n → IsNextPiece a w
+next_chunk : (z y : Process) (k : Option Asker) (a : Arrival) (w : What) (n : ℕ) → CanMove (record z { queue = [] }) → y ≡ z → a ≡ coming z k a.held a.wanted → a.wanted ≡ Chunk n → w ≡ chunk_of y.pid (state_of y) n → HasChunk (state_of y) n
+    → IsNextPiece a w
 next_chunk z y k a w n whole same pieces wanted is there =
     let there_ : HasChunk (state_of z) n = subst (λ (v : Process). HasChunk (state_of v) n) same there in
     let is_ : w ≡ chunk_of z.pid (state_of z) n = is ∙ ap (λ (v : Process). chunk_of v.pid (state_of v) n) same in
     let come : a ≡ coming z k a.held (Chunk n) = pieces ∙ ap (coming z k a.held) wanted in
     subst (λ (v : Arrival). IsNextPiece v w) (sym come) (subst (IsNextPiece (coming z k a.held (Chunk n))) (sym is_) ((by_pieces (record z { queue = [] }) k a.held whole).chunk_asked n there_))
 
-next_block : (z y : Process) (k : Option Asker) (a : Arrival) (w : What) (n : ℕ) → CanMove (record z { queue = [] }) → y ≡ z → a ≡ coming z k a.held a.wanted → a.wanted ≡ Block n → w ≡ block_of y.pid y.memory n → HasBlock y.memory n → IsNextPiece a w
+next_block : (z y : Process) (k : Option Asker) (a : Arrival) (w : What) (n : ℕ) → CanMove (record z { queue = [] }) → y ≡ z → a ≡ coming z k a.held a.wanted → a.wanted ≡ Block n → w ≡ block_of y.pid y.memory n → HasBlock y.memory n
+    → IsNextPiece a w
 next_block z y k a w n whole same pieces wanted is there =
     let there_ : HasBlock z.memory n = subst (λ (v : Process). HasBlock v.memory n) same there in
     let is_ : w ≡ block_of z.pid z.memory n = is ∙ ap (λ (v : Process). block_of v.pid v.memory n) same in
@@ -203,7 +205,8 @@ leaves_here b pt l ks m i x p h d =
 not_unknown : (to : ℕ) → Frozen to ≡ Unknown → ⊥
 not_unknown to e = cc
 
-asks_to_come : (b : Boot) (pt : Point) (l : Placed) (ks : ℕ → KernelState) (m : ℕ) (i : MsgId) (x : Message) (w : What) (p : Pid) → Around b pt l ks m i x → (t : IsToken pt l ks m i x w p) → kind_of w ≡ MessageKind.Ask → w ≡ ask_of t.process (l.notes p) → IsAskOfProcess w
+asks_to_come : (b : Boot) (pt : Point) (l : Placed) (ks : ℕ → KernelState) (m : ℕ) (i : MsgId) (x : Message) (w : What) (p : Pid) → Around b pt l ks m i x → (t : IsToken pt l ks m i x w p) → kind_of w ≡ MessageKind.Ask
+    → w ≡ ask_of t.process (l.notes p) → IsAskOfProcess w
 asks_to_come b pt l ks m i x w p h t is asked =
     let s = t.moved.s in
     let (to, known) = frozen_at (kind_of w) t.moved.d (pt.view.known s p) t.moved.source (ap is_restart is) in
