@@ -161,7 +161,8 @@ set_weight f inbox a ys x y m h = elim (eqb_tells a m) [
 ]
 
 first_less : (f : MsgId → ℕ) (v : View) (m : ℕ) → weight f (first_gone v m) ≤ weight f (v.inbox m) + spike v.acting 0 m
-first_less f v m = let h = set_weight f v.inbox v.acting (without_first (v.inbox v.acting)) 0 0 m (let g = first_weight f (v.inbox v.acting) in omega (arith, g)) in omega (arith, h)
+first_less f v m =
+    let h = set_weight f v.inbox v.acting (without_first (v.inbox v.acting)) 0 0 m (let g = first_weight f (v.inbox v.acting) in omega (arith, g)) in omega (arith, h)
 
 sets_less : (f : MsgId → ℕ) (v : View) (a : About) (m : ℕ) → weight f (sets_inbox v a m) ≤ weight f (v.inbox m) + spike v.acting 0 m
 sets_less f v (Target k) m = omega arith
@@ -178,12 +179,13 @@ effect_weight f v (Returns p) m =
     let ys = v.held v.acting p in
     let first = first_gone v in
     let there : first v.acting ≡ without_first (v.inbox v.acting) = at_machine_at v.inbox v.acting (without_first (v.inbox v.acting)) in
-    let a = set_weight f v.inbox v.acting (without_first (v.inbox v.acting)) 0 0 m (let g = first_weight f (v.inbox v.acting) in omega (arith, g)) in
+    let a = first_less f v m in
     let all = weight-append f ys (first v.acting) in
     let b = set_weight f first v.acting (ys ++ first v.acting) 0 (weight f ys) m (omega (arith, all)) in
     omega (arith, a, b)
 
-first_loses : (f : MsgId → ℕ) (v : View) (i : MsgId) (is : List MsgId) (m : ℕ) → v.inbox v.acting ≡ i ∷ is → weight f (first_gone v m) + spike v.acting (f i) m ≤ weight f (v.inbox m) + spike v.acting 0 m
+first_loses : (f : MsgId → ℕ) (v : View) (i : MsgId) (is : List MsgId) (m : ℕ) → v.inbox v.acting ≡ i ∷ is
+    → weight f (first_gone v m) + spike v.acting (f i) m ≤ weight f (v.inbox m) + spike v.acting 0 m
 first_loses f v i is m front =
     let all : weight f (v.inbox v.acting) ≡ weight f (i ∷ is) = ap (weight f) front in
     let less : weight f (without_first (v.inbox v.acting)) ≡ weight f is = ap (λ (xs : List MsgId). weight f (without_first xs)) front in
@@ -206,9 +208,7 @@ effect_takes f v Sets i is m front topic takes =
 effect_takes f v (Returns p) i is m front topic takes =
     let ys = v.held v.acting p in
     let first = first_gone v in
-    let all : weight f (v.inbox v.acting) ≡ weight f (i ∷ is) = ap (weight f) front in
-    let less : weight f (without_first (v.inbox v.acting)) ≡ weight f is = ap (λ (xs : List MsgId). weight f (without_first xs)) front in
-    let a = set_weight f v.inbox v.acting (without_first (v.inbox v.acting)) (f i) 0 m (omega (arith, all, less)) in
+    let a = first_loses f v i is m front in
     let whole = weight-append f ys (first v.acting) in
     let b = set_weight f first v.acting (ys ++ first v.acting) 0 (weight f ys) m (omega (arith, whole)) in
     omega (arith, a, b)
@@ -257,16 +257,16 @@ line_weight f n v l e m =
     omega (arith, box, h, s)
 
 -- and loses the front that goes
-pub line_takes_to : (f : MsgId → ℕ) (n : ℕ) (v : View) (l : Line) (i : MsgId) (is : List MsgId) → comes_in l ≡ false → v.inbox v.acting ≡ i ∷ is → v.topic ≡ NothingElse → takes_front i (effect l) → (m : ℕ)
-    → weight_to f n (view_after v l) m + spike v.acting (f i) m ≤ weight_to f n v m + spike v.acting (weight f (back_in v (effect l))) m
+pub line_takes_to : (f : MsgId → ℕ) (n : ℕ) (v : View) (l : Line) (i : MsgId) (is : List MsgId) → comes_in l ≡ false → v.inbox v.acting ≡ i ∷ is
+    → v.topic ≡ NothingElse → takes_front i (effect l) → (m : ℕ) → weight_to f n (view_after v l) m + spike v.acting (f i) m ≤ weight_to f n v m + spike v.acting (weight f (back_in v (effect l))) m
 line_takes_to f n v l i is e front topic takes m =
     let box : weight f ((view_after v l).inbox m) ≡ weight f (inbox_by v (effect l) m) = ap (λ (g : ℕ → List MsgId). weight f (g m)) (line_inbox v l e) in
     let k = effect_takes f v (effect l) i is m front topic takes in
     let s = sum_untaken f n v (view_after v l) m (line_untaken v l e) in
     omega (arith, box, k, s)
 
-pub line_takes : (f : MsgId → ℕ) (n : ℕ) (v : View) (l : Line) (i : MsgId) (is : List MsgId) → comes_in l ≡ false → v.inbox v.acting ≡ i ∷ is → v.topic ≡ NothingElse → takes_front i (effect l) → v.acting < n
-    → weight_of f n (view_after v l) + f i ≤ weight_of f n v + weight f (back_in v (effect l))
+pub line_takes : (f : MsgId → ℕ) (n : ℕ) (v : View) (l : Line) (i : MsgId) (is : List MsgId) → comes_in l ≡ false → v.inbox v.acting ≡ i ∷ is
+    → v.topic ≡ NothingElse → takes_front i (effect l) → v.acting < n → weight_of f n (view_after v l) + f i ≤ weight_of f n v + weight f (back_in v (effect l))
 line_takes f n v l i is e front topic takes small =
     sum_moves (weight_to f n v) (weight_to f n (view_after v l)) n v.acting (f i) v.acting (weight f (back_in v (effect l))) small (λ m h. line_takes_to f n v l i is e front topic takes m)
 

@@ -44,7 +44,8 @@ quiet_row i told l rest ps takes touch back calm e =
     record { first = l; rest = rest; is = sym f; takes = takes; touches_ = touch; calm = calm; back = λ g. absurd (false≢true (sym back ∙ g)) }
 
 -- and one that does
-back_row : (i : MsgId) (told : Option Told) (l : Line) (rest ps : List Part) → takes_front i (effect l) → touches l ≡ false → told_lets_go told ≡ true → AllCalm rest → Some (Says l ∷ rest) ≡ Some ps → Handles i told ps
+back_row : (i : MsgId) (told : Option Told) (l : Line) (rest ps : List Part) → takes_front i (effect l) → touches l ≡ false → told_lets_go told ≡ true
+    → AllCalm rest → Some (Says l ∷ rest) ≡ Some ps → Handles i told ps
 back_row i told l rest ps takes touch lets calm e =
     let f : Says l ∷ rest ≡ ps = cc in
     record { first = l; rest = rest; is = sym f; takes = takes; touches_ = touch; calm = calm; back = λ g. lets }

@@ -36,7 +36,8 @@ leads_here b es pt m i t valid way told stands num =
     subst (λ (k : ℕ). leads pt.view t.receiver (pt.kernel.machines - 1) (pt.addresses (Receiver i)).moves k ≡ true) at ((addresses_lead b es pt t.receiver (pt.addresses (Receiver i)) valid way named).led num)
 
 -- the first line: the front goes
-first_carries : (n : ℕ) (s : OneKernel) (v w : View) (m : ℕ) (l : Line) (i : MsgId) (is : List MsgId) → FrontLine i l → v.inbox m ≡ i ∷ is → w ≡ seen s (view.begins v m view.NothingElse) l → Carries n v w m i []
+first_carries : (n : ℕ) (s : OneKernel) (v w : View) (m : ℕ) (l : Line) (i : MsgId) (is : List MsgId) → FrontLine i l → v.inbox m ≡ i ∷ is
+    → w ≡ seen s (view.begins v m view.NothingElse) l → Carries n v w m i []
 first_carries n s v w m l i is h front at =
     let start = view.begins v m view.NothingElse in
     let none = touches_none l h.touches_ in
