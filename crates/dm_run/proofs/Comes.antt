@@ -2,11 +2,10 @@
 use Rattle.dm_run.proofs.Names.{◌≡◌, ◌<◌, inl, inr, ℕ, true, nat_le, List, [], ◌∷◌, ◌++◌, length, take, drop, refl, ap, ◌∙◌, sym, subst, append_assoc, arith, nat_tests, append-nil, take-append-drop, All, OnOk, All-nil, All-append, Option}
 use Rattle.dm_run.proofs.Names.{None, Some, Result, Ok, Err, Boot, IsValid, Step, Directive, EndLine, Line, Todo, Next, all_of, Leads, Point, first_point, ends_settled, is_at_rest, ends_at_rest, ends_quiet, EndFits, HidesNothing, LineFits}
 use Rattle.dm_run.proofs.Names.{text, text_of_ends, text_of_lines, World, MayStep, IsWorld, world_state, world_next_step, MayEnd, AreWhole, AreReadBack, gave, WorldState, Said, Says, WornOut, first_world, world_step, GoesOn, RunStands}
-use Rattle.dm_run.proofs.Names.{joined, Stands, IsDirective, RunGoes, appended, Stop, NoMemory, WriteFault, Worn, IsOfFirst, IsOver, HasCome, Offered, Came, Ended}
+use Rattle.dm_run.proofs.Names.{joined, Stands, IsDirective, RunGoes, appended, Stop, NoMemory, WriteFault, Worn, IsOfFirst, IsOver, HasCome, Offered, Came, Ended, RunWears}
 use Rattle.dm_rule.specs.Ends as rule_ends
 use Rattle.dm_rule.specs.Worn as worn_as
 use Rattle.dm_world.specs.Ends as world_ends
-use Rattle.dm_run.specs.Printed.{RunWears}
 use Rattle.dm_run.proofs.Writing.{appended_twice, some_left}
 use Rattle.dm_run.proofs.Laws.{end_may, run_begins, run_goes_on, next_is_said, end_is_said, machines_stay}
 use Rattle.dm_run.proofs.Finals.{end_hides}

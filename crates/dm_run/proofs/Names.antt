@@ -6,10 +6,11 @@ pub use Rattle.std.specs.Result.{IfErr, IsErr}
 pub use Rattle.dm_records.proofs.Names.{Bool, Option, Pid, Some, ap, arith, false, if◌then◌else◌, refl, sym, true, ◌∙◌, ◌≡◌}
 pub use Rattle.dm_outside.specs.Outside.{appended}
 pub use Rattle.dm_processor.proofs.Names.{List, [], drop, get_or, length, nat_tests, suc, take, zero, ℕ, ◌%◌, ◌*◌, ◌++◌, ◌+◌, ◌-◌, ◌/◌, ◌<◌, ◌^◌, ◌∷◌, ◌≤◌}
-pub use Rattle.dm_stream.proofs.Names.{Ack, Data, inl, inr, subst, ◌≢◌, ◌⊎◌}
-pub use Rattle.dm_linktable.proofs.Names.{Link, ◌&&◌, ◌==◌}
+pub use Rattle.dm_wire.proofs.Names.{inl, inr}
+pub use Rattle.dm_stream.proofs.Names.{Ack, Data, subst, ◌≢◌, ◌⊎◌}
+pub use Rattle.dm_linktable.proofs.Names.{Link, ◌==◌}
 pub use Rattle.dm_packet.proofs.Field.{ok_is}
-pub use Rattle.dm_packet.proofs.Names.{Addr, All, Field, IfSome, MessageKind, MsgId, OnOk, addr, append-nil, append_assoc, both, channel, flags, len_from, length-append, link, link_of_parts, nat_le, not, number, optional_read, packet_of}
+pub use Rattle.dm_packet.proofs.Names.{Addr, All, Field, IfSome, MessageKind, MsgId, OnOk, addr, append-nil, append_assoc, both, channel, flags, len_from, length-append, link, link_of_parts, nat_le, number, optional_read, packet_of}
 pub use Rattle.dm_packet.proofs.Names.{take-append-drop, ◌>>=◌}
 pub use Rattle.dm_packet.specs.Fields.{LinkParts}
 pub use Rattle.dm_process.proofs.Names.{add-one}
@@ -20,20 +21,19 @@ unfoldable pub use Rattle.dm_statebytes.specs.Shell.{shell_of_bytes}
 pub use Rattle.dm_migrate.proofs.Names.{All-append, All-cons, Arrival, Err, Ok, Result, Shell, StateBytesError, restarted, revived, revived_from, take_rest}
 pub use Rattle.dm_switchboard.proofs.Imports.{IsLawfulNamed, Named, switchboard}
 pub use Rattle.dm_procman.proofs.Names.{Boot, IsValid, manager}
-pub use Rattle.dm_laws.proofs.Names.{Label, OneKernel, bind, false≢true, first_number, pid_of, ⊤}
+pub use Rattle.dm_laws.proofs.Names.{OneKernel, false≢true, first_number, pid_of, ⊤}
 pub use Rattle.dm_datamove.proofs.Names.{All-nil}
 pub use Rattle.dm_syscall.proofs.Names.{drop-cons}
-pub use Rattle.dm_rule.proofs.Names.{About, Directive, IsStep, Leads, Line, Next, Pair, Part, Point, Spelled, Stage, Step, Todo, Told, View, after, after_label, after_line, all_of, at_pair, behind, bind-is, filter, first_point, group_of}
-pub use Rattle.dm_rule.proofs.Names.{headed, kernel_after, label_of, lines_of, moved, outcome, receiver_of, spelled, view_after}
+pub use Rattle.dm_rule.proofs.Names.{Directive, IsStep, Leads, Line, Next, Point, Spelled, Step, Todo, View, after, after_line, all_of, bind-is, first_point, group_of, kernel_after, label_of, moved, next_step, seen, view_after}
 pub use Rattle.dm_rule.specs.Worn.{IsWorn}
 pub use Rattle.dm_places.proofs.Names.{Pending}
-pub use Rattle.dm_kernel.proofs.Names.{All-head, All-tail, Block, Chunk, Forward, Frozen, Here, Incoming, IsLawfulKnown, IsLawfulPair, IsLawfulState, KernelKnown, Nothing, Wanted}
+pub use Rattle.dm_kernel.proofs.Names.{All-head, All-tail, Block, Chunk, Forward, Frozen, Global, Here, Incoming, IsLawfulKnown, IsLawfulPair, IsLawfulState, KernelKnown, Nothing, Vec, Wanted}
 pub use Rattle.dm_rulelaws.proofs.Decided.{shorter_begins}
 pub use Rattle.dm_rulelaws.proofs.Names.{IsRun}
 pub use Rattle.dm_movelaws.proofs.Names.{EndLine, Standing, block_line, each_machine, home_with, list_line, memory_lines, or, trimmed}
 pub use Rattle.dm_settlelaws.proofs.Falls.TurnsFall.{turns_fall}
 pub use Rattle.dm_settlelaws.proofs.FewSteps.Few.{turns_left_few}
-pub use Rattle.dm_settlelaws.proofs.Names.{IsKept, IsSettleStep, Settle, Two, ends_settled, is_at_rest, stands_once_always, sum_below, turns_left}
+pub use Rattle.dm_settlelaws.proofs.Names.{IsKept, IsSettleStep, Settle, Two, ends_settled, group_after, is_at_rest, stands_once_always, sum_below, turns_left}
 pub use Rattle.dm_settlelaws.proofs.Rests.EndsAtRest.{ends_at_rest}
 pub use Rattle.dm_settlelaws.proofs.Rests.EndsQuiet.{ends_quiet}
 pub use Rattle.dm_settlelaws.specs.Passes.{turns_in}
@@ -55,10 +55,12 @@ pub use Rattle.dm_mirror.proofs.Names.{AreWhole, EndIsSaid, EndMay, GoesOn, IsDi
 pub use Rattle.dm_mirror.proofs.Names.{worn_in}
 pub use Rattle.dm_mirror.proofs.Next.{machines_stay, next_fits, undelivered_said}
 pub use Rattle.dm_mirror.proofs.QuietSaid.{mail_is_said}
+pub use Rattle.dm_mirror.proofs.Routing.{worn_alike}
+pub use Rattle.dm_mirror.proofs.Totals.{Grows, grows_on, grows_same, ids_of, put_adds, seen_grows}
 pub use Rattle.dm_mirror.specs.Laws.{RunGoes}
 pub use Rattle.dm_mirror.specs.Ran.{RanGoes}
 pub use Rattle.dm_run.specs.Coming.{Blames, BlamesBy, Came, Ended, HasCome, IsAfter, IsFor, Offered, Stopped, rounds_of}
-pub use Rattle.dm_run.specs.Printed.{IsOfFirst, IsOver, IsWhole, Lasts, Wears, WearsAfter}
+pub use Rattle.dm_run.specs.Printed.{IsOfFirst, IsOver, IsWhole, Lasts, RunWears, Wears, WearsAfter}
 pub use Rattle.dm_run.specs.Running.{IsRunning, RanOn, RunsOn, StopsWorn}
 pub use Rattle.dm_run.specs.declared.stop.Stop.{Stop}
 pub use Rattle.dm_run.specs.declared.stop.Stop.TheVariants.{NoMemory, Worn, WriteFault}

@@ -1,10 +1,5 @@
-use Rattle.dm_run.proofs.Names.{◌≡◌, List, refl, ap, sym, ◌∙◌, subst, Some, Err, Line, Answers, world_state, Step, OrNoMemory, AreWhole, AreReadBack, gave, Says, world_step}
+use Rattle.dm_run.proofs.Names.{◌≡◌, List, refl, ap, sym, ◌∙◌, subst, Some, Err, Line, Answers, world_state, Step, OrNoMemory, AreWhole, AreReadBack, gave, Says, world_step, Vec, OnOk, Global, World, IsWorld, Came, IsAfter}
 use Rattle.dm_node.specs.declared.stop.Stop.{Stop}
-use Rattle.std.specs.Prelude.{Vec, OnOk}
-use Rattle.std.specs.declared.alloc.Global.{Global}
-use Rattle.dm_world.specs.declared.world.World.{World}
-use Rattle.dm_world.specs.Meets.{IsWorld}
-use Rattle.dm_run.specs.Coming.{Came, IsAfter}
 use Rattle.dm_run.proofs.Comes.{always_ok, came_on, lacks_there, worn_there}
 use Rattle.dm_run.proofs.Counted.{happens, worn_out}
 use Rattle.dm_run.proofs.directives.one_group.Goals as goal
