@@ -7,7 +7,6 @@ pub mod Loud
 pub mod Sets
 pub mod Queues
 pub mod Unmoved
-pub mod Known
 pub mod Noted
 pub mod Start
 pub mod Always

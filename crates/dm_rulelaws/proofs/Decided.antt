@@ -1,14 +1,5 @@
 -- The rule decides what is printed.
-use Rattle.dm_rulelaws.proofs.Names.{◌≡◌, ◌+◌, List, [], ◌∷◌, ◌++◌, length, refl, ap, ◌∙◌, sym, subst, arith, Option, Some, Boot, Line, Todo, Next, next_step, IsRun, Spelled, Point, group_of, RuleDecides, ShorterBegins}
-
-same_some : {A : Type 0} (o : Option A) (x y : A) → o ≡ Some x → o ≡ Some y → y ≡ x
-same_some o x y e f = let g : Some y ≡ Some x = sym f ∙ e in cc
-
-same_group : (b : Boot) (pt : Point) (n o : Next) (w v : Spelled) → o ≡ n → group_of b pt n.step ≡ Some w → group_of b pt o.step ≡ Some v → v ≡ w
-same_group b pt n o w v e f g = same_some (group_of b pt n.step) w v f (sym (ap (λ (x : Next). group_of b pt x.step) e) ∙ g)
-
-same_lines : (w v : Spelled) (g h : List Line) → v ≡ w → w.lines ≡ g → v.lines ≡ h → h ≡ g
-same_lines w v g h e f k = sym k ∙ ap (λ (x : Spelled). x.lines) e ∙ f
+use Rattle.dm_rulelaws.proofs.Names.{◌≡◌, ◌+◌, List, [], ◌∷◌, ◌++◌, length, refl, ap, ◌∙◌, sym, subst, arith, Some, Boot, Line, Todo, Next, IsRun, Spelled, Point, group_of, RuleDecides, ShorterBegins}
 
 same_place : (b : Boot) (n o : Next) (w v : Spelled) (hs : List (List Line)) (fin : Point) (rest : Todo) → o ≡ n → v ≡ w → IsRun b v.point o.left hs fin rest → IsRun b w.point n.left hs fin rest
 same_place b n o w v hs fin rest e f run = subst (λ (x : Next). IsRun b w.point x.left hs fin rest) e (subst (λ (x : Spelled). IsRun b x.point o.left hs fin rest) f run)
@@ -24,9 +15,9 @@ pub shorter_begins : ShorterBegins
 shorter_begins b pt t [] hs end fin left rest (at, same) s le = (hs, refl, subst (λ (u : Todo). IsRun b end u hs fin rest) same (subst (λ (q : Point). IsRun b q t hs fin rest) at s))
 shorter_begins b pt t (g ∷ gs) [] end fin left rest r s le = absurd (omega (arith, le))
 shorter_begins b pt t (g ∷ gs) (h ∷ hs) end fin left rest (n, w, next, group, lines, kept, more) (o, v, follows, said, printed, holds, others) le =
-    let n_is : o ≡ n = same_some (next_step pt.kernel.machines pt.view t) n o next follows in
-    let w_is : v ≡ w = same_group b pt n o w v n_is group said in
-    first_same b end fin left rest g h gs hs (same_lines w v g h w_is lines printed)
+    let n_is : o ≡ n = let g : Some o ≡ Some n = sym follows ∙ next in cc in
+    let w_is : v ≡ w = let g : Some v ≡ Some w = sym (sym (ap (λ (x : Next). group_of b pt x.step) n_is) ∙ said) ∙ group in cc in
+    first_same b end fin left rest g h gs hs (sym printed ∙ ap (λ (x : Spelled). x.lines) w_is ∙ lines)
     (shorter_begins b w.point n.left gs hs end fin left rest more (same_place b n o w v hs fin rest n_is w_is others) (omega (arith, le)))
 
 length_more : {A : Type 0} (xs ys : List A) → length (xs ++ ys) ≡ length xs + length ys

@@ -1,5 +1,4 @@
 -- Lemmas of the family Order, by file.
 pub mod Lines
-pub mod Moves
 pub mod Puts
 pub mod Always

@@ -1,4 +1,3 @@
 -- Lemmas of the family Own, by file.
 pub mod Told
-pub mod Senders
 pub mod Groups

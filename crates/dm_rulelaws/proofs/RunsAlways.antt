@@ -2,7 +2,7 @@
 use Rattle.dm_rulelaws.proofs.Names.{List, Boot, IsValid, Step, Leads, Point, first_point, FoundAlways, GoesOnAlways, KnownAlways, ReceivesInOrder}
 use Rattle.dm_rulelaws.proofs.Based.Always.{based_start, based_group}
 use Rattle.dm_rulelaws.proofs.Found.Always.{FoundBy, found_start, found_group, found_of}
-use Rattle.dm_rulelaws.proofs.Goes.Runs.{Both, RunStarts, RunGoes, both_always, goes_on_by, known_by}
+use Rattle.dm_rulelaws.proofs.Goes.Runs.{Both, RunStarts, RunGoes, both_always, goes_on_by}
 use Rattle.dm_rulelaws.proofs.Order.Always.{receives_in_order_by}
 use Rattle.dm_rulelaws.proofs.Runs.{Based, Run}
 
@@ -25,7 +25,7 @@ pub goes_on_always : GoesOnAlways
 goes_on_always = goes_on_by run_start run_group
 
 pub known_always : KnownAlways
-known_always = known_by run_start run_group
+known_always b es pt valid leads = (run_always b es pt valid leads).run.based.known
 
 pub found_always : FoundAlways
 found_always b es pt valid leads = (run_always b es pt valid leads).run.found

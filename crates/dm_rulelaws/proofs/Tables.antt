@@ -1,5 +1,4 @@
 -- Each living process has as many link slots as the format gives, and each message of the bag encloses at most four links.
-pub mod Steps
 pub mod Always
 use Rattle.dm_rulelaws.proofs.Names.{◌≡◌, ◌≤◌, Bool, length, ap, ◌∙◌, sym, subst, inl, inr, ⊤, if◌then◌else◌, Some, cases_Bool, Pid, pid_eq, MsgId, PlainMessage, PlainWhat, Why, slots_of, PlainProcess, Alive, Ended, OneKernel, with_process}
 use Rattle.dm_rulelaws.proofs.Names.{with_sent, without_message, stayed, came}

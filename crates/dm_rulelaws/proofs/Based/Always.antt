@@ -5,10 +5,9 @@ use Rattle.dm_rulelaws.proofs.Fits.Start.{start_fits}
 use Rattle.dm_rulelaws.proofs.RunLabels.{group_replay, replay_fits}
 use Rattle.dm_rulelaws.proofs.Runs.{Based}
 use Rattle.dm_rulelaws.proofs.Based.Constants.{constant_group}
-use Rattle.dm_rulelaws.proofs.Based.Known.{known_group}
-use Rattle.dm_rulelaws.proofs.Based.Queues.{lists_start, lists_group, waits_start, waits_group, waits_by, queued_of, held_of}
+use Rattle.dm_rulelaws.proofs.Based.Queues.{lists_group, waits_start, waits_group, waits_by, queued_of, held_of}
 use Rattle.dm_rulelaws.proofs.Based.Start.{known_start}
-use Rattle.dm_rulelaws.proofs.Based.Unmoved.{unmoved_start, unmoved_group}
+use Rattle.dm_rulelaws.proofs.Based.Unmoved.{unmoved_group, known_group}
 
 pub based_start : (b : Boot) → IsValid b → Based b (first_point b)
 based_start b valid =
@@ -22,11 +21,11 @@ based_start b valid =
       format = refl;
       queued = queued_of (first_point b) phased waits;
       held = held_of (first_point b) waits;
-      lists = lists_start b;
+      lists = record { queue = λ m p e. refl; held = λ m p e. refl };
       known = known_start b valid;
       noted = noted_start (first_point b).kernel (first_point b).view (λ p n e. let f : None ≡ Some n = e in cc);
       pending = refl;
-      unmoved = (unmoved_start b).none;
+      unmoved = λ p none. refl;
     }
 
 pub based_group : (b : Boot) (pt : Point) (d : Step) (w : Spelled) → IsStep pt.kernel.machines d → group_of b pt d ≡ Some w → Based b pt → Based b w.point

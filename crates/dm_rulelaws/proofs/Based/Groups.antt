@@ -1,19 +1,15 @@
 -- What a turn says of a kernel's own message has what its lines need; so each group keeps what each line keeps.
 use Rattle.dm_rulelaws.proofs.Names.{◌≡◌, ℕ, ◌==◌, Bool, true, false, not, List, [], ◌∷◌, ◌++◌, length, refl, ap, ◌∙◌, sym, subst, Option, None, Some, arith, false≢true, Pid, MsgId, MessageKind, Stage, Boot, manager, Step, Line, View, Told}
-use Rattle.dm_rulelaws.proofs.Names.{Of, Known, Here, Frozen, Incoming, after_head, Point, moved, Part, Says, Spelled, is_between, is_apart, is_away, is_here, kind_comes, Phase, Moves, knows, receiver_in, to_kernel, sends_on, updates}
-use Rattle.dm_rulelaws.proofs.Names.{migrates, group_of, at_record_at, IsNetLine, IsNet, front_way, Sane, InPhases, calm_phases, due, head_calm, told_some, Rooted, Phased, rooted, moves_away, State, is_server, has_nothing_held, KnownStands}
+use Rattle.dm_rulelaws.proofs.Names.{Of, Known, Here, Frozen, Incoming, after_head, Point, moved, Says, Spelled, is_between, is_apart, is_away, is_here, kind_comes, Phase, Moves, knows, receiver_in, to_kernel, sends_on, updates}
+use Rattle.dm_rulelaws.proofs.Names.{migrates, group_of, at_record_at, front_way, Sane, InPhases, calm_phases, due, head_calm, told_some, Rooted, Phased, rooted, moves_away, State, is_server, has_nothing_held, KnownStands}
 use Rattle.dm_rulelaws.proofs.Names.{right_true, by_migrates, by_hears, left_parts, by_net, by_outcome, answers_move, Outcome}
 use Rattle.dm_rule.specs.Rule as rule
-use Rattle.dm_rulelaws.proofs.Based.Needs.{Leaving, Needs, Rides, Keeps, Walks, WalksOf, AllLoose, loose_walks, first_walks, said_by, again_rides, begun, begun_sane, outcome_keeps}
-use Rattle.dm_rulelaws.proofs.Based.Rows.{known_living, turned, resting, living, round_walks, handles_walks, forwards_walks}
-
--- what leaves
-leaving_rides : (p : Pid) → Rides (λ q. Leaving q.view p)
-leaving_rides p = search arith
+use Rattle.dm_rulelaws.proofs.Based.Needs.{Leaving, Keeps, Walks, WalksOf, AllLoose, loose_walks, first_walks, said_by, again_rides, begun, begun_sane, outcome_keeps}
+use Rattle.dm_rulelaws.proofs.Based.Rows.{walks_of, known_living, turned, resting, living, round_walks, handles_walks, forwards_walks}
 
 again_walks : (p : Pid) (to : ℕ) (id : MsgId) (ids : List MsgId) (pt : Point) → Leaving pt.view p → Walks pt (sends_on to ids ++ Says (Line.Migration Stage.Left p) ∷ to_kernel MessageKind.Restart id.from.home ∷ [])
 again_walks p to id [] pt h = first_walks (Says (Line.Migration Stage.Left p)) (to_kernel MessageKind.Restart id.from.home ∷ []) pt h (λ q. tt, tt)
-again_walks p to id (i ∷ is) pt h = (tt, λ next s. again_walks p to id is next (again_rides (λ q. Leaving q.view p) (leaving_rides p) pt next i to s h))
+again_walks p to id (i ∷ is) pt h = (tt, λ next s. again_walks p to id is next (again_rides (λ q. Leaving q.view p) (search arith) pt next i to s h))
 
 leaves_walks : (pt : Point) (id : MsgId) (p : Pid) (ids : List MsgId) (to : ℕ) → pt.view.known pt.view.acting p ≡ Frozen to → is_server p ≡ false → Walks pt (left_parts id p ids to)
 leaves_walks pt id p ids to known server = (
@@ -24,10 +20,6 @@ leaves_walks pt id p ids to known server = (
       let left : Leaving (moved pt (Line.SentOn p (length ids)) k.kernel).view p = (search (arith, at_record_at)) in
       again_walks p to id ids next (subst (λ (q : Point). Leaving q.view p) k.is left),
 )
-
--- what a kernel is told
-piece_walks : (pt : Point) (id : MsgId) (k : MessageKind) → Walks pt (Says (Line.Proto id) ∷ to_kernel k id.from.home ∷ [])
-piece_walks pt id k = loose_walks (Says (Line.Proto id) ∷ to_kernel k id.from.home ∷ []) pt (λ q. tt, (λ q. tt, tt))
 
 -- a process of which this kind is due is not here, and away where it is asked for
 pub record Expects (v : View) (p : Pid) (k : MessageKind) : Type 0 where
@@ -77,10 +69,6 @@ pub record Begins (o : Point) (m : ℕ) : Type 0 where
   pub rooted : Rooted o
   pub state : State None (turned o m)
 
-walks_of : (pt : Point) (x : Option (List Part)) → ((ps : List Part) → x ≡ Some ps → Walks pt ps) → WalksOf pt x
-walks_of pt None h = tt
-walks_of pt (Some ps) h = h ps refl
-
 hears_walks : (b : Boot) (o : Point) (m : ℕ) (i : MsgId) (is : List MsgId) (q : Option Told) → Begins o m → o.view.inbox m ≡ i ∷ is → o.view.told i ≡ q → WalksOf (turned o m) (rule.hears b o m i q)
 hears_walks b o m i is q h front told = walks_of (turned o m) (rule.hears b o m i q) (λ ps. by_hears (Walks (turned o m)) b o m i q ps (λ t there. (
     let pt = turned o m in
@@ -97,11 +85,11 @@ hears_walks b o m i is q h front told = walks_of (turned o m) (rule.hears b o m 
             stays = λ kind free. first_walks (Says (Line.Stays p)) [] pt (lived, e.off (ap is_between kind)) tt;
             stays_asked = λ kind n noted. first_walks (Says (Line.Stays p)) (answers_move n.id Outcome.Stayed) pt (lived, e.off (ap is_between kind)) (λ q. tt, (λ q. tt, tt));
             restarted_asked = λ kind n noted. first_walks (Says (Line.Migration Stage.Restarted p)) (answers_move n.id Outcome.Done) pt (lived, e.off (ap is_between kind)) (λ q. tt, (λ q. tt, tt));
-            state = piece_walks pt i MessageKind.State;
-            next_chunk = piece_walks pt i MessageKind.PullState;
+            state = loose_walks (Says (Line.Proto i) ∷ to_kernel MessageKind.State i.from.home ∷ []) pt (λ q. tt, (λ q. tt, tt));
+            next_chunk = loose_walks (Says (Line.Proto i) ∷ to_kernel MessageKind.PullState i.from.home ∷ []) pt (λ q. tt, (λ q. tt, tt));
             last_chunk = loose_walks (Says (Line.Migration Stage.StateTaken p) ∷ to_kernel MessageKind.PullBlock i.from.home ∷ []) pt (λ q. tt, (λ q. tt, tt));
-            memory = piece_walks pt i MessageKind.Memory;
-            next_block = piece_walks pt i MessageKind.PullBlock;
+            memory = loose_walks (Says (Line.Proto i) ∷ to_kernel MessageKind.Memory i.from.home ∷ []) pt (λ q. tt, (λ q. tt, tt));
+            next_block = loose_walks (Says (Line.Proto i) ∷ to_kernel MessageKind.PullBlock i.from.home ∷ []) pt (λ q. tt, (λ q. tt, tt));
             last_block = loose_walks (Says (Line.Migration Stage.MemoryTaken p) ∷ to_kernel MessageKind.AllTaken i.from.home ∷ []) pt (λ q. tt, (λ q. tt, tt));
             left = λ ids to leaves. leaves_walks pt i p ids to leaves.known lived.server;
             restarted = λ kind free. first_walks (Says (Line.Migration Stage.Restarted p)) [] pt (lived, e.off (ap is_between kind)) tt;
@@ -118,13 +106,6 @@ hears_walks b o m i is q h front told = walks_of (turned o m) (rule.hears b o m 
           (known_living o.kernel o.view m t.receiver h.known at_.server at_.known, at_.known) (λ q. tt, (λ q. tt, tt));
     }
     )))
-
--- the other directives
-net_needs : (l : Line) → IsNetLine l → (pt : Point) → Needs pt l
-net_needs l h1 pt = search arith
-
-net_loose : (ps : List Part) → IsNet ps → AllLoose ps
-net_loose = by_net AllLoose tt (λ l ps net h. (net_needs l net, h)) (λ a b l ps h. (λ pt. tt, h))
 
 migrates_loose : (o : Point) (p : Pid) → AllLoose (migrates o p)
 migrates_loose o p = by_migrates AllLoose o p (λ pt. tt, tt) (λ pt. tt, tt) (λ n off is. (λ pt. tt, tt))
@@ -145,8 +126,8 @@ outcome_walks b pt d h known = walks_of (begun pt d) (rule.outcome b pt d) (λ p
       subst (WalksOf (turned pt m)) e (handles_walks b pt m i msg s.sane s.phases s.rooted s.known (record { there = there; told = t; is = told }))
       );
   hears = λ m i is xs box none e. subst (WalksOf (turned pt m)) e (hears_walks b pt m i is (pt.view.told i) (begins pt m h known) box refl);
-  ticks = λ m xs net. loose_walks xs (begun pt (Step.Tick m)) (net_loose xs net);
-  delivers = λ a c k xs net. loose_walks xs (begun pt (Step.Deliver a c k)) (net_loose xs net);
+  ticks = λ m xs net. loose_walks xs (begun pt (Step.Tick m)) ((by_net AllLoose tt (λ l ps net h. ((λ pt. search arith), h)) (λ a b l ps h. (λ pt. tt, h))) xs net);
+  delivers = λ a c k xs net. loose_walks xs (begun pt (Step.Deliver a c k)) ((by_net AllLoose tt (λ l ps net h. ((λ pt. search arith), h)) (λ a b l ps h. (λ pt. tt, h))) xs net);
   asks = λ p m. loose_walks (migrates pt p) (begun pt (Step.Migrate p m)) (migrates_loose pt p);
 }))
 

@@ -2,13 +2,13 @@
 use Rattle.dm_rulelaws.proofs.Names.{◌≡◌, ℕ, ◌+◌, ◌==◌, true, false, not, filter, refl, subst, Option, None, Some, Pid, MsgId, MessageKind, Step, Stage, Label, Reply, Why, OneKernel, Line, View, Told, About, Of, Here, view_after, handled}
 use Rattle.dm_rulelaws.proofs.Names.{receiver_of, is_away, is_here, Point, label_of, kernel_after, moved, hushed, Sane, has_nothing_held, Bool, ap, ◌∙◌, sym, inl, inr, if◌then◌else◌, cases_Bool, false≢true, pid_eq, plain_kind, PlainMessage}
 use Rattle.dm_rulelaws.proofs.Names.{PlainWhat, Alive, Ended, Life, PlainProcess, answer_to, without_message, begun, pid_eq-is, pid_eq-same, is_kill, take, drop, by_step, is_some, seen}
+use Rattle.dm_rule.proofs.Changes.{Lives}
 use Rattle.dm_onekernel.specs.Step as kernel
 use Rattle.dm_rule.specs.View as view
-use Rattle.dm_rulelaws.proofs.Based.Needs.{Resting, Serves, Unborn, Living, Queues, Leaving, Needs, Rides, Keeps}
 use Rattle.dm_onekernel.specs.Kernel as kernels
 use Rattle.dm_onekernel.specs.Pieces as pieces
 use Rattle.dm_onekernel.specs.Service as service
-use Rattle.dm_rule.proofs.Changes.{Lives}
+use Rattle.dm_rulelaws.proofs.Based.Needs.{Resting, Serves, Unborn, Living, Queues, Leaving, Needs, Rides, Keeps}
 
 -- nobody was made, alive or ended
 abbrev pub life_sort : Option Life → Option Bool
@@ -49,9 +49,6 @@ alike_goes s u p x y is e q = elim (cases_Bool (pid_eq p q)) [
   | inl same ↦ ap (λ (c : Bool). life_sort (if c then Some (Alive y) else u.processes q)) same ∙ sym (ap life_sort (ap s.processes (sym (pid_eq-is p q same)) ∙ is))
   | inr apart ↦ ap (λ (c : Bool). life_sort (if c then Some (Alive y) else u.processes q)) apart ∙ ap (λ (f : Pid → Option Life). life_sort (f q)) e
 ]
-
-goes_life : (s : OneKernel) (p : Pid) (x y : PlainProcess) → s.processes p ≡ Some (Alive x) → Alike s (kernel.goes_on s p y)
-goes_life s p x y is = alike_goes s s p x y is refl
 
 -- a kill ends its receiver, and the others leave it alive
 pub record ServedLife (s t : OneKernel) (p : Pid) (w : PlainWhat) : Type 0 where
@@ -94,14 +91,14 @@ step_lives s t l =
     let served : (u : OneKernel) (id : MsgId) (m : PlainMessage) (x : PlainProcess) → l ≡ Label.Served id → Lives s id m x → is_kill (plain_kind m.what) ≡ false → Alike s u → LivesBy s l u =
     λ u id m x is w mild h. by u (Label.Served id) is (record { message = m; there = w.there; process = x; alive = w.alive; served = spared s u m.to m.what mild h }) in
     by_step (LivesBy s l) s t l (record {
-      ran = λ p k x m is w. by (kernel.goes_on s p (kernel.with_machine x m)) (Label.Ran p k) is (goes_life s p x (kernel.with_machine x m) w.alive);
-      replies = λ p n k c d y is w. by (kernel.goes_on s p y) (Label.Call p n c) is (goes_life s p w.so.x y w.so.is.alive);
-      sends = λ p id k m y is same w. by (kernels.with_sent (kernel.goes_on s p y) (Some m)) (Label.Send p id) is (goes_life s p w.so.x y w.so.is.alive);
-      waits = λ p k y is w. by (kernel.goes_on s p y) (Label.Wait p) is (goes_life s p w.so.x y w.so.is.alive);
-      outputs = λ p w k v y is n. by (kernel.goes_on s p y) (Label.Out p w) is (goes_life s p n.so.x y n.so.is.alive);
+      ran = λ p k x m is w. by (kernel.goes_on s p (kernel.with_machine x m)) (Label.Ran p k) is (alike_goes s s p x (kernel.with_machine x m) w.alive refl);
+      replies = λ p n k c d y is w. by (kernel.goes_on s p y) (Label.Call p n c) is (alike_goes s s p w.so.x y w.so.is.alive refl);
+      sends = λ p id k m y is same w. by (kernels.with_sent (kernel.goes_on s p y) (Some m)) (Label.Send p id) is (alike_goes s s p w.so.x y w.so.is.alive refl);
+      waits = λ p k y is w. by (kernel.goes_on s p y) (Label.Wait p) is (alike_goes s s p w.so.x y w.so.is.alive refl);
+      outputs = λ p w k v y is n. by (kernel.goes_on s p y) (Label.Out p w) is (alike_goes s s p n.so.x y n.so.is.alive refl);
       ends = λ p y next is w. by (kernels.with_process s p (Ended y)) (Label.End p y) is (record { process = w.so.x; alive = w.so.is.alive; set = set_life s s p (Ended y) refl });
       receives = λ p id y is w c. by (kernel.goes_on (without_message s id) p y) (Label.Receive p id) is (alike_goes s (without_message s id) p w.x y w.alive refl);
-      refuses = λ p id c d y is w e. by (kernel.goes_on s p y) (Label.Refuse p id c) is (goes_life s p w.x y w.alive);
+      refuses = λ p id c d y is w e. by (kernel.goes_on s p y) (Label.Refuse p id c) is (alike_goes s s p w.x y w.alive refl);
       dropped = λ id m y is w e. by (without_message s id) (Label.Dropped id) is (λ q. refl);
       gone = λ id m y is w v e. by (kernels.with_sent (without_message s id) (Some (answer_to m v))) (Label.Gone id) is (λ q. refl);
       asked = λ id m x machine is w e. by (kernels.with_note (without_message s id) m.to (record { id = id; asker = m.sender })) (Label.Asked id) is (λ q. refl);

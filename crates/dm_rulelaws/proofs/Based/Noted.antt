@@ -1,5 +1,5 @@
 -- What follows a request to move is here on no machine: each group keeps it. Only between two lines of a group it may be here.
-use Rattle.dm_rulelaws.proofs.Names.{forwards_on, gives_piece, updates, IsNet, Addresses, Receiver, plain_kind, own_id, length, manager, ◌≡◌, ℕ, ◌==◌, ◌&&◌, Bool, true, false, List, [], ◌∷◌, ◌++◌, refl, ap, ◌∙◌, sym, subst, ⊤, inl, inr}
+use Rattle.dm_rulelaws.proofs.Names.{forwards_on, gives_piece, updates, Addresses, Receiver, plain_kind, own_id, length, manager, ◌≡◌, ℕ, ◌==◌, ◌&&◌, Bool, true, false, List, [], ◌∷◌, ◌++◌, refl, ap, ◌∙◌, sym, subst, ⊤, inl, inr}
 use Rattle.dm_rulelaws.proofs.Names.{if◌then◌else◌, cases_Bool, false≢true, is_some, Option, None, Some, Pid, pid_of, pid_eq, MsgId, MessageKind, Stage, Boot, Label, OneKernel, PlainMessage, PlainWhat, MoveNote, Outcome, Load, with_sent}
 use Rattle.dm_rulelaws.proofs.Names.{with_note, without_note, without_message, bind, bind-is, first_number, Step, Line, View, Told, Known, Here, Frozen, Incoming, front_of, gone_to, handled, receiver_of, oldest, view_after, after_label}
 use Rattle.dm_rulelaws.proofs.Names.{is_here, is_away, at_record, Point, label_of, kernel_after, after_line, after, moved, Part, Says, Routes, Again, Owns, Transmits, Spelled, lines_of, puts, goes_out, packet_line, behind, spelled}
@@ -186,20 +186,17 @@ puts_calm v b i k q false false x = (tt, tt)
 put_calm : (v : View) (b : ℕ) (i : MsgId) (k : MessageKind) (q : Pid) → AreCalm (puts v b i k q)
 put_calm v b i k q = puts_calm v b i k q (v.acting == b) (goes_out (v.pair v.acting b)) (Load.Data (length (v.pair v.acting b).ids))
 
-one_of : (ls ms : List Line) → Some ls ≡ Some ms → AreCalm ls → AreCalm ms
-one_of ls ms e h = let f : ls ≡ ms = cc in subst AreCalm f h
-
 part_calm : (pt : Point) (p : Part) (ls : List Line) → CalmPart p → lines_of pt p ≡ Some ls → AreCalm ls
-part_calm pt (Says l) ls calm is = one_of (l ∷ []) ls is (calm, tt)
+part_calm pt (Says l) ls calm is = let f : (l ∷ []) ≡ ls = cc in subst AreCalm f (calm, tt)
 part_calm pt (Routes i) ls calm is =
     let c = (pt.addresses (Receiver i)).at in
     let (m, there, last) = bind-is (pt.kernel.bag i) (λ m. Some (puts pt.view (pt.addresses (Receiver i)).at i (plain_kind m.what) m.to)) ls is in
-    one_of (puts pt.view c i (plain_kind m.what) m.to) ls last (put_calm pt.view c i (plain_kind m.what) m.to)
+    let f : (puts pt.view c i (plain_kind m.what) m.to) ≡ ls = cc in subst AreCalm f (put_calm pt.view c i (plain_kind m.what) m.to)
 part_calm pt (Again i b) ls calm is =
     let (t, there, last) = bind-is (pt.view.told i) (λ t. Some (puts pt.view b i t.kind t.receiver)) ls is in
-    one_of (puts pt.view b i t.kind t.receiver) ls last (put_calm pt.view b i t.kind t.receiver)
-part_calm pt (Owns k q b) ls calm is = one_of (puts pt.view b (own_id pt.view) k q) ls is (put_calm pt.view b (own_id pt.view) k q)
-part_calm pt (Transmits a b l) ls calm is = one_of (packet_line pt.view a b l ∷ []) ls is (tt, tt)
+    let f : (puts pt.view b i t.kind t.receiver) ≡ ls = cc in subst AreCalm f (put_calm pt.view b i t.kind t.receiver)
+part_calm pt (Owns k q b) ls calm is = let f : (puts pt.view b (own_id pt.view) k q) ≡ ls = cc in subst AreCalm f (put_calm pt.view b (own_id pt.view) k q)
+part_calm pt (Transmits a b l) ls calm is = let f : (packet_line pt.view a b l ∷ []) ≡ ls = cc in subst AreCalm f (tt, tt)
 
 parts_away : (o : Option Pid) (ps : List Part) (pt : Point) (w : Spelled) → AllCalm ps → spelled pt ps ≡ Some w → At o pt → At o w.point
 parts_away o qs q w calm is = by_parts (λ ps pt v. AllCalm ps → At o pt → At o v.point) (λ pt calm h. h)
@@ -450,16 +447,13 @@ net_calm (Line.Resent m n) h = tt
 net_calm Line.Nothing h = tt
 net_calm _ h = absurd h
 
-nets_calm : (ps : List Part) → IsNet ps → AllCalm ps
-nets_calm = by_net AllCalm tt (λ l ps net h. (net_calm l net, h)) (λ a b l ps h. (tt, h))
-
 outcome_keeps : (b : Boot) (pt : Point) (d : Step) (ps : List Part) → Phased pt → KnownStands pt.kernel pt.view → rule.outcome b pt d ≡ Some ps → Keeps (moved pt (Line.Head d) pt.kernel) ps
 outcome_keeps b pt d ps h known = by_outcome (λ x xs. Keeps (moved pt (Line.Head x) pt.kernel) xs) b pt d ps (record {
   round = λ m xs box e. calm_keeps (turned pt m) xs (round_calm b pt m _ xs e);
   handles = λ m i is msg xs box there e. handles_keeps b pt m i msg xs (begins pt m h known) there e;
   hears = λ m i is xs box none e. hears_keeps b pt m i (pt.view.told i) xs (begins pt m h known) e;
-  ticks = λ m xs net. calm_keeps (moved pt (Line.Head (Step.Tick m)) pt.kernel) xs (nets_calm xs net);
-  delivers = λ a c k xs net. calm_keeps (moved pt (Line.Head (Step.Deliver a c k)) pt.kernel) xs (nets_calm xs net);
+  ticks = λ m xs net. calm_keeps (moved pt (Line.Head (Step.Tick m)) pt.kernel) xs ((by_net AllCalm tt (λ l ps net h. (net_calm l net, h)) (λ a b l ps h. (tt, h))) xs net);
+  delivers = λ a c k xs net. calm_keeps (moved pt (Line.Head (Step.Deliver a c k)) pt.kernel) xs ((by_net AllCalm tt (λ l ps net h. (net_calm l net, h)) (λ a b l ps h. (tt, h))) xs net);
   asks = λ p m. calm_keeps (moved pt (Line.Head (Step.Migrate p m)) pt.kernel) (migrates pt p) (by_migrates AllCalm pt p (tt, tt) (tt, tt) (λ n off is. (tt, tt)));
 })
 

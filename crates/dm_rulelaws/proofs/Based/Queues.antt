@@ -3,13 +3,13 @@ use Rattle.dm_rulelaws.proofs.Names.{◌≡◌, ℕ, ◌≤◌, Bool, true, fals
 use Rattle.dm_rulelaws.proofs.Names.{Spelled, Point, first_point, group_of, at_record, without_id, without_front, to_of, Spot, Queue, times, standing, StandsAsBag, View, Told, handled, receiver_of, served_told, is_kernels, letters}
 use Rattle.dm_rulelaws.proofs.Names.{letters_bag, kernels_fresh, Phased, told_some, KnownStands, zero_cases, ◌+◌, ap, if◌then◌else◌, Label, Line, Stage, Known, Here, Frozen, Incoming, handled_first, front_of, gone_to, rejoins, is_away}
 use Rattle.dm_rulelaws.proofs.Names.{ListsStand, has_no_queue, has_nothing_held, is_kill, aim, sets}
+use Rattle.dm_rule.specs.View.{Ended}
 use Rattle.dm_message.specs.Plain as what
 use Rattle.dm_rule.specs.View as view
 use Rattle.dm_rulelaws.proofs.Queued.{IsQueued, is_user}
 use Rattle.dm_rulelaws.proofs.Based.Groups.{group_keeps}
 use Rattle.dm_rulelaws.proofs.Based.Loud.{Loud, keeps_by, Stays}
 use Rattle.dm_rulelaws.proofs.Based.Sets.{set_all, killed_or, without_fewer, front_fewer, last_of}
-use Rattle.dm_rule.specs.View.{Ended}
 use Rattle.dm_rulelaws.proofs.Based.Needs.{Serves}
 
 -- a user message for this process, and no kernel's own
@@ -59,9 +59,6 @@ waits_queue v p xs mine h = record { queue = set_all (AreUsers v.told) v.queue v
 waits_held : (v : View) (p : Pid) (xs : List MsgId) → AreFor v.told v.acting p xs → Waits v → Waits (record v { held = at_record v.held v.acting p xs })
 waits_held v p xs mine h = record { queue = h.queue; held = set_all (AreFor v.told) v.held v.acting p xs mine (λ n q off. h.held n q) }
 
-waits_handled : (v : View) (id : MsgId) → Waits v → Waits (handled v id)
-waits_handled v id h = record { queue = h.queue; held = h.held }
-
 waits_dropped : (v : View) (id : MsgId) (o : Option Pid) → Waits v → Waits (view.dropped_for v id o)
 waits_dropped v id None h = h
 waits_dropped v id (Some p) h = waits_queue v p (without_front id (v.queue v.acting p)) (λ i least. h.queue v.acting p i (front_fewer i id (v.queue v.acting p) least)) h
@@ -100,11 +97,11 @@ waits_loud = record {
       record { queue = k.queue; held = k.held };
   refuse = λ pt t p id c here alike sane is h. record { queue = h.queue; held = h.held };
   end = λ pt t p y rests sane is h. record { queue = h.queue; held = h.held };
-  dropped = λ pt t id alike sane is h. waits_dropped (handled pt.view id) id (receiver_of (pt.view.told id)) (waits_handled pt.view id h);
-  served = λ pt t id serves sane is h. waits_served (handled pt.view id) (pt.view.told id) (waits_handled pt.view id h);
+  dropped = λ pt t id alike sane is h. waits_dropped (handled pt.view id) id (receiver_of (pt.view.told id)) (record { queue = h.queue; held = h.held });
+  served = λ pt t id serves sane is h. waits_served (handled pt.view id) (pt.view.told id) (record { queue = h.queue; held = h.held });
   created = λ pt t id p unborn sane is h. record { queue = h.queue; held = h.held };
-  queued = λ pt id need sane h. waits_queued (handled pt.view id) id (pt.view.told id) refl (λ t e. let n = need t e in (n.kind, n.other)) (waits_handled pt.view id h);
-  held = λ pt id need sane h. waits_held_for (handled pt.view id) id (pt.view.told id) refl (waits_handled pt.view id h);
+  queued = λ pt id need sane h. waits_queued (handled pt.view id) id (pt.view.told id) refl (λ t e. let n = need t e in (n.kind, n.other)) (record { queue = h.queue; held = h.held });
+  held = λ pt id need sane h. waits_held_for (handled pt.view id) id (pt.view.told id) refl (record { queue = h.queue; held = h.held });
   frozen = λ pt p lives here h. let set = sets pt.view p pt.view.topic in waits_as pt.view (view.after_stage pt.view p Stage.Frozen) set.queue set.held set.told h;
   accepted = λ pt p lives away h. record { queue = h.queue; held = h.held };
   left = λ pt p leaves h. record { queue = h.queue; held = h.held };
@@ -126,14 +123,11 @@ users_are : (w : PlainWhat) → plain_kind w ≡ MessageKind.User → is_user w 
 users_are (what.User code channel body links) e = refl
 users_are _ e = cc
 
-entered_of : (pt : Point) (h : Phased pt) (i : MsgId) (t : Told) → pt.view.told i ≡ Some t → is_kernels i ≡ false → 1 ≤ h.state.e i
-entered_of pt h i t told other = search (arith, zero_cases, h.state.e, h.state.untold)
-
 pub queued_of : (pt : Point) (h : Phased pt) → Waits pt.view → (n : ℕ) (p : Pid) (i : MsgId) → 1 ≤ times i (pt.view.queue n p) → IsQueued (h.state.e i) p (pt.kernel.bag i)
 queued_of pt h waits n p i least =
     let u = waits.queue n p i least in
     record {
-      entered = entered_of pt h i u.what u.is u.other;
+      entered = search (arith, zero_cases, h.state.e, h.state.untold, u.is, u.other);
       is = λ x there. (sym (h.sane.tells.receiver i x u.what there u.is) ∙ u.receiver, users_are x.what (sym (h.sane.tells.kind i x u.what there u.is) ∙ u.kind));
     }
 
@@ -282,9 +276,6 @@ lists_loud = record {
       let v = pt.view in
       record { queue = set_all (NoQueue v) v.queue v.acting p [] (λ e. refl) (λ n r off. h.queue n r); held = set_all (NoneHeld v) v.held v.acting p [] (λ e. refl) (λ n r off. h.held n r) };
 }
-
-pub lists_start : (b : Boot) → ListsStand (first_point b).view
-lists_start b = record { queue = λ m p e. refl; held = λ m p e. refl }
 
 pub lists_group : (b : Boot) (pt : Point) (d : Step) (w : Spelled) → group_of b pt d ≡ Some w → Phased pt → KnownStands pt.kernel pt.view → ListsStand pt.view → ListsStand w.point.view
 lists_group b pt d w is phased known h = group_keeps (λ q. ListsStand q.view) (keeps_by (λ q. ListsStand q.view) lists_loud) b pt d w is phased known h

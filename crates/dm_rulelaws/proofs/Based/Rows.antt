@@ -27,7 +27,7 @@ resting v p h here =
 pub living : (pt : Point) (p : Pid) (x : PlainProcess) → Sane pt → kernel.alive (pt.kernel.processes p) ≡ Some x → Living pt.kernel p
 living pt p x h e = search (arith, pt.kernel.processes, alive-is, not_server, pt.kernel, h.sound.made)
 
-walks_of : (pt : Point) (x : Option (List Part)) → ((ps : List Part) → x ≡ Some ps → Walks pt ps) → WalksOf pt x
+pub walks_of : (pt : Point) (x : Option (List Part)) → ((ps : List Part) → x ≡ Some ps → Walks pt ps) → WalksOf pt x
 walks_of pt None h = tt
 walks_of pt (Some ps) h = h ps refl
 

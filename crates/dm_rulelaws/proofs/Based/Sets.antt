@@ -1,6 +1,7 @@
 -- A value set for one process on one machine, lists with messages taken out, how often a process stands in a ring, and what a kill may do.
-use Rattle.dm_rulelaws.proofs.Names.{◌≡◌, ℕ, ◌≤◌, ◌==◌, ◌&&◌, Bool, true, false, List, [], ◌∷◌, ◌++◌, refl, arith, if◌then◌else◌, Some, Pid, pid_eq, MsgId, id_eq, MessageKind, id_eq-is, pid_eq-is, at_record, without_id, without_front}
+use Rattle.dm_rulelaws.proofs.Names.{◌≡◌, ℕ, ◌≤◌, ◌==◌, ◌&&◌, Bool, true, false, List, [], ◌∷◌, ◌++◌, refl, arith, if◌then◌else◌, Some, Pid, pid_eq, MsgId, MessageKind, id_eq-is, pid_eq-is, at_record, without_id, without_front}
 use Rattle.dm_rulelaws.proofs.Names.{times, View, kills, ended, parts, eq_is, is_kill, times-append, ◌+◌, not, ap, ◌∙◌, sym, pid_eq-same, pid_eq-swap, at_machine, without, moved_back, rings}
+use Rattle.dm_rulelaws.proofs.Names.{id_eq}
 
 -- one value set: there, and elsewhere
 pub set_all : {X : Type 0} (T : ℕ → Pid → X → Type 0) (f : ℕ → Pid → X) (a : ℕ) (p : Pid) (x : X) → T a p x → ((n : ℕ) (q : Pid) → ((a == n) && pid_eq p q) ≡ false → T n q (f n q)) → (n : ℕ) (q : Pid) → T n q (at_record f a p x n q)
@@ -16,7 +17,7 @@ without_fewer i id (j ∷ js) least = fewer_if i j (id_eq id j) js (without_id i
 
 pub front_fewer : (i id : MsgId) (xs : List MsgId) → 1 ≤ times i (without_front id xs) → 1 ≤ times i xs
 front_fewer i id [] least = least
-front_fewer i id (j ∷ js) least = fewer_if i j (id_eq id j) js js least (λ f. f)
+front_fewer i id (j ∷ js) least = search arith
 
 -- one more at the end
 pub last_of : (T : Type 0) (i id : MsgId) (xs : List MsgId) → 1 ≤ times i (xs ++ id ∷ []) → (1 ≤ times i xs → T) → (i ≡ id → T) → T

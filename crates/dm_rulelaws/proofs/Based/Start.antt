@@ -121,16 +121,6 @@ ring_first b earlier (p ∷ ps) m q h = elim (cases_Bool (pid_eq p.pid q)) [
     never true = refl
     never false = refl
 
--- what they know agrees
-agrees_first : (c : Bool) (o : Option Life) → agrees (if c then known_of_life o else Known.Unknown) o ≡ true
-agrees_first c o = search arith
-
-turns_first : (c : Bool) (o : Option Life) → one_if (c && is_alive o) ≡ turns_here false (if c then known_of_life o else Known.Unknown)
-turns_first c o = search arith
-
-some_first : (o : Option Life) → is_some o ≡ true → known_of_life o ≢ Known.Unknown
-some_first o h1 = search arith
-
 is_first : (b : Boot) (m : ℕ) (q : Pid) (c : Bool) → IsValid b → is_server q ≡ c → known_at b.processes m q ≡ (if q.home == m then (if c then Known.Here else known_of_life (life_at b b.processes q)) else Known.Unknown)
 is_first b m q c valid e = known_first b [] b.processes m q valid.processes ∙ ap (λ (x : Bool). if q.home == m then (if x then Known.Here else known_of_life (life_at b b.processes q)) else Known.Unknown) e
 
@@ -155,7 +145,14 @@ ring_by b m q true valid e =
     never true = refl
     never false = refl
 ring_by b m q false valid e =
-    ring_first b [] b.processes m q valid.processes ∙ turns_first (q.home == m) (life_at b b.processes q) ∙ ap (turns_here false) (sym (is_first b m q false valid e))
+    ring_first b [] b.processes m q valid.processes ∙ search arith ∙ ap (turns_here false) (sym (is_first b m q false valid e))
+
+-- what they know agrees
+agrees_first : (c : Bool) (o : Option Life) → agrees (if c then known_of_life o else Known.Unknown) o ≡ true
+agrees_first c o = search arith
+
+some_first : (o : Option Life) → is_some o ≡ true → known_of_life o ≢ Known.Unknown
+some_first o h1 = search arith
 
 pub known_start : (b : Boot) → IsValid b → KnownStands (first_point b).kernel (first_point b).view
 known_start b valid = record {

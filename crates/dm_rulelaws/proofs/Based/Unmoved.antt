@@ -1,11 +1,16 @@
 -- What was never made has never moved: each group keeps it.
 use Rattle.dm_rulelaws.proofs.Names.{sets, ◌≡◌, ℕ, ◌+◌, Bool, refl, ap, ◌∙◌, sym, subst, inl, inr, if◌then◌else◌, cases_Bool, Option, None, Some, Pid, pid_eq, MsgId, Boot, Label, Line, Stage, PlainProcess, Alive, OneKernel, Step, pid_eq-is}
-use Rattle.dm_rulelaws.proofs.Names.{after_step, Spelled, Point, first_point, kernel_after, label_of, group_of, View, Told, handled, receiver_of, served_told, view_after, Kept, grown_none, Phased, Sane, KnownStands}
+use Rattle.dm_rulelaws.proofs.Names.{after_step, Spelled, Point, kernel_after, label_of, group_of, View, Told, handled, receiver_of, served_told, view_after, Kept, grown_none, Phased, Sane, KnownStands, ◌≢◌, ◌==◌, ◌&&◌, true}
+use Rattle.dm_rulelaws.proofs.Names.{false, List, [], ◌∷◌, ◌++◌, is_some, arith, false≢true, nat_tests, Life, bind-is, completing, at_machine, at_record, without, moved_back, Known, Unknown, Here, Frozen, Incoming, Forward, handled_first}
+use Rattle.dm_rulelaws.proofs.Names.{front_of, gone_to, rejoins, is_away, is_here, at_machine_at, is_kill, is_server, agrees, server_at, rings, turns_here, aim, at_hand-is, bind}
+use Rattle.dm_rule.specs.View.{Ended}
 use Rattle.dm_onekernel.specs.Step as kernel
 use Rattle.dm_rule.specs.View as view
 use Rattle.dm_rulelaws.proofs.Based.Groups.{group_keeps}
-use Rattle.dm_rulelaws.proofs.Based.Loud.{Loud, keeps_by}
-use Rattle.dm_rulelaws.proofs.Based.Sets.{killed_or}
+use Rattle.dm_rulelaws.proofs.Based.Loud.{Loud, keeps_by, Alike, SetLife, life_sort, some_alike, step_ends, step_serves, step_creates}
+use Rattle.dm_rulelaws.proofs.Based.Sets.{killed_or, rings_without, rings_others, back_self, back_others, last_self, last_others, ring_set, set_all}
+use Rattle.dm_rulelaws.proofs.Based.Needs.{Resting, Serves}
+use Rattle.dm_rulelaws.proofs.Based.Rows.{living}
 
 pub record Unmoved (s : OneKernel) (v : View) : Type 0 where
   pub none : (p : Pid) → s.processes p ≡ None → v.moves p ≡ 0
@@ -75,8 +80,261 @@ unmoved_loud = record {
   sent_on = λ pt p n h. record { none = h.none };
 }
 
-pub unmoved_start : (b : Boot) → Unmoved (first_point b).kernel (first_point b).view
-unmoved_start b = record { none = λ p none. refl }
-
 pub unmoved_group : (b : Boot) (pt : Point) (d : Step) (w : Spelled) → group_of b pt d ≡ Some w → Phased pt → KnownStands pt.kernel pt.view → Unmoved pt.kernel pt.view → Unmoved w.point.kernel w.point.view
 unmoved_group b pt d w is phased known h = group_keeps (λ q. Unmoved q.kernel q.view) (keeps_by (λ q. Unmoved q.kernel q.view) unmoved_loud) b pt d w is phased known h
+
+-- What machines know of processes agrees with the kernel without machines: each group keeps it.
+
+-- what a machine knows agrees by whether a process was made, lives or has ended
+agrees_by : Known → Option Bool → Bool
+agrees_by Unknown o = true
+agrees_by (Forward at moves) (Some b) = true
+agrees_by Ended (Some true) = false
+agrees_by Ended (Some false) = true
+agrees_by _ None = false
+agrees_by _ (Some true) = true
+agrees_by _ (Some false) = false
+
+by_sort : (k : Known) (o : Option Life) → agrees k o ≡ agrees_by k (life_sort o)
+unfolding agrees_by
+by_sort Unknown o = refl
+by_sort Here None = refl
+by_sort Here (Some (Alive x)) = refl
+by_sort Here (Some (Life.Ended y)) = refl
+by_sort (Frozen to) None = refl
+by_sort (Frozen to) (Some (Alive x)) = refl
+by_sort (Frozen to) (Some (Life.Ended y)) = refl
+by_sort (Incoming from) None = refl
+by_sort (Incoming from) (Some (Alive x)) = refl
+by_sort (Incoming from) (Some (Life.Ended y)) = refl
+by_sort (Forward at moves) None = refl
+by_sort (Forward at moves) (Some (Alive x)) = refl
+by_sort (Forward at moves) (Some (Life.Ended y)) = refl
+by_sort Ended None = refl
+by_sort Ended (Some (Alive x)) = refl
+by_sort Ended (Some (Life.Ended y)) = refl
+
+agrees_alike : (k : Known) (a b : Option Life) → life_sort a ≡ life_sort b → agrees k a ≡ agrees k b
+agrees_alike k a b e = by_sort k a ∙ ap (agrees_by k) e ∙ sym (by_sort k b)
+
+here_agrees : (o : Option Life) → life_sort o ≡ Some true → agrees Here o ≡ true
+here_agrees o h1 = search arith
+
+frozen_some : (d : ℕ) (o : Option Life) → agrees (Frozen d) o ≡ true → is_some o ≡ true
+frozen_some d None f = absurd (false≢true f)
+frozen_some d (Some l) f = refl
+
+turns_off : (c : Bool) (k : Known) → is_here k ≡ false → turns_here c k ≡ 0
+turns_off true k e = refl
+turns_off false k e = ap (λ (b : Bool). if b then 1 else 0) e
+
+away_off : (k : Known) → is_away k ≡ true → is_here k ≡ false
+away_off Here e = absurd (false≢true e)
+away_off _ e = refl
+
+-- nothing is learnt, and nobody ends
+known_same : (s t : OneKernel) (v w : View) → Alike s t → w.known ≡ v.known → ((m : ℕ) (q : Pid) → rings q (w.ring m) ≡ rings q (v.ring m)) → KnownStands s v → KnownStands t w
+known_same s t v w alike known ring h = search (arith, h.server, t.processes, agrees_alike, v.known, s.processes, h.agree, h.home, some_alike, h.ring)
+
+known_as : (s t : OneKernel) (v w : View) → Alike s t → w.known ≡ v.known → w.ring ≡ v.ring → KnownStands s v → KnownStands t w
+known_as s t v w alike known ring h = known_same s t v w alike known (λ m q. ap (λ (f : ℕ → List Pid). rings q (f m)) ring) h
+
+-- the acting machine learns something of a process
+record Learnt (s t : OneKernel) (v w : View) (p : Pid) (k : Known) : Type 0 where
+  server : is_server p ≡ false
+  known : w.known ≡ at_record v.known v.acting p k
+  others : (q : Pid) → pid_eq p q ≡ false → life_sort (t.processes q) ≡ life_sort (s.processes q)
+  mine : agrees k (t.processes p) ≡ true
+  away : (n : ℕ) → (v.acting == n) ≡ false → agrees (v.known n p) (t.processes p) ≡ true
+  some : k ≢ Unknown
+  far : (v.acting == p.home) ≡ false → is_some (s.processes p) ≡ true
+  ring : rings p (w.ring v.acting) ≡ turns_here false k
+  rings_ : (m : ℕ) (q : Pid) → ((v.acting == m) && pid_eq p q) ≡ false → rings q (w.ring m) ≡ rings q (v.ring m)
+
+off_first : (a c : Bool) → (a && c) ≡ false → c ≡ true → a ≡ false
+off_first true c e f = absurd (false≢true (sym e ∙ f))
+off_first false c e f = refl
+
+known_learns : (s t : OneKernel) (v w : View) (p : Pid) (k : Known) → Learnt s t v w p k → KnownStands s v → KnownStands t w
+known_learns s t v w p k l h = record {
+  server = λ m q e. ap (λ (f : ℕ → Pid → Known). f m q) l.known
+      ∙ set_all (λ n r x. is_server r ≡ true → x ≡ server_at n) v.known v.acting p k (λ e_. absurd (false≢true (sym l.server ∙ e_))) (λ n r off. h.server n r) m q e;
+  agree = λ m q e. ap (λ (f : ℕ → Pid → Known). agrees (f m q) (t.processes q)) l.known
+      ∙ set_all (λ n r x. is_server r ≡ false → agrees x (t.processes r) ≡ true) v.known v.acting p k (λ e_. l.mine)
+      (λ n r off e_. elim (cases_Bool (pid_eq p r)) [
+        | inl same ↦ subst (λ (x : Pid). agrees (v.known n x) (t.processes x) ≡ true) (pid_eq-is p r same) (l.away n (off_first (v.acting == n) (pid_eq p r) off same))
+        | inr apart ↦ agrees_alike (v.known n r) (t.processes r) (s.processes r) (l.others r apart) ∙ h.agree n r e_
+      ]) m q e;
+  home = λ q e some unknown. set_all (λ n r x. n ≡ r.home → is_server r ≡ false → is_some (t.processes r) ≡ true → x ≢ Unknown) v.known v.acting p k (λ at e_ some_. l.some)
+      (λ n r off at e_ some_. elim (cases_Bool (pid_eq p r)) [
+        | inl same ↦
+            let is = pid_eq-is p r same in
+            let home : n ≡ p.home = at ∙ ap (λ (x : Pid). x.home) (sym is) in
+            let there : is_some (s.processes p) ≡ true = l.far (ap (λ (i : ℕ). v.acting == i) (sym home) ∙ off_first (v.acting == n) (pid_eq p r) off same) in
+            (λ z. h.home p l.server there (ap (λ (i : ℕ). v.known i p) (sym home) ∙ ap (v.known n) is ∙ z))
+        | inr apart ↦
+            let there : is_some (s.processes r) ≡ true = sym (some_alike (t.processes r) (s.processes r) (l.others r apart)) ∙ some_ in
+            (λ z. h.home r e_ there (ap (λ (i : ℕ). v.known i r) (sym at) ∙ z))
+      ]) q.home q refl e some (sym (ap (λ (f : ℕ → Pid → Known). f q.home q) l.known) ∙ unknown);
+  ring = λ m q. set_all (λ n r x. rings r (w.ring n) ≡ turns_here (is_server r) x) v.known v.acting p k (l.ring ∙ ap (λ (c : Bool). turns_here c k) (sym l.server)) (λ n r off. l.rings_ n r off ∙ h.ring n r) m q
+      ∙ ap (λ (f : ℕ → Pid → Known). turns_here (is_server q) (f m q)) (sym l.known);
+}
+
+-- one machine's ring
+ring_there : (f : ℕ → List Pid) (a : ℕ) (p : Pid) (zs : List Pid) → rings p (at_machine f a zs a) ≡ rings p zs
+ring_there f a p zs = ap (rings p) (at_machine_at f a zs)
+
+ring_off : (f : ℕ → List Pid) (a : ℕ) (p : Pid) (zs : List Pid) → ((q : Pid) → pid_eq p q ≡ false → rings q zs ≡ rings q (f a)) → (m : ℕ) (q : Pid) → ((a == m) && pid_eq p q) ≡ false → rings q (at_machine f a zs m) ≡ rings q (f m)
+ring_off f a p zs others m q off = search (arith, off_first, ring_set)
+
+-- a served process goes to its ring's back
+serving_ring : (s : OneKernel) (v : View) (p : Pid) → KnownStands s v → is_server p ≡ false → v.known v.acting p ≡ Here → (m : ℕ) (q : Pid) → rings q (at_machine v.ring v.acting (moved_back p (v.ring v.acting)) m) ≡ rings q (v.ring m)
+serving_ring s v p h server here m q =
+    let f = v.ring in
+    let a = v.acting in
+    let one : rings p (f a) ≡ 1 = h.ring a p ∙ ap (λ (k : Known). turns_here (is_server p) k) here ∙ ap (λ (c : Bool). turns_here c Here) server in
+    elim (cases_Bool (pid_eq p q)) [
+      | inl same ↦ subst (λ (r : Pid). rings r (at_machine f a (moved_back p (f a)) m) ≡ rings r (f m)) (pid_eq-is p q same) (ring_set f a (moved_back p (f a)) p (back_self p (f a) ∙ sym one) m)
+      | inr apart ↦ ring_set f a (moved_back p (f a)) q (back_others p q (f a) apart) m
+    ]
+
+-- a process ends
+ends_known : (s t : OneKernel) (v : View) (p : Pid) → is_server p ≡ false → is_some (s.processes p) ≡ true → SetLife s t p (Some false) → Resting v p → KnownStands s v → KnownStands t (view.ended v p)
+ends_known s t v p server some set rests h = known_learns s t v (view.ended v p) p Ended (record {
+  server = server;
+  known = refl;
+  others = set.off;
+  mine = search arith;
+  away = λ n off. search arith;
+  some = λ e. cc;
+  far = λ e. some;
+  ring = ring_there v.ring v.acting p (without p (v.ring v.acting)) ∙ rings_without p (v.ring v.acting);
+  rings_ = ring_off v.ring v.acting p (without p (v.ring v.acting)) (λ q apart. rings_others p q (v.ring v.acting) apart);
+}) h
+
+-- a process is here, at its ring's back
+comes_known : (s t : OneKernel) (v w : View) (p : Pid) → is_server p ≡ false → w.known ≡ at_record v.known v.acting p Here → w.ring ≡ at_machine v.ring v.acting (v.ring v.acting ++ p ∷ []) → SetLife s t p (Some true)
+    → ((n : ℕ) → (v.acting == n) ≡ false → agrees (v.known n p) (t.processes p) ≡ true) → ((v.acting == p.home) ≡ false → is_some (s.processes p) ≡ true) → is_here (v.known v.acting p) ≡ false → KnownStands s v → KnownStands t w
+comes_known s t v w p server known ring set away far off h =
+    let zs = v.ring v.acting ++ p ∷ [] in
+    let none : rings p (v.ring v.acting) ≡ 0 = h.ring v.acting p ∙ turns_off (is_server p) (v.known v.acting p) off in
+    known_learns s t v w p Here (search (arith, set.off, here_agrees, t.processes, set.at_, v.acting, ring_there, v.ring, last_self, ring_off, last_others)) h
+
+alive_set : (s : OneKernel) (p : Pid) (x : PlainProcess) → s.processes p ≡ Some (Alive x) → SetLife s s p (Some true)
+alive_set s p x e = record { at_ = ap life_sort e; off = λ q apart. refl }
+
+-- the lines
+ran_living : (s t : OneKernel) (p : Pid) (k : ℕ) → kernel.step s (Label.Ran p k) ≡ Some t → (x : PlainProcess) × (kernel.alive (s.processes p) ≡ Some x)
+ran_living s t p k is =
+    let (x, runs, rest) = bind-is (kernel.running s p) (λ (w : PlainProcess). bind (kernel.plain_steps k (kernel.machine_of w)) (λ (m : kernel.Machine). Some (kernel.goes_on s p (kernel.with_machine w m)))) t is in
+    let (y, hand, ready) = bind-is (kernel.at_hand s p) (λ v. kernel.if_ready v v.status) x runs in
+    (y, ap kernel.alive (at_hand-is s p y hand).1)
+
+served_known : (s t : OneKernel) (v : View) (told : Told) → is_server told.receiver ≡ false → is_some (s.processes told.receiver) ≡ true → (is_kill told.kind ≡ true → SetLife s t told.receiver (Some false)) → (is_kill told.kind ≡ false → Alike s t)
+    → (is_kill told.kind ≡ true → Resting v told.receiver) → KnownStands s v → KnownStands t (served_told v (Some told))
+served_known s t v told server some kill other rests h =
+    killed_or (KnownStands t) told.kind v told.receiver (λ k. ends_known s t v told.receiver server some (kill k) (rests k) h) (λ k. known_as s t v v (other k) refl refl h)
+
+served_line : (pt : Point) (t : OneKernel) (id : MsgId) → Serves pt.view id → Sane pt → kernel.step pt.kernel (Label.Served id) ≡ Some t → KnownStands pt.kernel pt.view → KnownStands t (view_after pt.view (Line.Label (Label.Served id)))
+served_line pt t id serves sane is h =
+    let s = pt.kernel in
+    let v = handled pt.view id in
+    let l = step_serves s t id is in
+    let told = serves.told in
+    let kind : told.kind ≡ _ = sane.tells.kind id l.message told l.there serves.is in
+    let to : told.receiver ≡ l.message.to = sane.tells.receiver id l.message told l.there serves.is in
+    let lives = living pt l.message.to l.process sane (ap kernel.alive l.alive) in
+    let k : KnownStands s v = record { server = h.server; agree = h.agree; home = h.home; ring = h.ring } in
+    search (arith, serves.is, served_known, lives.server, s.processes, l.alive, l.served.kill, l.served.other, serves.rests)
+
+dropped_known : (s t : OneKernel) (v : View) (id : MsgId) (o : Option Pid) → Alike s t → KnownStands s v → KnownStands t (view.dropped_for v id o)
+dropped_known s t v id None alike h = known_as s t v v alike refl refl h
+dropped_known s t v id (Some p) alike h = known_as s t v (view.dropped_for v id (Some p)) alike refl refl h
+
+queued_known : (s : OneKernel) (v : View) (id : MsgId) (o : Option Pid) → KnownStands s v → KnownStands s (view.queued_for v id o)
+queued_known s v id None h = h
+queued_known s v id (Some p) h = record { server = h.server; agree = h.agree; home = h.home; ring = h.ring }
+
+held_known : (s : OneKernel) (v : View) (id : MsgId) (o : Option Pid) → KnownStands s v → KnownStands s (view.held_for v id o)
+held_known s v id None h = h
+held_known s v id (Some p) h = record { server = h.server; agree = h.agree; home = h.home; ring = h.ring }
+
+handled_known : (s : OneKernel) (v : View) (id : MsgId) → KnownStands s v → KnownStands s (handled v id)
+handled_known s v id h = record { server = h.server; agree = h.agree; home = h.home; ring = h.ring }
+
+home_apart : (a b : ℕ) → b ≡ a → (a == b) ≡ false → ⊥
+home_apart a b e off = let k : (a == b) ≡ true = grind (arith, nat_tests) in false≢true (sym off ∙ k)
+
+known_loud : Loud (λ pt. KnownStands pt.kernel pt.view)
+known_loud = record {
+  rides = record {
+    put = λ pt a b i k q h. record { server = h.server; agree = h.agree; home = h.home; ring = h.ring };
+    packet = λ pt a b k l h. record { server = h.server; agree = h.agree; home = h.home; ring = h.ring };
+  };
+  quiet = λ pt w t l e s told alike sane is h. subst (KnownStands t) (sym e) (known_as pt.kernel t pt.view w alike s.known s.ring h);
+  ran = λ pt t p k here alike sane is h.
+      let (x, alive) = ran_living pt.kernel t p k is in
+      known_same pt.kernel t pt.view (view_after pt.view (Line.Label (Label.Ran p k))) alike refl (serving_ring pt.kernel pt.view p h (living pt p x sane alive).server here) h;
+  receive = λ pt t p id here alike sane is h.
+      let (c, done, last) = bind-is (kernel.completing pt.kernel p id) (kernel.receives pt.kernel p id) t is in
+      let x = completing pt.kernel p id c done in
+      known_same pt.kernel t pt.view (view_after pt.view (Line.Label (Label.Receive p id))) alike refl (serving_ring pt.kernel pt.view p h (living pt p x.x sane (ap kernel.alive x.alive)).server here) h;
+  refuse = λ pt t p id r here alike sane is h.
+      let (c, done, last) = bind-is (kernel.completing pt.kernel p id) (kernel.refuses pt.kernel p r) t is in
+      let x = completing pt.kernel p id c done in
+      known_same pt.kernel t pt.view (view_after pt.view (Line.Label (Label.Refuse p id r))) alike refl (serving_ring pt.kernel pt.view p h (living pt p x.x sane (ap kernel.alive x.alive)).server here) h;
+  end = λ pt t p y rests sane is h.
+      let l = step_ends pt.kernel t p y is in
+      ends_known pt.kernel t pt.view p (living pt p l.process sane (ap kernel.alive l.alive)).server (ap is_some l.alive) l.set rests h;
+  dropped = λ pt t id alike sane is h. dropped_known pt.kernel t (handled pt.view id) id (receiver_of (pt.view.told id)) alike (handled_known pt.kernel pt.view id h);
+  served = λ pt t id serves sane is h. served_line pt t id serves sane is h;
+  created = λ pt t id p unborn sane is h.
+      comes_known pt.kernel t pt.view (view_after pt.view (Line.Label (Label.Created id p))) p unborn.server refl refl (step_creates pt.kernel t id p is)
+      (λ n off. ap (λ (k : Known). agrees k (t.processes p)) (unborn.unknown n)) (λ off. absurd (home_apart pt.view.acting p.home unborn.home off)) (ap is_here (unborn.unknown pt.view.acting)) h;
+  queued = λ pt id need sane h. queued_known pt.kernel (handled pt.view id) id (receiver_of (pt.view.told id)) (handled_known pt.kernel pt.view id h);
+  held = λ pt id need sane h. held_known pt.kernel (handled pt.view id) id (receiver_of (pt.view.told id)) (handled_known pt.kernel pt.view id h);
+  frozen = λ pt p lives here h.
+      let v = pt.view in
+      let to = aim v v.topic in
+      let set = sets v p v.topic in
+      known_learns pt.kernel pt.kernel v (view_after v (Line.Migration Stage.Frozen p)) p (Frozen to) (record {
+        server = lives.server;
+        known = set.known;
+        others = λ q apart. refl;
+        mine = ap (agrees (Frozen to)) lives.alive;
+        away = λ n off. h.agree n p lives.server;
+        some = λ e. cc;
+        far = λ e. ap is_some lives.alive;
+        ring = ap (λ (f : ℕ → List Pid). rings p (f v.acting)) set.ring ∙ ring_there v.ring v.acting p (without p (v.ring v.acting)) ∙ rings_without p (v.ring v.acting);
+        rings_ = λ m q off. ap (λ (f : ℕ → List Pid). rings q (f m)) set.ring ∙ ring_off v.ring v.acting p (without p (v.ring v.acting)) (λ r apart. rings_others p r (v.ring v.acting) apart) m q off;
+      }) h;
+  accepted = λ pt p lives away h.
+      let v = pt.view in
+      known_learns pt.kernel pt.kernel v (view_after v (Line.Migration Stage.Accepted p)) p (Incoming (front_of (v.inbox v.acting))) (search (arith, v.inbox, v.acting, turns_off, v.known, away_off)) h;
+  left = λ pt p leaves h.
+      let v = pt.view in
+      let n = v.moves p + 1 in
+      let k : gone_to (v.known v.acting p) n ≡ Forward leaves.to n = ap (λ (x : Known). gone_to x n) leaves.frozen in
+      let agree = h.agree v.acting p leaves.server in
+      known_learns pt.kernel pt.kernel v (view_after v (Line.Migration Stage.Left p)) p (gone_to (v.known v.acting p) n) (record {
+        server = leaves.server;
+        known = refl;
+        others = λ q apart. refl;
+        mine = search arith;
+        away = λ m off. h.agree m p leaves.server;
+        some = λ e. (let f : Forward leaves.to n ≡ Unknown = sym k ∙ e in cc);
+        far = λ e. frozen_some leaves.to (pt.kernel.processes p) (sym (ap (λ (x : Known). agrees x (pt.kernel.processes p)) leaves.frozen) ∙ agree);
+        ring = h.ring v.acting p ∙ turns_off (is_server p) (v.known v.acting p) (ap is_here leaves.frozen) ∙ sym (turns_off false (gone_to (v.known v.acting p) n) (ap is_here k));
+        rings_ = λ m q off. refl;
+      }) h;
+  restarted = λ pt p lives off h.
+      comes_known pt.kernel pt.kernel pt.view (view_after pt.view (Line.Migration Stage.Restarted p)) p lives.server refl refl (alive_set pt.kernel p lives.process lives.alive)
+      (λ n o. h.agree n p lives.server) (λ e. ap is_some lives.alive) off h;
+  stays_ = λ pt p lives off h.
+      comes_known pt.kernel pt.kernel pt.view (rejoins (handled_first pt.view) p) p lives.server refl refl (alive_set pt.kernel p lives.process lives.alive)
+      (λ n o. h.agree n p lives.server) (λ e. ap is_some lives.alive) off h;
+  sent_on = λ pt p n h. record { server = h.server; agree = h.agree; home = h.home; ring = h.ring };
+}
+
+pub known_group : (b : Boot) (pt : Point) (d : Step) (w : Spelled) → group_of b pt d ≡ Some w → Phased pt → KnownStands pt.kernel pt.view → KnownStands w.point.kernel w.point.view
+known_group b pt d w is phased h = group_keeps (λ q. KnownStands q.kernel q.view) (keeps_by (λ q. KnownStands q.kernel q.view) known_loud) b pt d w is phased h h

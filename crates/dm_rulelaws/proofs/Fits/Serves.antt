@@ -4,12 +4,10 @@ use Rattle.dm_rulelaws.proofs.Names.{MsgId, id_of, Reply, PlainMessage, PlainWha
 use Rattle.dm_rulelaws.proofs.Names.{pending_of, One, stayed, Sound, Each, Lives, has_bytes, SlotFits, move_fits, ProcessFits, piece_fits, status_awaits, awaits, WhatFits, KernelFits, inl, inr, cases_Bool, pid_eq, IsPending, MoveNote}
 use Rattle.dm_rulelaws.proofs.Names.{NoteFits, Outcome, PendingKind, note-is, with_note, without_note, Label, id_eq-same, bind, bind-is}
 use Rattle.dm_onekernel.specs.Step as kernel
-use Rattle.dm_rulelaws.proofs.Fits.Creates.{pending_at}
 use Rattle.dm_onekernel.specs.Pieces as pieces
 use Rattle.dm_onekernel.specs.Service as service
-use Rattle.dm_rulelaws.proofs.Fits.Rises.{both, two, move_on, Becomes, set_if, set_fits, set_at, set_rises, out_fits, put_fits, what_on, carries, pending_on, note_on}
-use Rattle.dm_rulelaws.proofs.Fits.Calls.{SentFits, requests_fit}
-use Rattle.dm_rulelaws.proofs.Fits.Steps.{GoesOn, written_longer, becomes, sent_fits}
+use Rattle.dm_rulelaws.proofs.Fits.Creates.{pending_at, GoesOn, written_longer, becomes, sent_fits}
+use Rattle.dm_rulelaws.proofs.Fits.Rises.{both, two, move_on, Becomes, set_if, set_fits, set_at, set_rises, out_fits, put_fits, what_on, carries, pending_on, note_on, piece_less, SentFits, requests_fit}
 
 -- a process that goes on waiting for the same
 pub same_becomes : (s : OneKernel) (p : Pid) (x y : PlainProcess) → s.processes p ≡ Some (Alive x) → y.status ≡ x.status → GoesOn s.processes x y → Becomes s p (Alive y)
@@ -81,9 +79,6 @@ LandedFits ps p x (pieces.Done c y) = GoesOn ps x y
 done_fits : (ps : Lives) (p : Pid) (x z : PlainProcess) (c : _) → length x.memory ≤ length z.memory → z.links ≡ x.links → ProcessFits ps x → LandedFits ps p x (pieces.done c z)
 done_fits ps p x z c le links h = record { memory = le; slots = subst (Each (SlotFits ps)) (sym links) h.slots; move = refl }
 
-piece_less : (left : ℕ) → pieces.piece_of left ≤ left
-piece_less left = grind (arith, nat_tests)
-
 goes_on_by : (ps : Lives) (p : Pid) (x z : PlainProcess) (dir : Direction) (owner : Pid) (base own left : ℕ) (b : Bool) → length x.memory ≤ length z.memory → z.links ≡ x.links → ProcessFits ps x → has_bytes (base + left) (ps owner) ≡ true → nat_le (own + left) (length x.memory) ≡ true
     → LandedFits ps p x (if b then pieces.done Reply.Done z else pieces.next_request (pieces.requests p z dir owner (base + pieces.piece_of left) (own + pieces.piece_of left) (left - pieces.piece_of left)))
 goes_on_by ps p x z dir owner base own left b h1 h2 h3 h4 h5 = grind (arith, nat_tests, done_fits, piece_less, requests_fit, z.memory)
@@ -152,7 +147,7 @@ name_is i p n e f g = λ j. record { from = e j; n = f j; answer = g j }
 answer_is : (i : MsgId) (p : Pid) (n : ℕ) → i.from ≡ p → i.n ≡ n → i.answer ≡ true → i ≡ answer_id (id_of p n)
 answer_is i p n e f g = λ j. record { from = e j; n = f j; answer = g j }
 
-alone : (r e : MsgId → ℕ) (s : OneKernel) (id : MsgId) (m : PlainMessage) (x : PlainProcess) → s.bag id ≡ Some m → s.processes m.to ≡ Some (Alive x) → is_piece m.what ≡ true → pending_of x.status ≡ Some m.id.n → Sound r e s
+pub alone : (r e : MsgId → ℕ) (s : OneKernel) (id : MsgId) (m : PlainMessage) (x : PlainProcess) → s.bag id ≡ Some m → s.processes m.to ≡ Some (Alive x) → is_piece m.what ≡ true → pending_of x.status ≡ Some m.id.n → Sound r e s
     → (i : MsgId) (k : PlainMessage) → (without_message s id).bag i ≡ Some k → i.from ≡ m.to → status_awaits x.status i.n k.what ≡ true → (b : Bool) → b ≡ true
 alone r e s id m x there is piece pending h i k stands from waits b =
     let n = m.id.n in

@@ -4,16 +4,14 @@ use Rattle.dm_rulelaws.proofs.Names.{if◌then◌else◌, slice_get, option_map,
 use Rattle.dm_rulelaws.proofs.Names.{IsValid, switchboard, manager, starting_at, processes_are_valid, process_is_valid, links_are_valid, link_is_valid, leads_to_process, leads_to_server, controls_child, process_named, memory_size}
 use Rattle.dm_rulelaws.proofs.Names.{area_is_empty, blocks_of_image, PlainProcess, Life, Alive, OneKernel, start, begun, memory_of, first_life, life_at, pid_eq-same, Sound, Each, has_bytes, gives_no_right, LinkFits, ProcessFits, KernelFits}
 use Rattle.dm_rulelaws.proofs.Names.{by_step, Changes, PlainMessage, PlainWhat, Why, Called, with_sent, without_message, answer_to, pid_of, first_number, pid_eq-is, WhatFits, MoveNote, NoteFits}
-use Rattle.dm_onekernel.specs.Step as kernel
-use Rattle.dm_rulelaws.proofs.Fits.Rises.{both, Each-on, out_fits, put_fits, end_fits}
-use Rattle.dm_rulelaws.proofs.Fits.Creates.{begun_fits, created_fits, no_space_fits}
-use Rattle.dm_rulelaws.proofs.Fits.Serves.{changed_fits, goes_same, gone_fits, read_fits, write_fits, landed_fits, asked_fits, move_ended_fits}
-use Rattle.dm_rulelaws.proofs.Fits.Servers.{board_row, manager_row}
-use Rattle.dm_rulelaws.proofs.Fits.Steps.{ran_fits, goes_fits, call_goes, send_goes, next_is, completing_is}
 use Rattle.dm_rule.proofs.Changes.{Next}
+use Rattle.dm_onekernel.specs.Step as kernel
 use Rattle.dm_onekernel.specs.Receiving as receiving
 use Rattle.dm_onekernel.specs.Pieces as pieces
-use Rattle.dm_rulelaws.proofs.Fits.Constants.{InOrder}
+use Rattle.dm_rulelaws.proofs.Fits.Rises.{both, Each-on, out_fits, put_fits, end_fits}
+use Rattle.dm_rulelaws.proofs.Fits.Creates.{begun_fits, created_fits, no_space_fits, ran_fits, goes_fits, call_goes, send_goes, next_is, completing_is}
+use Rattle.dm_rulelaws.proofs.Fits.Serves.{changed_fits, goes_same, gone_fits, read_fits, write_fits, landed_fits, asked_fits, move_ended_fits}
+use Rattle.dm_rulelaws.proofs.Fits.Constants.{InOrder, board_row, manager_row}
 
 -- each step keeps that all fits
 abbrev is_ran : Label → Bool
@@ -106,12 +104,9 @@ empty_gives a h = (both (a.len == 0) (not a.read && not a.write) (both (a.base =
 server_gives : (l : Link) → leads_to_server l ≡ true → gives_no_right l.area ≡ true
 server_gives l h = empty_gives l.area (both (l.code == 0) (area_is_empty l.area) (both (l.addr.at == 0) ((l.code == 0) && area_is_empty l.area) h).1).1
 
-child_gives : (b : Boot) (l : Link) → controls_child b l ≡ true → gives_no_right l.area ≡ true
-child_gives b l h = search (arith, l.code, b.processes, both, l.addr.pid, l.addr.at, l.kind, l.channel, l.area, empty_gives)
-
 either : (b : Boot) (l : Link) (c : Bool) → leads_to_server l ≡ c → (c || controls_child b l) ≡ true → gives_no_right l.area ≡ true
 either b l true e h = server_gives l e
-either b l false e h = child_gives b l h
+either b l false e h = search (arith, l.code, b.processes, both, l.addr.pid, l.addr.at, l.kind, l.channel, l.area, empty_gives)
 
 to_process : (b : Boot) (l : Link) (q : Pid) (o : Option BootProcess) → process_named q b.processes ≡ o → Each (ProcessIs b) b.processes → leads_to_process b l o ≡ true → has_bytes (l.area.base + l.area.len) (life_at b b.processes q) ≡ true
 to_process b l q o h1 h2 h3 = search (arith, named_has, b.processes, l.area.base, l.area.len, both, l.addr.at, l.area)

@@ -4,19 +4,13 @@ use Rattle.dm_rulelaws.proofs.Names.{MessageKind, Line, Stage, id_eq-is, id_eq-s
 use Rattle.dm_rulelaws.proofs.Names.{Sender, given, place_known, all_follow, is_told_back, forwards, Point, moved, Part, Says, Again, Owns, to_kernel, forwards_on, sends_on, leaves, Spot, times, standing, StandsAsBag, letters, not_true}
 use Rattle.dm_rulelaws.proofs.Names.{both_lists, without_all, without_at, first_off, sent_way, one_of, front_gone, forwarded_known, State, Sane, Named, forwarded_back, is_own, is_fixed}
 use Rattle.dm_rule.proofs.Trails.Places.{Owns}
-use Rattle.dm_rulelaws.proofs.Found.Core.{AboutIs, KnowsAt, Knows, IsReal, KnownIs, LineCore, Grows, knows_grow, real_grows}
-use Rattle.dm_rulelaws.proofs.Found.Puts.{NeedsForward, NeedsSent}
-use Rattle.dm_rulelaws.proofs.Found.Parts.{AllNeed, NeedOf, NeedsOwn, Same, again_same, loose_need, own_outside, own_fresh}
-use Rattle.dm_rulelaws.proofs.Found.Rows.{to_one}
+use Rattle.dm_rulelaws.proofs.Found.Core.{AboutIs, KnowsAt, Knows, IsReal, KnownIs, LineCore, Grows, knows_grow, real_grows, NeedsForward, NeedsSent}
+use Rattle.dm_rulelaws.proofs.Found.Parts.{AllNeed, NeedOf, NeedsOwn, Same, again_same, loose_need, own_outside, own_fresh, to_one}
 use Rattle.dm_rulelaws.proofs.Based.Needs.{said_by}
 
 -- whom a message of which something was told is for
 pub named_for : (pt : Point) (id : MsgId) (u : Told) (q : Pid) → Sane pt → pt.view.told id ≡ Some u → Named pt.kernel pt.view (Receiver id) q → q ≡ u.receiver
 named_for pt id u q h1 h2 h3 = search (arith, pt.kernel.bag, u.receiver, pt.view.told)
-
--- what a forward leads to is known there
-forward_known : (n : ℕ) (v : View) (m : ℕ) (p : Pid) (to c : ℕ) (k : Known) → k ≡ Forward to c → KnownIs n v m p k → v.known to p ≢ Unknown
-forward_known n v m p to c k e h = (subst (KnownIs n v m p) e h).1
 
 pub forwarded_own : (v : View) (o : Option Pid) → own_id (forwarded_for v o) ≡ own_id v
 forwarded_own v None = refl
@@ -52,7 +46,7 @@ pub forwards_need : (n : ℕ) (pt : Point) (id : MsgId) (is : List MsgId) (u : T
 forwards_need n pt id is u sender to c front state sane h told at free back =
     let v = pt.view in
     let a = pt.addresses in
-    let there : v.known to u.receiver ≢ Unknown = forward_known n v v.acting u.receiver to c (v.known v.acting u.receiver) at (h.known v.acting u.receiver) in
+    let there : v.known to u.receiver ≢ Unknown = (subst (KnownIs n v v.acting u.receiver) at (h.known v.acting u.receiver)).1 in
     let needs : NeedsForward n pt id = record {
       u = u;
       told = told;

@@ -2,21 +2,19 @@
 use Rattle.dm_rulelaws.proofs.Names.{◌≡◌, ℕ, ◌<◌, ◌≤◌, ◌==◌, Bool, true, false, is_some, List, [], ◌∷◌, refl, ap, ◌∙◌, sym, subst, inl, inr, arith, if◌then◌else◌, Option, None, Some, Pid, MsgId, plain_kind, PlainMessage, MessageKind, Boot}
 use Rattle.dm_rulelaws.proofs.Names.{manager, Step, id_eq-same, alive-is, Line, View, Told, About, Target, Of, Known, Unknown, Here, Frozen, Incoming, Forward, is_kernels, own_id, receiver_of, target_in, target_of, front_told, front_of}
 use Rattle.dm_rulelaws.proofs.Names.{Child, Receiver, Sender, child_number, names, sender_of, IsStep, forwards_on, migrates, Part, Says, Owns, Spelled, Moves, is_between, is_restart, is_early, knows, receiver_in, is_of_source, Point, moved}
-use Rattle.dm_rulelaws.proofs.Names.{group_of, Inbox, Queue, Held, times, standing, IsNet, IsNetLine, group_is, turn_off, letters, eq_is, parts, both_lists, both_times, under_way, front_kernels, Phased, due, head_calm, InPhases}
+use Rattle.dm_rulelaws.proofs.Names.{group_of, Inbox, Queue, Held, times, standing, group_is, turn_off, letters, eq_is, parts, both_lists, both_times, under_way, front_kernels, Phased, due, head_calm, InPhases}
 use Rattle.dm_rulelaws.proofs.Names.{calm_phases, rooted, State, Sane, sane_line, outcome_sayable, Comes, Named, Links, child_is, source_holds, destination_expects, is_fixed, eq_self, about_same, front_one, least_of, by_migrates, by_net}
 use Rattle.dm_rulelaws.proofs.Names.{by_outcome, PlainWhat, WhatFits, nat_tests}
-use Rattle.dm_rulelaws.proofs.Found.Labels.{there_known}
-use Rattle.dm_rule.specs.Phases as phases
-use Rattle.dm_rule.specs.Rule as rule
 use Rattle.dm_rule.proofs.Groups.{begun}
 use Rattle.dm_rule.proofs.Trails.Places.{Owns}
+use Rattle.dm_rule.specs.Phases as phases
+use Rattle.dm_rule.specs.Rule as rule
+use Rattle.dm_rulelaws.proofs.Found.Labels.{there_known, line_core}
 use Rattle.dm_rulelaws.proofs.Found.Core.{IsReal, AboutIs, KnownIs, LineCore, known_within}
 use Rattle.dm_rulelaws.proofs.Found.Forward.{forwards_need, moves_back, leaves_need, named_for}
-use Rattle.dm_rulelaws.proofs.Found.Rows.{Heard, told_by_need, round_need, handles_need}
-use Rattle.dm_rulelaws.proofs.Found.Lines.{NeedsLine, NeedsHead, line_core}
-use Rattle.dm_rulelaws.proofs.Found.Parts.{AllNeed, NeedOf, AllLoose, loose_need, first_need, parts_core}
+use Rattle.dm_rulelaws.proofs.Found.Parts.{AllNeed, NeedOf, AllLoose, loose_need, first_need, parts_core, Heard, told_by_need, round_need, handles_need}
 use Rattle.dm_rulelaws.proofs.Found.Real.{made_free, child_real, sends_real, has_some}
-use Rattle.dm_rulelaws.proofs.Found.Rows.{Moves as MovesTo}
+use Rattle.dm_rulelaws.proofs.Found.Parts.{Moves as MovesTo}
 
 -- behind the head of a group
 abbrev headed : Point → Step → Point
@@ -25,24 +23,11 @@ headed pt d = moved pt (Line.Head d) pt.kernel
 head_sane : (pt : Point) (d : Step) → Sane pt → Sane (headed pt d)
 head_sane pt d h = sane_line pt (headed pt d) (Line.Head d) refl refl h
 
-step_head : (n : ℕ) (d : Step) → 0 < n → IsStep n d → NeedsHead n d
-step_head n d h1 h2 = search arith
-
-head_core : (n : ℕ) (pt : Point) (d : Step) → IsStep n d → Sane pt → LineCore n pt → LineCore n (headed pt d)
-head_core n pt d fit sane h = line_core n pt pt.kernel (Line.Head d) (step_head n d (let le = h.acting in omega (arith, le)) fit) sane refl h
-
 group_core : (n : ℕ) (b : Boot) (pt : Point) (d : Step) (w : Spelled) → IsStep n d → group_of b pt d ≡ Some w → ((ps : List Part) → rule.outcome b pt d ≡ Some ps → LineCore n (headed pt d) → AllNeed n (headed pt d) ps) → Sane pt → LineCore n pt → LineCore n w.point
 group_core n b pt d w fit e needs sane h =
     let g = group_is b pt d w e in
-    let start = head_core n pt d fit sane h in
+    let start = line_core n pt pt.kernel (Line.Head d) (search arith) sane refl h in
     subst (LineCore n) g.point (parts_core n g.parts (headed pt d) g.rest (outcome_sayable b pt d g.parts g.is) (needs g.parts g.is start) (head_sane pt d sane) g.said start)
-
--- ticks and deliveries
-net_need : (n : ℕ) (l : Line) → IsNetLine l → (pt : Point) → NeedsLine n pt l
-net_need n l h1 pt = search arith
-
-net_loose : (n : ℕ) (ps : List Part) → IsNet ps → AllLoose n ps
-net_loose n = by_net (AllLoose n) tt (λ l ps net h. (net_need n l net, h)) (λ a b l ps h. (λ pt. tt, h))
 
 -- a directive to move a process
 asks_need : (n : ℕ) (pt : Point) (p : Pid) (k : ℕ) → pt.view.acting ≡ 0 → child_number pt.kernel p ≡ Some k → LineCore n pt → ((k : ℕ) → names pt.kernel (Child k) ≡ Some p → IsReal n pt.view p) → AllNeed n pt (Owns MessageKind.Migrate p (pt.addresses (Child k)).at ∷ [])
@@ -79,9 +64,6 @@ sender_within n s d false le ld = ld
 target_within : (n : ℕ) (v : View) (a : About) → 0 < n → AboutIs n v a → target_in a < n
 target_within n v (Target m) some h = h
 target_within n v _ some h = some
-
-frozen_same : (a b : ℕ) → Frozen a ≡ Frozen b → a ≡ b
-frozen_same a b e = cc
 
 -- what waits for a process is for it
 pub queued_for : (pt : Point) (p : Pid) (i : MsgId) → State None pt → 1 ≤ times i (pt.view.queue pt.view.acting p) → receiver_of (pt.view.told i) ≡ Some p
@@ -126,7 +108,7 @@ heard n pt m i is t p h holds sane state in_ front told own about between =
           let held : pt.view.known m p ≡ Frozen u.d = ap (pt.view.known m) pq ∙ ap (λ (x : ℕ). pt.view.known x u.p) at ∙ source_holds v u.p u.k u.s u.d (Some i) isin late in
           let comes_ : pt.view.known u.d p ≡ Incoming u.s = ap (pt.view.known u.d) pq ∙ destination_expects v u.p u.k u.s u.d (Some i) isin (ap is_early kind_) in
           leaves_need n start i is p (pt.view.known m p) front state h own refl
-          (λ to e f. let g : u.d ≡ to = frozen_same u.d to (sym held ∙ e) in
+          (λ to e f. let g : u.d ≡ to = cc (sym held ∙ e) in
           let z : Incoming u.s ≡ Unknown = sym comes_ ∙ ap (λ (x : ℕ). pt.view.known x p) g ∙ f in cc)
           free
           (λ j q least named. waits_for start p j q holds state sane least named) from),
@@ -190,8 +172,8 @@ outcome_need n b pt d ps base holds core =
       handles = λ m i is k xs box there e h. front_need n b pt m i is k xs h (head_sane pt (Step.Turn m) base.sane) (state m) box there e;
       hears = λ m i is xs box none e h.
           own_need n b pt m i is xs h holds (head_sane pt (Step.Turn m) base.sane) (state m) (calm_phases pt.view (headed pt (Step.Turn m)).view (head_calm pt.view (Step.Turn m)) base.phases) box none e;
-      ticks = λ m xs net h. loose_need n (headed pt (Step.Tick m)) xs (net_loose n xs net);
-      delivers = λ a c k xs net h. loose_need n (headed pt (Step.Deliver a c k)) xs (net_loose n xs net);
+      ticks = λ m xs net h. loose_need n (headed pt (Step.Tick m)) xs ((by_net (AllLoose n) tt (λ l ps net h. ((λ pt. search arith), h)) (λ a b l ps h. (λ pt. tt, h))) xs net);
+      delivers = λ a c k xs net h. loose_need n (headed pt (Step.Deliver a c k)) xs ((by_net (AllLoose n) tt (λ l ps net h. ((λ pt. search arith), h)) (λ a b l ps h. (λ pt. tt, h))) xs net);
       asks = λ p m h. migrates_need n (headed pt (Step.Migrate p m)) p refl h (λ k named. child_real pt n k p core named);
     })
 

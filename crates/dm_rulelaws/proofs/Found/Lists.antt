@@ -2,9 +2,17 @@
 use Rattle.dm_rulelaws.proofs.Names.{◌≡◌, ◌⊎◌, ℕ, zero, suc, ◌+◌, ◌≤◌, ◌==◌, Bool, true, false, not, filter, List, [], ◌∷◌, ◌++◌, refl, sym, subst, inl, inr, arith, ⊤, if◌then◌else◌, drop, Option, None, Some, Pid, MsgId, MessageKind, Label}
 use Rattle.dm_rulelaws.proofs.Names.{Step, id_eq-is, id_eq-same, Line, Stage, at_machine, at_pair, at_record, without_id, without_front, View, Pair, Told, About, Of, view_after, after_head, after_label, after_put, after_taken, after_stage}
 use Rattle.dm_rulelaws.proofs.Names.{after_proto, follows_up, asks_on, handled, handled_first, queued_for, held_for, dropped_for, forwarded_for, rejoins, served_told, kills, receiver_of, taken_id, oldest, routed_on, Spot, Queue, Held}
-use Rattle.dm_rulelaws.proofs.Names.{Inbox, Untaken, times, untaken, standing, eq_is, parts, at_place, pair_keeps, times-append, machine_of, Target}
+use Rattle.dm_rulelaws.proofs.Names.{Inbox, Untaken, times, untaken, standing, eq_is, parts, at_place, pair_keeps, times-append, machine_of, Target, ap, ◌∙◌, cases_Bool, false≢true, Place, id_eq, manager, OneKernel, NothingElse, is_kernels}
+use Rattle.dm_rulelaws.proofs.Names.{own_id, Addresses, Holder, Receiver, Sender, Gets, gets, given, holder_eq, place_known, all_follow, is_told_back, told_back_gets, forwards, place_told, is_behind, updated_to, updated, own_gives}
+use Rattle.dm_rulelaws.proofs.Names.{first_gives, one_of, put_told_off, put_at, Goes, Comes, Named, Links, holder_is, unnamed_receiver, unnamed_sender, put_named, told_again, is_own, leads_where, behind_where, plain_gives, not_own}
+use Rattle.dm_rulelaws.proofs.Names.{◌<◌, is_some, nat_tests, PlainMessage, is_fixed, by_step, MoveNote}
+use Rattle.dm_rule.proofs.Trails.Places.{Owns}
 use Rattle.dm_rule.specs.View as view
+use Rattle.dm_onekernel.specs.Service as service
+use Rattle.dm_onekernel.specs.Step as kernel
 use Rattle.dm_rulelaws.proofs.Based.Sets.{set_all, without_fewer, front_fewer, last_of}
+use Rattle.dm_rulelaws.proofs.Fits.Constants.{step_constant}
+use Rattle.dm_rulelaws.proofs.Own.Told.{Origin, brings}
 
 -- of each message that stands somewhere, with the machine
 abbrev pub Places : (MsgId → ℕ → Type 0) → View → Type 0
@@ -108,24 +116,17 @@ places_rejoins G v p h =
     (λ j f. elim (either j (v.held v.acting p) (v.inbox v.acting) f) [ inl was ↦ h j (Held v.acting p) was | inr was ↦ h j (Inbox v.acting) was ]) (λ n j f. h j (Inbox n) f) m i e)
     (λ a b i e. h i (Untaken a b) e)
 
--- those that wait for a process are taken from it
-places_cleared : (G : MsgId → ℕ → Type 0) (v w : View) (p : Pid) → w.queue ≡ at_record v.queue v.acting p [] → w.held ≡ at_record v.held v.acting p [] → w.inbox ≡ v.inbox → w.pair ≡ v.pair → Places G v → Places G w
-places_cleared G v w p queue held inbox pair h = search (arith, places_of, set_record, v.queue, v.acting, v.held)
-
 -- a message that a machine takes
 places_taken_id : (G : MsgId → ℕ → Type 0) (v : View) (b : ℕ) (o : Option MsgId) → ((i : MsgId) → o ≡ Some i → G i b) → Places G v → Places G (taken_id v b o)
 places_taken_id G v b None new h = h
 places_taken_id G v b (Some j) new h = places_inbox G v (taken_id v b (Some j)) b (v.inbox b ++ j ∷ []) refl refl refl (λ c d. refl) (last_or G b j (v.inbox b) (new j refl) (λ i f. h i (Inbox b) f)) h
-
-oldest_stands : (p : Pair) (i : MsgId) → oldest p ≡ Some i → 1 ≤ times i (untaken p)
-oldest_stands p i e = search (arith, p.taken, p.ids, at_place, id_eq-same)
 
 places_taken : (G : MsgId → ℕ → Type 0) (v : View) (a b n : ℕ) → Places G v → Places G (after_taken v a b n)
 places_taken G v a b n h =
     let p = v.pair a b in
     let q : Pair = record p { taken = p.taken + 1; kept = filter (λ k. not (k == n)) p.kept } in
     let u = view.with_pair v a b q in
-    places_taken_id G u b (oldest p) (λ i e. h i (Untaken a b) (oldest_stands p i e))
+    places_taken_id G u b (oldest p) (λ i e. h i (Untaken a b) (search (arith, p.taken, p.ids, at_place, id_eq-same)))
     (places_of G u (λ m r i e. h i (Queue m r) e) (λ m r i e. h i (Held m r) e) (λ m i e. h i (Inbox m) e)
     (λ c d i e. set_pair G v.pair a b q (λ j f. h j (Untaken a b) (drop_more j p.ids p.taken f)) (λ x y j f. h j (Untaken x y) f) c d i e))
 
@@ -189,12 +190,9 @@ places_asks : (G : MsgId → ℕ → Type 0) (v : View) (a : About) → Places G
 places_asks G v (Of p) h = places_as G v (asks_on v (Of p)) refl refl refl (λ a b. refl) h
 places_asks G v _ h = h
 
-places_follows : (G : MsgId → ℕ → Type 0) (v : View) (a : About) (k : MessageKind) → Places G v → Places G (follows_up v a k)
-places_follows G v a k h1 = search (arith, places_asks)
-
 places_proto : (G : MsgId → ℕ → Type 0) (v : View) (o : Option Told) → Places G v → Places G (after_proto v o)
 places_proto G v None h = places_as G v (after_proto v None) refl refl refl (λ a b. refl) h
-places_proto G v (Some t) h = places_as G (follows_up v t.about t.kind) (after_proto v (Some t)) refl refl refl (λ a b. refl) (places_follows G v t.about t.kind h)
+places_proto G v (Some t) h = places_as G (follows_up v t.about t.kind) (after_proto v (Some t)) refl refl refl (λ a b. refl) (search (arith, places_asks))
 
 pub places_forwarded : (G : MsgId → ℕ → Type 0) (v : View) (o : Option Pid) → Places G v → Places G (forwarded_for v o)
 places_forwarded G v None h = h
@@ -225,10 +223,199 @@ places_line G v (Line.Held id) new h = places_held G (handled v id) id (receiver
 places_line G v (Line.Forwarded id m) new h = places_forwarded G (handled v id) (receiver_of (v.told id)) (places_handled G v id h)
 places_line G v (Line.Updated id n) new h = places_handled G v id h
 places_line G v (Line.Migration s p) new h = places_stage G v p s h
-places_line G v (Line.SentOn p n) new h = places_cleared G (handled_first v) (view_after v (Line.SentOn p n)) p refl refl refl refl (places_first G v h)
+places_line G v (Line.SentOn p n) new h = search (arith, places_of, set_record, (handled_first v).queue, (handled_first v).acting, (handled_first v).held, (places_first G v h))
 places_line G v (Line.Lacks p a b) new h = places_as G (handled_first v) (view_after v (Line.Lacks p a b)) refl refl refl (λ c d. refl) (places_first G v h)
 places_line G v (Line.Stays p) new h = places_rejoins G (handled_first v) p (places_first G v h)
 places_line G v (Line.Here id) new h = places_handled G v id h
 places_line G v (Line.NoMove id) new h = places_handled G v id h
 places_line G v (Line.Proto id) new h = places_proto G (handled v id) (v.told id) (places_handled G v id h)
 places_line G v _ new h = h
+
+-- Lines that give addresses beside the kernel keep each where its process is known: a message that is forwarded, messages that
+-- are sent on, an update, and puts.
+
+-- each address is one of these
+abbrev pub AllAre : (Pid → Place → Type 0) → OneKernel → View → Addresses → Type 0
+AllAre P s v a = (h : Holder) (q : Pid) → Named s v h q → P q (a h)
+
+-- what holders get is
+abbrev pub AllGet : (Pid → Place → Type 0) → OneKernel → View → List Gets → Type 0
+AllGet P s v [] = ⊤
+AllGet P s v (g ∷ gs) = ((q : Pid) → Named s v g.holder q → P q g.place) × AllGet P s v gs
+
+pub given_are : (P : Pid → Place → Type 0) (s : OneKernel) (v : View) (a : Addresses) (gs : List Gets) → AllAre P s v a → AllGet P s v gs → AllAre P s v (given a gs)
+given_are P s v a [] h all g q e = h g q e
+given_are P s v a (x ∷ xs) h all g q e = elim (cases_Bool (holder_eq x.holder g)) [
+  | inl same ↦
+      subst (P q) (sym (ap (λ (c : Bool). if c then x.place else given a xs g) same))
+      (all.0 q (subst (λ (k : Holder). Named s v k q) (sym (holder_is x.holder g same)) e))
+  | inr apart ↦ subst (P q) (sym (ap (λ (c : Bool). if c then x.place else given a xs g) apart)) (given_are P s v a xs h all.1 g q e)
+]
+
+-- what was told stays
+told_back : (s : OneKernel) (v w : View) (h : Holder) (q : Pid) → w.told ≡ v.told → Named s w h q → Named s v h q
+told_back s v w h q same (Links e) = Links e
+told_back s v w h q same (Owns (Goes i u is k told r)) = Owns (Goes i u is k (sym (ap (λ (f : MsgId → Option Told). f i) same) ∙ told) r)
+told_back s v w h q same (Owns (Comes i u is mine told k r)) = Owns (Comes i u is mine (sym (ap (λ (f : MsgId → Option Told). f i) same) ∙ told) k r)
+
+pub all_as : (P : Pid → Place → Type 0) (s : OneKernel) (v w : View) (a : Addresses) → w.told ≡ v.told → AllAre P s v a → AllAre P s w a
+all_as P s v w a same h g q e = h g q (told_back s v w g q same e)
+
+-- a message that is forwarded, and the update for its sender
+back_gets : (P : Pid → Place → Type 0) (s : OneKernel) (v : View) (a : Addresses) (id : MsgId) (b : Bool) → s.bag (own_id v) ≡ None → v.told (own_id v) ≡ None → AllGet P s v (told_back_gets v a id b)
+back_gets P s v a id true bag told = ((λ q e. absurd (unnamed_receiver s v (own_id v) q bag told e)), ((λ q e. absurd (unnamed_sender s v (own_id v) q bag told e)), tt))
+back_gets P s v a id false bag told = tt
+
+pub forwarded_all : (P : Pid → Place → Type 0) (s : OneKernel) (v : View) (a : Addresses) (id : MsgId) (u : Told) → v.told id ≡ Some u → ((q : Pid) → Named s v (Receiver id) q → P q (place_known (v.known v.acting u.receiver) (v.moves u.receiver) (a (Receiver id))))
+    → s.bag (own_id v) ≡ None → v.told (own_id v) ≡ None → AllAre P s v a → AllAre P s v (given a (forwards v a id (v.told id)))
+forwarded_all P s v a id u told to bag fresh h =
+    subst (λ (o : Option Told). AllAre P s v (given a (forwards v a id o))) (sym told) (given_are P s v a (forwards v a id (Some u)) h (to, back_gets P s v a id (is_told_back u.kind) bag fresh))
+
+-- the messages of a process are sent on
+follow_gets : (P : Pid → Place → Type 0) (s : OneKernel) (v : View) (a : Addresses) (p : Pid) (ids : List MsgId) → ((i : MsgId) (q : Pid) → 1 ≤ times i ids → Named s v (Receiver i) q → P q (place_known (v.known v.acting p) (v.moves p) (a (Receiver i))))
+    → AllGet P s v (all_follow v a p ids)
+follow_gets P s v a p [] to = tt
+follow_gets P s v a p (i ∷ is) to = ((λ q e. to i q first e), follow_gets P s v a p is (λ j q least. to j q (more j least)))
+  where
+    first : 1 ≤ times i (i ∷ is)
+    first = let e : one_of i i ≡ 1 = ap (λ (c : Bool). if c then 1 else 0) (id_eq-same i) in omega (arith, e)
+
+    more : (j : MsgId) → 1 ≤ times j is → 1 ≤ times j (i ∷ is)
+    more j least = omega (arith, least)
+
+pub sent_on_all : (P : Pid → Place → Type 0) (s : OneKernel) (v : View) (a : Addresses) (p : Pid) (ids : List MsgId)
+    → ((i : MsgId) (q : Pid) → 1 ≤ times i ids → Named s v (Receiver i) q → P q (place_known (v.known v.acting p) (v.moves p) (a (Receiver i)))) → AllAre P s v a → AllAre P s v (given a (all_follow v a p ids))
+sent_on_all P s v a p ids to h = given_are P s v a (all_follow v a p ids) h (follow_gets P s v a p ids to)
+
+update_by : (P : Pid → Place → Type 0) (s : OneKernel) (v : View) (a : Addresses) (r p : Pid) (place : Place) → P p place → AllAre P s v a → AllAre P s v (updated_to s a (Some r) (Some (p, place)))
+update_by P s v a r p place on h g q e = elim (cases_Bool (is_behind s a r p place.moves g)) [
+  | inl yes_ ↦
+      subst (P q) (sym (ap (λ (c : Bool). if c then place else a g) yes_))
+      (subst (λ (x : Pid). P x place) (leads_where s v g p q (behind_where s a r p place.moves g yes_) e) on)
+  | inr not_ ↦ subst (P q) (sym (ap (λ (c : Bool). if c then place else a g) not_)) (h g q e)
+]
+
+update_about : (P : Pid → Place → Type 0) (s : OneKernel) (v : View) (a : Addresses) (r : Pid) (x : About) → ((p : Pid) (m c : ℕ) → x ≡ view.Place p m c → P p (record { at = m; moves = c })) → AllAre P s v a → AllAre P s v (updated_to s a (Some r) (place_told x))
+update_about P s v a r (view.Place p m c) on h = update_by P s v a r p (record { at = m; moves = c }) (on p m c refl) h
+update_about P s v a r _ on h = h
+
+pub updated_all : (P : Pid → Place → Type 0) (s : OneKernel) (v : View) (a : Addresses) (o : Option Told) → ((u : Told) (p : Pid) (m c : ℕ) → o ≡ Some u → u.about ≡ view.Place p m c → P p (record { at = m; moves = c })) → AllAre P s v a → AllAre P s v (updated s v a o)
+updated_all P s v a None on h = h
+updated_all P s v a (Some u) on h = update_about P s v a u.receiver u.about (λ p m c e. on u p m c refl e) h
+
+-- an update gives no message another address
+update_leaves : (s : OneKernel) (a : Addresses) (r : Pid) (x : About) (i : MsgId) → updated_to s a (Some r) (place_told x) (Receiver i) ≡ a (Receiver i)
+update_leaves s a r NothingElse i = refl
+update_leaves s a r _ i = refl
+
+pub updated_leaves : (s : OneKernel) (v : View) (a : Addresses) (o : Option Told) (i : MsgId) → updated s v a o (Receiver i) ≡ a (Receiver i)
+updated_leaves s v a None i = refl
+updated_leaves s v a (Some u) i = update_leaves s a u.receiver u.about i
+
+-- the first put of a kernel's own message
+two_get : (P : Pid → Place → Type 0) (s : OneKernel) (v : View) (id : MsgId) (to from : Place) → s.bag id ≡ None → v.told id ≡ None → AllGet P s v (gets (Receiver id) to ∷ gets (Sender id) from ∷ [])
+two_get P s v id to from bag told = ((λ q e. absurd (unnamed_receiver s v id q bag told e)), ((λ q e. absurd (unnamed_sender s v id q bag told e)), tt))
+
+pub put_all : (P : Pid → Place → Type 0) (s : OneKernel) (v : View) (a : Addresses) (x y : ℕ) (id : MsgId) (k : MessageKind) (q : Pid) → s.bag id ≡ None → v.told id ≡ None → P q (given a (own_gives s v a id q k) (Receiver id))
+    → (k ≡ MessageKind.Migrate → P manager (given a (own_gives s v a id q k) (Sender id))) → AllAre P s v a → AllAre P s (after_put v x y id k q) (given a (first_gives (v.told id) (own_gives s v a id q k)))
+put_all P s v a x y id k q bag none to from h g r e =
+    subst (λ (o : Option Told). P r (given a (first_gives o (own_gives s v a id q k)) g)) (sym none)
+    (elim (put_named s v x y id k q g r none e) [
+      | inl old ↦ given_are P s v a (own_gives s v a id q k) h (search (arith, two_get)) g r old
+      | inr new ↦ elim new [
+        | inl way ↦ subst (λ (i : Holder). P r (given a (own_gives s v a id q k) i)) (sym way.0) (subst (λ (p : Pid). P p (given a (own_gives s v a id q k) (Receiver id))) way.1 to)
+        | inr way ↦ subst (λ (i : Holder). P r (given a (own_gives s v a id q k) i)) (sym way.0) (subst (λ (p : Pid). P p (given a (own_gives s v a id q k) (Sender id))) way.2 (from way.1))
+      ]
+    ])
+
+pub routed_gives : (s : OneKernel) (v : View) (a : Addresses) (id : MsgId) (k : MessageKind) (q : Pid) → is_own k ≡ false → (o : Option Told) (h : Holder) → given a (first_gives o (own_gives s v a id q k)) h ≡ a h
+routed_gives s v a id k q plain None h = ap (λ (gs : List Gets). given a gs h) (plain_gives s v a id q k plain)
+routed_gives s v a id k q plain (Some u) h = refl
+
+routed_named : (s : OneKernel) (v : View) (x y : ℕ) (id : MsgId) (k : MessageKind) (q : Pid) (h : Holder) (r : Pid) → is_kernels id ≡ false → is_own k ≡ false → v.told id ≡ None → Named s (after_put v x y id k q) h r → Named s v h r
+routed_named s v x y id k q h r other plain none (Links e) = Links e
+routed_named s v x y id k q h r other plain none (Owns (Goes i u is own told to)) = elim (cases_Bool (id_eq id i)) [
+  | inl same ↦ absurd (false≢true (sym other ∙ ap is_kernels (id_eq-is id i same) ∙ own))
+  | inr apart ↦ Owns (Goes i u is own (sym (put_told_off v x y id i k q apart) ∙ told) to)
+]
+routed_named s v x y id k q h r other plain none (Owns (Comes i u is mine told move to)) = elim (put_named s v x y id k q h r none (Owns (Comes i u is mine told move to))) [
+  | inl old ↦ old
+  | inr new ↦ elim new [
+    | inl way ↦ absurd (let f : Receiver id ≡ Sender i = sym way.0 ∙ is in cc)
+    | inr way ↦ absurd (not_own k plain way.1)
+  ]
+]
+
+pub put_routed : (P : Pid → Place → Type 0) (s : OneKernel) (v : View) (a : Addresses) (x y : ℕ) (id : MsgId) (k : MessageKind) (q : Pid) → is_kernels id ≡ false → is_own k ≡ false → v.told id ≡ None → AllAre P s v a
+    → AllAre P s (after_put v x y id k q) (given a (first_gives (v.told id) (own_gives s v a id q k)))
+put_routed P s v a x y id k q other plain none h g r e = subst (P r) (sym (routed_gives s v a id k q plain (v.told id) g)) (h g r (routed_named s v x y id k q g r other plain none e))
+
+-- a message that was put before
+pub put_again : (P : Pid → Place → Type 0) (s : OneKernel) (v : View) (a : Addresses) (x y : ℕ) (id : MsgId) (k : MessageKind) (q : Pid) (u : Told) → v.told id ≡ Some u → AllAre P s v a → AllAre P s (after_put v x y id k q) (given a (first_gives (v.told id) (own_gives s v a id q k)))
+put_again P s v a x y id k q u told h g r e =
+    subst (λ (o : Option Told). P r (given a (first_gives o (own_gives s v a id q k)) g)) (sym told) (h g r (again_back s v x y id k q u told g r e))
+  where
+    again_back : (s : OneKernel) (v : View) (x y : ℕ) (id : MsgId) (k : MessageKind) (q : Pid) (u : Told) → v.told id ≡ Some u → (h : Holder) (r : Pid) → Named s (after_put v x y id k q) h r → Named s v h r
+    again_back s v x y id k q u told h r (Links e) = Links e
+    again_back s v x y id k q u told h r (Owns (Goes i t is own now to)) = Owns (Goes i t is own (sym (told_again v x y id k q u told i) ∙ now) to)
+    again_back s v x y id k q u told h r (Owns (Comes i t is mine now move to)) = Owns (Comes i t is mine (sym (told_again v x y id k q u told i) ∙ now) move to)
+
+-- what is told behind a put: what was told before, or this
+pub put_tells : (v : View) (x y : ℕ) (id : MsgId) (k : MessageKind) (q : Pid) (i : MsgId) (u : Told) → (after_put v x y id k q).told i ≡ Some u
+    → (v.told i ≡ Some u) ⊎ ((id ≡ i) × (v.told id ≡ None) × (record { kind = k; receiver = q; about = v.topic } ≡ u))
+put_tells v x y id k q i u h1 = search (arith, id_eq-is, v.told, put_at, put_told_off, v.topic)
+
+-- What a step of the kernel without machines leaves: how many machines there are, and who sends.
+
+-- who sends messages: a server, a kernel of so many machines, or a process that was made
+abbrev pub Sends : ℕ → OneKernel → Pid → Type 0
+Sends n s q = ((is_fixed q ≡ true) × (q.home < n)) ⊎ (is_some (s.processes q) ≡ true)
+
+-- each message that comes is one of these
+pub record Leaves (n : ℕ) (s t : OneKernel) : Type 0 where
+  pub machines : t.machines ≡ s.machines
+  pub senders : (j : MsgId) (x : PlainMessage) → t.bag j ≡ Some x → (s.bag j ≡ Some x) ⊎ Sends n s x.sender
+
+-- kernels
+kernel_fixed : (s : OneKernel) (p : Pid) → service.is_kernel s p ≡ true → is_fixed p ≡ true
+kernel_fixed s p e = grind (arith, nat_tests)
+
+-- each step leaves them, and what servers take and kernels make is for them
+abbrev IsFor : OneKernel → MsgId → Type 0
+IsFor s id = (m : PlainMessage) → s.bag id ≡ Some m → is_fixed m.to ≡ true
+
+for_it : (s : OneKernel) (id : MsgId) (m : PlainMessage) → s.bag id ≡ Some m → is_fixed m.to ≡ true → IsFor s id
+for_it s id m there fixed x is = let f : Some m ≡ Some x = sym there ∙ is in let g : m ≡ x = cc in subst (λ (y : PlainMessage). is_fixed y.to ≡ true) g fixed
+
+abbrev ForThem : OneKernel → Label → Type 0
+ForThem s (Label.Took id) = IsFor s id
+ForThem s (Label.Created id child) = IsFor s id
+ForThem s (Label.NoSpace id a b) = IsFor s id
+ForThem s l = ⊤
+
+pub took_for : (s t : OneKernel) (id : MsgId) → kernel.step s (Label.Took id) ≡ Some t → IsFor s id
+took_for s t id = search (arith, by_step, for_it, kernel_fixed)
+
+pub created_for : (s t : OneKernel) (id : MsgId) (child : Pid) → kernel.step s (Label.Created id child) ≡ Some t → IsFor s id
+created_for s t id child = search (arith, by_step, for_it, kernel_fixed)
+
+pub no_space_for : (s t : OneKernel) (id : MsgId) (a b : ℕ) → kernel.step s (Label.NoSpace id a b) ≡ Some t → IsFor s id
+no_space_for s t id a b = search (arith, by_step, for_it, kernel_fixed)
+
+origin_sends : (n : ℕ) (s : OneKernel) (x : PlainMessage) → s.machines ≡ n → 0 < n → Origin s x → Sends n s x.sender
+origin_sends n s x same some h = elim h [
+  | inl process ↦ inr process
+  | inr other ↦ elim other [
+    | inl server ↦ let home : x.sender.home ≡ 0 = grind (arith, nat_tests) in inl (grind (arith, nat_tests), omega (arith, home, some))
+    | inr kernel ↦ inl (kernel_fixed s x.sender kernel.0, subst (λ (k : ℕ). x.sender.home < k) same (let f : x.sender.home < s.machines = grind (arith, nat_tests) in f))
+  ]
+]
+
+pub step_leaves : (n : ℕ) (s t : OneKernel) (l : Label) → s.machines ≡ n → 0 < n → ((p : Pid) (k : MoveNote) → s.notes p ≡ Some k → is_some (s.processes p) ≡ true) → kernel.step s l ≡ Some t → Leaves n s t
+step_leaves n s t l same some lives is = record {
+  machines = (step_constant s t l is).machines;
+  senders = λ j x e. elim (brings s t l lives is j x e) [
+    | inl old ↦ inl old
+    | inr new ↦ inr (origin_sends n s x same some new)
+  ];
+}

@@ -1,11 +1,20 @@
 -- The parts of a group keep where messages stand, where each has what it needs.
 use Rattle.dm_rulelaws.proofs.Names.{◌≡◌, ℕ, ◌<◌, true, false, List, [], ◌∷◌, refl, ◌∙◌, sym, arith, ⊤, Option, None, Some, false≢true, Pid, pid_of, MsgId, MessageKind, plain_kind, PlainMessage, PlainWhat, manager, id_eq-same, bind-is}
-use Rattle.dm_rulelaws.proofs.Names.{Line, Told, is_kernels, own_id, Holder, Receiver, Sender, given, goes_between, own_gives, Point, moved, after, Part, Says, Routes, Again, Owns, Transmits, Spelled, lines_of, puts, packet_line, spelled}
-use Rattle.dm_rulelaws.proofs.Names.{not_kernels, not_first, Sane, AllSayable, part_sane, is_own, by_parts}
-use Rattle.dm_rulelaws.proofs.Found.Core.{Knows, IsReal, LineCore}
-use Rattle.dm_rulelaws.proofs.Found.Puts.{NeedsPut, put_core}
-use Rattle.dm_rulelaws.proofs.Found.Lines.{NeedsLine, line_core, packet_core}
-use Rattle.dm_rulelaws.proofs.Based.Needs.{by_puts}
+use Rattle.dm_rulelaws.proofs.Names.{Line, Told, is_kernels, own_id, Holder, Receiver, Sender, given, goes_between, own_gives, Point, moved, after, Part, Says, Routes, Again, Owns, Transmits, Spelled, lines_of, puts, spelled}
+use Rattle.dm_rulelaws.proofs.Names.{not_kernels, not_first, Sane, AllSayable, part_sane, is_own, by_parts, ◌+◌, ap, subst, Label, Boot, first_number, PlainProcess, Forward, forwards_on, Stops, by_round, by_handles, ◌/◌, ◌==◌, Bool, ◌++◌}
+use Rattle.dm_rulelaws.proofs.Names.{length, ◌||◌, if◌then◌else◌, pid_eq, Stage, switchboard, bind, About, Of, Known, Unknown, Here, target_of, front_of, to_kernel, accepts, takes_chunk, takes_block, leaves, chunks_of, pieces_of}
+use Rattle.dm_rulelaws.proofs.Names.{kernel_told, here_told, ended_told, process_told, server_told, is_between, is_fixed, Outcome, MoveNote, OneKernel, machine_in, Target, answers_move, leaves_for, aim, label_of, kernel_after, at_record}
+use Rattle.dm_rulelaws.proofs.Names.{at_record_at, tells_asker, inr, View}
+use Rattle.dm_rule.specs.Point.{move_target}
+use Rattle.dm_rule.specs.View.{Ended}
+use Rattle.dm_onekernel.specs.Pieces as pieces
+use Rattle.dm_onekernel.specs.Step as kernel
+use Rattle.dm_rule.specs.Rule as rule
+use Rattle.dm_rulelaws.proofs.Found.Core.{Knows, IsReal, LineCore, KnowsAt, IsAt, NeedsPut, put_core}
+use Rattle.dm_rulelaws.proofs.Based.Needs.{by_puts, said_by}
+use Rattle.dm_rulelaws.proofs.Fits.Serves.{asked_noted}
+use Rattle.dm_rulelaws.proofs.Found.Labels.{NeedsLine, line_core, packet_core}
+use Rattle.dm_rulelaws.proofs.Names.{packet_line}
 
 -- the next message of the acting machine's kernel
 pub record NeedsOwn (n : ℕ) (pt : Point) (k : MessageKind) (q : Pid) (b : ℕ) : Type 0 where
@@ -30,9 +39,6 @@ NeedsPart n pt _ = ⊤
 puts_core : (n : ℕ) (pt next : Point) (b : ℕ) (i : MsgId) (k : MessageKind) (q : Pid) (ls : List Line) → NeedsPut n pt b i k q → LineCore n pt → Some (puts pt.view b i k q) ≡ Some ls → after pt ls ≡ Some next → LineCore n next
 puts_core n pt next b i k q ls need h = by_puts (LineCore n) pt next b i k q ls (put_core n pt pt.view.acting b i k q need h) (packet_core n)
 
-one_line : (n : ℕ) (pt next : Point) (l : Line) (ls : List Line) → NeedsLine n pt l → Sane pt → Some (l ∷ []) ≡ Some ls → after pt ls ≡ Some next → LineCore n pt → LineCore n next
-one_line n pt next l ls need sane is leads h = search (arith, bind-is, pt.kernel, line_core)
-
 -- a message of the bag is none of a kernel's
 pub plain_own : (w : PlainWhat) → is_own (plain_kind w) ≡ false
 plain_own (PlainWhat.User a b c d) = refl
@@ -51,6 +57,9 @@ own_outside pt sane = bag_none pt (own_id pt.view) (pt.kernel.bag (own_id pt.vie
 
 pub own_fresh : (pt : Point) → Sane pt → pt.view.told (own_id pt.view) ≡ None
 own_fresh pt sane = sane.numbered pt.view.acting (pt.view.count pt.view.acting) (omega arith)
+
+one_line : (n : ℕ) (pt next : Point) (l : Line) (ls : List Line) → NeedsLine n pt l → Sane pt → Some (l ∷ []) ≡ Some ls → after pt ls ≡ Some next → LineCore n pt → LineCore n next
+one_line n pt next l ls need sane is leads h = search (arith, bind-is, pt.kernel, line_core)
 
 pub part_core : (n : ℕ) (pt next : Point) (p : Part) (ls : List Line) → NeedsPart n pt p → Sane pt → lines_of pt p ≡ Some ls → after pt ls ≡ Some next → LineCore n pt → LineCore n next
 part_core n pt next (Says l) ls need sane is leads h = one_line n pt next l ls need sane is leads h
@@ -104,3 +113,198 @@ pub again_same : (pt next : Point) (i : MsgId) (b : ℕ) (ls : List Line) → li
 again_same pt next i b ls is leads =
     let (t, told, last) = bind-is (pt.view.told i) (λ t. Some (puts pt.view b i t.kind t.receiver)) ls is in
     by_puts (Same pt) pt next b i t.kind t.receiver ls (again_put pt b i t.kind t.receiver t told) (λ o x y z l h. record { kernel = h.kernel; addresses = h.addresses; own = h.own; acting = h.acting; known = h.known }) last leads
+
+-- What each row of a turn needs: processes that run, messages of the bag, and messages of kernels.
+
+-- the queue of a process that ends goes
+drops_loose : (n : ℕ) (ids : List MsgId) → AllLoose n (rule.drop_parts ids)
+drops_loose n [] = tt
+drops_loose n (i ∷ is) = (λ q. tt, drops_loose n is)
+
+stops_need : (n : ℕ) (pt : Point) (p : Pid) (queue : List MsgId) → KnowsAt pt.view p pt.view.acting → Stops (AllNeed n pt) p queue
+stops_need n pt p queue at = record {
+  over = tt;
+  replies = λ k r. first_need n pt (rule.says (Label.Call p k r)) [] at tt;
+  sends = λ id. first_need n pt (rule.says (Label.Send p id)) (Routes id ∷ []) at (λ q. tt, tt);
+  waits = first_need n pt (rule.says (Label.Wait p)) [] at tt;
+  outputs = λ word. first_need n pt (rule.says (Label.Out p word)) [] at tt;
+  ends = λ y. first_need n pt (rule.says (Label.End p y)) (rule.drop_parts queue) tt (drops_loose n queue);
+}
+
+pub round_need : (n : ℕ) (pt : Point) (b : Boot) (o : Point) (m : ℕ) (q : Option Pid) (ps : List Part) → ((p : Pid) (x : PlainProcess) → q ≡ Some p → kernel.alive (o.kernel.processes p) ≡ Some x → KnowsAt pt.view p pt.view.acting) → rule.goes_round b o m q ≡ Some ps → AllNeed n pt ps
+round_need n pt b o m q ps at = by_round (AllNeed n pt) b o m q ps (first_need n pt (Says (Line.Idle m)) [] tt tt) (λ p x is alive. record {
+  runs = λ k rest stops. (
+    tt,
+    (λ ls next lines leads.
+        let s = said_by pt next (Line.Label (Label.Ran p k)) (record { lines = ls; are = lines; leads = leads }) in
+        let mid = moved pt (Line.Label (Label.Ran p k)) s.kernel in
+        subst (λ (z : Point). AllNeed n z rest) s.is (stops (AllNeed n mid) (stops_need n mid p (o.view.queue m p) (at p x is alive)))),
+  );
+  takes = λ mask id first. first_need n pt (rule.says (Label.Receive p id)) [] tt tt;
+  refuses = λ id r. first_need n pt (rule.says (Label.Refuse p id r)) [] tt tt;
+})
+
+-- the message at the front is in the bag, and its address names this machine
+abbrev pub Front : Point → MsgId → Type 0
+Front pt id = IsAt pt.addresses pt.view id pt.view.acting
+
+routes_loose : (n : ℕ) (o : Option PlainMessage) → AllLoose n (rule.routes o)
+routes_loose n None = tt
+routes_loose n (Some k) = (λ q. tt, tt)
+
+-- a message from kernel to kernel, to a machine that there is
+pub to_one : (n : ℕ) (k : MessageKind) (m : ℕ) → ((pt : Point) → own_gives pt.kernel pt.view pt.addresses (own_id pt.view) (pid_of m 0) k ≡ goes_between pt.view (own_id pt.view) (pid_of m 0)) → (k ≡ MessageKind.Migrate → ⊥) → is_own k ≡ true → m < n → AllLoose n (to_kernel k m ∷ [])
+to_one n k m gives none own le = ((λ pt. between_own n pt k m (gives pt) none own le), tt)
+
+-- the answer to a request to move goes
+pub answers_need : (n : ℕ) (pt : Point) (l : Line) (i : MsgId) (r : Outcome) → NeedsLine n pt l
+    → ((s : OneKernel) → kernel_after pt.kernel (label_of l) ≡ Some s → (q : Pid) → s.noted i ≡ Some q → KnowsAt (moved pt l s).view q (moved pt l s).view.acting) → AllNeed n pt (Says l ∷ answers_move i r)
+answers_need n pt l i r need knows = (
+  need,
+  λ ls next lines leads.
+      let g = said_by pt next l (record { lines = ls; are = lines; leads = leads }) in
+      let mid = moved pt l g.kernel in
+      subst (λ (z : Point). AllNeed n z (answers_move i r)) g.is (first_need n mid (rule.says (Label.Answered i r)) (Routes (pieces.answer_id i) ∷ []) (knows g.kernel g.step) (λ q. tt, tt)),
+)
+
+-- a process is asked to move, and sets off
+asks_need : (n : ℕ) (pt : Point) (id : MsgId) (k : PlainMessage) (to : ℕ) → pt.kernel.bag id ≡ Some k → k.what ≡ PlainWhat.Move to → to < n → is_fixed k.to ≡ false → AllNeed n pt (rule.says (Label.Asked id) ∷ leaves_for k.to to)
+asks_need n pt id k to there what le free = (
+  tt,
+  λ ls next lines leads.
+      let l = Line.Label (Label.Asked id) in
+      let g = said_by pt next l (record { lines = ls; are = lines; leads = leads }) in
+      let mid = moved pt l g.kernel in
+      let topic : machine_in (pt.kernel.bag id) ≡ Target to = ap machine_in there ∙ ap move_target what in
+      let aims : aim mid.view (machine_in (pt.kernel.bag id)) < n = subst (λ (a : About). aim mid.view a < n) (sym topic) le in
+      subst (λ (z : Point). AllNeed n z (leaves_for k.to to)) g.is
+      (first_need n mid (Says (Line.Migration Stage.Frozen k.to)) (Says (Line.Migration Stage.Asked k.to) ∷ to_kernel MessageKind.Ask to ∷ []) (aims, free) (λ q. tt, to_one n MessageKind.Ask to (λ q. refl) (λ e. cc) refl le)),
+)
+
+-- where a message goes that asks its receiver to move
+abbrev pub Moves : ℕ → PlainMessage → Type 0
+Moves n k = (to : ℕ) → k.what ≡ PlainWhat.Move to → (to < n) × (is_fixed k.to ≡ false)
+
+pub handles_need : (n : ℕ) (pt : Point) (b : Boot) (o : Point) (m : ℕ) (id : MsgId) (k : PlainMessage) (ps : List Part) → Front pt id → pt.kernel.bag id ≡ Some k → KnowsAt pt.view k.to pt.view.acting → Moves n k → ((to c : ℕ) → o.view.known m k.to ≡ Forward to c → AllNeed n pt (forwards_on o.addresses id (plain_kind k.what) k.sender to))
+    → rule.handles b o m id k ≡ Some ps → AllNeed n pt ps
+handles_need n pt b o m id k ps at there knows moves forwards = by_handles (AllNeed n pt) b o m id k ps (record {
+  created = λ fixed. first_need n pt (rule.says (Label.Created id (pid_of m (first_number + o.kernel.made m)))) (Routes (pieces.answer_id id) ∷ []) at (λ q. tt, tt);
+  no_space = λ fixed slots blocks. first_need n pt (rule.says (Label.NoSpace id slots blocks)) (Routes (pieces.answer_id id) ∷ []) at (λ q. tt, tt);
+  took = λ fixed sent. first_need n pt (rule.says (Label.Took id)) (rule.routes sent) at (routes_loose n sent);
+  queued = λ to user. first_need n pt (Says (Line.Queued id)) [] at tt;
+  served = λ to mild. first_need n pt (rule.says (Label.Served id)) [] at tt;
+  answers = λ to mild i. first_need n pt (rule.says (Label.Served id)) (Routes i ∷ []) at (λ q. tt, tt);
+  kills = λ to kills. first_need n pt (rule.says (Label.Served id)) (rule.drop_parts (o.view.queue m k.to)) at (drops_loose n (o.view.queue m k.to));
+  moved = λ to what. answers_need n pt (Line.Label (Label.Asked id)) id Outcome.Done tt (λ s step q noted.
+      let f : k.to ≡ q = (let g : Some k.to ≡ Some q = sym (asked_noted pt.kernel s id k step there) ∙ noted in cc) in
+      subst (λ (x : Pid). KnowsAt pt.view x pt.view.acting) f knows);
+  sets_off = λ x to what apart. (let f = moves x what in asks_need n pt id k x there what f.0 f.1);
+  gone = λ to. first_need n pt (rule.says (Label.Gone id)) (Routes (pieces.answer_id id) ∷ []) at (λ q. tt, tt);
+  dropped = λ to. first_need n pt (rule.says (Label.Dropped id)) [] tt tt;
+  leaving = λ x to. first_need n pt (Says (Line.Held id)) [] at tt;
+  coming = λ x to. first_need n pt (Says (Line.Held id)) [] at tt;
+  forwarded = λ x c to. forwards x c to.known;
+})
+
+accepts_need : (n : ℕ) (pt : Point) (from : ℕ) (p : Pid) (c : Bool) (slots blocks : ℕ) → from < n → (front_of (pt.view.inbox pt.view.acting) < n) × (is_fixed p ≡ false) → AllNeed n pt (accepts from p c slots blocks)
+accepts_need n pt from p true slots blocks le front = first_need n pt (Says (Line.Migration Stage.Accepted p)) (to_kernel MessageKind.PullState from ∷ []) front (to_one n MessageKind.PullState from (λ q. refl) (λ e. cc) refl le)
+accepts_need n pt from p false slots blocks le front = first_need n pt (Says (Line.Lacks p slots blocks)) (to_kernel MessageKind.Refuse from ∷ []) tt (to_one n MessageKind.Refuse from (λ q. refl) (λ e. cc) refl le)
+
+chunk_need : (n : ℕ) (pt : Point) (id : MsgId) (p : Pid) (c : Bool) → id.from.home < n → AllNeed n pt (takes_chunk id p c)
+chunk_need n pt id p true le = first_need n pt (Says (Line.Migration Stage.StateTaken p)) (to_kernel MessageKind.PullBlock id.from.home ∷ []) tt (to_one n MessageKind.PullBlock id.from.home (λ q. refl) (λ e. cc) refl le)
+chunk_need n pt id p false le = first_need n pt (Says (Line.Proto id)) (to_kernel MessageKind.PullState id.from.home ∷ []) tt (to_one n MessageKind.PullState id.from.home (λ q. refl) (λ e. cc) refl le)
+
+block_need : (n : ℕ) (pt : Point) (id : MsgId) (p : Pid) (c : Bool) → id.from.home < n → AllNeed n pt (takes_block id p c)
+block_need n pt id p true le = first_need n pt (Says (Line.Migration Stage.MemoryTaken p)) (to_kernel MessageKind.AllTaken id.from.home ∷ []) tt (to_one n MessageKind.AllTaken id.from.home (λ q. refl) (λ e. cc) refl le)
+block_need n pt id p false le = first_need n pt (Says (Line.Proto id)) (to_kernel MessageKind.PullBlock id.from.home ∷ []) tt (to_one n MessageKind.PullBlock id.from.home (λ q. refl) (λ e. cc) refl le)
+
+-- where one between kernels is heard
+abbrev pub Heard : ℕ → Point → Point → ℕ → MsgId → Pid → MessageKind → Type 0
+Heard n pt o m id p k =
+    (id.from.home < n) × ((front_of (pt.view.inbox pt.view.acting) < n) × (is_fixed p ≡ false)) × ((z : MoveNote) → o.kernel.notes p ≡ Some z → pt.kernel.noted z.id ≡ Some p) × (k ≡ MessageKind.AllTaken → NeedOf n pt (leaves id p (o.view.queue m p ++ o.view.held m p) (o.view.known m p)))
+
+-- and told to who asked for it
+asker_need : (n : ℕ) (pt : Point) (l : Line) (o : Option MoveNote) (r : Outcome) → NeedsLine n pt l
+    → ((z : MoveNote) → o ≡ Some z → (s : OneKernel) → kernel_after pt.kernel (label_of l) ≡ Some s → (q : Pid) → s.noted z.id ≡ Some q → KnowsAt (moved pt l s).view q (moved pt l s).view.acting) → AllNeed n pt (Says l ∷ tells_asker o r)
+asker_need n pt l None r need knows = first_need n pt (Says l) [] need tt
+asker_need n pt l (Some z) r need knows = answers_need n pt l z.id r need (knows z refl)
+
+-- a process that follows a request stays here
+comes_here : (v w : View) (p q : Pid) → w.known ≡ at_record v.known v.acting p Here → w.acting ≡ v.acting → is_fixed p ≡ false → p ≡ q → KnowsAt w q w.acting
+comes_here v w p q known acting free same =
+    let here : w.known w.acting p ≡ Here = ap (λ (m : ℕ). w.known m p) acting ∙ ap (λ (f : ℕ → Pid → Known). f v.acting p) known ∙ at_record_at v.known v.acting p Here in
+    subst (λ (x : Pid). KnowsAt w x w.acting) same (inr (free, λ e. (let f : Here ≡ Unknown = sym here ∙ e in cc)))
+
+noted_same : (s t : OneKernel) (z : MoveNote) (p q : Pid) → Some s ≡ Some t → s.noted z.id ≡ Some p → t.noted z.id ≡ Some q → p ≡ q
+noted_same s t z p q e f g =
+    let same : s ≡ t = cc in
+    let k : Some p ≡ Some q = sym f ∙ ap (λ (u : OneKernel). u.noted z.id) same ∙ g in
+    cc
+
+told_need : (n : ℕ) (pt o : Point) (m : ℕ) (id : MsgId) (p : Pid) (room : Bool × ℕ × ℕ) (x : PlainProcess) (k : MessageKind) → (is_between k ≡ true → Heard n pt o m id p k) → NeedOf n pt (kernel_told o m id p room x k)
+told_need n pt o m id p room x MessageKind.Ask h = accepts_need n pt id.from.home p room.0 room.1 room.2 (h refl).0 (h refl).1
+told_need n pt o m id p room x MessageKind.Refuse h =
+    asker_need n pt (Line.Stays p) (o.kernel.notes p) Outcome.Stayed tt (λ z e s step q noted. comes_here pt.view (moved pt (Line.Stays p) s).view p q refl refl (h refl).1.1 (noted_same pt.kernel s z p q step ((h refl).2 z e) noted))
+told_need n pt o m id p room x MessageKind.PullState h = first_need n pt (Says (Line.Proto id)) (to_kernel MessageKind.State id.from.home ∷ []) tt (to_one n MessageKind.State id.from.home (λ q. refl) (λ e. cc) refl (h refl).0)
+told_need n pt o m id p room x MessageKind.State h = chunk_need n pt id p (o.view.asked p == chunks_of x) (h refl).0
+told_need n pt o m id p room x MessageKind.PullBlock h = first_need n pt (Says (Line.Proto id)) (to_kernel MessageKind.Memory id.from.home ∷ []) tt (to_one n MessageKind.Memory id.from.home (λ q. refl) (λ e. cc) refl (h refl).0)
+told_need n pt o m id p room x MessageKind.Memory h = block_need n pt id p (o.view.asked p == pieces_of x) (h refl).0
+told_need n pt o m id p room x MessageKind.AllTaken h = (h refl).3 refl
+told_need n pt o m id p room x MessageKind.Restart h =
+    asker_need n pt (Line.Migration Stage.Restarted p) (o.kernel.notes p) Outcome.Done tt (λ z e s step q noted. comes_here pt.view (moved pt (Line.Migration Stage.Restarted p) s).view p q refl refl (h refl).1.1 (noted_same pt.kernel s z p q step ((h refl).2 z e) noted))
+told_need n pt o m id p room x _ h = tt
+
+bind_need : {X : Type 0} (n : ℕ) (pt : Point) (o : Option X) (f : X → Option (List Part)) → ((x : X) → o ≡ Some x → NeedOf n pt (f x)) → NeedOf n pt (bind o f)
+bind_need n pt None f h = tt
+bind_need n pt (Some x) f h = h x refl
+
+kernel_hears_need : (n : ℕ) (pt : Point) (b : Boot) (o : Point) (m : ℕ) (id : MsgId) (k : MessageKind) (a : About) → ((p : Pid) → a ≡ Of p → is_between k ≡ true → Heard n pt o m id p k)
+    → NeedOf n pt (rule.kernel_hears b o m id k a)
+kernel_hears_need n pt b o m id k (Of p) h =
+    bind_need n pt (kernel.alive (o.kernel.processes p)) (λ x. kernel_told o m id p (rule.fits (rule.free_room b o m) (length x.memory / 256)) x k)
+    (λ x alive. told_need n pt o m id p (rule.fits (rule.free_room b o m) (length x.memory / 256)) x k (h p refl))
+kernel_hears_need n pt b o m id k _ h = tt
+
+moves_need : (n : ℕ) (pt : Point) (id : MsgId) (p : Pid) (to : ℕ) (c : Bool) → to < n → (aim pt.view pt.view.topic < n) × (is_fixed p ≡ false)
+    → AllNeed n pt (if c then Says (Line.Here id) ∷ [] else Says (Line.Migration Stage.Frozen p) ∷ Says (Line.Migration Stage.Asked p) ∷ to_kernel MessageKind.Ask to ∷ [])
+moves_need n pt id p to true le front = first_need n pt (Says (Line.Here id)) [] tt tt
+moves_need n pt id p to false le front = first_need n pt (Says (Line.Migration Stage.Frozen p)) (Says (Line.Migration Stage.Asked p) ∷ to_kernel MessageKind.Ask to ∷ []) front (λ q. tt, to_one n MessageKind.Ask to (λ q. refl) (λ e. cc) refl le)
+
+here_told_need : (n : ℕ) (pt o : Point) (m : ℕ) (id : MsgId) (t : Told) (k : MessageKind) → target_of (Some t) < n → (aim pt.view pt.view.topic < n) × (is_fixed t.receiver ≡ false) → NeedOf n pt (here_told o m id t k)
+here_told_need n pt o m id t MessageKind.Migrate le front = moves_need n pt id t.receiver (target_of (Some t)) (m == target_of (Some t)) le front
+here_told_need n pt o m id t MessageKind.Update le front = (tt, λ ls next is leads. tt)
+here_told_need n pt o m id t _ le front = tt
+
+ended_told_need : (n : ℕ) (pt : Point) (id : MsgId) (k : MessageKind) → NeedOf n pt (ended_told id k)
+ended_told_need n pt id MessageKind.Migrate = (tt, λ ls next is leads. tt)
+ended_told_need n pt id MessageKind.Update = (tt, λ ls next is leads. tt)
+ended_told_need n pt id _ = tt
+
+server_told_need : (n : ℕ) (pt o : Point) (id : MsgId) (t : Told) (k : MessageKind) → NeedOf n pt (server_told o id t k)
+server_told_need n pt o id t MessageKind.Update = (tt, λ ls next is leads. tt)
+server_told_need n pt o id t _ = tt
+
+process_told_need : (n : ℕ) (pt o : Point) (m : ℕ) (id : MsgId) (t : Told) (k : Known) → Front pt id → target_of (Some t) < n → (aim pt.view pt.view.topic < n) × (is_fixed t.receiver ≡ false)
+    → ((to c : ℕ) → k ≡ Forward to c → AllNeed n pt (forwards_on o.addresses id t.kind manager to)) → NeedOf n pt (process_told o m id t k)
+process_told_need n pt o m id t Unknown at le front forwards = tt
+process_told_need n pt o m id t Here at le front forwards = here_told_need n pt o m id t t.kind le front
+process_told_need n pt o m id t (Forward to c) at le front forwards = forwards to c refl
+process_told_need n pt o m id t Ended at le front forwards = ended_told_need n pt id t.kind
+process_told_need n pt o m id t _ at le front forwards = first_need n pt (Says (Line.Held id)) [] at tt
+
+-- by whom it is for
+by_receiver : (n : ℕ) (pt : Point) (q : Pid) (c d e : Bool) (x y z w : Option (List Part)) → (q.num == 0) ≡ c → pid_eq q switchboard ≡ d → pid_eq q manager ≡ e → NeedOf n pt x → NeedOf n pt y → NeedOf n pt z → (is_fixed q ≡ false → NeedOf n pt w)
+    → NeedOf n pt (if c then x else if d then y else if e then z else w)
+by_receiver n pt q true d e x y z w is_c is_d is_e h j k l = h
+by_receiver n pt q false true e x y z w is_c is_d is_e h j k l = j
+by_receiver n pt q false false true x y z w is_c is_d is_e h j k l = k
+by_receiver n pt q false false false x y z w is_c is_d is_e h j k l = l (ap (λ (b : Bool). b || (pid_eq q switchboard || pid_eq q manager)) is_c ∙ ap (λ (b : Bool). b || pid_eq q manager) is_d ∙ is_e)
+
+pub told_by_need : (n : ℕ) (pt : Point) (b : Boot) (o : Point) (m : ℕ) (id : MsgId) (t : Told) → Front pt id → target_of (Some t) < n → aim pt.view pt.view.topic < n
+    → ((p : Pid) → t.about ≡ Of p → is_between t.kind ≡ true → Heard n pt o m id p t.kind)
+    → ((to c : ℕ) → o.view.known m t.receiver ≡ Forward to c → AllNeed n pt (forwards_on o.addresses id t.kind manager to)) → NeedOf n pt (rule.hears b o m id (Some t))
+told_by_need n pt b o m id t at le front kernels forwards =
+    let to_server = server_told o id t t.kind in
+    let to_process = process_told o m id t (o.view.known m t.receiver) in
+    by_receiver n pt t.receiver (t.receiver.num == 0) (pid_eq t.receiver switchboard) (pid_eq t.receiver manager) (rule.kernel_hears b o m id t.kind t.about) to_server to_server to_process refl refl refl (kernel_hears_need n pt b o m id t.kind t.about kernels)
+    (server_told_need n pt o id t t.kind) (server_told_need n pt o id t t.kind) (λ free. process_told_need n pt o m id t (o.view.known m t.receiver) at le (front, free) forwards)

@@ -1,14 +1,13 @@
 -- Whom addresses are of is a kernel or a server of a machine that there is, or a process that its home knows.
 use Rattle.dm_rulelaws.proofs.Names.{◌≡◌, ◌⊎◌, ℕ, zero, suc, ◌<◌, ◌≤◌, ◌==◌, ◌||◌, Bool, true, false, is_some, nat_le, nat_lt, List, [], ◌∷◌, refl, ap, ◌∙◌, sym, subst, inl, inr, arith, if◌then◌else◌, slice_get, Option, None, Some}
-use Rattle.dm_rulelaws.proofs.Names.{nat_tests, Pid, pid_eq, PlainLink, link_at, MsgId, PlainMessage, PlainWhat, switchboard, manager, PlainProcess, PlainStatus, Life, NamedLink, Pending, OneKernel, Made, alive-is, View, Holder, Slot}
-use Rattle.dm_rulelaws.proofs.Names.{Owner, Receiver, Sender, Enclosed, Child, Name, Answer, link_target, slot_of, owner_in, owner_of, name_link, answer_link, links_in, to_of, sender_of, enclosed_of, names, Point, Each, has_bytes}
-use Rattle.dm_rulelaws.proofs.Names.{is_server, LinkFits, move_fits, WhatFits, awaits, is_fixed, or_first, SlotFits, PendingFits, MoveNote, AskedBy, asker_in}
+use Rattle.dm_rulelaws.proofs.Names.{nat_tests, Pid, pid_eq, PlainLink, link_at, MsgId, PlainMessage, PlainWhat, switchboard, manager, PlainProcess, Life, Pending, OneKernel, Made, alive-is, View, Holder, Slot}
+use Rattle.dm_rulelaws.proofs.Names.{Owner, Receiver, Sender, Enclosed, Child, Name, Answer, link_target, slot_of, owner_of, answer_link, links_in, to_of, sender_of, names, Point, Each, has_bytes}
+use Rattle.dm_rulelaws.proofs.Names.{is_server, LinkFits, WhatFits, awaits, is_fixed, or_first, SlotFits, PendingFits, MoveNote, AskedBy, asker_in}
 use Rattle.dm_onekernel.specs.Manager as manage
 use Rattle.dm_onekernel.specs.Step as kernel
-use Rattle.dm_rulelaws.proofs.Fits.Rises.{both}
-use Rattle.dm_rulelaws.proofs.Fits.Calls.{slot_link}
-use Rattle.dm_rulelaws.proofs.Found.Steps.{Sends}
+use Rattle.dm_rulelaws.proofs.Fits.Rises.{both, slot_link}
 use Rattle.dm_rulelaws.proofs.Found.Core.{IsReal, LineCore, Core, lines_of_core}
+use Rattle.dm_rulelaws.proofs.Found.Lists.{Sends}
 
 -- a process that was made has a number of its own
 made_number : (q : Pid) → nat_le 3 q.num ≡ true → is_fixed q ≡ false
@@ -32,7 +31,7 @@ pub has_some : (n : ℕ) (o : Option Life) → has_bytes n o ≡ true → is_som
 has_some n (Some l) e = refl
 has_some n None e = cc
 
-waits_some : (o : Option Life) (n : ℕ) (x : PlainWhat) → awaits o n x ≡ true → is_some o ≡ true
+pub waits_some : (o : Option Life) (n : ℕ) (x : PlainWhat) → awaits o n x ≡ true → is_some o ≡ true
 waits_some (Some l) n x e = refl
 waits_some None n x e = cc
 
@@ -81,12 +80,9 @@ slot_real pt n p k q (Some x) h some is e =
     let (l, at, to) = link_there (link_at x.links k) q e in
     subst (IsReal n pt.view) to (link_real pt n l h some (slot_link pt.kernel.processes x.links k l at (h.fits.processes p x (alive-is (pt.kernel.processes p) x is)).slots))
 
-owner_by : (pt : Point) (n : ℕ) (x : PlainProcess) (st : PlainStatus) (q : Pid) → LineCore n pt → move_fits pt.kernel.processes x st ≡ true → owner_in st ≡ Some q → IsReal n pt.view q
-owner_by pt n x st q h1 h2 h3 = search (arith, pt.view, made_real, has_some, pt.kernel.processes, both)
-
 owner_real : (pt : Point) (n : ℕ) (p q : Pid) (o : Option PlainProcess) → LineCore n pt → kernel.alive (pt.kernel.processes p) ≡ o → owner_of o ≡ Some q → IsReal n pt.view q
 owner_real pt n p q None h is e = cc
-owner_real pt n p q (Some x) h is e = owner_by pt n x x.status q h (h.fits.processes p x (alive-is (pt.kernel.processes p) x is)).move e
+owner_real pt n p q (Some x) h is e = search (arith, pt.view, made_real, has_some, pt.kernel.processes, both, (h.fits.processes p x (alive-is (pt.kernel.processes p) x is)).move)
 
 receiver_real : (pt : Point) (n : ℕ) (i : MsgId) (q : Pid) (o : Option PlainMessage) → LineCore n pt → 0 < n → pt.kernel.bag i ≡ o → to_of o ≡ Some q → IsReal n pt.view q
 receiver_real pt n i q None h some is e = cc
@@ -101,12 +97,6 @@ sender_real pt n i q (Some m) h is e = let f : m.sender ≡ q = cc in subst (IsR
 
 links_fit : (s : OneKernel) (i : MsgId) (m : PlainMessage) (x : PlainWhat) → WhatFits s i m x → Each (LinkFits s.processes) (links_in x)
 links_fit s i m x h1 = search arith
-
-enclosed_real : (pt : Point) (n : ℕ) (i : MsgId) (k : ℕ) (q : Pid) (o : Option PlainMessage) → LineCore n pt → 0 < n → pt.kernel.bag i ≡ o → link_target (enclosed_of o k) ≡ Some q → IsReal n pt.view q
-enclosed_real pt n i k q o h1 h2 h3 h4 = search (arith, link_there, pt.view, link_real, each_get, pt.kernel.processes, links_fit, pt.kernel)
-
-name_real : (pt : Point) (n k : ℕ) (q : Pid) (o : Option NamedLink) → LineCore n pt → 0 < n → slice_get pt.kernel.switchboard.names k ≡ o → link_target (name_link o) ≡ Some q → IsReal n pt.view q
-name_real pt n k q o h1 h2 h3 h4 = search (arith, pt.view, link_real, each_get, pt.kernel.processes, pt.kernel.switchboard.names)
 
 answer_real : (pt : Point) (n k : ℕ) (q : Pid) (o : Option Pending) → LineCore n pt → 0 < n → manage.pending_numbered k pt.kernel.manager.pending ≡ o → link_target (answer_link o) ≡ Some q → IsReal n pt.view q
 answer_real pt n k q None h some is e = cc
@@ -135,9 +125,9 @@ named_by pt n g q h e = by g e
     by (Owner p) f = owner_real pt n p q (kernel.alive (pt.kernel.processes p)) h refl f
     by (Receiver i) f = receiver_real pt n i q (pt.kernel.bag i) h some refl f
     by (Sender i) f = sender_real pt n i q (pt.kernel.bag i) h refl f
-    by (Enclosed i k) f = enclosed_real pt n i k q (pt.kernel.bag i) h some refl f
+    by (Enclosed i k) f = search (arith, link_there, pt.view, link_real, each_get, pt.kernel.processes, links_fit, pt.kernel)
     by (Child k) f = child_real pt n k q h f
-    by (Name k) f = name_real pt n k q (slice_get pt.kernel.switchboard.names k) h some refl f
+    by (Name k) f = search (arith, pt.view, link_real, each_get, pt.kernel.processes, pt.kernel.switchboard.names)
     by (AskedBy p) f = asker_real pt n p q (pt.kernel.notes p) h some refl f
     by (Answer k) f = answer_real pt n k q (manage.pending_numbered k pt.kernel.manager.pending) h some refl f
 

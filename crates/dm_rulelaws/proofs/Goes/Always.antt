@@ -1,7 +1,8 @@
 -- Wherever all of it holds, each directive has its group.
 use Rattle.dm_rulelaws.proofs.Names.{◌≡◌, ◌≢◌, ℕ, ◌+◌, ◌≤◌, ◌==◌, ◌&&◌, ◌||◌, Bool, true, false, not, List, [], ◌∷◌, refl, ap, ◌∙◌, sym, is_some, inl, inr, arith, ⊤, if◌then◌else◌, slice_get, Option, None, Some, false≢true, Pid, pid_eq}
-use Rattle.dm_rulelaws.proofs.Names.{MsgId, PlainMessage, Boot, IsValid, Step, Line, MessageKind, child_from, child_number, migrates, Point, moved, Spelled, group_of, Spot, Queue, Inbox, standing, StandsOutside, View, Told, Target}
+use Rattle.dm_rulelaws.proofs.Names.{MsgId, PlainMessage, Boot, IsValid, Step, Line, MessageKind, child_from, child_number, migrates, Point, moved, Spelled, group_of, Spot, Queue, Inbox, standing, StandsOutside, Told, Target}
 use Rattle.dm_rulelaws.proofs.Names.{is_kernels, IsStep, arrives_net, resends_net, stands_right, StandsAsBag-elsewhere, Each, has_bytes, is_server, is_fixed, Life, OneKernel, pid_eq-is, cases_Bool, by_migrates, rooted}
+pub use Rattle.dm_rule.proofs.Moves.States.{front_one as stands_first}
 use Rattle.dm_rule.specs.Rule as rule
 use Rattle.dm_rule.specs.View as view
 use Rattle.dm_rulelaws.proofs.Runs.{Run}
@@ -12,7 +13,6 @@ use Rattle.dm_rulelaws.proofs.Goes.Turns.{queue_drops}
 use Rattle.dm_rulelaws.proofs.Goes.Front.{here_free, begun, begun_sane, Calm, CanTurn, Front}
 use Rattle.dm_rulelaws.proofs.Goes.Servers.{can_handle}
 use Rattle.dm_rulelaws.proofs.Goes.Own.{FrontOwn, can_hear}
-pub use Rattle.dm_rule.proofs.Moves.States.{front_one as stands_first}
 
 -- the message at the front of an inbox
 abbrev is_box : Spot → Bool
@@ -63,10 +63,6 @@ can_turn_by : (b : Boot) (m : ℕ) (o : Point) (box : List MsgId) → o.view.inb
 can_turn_by b m o [] is h own = can_turn (Calm m o) b m o (begun o m) refl (λ q. refl) (λ q e. here_free o.kernel o.view m q h.based.noted ((rooted o h.based.phased.sane h.based.phased.ground).served m q e)) (λ q. queue_drops b m o q h.based) (λ c. c.ring) refl (begun_sane o m h.based.phased.sane)
 can_turn_by b m o (i ∷ is) box h own = can_front b m o i is (o.kernel.bag i) refl box h own
 
--- a process is to move
-migrates_plain : (v : View) (pt : Point) (p : Pid) → ArePlain v (migrates pt p)
-migrates_plain v pt p = by_migrates (ArePlain v) pt p (refl, tt) (refl, tt) (λ n off is. (tt, tt))
-
 -- the manager's children are processes
 child_made : (s : OneKernel) (n k : ℕ) (p : Pid) (qs : List Pid) → child_from n p qs ≡ Some k → Each (λ (q : Pid). has_bytes 0 (s.processes q) ≡ true) qs → has_bytes 0 (s.processes p) ≡ true
 child_made s n k p [] e h = cc
@@ -114,7 +110,7 @@ group_on b pt (Step.Deliver a c k) h own =
     group_by b pt (Step.Deliver a c k) (can_net ⊤ c q (rule.arrives a c (pt.view.pair a c) (pt.view.pair c a) there) (arrives_net a c (pt.view.pair a c) (pt.view.pair c a) there))
 group_on b pt (Step.Migrate p m) h own =
     let q = moved pt (Line.Head (Step.Migrate p m)) pt.kernel in
-    group_by b pt (Step.Migrate p m) (can_plain ⊥ 0 q (migrates pt p) (λ c. c) (migrates_plain q.view pt p) (migrates_own b pt p m h))
+    group_by b pt (Step.Migrate p m) (can_plain ⊥ 0 q (migrates pt p) (λ c. c) (by_migrates (ArePlain q.view) pt p (refl, tt) (refl, tt) (λ n off is. (tt, tt))) (migrates_own b pt p m h))
 
 -- each directive has its group
 pub goes_on : (b : Boot) (pt : Point) (e : Step) → IsValid b → Run b pt → OwnTold pt → IsStep pt.kernel.machines e → (w : Spelled) × (group_of b pt e ≡ Some w)

@@ -1,17 +1,17 @@
 -- The message at the front of the inbox: what it is for whom.
 use Rattle.dm_rulelaws.proofs.Names.{◌≡◌, ℕ, ◌≤◌, ◌==◌, ◌||◌, Bool, true, false, List, [], ◌∷◌, refl, ap, ◌∙◌, sym, subst, is_some, arith, Option, None, Some, Pid, pid_eq, MsgId, id_eq, plain_kind, Step, Line, PlainMessage, PlainWhat, Boot}
-use Rattle.dm_rulelaws.proofs.Names.{switchboard, manager, Life, OneKernel, with_sent, answer_id, answer_to, Made, id_eq-same, pid_eq-same, sent_at, Point, moved, Inbox, times, standing, View, Told, Sane, has_bytes, is_server, awaits}
+use Rattle.dm_rulelaws.proofs.Names.{switchboard, manager, OneKernel, with_sent, answer_id, answer_to, Made, id_eq-same, pid_eq-same, sent_at, Point, moved, Inbox, times, standing, View, Told, Sane, has_bytes, is_server}
 use Rattle.dm_rulelaws.proofs.Names.{WhatFits, is_fixed, are_home, Part, is_still, is_here, bind, Label, MoveNote, Outcome, without_note, false≢true, Routes, answers_move}
 use Rattle.dm_onekernel.specs.Service as service
 use Rattle.dm_onekernel.specs.Step as kernel
-use Rattle.dm_rulelaws.proofs.Goes.Parts.{does_label}
-use Rattle.dm_rulelaws.proofs.Based.Noted.{Away}
 use Rattle.dm_rule.specs.Rule as rule
 use Rattle.dm_rule.specs.View as view
+use Rattle.dm_rulelaws.proofs.Goes.Parts.{does_label, Does, does_nothing, does_route, sane_by, Can}
+use Rattle.dm_rulelaws.proofs.Based.Noted.{Away}
 use Rattle.dm_rulelaws.proofs.Runs.{Run}
-use Rattle.dm_rulelaws.proofs.Goes.Parts.{Does, does_nothing, does_route, sane_by, Can}
-use Rattle.dm_rulelaws.proofs.Order.Moves.{Last}
 use Rattle.dm_rulelaws.proofs.Goes.Turns.{Droppable}
+use Rattle.dm_rulelaws.proofs.Found.Real.{has_some, waits_some}
+use Rattle.dm_rulelaws.proofs.Order.Lines.{Last}
 
 -- behind the head of a turn
 abbrev pub begun : Point → ℕ → Point
@@ -42,9 +42,6 @@ pub record Front (b : Boot) (m : ℕ) (o : Point) (i : MsgId) (x : PlainMessage)
   pub drops : (q : Pid) → Droppable o.kernel q (o.view.queue m q)
   pub run : Run b o
 
-pub sane_of : (b : Boot) (m : ℕ) (o : Point) (i : MsgId) (x : PlainMessage) → Front b m o i x → Sane o
-sane_of b m o i x f = f.run.based.phased.sane
-
 pub made_of : (b : Boot) (m : ℕ) (o : Point) (i : MsgId) (x : PlainMessage) → Front b m o i x → Made o.kernel
 made_of b m o i x f = f.run.based.phased.sane.sound.made
 
@@ -53,10 +50,10 @@ name_of b m o i x f = f.run.based.phased.sane.sound.entered.named i x f.there
 
 -- what was told of it
 pub told_kind : (b : Boot) (m : ℕ) (o : Point) (i : MsgId) (x : PlainMessage) (f : Front b m o i x) → f.told.kind ≡ plain_kind x.what
-told_kind b m o i x f = (sane_of b m o i x f).tells.kind i x f.told f.there f.told_is
+told_kind b m o i x f = (f.run.based.phased.sane).tells.kind i x f.told f.there f.told_is
 
 pub told_receiver : (b : Boot) (m : ℕ) (o : Point) (i : MsgId) (x : PlainMessage) (f : Front b m o i x) → f.told.receiver ≡ x.to
-told_receiver b m o i x f = (sane_of b m o i x f).tells.receiver i x f.told f.there f.told_is
+told_receiver b m o i x f = (f.run.based.phased.sane).tells.receiver i x f.told f.there f.told_is
 
 -- a kernel or a server is at home here
 pub home_of : (b : Boot) (m : ℕ) (o : Point) (i : MsgId) (x : PlainMessage) → is_fixed x.to ≡ true → Front b m o i x → x.to.home ≡ m
@@ -70,14 +67,6 @@ served_is b m o i x v w is f =
     ap (view.served_told v) f.told_is ∙ ap (λ c. view.kills c v (Some f.told.receiver)) (told_kind b m o i x f ∙ ap plain_kind is) ∙ ap (λ p. view.kills (plain_kind w) v (Some p)) (told_receiver b m o i x f)
 
 -- processes are numbered from 3
-some_of : (n : ℕ) (l : Option Life) → has_bytes n l ≡ true → is_some l ≡ true
-some_of n None e = cc
-some_of n (Some x) e = refl
-
-awaits_some : (l : Option Life) (n : ℕ) (w : PlainWhat) → awaits l n w ≡ true → is_some l ≡ true
-awaits_some None n w e = cc
-awaits_some (Some x) n w e = refl
-
 record IsProcess (s : OneKernel) (p : Pid) : Type 0 where
   number : (p.num == 0) ≡ false
   board : pid_eq p switchboard ≡ false
@@ -101,10 +90,10 @@ pub data ForWhom (s : OneKernel) (x : PlainMessage) (w : PlainWhat) : Type 0 whe
 
 user_for : (s : OneKernel) (x : PlainMessage) (w : PlainWhat) (c : Bool) → is_server x.to ≡ c → (c || has_bytes 0 (s.processes x.to)) ≡ true → (is_server x.to ≡ true → ForOthers x w) → ForWhom s x w
 user_for s x w true e h f = ForOther (f e)
-user_for s x w false e h f = ForProcess (some_of 0 (s.processes x.to) h)
+user_for s x w false e h f = ForProcess (has_some 0 (s.processes x.to) h)
 
 pub for_whom : (s : OneKernel) (i : MsgId) (x : PlainMessage) (w : PlainWhat) → WhatFits s i x w → ForWhom s x w
-for_whom s i x w h1 = search (arith, user_for, x.to, some_of, s.processes, awaits_some, i.from, i.n)
+for_whom s i x w h1 = search (arith, user_for, x.to, has_some, s.processes, waits_some, i.from, i.n)
 
 -- a message for a kernel, for the switchboard, for the manager
 pub process_not_kernel : (s : OneKernel) (p : Pid) → is_some (s.processes p) ≡ true → (p.num == 0) ≡ true → Made s → false ≡ true

@@ -3,7 +3,7 @@ use Rattle.dm_rulelaws.proofs.Names.{◌≡◌, ◌≢◌, ℕ, ◌/◌, ◌≤�
 use Rattle.dm_rulelaws.proofs.Names.{pid_eq, MsgId, MessageKind, Line, Stage, Boot, switchboard, manager, bind, PlainProcess, Life, Alive, View, Told, Of, Known, Unknown, Here, Frozen, Forward, is_kernels, target_of, to_kernel, forwards_on}
 use Rattle.dm_rulelaws.proofs.Names.{moves_to, accepts, takes_chunk, takes_block, gives_piece, kernel_told, chunks_of, pieces_of, updates, here_told, ended_told, process_told, server_told, sends_on, fits, free_room, kernel_hears, hears}
 use Rattle.dm_rulelaws.proofs.Names.{is_between, is_restart, kind_comes, knows, is_away, Moves, sender_in, receiver_in, told_between, IsIn, Point, Part, Says, Spot, Queue, Held, Inbox, times, standing, token_is, token_at, is_server}
-use Rattle.dm_rulelaws.proofs.Names.{is_fixed, agrees, first_of, eq_self, inbox_is, about_same, kind_leaves, Label, MoveNote, Outcome, label_of, with_label, is_put, moved, answers_move, tells_asker}
+use Rattle.dm_rulelaws.proofs.Names.{is_fixed, first_of, eq_self, inbox_is, about_same, kind_leaves, Label, MoveNote, Outcome, label_of, with_label, is_put, moved, answers_move, tells_asker}
 use Rattle.dm_onekernel.specs.Service as service
 use Rattle.dm_onekernel.specs.Step as kernel
 use Rattle.dm_rule.specs.Migrating as migrating
@@ -13,6 +13,7 @@ use Rattle.dm_rulelaws.proofs.Own.Told.{OwnTold, own_sort, own_between, own_serv
 use Rattle.dm_rulelaws.proofs.Goes.Parts.{ArePlain, Can, can_as, can_plain, does_line, Quiet, no_receive}
 use Rattle.dm_rulelaws.proofs.Goes.Front.{begun, Calm, CanTurn, does_answers}
 use Rattle.dm_rulelaws.proofs.Goes.Process.{forwards_plain}
+use Rattle.dm_rulelaws.proofs.Names.{agrees}
 
 -- it was told of
 pub record FrontOwn (b : Boot) (m : ℕ) (o : Point) (i : MsgId) : Type 0 where
@@ -29,12 +30,6 @@ sort_of b m o i f = f.own.own i f.told f.told_is f.mine
 -- while a process moves it is alive
 abbrev IsAlive : Option Life → Type 0
 IsAlive o = (y : PlainProcess) × (o ≡ Some (Alive y))
-
-frozen_alive : (k : MessageKind) (d : ℕ) (n : Known) (o : Option Life) → kind_leaves k d n ≡ true → is_restart k ≡ false → agrees n o ≡ true → IsAlive o
-frozen_alive k d n o h1 h2 h3 = search arith
-
-coming_alive : (s : ℕ) (n : Known) (o : Option Life) → kind_comes MessageKind.Restart s n ≡ true → agrees n o ≡ true → IsAlive o
-coming_alive s n o h1 h2 = search arith
 
 pub source_knows : (k : MessageKind) (s d : ℕ) (id : Option MsgId) (n : Known) → knows (Moves k s d id) s n ≡ true → kind_leaves k d n ≡ true
 source_knows k s d id n e = sym (ap (λ (c : Bool). if c then kind_leaves k d n else if d == s then kind_comes k s n else is_away n) (eq_self s)) ∙ e
@@ -59,6 +54,12 @@ pub record Coming (b : Boot) (m : ℕ) (o : Point) (p : Pid) (k : MessageKind) :
   pub id : Option MsgId
   pub phase : IsIn o.view p (Moves k s d id)
   pub here : m ≡ receiver_in k s d
+
+coming_alive : (s : ℕ) (n : Known) (o : Option Life) → kind_comes MessageKind.Restart s n ≡ true → agrees n o ≡ true → IsAlive o
+coming_alive s n o h1 h2 = search arith
+
+frozen_alive : (k : MessageKind) (d : ℕ) (n : Known) (o : Option Life) → kind_leaves k d n ≡ true → is_restart k ≡ false → agrees n o ≡ true → IsAlive o
+frozen_alive k d n o h1 h2 h3 = search arith
 
 moving_server : (c : Bool) (s d : ℕ) (k : MessageKind) (b : Boot) (m : ℕ) (o : Point) (p : Pid) (r : Bool) → is_server p ≡ c → is_restart k ≡ r → Run b o → (s == d) ≡ false → kind_leaves k d (o.view.known s p) ≡ true → (is_restart k ≡ true → kind_comes MessageKind.Restart s (o.view.known d p) ≡ true) → IsAlive (o.kernel.processes p)
 moving_server true s d k b m o p r server restart run off leave come = absurd (false≢true (sym (server_leaves k d (s == 0)) ∙ sym (ap (kind_leaves k d) (run.based.known.server s p server)) ∙ leave))
@@ -112,13 +113,10 @@ moves_plain : (v : View) (m : ℕ) (i : MsgId) (p : Pid) (to : ℕ) (c : Bool) �
 moves_plain v m i p to true = (refl, tt)
 moves_plain v m i p to false = (refl, (refl, (tt, tt)))
 
-tail_times : (i j : MsgId) (is : List MsgId) → 1 ≤ times i is → 1 ≤ times i (j ∷ is)
-tail_times i j is least = omega (arith, least)
-
 sends_plain : (v : View) (to : ℕ) (xs ys : List MsgId) (ps : List Part) → ((i : MsgId) → 1 ≤ times i xs → is_some (v.told i) ≡ true) → ((i : MsgId) → 1 ≤ times i ys → is_some (v.told i) ≡ true) → ArePlain v ps → ArePlain v (sends_on to (xs ++ ys) ++ ps)
 sends_plain v to [] [] ps first more h = h
-sends_plain v to [] (y ∷ ys) ps first more h = (more y (first_of y ys), sends_plain v to [] ys ps first (λ i least. more i (tail_times i y ys least)) h)
-sends_plain v to (x ∷ xs) ys ps first more h = (first x (first_of x xs), sends_plain v to xs ys ps (λ i least. first i (tail_times i x xs least)) more h)
+sends_plain v to [] (y ∷ ys) ps first more h = (more y (first_of y ys), sends_plain v to [] ys ps first (λ i least. more i (omega (arith, least))) h)
+sends_plain v to (x ∷ xs) ys ps first more h = (first x (first_of x xs), sends_plain v to xs ys ps (λ i least. first i (omega (arith, least))) more h)
 
 can_leave : (C : Type 0) (never : C → ⊥) (m : ℕ) (o : Point) (i : MsgId) (p : Pid) (n : Known) (d : ℕ) → kind_leaves MessageKind.AllTaken d n ≡ true → ((j : MsgId) (z : Spot) → 1 ≤ standing o.view j z → is_some (o.view.told j) ≡ true)
     → Can C m (begun o m) (migrating.leaves i p (o.view.queue m p ++ o.view.held m p) n)

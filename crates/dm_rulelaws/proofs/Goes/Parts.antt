@@ -3,13 +3,11 @@ use Rattle.dm_rulelaws.proofs.Names.{after_line, headed, ◌≡◌, ℕ, ◌==�
 use Rattle.dm_rulelaws.proofs.Names.{id_eq, plain_kind, PlainMessage, Boot, Label, OneKernel, bind, Step, Line, Load, View, Told, view_after, own_id, Receiver, Point, labels, with_label, label_of, kernel_after, after, moved, Part, Says}
 use Rattle.dm_rulelaws.proofs.Names.{Routes, Again, Owns, Transmits, Spelled, lines_of, puts, packet_line, behind, spelled, group_of, outcome, Pair, counts, IsNetLine, IsNet, is_put, hushed, Sane, sane_line, part_sane, IsUnasked, AskNone}
 use Rattle.dm_rulelaws.proofs.Names.{seen, topic_by, seen_none}
-use Rattle.dm_rulelaws.proofs.Order.Lines.{thin_same, box_same}
 use Rattle.dm_onekernel.specs.Step as kernel
 use Rattle.dm_rule.specs.View as view
 use Rattle.dm_rule.specs.Rule as rule
+use Rattle.dm_rulelaws.proofs.Order.Lines.{thin_same, box_same, Which, Ord, ord_view, ord_label, Last}
 use Rattle.dm_rulelaws.proofs.Queued.{is_user}
-use Rattle.dm_rulelaws.proofs.Order.Lines.{Which, Ord, ord_view, ord_label}
-use Rattle.dm_rulelaws.proofs.Order.Moves.{Last}
 use Rattle.dm_rulelaws.proofs.Order.Puts.{thin_pair, ord_put, ord_taken}
 use Rattle.dm_rulelaws.proofs.Own.Told.{HaveNoOwn, OwnsFit, NoOwns}
 
@@ -125,15 +123,12 @@ pub told_on : (v : View) (l : Line) (i : MsgId) → is_some (v.told i) ≡ true 
 told_on v (Line.Put a b j k q) i h = put_if (id_eq j i) (v.told i) (Some (view.first_told (v.told j) (record { kind = k; receiver = q; about = v.topic }))) refl h
 told_on v any_ i h = ap (λ (f : MsgId → Option Told). is_some (f i)) (hushed v any_ refl).told ∙ h
 
-first_line : (l m : Line) (ls ms : List Line) → (l ∷ ls) ≡ (m ∷ ms) → l ≡ m
-first_line l m ls ms e = cc
-
 seen_topic : (pt : Point) (l : Line) → label_of l ≡ None → (moved pt l pt.kernel).view.topic ≡ (view_after pt.view l).topic
 seen_topic pt l none = ap (λ (v : View). v.topic) (seen_none pt.kernel pt.view l none)
 
 puts_if : (pt : Point) (l : Line) (c d : Bool) (a b k : ℕ) (x : Load) → label_of l ≡ None → (view_after pt.view l).topic ≡ pt.view.topic → Puts pt (l ∷ (if c then [] else if d then Line.Packet a b k x ∷ [] else []))
-puts_if pt l true d a b k x none topic = record { q = moved pt l pt.kernel; is = after_one pt l pt.kernel (ap (kernel_after pt.kernel) none); topic = seen_topic pt l none ∙ topic; told = told_on pt.view l; says = λ zs. ap (λ (o : Option Label). with_label o (labels zs)) none; keeps = λ m ms e q o. (let f = first_line l m [] ms e in ord_none q pt.kernel pt.view l none (subst (λ (n : Line). Ord q pt.kernel (view_after pt.view n)) (sym f) o)) }
-puts_if pt l false false a b k x none topic = record { q = moved pt l pt.kernel; is = after_one pt l pt.kernel (ap (kernel_after pt.kernel) none); topic = seen_topic pt l none ∙ topic; told = told_on pt.view l; says = λ zs. ap (λ (o : Option Label). with_label o (labels zs)) none; keeps = λ m ms e q o. (let f = first_line l m [] ms e in ord_none q pt.kernel pt.view l none (subst (λ (n : Line). Ord q pt.kernel (view_after pt.view n)) (sym f) o)) }
+puts_if pt l true d a b k x none topic = record { q = moved pt l pt.kernel; is = after_one pt l pt.kernel (ap (kernel_after pt.kernel) none); topic = seen_topic pt l none ∙ topic; told = told_on pt.view l; says = λ zs. ap (λ (o : Option Label). with_label o (labels zs)) none; keeps = λ m ms e q o. (let f : l ≡ m = cc in ord_none q pt.kernel pt.view l none (subst (λ (n : Line). Ord q pt.kernel (view_after pt.view n)) (sym f) o)) }
+puts_if pt l false false a b k x none topic = record { q = moved pt l pt.kernel; is = after_one pt l pt.kernel (ap (kernel_after pt.kernel) none); topic = seen_topic pt l none ∙ topic; told = told_on pt.view l; says = λ zs. ap (λ (o : Option Label). with_label o (labels zs)) none; keeps = λ m ms e q o. (let f : l ≡ m = cc in ord_none q pt.kernel pt.view l none (subst (λ (n : Line). Ord q pt.kernel (view_after pt.view n)) (sym f) o)) }
 puts_if pt l false true a b k x none topic =
     let mid = moved pt l pt.kernel in
     record {
@@ -142,7 +137,7 @@ puts_if pt l false true a b k x none topic =
       topic = seen_topic pt l none ∙ topic;
       told = λ i h. told_on mid.view (Line.Packet a b k x) i (told_on pt.view l i h);
       says = λ zs. ap (λ (o : Option Label). with_label o (labels zs)) none;
-      keeps = λ m ms e q o. (let f = first_line l m (Line.Packet a b k x ∷ []) ms e in ord_packet q pt.kernel mid.view a b k x (ord_none q pt.kernel pt.view l none (subst (λ (n : Line). Ord q pt.kernel (view_after pt.view n)) (sym f) o)));
+      keeps = λ m ms e q o. (let f : l ≡ m = cc in ord_packet q pt.kernel mid.view a b k x (ord_none q pt.kernel pt.view l none (subst (λ (n : Line). Ord q pt.kernel (view_after pt.view n)) (sym f) o)));
     }
 
 pub put_lines : (pt : Point) (b : ℕ) (i : MsgId) (k : MessageKind) (q : Pid) → Puts pt (puts pt.view b i k q)

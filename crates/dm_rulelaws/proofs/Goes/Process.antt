@@ -10,9 +10,8 @@ use Rattle.dm_onekernel.specs.Step as kernel
 use Rattle.dm_rule.specs.Rule as rule
 use Rattle.dm_rule.specs.View as view
 use Rattle.dm_rulelaws.proofs.Fits.Rises.{both, set_at}
-use Rattle.dm_rulelaws.proofs.Own.Told.{OwnTold, NoOwns, forwarded_place, forwards_own}
+use Rattle.dm_rulelaws.proofs.Own.Told.{AnyOwns, OwnTold, NoOwns, forwarded_place, forwards_own}
 use Rattle.dm_rulelaws.proofs.Goes.Parts.{does_nothing, does_route, can_as, can_say, can_line, can_plain, ArePlain, does_asks, does_plain, Quiet}
-use Rattle.dm_rulelaws.proofs.Own.Told.{sets_own}
 use Rattle.dm_rulelaws.proofs.Queued.{is_user}
 use Rattle.dm_rulelaws.proofs.Order.Lines.{Which, Ord}
 use Rattle.dm_rulelaws.proofs.Order.Puts.{ord_queued}
@@ -82,13 +81,10 @@ lands_to b p y x ps n w (Moving dir owner base own left pending) is number waits
     search (arith, x.what, k.0)
 lands_to b p y x ps n w _ is number waits fits off = cc
 
-memory_no_user : (w : PlainWhat) → is_of_memory w ≡ true → is_user w ≡ false
-memory_no_user w h1 = search arith
-
 can_land_at : (b : Boot) (m : ℕ) (o : Point) (i : MsgId) (x : PlainMessage) (y : PlainProcess) (w : PlainWhat) (c : pieces.Landed) → x.what ≡ w → o.kernel.processes x.to ≡ Some (Alive y) → o.kernel.notes x.to ≡ None → Front b m o i x → service.serves o.kernel i x y w ≡ Some (service.landed o.kernel i x c)
     → LandsSo x.to y c → CanTurn m o (rule.landing_parts i (Some c))
 can_land_at b m o i x y w (pieces.Next request z) is alive free f serves so =
-    can_answer b m o i x y z w request request.id is alive free f serves (sent_there (service.changed o.kernel i x z) (Some request) request refl) (memory_no_user request.what so.1)
+    can_answer b m o i x y z w request request.id is alive free f serves (sent_there (service.changed o.kernel i x z) (Some request) request refl) (search arith)
 can_land_at b m o i x y w (pieces.Done reply z) is alive free f serves so = can_set b m o i x y z w is alive free f serves
 
 can_land : (b : Boot) (m : ℕ) (o : Point) (i : MsgId) (x : PlainMessage) (y : PlainProcess) (w : PlainWhat) → x.what ≡ w → o.kernel.processes x.to ≡ Some (Alive y) → o.kernel.notes x.to ≡ None → Front b m o i x
@@ -137,7 +133,7 @@ can_move b m o i x y to false is alive free f =
       is = refl;
       does = does_asks (Calm m o) (begun o m) i t (leaves_for x.to to) (asked_is s i x y to f.there alive free is) (does_plain ⊥ (leaves_for x.to to) mid (λ z. z) (refl, (refl, (tt, tt))));
       shape = Quiet refl;
-      owns = sets_own (begun o m).view i x.to to;
+      owns = AnyOwns (Line.Label (Label.Asked i)) (leaves_for x.to to) refl (λ a. (refl, tt));
     }
 
 -- a row a kind

@@ -1,10 +1,10 @@
 -- Laws of runs, from what holds at their start and is kept by each group.
 use Rattle.dm_rulelaws.proofs.Names.{◌≡◌, ℕ, ◌≤◌, true, List, [], ◌∷◌, ap, subst, is_some, nat_le, arith, nat_tests, None, Some, MsgId, Boot, IsValid, Step, is_for_home, Spelled, Point, first_point, group_of, IsStep, IsStill, Leads, Home}
-use Rattle.dm_rulelaws.proofs.Names.{home_start, stands, home_group, none_replaced, kernels_fresh, GoesOnAlways, KnownAlways, for_home, AskNone}
+use Rattle.dm_rulelaws.proofs.Names.{home_start, stands, home_group, none_replaced, kernels_fresh, GoesOnAlways, for_home, AskNone}
 use Rattle.dm_rulelaws.proofs.Fits.Rises.{both}
 use Rattle.dm_rulelaws.proofs.Runs.{Run}
 use Rattle.dm_rulelaws.proofs.Own.Told.{OwnTold}
-use Rattle.dm_rulelaws.proofs.Own.Groups.{own_told_start, own_told_group}
+use Rattle.dm_rulelaws.proofs.Own.Groups.{own_told_group}
 use Rattle.dm_rulelaws.proofs.Goes.Front.{Calm}
 use Rattle.dm_rulelaws.proofs.Goes.Always.{CalmFor, front_own, goes_on}
 
@@ -20,7 +20,7 @@ pub record Both (b : Boot) (pt : Point) : Type 0 where
   pub own : OwnTold pt
 
 pub both_start : RunStarts → (b : Boot) → IsValid b → Both b (first_point b)
-both_start starts b valid = record { run = starts b valid; own = own_told_start b }
+both_start starts b valid = record { run = starts b valid; own = (record { own = λ i t told mine. cc; sender = λ i x there e. cc }) }
 
 pub both_group : RunGoes → (b : Boot) (pt : Point) (d : Step) (w : Spelled) → IsValid b → IsStep pt.kernel.machines d → group_of b pt d ≡ Some w → Both b pt → Both b w.point
 both_group goes b pt d w valid fit is h = record { run = goes b pt d w valid fit is h.run h.own; own = own_told_group b pt d w is h.run h.own }
@@ -38,9 +38,6 @@ goes_on_by starts goes b es pt e valid leads fit =
     let h = both_always starts goes b es pt valid leads in
     let (w, is) = goes_on b pt e valid h.run h.own fit in
     ap is_some is
-
-pub known_by : RunStarts → RunGoes → KnownAlways
-known_by starts goes b es pt valid leads = (both_always starts goes b es pt valid leads).run.based.known
 
 -- as long as nothing moves
 pub record Stays (b : Boot) (pt : Point) : Type 0 where

@@ -11,11 +11,11 @@ use Rattle.dm_rule.specs.Rule as rule
 use Rattle.dm_rulelaws.proofs.Queued.{is_user}
 use Rattle.dm_rulelaws.proofs.Own.Told.{OwnTold, HaveNoOwn}
 use Rattle.dm_rulelaws.proofs.Goes.Parts.{said, no_receive, does_route, Can, can_as, can_say}
-use Rattle.dm_rulelaws.proofs.Order.Moves.{Last, next_id}
 use Rattle.dm_rulelaws.proofs.Goes.Serves.{never_counted}
-use Rattle.dm_rulelaws.proofs.Goes.Front.{begun, Calm, CanTurn, Front, made_of, name_of, home_of, ForOthers, ForWhom, ForProcess, ForOther, for_whom, process_not_kernel, process_not_board, process_not_manager, answer_there, does_routes}
+use Rattle.dm_rulelaws.proofs.Goes.Front.{begun, Calm, CanTurn, Front, made_of, name_of, home_of, ForWhom, ForProcess, ForOther, for_whom, process_not_kernel, process_not_board, process_not_manager, answer_there, does_routes}
 use Rattle.dm_rulelaws.proofs.Goes.Front.{sent_there}
 use Rattle.dm_rulelaws.proofs.Goes.Process.{can_process}
+use Rattle.dm_rulelaws.proofs.Order.Lines.{Last, next_id}
 
 get_is : {X : Type 0} (xs : List X) (k : ℕ) → nat_lt k (length xs) ≡ true → (x : X) × (slice_get xs k ≡ Some x)
 get_is [] k e = absurd (let f : nat_lt k 0 ≡ false = grind (arith, nat_tests) in false≢true (sym f ∙ e))
@@ -30,12 +30,9 @@ abbrev IsCreate : PlainWhat → Type 0
 IsCreate (PlainWhat.Create image links) = ⊥
 IsCreate w = ⊤
 
-others_kernel : (x : PlainMessage) (w : PlainWhat) → IsCreate w → (x.to.num == 0) ≡ true → ForOthers x w → false ≡ true
-others_kernel x w h1 h2 h3 = search (arith, server_number, x.to, x.to.num)
-
 never_kernel : (s : OneKernel) (x : PlainMessage) (w : PlainWhat) → IsCreate w → (x.to.num == 0) ≡ true → Made s → ForWhom s x w → ⊥
 never_kernel s x w c num made (ForProcess there) = false≢true (process_not_kernel s x.to there num made)
-never_kernel s x w c num made (ForOther h) = false≢true (others_kernel x w c num h)
+never_kernel s x w c num made (ForOther h) = false≢true (search (arith, server_number, x.to, x.to.num))
 
 can_created : (b : Boot) (m : ℕ) (o : Point) (i : MsgId) (x : PlainMessage) (image : ℕ) (links : List PlainLink) (g : BootImage) → x.what ≡ PlainWhat.Create image links → x.to.home ≡ m → service.is_kernel o.kernel x.to ≡ true → slice_get o.kernel.images image ≡ Some g → Front b m o i x
     → CanTurn m o (Some (rule.says (Label.Created i (pid_of m (first_number + o.kernel.made m))) ∷ Routes (answer_id i) ∷ []))
@@ -120,13 +117,9 @@ at_manager x m e home = let z : x.to.home ≡ 0 = grind (arith, nat_tests) in sy
 pub server_fixed : (p : Pid) → is_server p ≡ true → is_fixed p ≡ true
 server_fixed p e = or_first (p.num == 0) (is_server p) e
 
--- the switchboard
-others_board : (x : PlainMessage) (w : PlainWhat) → (is_user w ≡ false) → (x.to.num == 0) ≡ false → pid_eq x.to switchboard ≡ true → ForOthers x w → false ≡ true
-others_board x w h1 h2 h3 h4 = search (arith, x.to.num, x.to)
-
 never_board : (s : OneKernel) (x : PlainMessage) (w : PlainWhat) → is_user w ≡ false → (x.to.num == 0) ≡ false → pid_eq x.to switchboard ≡ true → Made s → ForWhom s x w → ⊥
 never_board s x w c num one made (ForProcess there) = false≢true (process_not_board s x.to there one made)
-never_board s x w c num one made (ForOther h) = false≢true (others_board x w c num one h)
+never_board s x w c num one made (ForOther h) = false≢true (search (arith, x.to.num, x.to))
 
 can_board : (b : Boot) (m : ℕ) (o : Point) (i : MsgId) (x : PlainMessage) (w : PlainWhat) → x.what ≡ w → (x.to.num == 0) ≡ false → pid_eq x.to switchboard ≡ true → Front b m o i x → WhatFits o.kernel i x w
     → CanTurn m o (rule.board_took i (board.board_takes o.kernel.switchboard x w))
@@ -149,12 +142,9 @@ for_manager PlainWhat.NoRoom = true
 for_manager (PlainWhat.Moved outcome) = true
 for_manager w = false
 
-others_manager : (x : PlainMessage) (w : PlainWhat) → for_manager w ≡ false → (x.to.num == 0) ≡ false → ForOthers x w → false ≡ true
-others_manager x w h1 h2 h3 = search (arith, x.to.num)
-
 never_manager : (s : OneKernel) (x : PlainMessage) (w : PlainWhat) → for_manager w ≡ false → (x.to.num == 0) ≡ false → pid_eq x.to manager ≡ true → Made s → ForWhom s x w → ⊥
 never_manager s x w c num two made (ForProcess there) = false≢true (process_not_manager s x.to there two made)
-never_manager s x w c num two made (ForOther h) = false≢true (others_manager x w c num h)
+never_manager s x w c num two made (ForOther h) = false≢true (search (arith, x.to.num))
 
 can_manage : (b : Boot) (m : ℕ) (o : Point) (i : MsgId) (x : PlainMessage) (w : PlainWhat) (k : manage.ManagerTook) → x.what ≡ w → pid_eq x.to switchboard ≡ false → pid_eq x.to manager ≡ true → manage.manager_takes o.kernel.manager o.kernel.machines (length o.kernel.images) x w ≡ Some k → Front b m o i x
     → CanTurn m o (rule.manager_parts i (manage.manager_takes o.kernel.manager o.kernel.machines (length o.kernel.images) x w))

@@ -9,10 +9,9 @@ use Rattle.dm_onekernel.specs.Step as kernel
 use Rattle.dm_rule.specs.Rule as rule
 use Rattle.dm_rulelaws.proofs.Fits.Rises.{set_at, both}
 use Rattle.dm_rulelaws.proofs.Goes.Parts.{said, no_receive, Shape, Quiet, Takes, Does, does_nothing, does_label, does_route, sane_by, Can, can_line}
-use Rattle.dm_rulelaws.proofs.Order.Moves.{Last}
-use Rattle.dm_rulelaws.proofs.Own.Told.{HaveNoOwn}
+use Rattle.dm_rulelaws.proofs.Own.Told.{HaveNoOwn, NoOwns}
 use Rattle.dm_rulelaws.proofs.Goes.Turns.{times_self, times_more, Droppable, droppable_on, does_drops, drops_quiet, drops_own, at_hand_of}
-use Rattle.dm_rulelaws.proofs.Own.Told.{NoOwns}
+use Rattle.dm_rulelaws.proofs.Order.Lines.{Last}
 
 -- a process that executes
 pub running_of : (s : OneKernel) (p : Pid) (x : PlainProcess) → s.processes p ≡ Some (Alive x) → s.notes p ≡ None → x.stopped ≡ false → x.status ≡ Ready → kernel.running s p ≡ Some x
@@ -223,12 +222,9 @@ pub record Runnable (s : OneKernel) (queue : Pid → List MsgId) (p : Pid) : Typ
   pub going : x.stopped ≡ false
   pub go : rule.status_can_go s (queue p) x.status ≡ true
 
-runnable_of : (s : OneKernel) (queue : Pid → List MsgId) (p : Pid) (o : Option PlainProcess) → kernel.alive (s.processes p) ≡ o → rule.can_go s (queue p) o ≡ true → Runnable s queue p
-runnable_of s queue p o h1 h2 = search (arith, both, alive-is, s.processes, not_is)
-
 runnable_if : (s : OneKernel) (queue : Pid → List MsgId) (p : Pid) (ps : List Pid) (q : Pid) (c : Bool) → rule.can_go s (queue p) (kernel.alive (s.processes p)) ≡ c → (if c then Some p else rule.first_runnable s queue ps) ≡ Some q
     → (rule.first_runnable s queue ps ≡ Some q → Runnable s queue q) → Runnable s queue q
-runnable_if s queue p ps q true e f rest = let k : p ≡ q = cc in subst (Runnable s queue) k (runnable_of s queue p (kernel.alive (s.processes p)) refl e)
+runnable_if s queue p ps q true e f rest = let k : p ≡ q = cc in subst (Runnable s queue) k (search (arith, both, alive-is, s.processes, not_is))
 runnable_if s queue p ps q false e f rest = rest f
 
 runnable_is : (s : OneKernel) (queue : Pid → List MsgId) (ps : List Pid) (q : Pid) → rule.first_runnable s queue ps ≡ Some q → Runnable s queue q

@@ -2,13 +2,13 @@
 use Rattle.dm_rulelaws.proofs.Names.{◌≡◌, ℕ, ◌+◌, ◌≤◌, Bool, true, false, List, [], ◌∷◌, refl, ap, ◌∙◌, sym, subst, arith, ⊤, if◌then◌else◌, Option, None, Some, Pid, MsgId, id_eq, Label, Line, PlainMessage, PlainWhat, Boot, Why, Ended}
 use Rattle.dm_rulelaws.proofs.Names.{OneKernel, without_message, is_dropped, id_eq-is, id_eq-same, out_off, Point, moved, Spot, Queue, times, standing, StandsNowhere, StandsOutside, StandsRight, is_kernels, stands_right, kernels_fresh}
 use Rattle.dm_rulelaws.proofs.Names.{not_true, StandsAsBag-one, MoveNote, PlainProcess, Alive}
+pub use Rattle.dm_rule.proofs.Phases.Leaves.{first_of as times_self}
 use Rattle.dm_onekernel.specs.Step as kernel
 use Rattle.dm_rule.specs.Rule as rule
-use Rattle.dm_rulelaws.proofs.Queued.{is_user, IsQueued}
+use Rattle.dm_rulelaws.proofs.Queued.{is_user}
 use Rattle.dm_rulelaws.proofs.Runs.{Based}
 use Rattle.dm_rulelaws.proofs.Goes.Parts.{said, no_receive, Does, does_nothing, does_label}
 use Rattle.dm_rulelaws.proofs.Own.Told.{HaveNoOwn}
-pub use Rattle.dm_rule.proofs.Phases.Leaves.{first_of as times_self}
 
 -- a user message of the bag for a process
 pub record IsFor (s : OneKernel) (p : Pid) (i : MsgId) : Type 0 where
@@ -46,9 +46,6 @@ right_there : (i : MsgId) (o : Option PlainMessage) (f : Spot → ℕ) (z : Spot
 right_there i None f z least off h = absurd (let k : StandsNowhere f = subst (λ (c : Bool). StandsOutside c f) off h in let e : f z ≡ 0 = k z in omega (arith, least, e))
 right_there i (Some x) f z least off h = (x, refl, StandsAsBag-one (Some x) f z least h)
 
-for_is : (s : OneKernel) (p : Pid) (i : MsgId) (n : ℕ) (x : PlainMessage) → s.bag i ≡ Some x → IsQueued n p (s.bag i) → IsFor s p i
-for_is s p i n x there q = let k = q.is x there in record { x = x; there = there; to = k.0; user = k.1 }
-
 -- what is queued for a process can go with it
 pub queue_drops : (b : Boot) (m : ℕ) (pt : Point) (p : Pid) → Based b pt → Droppable pt.kernel p (pt.view.queue m p)
 queue_drops b m pt p h = droppable_of pt.kernel p (pt.view.queue m p) (λ i least.
@@ -57,7 +54,7 @@ queue_drops b m pt p h = droppable_of pt.kernel p (pt.view.queue m p) (λ i leas
     let state = h.phased.state in
     let off : is_kernels i ≡ false = not_true (is_kernels i) (λ e. let z = kernels_fresh state.r state.e pt.kernel i state.sound e in omega (arith, entered, z)) in
     let (x, there, one) = right_there i (pt.kernel.bag i) (standing pt.view i) (Queue m p) least off (stands_right pt i state (pt.kernel.bag i) refl) in
-    (for_is pt.kernel p i (state.e i) x there q, (omega (arith, one))))
+    (let k = q.is x there in record { x = x; there = there; to = k.0; user = k.1 }, (omega (arith, one))))
 
 pub user_dropped : (w : PlainWhat) → is_user w ≡ true → is_dropped w ≡ true
 user_dropped (PlainWhat.User code channel body links) e = refl

@@ -1,21 +1,22 @@
 -- As long as nothing moves, messages of one sender to one process on one channel are received in the order in which they were sent.
 use Rattle.dm_rulelaws.proofs.Names.{◌≡◌, suc, Bool, true, false, List, [], ◌∷◌, ◌++◌, refl, ap, ◌∙◌, sym, subst, arith, Option, Some, false≢true, Pid, MsgId, id_of, Boot, IsValid, Label, OneKernel, bind, start, replay, Step, Line, Spelled}
-use Rattle.dm_rulelaws.proofs.Names.{Point, first_point, labels, moved, first_view, LeadsBy, ReceivesInOrder, AreStill, ℕ, ◌+◌, ◌≤◌, ◌==◌, nat_lt, inl, inr, if◌then◌else◌, None, cases_Bool, nat_tests, pid_eq, id_eq, PlainMessage, PlainWhat}
-use Rattle.dm_rulelaws.proofs.Names.{on_mask, switchboard, manager, Life, in_bag, counts, is_counted, pid_eq-same, id_eq-is, id_eq-same, after_step, spelled, without_id, times, untaken, View, after_label, Each, channel_in, is_for_home}
+use Rattle.dm_rulelaws.proofs.Names.{Point, first_point, labels, moved, LeadsBy, ReceivesInOrder, AreStill, ℕ, ◌+◌, ◌≤◌, ◌==◌, inl, inr, if◌then◌else◌, None, cases_Bool, nat_tests, id_eq, PlainMessage, PlainWhat}
+use Rattle.dm_rulelaws.proofs.Names.{on_mask, in_bag, counts, pid_eq-same, id_eq-is, id_eq-same, after_step, without_id, times, untaken, View, after_label, Each, channel_in, is_for_home}
 use Rattle.dm_rulelaws.proofs.Names.{are_for_home, About, NothingElse, begins, marked, homes_of, Sane, AskNone}
 use Rattle.dm_rule.specs.View as view
+use Rattle.dm_onekernel.specs.Step as kernel
+use Rattle.dm_rule.specs.Rule as rule
 use Rattle.dm_rulelaws.proofs.RunLabels.{labels-append, replay-append, group_replay}
 use Rattle.dm_rulelaws.proofs.Goes.Parts.{said, Shape, Quiet, Takes, Goes, Reception, not_receive, no_receive, sane_by, AsksNone, unasked}
 use Rattle.dm_rulelaws.proofs.Goes.Always.{CalmFor, group_on}
 use Rattle.dm_rulelaws.proofs.Goes.Runs.{RunStarts, RunGoes, Stays, stays_start, stays_group, calm_for}
-use Rattle.dm_rulelaws.proofs.Order.Lines.{Which, Ord, ordered, first_one, first_not, drop_one, put_not, on_channel, is_one, is_told, ord_view, ord_step, thin_label, thin_same, box_same, was_told, counts_grown}
-use Rattle.dm_onekernel.specs.Step as kernel
-use Rattle.dm_rule.specs.Rule as rule
+use Rattle.dm_rulelaws.proofs.Order.Lines.{Which, Ord, ordered, first_one, first_not, drop_one, put_not, on_channel, is_one, is_told, ord_view, ord_step, thin_label, thin_same, box_same, was_told, counts_grown, one_is}
 use Rattle.dm_rulelaws.proofs.Fits.Rises.{both, two}
 use Rattle.dm_rulelaws.proofs.Runs.{Run}
 use Rattle.dm_rulelaws.proofs.Goes.Serves.{first_is}
 use Rattle.dm_rulelaws.proofs.Order.Puts.{thin_pair, queue_on}
-use Rattle.dm_rulelaws.proofs.Order.Moves.{one_is}
+use Rattle.dm_rulelaws.proofs.Names.{Life, nat_lt, is_counted, switchboard, manager, pid_eq}
+use Rattle.dm_rulelaws.proofs.Names.{first_view, spelled}
 
 -- messages of one to another on a channel, from a number on
 abbrev pub which : Pid → Pid → ℕ → ℕ → Which
@@ -266,9 +267,6 @@ taking_of b pt d w g h r is = record {
 
 -- As long as nothing moves, messages of one sender to one process on one channel are received in the order in which they were sent.
 
-ord_start : (b : Boot) (q : Which) → q.floor ≡ 0 → Ord q (start b) (first_view b)
-ord_start b q none = search arith
-
 never_nothing : (xs ys : List Label) (y : Label) → [] ≡ xs ++ y ∷ ys → ⊥
 never_nothing [] ys y e = search arith
 never_nothing (x ∷ xs) ys y e = let f : true ≡ false = ap is_nothing e in false≢true (sym f)
@@ -319,6 +317,9 @@ find goes b (d ∷ ds) pt end ls before later p i valid still asks h (w, rest, f
 
 same_kernel : (o : Option OneKernel) (s t : OneKernel) → o ≡ Some s → o ≡ Some t → s ≡ t
 same_kernel o s t e f = let g : Some s ≡ Some t = sym e ∙ f in cc
+
+ord_start : (b : Boot) (q : Which) → q.floor ≡ 0 → Ord q (start b) (first_view b)
+ord_start b q none = search arith
 
 -- received in order, where all of it holds at the start and is kept by each group
 pub receives_in_order_by : RunStarts → RunGoes → ReceivesInOrder

@@ -1,7 +1,7 @@
 -- Messages of one sender to one process on one channel stand in the order in which they were sent: each line keeps it.
 use Rattle.dm_rulelaws.proofs.Names.{◌≡◌, ℕ, suc, ◌+◌, ◌≤◌, ◌<◌, ◌==◌, ◌&&◌, Bool, true, false, not, List, [], ◌∷◌, ◌++◌, refl, ap, ◌∙◌, sym, subst, is_some, nat_lt, arith, if◌then◌else◌, Option, None, Some, false≢true, Pid, pid_eq, MsgId}
-use Rattle.dm_rulelaws.proofs.Names.{id_of, PlainMessage, PlainWhat, Label, switchboard, manager, Life, OneKernel, counts, is_counted, Grown, LifeGrows, after_step, at_machine, at_record, without_front, untaken, View, Told, after_label}
-use Rattle.dm_rulelaws.proofs.Names.{handled, Point, served_keeps, Each, not_kernels, Sane, pid_eq-is, entry, reception, came_from, zero, drop, nat_le, ◌⊎◌, inl, inr, cases_Bool, nat_tests, id_eq, without_id}
+use Rattle.dm_rulelaws.proofs.Names.{id_of, PlainMessage, PlainWhat, Label, switchboard, manager, Life, OneKernel, counts, is_counted, Grown, LifeGrows, after_step, at_machine, at_record, without_front, untaken, View, after_label}
+use Rattle.dm_rulelaws.proofs.Names.{handled, Point, served_keeps, Each, not_kernels, Sane, pid_eq-is, entry, reception, came_from, zero, drop, nat_le, ◌⊎◌, inl, inr, cases_Bool, nat_tests, without_id, at_pair, Pair, not_false}
 use Rattle.dm_onekernel.specs.Step as kernel
 use Rattle.dm_rule.specs.View as view
 use Rattle.dm_rulelaws.proofs.Fits.Rises.{Each-on, both, two}
@@ -77,12 +77,9 @@ thins_same xs ys e = search arith
 pub thins_front : (i : MsgId) (xs : List MsgId) → Thins (without_front i xs) xs
 thins_front i xs = search (arith, thins_same, drop_one)
 
-thins_if : (x : MsgId) (xs ys : List MsgId) (c : Bool) → Thins ys xs → Thins (if c then xs else x ∷ ys) (x ∷ xs)
-thins_if x xs ys c h1 = search (arith, drop_one, context)
-
 pub thins_without : (i : MsgId) (xs : List MsgId) → Thins (without_id i xs) xs
 thins_without i [] = thins_same [] [] refl
-thins_without i (x ∷ xs) = thins_if x xs (without_id i xs) (id_eq i x) (thins_without i xs)
+thins_without i (x ∷ xs) = search (arith, drop_one, context, (thins_without i xs))
 
 -- the end of a list that one is put behind
 pub drop_end : (n : ℕ) (xs : List MsgId) (j : MsgId) → (drop n (xs ++ j ∷ []) ≡ drop n xs ++ j ∷ []) ⊎ (drop n (xs ++ j ∷ []) ≡ [])
@@ -164,13 +161,6 @@ ord_view q s v w t h =
       loop = t.away m ∙ h.loop;
     }
 
--- a step of the kernel: what is told was there before
-one_was_of : (s t : OneKernel) (q : Which) (i : MsgId) (c : Bool) (o : Option PlainMessage) → t.bag i ≡ o → ((x : PlainMessage) → t.bag i ≡ Some x → s.bag i ≡ Some x) → (c && is_mine q o) ≡ true → (c && is_mine q (s.bag i)) ≡ true
-one_was_of s t q i c o h1 h2 h3 = search arith
-
-one_was : (s t : OneKernel) (q : Which) (i : MsgId) → ((x : PlainMessage) → t.bag i ≡ Some x → s.bag i ≡ Some x) → is_one t q i ≡ true → is_one s q i ≡ true
-one_was s t q i f h = one_was_of s t q i (pid_eq i.from q.from && not i.answer) (t.bag i) refl f h
-
 Each-two : {X : Type 0} (P Q R : X → Type 0) → ((x : X) → P x → Q x → R x) → (xs : List X) → Each P xs → Each Q xs → Each R xs
 Each-two P Q R f [] h k = tt
 Each-two P Q R f (x ∷ xs) h k = (f x h.0 k.0, Each-two P Q R f xs h.1 k.1)
@@ -181,7 +171,7 @@ all_told q s v h = search (arith, Each-both, h.queue_told, h.inbox_told, h.away_
 pub ord_step : (q : Which) (s t : OneKernel) (v : View) → ((i : MsgId) (x : PlainMessage) → is_told v i ≡ true → t.bag i ≡ Some x → s.bag i ≡ Some x) → ((i : MsgId) → counts s i ≡ true → counts t i ≡ true) → Ord q s v → Ord q t v
 ord_step q s t v was grows h = record {
   order = fewer (is_one s q) (is_one t q) q.floor (awaiting q v)
-      (Each-on (λ (i : MsgId). is_told v i ≡ true) (λ (i : MsgId). is_one t q i ≡ true → is_one s q i ≡ true) (λ i told. one_was s t q i (λ x. was i x told)) (awaiting q v) (all_told q s v h)) h.order;
+      (Each-on (λ (i : MsgId). is_told v i ≡ true) (λ (i : MsgId). is_one t q i ≡ true → is_one s q i ≡ true) (λ i told. (λ h. search arith)) (awaiting q v) (all_told q s v h)) h.order;
   floor = λ n less. grows (id_of q.from n) (h.floor n less);
   last_told = h.last_told;
   queue_told = h.queue_told;
@@ -228,16 +218,13 @@ dropped_thin : (q : Which) (v : View) (i : MsgId) (o : Option Pid) → ThinFor q
 dropped_thin q v i None = thin_handled q v i
 dropped_thin q v i (Some p) = search (arith, queue_thin, v.queue, v.acting, q.to.home, q.to, thins_front, handled_thin)
 
-served_thin : (q : Which) (v : View) (i : MsgId) → ThinFor q v (view.served_told (handled v i) (v.told i))
-served_thin q v i = search (arith, v.told, served_keeps, q.to.home, thin_same, q.to, v.inbox, handled_thin)
-
 pub thin_label : (q : Which) (v : View) (l : Label) → ThinFor q v (after_label v l)
 thin_label q v (Label.Ran p k) = thin_same q v (after_label v (Label.Ran p k)) refl (box_same v q.to.home) (λ a. refl) (λ j. refl)
 thin_label q v (Label.End p y) = thin_same q v (after_label v (Label.End p y)) refl (box_same v q.to.home) (λ a. refl) (λ j. refl)
 thin_label q v (Label.Receive p id) = search (arith, queue_thin, v.queue, v.acting, q.to.home, q.to, thins_without, box_same)
 thin_label q v (Label.Refuse p id c) = thin_same q v (after_label v (Label.Refuse p id c)) refl (box_same v q.to.home) (λ a. refl) (λ j. refl)
 thin_label q v (Label.Dropped id) = dropped_thin q v id (view.receiver_of (v.told id))
-thin_label q v (Label.Served id) = served_thin q v id
+thin_label q v (Label.Served id) = search (arith, v.told, served_keeps, q.to.home, thin_same, q.to, v.inbox, handled_thin)
 thin_label q v (Label.Gone id) = thin_handled q v id
 thin_label q v (Label.Took id) = thin_handled q v id
 thin_label q v (Label.Created id p) = thin_same q v (after_label v (Label.Created id p)) refl (handled_thin v id q.to.home) (λ a. refl) (λ j. refl)
@@ -245,17 +232,119 @@ thin_label q v (Label.NoSpace id f b) = thin_handled q v id
 thin_label q v (Label.Asked id) = thin_handled q v id
 thin_label q v _ = thin_same q v v refl (box_same v q.to.home) (λ a. refl) (λ j. refl)
 
-untold_not : (o : Option Told) → o ≡ None → is_some o ≡ true → false ≡ true
-untold_not o e h = sym (ap is_some e) ∙ h
-
 pub was_told : (pt : Point) (l : Label) (t : OneKernel) (h : Sane pt) → kernel.step pt.kernel l ≡ Some t → (i : MsgId) (x : PlainMessage) → is_told pt.view i ≡ true → t.bag i ≡ Some x → pt.kernel.bag i ≡ Some x
 was_told pt l t h is i x told there =
     let a = after_step h.r h.e pt.kernel t l is h.sound in
     came_from (pt.kernel.bag i) (t.bag i) (h.e i) x (a.sound.entered.once i) there (λ y was. a.only i y x was there)
-    (λ zero_. absurd (false≢true (untold_not (pt.view.told i) (h.untold i zero_ (not_kernels (λ j. h.r j + reception j l) (λ j. h.e j + entry j pt.kernel t) t i x there a.sound)) told)))
+    (λ zero_. absurd (false≢true (sym (ap is_some (h.untold i zero_ (not_kernels (λ j. h.r j + reception j l) (λ j. h.e j + entry j pt.kernel t) t i x there a.sound))) ∙ told)))
 
 pub ord_label : (q : Which) (pt : Point) (l : Label) (t : OneKernel) → Sane pt → kernel.step pt.kernel l ≡ Some t → Ord q pt.kernel pt.view → Ord q t (after_label pt.view l)
 ord_label q pt l t h step o =
     let a = after_step h.r h.e pt.kernel t l step h.sound in
     ord_view q t pt.view (after_label pt.view l) (thin_label q pt.view l)
     (ord_step q pt.kernel t pt.view (was_told pt l t h step) (counts_grown pt.kernel t a.grown) o)
+
+-- Routes, deliveries and queues keep the order in which messages were sent.
+
+pub append-assoc : (xs ys zs : List MsgId) → (xs ++ ys) ++ zs ≡ xs ++ (ys ++ zs)
+append-assoc [] ys zs = refl
+append-assoc (x ∷ xs) ys zs = ap (λ ws. x ∷ ws) (append-assoc xs ys zs)
+
+pub append-none : (xs : List MsgId) → xs ++ [] ≡ xs
+append-none [] = refl
+append-none (x ∷ xs) = ap (λ ws. x ∷ ws) (append-none xs)
+
+-- the message is the last that its sender counts, and no put has told it
+abbrev pub next_id : MsgId → MsgId
+next_id j = record { from = j.from; n = j.n + 1; answer = false }
+
+pub record Last (s : OneKernel) (v : View) (j : MsgId) : Type 0 where
+  pub home : j.from.home ≡ v.acting
+  pub last : counts s (next_id j) ≡ false
+  pub untold : v.told j ≡ None
+
+-- counted numbers are below those that aren't
+below_of : (b c : Bool) (n k a l : ℕ) (x : Option Life) → (if b then nat_lt n a else if c then nat_lt n l else is_counted n x) ≡ true → (if b then nat_lt k a else if c then nat_lt k l else is_counted k x) ≡ false → n < k
+below_of b c n k a l x h1 h2 = search arith
+
+counts_below : (s : OneKernel) (i j : MsgId) → counts s i ≡ true → counts s j ≡ false → i.from ≡ j.from → i.n < j.n
+counts_below s i j e f same = search (arith, i.from, j.n, s.switchboard.sent, s.manager.sent, s.processes, below_of, i.n)
+
+-- what it is to be one
+pub record One (s : OneKernel) (q : Which) (i : MsgId) : Type 0 where
+  pub from : i.from ≡ q.from
+  pub own : i.answer ≡ false
+  pub x : PlainMessage
+  pub there : s.bag i ≡ Some x
+  pub to : x.to ≡ q.to
+  pub user : is_user x.what ≡ true
+  pub on : on_channel q.channel x.what ≡ true
+
+user_on : (c : ℕ) (w : PlainWhat) → on_channel c w ≡ true → is_user w ≡ true
+user_on c (PlainWhat.User code channel body links) e = refl
+user_on c _ e = cc
+
+one_by : (s : OneKernel) (q : Which) (i : MsgId) (o : Option PlainMessage) → s.bag i ≡ o → i.from ≡ q.from → i.answer ≡ false → is_mine q o ≡ true → One s q i
+one_by s q i o h1 h2 h3 h4 = search (arith, both, q.to, q.channel, pid_eq-is, user_on)
+
+pub one_is : (s : OneKernel) (q : Which) (i : MsgId) → is_one s q i ≡ true → One s q i
+one_is s q i h = search (arith, both, i.from, q.from, i.answer, s.bag, one_by, pid_eq-is, not_false)
+
+-- one more of the kind at the end of all
+told_apart : (v : View) (i j : MsgId) → is_told v i ≡ true → v.told j ≡ None → i ≡ j → false ≡ true
+told_apart v i j told none e = sym (ap is_some none) ∙ sym (ap (is_told v) e) ∙ told
+
+strictly : (a b : ℕ) → a < b + 1 → (a ≡ b → false ≡ true) → a < b
+strictly a b le apart = search arith
+
+-- one more of the kind at the end of all
+same_id : (i j : MsgId) → i.from ≡ j.from → i.n ≡ j.n → i.answer ≡ j.answer → i ≡ j
+same_id i j e f g = λ k. record { from = e k; n = f k; answer = g k }
+
+below_last : (q : Which) (s : OneKernel) (v : View) (i j : MsgId) → ((k : MsgId) (y : PlainMessage) → s.bag k ≡ Some y → counts s k ≡ true) → is_told v i ≡ true → is_one s q j ≡ true → Last s v j → is_one s q i ≡ true → i.n < j.n
+below_last q s v i j bagged told mine last one =
+    let a = one_is s q i one in
+    let b = one_is s q j mine in
+    let same : i.from ≡ j.from = a.from ∙ sym b.from in
+    strictly i.n j.n (counts_below s i (next_id j) (bagged i a.x a.there) last.last same) (λ e. told_apart v i j told last.untold (same_id i j same e (a.own ∙ sym b.own)))
+
+floor_below : (q : Which) (s : OneKernel) (v : View) (j : MsgId) (f : ℕ) → q.floor ≡ f → Ord q s v → is_one s q j ≡ true → Last s v j → q.floor ≤ j.n
+floor_below q s v j zero is h mine last = omega (arith, is)
+floor_below q s v j (suc n) is h mine last =
+    let b = one_is s q j mine in
+    let counted = h.floor n (omega (arith, is)) in
+    let less = counts_below s (id_of q.from n) (next_id j) counted last.last (sym b.from) in
+    let apart = strictly n j.n less (λ e. told_apart v (id_of q.from n) j (h.last_told n (sym is)) last.untold (same_id (id_of q.from n) j (sym b.from) e (sym b.own))) in
+    omega (arith, is, apart)
+
+pub order_last : (q : Which) (s : OneKernel) (v : View) (j : MsgId) → ((k : MsgId) (y : PlainMessage) → s.bag k ≡ Some y → counts s k ≡ true) → Ord q s v → is_one s q j ≡ true → Last s v j → ordered (is_one s q) q.floor (awaiting q v ++ j ∷ []) ≡ true
+order_last q s v j bagged h mine last =
+    add_last (is_one s q) q.floor (awaiting q v) j
+    (Each-on (λ (i : MsgId). is_told v i ≡ true) (λ (i : MsgId). is_one s q i ≡ true → i.n < j.n) (λ i told one. below_last q s v i j bagged told mine last one) (awaiting q v) (all_told q s v h)) (floor_below q s v j q.floor refl h mine last) h.order
+
+-- one that is not of the kind, anywhere
+pub order_not : (g : MsgId → Bool) (from : ℕ) (pre post : List MsgId) (j : MsgId) → g j ≡ false → ordered g from (pre ++ post) ≡ true → ordered g from (pre ++ j ∷ post) ≡ true
+order_not g from pre post j e h = context g from pre post (j ∷ post) (λ k f. put_not g k j post e f) h
+
+-- a pair's list after one was set
+pub pair_at : (f : ℕ → ℕ → Pair) (a b c d : ℕ) (p : Pair) (T : List MsgId → Type 0) → (a ≡ c → b ≡ d → T (untaken p)) → T (untaken (f c d)) → T (untaken (at_pair f a b p c d))
+pair_at f a b c d p T h1 h2 = search (arith, both)
+
+pub pair_off : (f : ℕ → ℕ → Pair) (a b c d : ℕ) (p : Pair) → (b == d) ≡ false → untaken (at_pair f a b p c d) ≡ untaken (f c d)
+pair_off f a b c d p e = pair_at f a b c d p (λ (xs : List MsgId). xs ≡ untaken (f c d)) (λ x y. absurd (let g : (b == d) ≡ true = grind (arith, nat_tests) in false≢true (sym e ∙ g))) refl
+
+pub pair_on : (f : ℕ → ℕ → Pair) (a b : ℕ) (p : Pair) → untaken (at_pair f a b p a b) ≡ untaken p
+pair_on f a b p = let x : ((a == a) && (b == b)) ≡ true = (let e : (a == a) ≡ true = grind (arith, nat_tests) in let g : (b == b) ≡ true = grind (arith, nat_tests) in two (a == a) (b == b) e g) in ap (λ (c : Bool). untaken (if c then p else f a b)) x
+
+pub pair_else : (f : ℕ → ℕ → Pair) (a b c d : ℕ) (p : Pair) → (a == c) ≡ false → untaken (at_pair f a b p c d) ≡ untaken (f c d)
+pair_else f a b c d p e = pair_at f a b c d p (λ (xs : List MsgId). xs ≡ untaken (f c d)) (λ x y. absurd (let g : (a == c) ≡ true = grind (arith, nat_tests) in false≢true (sym e ∙ g))) refl
+
+pub box_on : (f : ℕ → List MsgId) (m : ℕ) (xs : List MsgId) → at_machine f m xs m ≡ xs
+box_on f m xs = let e : (m == m) ≡ true = grind (arith, nat_tests) in ap (λ (c : Bool). if c then xs else f m) e
+
+pub box_off : (f : ℕ → List MsgId) (m n : ℕ) (xs : List MsgId) → (m == n) ≡ false → at_machine f m xs n ≡ f n
+box_off f m n xs e = ap (λ (c : Bool). if c then xs else f n) e
+
+-- an order carried over to lists that are equal
+pub order_as : (g : MsgId → Bool) (from : ℕ) (xs ys : List MsgId) → ys ≡ xs → ordered g from xs ≡ true → ordered g from ys ≡ true
+order_as g from xs ys e h = ap (ordered g from) e ∙ h

@@ -4,8 +4,8 @@ use Rattle.dm_rulelaws.proofs.Names.{id_of, PlainMessage, OneKernel, counts, id_
 use Rattle.dm_rulelaws.proofs.Names.{false≢true, pid_eq, pid_eq-is, at_record, without_front, after_taken, handled, at_place}
 use Rattle.dm_rule.specs.View as view
 use Rattle.dm_rulelaws.proofs.Queued.{is_user}
-use Rattle.dm_rulelaws.proofs.Order.Lines.{context, Each-both, thins_same, drop_end, Which, is_one, is_told, awaiting, Sourced, AllTold, Ord, ThinFor, ord_view, thin_same, box_same, told_on, handled_thin}
-use Rattle.dm_rulelaws.proofs.Order.Moves.{append-assoc, append-none, Last, One, one_is, order_last, order_not, pair_at, pair_off, pair_on, pair_else, box_on, box_off, order_as}
+use Rattle.dm_rulelaws.proofs.Order.Lines.{context, Each-both, thins_same, drop_end, Which, is_one, is_told, awaiting, Sourced, AllTold, Ord, ThinFor, ord_view, thin_same, box_same, told_on, handled_thin, append-assoc, append-none, Last}
+use Rattle.dm_rulelaws.proofs.Order.Lines.{One, one_is, order_last, order_not, pair_at, pair_off, pair_on, pair_else, box_on, box_off, order_as}
 
 -- pairs whose messages stay
 pub thin_pair : (q : Which) (v : View) (a c : ℕ) (p : Pair) → untaken p ≡ untaken (v.pair a c) → ThinFor q v (view.with_pair v a c p)
@@ -23,9 +23,6 @@ after v c j k p = after_put v v.acting c j k p
 
 abbrev new_told : View → MsgId → MessageKind → Pid → Told
 new_told v j k p = view.first_told (v.told j) (record { kind = k; receiver = p; about = v.topic })
-
-put_elsewhere : (q : Which) (v : View) (c : ℕ) (j : MsgId) (k : MessageKind) (p : Pid) → (c == q.to.home) ≡ false → ThinFor q v (after v c j k p)
-put_elsewhere q v c j k p h1 = search (arith, thins_same, v.queue, q.to.home, q.to, v.inbox, v.acting, pair_off, v.pair, told_put, box_off)
 
 drop_put : (n : ℕ) (xs : List MsgId) (j : MsgId) → drop n xs ≡ [] → drop (suc n) (xs ++ j ∷ []) ≡ []
 drop_put zero [] j e = refl
@@ -138,7 +135,7 @@ put_away q s v j x k p there bagged last away h =
 
 pub ord_put : (q : Which) (s : OneKernel) (v : View) (c : ℕ) (j : MsgId) (x : PlainMessage) → s.bag j ≡ Some x → ((i : MsgId) (y : PlainMessage) → s.bag i ≡ Some y → counts s i ≡ true) → (is_user x.what ≡ true → Last s v j) → Ord q s v → Ord q s (after_put v v.acting c j (plain_kind x.what) x.to)
 ord_put q s v c j x there bagged last h = elim (cases_Bool (c == q.to.home)) [
-  | inr off ↦ ord_view q s v (after v c j (plain_kind x.what) x.to) (put_elsewhere q v c j (plain_kind x.what) x.to off) h
+  | inr off ↦ ord_view q s v (after v c j (plain_kind x.what) x.to) (search (arith, thins_same, v.queue, q.to.home, q.to, v.inbox, v.acting, pair_off, v.pair, told_put, box_off)) h
   | inl same ↦
       let is : c ≡ q.to.home = grind (arith, nat_tests) in
       subst (λ n. Ord q s (after v n j (plain_kind x.what) x.to)) (sym is) (elim (cases_Bool (v.acting == q.to.home)) [
@@ -161,10 +158,6 @@ taken_pair p n = record p { taken = p.taken + 1; kept = filter (λ k. not (k == 
 
 taken_is : (p : Pair) (n : ℕ) → untaken (taken_pair p n) ≡ drop (suc p.taken) p.ids
 taken_is p n = let e : p.taken + 1 ≡ suc p.taken = omega arith in ap (λ k. drop k p.ids) e
-
--- on the way to another process's home
-taken_elsewhere : (q : Which) (v : View) (a c n : ℕ) (o : Option MsgId) → (c == q.to.home) ≡ false → ThinFor q v (view.taken_id (view.with_pair v a c (taken_pair (v.pair a c) n)) c o)
-taken_elsewhere q v a c n o h1 = search (arith, thin_same, v.pair, box_same, q.to.home, pair_off, thins_same, v.inbox, box_off)
 
 none_here : (q : Which) (s : OneKernel) (v : View) (a n : ℕ) (o : Option MsgId) → slice_get (v.pair a q.to.home).ids (v.pair a q.to.home).taken ≡ o → Ord q s v → Ord q s (view.taken_id (view.with_pair v a q.to.home (taken_pair (v.pair a q.to.home) n)) q.to.home o)
 none_here q s v a n None is h = search (arith, ord_view, thin_pair, taken_is, place_none)
@@ -210,7 +203,7 @@ none_here q s v a n (Some i) is h =
 
 pub ord_taken : (q : Which) (s : OneKernel) (v : View) (a c n : ℕ) → Ord q s v → Ord q s (after_taken v a c n)
 ord_taken q s v a c n h = elim (cases_Bool (c == q.to.home)) [
-  | inr off ↦ ord_view q s v (after_taken v a c n) (taken_elsewhere q v a c n (view.oldest (v.pair a c)) off) h
+  | inr off ↦ ord_view q s v (after_taken v a c n) (search (arith, thin_same, v.pair, box_same, q.to.home, pair_off, thins_same, v.inbox, box_off)) h
   | inl same ↦
       let is : c ≡ q.to.home = grind (arith, nat_tests) in
       subst (λ k. Ord q s (after_taken v a k n)) (sym is) (none_here q s v a n (slice_get (v.pair a q.to.home).ids (v.pair a q.to.home).taken) refl h)
@@ -219,9 +212,6 @@ ord_taken q s v a c n h = elim (cases_Bool (c == q.to.home)) [
 -- queued
 pub queue_on : (f : ℕ → Pid → List MsgId) (a m : ℕ) (p r : Pid) (xs : List MsgId) → a ≡ m → pid_eq p r ≡ true → at_record f a p xs m r ≡ xs
 queue_on f a m p r xs e same = let k : (a == m) ≡ true = grind (arith, nat_tests) in ap (λ (c : Bool). if c && pid_eq p r then xs else f m r) k ∙ ap (λ (c : Bool). if c then xs else f m r) same
-
-queue_off : (f : ℕ → Pid → List MsgId) (a m : ℕ) (p r : Pid) (xs : List MsgId) → pid_eq p r ≡ false → at_record f a p xs m r ≡ f m r
-queue_off f a m p r xs h1 = search arith
 
 front_is : (i : MsgId) (is : List MsgId) → without_front i (i ∷ is) ≡ is
 front_is i is = ap (λ (c : Bool). if c then is else i ∷ is) (id_eq-same i)
@@ -234,7 +224,7 @@ ord_queued q s v i is p box home now h =
     elim (cases_Bool (pid_eq p q.to)) [
       | inr other ↦
           ord_view q s v w (record {
-            queue = thins_same (w.queue m q.to) (v.queue m q.to) (queue_off v.queue v.acting m p q.to (v.queue v.acting p ++ i ∷ []) other);
+            queue = thins_same (w.queue m q.to) (v.queue m q.to) (search arith);
             inbox = handled_thin v i m;
             away = λ a. refl;
             told = λ j e. e;

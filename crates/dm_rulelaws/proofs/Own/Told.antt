@@ -1,9 +1,17 @@
 -- What was told of kernels' own messages, and who sends what is told back.
 use Rattle.dm_rulelaws.proofs.Names.{◌≡◌, ◌==◌, ◌&&◌, ◌||◌, Bool, true, false, not, refl, ap, ◌∙◌, sym, Some, false≢true, Pid, MsgId, MessageKind, plain_kind, PlainMessage, is_told_back, is_between, Point, About, Target, Of, Told}
 use Rattle.dm_rulelaws.proofs.Names.{is_kernels, is_server, is_fixed, second, Sort, sort_of, arith, nat_tests, ℕ, List, [], ◌∷◌, ◌++◌, ⊤, if◌then◌else◌, Option, None, pid_of, Line, Stage, Addresses, Sender, to_kernel, forwards_on, accepts}
-use Rattle.dm_rulelaws.proofs.Names.{takes_chunk, takes_block, gives_piece, sends_on, label_of, Part, Says, Routes, Again, Owns, Transmits, View, Known, Forward, view_after, handled, receiver_of, tells_between, Label, leaves_for}
+use Rattle.dm_rulelaws.proofs.Names.{takes_chunk, takes_block, gives_piece, sends_on, label_of, Part, Says, Routes, Again, Owns, Transmits, View, Known, Forward, view_after, handled, receiver_of, tells_between, Label, ◌⊎◌}
+use Rattle.dm_rulelaws.proofs.Names.{subst, is_some, length, inl, inr, take, drop, PlainLink, PlainWhat, switchboard, manager, Switchboard, Manager, OneKernel, with_sent, answer_to, without_message, Made, came, stayed, lands-is, Sound}
+use Rattle.dm_rulelaws.proofs.Names.{by_step, code_of_outcome, answer_id, without_note, Pending, MoveNote, ◌+◌}
 use Rattle.dm_rule.specs.View.{Place}
 use Rattle.dm_rule.specs.View as view
+use Rattle.dm_onekernel.specs.Pieces as pieces
+use Rattle.dm_onekernel.specs.Switchboard as board
+use Rattle.dm_onekernel.specs.Manager as manage
+use Rattle.dm_onekernel.specs.Service as service
+use Rattle.dm_onekernel.specs.Step as step
+use Rattle.dm_rulelaws.proofs.Takes.{by_manager, by_over}
 
 abbrev pub is_process : About → Bool
 is_process (Of p) = true
@@ -40,31 +48,18 @@ about_of : (a : About) → is_process a ≡ true → (p : Pid) × (a ≡ Of p)
 about_of (Of p) e = (p, refl)
 about_of _ e = absurd (false≢true e)
 
-no_other : (q : Pid) (b : Bool) → (q.num == 0) ≡ true → (not (q.num == 0) && b) ≡ true → false ≡ true
-no_other q b num e = sym (ap (λ (c : Bool). not c && b) num) ∙ e
-
-not_fixed : (q : Pid) (b : Bool) → (q.num == 0) ≡ true → (not (is_fixed q) && b) ≡ true → false ≡ true
-not_fixed q b num e = sym (ap (λ (c : Bool). not (c || is_server q) && b) num) ∙ e
-
-by_about : (a : About) → is_process a ≡ true → (true ≡ true) × (p : Pid) × (a ≡ Of p)
-by_about a e = let (p, is) = about_of a e in (refl, p, is)
-
 sort_between : (w : Sort) (q : Pid) (a : About) → sort_fits w q a ≡ true → (q.num == 0) ≡ true → (tells_between w ≡ true) × (p : Pid) × (a ≡ Of p)
-sort_between (Sort.Between passage) q a e num = by_about a (second (q.num == 0) (is_process a) e)
-sort_between Sort.Notice q a e num = absurd (false≢true (no_other q (is_place a) num e))
-sort_between Sort.Request q a e num = absurd (false≢true (not_fixed q (is_target a) num e))
+sort_between (Sort.Between passage) q a e num = let (p, is) = about_of a (second (q.num == 0) (is_process a) e) in (refl, p, is)
+sort_between Sort.Notice q a e num = absurd (false≢true (sym (ap (λ (c : Bool). not c && (is_place a)) num) ∙ e))
+sort_between Sort.Request q a e num = absurd (false≢true (sym (ap (λ (c : Bool). not (c || is_server q) && (is_target a)) num) ∙ e))
 sort_between _ q a e num = absurd (false≢true e)
 
 pub own_between : (k : MessageKind) (q : Pid) (a : About) → own_sort k q a ≡ true → (q.num == 0) ≡ true → (is_between k ≡ true) × (p : Pid) × (a ≡ Of p)
 own_between k = sort_between (sort_of k)
 
--- a server is told of places
-server_not : (q : Pid) (b : Bool) → is_server q ≡ true → (q.num == 0) ≡ false → (not (is_fixed q) && b) ≡ true → false ≡ true
-server_not q b server num e = sym (ap (λ (c : Bool). not c && b) (ap (λ (c : Bool). c || is_server q) num ∙ server)) ∙ e
-
 pub own_server : (k : MessageKind) (q : Pid) (a : About) → own_sort k q a ≡ true → (q.num == 0) ≡ false → is_server q ≡ true → k ≡ MessageKind.Update
 own_server MessageKind.Update q a e num server = refl
-own_server MessageKind.Migrate q a e num server = absurd (false≢true (server_not q (is_target a) server num e))
+own_server MessageKind.Migrate q a e num server = absurd (false≢true (sym (ap (λ (c : Bool). not c && (is_target a)) (ap (λ (c : Bool). c || is_server q) num ∙ server)) ∙ e))
 own_server _ q a e num server = absurd (grind (arith, nat_tests))
 
 -- Where the parts of a group have kernels' own messages, and what these are about.
@@ -109,14 +104,11 @@ told_back : (a : About) (c : Bool) (q : Pid) (to : ℕ) → (c ≡ true → own_
 told_back a true q to h = (h refl, tt)
 told_back a false q to h = tt
 
-update_sort : (q : Pid) (a : About) → (q.num == 0) ≡ false → is_place a ≡ true → own_sort MessageKind.Update q a ≡ true
-update_sort q a num place = ap (λ (c : Bool). not c && is_place a) num ∙ place
-
 pub forwards_own : (v : View) (a : Addresses) (i : MsgId) (k : MessageKind) (sender : Pid) (to : ℕ) → is_place (view_after v (Line.Forwarded i to)).topic ≡ true → (is_told_back k ≡ true → (sender.num == 0) ≡ false) → OwnsFit v (forwards_on a i k sender to)
 forwards_own v a i k sender to place num =
     let topic = (view_after v (Line.Forwarded i to)).topic in
     ThenOwns (Line.Forwarded i to) (Again i to ∷ (if is_told_back k then Owns MessageKind.Update sender (a (Sender i)).at ∷ [] else [])) refl refl
-    (told_back topic (is_told_back k) sender (a (Sender i)).at (λ e. update_sort sender topic (num e) place))
+    (told_back topic (is_told_back k) sender (a (Sender i)).at (λ e. ap (λ (c : Bool). not c && is_place topic) (num e) ∙ place))
 
 -- what kernels tell each other is about the process
 pub accepts_own : (v : View) (from : ℕ) (p : Pid) (room : Bool) (slots blocks : ℕ) → OwnsFit v (accepts from p room slots blocks)
@@ -139,18 +131,124 @@ pub block_own : (v : View) (i : MsgId) (q : Pid) (last : Bool) (t : Told) (p : P
 block_own v i q true t p told about = ThenOwns (Line.Migration Stage.MemoryTaken q) (to_kernel MessageKind.AllTaken i.from.home ∷ []) refl refl (refl, tt)
 block_own v i q false t p told about = piece_own v i MessageKind.PullBlock t p told about (λ a e. e)
 
--- whatever was said before it
-leaves_own : (a : About) (p : Pid) (to : ℕ) → Later a (leaves_for p to)
-leaves_own a p to = (refl, tt)
-
 pub moves_own : (v : View) (i : MsgId) (p : Pid) (to : ℕ) (c : Bool) → OwnsFit v (if c then Says (Line.Here i) ∷ [] else Says (Line.Migration Stage.Frozen p) ∷ Says (Line.Migration Stage.Asked p) ∷ to_kernel MessageKind.Ask to ∷ [])
 moves_own v i p to true = NoOwns (tt, tt)
-moves_own v i p to false = FirstOwns (leaves_own v.topic p to)
-
--- a process is asked to move, and sets off
-pub sets_own : (v : View) (id : MsgId) (p : Pid) (to : ℕ) → OwnsFit v (Says (Line.Label (Label.Asked id)) ∷ leaves_for p to)
-sets_own v id p to = AnyOwns (Line.Label (Label.Asked id)) (leaves_for p to) refl (λ a. leaves_own a p to)
+moves_own v i p to false = FirstOwns (refl, tt)
 
 pub sends_own : (a : About) (to : ℕ) (ids : List MsgId) (ps : List Part) → Later a ps → Later a (sends_on to ids ++ ps)
 sends_own a to [] ps h = h
 sends_own a to (i ∷ is) ps h = sends_own a to is ps h
+
+-- No kernel sends what is told back when it is forwarded.
+
+abbrev IsSent : PlainMessage → Type 0
+IsSent x = is_told_back (plain_kind x.what) ≡ true → (x.sender.num == 0) ≡ false
+
+abbrev pub Senders : OneKernel → Type 0
+Senders s = (i : MsgId) (x : PlainMessage) → s.bag i ≡ Some x → IsSent x
+
+-- who sends: a process that was made, a server, or a kernel that answers about a process to be made
+abbrev pub Origin : OneKernel → PlainMessage → Type 0
+Origin s x = (is_some (s.processes x.sender) ≡ true) ⊎ ((is_server x.sender ≡ true) ⊎ ((service.is_kernel s x.sender ≡ true) × (is_told_back (plain_kind x.what) ≡ false)))
+
+-- what a step brings into the bag
+abbrev pub Brings : OneKernel → OneKernel → Type 0
+Brings s t = (i : MsgId) (x : PlainMessage) → t.bag i ≡ Some x → (s.bag i ≡ Some x) ⊎ Origin s x
+
+abbrev Sub : OneKernel → OneKernel → Type 0
+Sub u s = (i : MsgId) (x : PlainMessage) → u.bag i ≡ Some x → s.bag i ≡ Some x
+
+in_brings : (s u : OneKernel) (m : PlainMessage) → Sub u s → Origin s m → Brings s (with_sent u (Some m))
+in_brings s u m same ok i x there = elim (came u m x i there) [
+  | inl new ↦ inr (subst (Origin s) new.0 ok)
+  | inr old ↦ inl (same i x old)
+]
+
+-- servers
+abbrev pub SentBy : Pid → Option PlainMessage → Type 0
+SentBy q None = ⊤
+SentBy q (Some m) = m.sender ≡ q
+
+board_request : (b : Switchboard) (body : List ℕ) (links : List PlainLink) → SentBy switchboard (board.takes_request b body links).answer
+board_request b body [] = tt
+board_request b body (l ∷ ls) = refl
+
+pub board_sender : (b : Switchboard) (m : PlainMessage) (w : PlainWhat) (k : board.BoardTook) → board.board_takes b m w ≡ Some k → SentBy switchboard k.answer
+board_sender b m (PlainWhat.User code channel body links) k e = let f : board.takes_request b body links ≡ k = cc in subst (λ (v : board.BoardTook). SentBy switchboard v.answer) f (board_request b body links)
+board_sender b m _ k e = cc
+
+pub manager_sender : (g : Manager) (machines images : ℕ) (m : PlainMessage) (w : PlainWhat) (k : manage.ManagerTook) → manage.manager_takes g machines images m w ≡ Some k → SentBy manager k.message
+manager_sender g machines images m w k =
+    let over : (children : List Pid) (pending : List Pending) (o : Option PlainLink) (code : ℕ) (links : List PlainLink) → SentBy manager (manage.answers_over (record g { children = children; pending = pending }) o code links).message =
+    λ children pending o code links. by_over (λ x. SentBy manager x.message) (record g { children = children; pending = pending }) o code links tt (λ l. refl) in
+    by_manager (λ x. SentBy manager x.message) g machines images m w k (record {
+      ignores = tt;
+      refuses = λ l ls u. refl;
+      asks = λ machine image l ls u within. refl;
+      moves = λ code child machine links u is within. refl;
+      tells = λ code child v is control. refl;
+      created = λ child r is there. over (g.children ++ child ∷ []) (manage.without_pending m.id.n g.pending) r.answer 0 (manage.control_link (length g.children + 1) ∷ []);
+      no_room = λ r is there. over g.children (manage.without_pending m.id.n g.pending) r.answer 1 [];
+      moved = λ outcome r is there. over g.children (manage.without_pending m.id.n g.pending) r.answer (code_of_outcome outcome) [];
+    })
+
+server_brings : (s u : OneKernel) (q : Pid) (o : Option PlainMessage) → SentBy q o → is_server q ≡ true → Sub u s → Brings s (with_sent u o)
+server_brings s u q None sends server same i x there = inl (same i x there)
+server_brings s u q (Some m) sends server same i x there = in_brings s u m same (inr (inl (ap is_server sends ∙ server))) i x there
+
+-- a row a label
+pub brings : (s t : OneKernel) (l : Label) → ((p : Pid) (n : MoveNote) → s.notes p ≡ Some n → is_some (s.processes p) ≡ true) → step.step s l ≡ Some t → Brings s t
+brings s t l lives =
+    let taken : (id : MsgId) (u : OneKernel) → ((i : MsgId) → u.bag i ≡ (without_message s id).bag i) → Sub u s = λ id u same i x there. stayed s id i x (sym (same i) ∙ there) in
+    by_step (Brings s) s t l (record {
+      ran = λ p k x m is w i z there. inl there;
+      replies = λ p n k c d y is w i z there. inl there;
+      sends = λ p id k m y is same w.
+          (let (z, sent, pending, counted) = w.so.counts in
+          in_brings s (step.goes_on s p y) m (λ i x there. there) (inl (ap (λ (q : Pid). is_some (s.processes q)) counted.sender ∙ ap is_some w.so.is.alive)));
+      waits = λ p k y is w i z there. inl there;
+      outputs = λ p w k v y is n i z there. inl there;
+      ends = λ p y next is w i z there. inl there;
+      receives = λ p id y is w c i z there. inl (stayed s id i z there);
+      refuses = λ p id c d y is w f i z there. inl there;
+      dropped = λ id m y is w f i z there. inl (stayed s id i z there);
+      gone = λ id m y is w v f. in_brings s (without_message s id) (answer_to m v) (taken id (without_message s id) (λ i. refl)) (inl (ap is_some w.ended));
+      asked = λ id m x machine is w f i z there. inl (stayed s id i z there);
+      answered = λ id o p n is f. in_brings s (without_note s p id) (record { id = answer_id id; to = n.asker; sender = p; what = PlainWhat.Moved o }) (λ i z there. there) (inl (lives p n f.notes));
+      stops = λ id m x b is w f i z there. inl (stayed s id i z there);
+      kills = λ id m x is w f i z there. inl (stayed s id i z there);
+      reads = λ id m x base len is w f. in_brings s (service.changed s id m x) (answer_to m (PlainWhat.Block (take len (drop base x.memory)))) (taken id (service.changed s id m x) (λ i. refl)) (inl (ap is_some w.alive));
+      writes = λ id m x base bytes is w f.
+          (let u = service.changed s id m (record x { memory = pieces.written_at x.memory base bytes }) in
+          in_brings s u (answer_to m PlainWhat.Written) (taken id u (λ i. refl)) (inl (ap is_some w.alive)));
+      lands = λ id m x r y is w f c.
+          (let from = (lands-is m.to x m x.status (pieces.Next r y) c).0.sender in
+          in_brings s (service.changed s id m y) r (taken id (service.changed s id m y) (λ i. refl)) (inl (ap (λ (q : Pid). is_some (s.processes q)) from ∙ ap is_some w.alive)));
+      done = λ id m x c y is w f g i z there. inl (stayed s id i z there);
+      board = λ id m k is there c took.
+          (let u = record (without_message s id) { switchboard = k.switchboard } in
+          server_brings s u switchboard k.answer (board_sender s.switchboard m m.what k took) refl (taken id u (λ i. refl)));
+      manager = λ id m k is there c took.
+          (let u = record (without_message s id) { manager = k.manager } in
+          server_brings s u manager k.message (manager_sender s.manager s.machines (length s.images) m m.what k took) refl (taken id u (λ i. refl)));
+      creates = λ id child m image links i is w found name.
+          (let u = service.with_created (without_message s id) child i links in
+          in_brings s u (answer_to m (PlainWhat.Created child)) (taken id u (λ j. refl)) (inr (inr (w.kernel, refl))));
+      no_room = λ id a b m image links is w. in_brings s (without_message s id) (answer_to m PlainWhat.NoRoom) (taken id (without_message s id) (λ i. refl)) (inr (inr (w.kernel, refl)));
+    })
+
+is_sent : (s : OneKernel) (x : PlainMessage) → Made s → Origin s x → IsSent x
+is_sent s x made h e = elim h [
+  | inl process ↦ let k = made.least x.sender process in grind (arith, nat_tests)
+  | inr other ↦ elim other [
+    | inl server ↦ grind (arith, nat_tests)
+    | inr kernel ↦ absurd (false≢true (sym kernel.1 ∙ e))
+  ]
+]
+
+-- each step keeps it
+pub senders_step : (r e : MsgId → ℕ) (s t : OneKernel) (l : Label) → step.step s l ≡ Some t → Sound r e s → Senders s → Senders t
+senders_step r e s t l is sound h i x there = elim (brings s t l (λ p n f. let (y, alive) = sound.notes.lives p n f in ap is_some alive) is i x there) [
+  | inl old ↦ h i x old
+  | inr new ↦ is_sent s x sound.made new
+]

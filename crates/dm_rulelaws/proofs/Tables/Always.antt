@@ -1,13 +1,287 @@
--- Wherever the rule leads, each living process has as many link slots as the boot file's format gives.
+-- Each label of a process keeps the number of link slots, and so does what its kernel is asked.
 use Rattle.dm_rulelaws.proofs.Names.{◌≡◌, ℕ, ◌≤◌, Bool, true, nat_le, List, [], ◌∷◌, ◌++◌, length, map, refl, ap, ◌∙◌, sym, subst, inl, inr, arith, if◌then◌else◌, slice_get, option_map, Option, None, Some, cases_Bool, nat_tests, length-map}
-use Rattle.dm_rulelaws.proofs.Names.{Pid, pid_eq, plain_link, BootImage, BootProcess, Boot, Label, IsValid, starting_at, processes_are_valid, process_is_valid, slots_of, PlainProcess, Alive, OneKernel, start, begun, first_life, life_at}
-use Rattle.dm_rulelaws.proofs.Names.{replay, bind-is, Step, Point, first_point, labels, Spelled, group_of, Leads, Each}
+use Rattle.dm_rulelaws.proofs.Names.{Pid, pid_eq, plain_link, BootImage, BootProcess, Boot, Label, IsValid, starting_at, processes_are_valid, process_is_valid, slots_of, PlainProcess, Alive, OneKernel, begun, first_life, life_at}
+use Rattle.dm_rulelaws.proofs.Names.{replay, bind-is, Step, Point, first_point, labels, Leads, Each, ◌+◌, ◌-◌, ◌==◌, ◌&&◌, false, take, drop, ⊤, MsgId, PlainMessage, PlainWhat, Direction, Row, instruction, Reply, Why}
+use Rattle.dm_rulelaws.proofs.Names.{bind, PlainStatus, Moving, answer_to, without_message, by_step, zero, suc, filter_map, nat_lt, slice_set, cons_option, length-take, PlainLink, first_empty, link_at, Waiting, reg, Called, Replies, Sends}
+use Rattle.dm_rulelaws.proofs.Names.{Waits, Outputs, Ends, replicate, length-append, length-replicate, Format, Manager, with_sent, slots_with, running_is, at_hand-is, without_note, answer_id, Outcome, code_of_outcome}
 use Rattle.dm_onekernel.specs.Step as kernel
+use Rattle.dm_onekernel.specs.Calls as calls
+use Rattle.dm_onekernel.specs.Pieces as pieces
+use Rattle.dm_onekernel.specs.Receiving as receiving
+use Rattle.dm_onekernel.specs.Service as service
+use Rattle.dm_onekernel.specs.Switchboard as board
+use Rattle.dm_onekernel.specs.Manager as manage
 use Rattle.dm_rulelaws.proofs.Fits.Rises.{both}
 use Rattle.dm_rulelaws.proofs.RunLabels.{group_replay}
 use Rattle.dm_rulelaws.proofs.Based.Constants.{constant_group}
-use Rattle.dm_rulelaws.proofs.Tables.{Tables}
-use Rattle.dm_rulelaws.proofs.Tables.Steps.{slots_with_length, tables_step}
+use Rattle.dm_rulelaws.proofs.Tables.{Tables, FewLinks, SameSlots, out_tables, put_tables, set_tables, end_tables, goes_tables, changed_tables}
+use Rattle.dm_rulelaws.proofs.Calling.{by_call}
+use Rattle.dm_rulelaws.proofs.Takes.{by_manager, by_over}
+
+-- what a server sends
+abbrev pub SendsFew : Option PlainMessage → Type 0
+SendsFew None = ⊤
+SendsFew (Some m) = FewLinks m.what
+
+pub put_maybe : (u : OneKernel) (o : Option PlainMessage) → SendsFew o → Tables u → Tables (with_sent u o)
+put_maybe u None f h = h
+put_maybe u (Some m) f h = put_tables u m f h
+
+-- the switchboard
+answer_few : (a : board.Answer) → length (board.links_of_answer a) ≤ 4
+answer_few board.Registered = omega arith
+answer_few _ = omega arith
+
+request_few : (b : _) (body : List ℕ) (links : List PlainLink) → SendsFew (board.takes_request b body links).answer
+request_few b body [] = tt
+request_few b body (l ∷ ls) = answer_few (board.asks b.names body ls).answer
+
+pub board_few : (b : _) (m : PlainMessage) (w : PlainWhat) (k : board.BoardTook) → board.board_takes b m w ≡ Some k → SendsFew k.answer
+board_few b m (PlainWhat.User code channel body links) k e = let f : board.takes_request b body links ≡ k = cc in subst (λ (x : board.BoardTook). SendsFew x.answer) f (request_few b body links)
+board_few b m _ k e = cc
+
+-- the manager
+pub took_few : (g : Manager) (machines images : ℕ) (m : PlainMessage) (w : PlainWhat) (k : manage.ManagerTook) → manage.manager_takes g machines images m w ≡ Some k → FewLinks w → SendsFew k.message
+took_few g machines images m w k e few =
+    let none : 0 ≤ 4 = omega arith in
+    by_manager (λ x. SendsFew x.message) g machines images m w k (record {
+      ignores = tt;
+      refuses = λ l ls u. none;
+      moves = λ code child machine links u is within. tt;
+      asks = λ machine image l ls u within. (let less : length (l ∷ ls) ≤ 4 = subst FewLinks u.is few in omega (arith, less));
+      tells = λ code child v is control. control FewLinks tt tt tt;
+      created = λ child r is there. by_over (λ x. SendsFew x.message) (record g { children = g.children ++ child ∷ []; pending = manage.without_pending m.id.n g.pending }) r.answer 0 (manage.control_link (length g.children + 1) ∷ []) tt (λ l. omega arith);
+      no_room = λ r is there. by_over (λ x. SendsFew x.message) (record g { pending = manage.without_pending m.id.n g.pending }) r.answer 1 [] tt (λ l. none);
+      moved = λ outcome r is there. by_over (λ x. SendsFew x.message) (record g { pending = manage.without_pending m.id.n g.pending }) r.answer (code_of_outcome outcome) [] tt (λ l. none);
+    }) e
+
+-- a process that is made
+pub slots_with_length : {L : Type 0} (n : ℕ) (links : List L) → length links ≤ n → length (slots_with n links) ≡ n
+slots_with_length {L} n links le =
+    let a = length-append (map Some links) (replicate (n - length links) None) in
+    let b : length (map Some links) ≡ length links = length-map links Some in
+    let c : length (replicate (n - length links) None) ≡ n - length links = length-replicate {A = Option L} (n - length links) None in
+    omega (arith, a, b, c, le)
+
+pub most_slots : (f : Format) → 4 ≤ slots_of f
+most_slots Format.One = omega arith
+most_slots Format.Two = omega arith
+
+pub child_length : (f : Format) (image : BootImage) (links : List PlainLink) → length links ≤ 4 → length (begun f image links).links ≡ slots_of f
+child_length f image links few = let many = most_slots f in slots_with_length (slots_of f) links (omega (arith, few, many))
+
+-- Each label of a process keeps the number of link slots, and so does what its kernel is asked.
+
+-- lists of slots
+pub set_length : {X : Type 0} (xs : List X) (k : ℕ) (y : X) → length (slice_set xs k y) ≡ length xs
+set_length [] k y = refl
+set_length (x ∷ xs) zero y = refl
+set_length (x ∷ xs) (suc k) y = ap suc (set_length xs k y)
+
+emptied : (b : Bool) (slots : List (Option PlainLink)) (k : ℕ) → length (if b then slice_set slots k None else slots) ≡ length slots
+emptied true slots k = set_length slots k None
+emptied false slots k = refl
+
+without_length : (slots : List (Option PlainLink)) (ss : List ℕ) → length (calls.without_replies slots ss) ≡ length slots
+without_length slots [] = refl
+without_length slots (s ∷ ss) =
+    without_length (if calls.holds_reply (link_at slots s) then slice_set slots s None else slots) ss ∙ emptied (calls.holds_reply (link_at slots s)) slots s
+
+cons_few : (o : Option PlainLink) (ls : List PlainLink) → length (cons_option o ls) ≤ suc (length ls)
+cons_few None ls = omega arith
+cons_few (Some l) ls = omega arith
+
+links_few : (slots : List (Option PlainLink)) (ss : List ℕ) → length (calls.links_in_slots slots ss) ≤ length ss
+links_few slots [] = omega arith
+links_few slots (s ∷ ss) =
+    let a = cons_few (link_at slots s) (filter_map (link_at slots) ss) in
+    let b = links_few slots ss in
+    omega (arith, a, b)
+
+-- what a call comes to
+abbrev pub CallTables : PlainProcess → Called → Type 0
+CallTables x (Replies c y) = SameSlots x y
+CallTables x (Sends m y) = SameSlots x y × FewLinks m.what
+CallTables x (Waits y) = SameSlots x y
+CallTables x (Outputs w y) = SameSlots x y
+CallTables x (Ends y) = ⊤
+
+-- at most four links are sent
+listed_few : (x : PlainProcess) → nat_lt 4 (reg x.regs 4) ≡ false → length (calls.links_in_slots x.links (calls.listed x)) ≤ 4
+listed_few x e =
+    let a = links_few x.links (calls.listed x) in
+    let b : length (calls.listed x) ≡ _ = length-take (reg x.regs 4) (drop (reg x.regs 5) x.memory) in
+    let c : reg x.regs 4 ≤ 4 = grind (arith, nat_tests) in
+    omega (arith, a, b, c)
+
+-- data moves
+pub requests_few : (p : Pid) (x : PlainProcess) (dir : Direction) (owner : Pid) (base own left : ℕ) → FewLinks (pieces.requests p x dir owner base own left).message.what
+requests_few p x Direction.FromArea owner base own left = tt
+requests_few p x Direction.IntoArea owner base own left = tt
+
+pub call_tables : (p : Pid) (x : PlainProcess) (n : ℕ) → CallTables x (calls.call p x n)
+call_tables p x n = by_call (CallTables x) p x n (record {
+  refuses = λ c. refl;
+  outputs = refl;
+  makes = λ slot e. set_length x.links slot (Some (calls.own_link p x));
+  copies = λ l slot is. set_length x.links slot (Some l);
+  drops = λ l. set_length x.links (reg x.regs 1) None;
+  sends = λ l is few. (without_length x.links (reg x.regs 1 ∷ calls.listed x), listed_few x few);
+  waits = refl;
+  moves = λ l dir is right lies off. (refl, requests_few p x dir l.to (l.area.base + reg x.regs 3) (reg x.regs 4) (reg x.regs 5));
+  ends = λ y. tt;
+})
+
+-- links are placed
+placed_step : (t : receiving.RegsAndLinks) (r : ℕ) (l : PlainLink) (o : Option ℕ) → length (receiving.place_into t r l o).links ≡ length t.links
+placed_step t r l None = refl
+placed_step t r l (Some slot) = set_length t.links slot (Some l)
+
+placed_length : (ls : List PlainLink) (t : receiving.RegsAndLinks) (r : ℕ) → length (receiving.place_links t r ls).links ≡ length t.links
+placed_length [] t r = refl
+placed_length (l ∷ ls) t r = placed_length ls (receiving.place_into t r l (first_empty t.links)) (r + 1) ∙ placed_step t r l (first_empty t.links)
+
+abbrev pub CompletedTables : PlainProcess → receiving.Completed → Type 0
+CompletedTables x (receiving.Receives y) = SameSlots x y
+CompletedTables x (receiving.Refuses c y) = SameSlots x y
+
+completes_tables : (x : PlainProcess) (base code channel : ℕ) (body : List ℕ) (links : List PlainLink) (o : Option Reply) → CompletedTables x (receiving.completes_unless o x (receiving.with_received x base code channel body links))
+completes_tables x base code channel body links None = placed_length links (record { regs = receiving.received_regs x.regs code channel (length body) (length links); links = x.links }) 5
+completes_tables x base code channel body links (Some c) = refl
+
+if_completes : (x : PlainProcess) (b : Bool) (c d : receiving.Completed) → CompletedTables x c → (if b then Some c else None) ≡ Some d → CompletedTables x d
+if_completes x true c d h e = let f : c ≡ d = cc in subst (CompletedTables x) f h
+if_completes x false c d h e = cc
+
+status_tables : (p : Pid) (x : PlainProcess) (m : PlainMessage) (st : PlainStatus) (d : receiving.Completed) → receiving.completes_status p x m st ≡ Some d → CompletedTables x d
+status_tables p x m (Waiting mask base size) d e = search (arith, if_completes, m.to, completes_tables)
+status_tables p x m _ d e = cc
+
+pub with_tables : (p : Pid) (x : PlainProcess) (m : PlainMessage) (b : Bool) (d : receiving.Completed) → (if b then None else receiving.completes_status p x m x.status) ≡ Some d → CompletedTables x d
+with_tables p x m true d e = cc
+with_tables p x m false d e = status_tables p x m x.status d e
+
+-- Each label of a process keeps the number of link slots, and so does what its kernel is asked.
+
+-- what comes next of a process that executes
+abbrev NextTables : PlainProcess → kernel.Trap → Type 0
+NextTables x (kernel.Calls number called) = CallTables x called
+NextTables x (kernel.Faults fault) = ⊤
+
+record NextIs (s : OneKernel) (p : Pid) (n : kernel.Trap) : Type 0 where
+  x : PlainProcess
+  alive : s.processes p ≡ Some (Alive x)
+  same : NextTables x n
+
+next_row_is : (s : OneKernel) (p : Pid) (x : PlainProcess) (w : Row) (n : kernel.Trap) → s.processes p ≡ Some (Alive x) → kernel.next_row p x w ≡ Some n → NextIs s p n
+next_row_is s p x (Row.Plain regs bytes) n is e = cc
+next_row_is s p x (Row.Calls number regs) n is e =
+    let f : kernel.Calls number (calls.call p (record x { regs = regs }) number) ≡ n = cc in
+    let z = record x { regs = regs } in
+    record { x = x; alive = is; same = subst (NextTables x) f (of_call x z (calls.call p z number) refl (call_tables p z number)) }
+  where
+    of_call : (x z : PlainProcess) (c : calls.Called) → z.links ≡ x.links → CallTables z c → CallTables x c
+    of_call x z (calls.Sends m y) e h = (h.0 ∙ ap length e, h.1)
+    of_call x z (calls.Ends y) e h = tt
+    of_call x z _ e h = h ∙ ap length e
+next_row_is s p x (Row.Faults fault) n is e =
+    let f : kernel.Faults fault ≡ n = cc in
+    record { x = x; alive = is; same = subst (NextTables x) f tt }
+
+next_is : (s : OneKernel) (p : Pid) (n : kernel.Trap) → kernel.next_trap s p ≡ Some n → NextIs s p n
+next_is s p n e =
+    let (x, running, row_is) = bind-is (kernel.running s p) (λ (v : PlainProcess). kernel.next_row p v (instruction v.regs v.memory)) n e in
+    next_row_is s p x (instruction x.regs x.memory) n (running_is s p x running).alive row_is
+
+-- receives
+record Completing (s : OneKernel) (p : Pid) (d : receiving.Completed) : Type 0 where
+  x : PlainProcess
+  alive : s.processes p ≡ Some (Alive x)
+  same : CompletedTables x d
+
+completing_is : (s : OneKernel) (p : Pid) (id : MsgId) (d : receiving.Completed) → kernel.completing s p id ≡ Some d → Completing s p d
+completing_is s p id d e =
+    let (x, hand, rest) = bind-is (kernel.at_hand s p) (λ (v : PlainProcess). bind (s.bag id) (receiving.completes_with p v)) d e in
+    let (m, there, last) = bind-is (s.bag id) (receiving.completes_with p x) d rest in
+    record { x = x; alive = (at_hand-is s p x hand).1; same = with_tables p x m x.stopped d last }
+
+-- landings
+abbrev LandTables : PlainProcess → pieces.Landed → Type 0
+LandTables x (pieces.Next m y) = SameSlots x y × FewLinks m.what
+LandTables x (pieces.Done c y) = SameSlots x y
+
+goes_on_by : (p : Pid) (x z : PlainProcess) (dir : Direction) (owner : Pid) (base own left : ℕ) (b : Bool) → SameSlots x z
+    → LandTables x (if b then pieces.done Reply.Done z else pieces.next_request (pieces.requests p z dir owner (base + pieces.piece_of left) (own + pieces.piece_of left) (left - pieces.piece_of left)))
+goes_on_by p x z dir owner base own left true same = same
+goes_on_by p x z dir owner base own left false same = (same, requests_few p z dir owner (base + pieces.piece_of left) (own + pieces.piece_of left) (left - pieces.piece_of left))
+
+if_lands : (x : PlainProcess) (b : Bool) (k c : pieces.Landed) → LandTables x k → (if b then Some k else None) ≡ Some c → LandTables x c
+if_lands x true k c h e = let f : k ≡ c = cc in subst (LandTables x) f h
+if_lands x false k c h e = cc
+
+lands_what_tables : (p : Pid) (x : PlainProcess) (dir : Direction) (owner : Pid) (base own left : ℕ) (w : PlainWhat) (c : pieces.Landed) → pieces.lands_what p x dir owner base own left w ≡ Some c → LandTables x c
+lands_what_tables p x Direction.FromArea owner base own left (PlainWhat.Block bytes) c e =
+    let z = record x { memory = pieces.written_at x.memory own bytes } in
+    if_lands x ((length bytes == pieces.piece_of left) && nat_le (own + left) (length x.memory)) (pieces.move_goes_on p z Direction.FromArea owner base own left (pieces.piece_of left)) c
+    (goes_on_by p x z Direction.FromArea owner base own left (left - pieces.piece_of left == 0) refl) e
+lands_what_tables p x Direction.IntoArea owner base own left PlainWhat.Written c e =
+    if_lands x (nat_le (own + left) (length x.memory)) (pieces.move_goes_on p x Direction.IntoArea owner base own left (pieces.piece_of left)) c
+    (goes_on_by p x x Direction.IntoArea owner base own left (left - pieces.piece_of left == 0) refl) e
+lands_what_tables p x Direction.FromArea owner base own left PlainWhat.Gone c e = let k : pieces.done Reply.Gone x ≡ c = cc in subst (LandTables x) k refl
+lands_what_tables p x Direction.IntoArea owner base own left PlainWhat.Gone c e = let k : pieces.done Reply.Gone x ≡ c = cc in subst (LandTables x) k refl
+lands_what_tables p x _ owner base own left _ c e = cc
+
+lands_if : (p : Pid) (x : PlainProcess) (b : Bool) (dir : Direction) (owner : Pid) (base own left : ℕ) (w : PlainWhat) (c : pieces.Landed) → (if b then pieces.lands_what p x dir owner base own left w else None) ≡ Some c → LandTables x c
+lands_if p x true dir owner base own left w c e = lands_what_tables p x dir owner base own left w c e
+lands_if p x false dir owner base own left w c e = cc
+
+lands_by : (p : Pid) (x : PlainProcess) (m : PlainMessage) (st : PlainStatus) (c : pieces.Landed) → pieces.lands p x m st ≡ Some c → LandTables x c
+lands_by p x m (Moving dir owner base own left pending) c e = lands_if p x (m.id.n == pending) dir owner base own left m.what c e
+lands_by p x m _ c e = cc
+
+gone_few : (w v : PlainWhat) → service.gone_what w ≡ Some v → FewLinks v
+gone_few (PlainWhat.Read base len) v e = let f : PlainWhat.Gone ≡ v = cc in subst FewLinks f tt
+gone_few (PlainWhat.Write base bytes) v e = let f : PlainWhat.Gone ≡ v = cc in subst FewLinks f tt
+gone_few (PlainWhat.Move machine) v e = let f : PlainWhat.Moved Outcome.Ended ≡ v = cc in subst FewLinks f tt
+gone_few _ v e = cc
+
+-- each step
+pub tables_step : (s t : OneKernel) (e : Label) → kernel.step s e ≡ Some t → Tables s → Tables t
+tables_step s t e = by_step (λ u. Tables s → Tables u) s t e (record {
+  ran = λ p k x m is w h. goes_tables s p x (kernel.with_machine x m) w.alive refl h;
+  replies = λ p n k c d y is w h. (let v = next_is s p (kernel.Calls k (calls.Replies d y)) w.is in goes_tables s p v.x y v.alive v.same h);
+  sends = λ p id k m y is same w h. (let v = next_is s p (kernel.Calls k (calls.Sends m y)) w.is in put_tables (kernel.goes_on s p y) m v.same.1 (goes_tables s p v.x y v.alive v.same.0 h));
+  waits = λ p k y is w h. (let v = next_is s p (kernel.Calls k (calls.Waits y)) w.is in goes_tables s p v.x y v.alive v.same h);
+  outputs = λ p w k o y is n h. (let v = next_is s p (kernel.Calls k (calls.Outputs o y)) n.is in goes_tables s p v.x y v.alive v.same h);
+  ends = λ p y next is w h. end_tables s p y h;
+  receives = λ p id y is w c h. (let v = completing_is s p id (receiving.Receives y) c in goes_tables (without_message s id) p v.x y v.alive v.same (out_tables s id h));
+  refuses = λ p id c d y is w f h. (let v = completing_is s p id (receiving.Refuses d y) f in goes_tables s p v.x y v.alive v.same h);
+  dropped = λ id m y is w f h. out_tables s id h;
+  gone = λ id m y is w v f h. put_tables (without_message s id) (answer_to m v) (gone_few m.what v f) (out_tables s id h);
+  asked = λ id m x machine is w f h. (let out = out_tables s id h in record { slots = out.slots; messages = out.messages });
+  answered = λ id o p n is f h. put_tables (without_note s p id) (record { id = answer_id id; to = n.asker; sender = p; what = PlainWhat.Moved o }) tt (record { slots = h.slots; messages = h.messages });
+  stops = λ id m x b is w f h. changed_tables s id m x (record x { stopped = b }) w.alive refl h;
+  kills = λ id m x is w f h. end_tables (without_message s id) m.to Why.Killed (out_tables s id h);
+  reads = λ id m x base len is w f h. put_tables (service.changed s id m x) (answer_to m (PlainWhat.Block (take len (drop base x.memory)))) tt (changed_tables s id m x x w.alive refl h);
+  writes = λ id m x base bytes is w f h.
+      (let y = record x { memory = pieces.written_at x.memory base bytes } in
+      put_tables (service.changed s id m y) (answer_to m PlainWhat.Written) tt (changed_tables s id m x y w.alive refl h));
+  lands = λ id m x r y is w f c h. (let k = lands_by m.to x m x.status (pieces.Next r y) c in put_tables (service.changed s id m y) r k.1 (changed_tables s id m x y w.alive k.0 h));
+  done = λ id m x c y is w f g h. changed_tables s id m x y w.alive (lands_by m.to x m x.status (pieces.Done c y) g) h;
+  board = λ id m k is there c took h.
+      (let out = out_tables s id h in
+      put_maybe (record (without_message s id) { switchboard = k.switchboard }) k.answer (board_few s.switchboard m m.what k took) (record { slots = out.slots; messages = out.messages }));
+  manager = λ id m k is there c took h.
+      (let out = out_tables s id h in
+      put_maybe (record (without_message s id) { manager = k.manager }) k.message (took_few s.manager s.machines (length s.images) m m.what k took (h.messages id m there)) (record { slots = out.slots; messages = out.messages }));
+  creates = λ id child m image links i is w found name h.
+      (let few = subst FewLinks w.what (h.messages id m w.there) in
+      let on = set_tables (without_message s id) child (begun s.format i links) (child_length s.format i links few) (out_tables s id h) in
+      put_tables (service.with_created (without_message s id) child i links) (answer_to m (PlainWhat.Created child)) tt (record { slots = on.slots; messages = on.messages }));
+  no_room = λ id a b m image links is w h. put_tables (without_message s id) (answer_to m PlainWhat.NoRoom) tt (out_tables s id h);
+})
+
+-- Wherever the rule leads, each living process has as many link slots as the boot file's format gives.
 
 -- where a run begins
 abbrev ShortList : Boot → BootProcess → Type 0
@@ -37,9 +311,6 @@ lives_lengths b (p ∷ ps) q x shorts e = elim (cases_Bool (pid_eq p.pid q)) [
   | inr apart ↦ lives_lengths b ps q x shorts.1 (sym (ap (λ (c : Bool). if c then first_life b p else life_at b ps q) apart) ∙ e)
 ]
 
-pub tables_start : (b : Boot) → IsValid b → Tables (start b)
-tables_start b valid = search (arith, lives_lengths, b.processes, shorts_are, valid.processes)
-
 -- wherever a run comes
 tables_replay : (ls : List Label) (s t : OneKernel) → replay s ls ≡ Some t → Tables s → Tables t
 tables_replay [] s t is h = let f : s ≡ t = cc in subst Tables f h
@@ -47,15 +318,12 @@ tables_replay (l ∷ ls) s t is h =
     let (u, first, rest) = bind-is (kernel.step s l) (λ (v : OneKernel). replay v ls) t is in
     tables_replay ls u t rest (tables_step s u l first h)
 
-pub tables_group : (b : Boot) (pt : Point) (d : Step) (w : Spelled) → group_of b pt d ≡ Some w → Tables pt.kernel → Tables w.point.kernel
-tables_group b pt d w is h = tables_replay (labels w.lines) pt.kernel w.point.kernel (group_replay b pt d w is) h
-
 tables_on : (b : Boot) (es : List Step) (pt end : Point) → Leads b pt es end → Tables pt.kernel → Tables end.kernel
 tables_on b [] pt end leads h = subst (λ (v : Point). Tables v.kernel) leads h
-tables_on b (d ∷ ds) pt end (w, fit, is, more) h = tables_on b ds w.point end more (tables_group b pt d w is h)
+tables_on b (d ∷ ds) pt end (w, fit, is, more) h = tables_on b ds w.point end more (tables_replay (labels w.lines) pt.kernel w.point.kernel (group_replay b pt d w is) h)
 
 pub tables_always : (b : Boot) (es : List Step) (pt : Point) → IsValid b → Leads b (first_point b) es pt → Tables pt.kernel
-tables_always b es pt valid leads = tables_on b es (first_point b) pt leads (tables_start b valid)
+tables_always b es pt valid leads = tables_on b es (first_point b) pt leads (search (arith, lives_lengths, b.processes, shorts_are, valid.processes))
 
 -- the format stays
 format_on : (b : Boot) (es : List Step) (pt end : Point) → Leads b pt es end → pt.kernel.format ≡ b.format → end.kernel.format ≡ b.format
