@@ -3,7 +3,7 @@ pub use Rattle.std.proofs.lemmas.Bool.Decides.{Decides-eqb}
 pub use Rattle.std.proofs.lemmas.Slice.Eq.{starts_is}
 pub use Rattle.std.specs.List.{starts_with}
 pub use Rattle.dm_records.proofs.Names.{Bool, Option, Pid, ap, arith, false, if◌then◌else◌, pid_eq, refl, rules, sym, true, ◌∙◌, ◌≡◌}
-pub use Rattle.dm_processor.proofs.Names.{List, None, Some, [], drop-cons, get_or, length, length-append, nat_tests, suc, take, zero, ℕ, ◌*◌, ◌++◌, ◌+◌, ◌-◌, ◌/◌, ◌<◌, ◌∷◌, ◌≤◌}
+pub use Rattle.dm_processor.proofs.Names.{List, None, Some, [], drop, drop-cons, get_or, length, length-append, nat_tests, suc, take, zero, ℕ, ◌*◌, ◌++◌, ◌+◌, ◌-◌, ◌/◌, ◌<◌, ◌∷◌, ◌≤◌}
 pub use Rattle.dm_stream.proofs.Names.{append-nil, nat_lt, subst, ◌≢◌}
 pub use Rattle.dm_linktable.proofs.Names.{map, ◌&&◌, ◌==◌}
 pub use Rattle.dm_packet.proofs.Names.{All, MsgId, Outcome, append_assoc, length-take, nat_le, not}
@@ -13,7 +13,8 @@ pub use Rattle.dm_switchboard.proofs.Imports.{is_general, is_name, nat_eq, switc
 pub use Rattle.dm_procman.proofs.Names.{Boot, IsValid, PlainLink, manager}
 pub use Rattle.dm_laws.proofs.Names.{Alive, BootImage, Label, Life, MoveNote, OneKernel, Pending, PlainMessage, PlainProcess, Reply, Switchboard, Why, bind, false≢true, first_number, id_of, pid_of, start, when, with_sent, ⊤}
 pub use Rattle.dm_datamove.proofs.Names.{All-nil}
-pub use Rattle.dm_rule.proofs.Names.{Addresses, Directive, IsStep, Line, NamedLink, Next, Part, Point, Spelled, Step, Todo, View, after_line, all_of, bind-is, first_point, group_of, has_mail, headed, is_quiet, next_step, outcome, untaken}
+pub use Rattle.dm_rule.proofs.Names.{Addresses, Directive, IsStep, Line, NamedLink, Next, Part, Point, Spelled, Step, Todo, View, after_line, all_of, bind-is, first_point, group_of, has_mail, headed, is_quiet, next_step, outcome, spelled}
+pub use Rattle.dm_rule.proofs.Names.{untaken}
 pub use Rattle.dm_kernel.proofs.Names.{All-head, All-tail, take_more}
 pub use Rattle.dm_rulelaws.proofs.Names.{IsRun, labels}
 pub use Rattle.dm_movelaws.proofs.Names.{EndLine, Stood, block_line, each_machine, end_lines, home_with, list_line, memory_lines, or, trimmed}
@@ -34,7 +35,7 @@ pub use Rattle.dm_mirror.proofs.Names.{IsDirective, IsTodo, IsTwo, Ran, first_wo
 pub use Rattle.dm_mirror.specs.Run.{IsGood}
 pub use Rattle.dm_run.proofs.Full.{group_over}
 pub use Rattle.dm_run.proofs.Laws.{ran_begins}
-pub use Rattle.dm_run.proofs.Names.{IfErr, IsErr, IsRunning, IsWorn, RanOn, RunsOn, StopsWorn, World, drop, next_fits, take-length}
+pub use Rattle.dm_run.proofs.Names.{IfErr, IsErr, IsRunning, IsWorn, RanOn, RunsOn, StopsWorn, World, next_fits, take-length}
 pub use Rattle.dm_run.specs.Running.{EndsSo}
 pub use Rattle.dm_check.specs.Checked.{HasChecked, NoGroup}
 pub use Rattle.dm_check.specs.Checking.{FallsBy, RefusedSo, first_line, head_of_line, is_final, taken_of}
