@@ -22,15 +22,9 @@ pub record BagStep (e : MsgId → ℕ) (s t : OneKernel) (out put : Option MsgId
 pub steps_out : (e : MsgId → ℕ) (s t : OneKernel) (out : Option MsgId) → ((i : MsgId) → t.bag i ≡ hidden out s.bag i) → BagStep e s t out None
 steps_out e s t out same = record { same = same; there = λ j k. cc; fresh = λ j k. cc }
 
-entered_at : (s : OneKernel) (m : PlainMessage) → (with_sent s (Some m)).bag m.id ≡ Some m
-entered_at s m = ap (λ (b : Bool). if b then Some m else s.bag m.id) (id_eq-same m.id)
-
-none_in : (r e : MsgId → ℕ) (s : OneKernel) (i : MsgId) (o : Option PlainMessage) → s.bag i ≡ o → e i ≡ 0 → Entered r e s → o ≡ None
-none_in r e s i None f zero_ h = refl
-none_in r e s i (Some m) f zero_ h = absurd (let k = h.fewer i in let g : in_bag (s.bag i) ≡ 1 = ap in_bag f in omega (arith, k, g, zero_))
-
 pub bag_none : (r e : MsgId → ℕ) (s : OneKernel) (i : MsgId) → e i ≡ 0 → Entered r e s → s.bag i ≡ None
-bag_none r e s i zero_ h = none_in r e s i (s.bag i) refl zero_ h
+bag_none r e s i zero_ h = (elim (s.bag i) as (λ o. s.bag i ≡ o → o ≡ None)
+    [ None ↦ λ f. refl | Some m ↦ λ f. absurd (let k = h.fewer i in let g : in_bag (s.bag i) ≡ 1 = ap in_bag f in omega (arith, k, g, zero_)) ]) refl
 
 hidden_none : (out : Option MsgId) (bag : MsgId → Option PlainMessage) (i : MsgId) → bag i ≡ None → hidden out bag i ≡ None
 hidden_none None bag i e = e
@@ -46,12 +40,11 @@ steps_in r e s u out m same zero_ h = record {
     | inl here ↦
         let is : m.id ≡ i = id_eq-is m.id i here in
         let left : hidden (Some m.id) (with_sent u (Some m)).bag i ≡ None = ap (λ (b : Bool). if b then None else (with_sent u (Some m)).bag i) here in
-        let none : s.bag i ≡ None = sym (ap s.bag is) ∙ bag_none r e s m.id zero_ h in
-        left ∙ sym (hidden_none out s.bag i none)
+        let none : s.bag i ≡ None = sym (ap s.bag is) ∙ bag_none r e s m.id zero_ h in left ∙ sym (hidden_none out s.bag i none)
     | inr apart ↦
         ap (λ (b : Bool). if b then None else (if b then Some m else u.bag i)) apart ∙ same i
   ];
-  there = λ j k. let f : m.id ≡ j = cc in (m, ap (with_sent u (Some m)).bag (sym f) ∙ entered_at u m);
+  there = λ j k. let f : m.id ≡ j = cc in (m, ap (with_sent u (Some m)).bag (sym f) ∙ ap (λ (b : Bool). if b then Some m else u.bag m.id) (id_eq-same m.id));
   fresh = λ j k. let f : m.id ≡ j = cc in ap e (sym f) ∙ zero_;
 }
 
@@ -187,10 +180,7 @@ cases_zero zero = inl refl
 cases_zero (suc n) = inr (omega arith)
 
 pub zero_if : (n : ℕ) → (1 ≤ n → ⊥) → n ≡ 0
-zero_if n h = elim (cases_zero n) [
-  | inl is ↦ is
-  | inr least ↦ absurd (h least)
-]
+zero_if n h = elim (cases_zero n) [ inl is ↦ is | inr least ↦ absurd (h least) ]
 
 answer_fresh : (r e : MsgId → ℕ) (s : OneKernel) (id : MsgId) (m : PlainMessage) → s.bag id ≡ Some m → asks m.what ≡ true → Entered r e s → e (answer_id id) ≡ 0
 answer_fresh r e s id m there asking h = zero_if (e (answer_id id)) (λ least.

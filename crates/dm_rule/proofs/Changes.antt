@@ -11,6 +11,7 @@ use Rattle.dm_onekernel.specs.Service as service
 use Rattle.dm_onekernel.specs.Step as kernel
 use Rattle.dm_onekernel.specs.Switchboard as board
 use Rattle.dm_rule.proofs.Serving.{is_kill}
+use Rattle.dm_rule.proofs.Homes.Servers.{and-both}
 
 -- what a process does next
 pub record Next (s : OneKernel) (p : Pid) (next : kernel.Trap) : Type 0 where
@@ -161,16 +162,12 @@ takes_step P s t id m false true one two h there e =
     given P (service.manager_took s id k) t (h.manager id m k refl there two took) last
 takes_step P s t id m false false one two h there e = cc
 
-both_of : (b c : Bool) → (b && c) ≡ true → (b ≡ true) × (c ≡ true)
-both_of true c e = (refl, e)
-both_of false c e = cc
-
 creates_step : (P : OneKernel → Type 0) (s t : OneKernel) (id : MsgId) (m : PlainMessage) (child : Pid) (w : PlainWhat) → m.what ≡ w → Changes P s (Label.Created id child) → s.bag id ≡ Some m → service.creates s id m child w ≡ Some t → P t
 creates_step P s t id m child (PlainWhat.Create image links) is h there e =
     let (i, found, rest) = bind-is (slice_get s.images image) (service.creates_of s id m child links) t e in
     let name = pid_eq child (pid_of m.to.home (first_number + s.made m.to.home)) in
     let k = when-is (service.is_kernel s m.to && name) (with_sent (service.with_created (without_message s id) child i links) (Some (answer_to m (PlainWhat.Created child)))) t rest in
-    let both = both_of (service.is_kernel s m.to) name k.0 in
+    let both = and-both (service.is_kernel s m.to) name k.0 in
     subst P k.1 (h.creates id child m image links i refl (record { there = there; what = is; kernel = both.0 }) found both.1)
 creates_step P s t id m child _ is h there e = cc
 

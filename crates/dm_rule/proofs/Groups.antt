@@ -4,7 +4,7 @@ use Rattle.dm_rule.proofs.Names.{false≢true, nat_tests, MsgId, bind, OneKernel
 use Rattle.dm_rule.proofs.Names.{Untaken, ids_at, standing, bind-is, Boot, group_of, IsValid, SentLoad, after_head, pair_window, first_point, Leads, StandsOnceAlways, first_view, start-sound, inl, inr, Pid, PlainMessage, to_of, migrates}
 use Rattle.dm_rule.proofs.Names.{StandsAsBag, StandsOutside, StandsRight, is_kernels}
 use Rattle.dm_rule.specs.View as view
-use Rattle.dm_rule.proofs.Lines.{Stands-stays, Stands-taken, pair_keeps}
+use Rattle.dm_rule.proofs.Lines.{Stands-stays, Stands-taken, pair_keeps, eq_is, eq_self}
 use Rattle.dm_rule.specs.Rule as rule
 use Rattle.dm_rule.proofs.States.{State, says_next, transmits_next, said, State-at, by_line, by_packet, PairsFit}
 use Rattle.dm_rule.proofs.Handled.{turns_row}
@@ -12,12 +12,6 @@ use Rattle.dm_rule.proofs.Pairs.{Pairs-group, Pairs-start, pair_stands, pair_hom
 use Rattle.dm_rule.proofs.Pairs.{Pairs}
 use Rattle.dm_rule.proofs.Letters.{letters, letter_of}
 use Rattle.dm_rule.proofs.Moves.Rows.{migrates_row}
-
-eq_num : (m n : ℕ) → (m == n) ≡ true → m ≡ n
-eq_num m n e = grind (arith, nat_tests)
-
-eq_refl : (m : ℕ) → (m == m) ≡ true
-eq_refl m = grind (arith, nat_tests)
 
 -- lines of deliveries and ticks
 abbrev pub IsNetLine : Line → Type 0
@@ -102,13 +96,10 @@ data_net a b p n true d = (tt, (tt, tt))
 data_net a b p n false true = (tt, (tt, tt))
 data_net a b p n false false = net-append (rule.taking_parts a b (n ∷ rule.kept_from p.kept (n + 1) pair_window)) (Transmits b a (Load.Ack (n + 1 + length (rule.kept_from p.kept (n + 1) pair_window))) ∷ []) (takes_net a b (n ∷ rule.kept_from p.kept (n + 1) pair_window)) (tt, tt)
 
-comes_net : (a b : ℕ) (p q : Pair) (l : Load) → IsNet (rule.comes a b p q l)
-comes_net a b p q (Load.Data n) = data_net a b p n (nat_lt n p.taken) (nat_lt p.taken n)
-comes_net a b p q (Load.Ack n) = (tt, repeats_net b a (rule.let_go q (rule.more n q.acked)))
-
 pub arrives_net : (a b : ℕ) (p q : Pair) (o : Option SentLoad) → IsNet (rule.arrives a b p q o)
 arrives_net a b p q None = (tt, tt)
-arrives_net a b p q (Some s) = comes_net a b p q s.load
+arrives_net a b p q (Some s) = elim s.load as (λ l. IsNet (rule.comes a b p q l))
+    [ Load.Data n ↦ data_net a b p n (nat_lt n p.taken) (nat_lt p.taken n) | Load.Ack n ↦ (tt, repeats_net b a (rule.let_go q (rule.more n q.acked))) ]
 
 if_net : (c : Bool) (ps : List Part) → IsNet ps → IsNet (if c then [] else ps)
 if_net true ps h = tt
@@ -185,11 +176,6 @@ State-group b pt (Step.Migrate p m) w e fits h =
     State-at None g.rest.point w.point g.point
     (migrates_row pt start p g.rest (begun pt (Step.Migrate p m) h (λ z. migrate_off pt.view p m z) (λ i. refl)) (record { within = fits.within; home = fits.home }) (ap (spelled start) f ∙ g.said))
 
--- where a run begins
-untaken_none : (z : Spot) (b : Boot) (i : MsgId) → standing (first_view b) i z ≡ 0
-untaken_none (Queue m p) b i = refl
-untaken_none _ b i = refl
-
 abbrev nobody : Option Pid
 nobody = None
 
@@ -207,7 +193,8 @@ State-start b valid = record {
   e = λ i. 0;
   sound = start-sound b valid;
   own = λ i. None;
-  stands = record { kept = λ i. nothing_stands (standing (first_view b) i) (is_kernels i) (λ z. untaken_none z b i); told = λ i x k. absurd (nothing_there x (is_kernels i) k); mine = λ m p i x least k. absurd (nothing_there x (is_kernels i) k) };
+  stands = record { kept = λ i. nothing_stands (standing (first_view b) i) (is_kernels i) (λ z. elim z as (λ z_. standing (first_view b) i z_ ≡ 0)
+      [ Queue m p ↦ refl | _ ↦ refl ]); told = λ i x k. absurd (nothing_there x (is_kernels i) k); mine = λ m p i x least k. absurd (nothing_there x (is_kernels i) k) };
   untold = λ i z other. refl;
   numbered = λ m n le. refl;
   pending = λ j k. cc;
@@ -216,13 +203,12 @@ State-start b valid = record {
 
 fits_by : (v : View) → Pairs v → (a b : ℕ) (c : Bool) → (a == b) ≡ c → (v.pair a b).taken ≤ length (v.pair a b).ids
 fits_by v h a b true is =
-    let e : a ≡ b = eq_num a b is in
+    let e : a ≡ b = eq_is a b is in
     subst (λ n. (v.pair a n).taken ≤ length (v.pair a n).ids) e (let k = (pair_home v a h).taken in omega (arith, k))
 fits_by v h a b false is =
-    let apart : a ≢ b = (λ e. false≢true (sym is ∙ (ap (λ n. a == n) (sym e) ∙ eq_refl a))) in
+    let apart : a ≢ b = (λ e. false≢true (sym is ∙ (ap (λ n. a == n) (sym e) ∙ eq_self a))) in
     let k = pair_stands v a b apart h in
-    let x = k.taken in let y = k.gone in
-    omega (arith, x, y)
+    let x = k.taken in let y = k.gone in omega (arith, x, y)
 
 -- what the pairs of machines are says that all that was taken was routed
 pub fits : (v : View) → Pairs v → PairsFit v

@@ -20,7 +20,9 @@ use Rattle.dm_rule.proofs.States.{State, says_next, said, State-at, by_label, by
 use Rattle.dm_rule.proofs.Turns.{served_keeps, serving_off, created_off, quiet_label, front_label, dropped_off, dropped_told, front_unqueued, all_dropped, ended_off, gone_out}
 use Rattle.dm_rule.proofs.Letters.{letters, letter_of}
 use Rattle.dm_rule.proofs.Said.{fits_as, one_line, line_and_route}
-use Rattle.dm_rule.proofs.Moves.Rows.{held_row, forwards_row, hears_row, answers_row, asked_row, SeesSame}
+use Rattle.dm_rule.proofs.Moves.Rows.{held_row, forwards_row, hears_row, answers_row, SeesSame}
+use Rattle.dm_rule.proofs.Moves.Rows.{frozen_state}
+use Rattle.dm_rule.proofs.Moves.Rows.{goes_row}
 
 -- a message may enter by a line, and is routed if it does
 line_and_maybe : (pt : Point) (l : Line) (o : Option PlainMessage) (w : Spelled) → spelled pt (Says l ∷ rule.routes o) ≡ Some w → (view_after pt.view l).pair ≡ pt.view.pair → PairsFit pt.view
@@ -72,8 +74,7 @@ executes_row pt quantum p queue x r w h fits is e =
 awaited_if : (s : OneKernel) (mask : ℕ) (i : MsgId) (is : List MsgId) (id : MsgId) (b : Bool) → (if b then Some i else rule.first_awaited s mask is) ≡ Some id → (rule.first_awaited s mask is ≡ Some id → 1 ≤ times id is) → 1 ≤ times id (i ∷ is)
 awaited_if s mask i is id true e later =
     let f : i ≡ id = cc in
-    let one : one_of id i ≡ 1 = ap (one_of id) f ∙ ap (λ (c : Bool). if c then 1 else 0) (id_eq-same id) in
-    omega (arith, one)
+    let one : one_of id i ≡ 1 = ap (one_of id) f ∙ ap (λ (c : Bool). if c then 1 else 0) (id_eq-same id) in omega (arith, one)
 awaited_if s mask i is id false e later = let k = later e in omega (arith, k)
 
 -- the message that a waiting process takes stands in its queue
@@ -119,7 +120,7 @@ gone_row pt i is w h fits front e =
 asked_by : (pt : Point) (i : MsgId) (p : Pid) (to : ℕ) (same : Bool) (w : Spelled) → State None pt → PairsFit pt.view → pt.view.topic ≡ Target to → spelled pt (if same then answers_move i Outcome.Done else leaves_for p to) ≡ Some w
     → State None w.point
 asked_by pt i p to true w h fits topic e = answers_row pt i Outcome.Done w h fits e
-asked_by pt i p to false w h fits topic e = asked_row pt p to w h fits topic e
+asked_by pt i p to false w h fits topic e = goes_row pt p to w (frozen_state pt p to h topic) fits e
 
 pub asked_state : (pt : Point) (i : MsgId) (is : List MsgId) (s : OneKernel) → State None pt → pt.view.inbox pt.view.acting ≡ i ∷ is → kernel.step pt.kernel (Label.Asked i) ≡ Some s → State None (moved pt (Line.Label (Label.Asked i)) s)
 asked_state pt i is s h front k = front_label pt (Label.Asked i) s i is None h front k refl (bag_asked h.e pt.kernel s i k) (λ z. refl) (λ j. refl)

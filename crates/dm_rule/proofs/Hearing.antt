@@ -4,6 +4,7 @@ use Rattle.dm_rule.proofs.Names.{manager, PlainProcess, Told, About, Of, Known, 
 use Rattle.dm_rule.proofs.Names.{moves_to, accepts, takes_chunk, takes_block, gives_piece, sends_on, leaves, kernel_told, chunks_of, pieces_of, updates, here_told, ended_told, process_told, server_told, fits, free_room, kernel_hears, hears}
 use Rattle.dm_rule.proofs.Names.{bind-is, behind_count, Label, MoveNote, Outcome, Routes, answer_id, answers_move, tells_asker, leaves_for}
 use Rattle.dm_onekernel.specs.Step as kernel
+use Rattle.dm_rule.proofs.Requests.{by_test}
 
 -- a process's messages go on, and it has left
 abbrev pub left_parts : MsgId → Pid → List MsgId → ℕ → List Part
@@ -50,10 +51,6 @@ pub record Heard (P : List Part → Type 0) (o : Point) (m : ℕ) (id : MsgId) (
 
 given : (P : List Part → Type 0) (qs ps : List Part) → P qs → Some qs ≡ Some ps → P ps
 given P qs ps h e = let k : qs ≡ ps = cc in subst P k h
-
-by_test : (P : List Part → Type 0) (c : Bool) (ps qs : List Part) → P ps → P qs → P (if c then ps else qs)
-by_test P true ps qs h k = h
-by_test P false ps qs h k = k
 
 -- whoever asked for a move is told how it ended, if somebody asked
 by_asker : (P : List Part → Type 0) (l : Line) (r : Outcome) (q : Option MoveNote) → (q ≡ None → P (Says l ∷ [])) → ((n : MoveNote) → q ≡ Some n → P (Says l ∷ answers_move n.id r)) → P (Says l ∷ tells_asker q r)

@@ -14,64 +14,32 @@ abbrev pub is_put : Line → Bool
 is_put (Line.Put a b id k q) = true
 is_put l = false
 
-queued_hush : (v : View) (id : MsgId) (o : Option Pid) → Hushed v (queued_for v id o)
-queued_hush v id None = hush v
-queued_hush v id (Some p) = record { count = refl; told = refl }
-
-held_hush : (v : View) (id : MsgId) (o : Option Pid) → Hushed v (held_for v id o)
-held_hush v id None = hush v
-held_hush v id (Some p) = record { count = refl; told = refl }
-
-dropped_hush : (v : View) (id : MsgId) (o : Option Pid) → Hushed v (dropped_for v id o)
-dropped_hush v id None = hush v
-dropped_hush v id (Some p) = record { count = refl; told = refl }
-
-forwarded_hush : (v : View) (o : Option Pid) → Hushed v (forwarded_for v o)
-forwarded_hush v None = hush v
-forwarded_hush v (Some p) = record { count = refl; told = refl }
-
 taken_hush : (v : View) (b : ℕ) (o : Option MsgId) → Hushed v (taken_id v b o)
 taken_hush v b None = hush v
 taken_hush v b (Some id) = record { count = refl; told = refl }
 
-kills_hush : (k : MessageKind) (v : View) (p : Pid) → Hushed v (kills k v (Some p))
-kills_hush MessageKind.Kill v p = record { count = refl; told = refl }
-kills_hush _ v p = hush v
-
 served_hush : (v : View) (o : Option Told) → Hushed v (served_told v o)
 served_hush v None = hush v
-served_hush v (Some t) = kills_hush t.kind v t.receiver
+served_hush v (Some t) = elim t.kind as (λ k. Hushed v (kills k v (Some t.receiver))) [ MessageKind.Kill ↦ record { count = refl; told = refl } | _ ↦ hush v ]
 
 asks_hush : (v : View) (a : About) → Hushed v (asks_on v a)
 asks_hush v (Of p) = record { count = refl; told = refl }
 asks_hush v _ = hush v
 
-follows_hush : (v : View) (a : About) (k : MessageKind) → Hushed v (follows_up v a k)
-follows_hush v a MessageKind.State = asks_hush v a
-follows_hush v a MessageKind.Memory = asks_hush v a
-follows_hush v a _ = hush v
-
 proto_hush : (v : View) (o : Option Told) → Hushed v (after_proto v o)
 proto_hush v None = record { count = refl; told = refl }
-proto_hush v (Some t) = let h = follows_hush v t.about t.kind in record { count = h.count; told = h.told }
+proto_hush v (Some t) = let h = elim t.kind as (λ k. Hushed v (follows_up v t.about k))
+    [ MessageKind.State ↦ asks_hush v t.about | MessageKind.Memory ↦ asks_hush v t.about | _ ↦ hush v ] in record { count = h.count; told = h.told }
 
 label_hush : (v : View) (l : Label) → Hushed v (after_label v l)
 label_hush v (Label.Call p n c) = hush v
 label_hush v (Label.Send p id) = hush v
 label_hush v (Label.Wait p) = hush v
 label_hush v (Label.Out p w) = hush v
-label_hush v (Label.Dropped id) = let h = dropped_hush (handled v id) id (receiver_of (v.told id)) in record { count = h.count; told = h.told }
+label_hush v (Label.Dropped id) = let h = elim (receiver_of (v.told id)) as (λ o. Hushed (handled v id) (dropped_for (handled v id) id o))
+    [ None ↦ hush (handled v id) | Some p ↦ record { count = refl; told = refl } ] in record { count = h.count; told = h.told }
 label_hush v (Label.Served id) = let h = served_hush (handled v id) (v.told id) in record { count = h.count; told = h.told }
 label_hush v _ = record { count = refl; told = refl }
-
-sets_hush : (v : View) (p : Pid) (a : About) → Hushed v (sets_off v p a)
-sets_hush v p (Target m) = record { count = refl; told = refl }
-sets_hush v p _ = record { count = refl; told = refl }
-
-stage_hush : (v : View) (p : Pid) (s : Stage) → Hushed v (after_stage v p s)
-stage_hush v p Stage.Frozen = sets_hush v p v.topic
-stage_hush v p Stage.Asked = hush v
-stage_hush v p _ = record { count = refl; told = refl }
 
 head_hush : (v : View) (s : Step) → Hushed v (after_head v s)
 head_hush v (Step.Turn m) = record { count = refl; told = refl }
@@ -86,10 +54,15 @@ hushed v (Line.Taken a b n) e = let h = taken_hush (with_pair v a b (record (v.p
 hushed v (Line.Old a b n) e = hush v
 hushed v Line.Nothing e = hush v
 hushed v (Line.Resent m n) e = hush v
-hushed v (Line.Queued id) e = let h = queued_hush (handled v id) id (receiver_of (v.told id)) in record { count = h.count; told = h.told }
-hushed v (Line.Held id) e = let h = held_hush (handled v id) id (receiver_of (v.told id)) in record { count = h.count; told = h.told }
-hushed v (Line.Forwarded id m) e = let h = forwarded_hush (handled v id) (receiver_of (v.told id)) in record { count = h.count; told = h.told }
-hushed v (Line.Migration s p) e = stage_hush v p s
+hushed v (Line.Queued id) e = let h = elim (receiver_of (v.told id)) as (λ o. Hushed (handled v id) (queued_for (handled v id) id o))
+    [ None ↦ hush (handled v id) | Some p ↦ record { count = refl; told = refl } ] in record { count = h.count; told = h.told }
+hushed v (Line.Held id) e = let h = elim (receiver_of (v.told id)) as (λ o. Hushed (handled v id) (held_for (handled v id) id o))
+    [ None ↦ hush (handled v id) | Some p ↦ record { count = refl; told = refl } ] in record { count = h.count; told = h.told }
+hushed v (Line.Forwarded id m) e = let h = elim (receiver_of (v.told id)) as (λ o. Hushed (handled v id) (forwarded_for (handled v id) o))
+    [ None ↦ hush (handled v id) | Some p ↦ record { count = refl; told = refl } ] in record { count = h.count; told = h.told }
+hushed v (Line.Migration s p) e = elim s as (λ s_. Hushed v (after_stage v p s_))
+    [ Stage.Frozen ↦ (elim v.topic as (λ a. Hushed v (sets_off v p a))
+        [ Target m ↦ record { count = refl; told = refl } | _ ↦ record { count = refl; told = refl } ]) | Stage.Asked ↦ hush v | _ ↦ record { count = refl; told = refl } ]
 hushed v (Line.Proto id) e = let h = proto_hush (handled v id) (v.told id) in record { count = h.count; told = h.told }
 hushed v (Line.NoChild p) e = hush v
 hushed v (Line.Pinned p) e = hush v

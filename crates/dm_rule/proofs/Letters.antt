@@ -17,11 +17,6 @@ letters_own own bag i e = ap (λ (c : Bool). if c then own i else to_of (bag i))
 pub letters_bag : (own : Bag) (bag : MsgId → Option PlainMessage) (i : MsgId) → is_kernels i ≡ false → letters own bag i ≡ to_of (bag i)
 letters_bag own bag i e = ap (λ (c : Bool). if c then own i else to_of (bag i)) e
 
--- the bag never has a kernel's own message
-no_life : (s : OneKernel) (p : Pid) (n : ℕ) (o : Option Life) → s.processes p ≡ o → p.num ≡ 0 → Made s → is_counted n o ≡ false
-no_life s p n None e z h = refl
-no_life s p n (Some life) e z h = absurd (let k = h.least p (ap is_some e) in grind (arith, nat_tests))
-
 pub from_kernel : (i : MsgId) → is_kernels i ≡ true → i.from.num ≡ 0
 from_kernel i e = grind (arith, nat_tests)
 
@@ -29,7 +24,8 @@ not_counted : (s : OneKernel) (i : MsgId) → i.from.num ≡ 0 → Made s → co
 not_counted s i z h =
     let a : pid_eq i.from switchboard ≡ false = grind (arith, nat_tests) in
     let b : pid_eq i.from manager ≡ false = grind (arith, nat_tests) in
-    let c : is_counted i.n (s.processes i.from) ≡ false = no_life s i.from i.n (s.processes i.from) refl z h in
+    let c : is_counted i.n (s.processes i.from) ≡ false = (elim (s.processes i.from) as (λ o. s.processes i.from ≡ o → is_counted i.n o ≡ false)
+        [ None ↦ λ e. refl | Some life ↦ λ e. absurd (let k = h.least i.from (ap is_some e) in grind (arith, nat_tests)) ]) refl in
     grind (arith, nat_tests)
 
 pub kernels_fresh : (r e : MsgId → ℕ) (s : OneKernel) (i : MsgId) → Sound r e s → is_kernels i ≡ true → e i ≡ 0
@@ -59,8 +55,7 @@ gone_in s t (Label.Receive p id) j is e =
     let (done, completing, last) = bind-is (step.completing s p id) (step.receives s p id) t is in
     let (x, alive, more) = bind-is (step.at_hand s p) (λ x. bind (s.bag id) (receiving.completes_with p x)) done completing in
     let (m, there, rest) = bind-is (s.bag id) (receiving.completes_with p x) done more in
-    let f : id ≡ j = cc in
-    record { message = m; there = ap s.bag (sym f) ∙ there }
+    let f : id ≡ j = cc in record { message = m; there = ap s.bag (sym f) ∙ there }
 gone_in s t (Label.Dropped id) j is e = in_first s t id (λ m. bind (step.why_ended (s.processes m.to)) (step.drops s id m)) j is (let f : id ≡ j = cc in f)
 gone_in s t (Label.Served id) j is e = in_first s t id (λ m. bind (step.at_hand s m.to) (λ p. service.serves s id m p m.what)) j is (let f : id ≡ j = cc in f)
 gone_in s t (Label.Gone id) j is e = in_first s t id (λ m. bind (step.why_ended (s.processes m.to)) (step.says_gone s id m)) j is (let f : id ≡ j = cc in f)

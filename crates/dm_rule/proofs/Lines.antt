@@ -123,7 +123,7 @@ queued_off v i p (Queue m q) a b = at_record_off v.queue v.acting m p q (v.queue
 queued_off v i p (Inbox m) a b = at_machine_off v.inbox v.acting m (without_front i (v.inbox v.acting)) (inbox_apart v.acting m a)
 queued_off v i p _ a b = refl
 
-spots_differ : (m n : ℕ) (p : Pid) → Inbox m ≢ Queue n p
+pub spots_differ : (m n : ℕ) (p : Pid) → Inbox m ≢ Queue n p
 spots_differ m n p e = let k : true ≡ false = ap is_inbox e in false≢true (sym k)
 
 pub one_more : (j i : MsgId) (xs : List MsgId) → times j (xs ++ i ∷ []) ≡ times j xs + one_of j i
@@ -142,8 +142,7 @@ queue_mine bag v i x p there to h m q j y least is = elim (cases_Bool ((v.acting
         | inl is_i ↦
             let ji : j ≡ i = id_eq-is j i is_i in
             let xy : Some x ≡ Some y = sym there ∙ ap bag (sym ji) ∙ is in
-            let e : x ≡ y = cc in
-            sym e ∙ to ∙ pq
+            let e : x ≡ y = cc in sym e ∙ to ∙ pq
         | inr other ↦
             let zero_ : one_of j i ≡ 0 = ap (λ (c : Bool). if c then 1 else 0) other in
             let was : 1 ≤ times j (v.queue v.acting p) = omega (arith, least, count, zero_) in
@@ -176,15 +175,13 @@ without_counts j i (y ∷ ys) least = elim (cases_Bool (id_eq i y)) [
       let is : i ≡ y = id_eq-is i y same in
       let now : without_id i (y ∷ ys) ≡ ys = ap (λ (c : Bool). if c then ys else y ∷ without_id i ys) same in
       let a : times j (without_id i (y ∷ ys)) ≡ times j ys = ap (times j) now in
-      let b : one_of j i ≡ one_of j y = ap (one_of j) is in
-      omega (arith, a, b)
+      let b : one_of j i ≡ one_of j y = ap (one_of j) is in omega (arith, a, b)
   | inr apart ↦
       let now : without_id i (y ∷ ys) ≡ y ∷ without_id i ys = ap (λ (c : Bool). if c then ys else y ∷ without_id i ys) apart in
       let a : times j (without_id i (y ∷ ys)) ≡ times j (y ∷ without_id i ys) = ap (times j) now in
       let none : one_of i y ≡ 0 = ap (λ (c : Bool). if c then 1 else 0) apart in
       let deeper : 1 ≤ times i ys = omega (arith, least, none) in
-      let k = without_counts j i ys deeper in
-      omega (arith, a, k)
+      let k = without_counts j i ys deeper in omega (arith, a, k)
 ]
 
 pub front_counts : (j i : MsgId) (xs ys : List MsgId) → xs ≡ i ∷ ys → times j xs ≡ times j (without_front i xs) + one_of j i
@@ -198,18 +195,6 @@ queue_off : (v : View) (p : Pid) (rest : List MsgId) (z : Spot) → z ≢ Queue 
 queue_off v p rest (Queue m q) a = at_record_off v.queue v.acting m p q rest (queue_apart v.acting m p q a)
 queue_off v p rest _ a = refl
 
-queue_fewer : (v : View) (p : Pid) (rest : List MsgId) (i : MsgId) → ((j : MsgId) → times j (v.queue v.acting p) ≡ times j rest + one_of j i) → (m : ℕ) (q : Pid) (j : MsgId)
-    → 1 ≤ times j (at_record v.queue v.acting p rest m q) → 1 ≤ times j (v.queue m q)
-queue_fewer v p rest i counts m q j least = elim (cases_Bool ((v.acting == m) && pid_eq p q)) [
-  | inl same ↦
-      let both_ = parts (v.acting == m) (pid_eq p q) same in
-      let now : times j (at_record v.queue v.acting p rest m q) ≡ times j rest = ap (times j) (ap (λ (c : Bool). if c then rest else v.queue m q) same) in
-      let c = counts j in
-      let was : 1 ≤ times j (v.queue v.acting p) = omega (arith, least, now, c) in
-      subst (λ x. 1 ≤ times j (v.queue m x)) (pid_eq-is p q both_.1) (subst (λ x. 1 ≤ times j (v.queue x p)) (eq_is v.acting m both_.0) was)
-  | inr apart ↦ subst (λ n. 1 ≤ n) (ap (times j) (at_record_off v.queue v.acting m p q rest apart)) least
-]
-
 pub Stands-dequeued : (bag : Bag) (v w : View) (i : MsgId) (p : Pid) (rest : List MsgId) → ((j : MsgId) → times j (v.queue v.acting p) ≡ times j rest + one_of j i)
     → ((z : Spot) → ids_at w z ≡ ids_at (record v { queue = at_record v.queue v.acting p rest }) z) → ((j : MsgId) → w.told j ≡ v.told j) → Stands bag v → Stands (hidden (Some i) bag) w
 Stands-dequeued bag v w i p rest counts same told h =
@@ -219,7 +204,15 @@ Stands-dequeued bag v w i p rest counts same told h =
       kept = once_goes v u bag (hidden (Some i) bag) i (Queue v.acting p) (hidden_at bag i) (hidden_off bag i)
           (λ j. let c = counts j in let n : times j (ids_at u (Queue v.acting p)) ≡ times j rest = ap (times j) (at_record_at v.queue v.acting p rest) in omega (arith, c, n)) (λ z apart. queue_off v p rest z apart) h.kept;
       told = λ j x k. h.told j x (hidden_some bag i j x k);
-      mine = λ m q j x least k. h.mine m q j x (queue_fewer v p rest i counts m q j least) (hidden_some bag i j x k);
+      mine = λ m q j x least k. h.mine m q j x (elim (cases_Bool ((v.acting == m) && pid_eq p q)) [
+        | inl same ↦
+            let both_ = parts (v.acting == m) (pid_eq p q) same in
+            let now : times j (at_record v.queue v.acting p rest m q) ≡ times j rest = ap (times j) (ap (λ (c : Bool). if c then rest else v.queue m q) same) in
+            let c = counts j in
+            let was : 1 ≤ times j (v.queue v.acting p) = omega (arith, least, now, c) in
+            subst (λ x. 1 ≤ times j (v.queue m x)) (pid_eq-is p q both_.1) (subst (λ x. 1 ≤ times j (v.queue x p)) (eq_is v.acting m both_.0) was)
+        | inr apart ↦ subst (λ n. 1 ≤ n) (ap (times j) (at_record_off v.queue v.acting m p q rest apart)) least
+      ]) (hidden_some bag i j x k);
     })
 
 -- what stands at a place of a list, and what is behind it
@@ -256,9 +249,6 @@ pair_keeps f a b p same c d = elim (cases_Bool ((a == c) && (b == d))) [
 abbrev pub having : MsgId → Pid → Bag → Bag
 having i x bag j = if id_eq i j then Some x else bag j
 
-pub having_at : (i : MsgId) (x : Pid) (bag : Bag) → having i x bag i ≡ Some x
-having_at i x bag = ap (λ (c : Bool). if c then Some x else bag i) (id_eq-same i)
-
 pub having_off : (i : MsgId) (x : Pid) (bag : Bag) → SameBut i bag (having i x bag)
 having_off i x bag j e = ap (λ (c : Bool). if c then Some x else bag j) e
 
@@ -269,18 +259,14 @@ comes_told bag v w i x others mine h j y is = elim (cases_Bool (id_eq i j)) [
   | inl same ↦
       let e : i ≡ j = id_eq-is i j same in
       let k : Some x ≡ Some y = sym (ap (λ (c : Bool). if c then Some x else bag j) same) ∙ is in
-      let xy : x ≡ y = cc in
-      sym (ap (λ t. receiver_of (w.told t)) e) ∙ mine ∙ ap (λ (t : Pid). Some t) xy
+      let xy : x ≡ y = cc in sym (ap (λ t. receiver_of (w.told t)) e) ∙ mine ∙ ap (λ (t : Pid). Some t) xy
   | inr apart ↦ ap receiver_of (others j apart) ∙ h.told j y (sym (having_off i x bag j apart) ∙ is)
 ]
 
-nowhere_at : (m : Option Pid) (f : Spot → ℕ) (z : Spot) → m ≡ None → StandsAsBag m f → f z ≡ 0
-nowhere_at None f z e h = h z
-nowhere_at (Some x) f z e h = cc
-
 -- a queue has none of a message that isn't in the bag
 not_queued : (bag : Bag) (v : View) (m : ℕ) (p : Pid) (i : MsgId) → bag i ≡ None → Stands bag v → times i (v.queue m p) ≡ 0
-not_queued bag v m p i none h = nowhere_at (bag i) (standing v i) (Queue m p) none (h.kept i)
+not_queued bag v m p i none h = (elim (bag i) as (λ m_. m_ ≡ None → StandsAsBag m_ (standing v i) → (standing v i) (Queue m p) ≡ 0)
+    [ None ↦ λ e h_. h_ (Queue m p) | Some x ↦ λ e h_. cc ]) none (h.kept i)
 
 comes_mine : (bag : Bag) (v : View) (i : MsgId) (x : Pid) → bag i ≡ None → Stands bag v → (m : ℕ) (p : Pid) (j : MsgId) (y : Pid) → 1 ≤ times j (v.queue m p) → having i x bag j ≡ Some y → y ≡ p
 comes_mine bag v i x none h m p j y least is = elim (cases_Bool (id_eq i j)) [
@@ -292,7 +278,7 @@ comes_mine bag v i x none h m p j y least is = elim (cases_Bool (id_eq i j)) [
 pub Stands-comes : (bag : Bag) (v w : View) (i : MsgId) (x : Pid) (y : Spot) → bag i ≡ None → ((j : MsgId) → times j (ids_at w y) ≡ times j (ids_at v y) + one_of j i) → ((z : Spot) → z ≢ y → ids_at w z ≡ ids_at v z)
     → ((m : ℕ) (p : Pid) → w.queue m p ≡ v.queue m p) → ((j : MsgId) → id_eq i j ≡ false → w.told j ≡ v.told j) → receiver_of (w.told i) ≡ Some x → Stands bag v → Stands (having i x bag) w
 Stands-comes bag v w i x y none at_y off queues others mine h = record {
-  kept = once_comes v w bag (having i x bag) i y x none (having_at i x bag) (having_off i x bag) at_y off h.kept;
+  kept = once_comes v w bag (having i x bag) i y x none (ap (λ (c : Bool). if c then Some x else bag i) (id_eq-same i)) (having_off i x bag) at_y off h.kept;
   told = comes_told bag v w i x others mine h;
   mine = λ m p j z least is. comes_mine bag v i x none h m p j z (subst (λ n. 1 ≤ n) (ap (times j) (queues m p)) least) is;
 }
@@ -369,16 +355,13 @@ taken_off v a b n i (Inbox m) x y = at_machine_off v.inbox b m (v.inbox b ++ i �
 taken_off v a b n i (Untaken c d) x y = ap untaken (pair_off v.pair a b c d (taken_pair (v.pair a b) n) (untaken_apart a b c d x))
 taken_off v a b n i _ x y = refl
 
-taken_none_off : (v : View) (a b n : ℕ) (z : Spot) → untaken (taken_pair (v.pair a b) n) ≡ untaken (v.pair a b) → ids_at (view.with_pair v a b (taken_pair (v.pair a b) n)) z ≡ ids_at v z
-taken_none_off v a b n (Untaken c d) same = pair_keeps v.pair a b (taken_pair (v.pair a b) n) same c d
-taken_none_off v a b n _ same = refl
-
 taken_by : (bag : Bag) (v : View) (a b n : ℕ) (o : Option MsgId) → slice_get (v.pair a b).ids (v.pair a b).taken ≡ o → Stands bag v → Stands bag (view.taken_id (view.with_pair v a b (taken_pair (v.pair a b) n)) b o)
 taken_by bag v a b n None is h =
     let k = past_place (v.pair a b).ids (v.pair a b).taken is in
     let next : (v.pair a b).taken + 1 ≡ suc (v.pair a b).taken = omega arith in
     let same : untaken (taken_pair (v.pair a b) n) ≡ untaken (v.pair a b) = ap (λ m. drop m (v.pair a b).ids) next ∙ k.1 ∙ sym k.0 in
-    Stands-stays bag v (view.with_pair v a b (taken_pair (v.pair a b) n)) (λ z. taken_none_off v a b n z same) (λ j. refl) h
+    Stands-stays bag v (view.with_pair v a b (taken_pair (v.pair a b) n)) (λ z. elim z as (λ z_. ids_at (view.with_pair v a b (taken_pair (v.pair a b) n)) z_ ≡ ids_at v z_)
+        [ Untaken c d ↦ pair_keeps v.pair a b (taken_pair (v.pair a b) n) same c d | _ ↦ refl ]) (λ j. refl) h
 taken_by bag v a b n (Some i) is h =
     let u = record (view.with_pair v a b (taken_pair (v.pair a b) n)) { inbox = at_machine v.inbox b (v.inbox b ++ i ∷ []) } in
     let next : (v.pair a b).taken + 1 ≡ suc (v.pair a b).taken = omega arith in

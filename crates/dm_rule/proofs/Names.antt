@@ -28,7 +28,7 @@ pub use Rattle.dm_onekernel.specs.Kernel.{NamedLink}
 pub use Rattle.dm_onekernel.specs.PlainProcess.{setting}
 pub use Rattle.dm_onekernel.specs.Service.{is_dropped}
 pub use Rattle.dm_onekernel.specs.Start.{slots_with}
-pub use Rattle.dm_onekernel.specs.Step.{with_machine}
+pub use Rattle.dm_onekernel.specs.Step.{machine_of, with_machine}
 pub use Rattle.dm_onekernel.specs.declared.boot.Format.TheVariants.{One}
 pub use Rattle.dm_laws.proofs.Counted.{pending_of}
 pub use Rattle.dm_laws.proofs.Entered.{Entered, Made, asks, counts, is_counted, request_id, unentered}

@@ -14,7 +14,7 @@ SameBut id bag bag' = (i : MsgId) → id_eq id i ≡ false → bag' i ≡ bag i
 abbrev pub Kept : (MsgId → Option Pid) → View → Type 0
 Kept bag v = (i : MsgId) → StandsAsBag (bag i) (standing v i)
 
-one_of-off : (i id : MsgId) → id_eq id i ≡ false → one_of i id ≡ 0
+pub one_of-off : (i id : MsgId) → id_eq id i ≡ false → one_of i id ≡ 0
 one_of-off i id e = let h : id_eq i id ≡ false = id_eq-swap i id ∙ e in grind (arith, nat_tests)
 
 pub one_of-same : (id : MsgId) → one_of id id ≡ 1

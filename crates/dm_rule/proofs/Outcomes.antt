@@ -51,8 +51,7 @@ by_parts P none more (p ∷ ps) pt w e =
     let (ls, lines, rest) = bind-is (lines_of pt p) (λ (xs : List Line). bind (after pt xs) (λ (q : Point). bind (spelled q ps) (λ (z : Spelled). Some (behind xs z)))) w e in
     let (next, leads, last) = bind-is (after pt ls) (λ (q : Point). bind (spelled q ps) (λ (z : Spelled). Some (behind ls z))) w rest in
     let (z, is, end) = bind-is (spelled next ps) (λ (y : Spelled). Some (behind ls y)) w last in
-    let f : behind ls z ≡ w = cc in
-    subst (P (p ∷ ps) pt) f (more p ps pt next ls z lines leads (by_parts P none more ps next z is))
+    let f : behind ls z ≡ w = cc in subst (P (p ∷ ps) pt) f (more p ps pt next ls z lines leads (by_parts P none more ps next z is))
 
 -- a group is its head and what is spelled behind it
 pub by_group : (P : Spelled → Type 0) (b : Boot) (pt : Point) (d : Step) (w : Spelled) → ((ps : List Part) (rest : Spelled) → rule.outcome b pt d ≡ Some ps → spelled (moved pt (Line.Head d) pt.kernel) ps ≡ Some rest → P (rule.headed (Line.Head d) rest))

@@ -1,12 +1,10 @@
 -- The test for quiet decides whether all is quiet.
 use Rattle.dm_rule.proofs.Names.{◌≡◌, ◌≢◌, ℕ, ◌<◌, ◌==◌, ◌&&◌, Bool, true, false, not, List, [], ◌∷◌, length, nat_lt, refl, ap, ◌∙◌, sym, arith, ◌||◌, false≢true, nat_tests, MsgId, all_below, all_of_each, both_true, each_of_all, left_true}
 use Rattle.dm_rule.proofs.Names.{right_true, QuietIsTested, IsQuiet, has_mail, is_quiet, pair_is_quiet, Pair, View}
+use Rattle.dm_rule.proofs.Lines.{eq_is as is_eq}
 
 pub eq_is : (m n : ℕ) → m ≡ n → (m == n) ≡ true
 eq_is m n e = grind (arith, nat_tests)
-
-is_eq : (m n : ℕ) → (m == n) ≡ true → m ≡ n
-is_eq m n e = grind (arith, nat_tests)
 
 pub eq_not : (m n : ℕ) → m ≢ n → (m == n) ≡ false
 eq_not m n e = grind (arith, nat_tests)
@@ -29,13 +27,10 @@ no_mail_empty v m e = none (v.inbox m) e
         some : (n : ℕ) → 0 < n → not (nat_lt 0 n) ≡ true → ⊥
         some n h e = grind (arith, nat_tests)
 
-empty_no_mail : (v : View) (m : ℕ) → v.inbox m ≡ [] → not (has_mail v m) ≡ true
-empty_no_mail v m e = ap (λ (xs : List MsgId). not (nat_lt 0 (length xs))) e
-
 pub quiet_passes : (n : ℕ) (v : View) → IsQuiet n v → is_quiet n v ≡ true
 quiet_passes n v q =
     all_of_each n (λ a. not (has_mail v a) && all_below n (λ b. pair_is_quiet (a == b) (v.pair a b)))
-    (λ a h. both_true (not (has_mail v a)) (all_below n (λ b. pair_is_quiet (a == b) (v.pair a b))) (empty_no_mail v a (q.inbox a h))
+    (λ a h. both_true (not (has_mail v a)) (all_below n (λ b. pair_is_quiet (a == b) (v.pair a b))) (ap (λ (xs : List MsgId). not (nat_lt 0 (length xs))) (q.inbox a h))
     (all_of_each n (λ b. pair_is_quiet (a == b) (v.pair a b))
     (λ b k. both_true ((v.pair a b).taken == length (v.pair a b).ids) ((a == b) || ((v.pair a b).acked == length (v.pair a b).ids)) (eq_is (v.pair a b).taken (length (v.pair a b).ids) (q.taken a b h k))
     (heard_by (a == b) (v.pair a b) (λ apart. q.acked a b h k (λ same. false≢true (sym apart ∙ eq_is a b same)))))))

@@ -28,5 +28,4 @@ not_quiet_after_send w e quiet =
     let one : routed (Some w) ≡ 1 = ap routed (sym e) ∙ one_routed in
     let none : taken (Some w) ≡ 0 = ap taken (sym e) ∙ none_taken in
     let same : taken (Some w) ≡ routed (Some w) = quiet.taken 0 1 (lit< tt) (lit< tt) in
-    let h : 0 ≡ 1 = sym none ∙ same ∙ one in
-    cc
+    let h : 0 ≡ 1 = sym none ∙ same ∙ one in cc

@@ -1,6 +1,11 @@
 -- A directive to move a process: it is refused in a line, or a request goes to the process. What holds of these three holds of whatever comes of it.
 use Rattle.dm_rule.proofs.Names.{◌≡◌, ℕ, ◌||◌, Bool, true, false, List, [], ◌∷◌, refl, if◌then◌else◌, Option, None, Some, Pid, pid_eq, MessageKind, Line, Child, Addresses, child_number, Point, Part, Says, Owns, migrates_child, migrates, switchboard, manager}
 
+-- a test chooses between two values, and both do
+pub by_test : {A : Type 0} (P : A → Type 0) (c : Bool) (x y : A) → P x → P y → P (if c then x else y)
+by_test P true x y h k = h
+by_test P false x y h k = k
+
 by_child : (P : List Part → Type 0) (a : Addresses) (p : Pid) (o : Option ℕ) → P (Says (Line.NoChild p) ∷ []) → ((n : ℕ) → o ≡ Some n → P (Owns MessageKind.Migrate p (a (Child n)).at ∷ [])) → P (migrates_child a p o)
 by_child P a p None none asks = none
 by_child P a p (Some n) none asks = asks n refl

@@ -18,21 +18,12 @@ all_append f (p ∷ ps) qs h k = (h.0, all_append f ps qs h.1 k)
 abbrev pub learnt : (Pid → Known) → Pid → Known → Pid → Known
 learnt f p k q = if pid_eq p q then k else f q
 
-pub learnt_at : (f : Pid → Known) (p : Pid) (k : Known) → learnt f p k p ≡ k
-learnt_at f p k = ap (λ (c : Bool). if c then k else f p) (pid_eq-same p)
-
-learnt_off : (f : Pid → Known) (p q : Pid) (k : Known) → pid_eq p q ≡ false → learnt f p k q ≡ f q
-learnt_off f p q k e = ap (λ (c : Bool). if c then k else f q) e
-
-learnt_here : (f : Pid → Known) (p q : Pid) (k : Known) → (f p ≡ Here → k ≡ Here) → f q ≡ Here → learnt f p k q ≡ Here
-learnt_here f p q k keeps h = elim (cases_Bool (pid_eq p q)) [
-  | inl same ↦ ap (λ (c : Bool). if c then k else f q) same ∙ keeps (ap f (pid_eq-is p q same) ∙ h)
-  | inr apart ↦ learnt_off f p q k apart ∙ h
-]
-
 pub all_learnt : (f : Pid → Known) (p : Pid) (k : Known) (ps : List Pid) → (f p ≡ Here → k ≡ Here) → AllHere f ps → AllHere (learnt f p k) ps
 all_learnt f p k [] keeps h = tt
-all_learnt f p k (q ∷ qs) keeps h = (learnt_here f p q k keeps h.0, all_learnt f p k qs keeps h.1)
+all_learnt f p k (q ∷ qs) keeps h = (elim (cases_Bool (pid_eq p q)) [
+  | inl same ↦ ap (λ (c : Bool). if c then k else f q) same ∙ keeps (ap f (pid_eq-is p q same) ∙ h.0)
+  | inr apart ↦ ap (λ (c : Bool). if c then k else f q) apart ∙ h.0
+], all_learnt f p k qs keeps h.1)
 
 -- the others of a ring
 without_row : (f g : Pid → Known) (p q : Pid) (ps : List Pid) (b : Bool) → pid_eq p q ≡ b → ((x : Pid) → pid_eq p x ≡ false → f x ≡ Here → g x ≡ Here) → f q ≡ Here → AllHere g ps → AllHere g (if not b then q ∷ ps else ps)
@@ -44,13 +35,13 @@ all_without f g p [] keeps h = tt
 all_without f g p (q ∷ qs) keeps h = without_row f g p q (without p qs) (pid_eq p q) refl keeps h.0 (all_without f g p qs keeps h.1)
 
 pub learnt_without : (f : Pid → Known) (p : Pid) (k : Known) (ps : List Pid) → AllHere f ps → AllHere (learnt f p k) (without p ps)
-learnt_without f p k ps h = all_without f (learnt f p k) p ps (λ x off is. learnt_off f p x k off ∙ is) h
+learnt_without f p k ps h = all_without f (learnt f p k) p ps (λ x off is. ap (λ (c : Bool). if c then k else f x) off ∙ is) h
 
 pub all_moved : (f : Pid → Known) (p : Pid) (ps : List Pid) → f p ≡ Here → AllHere f ps → AllHere f (moved_back p ps)
 all_moved f p ps here h = all_append f (without p ps) (p ∷ []) (all_without f f p ps (λ x off is. is) h) (here, tt)
 
 pub learnt_last : (f : Pid → Known) (p : Pid) (ps : List Pid) → AllHere f ps → AllHere (learnt f p Here) (ps ++ p ∷ [])
-learnt_last f p ps h = all_append (learnt f p Here) ps (p ∷ []) (all_learnt f p Here ps (λ e. refl) h) (learnt_at f p Here, tt)
+learnt_last f p ps h = all_append (learnt f p Here) ps (p ∷ []) (all_learnt f p Here ps (λ e. refl) h) (ap (λ (c : Bool). if c then Here else f p) (pid_eq-same p), tt)
 
 -- one machine's ring
 ring_if : (f : Pid → Known) (c : Bool) (x y : List Pid) → (c ≡ true → AllHere f x) → (c ≡ false → AllHere f y) → AllHere f (if c then x else y)

@@ -24,13 +24,6 @@ about_off v a _ = refl
 pub Stands-about : (bag : Bag) (v : View) (a : About) → Stands bag v → Stands bag (view.about v a)
 Stands-about bag v a h = Stands-stays bag v (view.about v a) (λ z. about_off v a z) (λ i. refl) h
 
--- step 1 behind the head of a group, and behind the line that says that the process is asked to move
-pub frozen_is : (v : View) (p : Pid) → v.topic ≡ NothingElse → after_stage v p Stage.Frozen ≡ frozen_for (handled_first v) p (target_of (front_told v (v.inbox v.acting)))
-frozen_is v p e = ap (sets_off v p) e
-
-pub frozen_asked : (v : View) (p : Pid) (m : ℕ) → v.topic ≡ Target m → after_stage v p Stage.Frozen ≡ frozen_for v p m
-frozen_asked v p m e = ap (sets_off v p) e
-
 -- where it goes, behind either
 abbrev pub aim : View → About → ℕ
 aim v (Target m) = m

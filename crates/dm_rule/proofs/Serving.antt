@@ -3,8 +3,7 @@ use Rattle.dm_rule.proofs.Names.{◌≡◌, ℕ, ◌+◌, ◌==◌, ◌||◌, Bo
 use Rattle.dm_rule.proofs.Names.{PlainMessage, PlainWhat, instruction, BootImage, Boot, first_number, switchboard, manager, bind, PlainProcess, PlainStatus, Ready, Waiting, Moving, answer_id, with_machine, Line, Known, Unknown, Here}
 use Rattle.dm_rule.proofs.Names.{Frozen, Incoming, Forward, Ended, Addresses, Sender, is_told_back, Point, Part, Says, Routes, Again, Owns, forwards_on, Room, says, drop_parts, called, stops, executes, ran, completion_parts}
 use Rattle.dm_rule.proofs.Names.{reception_parts, first_awaited, serves_status, goes_round, has_room, free_room, creation_parts, kernel_handles, routes, board_took, manager_parts, here_handles, ended_handles, process_handles, bind-is}
-use Rattle.dm_rule.proofs.Names.{Outcome, answers_move, asked_to_move, leaves_for, arith, nat_tests, sym}
-use Rattle.dm_onekernel.specs.Step.{machine_of}
+use Rattle.dm_rule.proofs.Names.{Outcome, answers_move, asked_to_move, leaves_for, arith, nat_tests, sym, machine_of}
 use Rattle.dm_onekernel.specs.Calls as calls
 use Rattle.dm_onekernel.specs.Pieces as pieces
 use Rattle.dm_onekernel.specs.Receiving as receiving
@@ -208,19 +207,16 @@ pub loose_sent : (L : List Part → Type 0) → Loose L → (sent : Option Plain
 loose_sent L c None = c.none
 loose_sent L c (Some m) = c.routes m.id [] c.none
 
-pub loose_stops : (L : List Part → Type 0) → Loose L → (p : Pid) (queue : List MsgId) → Stops L p queue
-loose_stops L c p queue = record {
-  over = c.none;
-  replies = λ n r. c.label (Label.Call p n r) [] c.none;
-  sends = λ id. c.label (Label.Send p id) (Routes id ∷ []) (c.routes id [] c.none);
-  waits = c.label (Label.Wait p) [] c.none;
-  outputs = λ word. c.label (Label.Out p word) [] c.none;
-  ends = λ y. c.label (Label.End p y) (drop_parts queue) (loose_drops L c queue);
-}
-
 pub loose_round : (L : List Part → Type 0) → Loose L → (b : Boot) (o : Point) (m : ℕ) (q : Option Pid) (ps : List Part) → L (Says (Line.Idle m) ∷ []) → goes_round b o m q ≡ Some ps → L ps
 loose_round L c b o m q ps idle = by_round L b o m q ps idle (λ p x is alive. record {
-  runs = λ k rest h. c.label (Label.Ran p k) rest (h L (loose_stops L c p (o.view.queue m p)));
+  runs = λ k rest h. c.label (Label.Ran p k) rest (h L (record {
+    over = c.none;
+    replies = λ n r. c.label (Label.Call p n r) [] c.none;
+    sends = λ id. c.label (Label.Send p id) (Routes id ∷ []) (c.routes id [] c.none);
+    waits = c.label (Label.Wait p) [] c.none;
+    outputs = λ word. c.label (Label.Out p word) [] c.none;
+    ends = λ y. c.label (Label.End p y) (drop_parts (o.view.queue m p)) (loose_drops L c (o.view.queue m p));
+  }));
   takes = λ mask id stands. c.label (Label.Receive p id) [] c.none;
   refuses = λ id r. c.label (Label.Refuse p id r) [] c.none;
 })

@@ -31,15 +31,12 @@ same_spot-is (Untaken a b) (Queue n q) e = cc
 same_spot-is (Untaken a b) (Held n q) e = cc
 same_spot-is (Untaken a b) (Inbox n) e = cc
 
-eq_same : (m : ℕ) → (m == m) ≡ true
-eq_same m = grind (arith, nat_tests)
-
 same_spot-same : (x : Spot) → same_spot x x ≡ true
 unfolding same_spot
-same_spot-same (Queue m p) = both_true (m == m) (pid_eq p p) (eq_same m) (pid_eq-same p)
-same_spot-same (Held m p) = both_true (m == m) (pid_eq p p) (eq_same m) (pid_eq-same p)
-same_spot-same (Inbox m) = eq_same m
-same_spot-same (Untaken a b) = both_true (a == a) (b == b) (eq_same a) (eq_same b)
+same_spot-same (Queue m p) = both_true (m == m) (pid_eq p p) (grind (arith, nat_tests)) (pid_eq-same p)
+same_spot-same (Held m p) = both_true (m == m) (pid_eq p p) (grind (arith, nat_tests)) (pid_eq-same p)
+same_spot-same (Inbox m) = grind (arith, nat_tests)
+same_spot-same (Untaken a b) = both_true (a == a) (b == b) (grind (arith, nat_tests)) (grind (arith, nat_tests))
 
 pub spot_cases : (x y : Spot) → (x ≡ y) ⊎ (x ≢ y)
 spot_cases x y = elim (cases_Bool (same_spot x y)) [
@@ -62,10 +59,7 @@ comes f g y e same off = (y, (let h : f y ≡ 0 = off y in omega arith), λ z ap
 pub goes : (f g : Spot → ℕ) (x : Spot) → f x ≡ g x + 1 → ((z : Spot) → z ≢ x → g z ≡ f z) → StandsOnce f → StandsNowhere g
 goes f g x e same once z =
     let h = once_at f x once (omega arith) in
-    elim (spot_cases z x) [
-      | inl is ↦ ap g is ∙ (let k : f x ≡ 1 = h.0 in omega arith)
-      | inr apart ↦ same z apart ∙ h.1 z apart
-    ]
+    elim (spot_cases z x) [ inl is ↦ ap g is ∙ (let k : f x ≡ 1 = h.0 in omega arith) | inr apart ↦ same z apart ∙ h.1 z apart ]
 
 -- or moves to another
 pub moves : (f g : Spot → ℕ) (x y : Spot) → x ≢ y → f x ≡ g x + 1 → g y ≡ f y + 1 → ((z : Spot) → z ≢ x → z ≢ y → g z ≡ f z) → StandsOnce f → StandsOnce g
@@ -73,10 +67,7 @@ moves f g x y ne e d same once =
     let h = once_at f x once (omega arith) in (
       y,
       (let k : f y ≡ 0 = h.1 y (λ i. ne (sym i)) in omega arith),
-      λ z apart. elim (spot_cases z x) [
-        | inl is ↦ ap g is ∙ (let k : f x ≡ 1 = h.0 in omega arith)
-        | inr other ↦ same z other apart ∙ h.1 z other
-      ],
+      λ z apart. elim (spot_cases z x) [ inl is ↦ ap g is ∙ (let k : f x ≡ 1 = h.0 in omega arith) | inr other ↦ same z other apart ∙ h.1 z other ],
     )
 
 pub StandsAsBag-same : {M : Type 0} (m : Option M) (f g : Spot → ℕ) → ((x : Spot) → g x ≡ f x) → StandsAsBag m f → StandsAsBag m g

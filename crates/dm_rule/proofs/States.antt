@@ -6,7 +6,7 @@ use Rattle.dm_onekernel.specs.Step as kernel
 use Rattle.dm_rule.specs.View as view
 use Rattle.dm_rule.proofs.Hushed.{is_put, hushed}
 use Rattle.dm_rule.proofs.Letters.{letters, letters_step, letter_of, not_kernels}
-use Rattle.dm_rule.proofs.Lines.{Bag, hidden, hidden_off, having, Stands, Stands-same, Stands-stays, Stands-put-home, Stands-put-away, untold_tells, pair_keeps}
+use Rattle.dm_rule.proofs.Lines.{Bag, hidden, hidden_off, having, Stands, Stands-same, Stands-stays, Stands-put-home, Stands-put-away, untold_tells, pair_keeps, eq_is, hidden_at}
 use Rattle.dm_rule.proofs.Seen.{Stands-about}
 use Rattle.dm_rule.proofs.Bags.{BagStep}
 
@@ -122,9 +122,6 @@ having_back bag i x e j = elim (cases_Bool (id_eq i j)) [
   | inr apart ↦ sym (hidden_off bag i j apart) ∙ sym (ap (λ (c : Bool). if c then Some x else hidden (Some i) bag j) apart)
 ]
 
-hidden_self : (bag : Bag) (i : MsgId) → hidden (Some i) bag i ≡ None
-hidden_self bag i = ap (λ (c : Bool). if c then None else bag i) (id_eq-same i)
-
 in_bag_entered : (r e : MsgId → ℕ) (s : OneKernel) (i : MsgId) (x : PlainMessage) → s.bag i ≡ Some x → Sound r e s → 1 ≤ e i
 in_bag_entered r e s i x is h = let f = h.entered.fewer i in let g : in_bag (s.bag i) ≡ 1 = ap in_bag is in omega (arith, f, g)
 
@@ -137,9 +134,6 @@ not_true false h = refl
 
 not_same : (e : MsgId → ℕ) (i j : MsgId) → 1 ≤ e i → e j ≡ 0 → id_eq i j ≡ false
 not_same e i j least zero_ = not_true (id_eq i j) (λ k. let is : i ≡ j = id_eq-is i j k in let z : e i ≡ 0 = ap e is ∙ zero_ in absurd (omega (arith, least, z)))
-
-eq_is : (m n : ℕ) → (m == n) ≡ true → m ≡ n
-eq_is m n e = grind (arith, nat_tests)
 
 pub put_stands : (bag : Bag) (v : View) (b : ℕ) (i : MsgId) (k : MessageKind) (q : Pid) (c : Bool) → (v.acting == b) ≡ c → bag i ≡ None → (view.first_told (v.told i) (record { kind = k; receiver = q; about = v.topic })).receiver ≡ q
     → PairsFit v → Stands bag v → Stands (having i q bag) (view.after_put v v.acting b i k q)
@@ -178,7 +172,7 @@ by_put pt b i x is fits h =
       r = h.r;
       e = h.e;
       sound = h.sound;
-      stands = Stands-same (having i x.to (hidden (Some i) bag)) bag (view_after v l) (having_back bag i x.to there) (put_stands (hidden (Some i) bag) v b i (plain_kind x.what) x.to (v.acting == b) refl (hidden_self bag i) (untold_tells (v.told i) (record { kind = plain_kind x.what; receiver = x.to; about = v.topic }) untold) fits h.stands);
+      stands = Stands-same (having i x.to (hidden (Some i) bag)) bag (view_after v l) (having_back bag i x.to there) (put_stands (hidden (Some i) bag) v b i (plain_kind x.what) x.to (v.acting == b) refl (hidden_at bag i) (untold_tells (v.told i) (record { kind = plain_kind x.what; receiver = x.to; about = v.topic }) untold) fits h.stands);
       untold = λ j zero_ other. put_told_off v v.acting b i j (plain_kind x.what) x.to (not_same h.e i j least zero_) ∙ h.untold j zero_ other;
       pending = λ j k. cc;
       there = λ j k. cc;
@@ -200,12 +194,10 @@ packets_or_none : (P : Point → Type 0) (keep : PacketsKeep P) (v : View) (b : 
     → PutNext P ps w
 packets_or_none P keep v b ls ps w mid true d h e =
     let (r, more, last) = bind-is (spelled mid ps) (λ r. Some (behind ls r)) w e in
-    let f : behind ls r ≡ w = cc in
-    record { next = mid; stands = h; rest = r; more = more; point = ap (λ (t : Spelled). t.point) f }
+    let f : behind ls r ≡ w = cc in record { next = mid; stands = h; rest = r; more = more; point = ap (λ (t : Spelled). t.point) f }
 packets_or_none P keep v b ls ps w mid false false h e =
     let (r, more, last) = bind-is (spelled mid ps) (λ r. Some (behind ls r)) w e in
-    let f : behind ls r ≡ w = cc in
-    record { next = mid; stands = h; rest = r; more = more; point = ap (λ (t : Spelled). t.point) f }
+    let f : behind ls r ≡ w = cc in record { next = mid; stands = h; rest = r; more = more; point = ap (λ (t : Spelled). t.point) f }
 packets_or_none P keep v b ls ps w mid false true h e =
     let l = packet_line v v.acting b (Load.Data (length (v.pair v.acting b).ids)) in
     let (n, took, rest) = bind-is (after mid (l ∷ [])) (λ n. bind (spelled n ps) (λ r. Some (behind ls r))) w e in

@@ -15,6 +15,7 @@ use Rattle.dm_rule.proofs.Pairs.Lines.{touches, AllFit}
 use Rattle.dm_rule.proofs.Pairs.Turns.{turns_fit}
 use Rattle.dm_rule.proofs.Pairs.Migrating.{migrates_fit}
 use Rattle.dm_rule.proofs.Groups.{IsNetLine, IsNet, arrives_net, resends_net, group_is}
+use Rattle.dm_rule.proofs.Bags.{cases_zero}
 
 -- a kernel's own numbers from its count on were never put
 abbrev pub Numbered : View → Type 0
@@ -40,23 +41,6 @@ was_there pt l s h is i x t there told =
     came_from (pt.kernel.bag i) (s.bag i) (h.e i) x (a.sound.entered.once i) there (λ y was. a.only i y x was there)
     (λ zero_. absurd (let n : None ≡ Some t = sym (h.untold i zero_ (not_kernels (λ j. h.r j + reception j l) (λ j. h.e j + entry j pt.kernel s) s i x there a.sound)) ∙ told in cc))
 
-sane_label : (pt : Point) (l : Line) (x : Label) (s : OneKernel) → is_put l ≡ false → kernel.step pt.kernel x ≡ Some s → Sane pt → Sane (moved pt l s)
-sane_label pt l x s quiet is h =
-    let a = after_step h.r h.e pt.kernel s x is h.sound in
-    let same : (i : MsgId) → (view_after pt.view l).told i ≡ pt.view.told i = λ i. ap (λ (f : MsgId → Option Told). f i) (hushed pt.view l quiet).told in
-    record {
-      r = λ i. h.r i + reception i x;
-      e = λ i. h.e i + entry i pt.kernel s;
-      sound = a.sound;
-      untold = λ i zero_ other. same i ∙ h.untold i (omega (arith, zero_)) other;
-      numbered = (let hush = hushed pt.view l quiet in numbered_as pt.view (view_after pt.view l) hush.count hush.told h.numbered);
-      tells = record {
-        kind = λ i m t there told. h.tells.kind i m t (was_there pt x s h is i m t there (sym (same i) ∙ told)) (sym (same i) ∙ told);
-        receiver = λ i m t there told. h.tells.receiver i m t (was_there pt x s h is i m t there (sym (same i) ∙ told)) (sym (same i) ∙ told);
-        own = λ i t told b. h.tells.own i t (sym (same i) ∙ told) b;
-      };
-    }
-
 sane_quiet : (pt : Point) (l : Line) → is_put l ≡ false → Sane pt → Sane (moved pt l pt.kernel)
 sane_quiet pt l quiet h =
     let same : (i : MsgId) → (view_after pt.view l).told i ≡ pt.view.told i = λ i. ap (λ (f : MsgId → Option Told). f i) (hushed pt.view l quiet).told in
@@ -75,13 +59,26 @@ sane_quiet pt l quiet h =
 
 sane_by : (pt : Point) (l : Line) (o : Option Label) (s : OneKernel) → is_put l ≡ false → kernel_after pt.kernel o ≡ Some s → Sane pt → Sane (moved pt l s)
 sane_by pt l None s quiet is h = let f : pt.kernel ≡ s = cc in subst (λ (k : OneKernel). Sane (moved pt l k)) f (sane_quiet pt l quiet h)
-sane_by pt l (Some x) s quiet is h = sane_label pt l x s quiet is h
+sane_by pt l (Some x) s quiet is h =
+    let a = after_step h.r h.e pt.kernel s x is h.sound in
+    let same : (i : MsgId) → (view_after pt.view l).told i ≡ pt.view.told i = λ i. ap (λ (f : MsgId → Option Told). f i) (hushed pt.view l quiet).told in
+    record {
+      r = λ i. h.r i + reception i x;
+      e = λ i. h.e i + entry i pt.kernel s;
+      sound = a.sound;
+      untold = λ i zero_ other. same i ∙ h.untold i (omega (arith, zero_)) other;
+      numbered = (let hush = hushed pt.view l quiet in numbered_as pt.view (view_after pt.view l) hush.count hush.told h.numbered);
+      tells = record {
+        kind = λ i m t there told. h.tells.kind i m t (was_there pt x s h is i m t there (sym (same i) ∙ told)) (sym (same i) ∙ told);
+        receiver = λ i m t there told. h.tells.receiver i m t (was_there pt x s h is i m t there (sym (same i) ∙ told)) (sym (same i) ∙ told);
+        own = λ i t told b. h.tells.own i t (sym (same i) ∙ told) b;
+      };
+    }
 
 pub sane_line : (pt next : Point) (l : Line) → is_put l ≡ false → after_line pt l ≡ Some next → Sane pt → Sane next
 sane_line pt next l quiet is h =
     let (s, comes, last) = bind-is (kernel_after pt.kernel (label_of l)) (λ s. Some (moved pt l s)) next is in
-    let f : moved pt l s ≡ next = cc in
-    subst Sane f (sane_by pt l (label_of l) s quiet comes h)
+    let f : moved pt l s ≡ next = cc in subst Sane f (sane_by pt l (label_of l) s quiet comes h)
 
 -- a put
 pub record PutRight (pt : Point) (e : MsgId → ℕ) (i : MsgId) (k : MessageKind) (q : Pid) : Type 0 where
@@ -155,46 +152,6 @@ numbered_other : (v : View) (a b : ℕ) (i : MsgId) (k : MessageKind) (q : Pid) 
 numbered_other v a b i k q None is other h = numbered_put v a b i k q other is h
 numbered_other v a b i k q (Some t) is other h = numbered_some v a b i k q t is h
 
-routes_right : (pt : Point) (i : MsgId) (m : PlainMessage) (h : Sane pt) → pt.kernel.bag i ≡ Some m → PutRight pt h.e i (plain_kind m.what) m.to
-routes_right pt i m h there = record {
-  kind = λ x is. (let f : Some m ≡ Some x = sym there ∙ is in let g : m ≡ x = cc in ap (λ (y : PlainMessage). plain_kind y.what) g);
-  receiver = λ x is. (let f : Some m ≡ Some x = sym there ∙ is in let g : m ≡ x = cc in ap (λ (y : PlainMessage). y.to) g);
-  own = λ b. absurd (false≢true (sym (plain_not m.what) ∙ b));
-  entered = λ k. some_entered h.r h.e pt.kernel i (pt.kernel.bag i) refl (ap is_some there) h.sound;
-  numbered = λ a b. numbered_other pt.view a b i (plain_kind m.what) m.to (pt.view.told i) refl (not_kernels h.r h.e pt.kernel i m there h.sound) h.numbered;
-}
-
-zero_cases : (n : ℕ) → (n ≡ 0) ⊎ (1 ≤ n)
-zero_cases zero = inl refl
-zero_cases (suc n) = inr (omega arith)
-
-again_entered : (pt : Point) (i : MsgId) (t : Told) (h : Sane pt) → pt.view.told i ≡ Some t → is_kernels i ≡ false → 1 ≤ h.e i
-again_entered pt i t h told other = elim (zero_cases (h.e i)) [
-  | inl none ↦ absurd (let f : None ≡ Some t = sym (h.untold i none other) ∙ told in cc)
-  | inr least ↦ least
-]
-
-again_right : (pt : Point) (i : MsgId) (t : Told) (h : Sane pt) → pt.view.told i ≡ Some t → PutRight pt h.e i t.kind t.receiver
-again_right pt i t h told = record {
-  kind = λ x is. h.tells.kind i x t is told;
-  receiver = λ x is. h.tells.receiver i x t is told;
-  own = λ b. h.tells.own i t told b;
-  entered = λ k. again_entered pt i t h told k;
-  numbered = λ a b. numbered_some pt.view a b i t.kind t.receiver t told h.numbered;
-}
-
-not_own_bag : (pt : Point) (x : PlainMessage) (h : Sane pt) → pt.kernel.bag (own_id pt.view) ≡ Some x → ⊥
-not_own_bag pt x h is = false≢true (sym (not_kernels h.r h.e pt.kernel (own_id pt.view) x is h.sound))
-
-owns_right : (pt : Point) (k : MessageKind) (q : Pid) (h : Sane pt) → PutRight pt h.e (own_id pt.view) k q
-owns_right pt k q h = record {
-  kind = λ x is. absurd (not_own_bag pt x h is);
-  receiver = λ x is. absurd (not_own_bag pt x h is);
-  own = λ b. refl;
-  entered = λ n. absurd (false≢true (sym n));
-  numbered = λ a b. own_numbered pt.view a b k q (h.numbered pt.view.acting (pt.view.count pt.view.acting) (omega arith)) h.numbered;
-}
-
 -- a put with its packet
 puts_sane : (pt next : Point) (b : ℕ) (i : MsgId) (k : MessageKind) (q : Pid) (c d : Bool) (h : Sane pt) → PutRight pt h.e i k q
     → after pt (Line.Put pt.view.acting b i k q ∷ (if c then [] else if d then packet_line pt.view pt.view.acting b (Load.Data (length (pt.view.pair pt.view.acting b).ids)) ∷ [] else [])) ≡ Some next → Sane next
@@ -205,8 +162,7 @@ puts_sane pt next b i k q false false h right is =
 puts_sane pt next b i k q false true h right is =
     let l = packet_line pt.view pt.view.acting b (Load.Data (length (pt.view.pair pt.view.acting b).ids)) in
     let mid = moved pt (Line.Put pt.view.acting b i k q) pt.kernel in
-    let f : moved mid l mid.kernel ≡ next = cc in
-    subst Sane f (sane_quiet mid l refl (sane_put pt pt.view.acting b i k q h right))
+    let f : moved mid l mid.kernel ≡ next = cc in subst Sane f (sane_quiet mid l refl (sane_put pt pt.view.acting b i k q h right))
 
 puts_lead : (pt next : Point) (b : ℕ) (i : MsgId) (k : MessageKind) (q : Pid) (ls : List Line) (h : Sane pt) → PutRight pt h.e i k q → Some (puts pt.view b i k q) ≡ Some ls → after pt ls ≡ Some next → Sane next
 puts_lead pt next b i k q ls h right is leads =
@@ -226,18 +182,35 @@ one_line : (pt next : Point) (l : Line) (ls : List Line) → is_put l ≡ false 
 one_line pt next l ls quiet is leads h =
     let f : l ∷ [] ≡ ls = cc in
     let (mid, first, last) = bind-is (after_line pt l) (λ q. after q []) next (ap (after pt) f ∙ leads) in
-    let g : mid ≡ next = cc in
-    subst Sane g (sane_line pt mid l quiet first h)
+    let g : mid ≡ next = cc in subst Sane g (sane_line pt mid l quiet first h)
 
 pub part_sane : (pt next : Point) (p : Part) (ls : List Line) → Sayable p → lines_of pt p ≡ Some ls → after pt ls ≡ Some next → Sane pt → Sane next
 part_sane pt next (Says l) ls ok is leads h = one_line pt next l ls ok is leads h
 part_sane pt next (Routes i) ls ok is leads h =
     let (m, there, last) = bind-is (pt.kernel.bag i) (λ m. Some (puts pt.view (pt.addresses (Receiver i)).at i (plain_kind m.what) m.to)) ls is in
-    puts_lead pt next (pt.addresses (Receiver i)).at i (plain_kind m.what) m.to ls h (routes_right pt i m h there) last leads
+    puts_lead pt next (pt.addresses (Receiver i)).at i (plain_kind m.what) m.to ls h (record {
+      kind = λ x is. (let f : Some m ≡ Some x = sym there ∙ is in let g : m ≡ x = cc in ap (λ (y : PlainMessage). plain_kind y.what) g);
+      receiver = λ x is. (let f : Some m ≡ Some x = sym there ∙ is in let g : m ≡ x = cc in ap (λ (y : PlainMessage). y.to) g);
+      own = λ b. absurd (false≢true (sym (plain_not m.what) ∙ b));
+      entered = λ k. some_entered h.r h.e pt.kernel i (pt.kernel.bag i) refl (ap is_some there) h.sound;
+      numbered = λ a b. numbered_other pt.view a b i (plain_kind m.what) m.to (pt.view.told i) refl (not_kernels h.r h.e pt.kernel i m there h.sound) h.numbered;
+    }) last leads
 part_sane pt next (Again i b) ls ok is leads h =
     let (t, there, last) = bind-is (pt.view.told i) (λ t. Some (puts pt.view b i t.kind t.receiver)) ls is in
-    puts_lead pt next b i t.kind t.receiver ls h (again_right pt i t h there) last leads
-part_sane pt next (Owns k q b) ls ok is leads h = puts_lead pt next b (own_id pt.view) k q ls h (owns_right pt k q h) is leads
+    puts_lead pt next b i t.kind t.receiver ls h (record {
+      kind = λ x is. h.tells.kind i x t is there;
+      receiver = λ x is. h.tells.receiver i x t is there;
+      own = λ b. h.tells.own i t there b;
+      entered = λ k. elim (cases_zero (h.e i)) [ inl none ↦ absurd (let f : None ≡ Some t = sym (h.untold i none k) ∙ there in cc) | inr least ↦ least ];
+      numbered = λ a b. numbered_some pt.view a b i t.kind t.receiver t there h.numbered;
+    }) last leads
+part_sane pt next (Owns k q b) ls ok is leads h = puts_lead pt next b (own_id pt.view) k q ls h (record {
+  kind = λ x is. absurd (false≢true (sym (not_kernels h.r h.e pt.kernel (own_id pt.view) x is h.sound)));
+  receiver = λ x is. absurd (false≢true (sym (not_kernels h.r h.e pt.kernel (own_id pt.view) x is h.sound)));
+  own = λ b. refl;
+  entered = λ n. absurd (false≢true (sym n));
+  numbered = λ a b. own_numbered pt.view a b k q (h.numbered pt.view.acting (pt.view.count pt.view.acting) (omega arith)) h.numbered;
+}) is leads
 part_sane pt next (Transmits a b l) ls ok is leads h = one_line pt next (packet_line pt.view a b l) ls refl is leads h
 
 pub parts_sane : (ps : List Part) (pt : Point) (w : Spelled) → AllSayable ps → spelled pt ps ≡ Some w → Sane pt → Sane w.point

@@ -5,12 +5,13 @@ use Rattle.dm_rule.proofs.Names.{standing, pid_eq-is, pid_eq-same, id_eq-same, b
 use Rattle.dm_onekernel.specs.Step as kernel
 use Rattle.dm_rule.specs.View as view
 use Rattle.dm_rule.proofs.Standing.{StandsAsBag-elsewhere}
-use Rattle.dm_rule.proofs.Lines.{Stands-stays, Stands-handled, Stands-dequeued, front_counts}
+use Rattle.dm_rule.proofs.Lines.{Stands-stays, Stands-handled, Stands-dequeued, front_counts, eq_is, eq_self, spots_differ}
 use Rattle.dm_rule.proofs.Bags.{BagStep, out_of}
 use Rattle.dm_rule.proofs.Letters.{letters, letter_of, not_kernels, gone_in}
 use Rattle.dm_rule.proofs.Once.{one_of}
 use Rattle.dm_rule.proofs.Bags.{bag_dropped}
 use Rattle.dm_rule.proofs.States.{State, says_next, said, State-at, by_label}
+use Rattle.dm_rule.proofs.Homes.Servers.{and-both}
 
 pub ended_off : (v : View) (p : Pid) (z : Spot) → ids_at (view.ended v p) z ≡ ids_at v z
 ended_off v p (Queue m q) = refl
@@ -48,8 +49,7 @@ quiet_label pt l s put h is bag off told = by_label pt l s None put h is (λ j k
 pub gone_out : (pt : Point) (l : Label) (s : OneKernel) (i : MsgId) (h : State None pt) → kernel.step pt.kernel l ≡ Some s → out_of l ≡ Some i → (j : MsgId) → Some i ≡ Some j → is_kernels j ≡ false
 gone_out pt l s i h is goes j e =
     let g = gone_in pt.kernel s l i is goes in
-    let f : i ≡ j = cc in
-    subst (λ (k : MsgId). is_kernels k ≡ false) f (not_kernels h.r h.e pt.kernel i g.message g.there h.sound)
+    let f : i ≡ j = cc in subst (λ (k : MsgId). is_kernels k ≡ false) f (not_kernels h.r h.e pt.kernel i g.message g.there h.sound)
 
 -- labels that handle the message at the front of the inbox
 pub front_label : (pt : Point) (l : Label) (s : OneKernel) (i : MsgId) (is : List MsgId) (put : Option MsgId) (h : State None pt) → pt.view.inbox pt.view.acting ≡ i ∷ is → kernel.step pt.kernel l ≡ Some s → out_of l ≡ Some i → BagStep h.e pt.kernel s (Some i) put
@@ -64,27 +64,17 @@ without_front_none i (x ∷ xs) e = elim (cases_Bool (id_eq i x)) [
   | inr apart ↦ ap (λ (c : Bool). if c then xs else x ∷ xs) apart
 ]
 
-both_parts : (a b : Bool) → (a && b) ≡ true → (a ≡ true) × (b ≡ true)
-both_parts true b e = (refl, e)
-both_parts false b e = cc
-
-eq_num : (m n : ℕ) → (m == n) ≡ true → m ≡ n
-eq_num m n e = grind (arith, nat_tests)
-
 pub at_record_same : (f : ℕ → Pid → List MsgId) (m : ℕ) (p : Pid) (x : List MsgId) → x ≡ f m p → (n : ℕ) (q : Pid) → at_record f m p x n q ≡ f n q
 at_record_same f m p x e n q = elim (cases_Bool ((m == n) && pid_eq p q)) [
   | inl same ↦
-      let k = both_parts (m == n) (pid_eq p q) same in
-      ap (λ (c : Bool). if c then x else f n q) same ∙ e ∙ ap (λ t. f t p) (eq_num m n k.0) ∙ ap (f n) (pid_eq-is p q k.1)
+      let k = and-both (m == n) (pid_eq p q) same in
+      ap (λ (c : Bool). if c then x else f n q) same ∙ e ∙ ap (λ t. f t p) (eq_is m n k.0) ∙ ap (f n) (pid_eq-is p q k.1)
   | inr apart ↦ ap (λ (c : Bool). if c then x else f n q) apart
 ]
 
 abbrev is_box : Spot → Bool
 is_box (Inbox m) = true
 is_box _ = false
-
-inbox_spot : (m n : ℕ) (p : Pid) → Inbox m ≢ Queue n p
-inbox_spot m n p e = false≢true (sym (ap is_box e))
 
 queue_spot : (m n : ℕ) (p : Pid) → Queue m p ≢ Inbox n
 queue_spot m n p e = false≢true (ap is_box e)
@@ -107,7 +97,7 @@ front_unqueued pt i is h front m p =
 
 pub machine_same : (f : ℕ → List MsgId) (m : ℕ) (x : List MsgId) → x ≡ f m → (n : ℕ) → at_machine f m x n ≡ f n
 machine_same f m x e n = elim (cases_Bool (m == n)) [
-  | inl same ↦ ap (λ (c : Bool). if c then x else f n) same ∙ e ∙ ap f (eq_num m n same)
+  | inl same ↦ ap (λ (c : Bool). if c then x else f n) same ∙ e ∙ ap f (eq_is m n same)
   | inr apart ↦ ap (λ (c : Bool). if c then x else f n) apart
 ]
 
@@ -128,15 +118,12 @@ queue_front pt s j js p h front is =
     let letter : letters h.own pt.kernel.bag j ≡ Some x.to = letter_of h.r h.e h.own pt.kernel j x there h.sound in
     let mine : x.to ≡ p = h.stands.mine v.acting p j x.to one letter in
     let told : receiver_of (v.told j) ≡ Some p = h.stands.told j x.to letter ∙ ap Some mine in
-    let no_inbox : times j (v.inbox v.acting) ≡ 0 = StandsAsBag-elsewhere (letters h.own pt.kernel.bag j) (standing v j) (Queue v.acting p) (Inbox v.acting) one (inbox_spot v.acting v.acting p) (h.stands.kept j) in
+    let no_inbox : times j (v.inbox v.acting) ≡ 0 = StandsAsBag-elsewhere (letters h.own pt.kernel.bag j) (standing v j) (Queue v.acting p) (Inbox v.acting) one (spots_differ v.acting v.acting p) (h.stands.kept j) in
     let rest_ = without_front j (v.queue v.acting p) in
     by_label pt (Label.Dropped j) s (Some j) None h is (gone_out pt (Label.Dropped j) s j h is refl) (bag_dropped h.e pt.kernel s j is)
     (Stands-dequeued (letters h.own pt.kernel.bag) v (view_after v (Line.Label (Label.Dropped j))) j p rest_ (λ i. front_counts i j (v.queue v.acting p) js front)
     (λ z. dequeued_off v j p (receiver_of (v.told j)) told no_inbox z) (λ i. dropped_told v j (receiver_of (v.told j)) i) h.stands)
     (λ i. dropped_told v j (receiver_of (v.told j)) i)
-
-eq_refl : (m : ℕ) → (m == m) ≡ true
-eq_refl m = grind (arith, nat_tests)
 
 -- its queue after one was dropped
 dropped_queue : (v : View) (j : MsgId) (js : List MsgId) (p : Pid) (o : Option Pid) → o ≡ Some p → v.queue v.acting p ≡ j ∷ js → (view.dropped_for (handled v j) j o).queue v.acting p ≡ js
@@ -144,12 +131,8 @@ dropped_queue v j js p None e front = cc
 dropped_queue v j js p (Some q) e front =
     let k : q ≡ p = cc in
     let at : at_record v.queue v.acting p (without_front j (v.queue v.acting p)) v.acting p ≡ without_front j (v.queue v.acting p) =
-    ap (λ (c : Bool). if c && pid_eq p p then without_front j (v.queue v.acting p) else v.queue v.acting p) (eq_refl v.acting) ∙ ap (λ (c : Bool). if c then without_front j (v.queue v.acting p) else v.queue v.acting p) (pid_eq-same p) in
+    ap (λ (c : Bool). if c && pid_eq p p then without_front j (v.queue v.acting p) else v.queue v.acting p) (eq_self v.acting) ∙ ap (λ (c : Bool). if c then without_front j (v.queue v.acting p) else v.queue v.acting p) (pid_eq-same p) in
     ap (λ x. at_record v.queue v.acting x (without_front j (v.queue v.acting x)) v.acting p) k ∙ at ∙ ap (without_front j) front ∙ ap (λ (c : Bool). if c then js else j ∷ js) (id_eq-same j)
-
-dropped_acting : (v : View) (j : MsgId) (o : Option Pid) → (view.dropped_for (handled v j) j o).acting ≡ v.acting
-dropped_acting v j None = refl
-dropped_acting v j (Some p) = refl
 
 queue_told : (pt : Point) (j : MsgId) (js : List MsgId) (p : Pid) (s : OneKernel) → State None pt → pt.view.queue pt.view.acting p ≡ j ∷ js → kernel.step pt.kernel (Label.Dropped j) ≡ Some s → receiver_of (pt.view.told j) ≡ Some p
 queue_told pt j js p s h front is =
@@ -167,6 +150,7 @@ all_dropped (j ∷ js) pt p w h front e =
     let is : kernel.step pt.kernel (Label.Dropped j) ≡ Some k.s = k.is in
     let next = moved pt (Line.Label (Label.Dropped j)) k.s in
     let told = queue_told pt j js p k.s h front is in
-    let acting : next.view.acting ≡ pt.view.acting = dropped_acting pt.view j (receiver_of (pt.view.told j)) in
+    let acting : next.view.acting ≡ pt.view.acting = elim (receiver_of (pt.view.told j)) as (λ o. (view.dropped_for (handled pt.view j) j o).acting ≡ pt.view.acting)
+        [ None ↦ refl | Some p ↦ refl ] in
     let left : next.view.queue next.view.acting p ≡ js = ap (λ m. next.view.queue m p) acting ∙ dropped_queue pt.view j js p (receiver_of (pt.view.told j)) told front in
     State-at None k.rest.point w.point k.point (all_dropped js next p k.rest (queue_front pt k.s j js p h front is) left k.more)

@@ -22,13 +22,10 @@ spare_append : (z : OneKernel) (y : Pid) (ls ms : List Line) → AllSpare z y ls
 spare_append z y [] ms h k = k
 spare_append z y (l ∷ ls) ms h k = (h.0, spare_append z y ls ms h.1 k)
 
-pub keeps_is : (s t : OneKernel) (y : Pid) (o : Option OneKernel) → o ≡ Some t → Keeps s y o → t.processes y ≡ s.processes y
-keeps_is s t y None e h = cc
-keeps_is s t y (Some u) e h = ap (λ (k : OneKernel). k.processes y) (let f : t ≡ u = cc in f) ∙ h
-
 pub kernel_same : (s t : OneKernel) (y : Pid) (o : Option Label) → Spares s y o → kernel_after s o ≡ Some t → t.processes y ≡ s.processes y
 kernel_same s t y None off e = ap (λ (k : OneKernel). k.processes y) (let f : t ≡ s = cc in f)
-kernel_same s t y (Some l) off e = keeps_is s t y (kernel.step s l) e (keeps_step s y l off)
+kernel_same s t y (Some l) off e = (elim (kernel.step s l) as (λ o. o ≡ Some t → Keeps s y o → t.processes y ≡ s.processes y)
+    [ None ↦ λ e_ h. cc | Some u ↦ λ e_ h. ap (λ (k : OneKernel). k.processes y) (let f : t ≡ u = cc in f) ∙ h ]) e (keeps_step s y l off)
 
 one_left : (z : OneKernel) (y : Pid) (pt next : Point) (l : Line) (ls : List Line) → Spares pt.kernel y (label_of l) → Spares z y (label_of l) → Some (l ∷ []) ≡ Some ls → after pt ls ≡ Some next → Left z y pt next ls
 one_left z y pt next l ls here there is leads =
@@ -81,10 +78,6 @@ parts_left z y (p ∷ ps) pt w here there is =
     let others = parts_left z y ps next v (apart_first next.kernel y ps here.1) (apart_first z y ps there.1) more in
     subst (λ (x : Spelled). Left z y pt x.point x.lines) f (record { spare = spare_append z y ls v.lines one.spare others.spare; same = others.same ∙ one.same })
 
--- a group
-apart_some : (z : OneKernel) (y : Pid) (o : Option (List Part)) (ps : List Part) → o ≡ Some ps → ApartOf z y o → FirstApart z y ps
-apart_some z y o ps e h = subst (ApartOf z y) e h
-
 group_left : (b : Boot) (pt : Point) (d : Step) (w : Spelled) (y : Pid) → ApartOf pt.kernel y (rule.outcome b pt d) → group_of b pt d ≡ Some w → Left pt.kernel y pt w.point w.lines
 group_left b pt d w y h e =
     let (parts, is, more) = bind-is (rule.outcome b pt d) (λ parts. bind (after_line pt (Line.Head d)) (λ begun. bind (spelled begun parts) (λ w. Some (rule.headed (Line.Head d) w)))) w e in
@@ -92,7 +85,7 @@ group_left b pt d w y h e =
     let (rest, told, end) = bind-is (spelled start parts) (λ w. Some (rule.headed (Line.Head d) w)) w last in
     let f : moved pt (Line.Head d) pt.kernel ≡ start = cc in
     let g : rule.headed (Line.Head d) rest ≡ w = cc in
-    let fits = apart_some pt.kernel y (rule.outcome b pt d) parts is h in
+    let fits = subst (ApartOf pt.kernel y) is h in
     let k = parts_left pt.kernel y parts (moved pt (Line.Head d) pt.kernel) rest fits fits (ap (λ p. spelled p parts) f ∙ told) in
     subst (λ (x : Spelled). Left pt.kernel y pt x.point x.lines) g (record { spare = (tt, k.spare); same = k.same })
 
@@ -121,5 +114,4 @@ moving_left b pt d w y k s t o h phase e =
 pub moving_stays_always : MovingStaysAlways
 moving_stays_always b es pt d w p k s t id valid leads e phase =
     let h = phased_on b es (first_point b) pt leads (phased_start b valid) in
-    let left = moving_left b pt d w p k s t id (rooted pt h.sane h.ground) phase e in
-    (left.spare, left.same)
+    let left = moving_left b pt d w p k s t id (rooted pt h.sane h.ground) phase e in (left.spare, left.same)

@@ -50,23 +50,15 @@ round_apart z y b o m q off = apart_of z y (rule.goes_round b o m q) (λ ps. by_
   refuses = λ id r. (off p is, tt);
 }))
 
--- a message of the bag is handled
-routes_apart : (y : Pid) (o : Option PlainMessage) → AllApart y (rule.routes o)
-routes_apart y None = tt
-routes_apart y (Some m) = (λ s. tt, tt)
-
 -- the message at the front is for another
 abbrev pub ForOther : OneKernel → Pid → MsgId → Type 0
 ForOther z y id = (n : PlainMessage) → z.bag id ≡ Some n → n.to ≢ y
-
-pub forwards_apart : (z : OneKernel) (y : Pid) (a : Addresses) (id : MsgId) (k : MessageKind) (sender : Pid) (to : ℕ) → FirstApart z y (forwards_on a id k sender to)
-forwards_apart z y a id k sender to = by_forwards (FirstApart z y) a id k sender to (tt, (λ s. tt, tt)) (tt, (λ s. tt, (λ s. tt, tt)))
 
 pub handles_apart : (z : OneKernel) (y : Pid) (b : Boot) (o : Point) (m : ℕ) (id : MsgId) (msg : PlainMessage) → pid_of m (first_number + o.kernel.made m) ≢ y → (o.view.known m msg.to ≡ Here → ForOther z y id) → ApartOf z y (rule.handles b o m id msg)
 handles_apart z y b o m id msg child off = apart_of z y (rule.handles b o m id msg) (λ ps. by_handles (FirstApart z y) b o m id msg ps (record {
   created = λ fixed. (child, (λ s. tt, tt));
   no_space = λ fixed slots blocks. (tt, (λ s. tt, tt));
-  took = λ fixed sent. (tt, routes_apart y sent);
+  took = λ fixed sent. (tt, elim sent as (λ o. AllApart y (rule.routes o)) [ None ↦ tt | Some m ↦ (λ s. tt, tt) ]);
   queued = λ to user. (tt, tt);
   served = λ to mild. (off to.known, tt);
   answers = λ to mild i. (off to.known, (λ s. tt, tt));
@@ -77,5 +69,5 @@ handles_apart z y b o m id msg child off = apart_of z y (rule.handles b o m id m
   dropped = λ to. (tt, tt);
   leaving = λ n to. (tt, tt);
   coming = λ n to. (tt, tt);
-  forwarded = λ n c to. forwards_apart z y o.addresses id (plain_kind msg.what) msg.sender n;
+  forwarded = λ n c to. by_forwards (FirstApart z y) o.addresses id (plain_kind msg.what) msg.sender n (tt, (λ s. tt, tt)) (tt, (λ s. tt, (λ s. tt, tt)));
 }))

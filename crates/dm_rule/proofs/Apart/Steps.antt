@@ -10,6 +10,7 @@ use Rattle.dm_onekernel.specs.Switchboard as board
 use Rattle.dm_onekernel.specs.Manager as manage
 use Rattle.dm_onekernel.specs.Step as kernel
 use Rattle.dm_rule.proofs.Lines.{not_true}
+use Rattle.dm_rule.proofs.Requests.{by_test}
 
 -- the next kernel, where there is one, has the process as it was
 abbrev pub Keeps : OneKernel → Pid → Option OneKernel → Type 0
@@ -23,10 +24,6 @@ keeps_bind s p (Some x) f h = h x refl
 keeps_when : (s : OneKernel) (p : Pid) (c : Bool) (t : OneKernel) → t.processes p ≡ s.processes p → Keeps s p (when c t)
 keeps_when s p true t h = h
 keeps_when s p false t h = tt
-
-keeps_if : (s : OneKernel) (p : Pid) (c : Bool) (x y : Option OneKernel) → Keeps s p x → Keeps s p y → Keeps s p (if c then x else y)
-keeps_if s p true x y h k = h
-keeps_if s p false x y h k = k
 
 -- another process is set
 set_off : (s : OneKernel) (q p : Pid) (life : Life) → q ≢ p → (with_process s q life).processes p ≡ s.processes p
@@ -58,14 +55,6 @@ keeps_ends s p q y (kernel.Calls number (Called.Ends because)) off = keeps_when 
 keeps_ends s p q y (kernel.Faults fault) off = keeps_when s p (why_eq y (Why.Fault fault)) (with_process s q (Ended y)) (set_off s q p (Ended y) off)
 keeps_ends s p q y _ off = tt
 
-keeps_receives : (s : OneKernel) (p q : Pid) (id : MsgId) (c : receiving.Completed) → q ≢ p → Keeps s p (kernel.receives s q id c)
-keeps_receives s p q id (receiving.Receives x) off = set_off (without_message s id) q p (Alive x) off
-keeps_receives s p q id (receiving.Refuses reply x) off = tt
-
-keeps_refuses : (s : OneKernel) (p q : Pid) (c : Reply) (done : receiving.Completed) → q ≢ p → Keeps s p (kernel.refuses s q c done)
-keeps_refuses s p q c (receiving.Receives x) off = tt
-keeps_refuses s p q c (receiving.Refuses reply x) off = keeps_when s p (reply_eq c reply) (kernel.goes_on s q x) (set_off s q p (Alive x) off)
-
 -- a message is served
 changed_off : (s : OneKernel) (p : Pid) (id : MsgId) (m : PlainMessage) (x : PlainProcess) → m.to ≢ p → (service.changed s id m x).processes p ≡ s.processes p
 changed_off s p id m x off = set_off (without_message s id) m.to p (Alive x) off
@@ -74,30 +63,24 @@ landed_off : (s : OneKernel) (p : Pid) (id : MsgId) (m : PlainMessage) (r : piec
 landed_off s p id m (pieces.Next request x) off = changed_off s p id m x off
 landed_off s p id m (pieces.Done reply x) off = changed_off s p id m x off
 
-keeps_lands : (s : OneKernel) (p : Pid) (id : MsgId) (m : PlainMessage) (o : Option pieces.Landed) → m.to ≢ p → Keeps s p (bind o (λ r. Some (service.landed s id m r)))
-keeps_lands s p id m o off = keeps_bind s p o (λ r. Some (service.landed s id m r)) (λ r is. landed_off s p id m r off)
-
-keeps_answers : (s : OneKernel) (p : Pid) (id : MsgId) (m : PlainMessage) (o : Option pieces.Served) → m.to ≢ p → Keeps s p (bind o (λ r. Some (service.answered s id m r)))
-keeps_answers s p id m o off = keeps_bind s p o (λ r. Some (service.answered s id m r)) (λ r is. changed_off s p id m r.process off)
-
 keeps_serves : (s : OneKernel) (p : Pid) (id : MsgId) (m : PlainMessage) (x : PlainProcess) (k : PlainWhat) → m.to ≢ p → Keeps s p (service.serves s id m x k)
 keeps_serves s p id m x PlainWhat.Stop off = changed_off s p id m (record x { stopped = true }) off
 keeps_serves s p id m x PlainWhat.Resume off = changed_off s p id m (record x { stopped = false }) off
 keeps_serves s p id m x PlainWhat.Kill off = set_off (without_message s id) m.to p (Ended Why.Killed) off
-keeps_serves s p id m x (PlainWhat.Read x1 x2) off = keeps_answers s p id m (pieces.reads x m x1 x2) off
-keeps_serves s p id m x (PlainWhat.Write x1 x2) off = keeps_answers s p id m (pieces.writes x m x1 x2) off
-keeps_serves s p id m x (PlainWhat.Block x1) off = keeps_lands s p id m (pieces.lands m.to x m x.status) off
-keeps_serves s p id m x PlainWhat.Written off = keeps_lands s p id m (pieces.lands m.to x m x.status) off
-keeps_serves s p id m x PlainWhat.Gone off = keeps_lands s p id m (pieces.lands m.to x m x.status) off
+keeps_serves s p id m x (PlainWhat.Read x1 x2) off = keeps_bind s p (pieces.reads x m x1 x2) (λ r. Some (service.answered s id m r)) (λ r is. changed_off s p id m r.process off)
+keeps_serves s p id m x (PlainWhat.Write x1 x2) off = keeps_bind s p (pieces.writes x m x1 x2) (λ r. Some (service.answered s id m r)) (λ r is. changed_off s p id m r.process off)
+keeps_serves s p id m x (PlainWhat.Block x1) off = keeps_bind s p (pieces.lands m.to x m x.status) (λ r. Some (service.landed s id m r)) (λ r is. landed_off s p id m r off)
+keeps_serves s p id m x PlainWhat.Written off = keeps_bind s p (pieces.lands m.to x m x.status) (λ r. Some (service.landed s id m r)) (λ r is. landed_off s p id m r off)
+keeps_serves s p id m x PlainWhat.Gone off = keeps_bind s p (pieces.lands m.to x m x.status) (λ r. Some (service.landed s id m r)) (λ r is. landed_off s p id m r off)
 keeps_serves s p id m x _ off = tt
 
 keeps_takes : (s : OneKernel) (p : Pid) (id : MsgId) (m : PlainMessage) → Keeps s p (service.takes s id m)
 keeps_takes s p id m =
     let to_board = bind (board.board_takes s.switchboard m m.what) (λ t. Some (service.switchboard_took s id t)) in
     let to_manager = bind (manage.manager_takes s.manager s.machines (length s.images) m m.what) (λ t. Some (service.manager_took s id t)) in
-    keeps_if s p (pid_eq m.to switchboard) to_board (if pid_eq m.to manager then to_manager else None)
+    by_test (Keeps s p) (pid_eq m.to switchboard) to_board (if pid_eq m.to manager then to_manager else None)
     (keeps_bind s p (board.board_takes s.switchboard m m.what) (λ t. Some (service.switchboard_took s id t)) (λ t is. sent_off (record (without_message s id) { switchboard = t.switchboard }) t.answer p))
-    (keeps_if s p (pid_eq m.to manager) to_manager None
+    (by_test (Keeps s p) (pid_eq m.to manager) to_manager None
     (keeps_bind s p (manage.manager_takes s.manager s.machines (length s.images) m m.what) (λ t. Some (service.manager_took s id t)) (λ t is. sent_off (record (without_message s id) { manager = t.manager }) t.message p)) tt)
 
 -- a process is made
@@ -106,18 +89,9 @@ keeps_image s p child id m links i off =
     keeps_when s p (service.is_kernel s m.to && pid_eq child (pid_of m.to.home (first_number + s.made m.to.home))) (with_sent (service.with_created (without_message s id) child i links) (Some (answer_to m (PlainWhat.Created child))))
     (set_off (without_message s id) child p (Alive (begun s.format i links)) off)
 
-keeps_creates : (s : OneKernel) (p child : Pid) (id : MsgId) (m : PlainMessage) (k : PlainWhat) → child ≢ p → Keeps s p (service.creates s id m child k)
-keeps_creates s p child id m (PlainWhat.Create x1 x2) off = keeps_bind s p (slice_get s.images x1) (service.creates_of s id m child x2) (λ i is. keeps_image s p child id m x2 i off)
-keeps_creates s p child id m _ off = tt
-
 keeps_no_room : (s : OneKernel) (p : Pid) (id : MsgId) (m : PlainMessage) (k : PlainWhat) → Keeps s p (service.has_no_room s id m k)
 keeps_no_room s p id m (PlainWhat.Create x1 x2) = keeps_when s p (service.is_kernel s m.to) (with_sent (without_message s id) (Some (answer_to m PlainWhat.NoRoom))) refl
 keeps_no_room s p id m _ = tt
-
--- a process is asked to move, or that is answered
-keeps_follows : (s : OneKernel) (p : Pid) (id : MsgId) (m : PlainMessage) (k : PlainWhat) → Keeps s p (service.follows_request s id m k)
-keeps_follows s p id m (PlainWhat.Move machine) = refl
-keeps_follows s p id m _ = tt
 
 keeps_ends_move : (s : OneKernel) (p : Pid) (id : MsgId) (q : Pid) (n : MoveNote) (o : Outcome) → Keeps s p (service.ends_move s id q n o)
 keeps_ends_move s p id q n Outcome.Ended = tt
@@ -133,8 +107,10 @@ keeps_step s p (Label.Send q id) off = keeps_bind s p (kernel.next_trap s q) (ke
 keeps_step s p (Label.Wait q) off = keeps_bind s p (kernel.next_trap s q) (kernel.waits s q) (λ x is. keeps_waits s p q x off)
 keeps_step s p (Label.Out q w) off = keeps_bind s p (kernel.next_trap s q) (kernel.outputs s q w) (λ x is. keeps_outputs s p q w x off)
 keeps_step s p (Label.End q y) off = keeps_bind s p (kernel.next_trap s q) (kernel.ends s q y) (λ x is. keeps_ends s p q y x off)
-keeps_step s p (Label.Receive q id) off = keeps_bind s p (kernel.completing s q id) (kernel.receives s q id) (λ x is. keeps_receives s p q id x off)
-keeps_step s p (Label.Refuse q id c) off = keeps_bind s p (kernel.completing s q id) (kernel.refuses s q c) (λ x is. keeps_refuses s p q c x off)
+keeps_step s p (Label.Receive q id) off = keeps_bind s p (kernel.completing s q id) (kernel.receives s q id) (λ x is. elim x as (λ c. Keeps s p (kernel.receives s q id c))
+    [ receiving.Receives x_ ↦ set_off (without_message s id) q p (Alive x_) off | receiving.Refuses reply x_ ↦ tt ])
+keeps_step s p (Label.Refuse q id c) off = keeps_bind s p (kernel.completing s q id) (kernel.refuses s q c) (λ x is. elim x as (λ done. Keeps s p (kernel.refuses s q c done))
+    [ receiving.Receives x_ ↦ tt | receiving.Refuses reply x_ ↦ keeps_when s p (reply_eq c reply) (kernel.goes_on s q x_) (set_off s q p (Alive x_) off) ])
 keeps_step s p (Label.Dropped id) off =
     keeps_bind s p (s.bag id) (λ m. bind (kernel.why_ended (s.processes m.to)) (kernel.drops s id m))
     (λ m there. keeps_bind s p (kernel.why_ended (s.processes m.to)) (kernel.drops s id m) (λ y is. keeps_when s p (service.is_dropped m.what) (without_message s id) refl))
@@ -145,10 +121,12 @@ keeps_step s p (Label.Gone id) off =
     keeps_bind s p (s.bag id) (λ m. bind (kernel.why_ended (s.processes m.to)) (kernel.says_gone s id m))
     (λ m there. keeps_bind s p (kernel.why_ended (s.processes m.to)) (kernel.says_gone s id m) (λ y is. keeps_bind s p (service.gone_what m.what) (λ w. Some (with_sent (without_message s id) (Some (answer_to m w)))) (λ w e. refl)))
 keeps_step s p (Label.Took id) off = keeps_bind s p (s.bag id) (service.takes s id) (λ m there. keeps_takes s p id m)
-keeps_step s p (Label.Created id q) off = keeps_bind s p (s.bag id) (λ m. service.creates s id m q m.what) (λ m there. keeps_creates s p q id m m.what off)
+keeps_step s p (Label.Created id q) off = keeps_bind s p (s.bag id) (λ m. service.creates s id m q m.what) (λ m there. elim m.what as (λ k. Keeps s p (service.creates s id m q k))
+    [ PlainWhat.Create x1 x2 ↦ keeps_bind s p (slice_get s.images x1) (service.creates_of s id m q x2) (λ i is. keeps_image s p q id m x2 i off) | _ ↦ tt ])
 keeps_step s p (Label.NoSpace id a b) off = keeps_bind s p (s.bag id) (λ m. service.has_no_room s id m m.what) (λ m there. keeps_no_room s p id m m.what)
 keeps_step s p (Label.Asked id) off =
     keeps_bind s p (s.bag id) (λ m. bind (kernel.at_hand s m.to) (λ x. service.follows_request s id m m.what))
-    (λ m there. keeps_bind s p (kernel.at_hand s m.to) (λ x. service.follows_request s id m m.what) (λ x is. keeps_follows s p id m m.what))
+    (λ m there. keeps_bind s p (kernel.at_hand s m.to) (λ x. service.follows_request s id m m.what) (λ x is. elim m.what as (λ k. Keeps s p (service.follows_request s id m k))
+        [ PlainWhat.Move machine ↦ refl | _ ↦ tt ]))
 keeps_step s p (Label.Answered id o) off =
     keeps_bind s p (s.noted id) (λ q. bind (s.notes q) (λ n. service.ends_move s id q n o)) (λ q noted. keeps_bind s p (s.notes q) (λ n. service.ends_move s id q n o) (λ n notes. keeps_ends_move s p id q n o))

@@ -9,6 +9,7 @@ use Rattle.dm_onekernel.specs.Step as kernel
 use Rattle.dm_rule.proofs.Homes.{place_as, pid_as, HomeProcess, HomeMessage, AtHome}
 use Rattle.dm_rule.proofs.Homes.Slots.{set_link, emptied_link, without_replies_link, past_call}
 use Rattle.dm_rule.proofs.Homes.Rows.{SameProcess, SameMessage, SameServers, running_home, encloses_servers, encloses_process, encloses_message, encloses_at}
+use Rattle.dm_rule.proofs.Requests.{by_test}
 
 -- the process behind its call
 abbrev pub behind : PlainProcess → PlainProcess
@@ -42,18 +43,11 @@ pub no_gives : (v : View) (a : Addresses) (p : Pid) (x : PlainProcess) (n : Call
 no_gives v a p x n Reply.Done e = e
 no_gives v a p x n _ e = refl
 
-refused_home : (P : Pid → Place → Type 0) (v : View) (a : Addresses) (p : Pid) (x : PlainProcess) (n : CallNumber) (c : Reply) → fills_by v a p x n ≡ [] → HomeProcess P a p x → HomeCalled P v a p x n (calls.refused c (behind x))
-refused_home P v a p x n c e h =
-    subst (λ (gs : List Gets). HomeProcess P (given a gs) p (calls.replied c (behind x))) (sym (no_gives v a p x n c e)) (regs_home P a p x (calls.replied c (behind x)).regs h)
-
 unless_refused_home : (P : Pid → Place → Type 0) (v : View) (a : Addresses) (p : Pid) (x : PlainProcess) (n : CallNumber) (c : Option Reply) (k : Called) → fills_by v a p x n ≡ [] → HomeProcess P a p x → HomeCalled P v a p x n k
     → HomeCalled P v a p x n (calls.unless_refused c (behind x) k)
 unless_refused_home P v a p x n None k e h j = j
-unless_refused_home P v a p x n (Some c) k e h j = refused_home P v a p x n c e h
-
-if_home : (P : Pid → Place → Type 0) (v : View) (a : Addresses) (p : Pid) (x : PlainProcess) (n : CallNumber) (b : Bool) (c d : Called) → HomeCalled P v a p x n c → HomeCalled P v a p x n d → HomeCalled P v a p x n (if b then c else d)
-if_home P v a p x n true c d h k = h
-if_home P v a p x n false c d h k = k
+unless_refused_home P v a p x n (Some c) k e h j =
+    subst (λ (gs : List Gets). HomeProcess P (given a gs) p (calls.replied c (behind x))) (sym (no_gives v a p x n c e)) (regs_home P a p x (calls.replied c (behind x)).regs h)
 
 -- a link goes into a slot
 set_slot_home : (P : Pid → Place → Type 0) (a : Addresses) (p : Pid) (x : PlainProcess) (regs : Regs) (slot : ℕ) (l : PlainLink) (place : Place) → P l.to place → HomeProcess P a p x
@@ -82,7 +76,7 @@ puts_home P v a p x n l place (Some slot) fills is h =
 copies_home : (P : Pid → Place → Type 0) (v : View) (a : Addresses) (p : Pid) (x : PlainProcess) (o : Option PlainLink) → link_at x.links (reg x.regs 1) ≡ o → HomeProcess P a p x → HomeCalled P v a p x calls.Copy (calls.copies (behind x) o)
 copies_home P v a p x None is h = regs_home P a p x (calls.replied Reply.NoLink (behind x)).regs h
 copies_home P v a p x (Some l) is h =
-    if_home P v a p x calls.Copy (calls.is_reply l.kind) (calls.refused Reply.NotCopyable (behind x)) (calls.puts_link (behind x) l (first_empty x.links))
+    by_test (HomeCalled P v a p x calls.Copy) (calls.is_reply l.kind) (calls.refused Reply.NotCopyable (behind x)) (calls.puts_link (behind x) l (first_empty x.links))
     (regs_home P a p x (calls.replied Reply.NotCopyable (behind x)).regs h)
     (puts_home P v a p x calls.Copy l (a (Slot p (reg x.regs 1))) (first_empty x.links) refl (h.slots (reg x.regs 1) l is) h)
 
@@ -122,10 +116,15 @@ listed_home P a p x (s ∷ ss) k l h some e =
     listed_step P a p x s ss k l (link_at x.links s) h refl (or-left (is_none (link_at x.links s)) (calls.any_empty x.links ss) some)
     (λ j f. listed_home P a p x ss j l h (or-right (is_none (link_at x.links s)) (calls.any_empty x.links ss) some) f) e
 
--- a user message goes over the link in slot r1
-user_sent : (P : Pid → Place → Type 0) (v : View) (a : Addresses) (p : Pid) (x : PlainProcess) (l : PlainLink) → link_at x.links (reg x.regs 1) ≡ Some l → calls.any_empty x.links (calls.listed x) ≡ false → P p (acting_place v p) → HomeProcess P a p x
-    → HomeCalled P v a p x calls.Send (Sends (calls.message_over p (behind x) l) (calls.after_send (behind x)))
-user_sent P v a p x l over some is h =
+sends_by : (P : Pid → Place → Type 0) (v : View) (a : Addresses) (p : Pid) (x : PlainProcess) (l : PlainLink) (b c d e : Bool) → d ≡ calls.any_empty x.links (calls.listed x) → link_at x.links (reg x.regs 1) ≡ Some l → P p (acting_place v p) → HomeProcess P a p x
+    → HomeCalled P v a p x calls.Send (calls.unless_refused
+    (first_failed (record { fails = b; reply = Reply.TooLong } ∷ record { fails = c; reply = Reply.BadRange } ∷ record { fails = d; reply = Reply.NoLink } ∷ record { fails = e; reply = Reply.BadKind } ∷ []))
+    (behind x) (Sends (calls.message_over p (behind x) l) (calls.after_send (behind x))))
+sends_by P v a p x l true c d e f over is h = regs_home P a p x (calls.replied Reply.TooLong (behind x)).regs h
+sends_by P v a p x l false true d e f over is h = regs_home P a p x (calls.replied Reply.BadRange (behind x)).regs h
+sends_by P v a p x l false false true e f over is h = regs_home P a p x (calls.replied Reply.NoLink (behind x)).regs h
+sends_by P v a p x l false false false true f over is h = regs_home P a p x (calls.replied Reply.BadKind (behind x)).regs h
+sends_by P v a p x l false false false false f over is h =
     let id = id_of p x.sent in
     let ps = map (λ (k : ℕ). a (Slot p k)) (calls.listed x) in
     let to = a (Slot p (reg x.regs 1)) in
@@ -138,7 +137,7 @@ user_sent P v a p x l over some is h =
         receiver = place_as P (ap (λ (c : Bool). if c then to else given a (encloses id 0 ps) (Receiver id)) (id_eq-same id)) (h.slots (reg x.regs 1) l over);
         sender = place_as P (ap (λ (c : Bool). if c then acting_place v p else given a (encloses id 0 ps) (Sender id)) (id_eq-same id)) is;
         enclosed = λ k w e.
-            let r = listed_home P a p x (calls.listed x) k w h some e in
+            let r = listed_home P a p x (calls.listed x) k w h (sym f) e in
             place_as P (encloses_at a id 0 ps k k r.place r.there (omega arith)) r.is;
       };
       others = λ q e. let s = encloses_process a id 0 ps q in record { slot = s.slot; owner = s.owner };
@@ -149,16 +148,6 @@ user_sent P v a p x l over some is h =
       };
       servers = let s = encloses_servers a id 0 ps in record { child = s.child; name = s.name; answer = s.answer; asked = s.asked };
     }
-
-sends_by : (P : Pid → Place → Type 0) (v : View) (a : Addresses) (p : Pid) (x : PlainProcess) (l : PlainLink) (b c d e : Bool) → d ≡ calls.any_empty x.links (calls.listed x) → link_at x.links (reg x.regs 1) ≡ Some l → P p (acting_place v p) → HomeProcess P a p x
-    → HomeCalled P v a p x calls.Send (calls.unless_refused
-    (first_failed (record { fails = b; reply = Reply.TooLong } ∷ record { fails = c; reply = Reply.BadRange } ∷ record { fails = d; reply = Reply.NoLink } ∷ record { fails = e; reply = Reply.BadKind } ∷ []))
-    (behind x) (Sends (calls.message_over p (behind x) l) (calls.after_send (behind x))))
-sends_by P v a p x l true c d e f over is h = regs_home P a p x (calls.replied Reply.TooLong (behind x)).regs h
-sends_by P v a p x l false true d e f over is h = regs_home P a p x (calls.replied Reply.BadRange (behind x)).regs h
-sends_by P v a p x l false false true e f over is h = regs_home P a p x (calls.replied Reply.NoLink (behind x)).regs h
-sends_by P v a p x l false false false true f over is h = regs_home P a p x (calls.replied Reply.BadKind (behind x)).regs h
-sends_by P v a p x l false false false false f over is h = user_sent P v a p x l over (sym f) is h
 
 sends_home : (P : Pid → Place → Type 0) (v : View) (a : Addresses) (p : Pid) (x : PlainProcess) (o : Option PlainLink) → link_at x.links (reg x.regs 1) ≡ o → P p (acting_place v p) → HomeProcess P a p x → HomeCalled P v a p x calls.Send (calls.send_call p (behind x) o)
 sends_home P v a p x None over is h = regs_home P a p x (calls.replied Reply.NoLink (behind x)).regs h
@@ -174,8 +163,7 @@ move_sent P v a p m x y to there from none links owner is h = record {
     slots = λ k l e. h.slots k l (ap (λ (s : List (Option PlainLink)). link_at s k) (sym links) ∙ e);
     owner = λ q e.
         let f : Some m.to ≡ Some q = sym owner ∙ e in
-        let g : m.to ≡ q = cc in
-        place_as P (ap (λ (c : Bool). if c then to else a (Owner p)) (pid_eq-same p)) (pid_as P g there);
+        let g : m.to ≡ q = cc in place_as P (ap (λ (c : Bool). if c then to else a (Owner p)) (pid_eq-same p)) (pid_as P g there);
   };
   message = record {
     receiver = place_as P (ap (λ (c : Bool). if c then to else a (Receiver m.id)) (id_eq-same m.id)) there;
@@ -205,7 +193,7 @@ moves_over_home : (P : Pid → Place → Type 0) (v : View) (a : Addresses) (p :
 moves_over_home P v a p x l None over is h = regs_home P a p x (calls.replied Reply.BadKind (behind x)).regs h
 moves_over_home P v a p x l (Some dir) over is h =
     unless_refused_home P v a p x calls.Move (first_failed (calls.move_refusals (behind x) l dir)) (calls.moves_bytes p (behind x) l dir) refl h
-    (if_home P v a p x calls.Move (reg x.regs 5 == 0) (calls.refused Reply.Done (behind x)) (calls.begins_move (pieces.requests p (behind x) dir l.to (l.area.base + reg x.regs 3) (reg x.regs 4) (reg x.regs 5)))
+    (by_test (HomeCalled P v a p x calls.Move) (reg x.regs 5 == 0) (calls.refused Reply.Done (behind x)) (calls.begins_move (pieces.requests p (behind x) dir l.to (l.area.base + reg x.regs 3) (reg x.regs 4) (reg x.regs 5)))
     (regs_home P a p x (calls.replied Reply.Done (behind x)).regs h)
     (begins_home P v a p x l dir (l.area.base + reg x.regs 3) (reg x.regs 4) (reg x.regs 5) over is h))
 
@@ -220,7 +208,7 @@ does_call_home P v a p x calls.Copy is h = copies_home P v a p x (link_at x.link
 does_call_home P v a p x calls.Drop is h = drops_home P v a p x (link_at x.links (reg x.regs 1)) h
 does_call_home P v a p x calls.Send is h = sends_home P v a p x (link_at x.links (reg x.regs 1)) refl is h
 does_call_home P v a p x calls.Receive is h =
-    if_home P v a p x calls.Receive (calls.is_outside x (reg x.regs 2) (reg x.regs 3)) (calls.refused Reply.BadRange (behind x)) (Waits (record (behind x) { status = Waiting (reg x.regs 1) (reg x.regs 2) (reg x.regs 3) }))
+    by_test (HomeCalled P v a p x calls.Receive) (calls.is_outside x (reg x.regs 2) (reg x.regs 3)) (calls.refused Reply.BadRange (behind x)) (Waits (record (behind x) { status = Waiting (reg x.regs 1) (reg x.regs 2) (reg x.regs 3) }))
     (regs_home P a p x (calls.replied Reply.BadRange (behind x)).regs h) (record { slots = h.slots; owner = λ q e. absurd (let f : None ≡ Some q = e in cc) })
 does_call_home P v a p x calls.Move is h = moves_home P v a p x (link_at x.links (reg x.regs 1)) refl is h
 does_call_home P v a p x _ is h = tt

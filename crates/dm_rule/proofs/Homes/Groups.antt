@@ -8,6 +8,8 @@ use Rattle.dm_rule.proofs.Homes.Lists.{stands, queue_lists}
 use Rattle.dm_rule.proofs.Homes.Lines.{NoneReplaced, Home, Kept, same_lists, label_keeps}
 use Rattle.dm_rule.specs.Rule as rule
 use Rattle.dm_rule.proofs.Homes.Parts.{PartAnywhere, PartsAnywhere, parts_keep, part_keeps}
+use Rattle.dm_rule.proofs.Trails.Within.{queued_acting}
+use Rattle.dm_rule.proofs.Requests.{by_test}
 
 -- the first part of a group: one that may stand anywhere, a label said where it belongs, or a message that is queued
 abbrev pub FirstGood : OneKernel → (MsgId → ℕ) → ℕ → Part → Type 0
@@ -29,10 +31,6 @@ not_asked pt id p ls is lines none =
     let g : ls ≡ Line.Label (Label.Asked id) ∷ [] = cc in
     (subst AskNone g none).0
 
-acting_queued : (v : View) (id : MsgId) (o : Option Pid) → (queued_for v id o).acting ≡ v.acting
-acting_queued v id None = refl
-acting_queued v id (Some p) = refl
-
 rings_queued : (v : View) (id : MsgId) (o : Option Pid) → RingsHome v → RingsHome (queued_for v id o)
 rings_queued v id None h = h
 rings_queued v id (Some p) h = record { moves = h.moves; ring = h.ring; known = h.known }
@@ -45,7 +43,7 @@ queued_keeps r e pt pt' id at h is =
       r = r;
       e = e;
       home = record { sound = h.sound; at = h.at; rings = rings_queued w id (view.receiver_of (pt.view.told id)) (rings_same pt.view w refl refl refl h.rings); lists = queue_lists pt.kernel e pt.view id at h.lists };
-      acting = acting_queued w id (view.receiver_of (pt.view.told id));
+      acting = queued_acting w id (view.receiver_of (pt.view.told id));
     })
 
 pub first_keeps : NoneReplaced → (r e : MsgId → ℕ) (pt pt' : Point) (p : Part) (ls : List Line) → FirstGood pt.kernel e pt.view.acting p → Home r e pt → lines_of pt p ≡ Some ls → after pt ls ≡ Some pt' → Kept pt.view.acting pt'
@@ -54,12 +52,10 @@ first_keeps none r e pt pt' p ls good h is next = elim good [
   | inr said ↦ elim said [
     | inl one ↦
         let f : Some (Line.Label one.0 ∷ []) ≡ Some ls = ap (lines_of pt) (sym one.1) ∙ is in
-        let g : Line.Label one.0 ∷ [] ≡ ls = cc in
-        label_keeps none r e pt pt' one.0 one.2 h (ap (after pt) g ∙ next)
+        let g : Line.Label one.0 ∷ [] ≡ ls = cc in label_keeps none r e pt pt' one.0 one.2 h (ap (after pt) g ∙ next)
     | inr one ↦
         let f : Some (Line.Queued one.0 ∷ []) ≡ Some ls = ap (lines_of pt) (sym one.1) ∙ is in
-        let g : Line.Queued one.0 ∷ [] ≡ ls = cc in
-        queued_keeps r e pt pt' one.0 one.2 h (ap (after pt) g ∙ next)
+        let g : Line.Queued one.0 ∷ [] ≡ ls = cc in queued_keeps r e pt pt' one.0 one.2 h (ap (after pt) g ∙ next)
   ]
 ]
 
@@ -116,15 +112,11 @@ repeats_good : (m a b : ℕ) (ns : List ℕ) → PartsAnywhere m (rule.repeats a
 repeats_good m a b [] = tt
 repeats_good m a b (n ∷ ns) = (tt, repeats_good m a b ns)
 
-pub if_parts : (m : ℕ) (c : Bool) (ps qs : List Part) → PartsAnywhere m ps → PartsAnywhere m qs → PartsAnywhere m (if c then ps else qs)
-if_parts m true ps qs h k = h
-if_parts m false ps qs h k = k
-
 pub resends_good : (m n : ℕ) (v : View) (b : ℕ) → PartsAnywhere m (rule.resends v n b)
 resends_good m n v zero = tt
 resends_good m n v (suc b) =
     let ns = rule.numbers_from (v.pair n b).acked ((v.pair n b).gone - (v.pair n b).acked) in
-    parts_append m (rule.resends v n b) (if n == b then [] else rule.repeats n b ns) (resends_good m n v b) (if_parts m (n == b) [] (rule.repeats n b ns) tt (repeats_good m n b ns))
+    parts_append m (rule.resends v n b) (if n == b then [] else rule.repeats n b ns) (resends_good m n v b) (by_test (PartsAnywhere m) (n == b) [] (rule.repeats n b ns) tt (repeats_good m n b ns))
 
 takes_good : (m a b : ℕ) (ns : List ℕ) → PartsAnywhere m (rule.taking_parts a b ns)
 takes_good m a b [] = tt
@@ -133,9 +125,9 @@ takes_good m a b (n ∷ ns) = (tt, takes_good m a b ns)
 comes_good : (m a b : ℕ) (p q : Pair) (l : Load) → PartsAnywhere m (rule.comes a b p q l)
 comes_good m a b p q (Load.Data n) =
     let ns = rule.kept_from p.kept (n + 1) pair_window in
-    if_parts m (nat_lt n p.taken) (Says (Line.Old a b n) ∷ Transmits b a (Load.Ack p.taken) ∷ []) (if nat_lt p.taken n then Says (Line.Early a b n) ∷ Transmits b a (Load.Ack p.taken) ∷ [] else rule.takes_on a b n ns)
+    by_test (PartsAnywhere m) (nat_lt n p.taken) (Says (Line.Old a b n) ∷ Transmits b a (Load.Ack p.taken) ∷ []) (if nat_lt p.taken n then Says (Line.Early a b n) ∷ Transmits b a (Load.Ack p.taken) ∷ [] else rule.takes_on a b n ns)
     (tt, (tt, tt))
-    (if_parts m (nat_lt p.taken n) (Says (Line.Early a b n) ∷ Transmits b a (Load.Ack p.taken) ∷ []) (rule.takes_on a b n ns) (tt, (tt, tt))
+    (by_test (PartsAnywhere m) (nat_lt p.taken n) (Says (Line.Early a b n) ∷ Transmits b a (Load.Ack p.taken) ∷ []) (rule.takes_on a b n ns) (tt, (tt, tt))
     (parts_append m (rule.taking_parts a b (n ∷ ns)) (Transmits b a (Load.Ack (n + 1 + length ns)) ∷ []) (takes_good m a b (n ∷ ns)) (tt, tt)))
 comes_good m a b p q (Load.Ack n) = (tt, repeats_good m b a (rule.let_go q (rule.more n q.acked)))
 

@@ -29,9 +29,6 @@ SaidAt s m (Label.NoSpace id f b) = ReceivedAt s m id
 SaidAt s m (Label.Asked id) = ⊤
 SaidAt s m (Label.Answered id o) = (p : Pid) → s.noted id ≡ Some p → p.home ≡ m
 
-here_home : (v : View) (p : Pid) → ((q : Pid) → v.moves q ≡ 0) → p.home ≡ v.acting → acting_place v p ≡ unmoved p.home
-here_home v p still at = ap (λ (n : ℕ). record { at = v.acting; moves = n }) (still p) ∙ ap unmoved (sym at)
-
 -- a label is said where its process is, where its message's receiver is or has ended, or at a server's or a kernel's home
 abbrev pub SaidOn : (Pid → Place → Type 0) → OneKernel → View → Addresses → Label → Type 0
 SaidOn P s v a (Label.Call p n c) = P p (acting_place v p)
@@ -67,17 +64,17 @@ label_on P s t v a (Label.Answered id o) is named at h = answered_home P s t v a
 
 -- as long as nothing moves
 said_home : (s : OneKernel) (v : View) (a : Addresses) (l : Label) → ((q : Pid) → v.moves q ≡ 0) → SaidAt s v.acting l → AtHome IsHome s a → SaidOn IsHome s v a l
-said_home s v a (Label.Call p n c) still at h = here_home v p still at
-said_home s v a (Label.Send p id) still at h = here_home v p still at
-said_home s v a (Label.Wait p) still at h = here_home v p still at
-said_home s v a (Label.Out p w) still at h = here_home v p still at
-said_home s v a (Label.Served id) still at h = λ m there. here_home v m.to still (at m there)
+said_home s v a (Label.Call p n c) still at h = ap (λ (n : ℕ). record { at = v.acting; moves = n }) (still p) ∙ ap unmoved (sym at)
+said_home s v a (Label.Send p id) still at h = ap (λ (n : ℕ). record { at = v.acting; moves = n }) (still p) ∙ ap unmoved (sym at)
+said_home s v a (Label.Wait p) still at h = ap (λ (n : ℕ). record { at = v.acting; moves = n }) (still p) ∙ ap unmoved (sym at)
+said_home s v a (Label.Out p w) still at h = ap (λ (n : ℕ). record { at = v.acting; moves = n }) (still p) ∙ ap unmoved (sym at)
+said_home s v a (Label.Served id) still at h = λ m there. ap (λ (n : ℕ). record { at = v.acting; moves = n }) (still m.to) ∙ ap unmoved (sym (at m there))
 said_home s v a (Label.Gone id) still at h = λ m there.
     ap (λ (n : ℕ). record { at = v.acting; moves = n }) (ap (λ (p : Place). p.moves) (h.messages id m there).receiver) ∙ ap unmoved (sym (at m there))
 said_home s v a (Label.Took id) still at h = at
 said_home s v a (Label.Created id child) still at h = at.0
 said_home s v a (Label.NoSpace id f b) still at h = at
-said_home s v a (Label.Answered id o) still at h = λ p noted. here_home v p still (at p noted)
+said_home s v a (Label.Answered id o) still at h = λ p noted. ap (λ (n : ℕ). record { at = v.acting; moves = n }) (still p) ∙ ap unmoved (sym (at p noted))
 said_home s v a _ still at h = tt
 
 pub label_home : (s t : OneKernel) (v : View) (a : Addresses) (l : Label) → kernel.step s l ≡ Some t → Named s → ((q : Pid) → v.moves q ≡ 0) → SaidAt s v.acting l → AtHome IsHome s a → AtHome IsHome t (given a (gives s v a l))
@@ -88,24 +85,19 @@ both : (b c : Bool) → (b && c) ≡ true → (b ≡ true) × (c ≡ true)
 both true c e = (refl, e)
 both false c e = cc
 
-filter_home_if : (m : ℕ) (p : Pid) (ps : List Pid) (b : Bool) → (p.home == m) ≡ true → are_home m ps ≡ true → are_home m (if b then p ∷ ps else ps) ≡ true
-filter_home_if m p ps true e h = ap (λ (c : Bool). c && are_home m ps) e ∙ h
-filter_home_if m p ps false e h = h
-
 filter_home : (m : ℕ) (ps : List Pid) (f : Pid → Bool) → are_home m ps ≡ true → are_home m (filter f ps) ≡ true
 filter_home m [] f h = refl
 filter_home m (p ∷ ps) f h =
     let k = both (p.home == m) (are_home m ps) h in
-    filter_home_if m p (filter f ps) (f p) k.0 (filter_home m ps f k.1)
+    (elim (f p) as (λ b. are_home m (if b then p ∷ (filter f ps) else (filter f ps)) ≡ true)
+        [ true ↦ ap (λ (c : Bool). c && are_home m (filter f ps)) k.0 ∙ (filter_home m ps f k.1) | false ↦ (filter_home m ps f k.1) ])
 
 pub without_home : (m : ℕ) (p : Pid) (ps : List Pid) → are_home m ps ≡ true → are_home m (without p ps) ≡ true
 without_home m p ps h = filter_home m ps (λ q. not (pid_eq p q)) h
 
 pub joins_home : (m : ℕ) (p : Pid) (ps : List Pid) → p.home ≡ m → are_home m ps ≡ true → are_home m (ps ++ p ∷ []) ≡ true
 joins_home m p [] e h = grind (arith, nat_tests)
-joins_home m p (q ∷ qs) e h =
-    let k = both (q.home == m) (are_home m qs) h in
-    ap (λ (c : Bool). c && are_home m (qs ++ p ∷ [])) k.0 ∙ joins_home m p qs e k.1
+joins_home m p (q ∷ qs) e h = let k = both (q.home == m) (are_home m qs) h in ap (λ (c : Bool). c && are_home m (qs ++ p ∷ [])) k.0 ∙ joins_home m p qs e k.1
 
 -- rings whose processes are at home, and no process has moved
 -- what a machine knows of a process as long as nothing moves
@@ -120,27 +112,19 @@ pub record RingsHome (v : View) : Type 0 where
   pub ring : (m : ℕ) → are_home m (v.ring m) ≡ true
   pub known : (m : ℕ) (p : Pid) → is_still (v.known m p) ≡ true
 
-known_if : (b : Bool) (k j : Known) → is_still k ≡ true → is_still j ≡ true → is_still (if b then k else j) ≡ true
-known_if true k j h i = h
-known_if false k j h i = i
-
 known_set : (v : View) (a : ℕ) (p : Pid) (k : Known) → is_still k ≡ true → RingsHome v → (m : ℕ) (q : Pid) → is_still (at_record v.known a p k m q) ≡ true
-known_set v a p k h r m q = known_if ((a == m) && pid_eq p q) k (v.known m q) h (r.known m q)
-
--- the acting machine has another ring
-ring_set : (f : ℕ → List Pid) (m : ℕ) (ps : List Pid) → are_home m ps ≡ true → ((n : ℕ) → are_home n (f n) ≡ true) → (n : ℕ) → are_home n (at_machine f m ps n) ≡ true
-ring_set f m ps h k n = elim (cases_Bool (m == n)) [
-  | inl same ↦
-      let is : m ≡ n = grind (arith, nat_tests) in
-      ap (λ (c : Bool). are_home n (if c then ps else f n)) same ∙ ap (λ (i : ℕ). are_home i ps) (sym is) ∙ h
-  | inr apart ↦ ap (λ (c : Bool). are_home n (if c then ps else f n)) apart ∙ k n
-]
+known_set v a p k h r m q = elim ((a == m) && pid_eq p q) as (λ b. is_still (if b then k else (v.known m q)) ≡ true) [ true ↦ h | false ↦ (r.known m q) ]
 
 pub rings_set : (v w : View) (ps : List Pid) → w.moves ≡ v.moves → w.ring ≡ at_machine v.ring v.acting ps → ((m : ℕ) (p : Pid) → is_still (w.known m p) ≡ true) → are_home v.acting ps ≡ true → RingsHome v → RingsHome w
 rings_set v w ps moves ring known h k = record {
   known = known;
   moves = λ p. ap (λ (f : Pid → ℕ). f p) moves ∙ k.moves p;
-  ring = λ m. ap (λ (f : ℕ → List Pid). are_home m (f m)) ring ∙ ring_set v.ring v.acting ps h k.ring m;
+  ring = λ m. ap (λ (f : ℕ → List Pid). are_home m (f m)) ring ∙ elim (cases_Bool (v.acting == m)) [
+    | inl same ↦
+        let is : v.acting ≡ m = grind (arith, nat_tests) in
+        ap (λ (c : Bool). are_home m (if c then ps else v.ring m)) same ∙ ap (λ (i : ℕ). are_home i ps) (sym is) ∙ h
+    | inr apart ↦ ap (λ (c : Bool). are_home m (if c then ps else v.ring m)) apart ∙ k.ring m
+  ];
 }
 
 pub rings_same : (v w : View) → w.moves ≡ v.moves → w.ring ≡ v.ring → w.known ≡ v.known → RingsHome v → RingsHome w
@@ -159,9 +143,6 @@ told_rings : (v : View) (o : Option Told) → RingsHome v → RingsHome (served_
 told_rings v None h = h
 told_rings v (Some t) h = kills_rings v t.kind (Some t.receiver) h
 
-handled_rings : (v : View) (id : MsgId) → RingsHome v → RingsHome (handled v id)
-handled_rings v id h = record { moves = h.moves; ring = h.ring; known = h.known }
-
 dropped_rings : (v : View) (id : MsgId) (o : Option Pid) → RingsHome v → RingsHome (view.dropped_for v id o)
 dropped_rings v id None h = h
 dropped_rings v id (Some p) h = record { moves = h.moves; ring = h.ring; known = h.known }
@@ -174,11 +155,11 @@ label_rings s v (Label.Ran p k) at h = rings_set v (after_label v (Label.Ran p k
 label_rings s v (Label.End p y) at h = rings_set v (after_label v (Label.End p y)) (without p (v.ring v.acting)) refl refl (known_set v v.acting p view.Ended refl h) (without_home v.acting p (v.ring v.acting) (h.ring v.acting)) h
 label_rings s v (Label.Receive p id) at h = rings_set v (after_label v (Label.Receive p id)) (moved_back p (v.ring v.acting)) refl refl h.known (back_home v p at h) h
 label_rings s v (Label.Refuse p id c) at h = rings_set v (after_label v (Label.Refuse p id c)) (moved_back p (v.ring v.acting)) refl refl h.known (back_home v p at h) h
-label_rings s v (Label.Dropped id) at h = dropped_rings (handled v id) id (view.receiver_of (v.told id)) (handled_rings v id h)
-label_rings s v (Label.Served id) at h = told_rings (handled v id) (v.told id) (handled_rings v id h)
-label_rings s v (Label.Gone id) at h = handled_rings v id h
-label_rings s v (Label.Took id) at h = handled_rings v id h
+label_rings s v (Label.Dropped id) at h = dropped_rings (handled v id) id (view.receiver_of (v.told id)) (record { moves = h.moves; ring = h.ring; known = h.known })
+label_rings s v (Label.Served id) at h = told_rings (handled v id) (v.told id) (record { moves = h.moves; ring = h.ring; known = h.known })
+label_rings s v (Label.Gone id) at h = record { moves = h.moves; ring = h.ring; known = h.known }
+label_rings s v (Label.Took id) at h = record { moves = h.moves; ring = h.ring; known = h.known }
 label_rings s v (Label.Created id p) at h = rings_set v (after_label v (Label.Created id p)) (v.ring v.acting ++ p ∷ []) refl refl (known_set v v.acting p Here refl h) (joins_home v.acting p (v.ring v.acting) at.1 (h.ring v.acting)) h
-label_rings s v (Label.NoSpace id f b) at h = handled_rings v id h
-label_rings s v (Label.Asked id) at h = handled_rings v id h
+label_rings s v (Label.NoSpace id f b) at h = record { moves = h.moves; ring = h.ring; known = h.known }
+label_rings s v (Label.Asked id) at h = record { moves = h.moves; ring = h.ring; known = h.known }
 label_rings s v _ at h = h

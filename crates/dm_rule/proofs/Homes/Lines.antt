@@ -89,17 +89,14 @@ acting_kills v MessageKind.Kill (Some p) = refl
 acting_kills v MessageKind.Kill None = refl
 acting_kills v _ o = refl
 
-pub acting_told : (v : View) (o : Option Told) → (view.served_told v o).acting ≡ v.acting
-acting_told v None = refl
-acting_told v (Some t) = acting_kills v t.kind (Some t.receiver)
-
 pub acting_dropped : (v : View) (id : MsgId) (o : Option Pid) → (view.dropped_for v id o).acting ≡ v.acting
 acting_dropped v id None = refl
 acting_dropped v id (Some p) = refl
 
 pub acting_label : (v : View) (l : Label) → (after_label v l).acting ≡ v.acting
 acting_label v (Label.Dropped id) = acting_dropped (handled v id) id (view.receiver_of (v.told id))
-acting_label v (Label.Served id) = acting_told (handled v id) (v.told id)
+acting_label v (Label.Served id) = elim (v.told id) as (λ o. (view.served_told (handled v id) o).acting ≡ (handled v id).acting)
+    [ None ↦ refl | Some t ↦ acting_kills (handled v id) t.kind (Some t.receiver) ]
 acting_label v _ = refl
 
 -- a pair whose messages stay
@@ -125,11 +122,8 @@ pub first_none : (o : Option Told) (gs : List Gets) → gs ≡ [] → first_give
 first_none None gs e = e
 first_none (Some t) gs e = refl
 
-pub put_places : (s : OneKernel) (v : View) (a : Addresses) (from b : ℕ) (id : MsgId) (w : PlainWhat) (q : Pid) → addresses_after s v a (Line.Put from b id (plain_kind w) q) ≡ a
-put_places s v a from b id w q = ap (given a) (first_none (v.told id) (own_gives s v a id q (plain_kind w)) (own_none s v a id q w))
-
 put_at_home : (s : OneKernel) (v : View) (a : Addresses) (from b : ℕ) (id : MsgId) (w : PlainWhat) (q : Pid) → AtHome IsHome s a → AtHome IsHome s (addresses_after s v a (Line.Put from b id (plain_kind w) q))
-put_at_home s v a from b id w q h = subst (AtHome IsHome s) (sym (put_places s v a from b id w q)) h
+put_at_home s v a from b id w q h = subst (AtHome IsHome s) (sym (ap (given a) (first_none (v.told id) (own_gives s v a id q (plain_kind w)) (own_none s v a id q w)))) h
 
 -- a routed message
 routed_home : (r e : MsgId → ℕ) (pt : Point) (id : MsgId) (m : PlainMessage) (b : ℕ) → pt.kernel.bag id ≡ Some m → b ≡ m.to.home → Home r e pt → Home r e (moved pt (Line.Put pt.view.acting b id (plain_kind m.what) m.to) pt.kernel)

@@ -28,32 +28,21 @@ all_stand_last s e m (j ∷ js) i h k =
     let w = both (stands s e m j) (all_stand s e m js) h in
     both_true (stands s e m j) (all_stand s e m (js ++ i ∷ [])) w.0 (all_stand_last s e m js i w.1 k)
 
-front_if : (s : OneKernel) (e : MsgId → ℕ) (m : ℕ) (b : Bool) (j : MsgId) (js : List MsgId) → all_stand s e m (j ∷ js) ≡ true → all_stand s e m (if b then js else j ∷ js) ≡ true
-front_if s e m true j js h = (both (stands s e m j) (all_stand s e m js) h).1
-front_if s e m false j js h = h
-
 pub all_stand_front : (s : OneKernel) (e : MsgId → ℕ) (m : ℕ) (i : MsgId) (is : List MsgId) → all_stand s e m is ≡ true → all_stand s e m (without_front i is) ≡ true
 all_stand_front s e m i [] h = refl
-all_stand_front s e m i (j ∷ js) h = front_if s e m (id_eq i j) j js h
-
-without_if : (s : OneKernel) (e : MsgId → ℕ) (m : ℕ) (b : Bool) (j : MsgId) (js ks : List MsgId) → stands s e m j ≡ true → all_stand s e m js ≡ true → all_stand s e m ks ≡ true → all_stand s e m (if b then js else j ∷ ks) ≡ true
-without_if s e m true j js ks h k l = k
-without_if s e m false j js ks h k l = both_true (stands s e m j) (all_stand s e m ks) h l
+all_stand_front s e m i (j ∷ js) h = elim (id_eq i j) as (λ b. all_stand s e m (if b then js else j ∷ js) ≡ true)
+    [ true ↦ (both (stands s e m j) (all_stand s e m js) h).1 | false ↦ h ]
 
 pub all_stand_without : (s : OneKernel) (e : MsgId → ℕ) (m : ℕ) (i : MsgId) (is : List MsgId) → all_stand s e m is ≡ true → all_stand s e m (without_id i is) ≡ true
 all_stand_without s e m i [] h = refl
 all_stand_without s e m i (j ∷ js) h =
     let w = both (stands s e m j) (all_stand s e m js) h in
-    without_if s e m (id_eq i j) j js (without_id i js) w.0 w.1 (all_stand_without s e m i js w.1)
-
--- a pair's list: one more at the end, the first taken
-drop_none : (s : OneKernel) (e : MsgId → ℕ) (m n : ℕ) → all_stand s e m (drop n []) ≡ true
-drop_none s e m zero = refl
-drop_none s e m (suc n) = refl
+    (elim (id_eq i j) as (λ b. all_stand s e m (if b then js else j ∷ (without_id i js)) ≡ true)
+        [ true ↦ w.1 | false ↦ both_true (stands s e m j) (all_stand s e m (without_id i js)) w.0 (all_stand_without s e m i js w.1) ])
 
 pub drop_last : (s : OneKernel) (e : MsgId → ℕ) (m n : ℕ) (is : List MsgId) (i : MsgId) → all_stand s e m (drop n is) ≡ true → stands s e m i ≡ true → all_stand s e m (drop n (is ++ i ∷ [])) ≡ true
 drop_last s e m zero is i h k = all_stand_last s e m is i h k
-drop_last s e m (suc n) [] i h k = drop_none s e m n
+drop_last s e m (suc n) [] i h k = elim n as (λ n_. all_stand s e m (drop n_ []) ≡ true) [ zero ↦ refl | suc f ↦ refl ]
 drop_last s e m (suc n) (j ∷ js) i h k = drop_last s e m n js i h k
 
 pub drop_one : (s : OneKernel) (e : MsgId → ℕ) (m n : ℕ) (is : List MsgId) → all_stand s e m (drop n is) ≡ true → all_stand s e m (drop (suc n) is) ≡ true
@@ -106,13 +95,10 @@ inbox_set s e f m is h k n = elim (cases_Bool (m == n)) [
   | inr apart ↦ ap (λ (c : Bool). all_stand s e n (if c then is else f n)) apart ∙ k n
 ]
 
-queue_if : (s : OneKernel) (e : MsgId → ℕ) (m n : ℕ) (b : Bool) (is js : List MsgId) → (m == n) ≡ true → all_stand s e m is ≡ true → all_stand s e n js ≡ true → all_stand s e n (if b then is else js) ≡ true
-queue_if s e m n true is js same h k = let at : m ≡ n = grind (arith, nat_tests) in ap (λ (i : ℕ). all_stand s e i is) (sym at) ∙ h
-queue_if s e m n false is js same h k = k
-
 queue_set : (s : OneKernel) (e : MsgId → ℕ) (f : ℕ → Pid → List MsgId) (m : ℕ) (p : Pid) (is : List MsgId) → all_stand s e m is ≡ true → ((n : ℕ) (q : Pid) → all_stand s e n (f n q) ≡ true) → (n : ℕ) (q : Pid) → all_stand s e n (at_record f m p is n q) ≡ true
 queue_set s e f m p is h k n q = elim (cases_Bool (m == n)) [
-  | inl same ↦ ap (λ (c : Bool). all_stand s e n (if c && pid_eq p q then is else f n q)) same ∙ queue_if s e m n (pid_eq p q) is (f n q) same h (k n q)
+  | inl same ↦ ap (λ (c : Bool). all_stand s e n (if c && pid_eq p q then is else f n q)) same ∙ (elim (pid_eq p q) as (λ b. all_stand s e n (if b then is else (f n q)) ≡ true)
+      [ true ↦ let at : m ≡ n = grind (arith, nat_tests) in ap (λ (i : ℕ). all_stand s e i is) (sym at) ∙ h | false ↦ (k n q) ])
   | inr apart ↦ ap (λ (c : Bool). all_stand s e n (if c && pid_eq p q then is else f n q)) apart ∙ k n q
 ]
 
@@ -137,10 +123,6 @@ kills_lists s e v MessageKind.Kill (Some p) h = record { inbox = h.inbox; queue 
 kills_lists s e v MessageKind.Kill None h = h
 kills_lists s e v _ o h = h
 
-told_lists : (s : OneKernel) (e : MsgId → ℕ) (v : View) (o : Option Told) → ListsHome s e v → ListsHome s e (served_told v o)
-told_lists s e v None h = h
-told_lists s e v (Some t) h = kills_lists s e v t.kind (Some t.receiver) h
-
 pub label_lists : (s : OneKernel) (e : MsgId → ℕ) (v : View) (l : Label) → ListsHome s e v → ListsHome s e (after_label v l)
 label_lists s e v (Label.Ran p k) h = record { inbox = h.inbox; queue = h.queue; untaken = h.untaken }
 label_lists s e v (Label.End p y) h = record { inbox = h.inbox; queue = h.queue; untaken = h.untaken }
@@ -151,7 +133,8 @@ label_lists s e v (Label.Receive p id) h = record {
 }
 label_lists s e v (Label.Refuse p id c) h = record { inbox = h.inbox; queue = h.queue; untaken = h.untaken }
 label_lists s e v (Label.Dropped id) h = dropped_lists s e (handled v id) id (view.receiver_of (v.told id)) (handled_lists s e v id h)
-label_lists s e v (Label.Served id) h = told_lists s e (handled v id) (v.told id) (handled_lists s e v id h)
+label_lists s e v (Label.Served id) h = elim (v.told id) as (λ o. ListsHome s e (served_told (handled v id) o))
+    [ None ↦ (handled_lists s e v id h) | Some t ↦ kills_lists s e (handled v id) t.kind (Some t.receiver) (handled_lists s e v id h) ]
 label_lists s e v (Label.Gone id) h = handled_lists s e v id h
 label_lists s e v (Label.Took id) h = handled_lists s e v id h
 label_lists s e v (Label.Created id p) h = let k = handled_lists s e v id h in record { inbox = k.inbox; queue = k.queue; untaken = k.untaken }

@@ -12,16 +12,13 @@ use Rattle.dm_rule.proofs.Homes.{place_as, pid_as, acts_at, AtHome}
 use Rattle.dm_rule.proofs.Homes.Rows.{SameProcess, SameMessage, sent_home, at_home_out, process_same, message_same, encloses_servers, encloses_process, encloses_message, encloses_at}
 use Rattle.dm_rule.proofs.Homes.Serves.{two, two_sends, Named, ReceivedAt}
 use Rattle.dm_rule.proofs.Homes.Servers.{get_last, ascends_more, ascends_last, ascends_without, numbered_from, pending_last, still_pending, board_row}
+use Rattle.dm_rule.proofs.Requests.{by_test}
 
 abbrev TookAt : (Pid → Place → Type 0) → OneKernel → View → Addresses → MsgId → MsgId → ℕ → manage.ManagerTook → Type 0
 TookAt P s v a id mid code k = AtHome P (service.manager_took s id k) (given a (manager_sends v a mid code k.message))
 
 abbrev LinksHome : (Pid → Place → Type 0) → Addresses → MsgId → List PlainLink → Type 0
 LinksHome P a id links = (n : ℕ) (w : PlainLink) → slice_get links n ≡ Some w → P w.to (a (Enclosed id n))
-
-took_if : (P : Pid → Place → Type 0) (s : OneKernel) (v : View) (a : Addresses) (id mid : MsgId) (code : ℕ) (b : Bool) (k l : manage.ManagerTook) → TookAt P s v a id mid code k → TookAt P s v a id mid code l → TookAt P s v a id mid code (if b then k else l)
-took_if P s v a id mid code true k l h j = h
-took_if P s v a id mid code false k l h j = j
 
 -- its count rises
 counted : (P : Pid → Place → Type 0) (s : OneKernel) (a : Addresses) (id : MsgId) → AtHome P s a → AtHome P (record (without_message s id) { manager = record s.manager { sent = s.manager.sent + 1 } }) a
@@ -98,13 +95,13 @@ wants_home : (P : Pid → Place → Type 0) (s : OneKernel) (v : View) (a : Addr
     → TookAt P s v a id mid code (manage.wants_child s.manager s.machines (length s.images) machine image links)
 wants_home P s v a id mid code machine image [] en at h = bad_home P s v a id mid code [] en at h
 wants_home P s v a id mid code machine image (l ∷ ls) en at h =
-    took_if P s v a id mid code (nat_lt machine s.machines && nat_lt image (length s.images)) (manage.asks_for s.manager machine image l ls) (manage.bad_request s.manager (l ∷ ls))
+    by_test (TookAt P s v a id mid code) (nat_lt machine s.machines && nat_lt image (length s.images)) (manage.asks_for s.manager machine image l ls) (manage.bad_request s.manager (l ∷ ls))
     (asks_for_home P s v a id mid code machine image l ls en at h) (bad_home P s v a id mid code (l ∷ ls) en at h)
 
 requests_home : (P : Pid → Place → Type 0) (s : OneKernel) (v : View) (a : Addresses) (id mid : MsgId) (code : ℕ) (body : List ℕ) (links : List PlainLink) → LinksHome P a mid links → v.acting ≡ 0 → AtHome P s a
     → TookAt P s v a id mid code (manage.requests_child s.manager s.machines (length s.images) body links)
 requests_home P s v a id mid code (b ∷ c ∷ d ∷ e ∷ []) links en at h =
-    took_if P s v a id mid code (b == 1) (manage.wants_child s.manager s.machines (length s.images) c (256 * d + e) links) (manage.bad_request s.manager links)
+    by_test (TookAt P s v a id mid code) (b == 1) (manage.wants_child s.manager s.machines (length s.images) c (256 * d + e) links) (manage.bad_request s.manager links)
     (wants_home P s v a id mid code c (256 * d + e) links en at h) (bad_home P s v a id mid code links en at h)
 requests_home P s v a id mid code _ links en at h = bad_home P s v a id mid code links en at h
 
@@ -161,8 +158,8 @@ controls_home P s v a id mid code (Some child) (op ∷ []) links is en at h = co
 controls_home P s v a id mid code (Some child) (op ∷ machine ∷ []) links is en at h =
     let k = manage.sends_request s.manager PendingKind.Move child (PlainWhat.Move machine) (manage.first_link links) in
     let bad = bad_home P s v a id mid code links en at h in
-    took_if P s v a id mid code (op == 5) (manage.moves_child s.manager s.machines child machine links) (manage.bad_request s.manager links)
-    (took_if P s v a id mid code (nat_lt machine s.machines) k (manage.bad_request s.manager links) (moves_home P s v a id mid code child machine links (h.children code child is) en at h) bad) bad
+    by_test (TookAt P s v a id mid code) (op == 5) (manage.moves_child s.manager s.machines child machine links) (manage.bad_request s.manager links)
+    (by_test (TookAt P s v a id mid code) (nat_lt machine s.machines) k (manage.bad_request s.manager links) (moves_home P s v a id mid code child machine links (h.children code child is) en at h) bad) bad
 controls_home P s v a id mid code None (b ∷ []) links is en at h = bad_home P s v a id mid code links en at h
 controls_home P s v a id mid code None (b ∷ machine ∷ []) links is en at h = bad_home P s v a id mid code links en at h
 controls_home P s v a id mid code _ _ links is en at h = bad_home P s v a id mid code links en at h
@@ -170,7 +167,7 @@ controls_home P s v a id mid code _ _ links is en at h = bad_home P s v a id mid
 user_home : (P : Pid → Place → Type 0) (s : OneKernel) (v : View) (a : Addresses) (id mid : MsgId) (code : ℕ) (body : List ℕ) (links : List PlainLink) → LinksHome P a mid links → v.acting ≡ 0 → AtHome P s a
     → TookAt P s v a id mid code (manage.takes_user s.manager s.machines (length s.images) code body links)
 user_home P s v a id mid code body links en at h =
-    took_if P s v a id mid code (code == 0) (manage.requests_child s.manager s.machines (length s.images) body links) (manage.controls s.manager s.machines (manage.child_numbered s.manager.children code) body links)
+    by_test (TookAt P s v a id mid code) (code == 0) (manage.requests_child s.manager s.machines (length s.images) body links) (manage.controls s.manager s.machines (manage.child_numbered s.manager.children code) body links)
     (requests_home P s v a id mid code body links en at h) (controls_home P s v a id mid code (manage.child_numbered s.manager.children code) body links refl en at h)
 
 -- an answer about a child

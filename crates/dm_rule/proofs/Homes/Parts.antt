@@ -112,8 +112,7 @@ part_keeps none r e pt pt' _ ls at h is next = absurd at
 pub parts_keep : NoneReplaced → (ps : List Part) (r e : MsgId → ℕ) (m : ℕ) (pt : Point) (w : Spelled) → pt.view.acting ≡ m → PartsAnywhere m ps → Home r e pt → spelled pt ps ≡ Some w → Kept m w.point
 parts_keep none [] r e m pt w acting at h is =
     let z : Spelled = record { lines = []; point = pt } in
-    let f : z ≡ w = cc in
-    subst (λ (x : Spelled). Kept m x.point) f (record { r = r; e = e; home = h; acting = acting })
+    let f : z ≡ w = cc in subst (λ (x : Spelled). Kept m x.point) f (record { r = r; e = e; home = h; acting = acting })
 parts_keep none (p ∷ ps) r e m pt w acting at h is =
     let (ls, lines, rest) = bind-is (lines_of pt p) (λ (xs : List Line). bind (after pt xs) (λ (q : Point). bind (spelled q ps) (λ (z : Spelled). Some (behind xs z)))) w is in
     let (next, comes, last) = bind-is (after pt ls) (λ (q : Point). bind (spelled q ps) (λ (z : Spelled). Some (behind ls z))) w rest in

@@ -118,12 +118,9 @@ abbrev HomeCompleted : (Pid → Place → Type 0) → Addresses → Pid → MsgI
 HomeCompleted P a p id x w (receiving.Receives y) = HomeReceived P a (given a (receives_what a p id x w)) p y
 HomeCompleted P a p id x w (receiving.Refuses c y) = HomeProcess P a p y
 
-ready_home : (P : Pid → Place → Type 0) (a : Addresses) (p : Pid) (x : PlainProcess) (regs : Regs) → HomeProcess P a p x → HomeProcess P a p (record x { regs = regs; status = Ready })
-ready_home P a p x regs h = record { slots = h.slots; owner = λ q e. absurd (let f : None ≡ Some q = e in cc) }
-
 completes_home : (P : Pid → Place → Type 0) (a : Addresses) (p : Pid) (id : MsgId) (x : PlainProcess) (base code channel : ℕ) (body : List ℕ) (links : List PlainLink) (o : Option Reply) → HomeProcess P a p x → EnclosedHome P a id 0 links
     → HomeCompleted P a p id x (PlainWhat.User code channel body links) (receiving.completes_unless o x (receiving.with_received x base code channel body links))
-completes_home P a p id x base code channel body links (Some c) h en = ready_home P a p x (setting x.regs 0 (reply_code c)) h
+completes_home P a p id x base code channel body links (Some c) h en = record { slots = h.slots; owner = λ q e. absurd (let f : None ≡ Some q = e in cc) }
 completes_home P a p id x base code channel body links None h en = record {
   process = record {
     slots = λ k l e.
@@ -194,8 +191,7 @@ receive_home P s t v a p id is h =
 refuse_row : (P : Pid → Place → Type 0) (s t : OneKernel) (a : Addresses) (p : Pid) (id : MsgId) (c : Reply) (d : receiving.Completed) → Completing P s a p id d → kernel.refuses s p c d ≡ Some t → AtHome P s a → AtHome P t a
 refuse_row P s t a p id c (receiving.Receives y) w e h = cc
 refuse_row P s t a p id c (receiving.Refuses r y) w e h =
-    let k = when-is (reply_eq c r) (kernel.goes_on s p y) t e in
-    subst (λ (u : OneKernel). AtHome P u a) k.1 (home_goes P s a p y h w.home)
+    let k = when-is (reply_eq c r) (kernel.goes_on s p y) t e in subst (λ (u : OneKernel). AtHome P u a) k.1 (home_goes P s a p y h w.home)
 
 pub refuse_home : (P : Pid → Place → Type 0) (s t : OneKernel) (a : Addresses) (p : Pid) (id : MsgId) (c : Reply) → kernel.step s (Label.Refuse p id c) ≡ Some t → AtHome P s a → AtHome P t a
 refuse_home P s t a p id c is h =

@@ -63,20 +63,6 @@ at_home_process P s a b p life h off on messages servers = record {
   pending = h.pending;
 }
 
--- a process's and a message's
-pub at_home_sends : (P : Pid → Place → Type 0) (s : OneKernel) (a b : Addresses) (p : Pid) (life : Life) (m : PlainMessage) → AtHome P s a → ((q : Pid) → pid_eq p q ≡ false → SameProcess a b q) → ((y : PlainProcess) → kernel.alive (Some life) ≡ Some y → HomeProcess P b p y)
-    → ((i : MsgId) → id_eq m.id i ≡ false → SameMessage a b i) → HomeMessage P b m.id m → SameServers a b → AtHome P (with_sent (with_process s p life) (Some m)) b
-at_home_sends P s a b p life m h off on messages sent servers = record {
-  processes = set_home P s a b p life h off on;
-  messages = sent_home P s a b m h.messages messages sent;
-  children = λ n q e. place_as P (servers.child n) (h.children n q e);
-  named = λ n k e. place_as P (servers.name n) (h.named n k e);
-  answers = λ n r l e f. place_as P (servers.answer n) (h.answers n r l e f);
-  askers = λ q n e. place_as P (servers.asked q) (h.askers q n e);
-  rooted = h.rooted;
-  pending = h.pending;
-}
-
 pub at_home_out : (P : Pid → Place → Type 0) (s : OneKernel) (a : Addresses) (id : MsgId) → AtHome P s a → AtHome P (without_message s id) a
 at_home_out P s a id h = record {
   processes = h.processes;
@@ -167,8 +153,7 @@ pub encloses_at : (a : Addresses) (id : MsgId) (n : ℕ) (ps : List Place) (k j 
 encloses_at a id n [] k j p e f = cc
 encloses_at a id n (x ∷ ps) zero j p e f =
     let same : (id_eq id id && (n == j)) ≡ true = let g = id_eq-same id in grind (arith, nat_tests) in
-    let is : x ≡ p = cc in
-    ap (λ (c : Bool). if c then x else given a (encloses id (n + 1) ps) (Enclosed id j)) same ∙ is
+    let is : x ≡ p = cc in ap (λ (c : Bool). if c then x else given a (encloses id (n + 1) ps) (Enclosed id j)) same ∙ is
 encloses_at a id n (x ∷ ps) (suc k) j p e f =
     let apart : (id_eq id id && (n == j)) ≡ false = let g = id_eq-same id in grind (arith, nat_tests) in
     ap (λ (c : Bool). if c then x else given a (encloses id (n + 1) ps) (Enclosed id j)) apart ∙ encloses_at a id (n + 1) ps k j p e (omega (arith, f))

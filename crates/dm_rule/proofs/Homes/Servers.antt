@@ -8,6 +8,7 @@ use Rattle.dm_onekernel.specs.Manager as manage
 use Rattle.dm_rule.proofs.Homes.{place_as, pid_as, acts_at, AtHome}
 use Rattle.dm_rule.proofs.Homes.Rows.{SameProcess, SameMessage, sent_home, at_home_out, process_same}
 use Rattle.dm_rule.proofs.Homes.Serves.{two, two_off}
+use Rattle.dm_rule.proofs.Requests.{by_test}
 
 -- a list with one more at its end
 pub get_last : {A : Type 0} (xs : List A) (y : A) (n : ℕ) (q : A) → slice_get (xs ++ y ∷ []) n ≡ Some q → (((length xs == n) ≡ true) × (y ≡ q)) ⊎ (((length xs == n) ≡ false) × (slice_get xs n ≡ Some q))
@@ -29,8 +30,7 @@ ascends_le [] from to e = e
 ascends_le (p ∷ ps) from to e =
     let k = and-both (nat_le from p.n) (ascends (p.n + 1) ps to) e in
     let first = k.0 in
-    let rest = ascends_le ps (p.n + 1) to k.1 in
-    grind (arith, nat_tests)
+    let rest = ascends_le ps (p.n + 1) to k.1 in grind (arith, nat_tests)
 
 pub ascends_more : (ps : List Pending) (from to : ℕ) → ascends from ps to ≡ true → ascends from ps (to + 1) ≡ true
 ascends_more [] from to e = grind (arith, nat_tests)
@@ -43,8 +43,7 @@ ascends_less [] from less to le e = grind (arith, nat_tests)
 ascends_less (p ∷ ps) from less to le e =
     let k = and-both (nat_le from p.n) (ascends (p.n + 1) ps to) e in
     let first = k.0 in
-    let f : nat_le less p.n ≡ true = grind (arith, nat_tests) in
-    ap (λ (b : Bool). b && ascends (p.n + 1) ps to) f ∙ k.1
+    let f : nat_le less p.n ≡ true = grind (arith, nat_tests) in ap (λ (b : Bool). b && ascends (p.n + 1) ps to) f ∙ k.1
 
 pub ascends_last : (ps : List Pending) (from : ℕ) (z : Pending) → ascends from ps z.n ≡ true → ascends from (ps ++ z ∷ []) (z.n + 1) ≡ true
 ascends_last [] from z e = grind (arith, nat_tests)
@@ -76,8 +75,7 @@ numbered_from (p ∷ ps) from to n r e f =
           (let g : nat_le from n ≡ true = grind (arith, nat_tests) in g, let g : nat_lt n to ≡ true = grind (arith, nat_tests) in g)
       | inr apart ↦
           let h = numbered_from ps (p.n + 1) to n r k.1 (sym (ap (λ (b : Bool). if b then Some p else manage.pending_numbered n ps) apart) ∙ f) in
-          let low = h.0 in
-          (let g : nat_le from n ≡ true = grind (arith, nat_tests) in g, h.1)
+          let low = h.0 in (let g : nat_le from n ≡ true = grind (arith, nat_tests) in g, h.1)
     ]
 
 pub pending_last : (ps : List Pending) (n : ℕ) (z r : Pending) → ((q : Pending) → manage.pending_numbered n ps ≡ Some q → (z.n == n) ≡ false) → manage.pending_numbered n (ps ++ z ∷ []) ≡ Some r
@@ -146,10 +144,6 @@ plain_asked P a sent names k none h = record {
   asked = λ q. refl;
 }
 
-asks_if : (P : Pid → Place → Type 0) (a : Addresses) (id sent : MsgId) (names : List NamedLink) (body : List ℕ) (b : Bool) (k l : board.Asked) → AsksHome P a id sent names body k → AsksHome P a id sent names body l → AsksHome P a id sent names body (if b then k else l)
-asks_if P a id sent names body true k l h j = h
-asks_if P a id sent names body false k l h j = j
-
 pub record FoundAt (name : List ℕ) (names : List NamedLink) (n : ℕ) (l : PlainLink) : Type 0 where
   pub i : ℕ
   pub k : NamedLink
@@ -214,24 +208,24 @@ registers_home P a id sent names op name l None at h = record {
 to_register : (P : Pid → Place → Type 0) (a : Addresses) (id sent : MsgId) (names : List NamedLink) (op : ℕ) (name : List ℕ) (ls : List PlainLink) → ((n : ℕ) (w : PlainLink) → slice_get ls n ≡ Some w → P w.to (a (Enclosed id (suc n)))) → NamesHome P a names
     → AsksHome P a id sent names (op ∷ name) (board.asks_to_register names name ls)
 to_register P a id sent names op name (l ∷ []) en h =
-    asks_if P a id sent names (op ∷ name) (board.is_name name) (board.registers_name names name l) (board.board_bad_request names)
-    (asks_if P a id sent names (op ∷ name) (is_general l.kind) (board.registers_new names name l (board.link_named name names)) (record { names = names; answer = board.BadLink })
+    by_test (AsksHome P a id sent names (op ∷ name)) (board.is_name name) (board.registers_name names name l) (board.board_bad_request names)
+    (by_test (AsksHome P a id sent names (op ∷ name)) (is_general l.kind) (board.registers_new names name l (board.link_named name names)) (record { names = names; answer = board.BadLink })
     (registers_home P a id sent names op name l (board.link_named name names) (en 0 l refl) h) (plain_asked P a sent names board.BadLink refl h))
     (plain_asked P a sent names board.BadRequest refl h)
 to_register P a id sent names op name _ en h = plain_asked P a sent names board.BadRequest refl h
 
 to_look_up : (P : Pid → Place → Type 0) (a : Addresses) (id sent : MsgId) (names : List NamedLink) (op : ℕ) (name : List ℕ) (ls : List PlainLink) → NamesHome P a names → AsksHome P a id sent names (op ∷ name) (board.asks_to_look_up names name ls)
 to_look_up P a id sent names op name [] h =
-    asks_if P a id sent names (op ∷ name) (board.is_name name) (board.looks_up names name) (board.board_bad_request names) (looks_up_home P a id sent names op name (board.link_named name names) refl h) (plain_asked P a sent names board.BadRequest refl h)
+    by_test (AsksHome P a id sent names (op ∷ name)) (board.is_name name) (board.looks_up names name) (board.board_bad_request names) (looks_up_home P a id sent names op name (board.link_named name names) refl h) (plain_asked P a sent names board.BadRequest refl h)
 to_look_up P a id sent names op name (l ∷ ls) h = plain_asked P a sent names board.BadRequest refl h
 
 asks_home : (P : Pid → Place → Type 0) (a : Addresses) (id sent : MsgId) (names : List NamedLink) (body : List ℕ) (ls : List PlainLink) → ((n : ℕ) (w : PlainLink) → slice_get ls n ≡ Some w → P w.to (a (Enclosed id (suc n)))) → NamesHome P a names
     → AsksHome P a id sent names body (board.asks names body ls)
 asks_home P a id sent names [] ls en h = plain_asked P a sent names board.BadRequest refl h
 asks_home P a id sent names (op ∷ name) ls en h =
-    asks_if P a id sent names (op ∷ name) (op == 1) (board.asks_to_register names name ls) (if op == 2 then board.asks_to_look_up names name ls else board.board_bad_request names)
+    by_test (AsksHome P a id sent names (op ∷ name)) (op == 1) (board.asks_to_register names name ls) (if op == 2 then board.asks_to_look_up names name ls else board.board_bad_request names)
     (to_register P a id sent names op name ls en h)
-    (asks_if P a id sent names (op ∷ name) (op == 2) (board.asks_to_look_up names name ls) (board.board_bad_request names) (to_look_up P a id sent names op name ls h) (plain_asked P a sent names board.BadRequest refl h))
+    (by_test (AsksHome P a id sent names (op ∷ name)) (op == 2) (board.asks_to_look_up names name ls) (board.board_bad_request names) (to_look_up P a id sent names op name ls h) (plain_asked P a sent names board.BadRequest refl h))
 
 board_request : (P : Pid → Place → Type 0) (s : OneKernel) (v : View) (a : Addresses) (id : MsgId) (code channel : ℕ) (body : List ℕ) (links : List PlainLink) → ((n : ℕ) (w : PlainLink) → slice_get links n ≡ Some w → P w.to (a (Enclosed id n))) → v.acting ≡ 0 → AtHome P s a
     → AtHome P (service.switchboard_took s id (board.takes_request s.switchboard body links)) (given a (board_gets s v a id (PlainWhat.User code channel body links)))

@@ -13,6 +13,7 @@ use Rattle.dm_onekernel.specs.Service as service
 use Rattle.dm_rule.proofs.Homes.{place_as, pid_as, acts_at, HomeProcess, HomeMessage, AtHome}
 use Rattle.dm_rule.proofs.Homes.Rows.{SameProcess, SameMessage, SameServers, sent_home, at_home_process, at_home_out, home_goes, alive_on, message_same, process_same}
 use Rattle.dm_rule.proofs.Homes.Steps.{OnlySlots, only_none, at_home_ended}
+use Rattle.dm_rule.proofs.Requests.{by_test}
 
 -- the receiver and the sender of a new message get places
 abbrev pub two : MsgId → Place → Place → List Gets
@@ -31,18 +32,15 @@ two_off a i to from j e = record {
   enclosed = λ k. refl;
 }
 
-pub two_home : (P : Pid → Place → Type 0) (a : Addresses) (m : PlainMessage) (to from : Place) → links_in m.what ≡ [] → P m.to to → P m.sender from → HomeMessage P (given a (two m.id to from)) m.id m
-two_home P a m to from none e f = record {
-  receiver = place_as P (ap (λ (c : Bool). if c then to else a (Receiver m.id)) (id_eq-same m.id)) e;
-  sender = place_as P (ap (λ (c : Bool). if c then from else a (Sender m.id)) (id_eq-same m.id)) f;
-  enclosed = λ k l there. absurd (let g : None ≡ Some l = ap (λ (ls : List PlainLink). slice_get ls k) (sym none) ∙ there in cc);
-}
-
 -- a message without links comes, and a process goes on or not
 pub two_sends : (P : Pid → Place → Type 0) (s : OneKernel) (a : Addresses) (m : PlainMessage) (to from : Place) → AtHome P s a → links_in m.what ≡ [] → P m.to to → P m.sender from → AtHome P (with_sent s (Some m)) (given a (two m.id to from))
 two_sends P s a m to from h none e f = record {
   processes = λ q x alive. process_same P a (given a (two m.id to from)) q x (two_process a m.id to from q) (h.processes q x alive);
-  messages = sent_home P s a (given a (two m.id to from)) m h.messages (two_off a m.id to from) (two_home P a m to from none e f);
+  messages = sent_home P s a (given a (two m.id to from)) m h.messages (two_off a m.id to from) (record {
+    receiver = place_as P (ap (λ (c : Bool). if c then to else a (Receiver m.id)) (id_eq-same m.id)) e;
+    sender = place_as P (ap (λ (c : Bool). if c then from else a (Sender m.id)) (id_eq-same m.id)) f;
+    enclosed = λ k l there. absurd (let g : None ≡ Some l = ap (λ (ls : List PlainLink). slice_get ls k) (sym none) ∙ there in cc);
+  });
   children = h.children;
   named = h.named;
   answers = h.answers;
@@ -120,17 +118,13 @@ LandedHome P a p (pieces.Next m y) = HomeProcess P a p y × (P m.to (a (Owner p)
 done_home : (P : Pid → Place → Type 0) (a : Addresses) (p : Pid) (x : PlainProcess) (c : Reply) → HomeProcess P a p x → LandedHome P a p (pieces.done c x)
 done_home P a p x c h = record { slots = h.slots; owner = λ q e. absurd (let f : None ≡ Some q = e in cc) }
 
-if_landed : (P : Pid → Place → Type 0) (a : Addresses) (p : Pid) (b : Bool) (c d : pieces.Landed) → LandedHome P a p c → LandedHome P a p d → LandedHome P a p (if b then c else d)
-if_landed P a p true c d h k = h
-if_landed P a p false c d h k = k
-
 next_home : (P : Pid → Place → Type 0) (a : Addresses) (p : Pid) (x : PlainProcess) (dir : Direction) (owner : Pid) (base own left : ℕ) → HomeProcess P a p x → P owner (a (Owner p)) → LandedHome P a p (pieces.next_request (pieces.requests p x dir owner base own left))
 next_home P a p x Direction.FromArea owner base own left h at = (record { slots = h.slots; owner = λ q e. let f : owner ≡ q = cc in pid_as P f at }, at, refl, refl)
 next_home P a p x Direction.IntoArea owner base own left h at = (record { slots = h.slots; owner = λ q e. let f : owner ≡ q = cc in pid_as P f at }, at, refl, refl)
 
 goes_on_home : (P : Pid → Place → Type 0) (a : Addresses) (p : Pid) (x : PlainProcess) (dir : Direction) (owner : Pid) (base own left piece : ℕ) → HomeProcess P a p x → P owner (a (Owner p)) → LandedHome P a p (pieces.move_goes_on p x dir owner base own left piece)
 goes_on_home P a p x dir owner base own left piece h at =
-    if_landed P a p (left - piece == 0) (pieces.done Reply.Done x) (pieces.next_request (pieces.requests p x dir owner (base + piece) (own + piece) (left - piece)))
+    by_test (LandedHome P a p) (left - piece == 0) (pieces.done Reply.Done x) (pieces.next_request (pieces.requests p x dir owner (base + piece) (own + piece) (left - piece)))
     (done_home P a p x Reply.Done h) (next_home P a p x dir owner (base + piece) (own + piece) (left - piece) h at)
 
 some_landed : (P : Pid → Place → Type 0) (a : Addresses) (p : Pid) (b : Bool) (c d : pieces.Landed) → LandedHome P a p c → (if b then Some c else None) ≡ Some d → LandedHome P a p d
@@ -355,12 +349,6 @@ asked_home P s t v a id is h =
 abbrev pub AnsweredAt : (Pid → Place → Type 0) → OneKernel → View → MsgId → Type 0
 AnsweredAt P s v id = (p : Pid) → s.noted id ≡ Some p → P p (acting_place v p)
 
-still_noted : (s : OneKernel) (p q : Pid) (id : MsgId) (n : MoveNote) → (without_note s p id).notes q ≡ Some n → s.notes q ≡ Some n
-still_noted s p q id n e = elim (cases_Bool (pid_eq p q)) [
-  | inl same ↦ absurd (let f : None ≡ Some n = sym (ap (λ (c : Bool). if c then None else s.notes q) same) ∙ e in cc)
-  | inr apart ↦ sym (ap (λ (c : Bool). if c then None else s.notes q) apart) ∙ e
-]
-
 pub answered_home : (P : Pid → Place → Type 0) (s t : OneKernel) (v : View) (a : Addresses) (id : MsgId) (o : Outcome) → kernel.step s (Label.Answered id o) ≡ Some t → AnsweredAt P s v id
     → AtHome P s a → AtHome P t (given a (gives s v a (Label.Answered id o)))
 answered_home P s t v a id o is at h =
@@ -374,7 +362,10 @@ answered_home P s t v a id o is at h =
       children = h.children;
       named = h.named;
       answers = h.answers;
-      askers = λ q k e. h.askers q k (still_noted s p q id k e);
+      askers = λ q k e. h.askers q k (elim (cases_Bool (pid_eq p q)) [
+        | inl same ↦ absurd (let f : None ≡ Some k = sym (ap (λ (c : Bool). if c then None else s.notes q) same) ∙ e in cc)
+        | inr apart ↦ sym (ap (λ (c : Bool). if c then None else s.notes q) apart) ∙ e
+      ]);
       rooted = h.rooted;
       pending = h.pending;
     } in

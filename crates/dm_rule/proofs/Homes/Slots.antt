@@ -18,10 +18,7 @@ set_link (x ∷ xs) (suc k) (suc j) y l e = elim (set_link xs k j y l e) [
 
 -- of slots some of which were emptied
 pub emptied_link : {L : Type 0} (slots : List (Option L)) (k j : ℕ) (l : L) → link_at (slice_set slots k None) j ≡ Some l → link_at slots j ≡ Some l
-emptied_link slots k j l e = elim (set_link slots k j None l e) [
-  | inl h ↦ let g : None ≡ Some l = h.1 in cc
-  | inr h ↦ h.1
-]
+emptied_link slots k j l e = elim (set_link slots k j None l e) [ inl h ↦ let g : None ≡ Some l = h.1 in cc | inr h ↦ h.1 ]
 
 emptied_if : {L : Type 0} (b : Bool) (slots : List (Option L)) (k j : ℕ) (l : L) → link_at (if b then slice_set slots k None else slots) j ≡ Some l → link_at slots j ≡ Some l
 emptied_if true slots k j l e = emptied_link slots k j l e

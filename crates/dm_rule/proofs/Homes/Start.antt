@@ -106,13 +106,10 @@ start_at_home b valid = record {
   pending = refl;
 }
 
-ring_home_if : (c : Bool) (p : Pid) (m : ℕ) (ps : List Pid) → (p.home == m) ≡ c → are_home m ps ≡ true → are_home m (if c then p ∷ ps else ps) ≡ true
-ring_home_if true p m ps is h = ap (λ (v : Bool). v && are_home m ps) is ∙ h
-ring_home_if false p m ps is h = h
-
 ring_home : (m : ℕ) (ps : List BootProcess) → are_home m (ring_at ps m) ≡ true
 ring_home m [] = refl
-ring_home m (p ∷ ps) = ring_home_if (p.pid.home == m) p.pid m (ring_at ps m) refl (ring_home m ps)
+ring_home m (p ∷ ps) = (elim (p.pid.home == m) as (λ c. (p.pid.home == m) ≡ c → are_home m (if c then p.pid ∷ (ring_at ps m) else (ring_at ps m)) ≡ true)
+    [ true ↦ λ is. ap (λ (v : Bool). v && are_home m (ring_at ps m)) is ∙ (ring_home m ps) | false ↦ λ is. (ring_home m ps) ]) refl
 
 pub Homes-start : (b : Boot) → IsValid b → Homes (first_point b)
 Homes-start b valid = record {

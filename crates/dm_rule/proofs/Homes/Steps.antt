@@ -6,8 +6,8 @@ use Rattle.dm_onekernel.specs.Kernel.{Ended}
 use Rattle.dm_onekernel.specs.Calls as calls
 use Rattle.dm_onekernel.specs.Step as kernel
 use Rattle.dm_rule.specs.Addresses as addresses
-use Rattle.dm_rule.proofs.Homes.{AtHome}
-use Rattle.dm_rule.proofs.Homes.Rows.{SameProcess, SameMessage, SameServers, running_home, at_home_process, at_home_sends, home_goes, at_home_goes, alive_on}
+use Rattle.dm_rule.proofs.Homes.{AtHome, place_as}
+use Rattle.dm_rule.proofs.Homes.Rows.{SameProcess, SameMessage, SameServers, running_home, at_home_process, home_goes, at_home_goes, alive_on, set_home, sent_home}
 use Rattle.dm_rule.proofs.Homes.Calls.{Nexts, next_home, gives_by}
 
 -- ran
@@ -105,7 +105,16 @@ send_row P s t v a p id (kernel.Calls number (calls.Sends m y)) nx w is h =
     let o = w.home in
     subst (λ (u : OneKernel). AtHome P u (given a (gives s v a (Label.Send p id)))) k.1
     (subst (λ (g : List Gets). AtHome P (with_sent (kernel.goes_on s p y) (Some m)) (given a g)) gs_is
-    (at_home_sends P s a (given a gs) p (Alive y) m h o.others (alive_on P (given a gs) p y o.process) o.messages o.message o.servers))
+    (record {
+      processes = set_home P s a (given a gs) p (Alive y) h o.others (alive_on P (given a gs) p y o.process);
+      messages = sent_home P s a (given a gs) m h.messages o.messages o.message;
+      children = λ n q e. place_as P (o.servers.child n) (h.children n q e);
+      named = λ n k e. place_as P (o.servers.name n) (h.named n k e);
+      answers = λ n r l e f. place_as P (o.servers.answer n) (h.answers n r l e f);
+      askers = λ q n e. place_as P (o.servers.asked q) (h.askers q n e);
+      rooted = h.rooted;
+      pending = h.pending;
+    }))
 send_row P s t v a p id _ nx w is h = cc
 
 pub send_home : (P : Pid → Place → Type 0) (s t : OneKernel) (v : View) (a : Addresses) (p : Pid) (id : MsgId) → kernel.step s (Label.Send p id) ≡ Some t → P p (acting_place v p) → AtHome P s a → AtHome P t (given a (gives s v a (Label.Send p id)))
@@ -116,8 +125,7 @@ send_home P s t v a p id is at h =
 -- a receive begins
 wait_row : (P : Pid → Place → Type 0) (s t : OneKernel) (v : View) (a : Addresses) (p : Pid) (next : kernel.Trap) → Nexts P v s a p next → kernel.waits s p next ≡ Some t → AtHome P s a → AtHome P t a
 wait_row P s t v a p (kernel.Calls number (calls.Waits y)) w is h =
-    let eq : kernel.goes_on s p y ≡ t = cc in
-    subst (λ (u : OneKernel). AtHome P u a) eq (home_goes P s a p y h w.home)
+    let eq : kernel.goes_on s p y ≡ t = cc in subst (λ (u : OneKernel). AtHome P u a) eq (home_goes P s a p y h w.home)
 wait_row P s t v a p _ w is h = cc
 
 pub wait_home : (P : Pid → Place → Type 0) (s t : OneKernel) (v : View) (a : Addresses) (p : Pid) → kernel.step s (Label.Wait p) ≡ Some t → P p (acting_place v p) → AtHome P s a → AtHome P t a
@@ -150,6 +158,4 @@ end_row P s t a p y (kernel.Faults fault) is h =
 end_row P s t a p y _ is h = cc
 
 pub end_home : (P : Pid → Place → Type 0) (s t : OneKernel) (a : Addresses) (p : Pid) (y : Why) → kernel.step s (Label.End p y) ≡ Some t → AtHome P s a → AtHome P t a
-end_home P s t a p y is h =
-    let (x, next, rest) = bind-is (kernel.next_trap s p) (kernel.ends s p y) t is in
-    end_row P s t a p y x rest h
+end_home P s t a p y is h = let (x, next, rest) = bind-is (kernel.next_trap s p) (kernel.ends s p y) t is in end_row P s t a p y x rest h

@@ -72,10 +72,6 @@ round_good b e pt m o at = some_good pt.kernel e m (rule.goes_round b pt m o) (�
 abbrev Front : OneKernel → (MsgId → ℕ) → ℕ → MsgId → Type 0
 Front s e m id = ReceivedAt s m id × (stands s e m id ≡ true)
 
-routes_good : (m : ℕ) (o : Option PlainMessage) → PartsAnywhere m (rule.routes o)
-routes_good m None = tt
-routes_good m (Some k) = (tt, tt)
-
 -- the message at the front is in the bag
 handles_good : (b : Boot) (e : MsgId → ℕ) (pt : Point) (m : ℕ) (id : MsgId) (o : Option PlainMessage) → RingsHome pt.view → (o ≡ None → ⊥) → Front pt.kernel e m id → GoodOf pt.kernel e m (rule.comes_to b pt m id o)
 handles_good b e pt m id None h there f = absurd (there refl)
@@ -85,7 +81,8 @@ handles_good b e pt m id (Some k) h there f =
     some_good s e m (rule.handles b pt m id k) (λ ps. by_handles (PartsGood s e m) b pt m id k ps (record {
       created = λ fixed. says_first s e m (Label.Created id (pid_of m (first_number + s.made m))) (Routes (pieces.answer_id id) ∷ []) (f.0, refl) (tt, tt);
       no_space = λ fixed slots blocks. says_first s e m (Label.NoSpace id slots blocks) (Routes (pieces.answer_id id) ∷ []) f.0 (tt, tt);
-      took = λ fixed sent. says_first s e m (Label.Took id) (rule.routes sent) f.0 (routes_good m sent);
+      took = λ fixed sent. says_first s e m (Label.Took id) (rule.routes sent) f.0 (elim sent as (λ o. PartsAnywhere m (rule.routes o))
+          [ None ↦ tt | Some k ↦ (tt, tt) ]);
       queued = λ to user. inl (inr (inr (id, refl, f.1)), tt);
       served = λ to mild. says_first s e m (Label.Served id) [] f.0 tt;
       answers = λ to mild i. says_first s e m (Label.Served id) (Routes i ∷ []) f.0 (tt, tt);
@@ -117,8 +114,7 @@ in_bag_at r e pt m i js front entered state h none =
     let least : 1 ≤ e i = grind (arith, nat_tests) in
     let (q, way) = inbox_way pt m i js state front in
     let mine : is_kernels i ≡ true = kernels_by state.own pt.kernel.bag i q (is_kernels i) refl none way in
-    let zero_ : e i ≡ 0 = kernels_fresh r e pt.kernel i h.sound mine in
-    absurd (omega (arith, least, zero_))
+    let zero_ : e i ≡ 0 = kernels_fresh r e pt.kernel i h.sound mine in absurd (omega (arith, least, zero_))
 
 pub turn_keeps : NoneReplaced → (b : Boot) (r e : MsgId → ℕ) (pt : Point) (m : ℕ) (w : Spelled) → group_of b pt (Step.Turn m) ≡ Some w → AskNone w.lines → State None pt → Home r e pt → Kept m w.point
 turn_keeps none b r e pt m w is ask state h =

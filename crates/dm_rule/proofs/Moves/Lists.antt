@@ -3,8 +3,8 @@ use Rattle.dm_rule.proofs.Names.{◌≡◌, ◌≢◌, ℕ, zero, suc, ◌+◌, 
 use Rattle.dm_rule.proofs.Names.{MsgId, id_eq, at_machine, at_record, View, handled, handled_first, without_first, receiver_of, held_for, released, Spot, Queue, Held, Inbox, times, ids_at, standing, StandsOnce, StandsNowhere, StandsAsBag}
 use Rattle.dm_rule.proofs.Names.{pid_eq-is, id_eq-is, id_eq-same, id_eq-swap}
 use Rattle.dm_rule.proofs.Standing.{times-append, spot_cases, StandsAsBag-same, StandsAsBag-one, StandsAsBag-elsewhere}
-use Rattle.dm_rule.proofs.Once.{Kept, one_of, once_moves}
-use Rattle.dm_rule.proofs.Lines.{Bag, Stands, Stands-stays, at_machine_at, at_machine_off, at_record_off, at_record_at, eq_is, not_true, inbox_apart, parts, front_goes, handled_off, handled_at, one_more}
+use Rattle.dm_rule.proofs.Once.{Kept, one_of, once_moves, one_of-off}
+use Rattle.dm_rule.proofs.Lines.{Bag, Stands, Stands-stays, at_machine_at, at_machine_off, at_record_off, at_record_at, eq_is, not_true, inbox_apart, parts, front_goes, handled_off, handled_at, one_more, queue_apart}
 
 abbrev is_held : Spot → Bool
 is_held (Held m p) = true
@@ -12,9 +12,6 @@ is_held _ = false
 
 pub inbox_held : (m n : ℕ) (p : Pid) → Inbox m ≢ Held n p
 inbox_held m n p e = false≢true (ap is_held e)
-
-pub queue_held : (m n : ℕ) (p q : Pid) → Queue m p ≢ Held n q
-queue_held m n p q e = false≢true (ap is_held e)
 
 held_apart : (m n : ℕ) (p q : Pid) → Held n q ≢ Held m p → ((m == n) && pid_eq p q) ≡ false
 held_apart m n p q apart = not_true ((m == n) && pid_eq p q) (λ e. let k = parts (m == n) (pid_eq p q) e in apart (ap (λ x. Held x q) (sym (eq_is m n k.0)) ∙ ap (Held m) (sym (pid_eq-is p q k.1))))
@@ -50,10 +47,7 @@ gathers f g x y apart gone all same (spot, one, others) = elim (spot_cases spot 
       let fy : f y ≡ 0 = others y (λ e. apart (sym at_x ∙ sym e)) in (
         y,
         omega (arith, all, fx, fy),
-        λ z off. elim (spot_cases z x) [
-          | inl is ↦ ap g is ∙ gone
-          | inr other ↦ same z other off ∙ others z (λ e. other (e ∙ at_x))
-        ],
+        λ z off. elim (spot_cases z x) [ inl is ↦ ap g is ∙ gone | inr other ↦ same z other off ∙ others z (λ e. other (e ∙ at_x)) ],
       )
   | inr off_x ↦
       let fx : f x ≡ 0 = others x (λ e. off_x (sym e)) in
@@ -62,10 +56,7 @@ gathers f g x y apart gone all same (spot, one, others) = elim (spot_cases spot 
             let fy : f y ≡ 1 = ap f (sym at_y) ∙ one in (
               y,
               omega (arith, all, fx, fy),
-              λ z off. elim (spot_cases z x) [
-                | inl is ↦ ap g is ∙ gone
-                | inr other ↦ same z other off ∙ others z (λ e. off (e ∙ at_y))
-              ],
+              λ z off. elim (spot_cases z x) [ inl is ↦ ap g is ∙ gone | inr other ↦ same z other off ∙ others z (λ e. off (e ∙ at_y)) ],
             )
         | inr off_y ↦
             let fy : f y ≡ 0 = others y (λ e. off_y (sym e)) in (
@@ -73,10 +64,7 @@ gathers f g x y apart gone all same (spot, one, others) = elim (spot_cases spot 
               same spot off_x off_y ∙ one,
               λ z off. elim (spot_cases z x) [
                 | inl is ↦ ap g is ∙ gone
-                | inr other ↦ elim (spot_cases z y) [
-                  | inl is ↦ ap g is ∙ (omega (arith, all, fx, fy))
-                  | inr else_ ↦ same z other else_ ∙ others z off
-                ]
+                | inr other ↦ elim (spot_cases z y) [ inl is ↦ ap g is ∙ (omega (arith, all, fx, fy)) | inr else_ ↦ same z other else_ ∙ others z off ]
               ],
             )
       ]
@@ -125,15 +113,12 @@ without_off (j ∷ js) bag i e =
     let rest : times i js ≡ 0 = omega (arith, e) in
     ap (λ (c : Bool). if c then None else without_all js bag i) (flip_zero i j first) ∙ without_off js bag i rest
 
-one_off : (i j : MsgId) → id_eq j i ≡ false → one_of i j ≡ 0
-one_off i j e = ap (λ (c : Bool). if c then 1 else 0) (id_eq-swap i j ∙ e)
-
 pub without_at : (js : List MsgId) (bag : Bag) (i : MsgId) → 1 ≤ times i js → without_all js bag i ≡ None
 without_at [] bag i least = absurd (omega arith)
 without_at (j ∷ js) bag i least = elim (cases_Bool (id_eq j i)) [
   | inl same ↦ ap (λ (c : Bool). if c then None else without_all js bag i) same
   | inr apart ↦
-      let zero_ : one_of i j ≡ 0 = one_off i j apart in
+      let zero_ : one_of i j ≡ 0 = one_of-off i j apart in
       let rest : 1 ≤ times i js = omega (arith, least, zero_) in
       ap (λ (c : Bool). if c then None else without_all js bag i) apart ∙ without_at js bag i rest
 ]
@@ -152,11 +137,8 @@ emptied v p = record v { queue = at_record v.queue v.acting p []; held = at_reco
 abbrev pub both_lists : View → Pid → List MsgId
 both_lists v p = v.queue v.acting p ++ v.held v.acting p
 
-queue_apart_ : (m n : ℕ) (p q : Pid) → Queue n q ≢ Queue m p → ((m == n) && pid_eq p q) ≡ false
-queue_apart_ m n p q apart = not_true ((m == n) && pid_eq p q) (λ e. let k = parts (m == n) (pid_eq p q) e in apart (ap (λ x. Queue x q) (sym (eq_is m n k.0)) ∙ ap (Queue m) (sym (pid_eq-is p q k.1))))
-
 emptied_off : (v : View) (p : Pid) (z : Spot) → z ≢ Queue v.acting p → z ≢ Held v.acting p → ids_at (emptied v p) z ≡ ids_at v z
-emptied_off v p (Queue m q) a b = at_record_off v.queue v.acting m p q [] (queue_apart_ v.acting m p q a)
+emptied_off v p (Queue m q) a b = at_record_off v.queue v.acting m p q [] (queue_apart v.acting m p q a)
 emptied_off v p (Held m q) a b = at_record_off v.held v.acting m p q [] (held_apart v.acting m p q b)
 emptied_off v p _ a b = refl
 
@@ -184,7 +166,7 @@ both_once bag v p i kept =
       ]
       | inr least ↦
           let one = StandsAsBag-one (bag i) (standing v i) (Queue v.acting p) least (kept i) in
-          let none = StandsAsBag-elsewhere (bag i) (standing v i) (Queue v.acting p) (Held v.acting p) least (λ e. queue_held v.acting v.acting p p (sym e)) (kept i) in
+          let none = StandsAsBag-elsewhere (bag i) (standing v i) (Queue v.acting p) (Held v.acting p) least (λ e. false≢true (ap is_held (sym e))) (kept i) in
           omega (arith, sum, one, none)
     ]
 
@@ -240,10 +222,6 @@ pub under_way : (m : Option Pid) (f : Spot → ℕ) (x : Spot) → 1 ≤ f x →
 under_way None f x least h = absurd (let k : f x ≡ 0 = h x in omega (arith, least, k))
 under_way (Some q) f x least h = (q, refl)
 
--- the front of the inbox goes, whatever it is
-first_is : (v : View) (i : MsgId) (is : List MsgId) → v.inbox v.acting ≡ i ∷ is → without_first (v.inbox v.acting) ≡ is
-first_is v i is e = ap without_first e
-
 pub first_off : (v : View) (i : MsgId) (is : List MsgId) → v.inbox v.acting ≡ i ∷ is → (z : Spot) → ids_at (handled_first v) z ≡ ids_at (handled v i) z
-first_off v i is e (Inbox m) = ap (λ x. at_machine v.inbox v.acting x m) (first_is v i is e ∙ sym (front_goes v i is e))
+first_off v i is e (Inbox m) = ap (λ x. at_machine v.inbox v.acting x m) (ap without_first e ∙ sym (front_goes v i is e))
 first_off v i is e _ = refl

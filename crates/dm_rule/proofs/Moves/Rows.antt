@@ -3,7 +3,7 @@ use Rattle.dm_rule.proofs.Names.{◌≡◌, ℕ, ◌==◌, Bool, true, false, Li
 use Rattle.dm_rule.proofs.Names.{PlainProcess, Line, View, Told, About, NothingElse, Of, Known, Unknown, Here, Frozen, Forward, Ended, view_after, handled, handled_first, receiver_of, is_kernels, target_of, with_ring, knowing, released}
 use Rattle.dm_rule.proofs.Names.{after_proto, follows_up, asks_on, held_for, Addresses, Sender, Child, is_told_back, Point, moved, seen, Part, Says, Again, Owns, Spelled, spelled, to_kernel, forwards_on, moves_to, accepts, takes_chunk}
 use Rattle.dm_rule.proofs.Names.{takes_block, gives_piece, sends_on, leaves, kernel_told, chunks_of, pieces_of, here_told, ended_told, process_told, server_told, migrates, fits, free_room, kernel_hears, hears, Spot, Queue, Held, Inbox}
-use Rattle.dm_rule.proofs.Names.{Untaken, ids_at, bind-is, label_of, Label, MoveNote, Outcome, Target, Routes, answer_id, answers_move, frozen_for, front_told, leaves_for, tells_asker}
+use Rattle.dm_rule.proofs.Names.{Untaken, ids_at, bind-is, label_of, Label, MoveNote, Outcome, Target, Routes, answer_id, answers_move, frozen_for, front_told, leaves_for, tells_asker, sets_off}
 use Rattle.dm_onekernel.specs.Step as kernel
 use Rattle.dm_rule.specs.View as view
 use Rattle.dm_rule.proofs.Lines.{hidden, Stands-stays}
@@ -16,7 +16,7 @@ use Rattle.dm_rule.proofs.Moves.Lists.{Stands-held, Stands-released, both_lists,
 use Rattle.dm_rule.proofs.Moves.States.{Between, by_own, front_way, front_kernels}
 use Rattle.dm_rule.proofs.Moves.Sent.{Way, Steady, steadied, line_next, line_ends, line_owns, owns_ends, again_next, all_again, forwarded_way, sent_way}
 use Rattle.dm_rule.proofs.Requests.{by_migrates}
-use Rattle.dm_rule.proofs.Seen.{about_off, frozen_is, frozen_asked}
+use Rattle.dm_rule.proofs.Seen.{about_off}
 use Rattle.dm_rule.proofs.Bags.{bag_answered}
 use Rattle.dm_rule.proofs.Turns.{quiet_label}
 
@@ -65,24 +65,20 @@ asks_off v (Of p) (Inbox m) = refl
 asks_off v (Of p) (Untaken c d) = refl
 asks_off v _ z = refl
 
-follows_off : (v : View) (a : About) (k : MessageKind) (z : Spot) → ids_at (follows_up v a k) z ≡ ids_at v z
-follows_off v a MessageKind.State z = asks_off v a z
-follows_off v a MessageKind.Memory z = asks_off v a z
-follows_off v a _ z = refl
-
 pub proto_off : (v : View) (o : Option Told) (z : Spot) → ids_at (after_proto v o) z ≡ ids_at v z
 proto_off v None z = about_off v NothingElse z
-proto_off v (Some t) z = about_off (follows_up v t.about t.kind) t.about z ∙ follows_off v t.about t.kind z
+proto_off v (Some t) z = about_off (follows_up v t.about t.kind) t.about z ∙ (elim t.kind as (λ k. ids_at (follows_up v t.about k) z ≡ ids_at v z)
+    [ MessageKind.State ↦ asks_off v t.about z | MessageKind.Memory ↦ asks_off v t.about z | _ ↦ refl ])
 
 for_off : (v : View) (p : Pid) (to : ℕ) (z : Spot) → ids_at (frozen_for v p to) z ≡ ids_at v z
 for_off v p to (Queue m q) = refl
 for_off v p to _ = refl
 
 pub frozen_off : (v : View) (p : Pid) → v.topic ≡ NothingElse → (z : Spot) → ids_at (view_after v (Line.Migration Stage.Frozen p)) z ≡ ids_at (handled_first v) z
-frozen_off v p quiet z = ap (λ (w : View). ids_at w z) (frozen_is v p quiet) ∙ for_off (handled_first v) p (target_of (front_told v (v.inbox v.acting))) z
+frozen_off v p quiet z = ap (λ (w : View). ids_at w z) (ap (sets_off v p) quiet) ∙ for_off (handled_first v) p (target_of (front_told v (v.inbox v.acting))) z
 
 pub asked_off : (v : View) (p : Pid) (to : ℕ) → v.topic ≡ Target to → (z : Spot) → ids_at (view_after v (Line.Migration Stage.Frozen p)) z ≡ ids_at v z
-asked_off v p to asked z = ap (λ (w : View). ids_at w z) (frozen_asked v p to asked) ∙ for_off v p to z
+asked_off v p to asked z = ap (λ (w : View). ids_at w z) (ap (sets_off v p) asked) ∙ for_off v p to z
 
 pub accepted_off : (v : View) (p : Pid) (z : Spot) → ids_at (view_after v (Line.Migration Stage.Accepted p)) z ≡ ids_at (handled_first v) z
 accepted_off v p (Queue m q) = refl
@@ -152,9 +148,6 @@ frozen_state pt p to h asked =
     let l = Line.Migration Stage.Frozen p in
     let told : (j : MsgId) → (view_after pt.view l).told j ≡ pt.view.told j = λ j. ap (λ (f : MsgId → Option Told). f j) (hushed pt.view l refl).told in
     by_line None pt l refl h (Stands-stays (letters h.own pt.kernel.bag) pt.view (view_after pt.view l) (λ z. asked_off pt.view p to asked z) told h.stands) told
-
-pub asked_row : (pt : Point) (p : Pid) (to : ℕ) (w : Spelled) → State None pt → PairsFit pt.view → pt.view.topic ≡ Target to → spelled pt (leaves_for p to) ≡ Some w → State None w.point
-asked_row pt p to w h fit asked e = goes_row pt p to w (frozen_state pt p to h asked) fit e
 
 -- a directive has it move
 moves_row : (pt : Point) (i : MsgId) (is : List MsgId) (p : Pid) (to : ℕ) (same : Bool) (w : Spelled) → State None pt → PairsFit pt.view → pt.view.topic ≡ NothingElse → pt.view.inbox pt.view.acting ≡ i ∷ is → is_kernels i ≡ true

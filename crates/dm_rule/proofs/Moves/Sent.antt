@@ -13,26 +13,20 @@ use Rattle.dm_rule.proofs.States.{State, PairsFit, says_next, said, State-at, by
 use Rattle.dm_rule.proofs.Said.{fits_as}
 use Rattle.dm_rule.proofs.Moves.Lists.{without_all, both_lists, both_once, both_times, emptied, Stands-emptied, under_way, first_off}
 use Rattle.dm_rule.proofs.Moves.States.{hidden_letters, front_way, Between, between_packet, arrived, again, by_own_put}
-
--- a put, and a packet, keep that no more was taken than was routed
-one_longer : (p : Pair) (i : MsgId) → length (p.ids ++ i ∷ []) ≡ length p.ids + 1
-one_longer p i = simp length-append refl
+use Rattle.dm_rule.proofs.Pairs.Moves.{one_more}
 
 put_within : (a b : ℕ) (p : Pair) (i : MsgId) (c : Bool) → (a == b) ≡ c → p.taken ≤ length p.ids → (routed_on a b p i).taken ≤ length (p.ids ++ i ∷ [])
 put_within a b p i true e le =
     let t : (routed_on a b p i).taken ≡ p.taken + 1 = ap (λ (c : Bool). if c then p.taken + 1 else p.taken) e in
-    let l = one_longer p i in
-    omega (arith, t, l, le)
+    let l = one_more p i in omega (arith, t, l, le)
 put_within a b p i false e le =
     let t : (routed_on a b p i).taken ≡ p.taken = ap (λ (c : Bool). if c then p.taken + 1 else p.taken) e in
-    let l = one_longer p i in
-    omega (arith, t, l, le)
+    let l = one_more p i in omega (arith, t, l, le)
 
 put_home : (a b : ℕ) (p : Pair) (i : MsgId) → (a == b) ≡ true → p.taken ≡ length p.ids → (routed_on a b p i).taken ≡ length (p.ids ++ i ∷ [])
 put_home a b p i e is =
     let t : (routed_on a b p i).taken ≡ p.taken + 1 = ap (λ (c : Bool). if c then p.taken + 1 else p.taken) e in
-    let l = one_longer p i in
-    omega (arith, t, l, is)
+    let l = one_more p i in omega (arith, t, l, is)
 
 same_two : (a b c : ℕ) → ((a == c) && (b == c)) ≡ true → (a ≡ b) × ((a == b) ≡ true)
 same_two a b c e = (grind (arith, nat_tests), grind (arith, nat_tests))
@@ -82,10 +76,6 @@ way_packet gone q a b k l h = record { between = between_packet gone q a b k l h
 steady_packet : (q : Point) (a b k : ℕ) (l : Load) → Steady q → Steady (moved q (Line.Packet a b k l) q.kernel)
 steady_packet q a b k l h = record { state = by_packet None q a b k l h.state; fits = fits_packet q.view a b k l h.fits }
 
-kernel_by : (s t : OneKernel) (o : Option Label) → o ≡ None → kernel_after s o ≡ Some t → s ≡ t
-kernel_by s t None none is = cc
-kernel_by s t (Some l) none is = cc
-
 -- a line that is no step
 pub record LineNext (pt : Point) (l : Line) (ps : List Part) (w : Spelled) : Type 0 where
   pub rest : Spelled
@@ -95,7 +85,8 @@ pub record LineNext (pt : Point) (l : Line) (ps : List Part) (w : Spelled) : Typ
 pub line_next : (pt : Point) (l : Line) (ps : List Part) (w : Spelled) → label_of l ≡ None → spelled pt (Says l ∷ ps) ≡ Some w → LineNext pt l ps w
 line_next pt l ps w none e =
     let k = says_next pt l ps w e in
-    let same : pt.kernel ≡ k.s = kernel_by pt.kernel k.s (label_of l) none k.is in
+    let same : pt.kernel ≡ k.s = (elim (label_of l) as (λ o. o ≡ None → kernel_after pt.kernel o ≡ Some k.s → pt.kernel ≡ k.s)
+        [ None ↦ λ none_ is_. cc | Some l_ ↦ λ none_ is_. cc ]) none k.is in
     record { rest = k.rest; more = ap (λ s. spelled (moved pt l s) ps) same ∙ k.more; point = k.point }
 
 pub line_ends : (pt : Point) (l : Line) (w : Spelled) → label_of l ≡ None → State None (moved pt l pt.kernel) → spelled pt (Says l ∷ []) ≡ Some w → State None w.point
@@ -109,13 +100,10 @@ owns_next pt k q b ps w h e =
     puts_next Steady steady_packet pt (Owns k q b) b (own_id pt.view) k q ps w refl
     (record { state = by_own_put pt b k q h.fits h.state; fits = fits_put pt.view pt.view.acting b (own_id pt.view) k q h.fits }) e
 
-pub steady_ends : (pt : Point) (w : Spelled) → Steady pt → spelled pt [] ≡ Some w → State None w.point
-steady_ends pt w h e = State-at None pt w.point (said pt w e) h.state
-
 pub owns_ends : (pt : Point) (k : MessageKind) (q : Pid) (b : ℕ) (w : Spelled) → Steady pt → spelled pt (Owns k q b ∷ []) ≡ Some w → State None w.point
 owns_ends pt k q b w h e =
     let n = owns_next pt k q b [] w h e in
-    State-at None n.rest.point w.point n.point (steady_ends n.next n.rest n.stands n.more)
+    State-at None n.rest.point w.point n.point (State-at None n.next n.rest.point (said n.next n.rest n.more) n.stands.state)
 
 -- and a line before it
 pub line_owns : (pt : Point) (l : Line) (k : MessageKind) (q : Pid) (b : ℕ) (w : Spelled) → label_of l ≡ None → touches l ≡ false → PairsFit pt.view → State None (moved pt l pt.kernel) → spelled pt (Says l ∷ Owns k q b ∷ []) ≡ Some w → State None w.point
@@ -148,16 +136,6 @@ forwarded_off v i None z = refl
 forwarded_off v i (Some p) (Queue m q) = refl
 forwarded_off v i (Some p) _ = refl
 
-one_is : (i j : MsgId) → 1 ≤ times j (i ∷ []) → j ≡ i
-one_is i j least = elim (cases_Bool (id_eq j i)) [
-  | inl same ↦ id_eq-is j i same
-  | inr apart ↦ absurd (let z : one_of j i ≡ 0 = ap (λ (c : Bool). if c then 1 else 0) apart in omega (arith, least, z))
-]
-
-one_most : (i j : MsgId) (c : Bool) → (if c then 1 else 0) + 0 ≤ 1
-one_most i j true = omega arith
-one_most i j false = omega arith
-
 pub forwarded_way : (pt : Point) (i : MsgId) (is : List MsgId) (to : ℕ) → State None pt → pt.view.inbox pt.view.acting ≡ i ∷ is → Between (i ∷ []) (moved pt (Line.Forwarded i to) pt.kernel)
 forwarded_way pt i is to h front =
     let v = pt.view in
@@ -174,10 +152,13 @@ forwarded_way pt i is to h front =
       untold = λ j zero_ other. told j ∙ h.untold j zero_ other;
       numbered = numbered_as v (view_after v l) hush.count hush.told h.numbered;
       way = λ j least.
-          let ji : i ≡ j = sym (one_is i j least) in
+          let ji : i ≡ j = sym (elim (cases_Bool (id_eq j i)) [
+            | inl same ↦ id_eq-is j i same
+            | inr apart ↦ absurd (let z : one_of j i ≡ 0 = ap (λ (c : Bool). if c then 1 else 0) apart in omega (arith, least, z))
+          ]) in
           let (q, way) = front_way pt i is h front in
           subst (λ (x : MsgId). (q : Pid) × (bag x ≡ Some q) × (receiver_of ((view_after v l).told x) ≡ Some q)) ji (q, way, ap receiver_of (told i) ∙ h.stands.told i q way);
-      once = λ j. one_most i j (id_eq j i);
+      once = λ j. elim (id_eq j i) as (λ c. (if c then 1 else 0) + 0 ≤ 1) [ true ↦ omega arith | false ↦ omega arith ];
     }
 
 -- a process has left: its lists are emptied

@@ -25,8 +25,7 @@ hidden_letters own bag i k j = elim (cases_Bool (id_eq i j)) [
 pub front_one : (v : View) (m : ℕ) (i : MsgId) (is : List MsgId) → v.inbox m ≡ i ∷ is → 1 ≤ standing v i (Inbox m)
 front_one v m i is front =
     let a : times i (v.inbox m) ≡ times i (i ∷ is) = ap (times i) front in
-    let b : one_of i i ≡ 1 = ap (λ (c : Bool). if c then 1 else 0) (id_eq-same i) in
-    omega (arith, a, b)
+    let b : one_of i i ≡ 1 = ap (λ (c : Bool). if c then 1 else 0) (id_eq-same i) in omega (arith, a, b)
 
 pub inbox_way : (pt : Point) (m : ℕ) (i : MsgId) (is : List MsgId) (h : State None pt) → pt.view.inbox m ≡ i ∷ is → (q : Pid) × (letters h.own pt.kernel.bag i ≡ Some q)
 inbox_way pt m i is h front = under_way (letters h.own pt.kernel.bag i) (standing pt.view i) (Inbox m) (front_one pt.view m i is front) (h.stands.kept i)
@@ -149,10 +148,6 @@ again pt b i is t fits told h =
 own_kernels : (v : View) → is_kernels (own_id v) ≡ true
 own_kernels v = refl
 
-receiver_none : (bag : Bag) (v : View) (i : MsgId) (o : Option Pid) → bag i ≡ o → Stands bag v → v.told i ≡ None → o ≡ None
-receiver_none bag v i None is h none = refl
-receiver_none bag v i (Some q) is h none = absurd (let f : None ≡ Some q = sym (ap receiver_of none) ∙ h.told i q is in cc)
-
 own_bag : (own : Bag) (bag : MsgId → Option PlainMessage) (i : MsgId) (q : Pid) → is_kernels i ≡ true → (j : MsgId) → letters (having i q own) bag j ≡ having i q (letters own bag) j
 own_bag own bag i q k j = elim (cases_Bool (id_eq i j)) [
   | inl same ↦
@@ -196,7 +191,8 @@ by_own_put pt b k q fits h =
     let l = Line.Put v.acting b i k q in
     let bag = letters h.own pt.kernel.bag in
     let untold : v.told i ≡ None = h.numbered v.acting (v.count v.acting) (omega arith) in
-    let none : bag i ≡ None = receiver_none bag v i (bag i) refl h.stands untold in
+    let none : bag i ≡ None = (elim (bag i) as (λ o. bag i ≡ o → o ≡ None)
+        [ None ↦ λ is. refl | Some q ↦ λ is. absurd (let f : None ≡ Some q = sym (ap receiver_of untold) ∙ h.stands.told i q is in cc) ]) refl in
     record {
       r = h.r;
       e = h.e;

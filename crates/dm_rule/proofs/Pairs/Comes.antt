@@ -28,25 +28,8 @@ record Mid (f : ℕ → ℕ → Pair) (a b : ℕ) (ks : List ℕ) : Type 0 where
   here : (k : ℕ) → has k (f a b).kept ≡ true → ((f a b).taken ≤ k) × (has k ks ≡ true)
   bound : (k : ℕ) → has k ks ≡ true → k < (f a b).gone
 
-mid_start : (f : ℕ → ℕ → Pair) (a b : ℕ) → Paired f → Mid f a b (f a b).kept
-mid_start f a b h = record {
-  stand = h.stand;
-  others = λ c d e. h.kept c d;
-  here = λ k e. let x = h.kept a b k e in (omega (arith, x.0), e);
-  bound = λ k e. (h.kept a b k e).1;
-}
-
 abbrev took : ℕ → Pair → Pair
 took n p = record p { taken = p.taken + 1; kept = off n p.kept }
-
-took_apart : (n : ℕ) (p back : Pair) → p.taken ≡ n → n < p.gone → Apart p back → Apart (took n p) back
-took_apart n p back is below h = record {
-  acked = let x = h.acked in omega arith;
-  taken = omega arith;
-  gone = h.gone;
-  full = h.full;
-  wire = h.wire;
-}
 
 took_here : (n : ℕ) (p : Pair) (ks : List ℕ) → p.taken ≡ n → ((k : ℕ) → has k p.kept ≡ true → (p.taken ≤ k) × (has k ks ≡ true)) → (k : ℕ) → has k (off n p.kept) ≡ true → (p.taken + 1 ≤ k) × (has k ks ≡ true)
 took_here n p ks is h k e = let x = off_has n k p.kept e in let y = h k x.0 in (omega (arith, x.1, y.0), y.1)
@@ -55,7 +38,13 @@ mid_take : (f : ℕ → ℕ → Pair) (a b n : ℕ) (ks : List ℕ) → (a == b)
 mid_take f a b n ks ab is below h =
     let same : took n (f a b) ≡ at_pair f a b (took n (f a b)) a b = sym (set_same f a b (took n (f a b))) in
     record {
-      stand = Stand-set f a b (took n (f a b)) ab (took_apart n (f a b) (f b a) is below (h.stand.apart a b ab)) (omega arith) h.stand;
+      stand = Stand-set f a b (took n (f a b)) ab (record {
+        acked = let x = (h.stand.apart a b ab).acked in omega arith;
+        taken = omega arith;
+        gone = (h.stand.apart a b ab).gone;
+        full = (h.stand.apart a b ab).full;
+        wire = (h.stand.apart a b ab).wire;
+      }) (omega arith) h.stand;
       others = λ c d e. subst KeptStands (sym (set_other f a b (took n (f a b)) c d e)) (h.others c d e);
       here = subst (λ (p : Pair). (k : ℕ) → has k p.kept ≡ true → (p.taken ≤ k) × (has k ks ≡ true)) same (took_here n (f a b) ks is h.here);
       bound = subst (λ (p : Pair). (k : ℕ) → has k ks ≡ true → k < p.gone) same h.bound;
@@ -81,9 +70,6 @@ record Took (a b end : ℕ) (tail : List Part) (w : Spelled) : Type 0 where
   rest : Spelled
   on : spelled at tail ≡ Some rest
   leads : rest.point ≡ w.point
-
-Took-to : (a b end end' : ℕ) (tail : List Part) (w w' : Spelled) → end ≡ end' → w.point ≡ w'.point → Took a b end tail w → Took a b end' tail w'
-Took-to a b end end' tail w w' e f t = record { at = t.at; paired = t.paired; taken = t.taken ∙ e; rest = t.rest; on = t.on; leads = t.leads ∙ f }
 
 took_pair : (pt : Point) (a b n : ℕ) (ps : List Part) (w : Spelled) (o : Onward pt (Says (Line.Taken a b n)) ps w) → o.next.view.pair ≡ at_pair pt.view.pair a b (took n (pt.view.pair a b))
 took_pair pt a b n ps w o =
@@ -117,7 +103,7 @@ takes_keep (suc fuel) m a b ks tail pt w ab is gone h e = elim (cases_Bool (has 
       let mid : Mid o.next.view.pair a b ks = subst (λ (g : ℕ → ℕ → Pair). Mid g a b ks) (sym pair) (mid_take pt.view.pair a b m ks ab is (h.bound m found) h) in
       let t = takes_keep fuel (m + 1) a b ks tail o.next o.rest ab (omega arith) (omega arith) mid o.on in
       let long : length (if has m ks then m ∷ others else []) ≡ length (m ∷ others) = ap (λ (c : Bool). length (if c then m ∷ others else [])) found in
-      Took-to a b (m + 1 + length others) (m + length (if has m ks then m ∷ others else [])) tail o.rest w (omega (arith, long)) o.end t
+      record { at = t.at; paired = t.paired; taken = t.taken ∙ (omega (arith, long)); rest = t.rest; on = t.on; leads = t.leads ∙ o.end }
   | inr lacks ↦
       let others = kept_from ks (m + 1) fuel in
       let e' : spelled pt tail ≡ Some w = subst (λ (c : Bool). spelled pt (taking_parts a b (if c then m ∷ others else []) ++ tail) ≡ Some w) lacks e in
@@ -145,7 +131,12 @@ in_order pt a b n ks w ab ba is below kept h e =
     let x = h.stand.apart a b ab in
     let full = x.full in
     let acked = x.acked in
-    let start : Mid pt.view.pair a b ks = subst (Mid pt.view.pair a b) kept (mid_start pt.view.pair a b h) in
+    let start : Mid pt.view.pair a b ks = subst (Mid pt.view.pair a b) kept (record {
+      stand = h.stand;
+      others = λ c d e. h.kept c d;
+      here = λ k e. let x = h.kept a b k e in (omega (arith, x.0), e);
+      bound = λ k e. (h.kept a b k e).1;
+    }) in
     let mid : Mid o.next.view.pair a b ks = subst (λ (g : ℕ → ℕ → Pair). Mid g a b ks) (sym pair) (mid_take pt.view.pair a b n ks ab is below start) in
     let t = takes_keep pair_window (n + 1) a b ks tail o.next o.rest ab (omega arith) (omega arith) mid o.on in
     subst (λ (q : Point). Paired q.view.pair) o.end (then_acked a b (n + 1 + length others) o.rest ba t)
@@ -168,8 +159,7 @@ data_by pt a b n p w false true f g ab ba is below kept h e =
     let k : Paired o.rest.point.view.pair = keeps tail o.next o.rest ((ba, omega (arith, later, is)), tt) goes.paired o.on in
     subst (λ (q : Point). Paired q.view.pair) o.end k
 data_by pt a b n p w false false f g ab ba is below kept h e =
-    let same : p.taken ≡ n = grind (arith, nat_tests) in
-    in_order pt a b n p.kept w ab ba (is ∙ same) below kept h e
+    let same : p.taken ≡ n = grind (arith, nat_tests) in in_order pt a b n p.kept w ab ba (is ∙ same) below kept h e
 
 -- what waited goes out
 go_keep : (k n a b : ℕ) (pt : Point) (w : Spelled) → (a == b) ≡ false → (pt.view.pair a b).gone ≡ n → n + k ≤ length (pt.view.pair a b).ids → n + k ≤ (pt.view.pair a b).acked + 8 → Paired pt.view.pair

@@ -5,8 +5,9 @@ use Rattle.dm_rule.proofs.Names.{follows_up, asks_on, About, NothingElse, Target
 use Rattle.dm_rule.proofs.Names.{lines_of, puts, packet_line, goes_out, IsUnasked}
 use Rattle.dm_rule.proofs.Seen.{seen_is}
 use Rattle.dm_rule.proofs.Pairs.Stand.{Later}
-use Rattle.dm_rule.proofs.Pairs.Moves.{Paired, Goes, Goes-same, again_goes, ack_goes, route_out, route_packed, route_home}
+use Rattle.dm_rule.proofs.Pairs.Moves.{Paired, Goes, again_goes, ack_goes, route_out, route_packed, route_home}
 pub use Rattle.dm_laws.proofs.Steps.{bind-is}
+use Rattle.dm_rule.proofs.Pairs.Stand.{Later-same}
 
 -- lines that say something of a pair
 abbrev pub touches : Line → Bool
@@ -26,10 +27,6 @@ pub held_pair : (v : View) (id : MsgId) (o : Option Pid) → (held_for v id o).p
 held_pair v id None = refl
 held_pair v id (Some p) = refl
 
-pub dropped_pair : (v : View) (id : MsgId) (o : Option Pid) → (dropped_for v id o).pair ≡ v.pair
-dropped_pair v id None = refl
-dropped_pair v id (Some p) = refl
-
 pub forwarded_pair : (v : View) (o : Option Pid) → (forwarded_for v o).pair ≡ v.pair
 forwarded_pair v None = refl
 forwarded_pair v (Some p) = refl
@@ -43,35 +40,25 @@ kills_pair MessageKind.Kill v None = refl
 kills_pair MessageKind.Kill v (Some p) = refl
 kills_pair k v o = refl
 
-served_pair : (v : View) (o : Option Told) → (served_told v o).pair ≡ v.pair
-served_pair v None = refl
-served_pair v (Some t) = kills_pair t.kind v (Some t.receiver)
-
 pub label_pair : (v : View) (l : Label) → (after_label v l).pair ≡ v.pair
-label_pair v (Label.Dropped id) = dropped_pair (handled v id) id (receiver_of (v.told id))
-label_pair v (Label.Served id) = served_pair (handled v id) (v.told id)
+label_pair v (Label.Dropped id) = elim (receiver_of (v.told id)) as (λ o. (dropped_for (handled v id) id o).pair ≡ (handled v id).pair)
+    [ None ↦ refl | Some p ↦ refl ]
+label_pair v (Label.Served id) = elim (v.told id) as (λ o. (served_told (handled v id) o).pair ≡ (handled v id).pair)
+    [ None ↦ refl | Some t ↦ kills_pair t.kind (handled v id) (Some t.receiver) ]
 label_pair v _ = refl
 
-sets_pair : (v : View) (p : Pid) (a : About) → (sets_off v p a).pair ≡ v.pair
-sets_pair v p (Target m) = refl
-sets_pair v p _ = refl
-
 pub stage_pair : (v : View) (p : Pid) (s : Stage) → (after_stage v p s).pair ≡ v.pair
-stage_pair v p Stage.Frozen = sets_pair v p v.topic
+stage_pair v p Stage.Frozen = elim v.topic as (λ a. (sets_off v p a).pair ≡ v.pair) [ Target m ↦ refl | _ ↦ refl ]
 stage_pair v p _ = refl
 
 pub asks_pair : (v : View) (a : About) → (asks_on v a).pair ≡ v.pair
 asks_pair v NothingElse = refl
 asks_pair v _ = refl
 
-pub follows_pair : (v : View) (a : About) (k : MessageKind) → (follows_up v a k).pair ≡ v.pair
-follows_pair v a MessageKind.State = asks_pair v a
-follows_pair v a MessageKind.Memory = asks_pair v a
-follows_pair v a _ = refl
-
 pub proto_pair : (v : View) (o : Option Told) → (after_proto v o).pair ≡ v.pair
 proto_pair v None = refl
-proto_pair v (Some t) = follows_pair v t.about t.kind
+proto_pair v (Some t) = elim t.kind as (λ k. (follows_up v t.about k).pair ≡ v.pair)
+    [ MessageKind.State ↦ asks_pair v t.about | MessageKind.Memory ↦ asks_pair v t.about | _ ↦ refl ]
 
 -- the other lines leave the pairs as they are
 pub pair_same : (v : View) (l : Line) → touches l ≡ false → (view_after v l).pair ≡ v.pair
@@ -93,14 +80,12 @@ pair_same v _ e = refl
 pub line_view : (pt next : Point) (l : Line) → after_line pt l ≡ Some next → next.view ≡ seen pt.kernel pt.view l
 line_view pt next l e =
     let (s, k, is) = bind-is (kernel_after pt.kernel (label_of l)) (λ s. Some (moved pt l s)) next e in
-    let f : moved pt l s ≡ next = cc in
-    sym (ap (λ (q : Point). q.view) f)
+    let f : moved pt l s ≡ next = cc in sym (ap (λ (q : Point). q.view) f)
 
 pub one_view : (pt next : Point) (l : Line) → after pt (l ∷ []) ≡ Some next → next.view ≡ seen pt.kernel pt.view l
 one_view pt next l e =
     let (mid, first, rest) = bind-is (after_line pt l) (λ q. after q []) next e in
-    let f : mid ≡ next = cc in
-    sym (ap (λ (q : Point). q.view) f) ∙ line_view pt mid l first
+    let f : mid ≡ next = cc in sym (ap (λ (q : Point). q.view) f) ∙ line_view pt mid l first
 
 pub two_views : (pt next : Point) (l k : Line) → IsUnasked (label_of l) → IsUnasked (label_of k) → after pt (l ∷ k ∷ []) ≡ Some next → next.view ≡ view_after (view_after pt.view l) k
 two_views pt next l k first_off next_off e =
@@ -126,9 +111,7 @@ onward pt p ps w e =
     record { lines = ls; lines_are = lines; next = next; leads = leads; rest = rest; on = on; end = ap (λ (x : Spelled). x.point) f }
 
 pub says_view : (pt : Point) (l : Line) (ps : List Part) (w : Spelled) (o : Onward pt (Says l) ps w) → o.next.view ≡ seen pt.kernel pt.view l
-says_view pt l ps w o =
-    let f : l ∷ [] ≡ o.lines = let g = o.lines_are in cc in
-    one_view pt o.next l (ap (after pt) f ∙ o.leads)
+says_view pt l ps w o = let f : l ∷ [] ≡ o.lines = let g = o.lines_are in cc in one_view pt o.next l (ap (after pt) f ∙ o.leads)
 
 pub transmits_view : (pt : Point) (a b : ℕ) (l : Load) (ps : List Part) (w : Spelled) (o : Onward pt (Transmits a b l) ps w) → o.next.view ≡ after_packet pt.view a b l
 transmits_view pt a b l ps w o =
@@ -151,17 +134,6 @@ puts_lead : (pt next : Point) (b : ℕ) (id : MsgId) (k : MessageKind) (q : Pid)
 puts_lead pt next b id k q ls is leads h =
     let f : puts pt.view b id k q ≡ ls = cc in
     puts_goes pt next b id k q (pt.view.acting == b) (goes_out (pt.view.pair pt.view.acting b)) refl refl (ap (after pt) f ∙ leads) h
-
-routes_goes : (pt : Point) (id : MsgId) (ps : List Part) (w : Spelled) (o : Onward pt (Routes id) ps w) → Paired pt.view.pair → Goes pt.view.pair o.next.view.pair
-routes_goes pt id ps w o h =
-    let at = (pt.addresses (Receiver id)).at in
-    let (m, there, is) = bind-is (pt.kernel.bag id) (λ m. Some (puts pt.view at id (plain_kind m.what) m.to)) o.lines o.lines_are in
-    puts_lead pt o.next at id (plain_kind m.what) m.to o.lines is o.leads h
-
-again_puts : (pt : Point) (id : MsgId) (at : ℕ) (ps : List Part) (w : Spelled) (o : Onward pt (Again id at) ps w) → Paired pt.view.pair → Goes pt.view.pair o.next.view.pair
-again_puts pt id at ps w o h =
-    let (t, there, is) = bind-is (pt.view.told id) (λ t. Some (puts pt.view at id t.kind t.receiver)) o.lines o.lines_are in
-    puts_lead pt o.next at id t.kind t.receiver o.lines is o.leads h
 
 -- parts that keep the pairs wherever they stand: a line that says nothing of pairs, a route, a packet that may go again, an
 -- acknowledgement of what was taken
@@ -191,9 +163,14 @@ AllFit-both f (p ∷ ps) qs h k = (h.0, AllFit-both f ps qs h.1 k)
 pub fitting_goes : (pt : Point) (p : Part) (ps : List Part) (w : Spelled) (o : Onward pt p ps w) → Fits pt.view.pair p → Paired pt.view.pair → Goes pt.view.pair o.next.view.pair
 fitting_goes pt (Says l) ps w o fits h =
     let is : o.next.view.pair ≡ pt.view.pair = ap (λ (v : View). v.pair) (says_view pt l ps w o) ∙ pair_same pt.view l fits in
-    subst (Goes pt.view.pair) (sym is) (Goes-same pt.view.pair h)
-fitting_goes pt (Routes id) ps w o fits h = routes_goes pt id ps w o h
-fitting_goes pt (Again id b) ps w o fits h = again_puts pt id b ps w o h
+    subst (Goes pt.view.pair) (sym is) (record { paired = h; later = Later-same pt.view.pair })
+fitting_goes pt (Routes id) ps w o fits h =
+    let at = (pt.addresses (Receiver id)).at in
+    let (m, there, is) = bind-is (pt.kernel.bag id) (λ m. Some (puts pt.view at id (plain_kind m.what) m.to)) o.lines o.lines_are in
+    puts_lead pt o.next at id (plain_kind m.what) m.to o.lines is o.leads h
+fitting_goes pt (Again id b) ps w o fits h =
+    let (t, there, is) = bind-is (pt.view.told id) (λ t. Some (puts pt.view b id t.kind t.receiver)) o.lines o.lines_are in
+    puts_lead pt o.next b id t.kind t.receiver o.lines is o.leads h
 fitting_goes pt (Owns k q b) ps w o fits h = puts_lead pt o.next b (own_id pt.view) k q o.lines o.lines_are o.leads h
 fitting_goes pt (Transmits a b (Load.Data n)) ps w o fits h =
     subst (λ (v : View). Goes pt.view.pair v.pair) (sym (transmits_view pt a b (Load.Data n) ps w o)) (again_goes pt.view.pair a b n fits.0 fits.1 h)
@@ -201,9 +178,7 @@ fitting_goes pt (Transmits a b (Load.Ack n)) ps w o fits h =
     subst (λ (v : View). Goes pt.view.pair v.pair) (sym (transmits_view pt a b (Load.Ack n) ps w o)) (ack_goes pt.view.pair a b n fits.0 fits.1 h)
 
 pub keeps : (ps : List Part) (pt : Point) (w : Spelled) → AllFit pt.view.pair ps → Paired pt.view.pair → spelled pt ps ≡ Some w → Paired w.point.view.pair
-keeps [] pt w fits h e =
-    let f : record { lines = []; point = pt } ≡ w = cc in
-    subst (λ (x : Spelled). Paired x.point.view.pair) f h
+keeps [] pt w fits h e = let f : record { lines = []; point = pt } ≡ w = cc in subst (λ (x : Spelled). Paired x.point.view.pair) f h
 keeps (p ∷ ps) pt w fits h e =
     let o = onward pt p ps w e in
     let g = fitting_goes pt p ps w o fits.0 h in

@@ -13,9 +13,6 @@ pub record Goes (f g : ℕ → ℕ → Pair) : Type 0 where
   pub paired : Paired g
   pub later : Later f g
 
-pub Goes-same : (f : ℕ → ℕ → Pair) → Paired f → Goes f f
-Goes-same f h = record { paired = h; later = Later-same f }
-
 pub Goes-on : (f g h : ℕ → ℕ → Pair) → Goes f g → Goes g h → Goes f h
 Goes-on f g h x y = record { paired = y.paired; later = Later-trans f g h x.later y.later }
 
@@ -62,8 +59,7 @@ next_goes f a b n ab is ids full h =
     packed_goes f a b (Load.Data n) ab (omega (arith, same)) (omega (arith, same, is)) (omega (arith, same, ids)) (omega (arith, same, full)) h
 
 pub ack_goes : (f : ℕ → ℕ → Pair) (a b n : ℕ) → (a == b) ≡ false → n ≤ (f b a).taken → Paired f → Goes f (at_pair f a b (packed (Load.Ack n) (f a b)))
-ack_goes f a b n ab le h =
-    let x = h.stand.apart a b ab in packed_goes f a b (Load.Ack n) ab le (omega arith) x.gone x.full h
+ack_goes f a b n ab le h = let x = h.stand.apart a b ab in packed_goes f a b (Load.Ack n) ab le (omega arith) x.gone x.full h
 
 -- a route
 abbrev pub routed_out : Pair → MsgId → Pair
@@ -78,7 +74,7 @@ routed_out-is a b p id e = ap (λ (c : Bool). record p { ids = p.ids ++ id ∷ [
 routed_home-is : (a b : ℕ) (p : Pair) (id : MsgId) → (a == b) ≡ true → routed_on a b p id ≡ routed_home p id
 routed_home-is a b p id e = ap (λ (c : Bool). record p { ids = p.ids ++ id ∷ []; taken = if c then p.taken + 1 else p.taken; gone = if c then p.gone + 1 else p.gone; acked = if c then p.acked + 1 else p.acked }) e
 
-one_more : (p : Pair) (id : MsgId) → length (p.ids ++ id ∷ []) ≡ length p.ids + 1
+pub one_more : (p : Pair) (id : MsgId) → length (p.ids ++ id ∷ []) ≡ length p.ids + 1
 one_more p id = simp length-append refl
 
 routed_apart : (p back : Pair) (id : MsgId) → Apart p back → Apart (routed_out p id) back
@@ -133,10 +129,6 @@ route_home f a b id e h =
     let is : a ≡ b = grind (arith, nat_tests) in
     subst (λ (n : ℕ). Goes f (at_pair f a n (routed_on a n (f a n) id))) is (route_same f a id h)
 
--- a count is acknowledged
-at_least-fits : (m n top : ℕ) → m ≤ top → n ≤ top → at_least m n ≤ top
-at_least-fits m n top x y = grind (arith, nat_tests)
-
 pub at_least-more : (m n : ℕ) → m ≤ at_least m n
 at_least-more m n = grind (arith, nat_tests)
 
@@ -145,7 +137,7 @@ acked_goes f a b n ab le h =
     let x = h.stand.apart a b ab in
     changed f a b (record (f a b) { acked = at_least (f a b).acked n }) ab
     (record {
-      acked = at_least-fits (f a b).acked n (f a b).taken x.acked le;
+      acked = grind (arith, nat_tests, x.acked);
       taken = x.taken;
       gone = x.gone;
       full = let y = x.full in let z = at_least-more (f a b).acked n in omega (arith, y, z);

@@ -44,13 +44,10 @@ Later-trans f g h k l = record {
   gone = λ a b. let x = k.gone a b in let y = l.gone a b in omega arith;
 }
 
-LoadStands-more : (g b g' b' : ℕ) (l : Load) → g ≤ g' → b ≤ b' → LoadStands g b l → LoadStands g' b' l
-LoadStands-more g b g' b' (Load.Data n) x y h = omega (arith, h)
-LoadStands-more g b g' b' (Load.Ack n) x y h = omega (arith, h)
-
 pub WireStands-more : (g b g' b' : ℕ) (ss : List SentLoad) → g ≤ g' → b ≤ b' → WireStands g b ss → WireStands g' b' ss
 WireStands-more g b g' b' [] x y h = h
-WireStands-more g b g' b' (s ∷ ss) x y h = (LoadStands-more g b g' b' s.load x y h.0, WireStands-more g b g' b' ss x y h.1)
+WireStands-more g b g' b' (s ∷ ss) x y h = ((elim s.load as (λ l. LoadStands g b l → LoadStands g' b' l)
+    [ Load.Data n ↦ λ h_. omega (arith, h_) | Load.Ack n ↦ λ h_. omega (arith, h_) ]) h.0, WireStands-more g b g' b' ss x y h.1)
 
 -- one more packet
 pub WireStands-put : (g b : ℕ) (ss : List SentLoad) (s : SentLoad) → WireStands g b ss → LoadStands g b s.load → WireStands g b (ss ++ s ∷ [])
@@ -109,21 +106,11 @@ set_apart f a b p c d ab cd new le h = elim (cases_Bool ((a == c) && (b == d))) 
   ]
 ]
 
-set_home_off : (f : ℕ → ℕ → Pair) (a b : ℕ) (p : Pair) (c : ℕ) → (a == b) ≡ false → HomeStands (f c c) → HomeStands (at_pair f a b p c c)
-set_home_off f a b p c ab h = let e : ((a == c) && (b == c)) ≡ false = grind (arith, nat_tests) in subst HomeStands (sym (set_other f a b p c c e)) h
-
 pub Stand-set : (f : ℕ → ℕ → Pair) (a b : ℕ) (p : Pair) → (a == b) ≡ false → Apart p (f b a) → (f a b).taken ≤ p.taken → Stand f → Stand (at_pair f a b p)
 Stand-set f a b p ab new le h = record {
   apart = λ c d cd. set_apart f a b p c d ab cd new le h;
-  home = λ c. set_home_off f a b p c ab (h.home c);
+  home = λ c. let e : ((a == c) && (b == c)) ≡ false = grind (arith, nat_tests) in subst HomeStands (sym (set_other f a b p c c e)) (h.home c);
 }
-
--- a machine's pair with itself changes
-set_home : (f : ℕ → ℕ → Pair) (a : ℕ) (p : Pair) (c : ℕ) → HomeStands p → Stand f → HomeStands (at_pair f a a p c c)
-set_home f a p c new h = elim (cases_Bool ((a == c) && (a == c))) [
-  | inl same ↦ subst HomeStands (sym (set_is f a a p c c same)) new
-  | inr off ↦ subst HomeStands (sym (set_other f a a p c c off)) (h.home c)
-]
 
 pub Stand-home : (f : ℕ → ℕ → Pair) (a : ℕ) (p : Pair) → HomeStands p → Stand f → Stand (at_pair f a a p)
 Stand-home f a p new h = record {
@@ -131,7 +118,10 @@ Stand-home f a p new h = record {
       let x : ((a == c) && (a == d)) ≡ false = grind (arith, nat_tests) in
       let y : ((a == d) && (a == c)) ≡ false = grind (arith, nat_tests) in
       Apart-at (f c d) (f d c) (at_pair f a a p c d) (at_pair f a a p d c) (set_other f a a p c d x) (set_other f a a p d c y) (h.apart c d cd);
-  home = λ c. set_home f a p c new h;
+  home = λ c. elim (cases_Bool ((a == c) && (a == c))) [
+    | inl same ↦ subst HomeStands (sym (set_is f a a p c c same)) new
+    | inr off ↦ subst HomeStands (sym (set_other f a a p c c off)) (h.home c)
+  ];
 }
 
 pub Kept-set : (f : ℕ → ℕ → Pair) (a b : ℕ) (p : Pair) → KeptStands p → Kept f → Kept (at_pair f a b p)

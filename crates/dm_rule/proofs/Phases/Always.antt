@@ -18,10 +18,6 @@ more_here : (f g : Pid → Known) (ps : List Pid) → ((q : Pid) → f q ≡ Her
 more_here f g [] more h = tt
 more_here f g (p ∷ ps) more h = (more p h.0, more_here f g ps more h.1)
 
-here_if : (c : Bool) (k : Known) → k ≡ Here → (if c then Here else k) ≡ Here
-here_if true k e = refl
-here_if false k e = e
-
 first_here : (p : Pid) (m : ℕ) (k : Known) → (p.home == m) ≡ true → (if pid_eq p p && (p.home == m) then Here else k) ≡ Here
 first_here p m k e = ap (λ (c : Bool). if c then Here else k) (let f : (pid_eq p p && (p.home == m)) ≡ true = grind (arith, nat_tests) in f)
 
@@ -33,7 +29,8 @@ rings_first : (ps : List BootProcess) (m : ℕ) → AllHere (known_at ps m) (rin
 rings_first [] m = tt
 rings_first (p ∷ ps) m =
     ring_row (known_at (p ∷ ps) m) p.pid (ring_at ps m) (p.pid.home == m) (first_here p.pid m (known_at ps m p.pid))
-    (more_here (known_at ps m) (known_at (p ∷ ps) m) (ring_at ps m) (λ q e. here_if (pid_eq p.pid q && (p.pid.home == m)) (known_at ps m q) e) (rings_first ps m))
+    (more_here (known_at ps m) (known_at (p ∷ ps) m) (ring_at ps m) (λ q e. elim (pid_eq p.pid q && (p.pid.home == m)) as (λ c. (if c then Here else (known_at ps m q)) ≡ Here)
+        [ true ↦ refl | false ↦ e ]) (rings_first ps m))
 
 -- each process of it is made
 image_there : (b : Boot) (p : BootProcess) → p.image < length b.images → first_life b p ≡ None → ⊥
@@ -58,12 +55,6 @@ known_first b earlier (p ∷ ps) m q valid none le = elim (cases_Bool (pid_eq p.
       ∙ known_first b (earlier ++ p ∷ []) ps m q rest (sym (ap (λ (c : Bool). if c then first_life b p else life_at b ps q) off) ∙ none) le
 ]
 
-ground_first : (b : Boot) → IsValid b → Grounded (first_point b)
-ground_first b valid = record {
-  rings = record { each = λ m. rings_first b.processes m };
-  lives = record { none = λ p is le n. known_first b [] b.processes n p valid.processes is le };
-}
-
 -- all that holds together
 pub record Phased (pt : Point) : Type 0 where
   pub pairs : Pairs pt.view
@@ -73,7 +64,10 @@ pub record Phased (pt : Point) : Type 0 where
   pub phases : InPhases pt.view
 
 pub phased_start : (b : Boot) → IsValid b → Phased (first_point b)
-phased_start b valid = record { pairs = Pairs-start b; state = State-start b valid; sane = sane_start b valid; ground = ground_first b valid; phases = phases_start b }
+phased_start b valid = record { pairs = Pairs-start b; state = State-start b valid; sane = sane_start b valid; ground = record {
+  rings = record { each = λ m. rings_first b.processes m };
+  lives = record { none = λ p is le n. known_first b [] b.processes n p valid.processes is le };
+}; phases = phases_start b }
 
 pub phased_group : (b : Boot) (pt : Point) (d : Step) (w : Spelled) → IsStep pt.kernel.machines d → group_of b pt d ≡ Some w → Phased pt → Phased w.point
 phased_group b pt d w fit is h =

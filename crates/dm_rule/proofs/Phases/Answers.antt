@@ -12,7 +12,7 @@ use Rattle.dm_rule.proofs.States.{State, PairsFit, by_packet, puts_next, said}
 use Rattle.dm_rule.proofs.Said.{fits_as}
 use Rattle.dm_rule.proofs.Seen.{seen_none}
 use Rattle.dm_rule.proofs.Moves.Lists.{first_off}
-use Rattle.dm_rule.proofs.Moves.States.{by_own_put}
+use Rattle.dm_rule.proofs.Moves.States.{by_own_put, front_one}
 use Rattle.dm_rule.proofs.Moves.Sent.{line_next, fits_put, fits_packet}
 use Rattle.dm_rule.proofs.Phases.Lines.{handled_spots, packet_calm}
 use Rattle.dm_rule.proofs.Phases.Stand.{PhasesBut, InPhases, none_only, calm_phases, token_is, token_at, Learns, learns_phases}
@@ -31,9 +31,6 @@ Whole pt = WholeBut None pt
 pub whole_packet : (q : Point) (a b k : ℕ) (l : Load) → Whole q → Whole (moved q (Line.Packet a b k l) q.kernel)
 whole_packet q a b k l h = record { state = by_packet None q a b k l h.state; fits = fits_packet q.view a b k l h.fits; phases = calm_phases q.view (view_after q.view (Line.Packet a b k l)) (packet_calm q.view a b k l) h.phases }
 
-pub whole_ends : (pt : Point) (w : Spelled) → Whole pt → spelled pt [] ≡ Some w → Whole w.point
-whole_ends pt w h e = subst Whole (said pt w e) h
-
 -- the next message is put at the group's end
 pub owns_whole : (pt : Point) (p : Pid) (k : MessageKind) (s d b : ℕ) (w : Spelled) (h : WholeBut (Some p) pt) → h.phases.of p ≡ Moves k s d None → pt.view.topic ≡ Of p → pt.view.acting ≡ sender_in k s d → b ≡ receiver_in k s d
     → spelled pt (Owns k (pid_of b 0) b ∷ []) ≡ Some w → Whole w.point
@@ -46,7 +43,7 @@ owns_whole pt p k s d b w h phase topic acting to e =
     let once = StandsAsBag-once (letters there.own next.kernel.bag (own_id v)) (standing next.view (own_id v)) (put_spot v.acting c) (put_there v v.acting c (own_id v) k (pid_of c 0) h.fits) (there.stands.kept (own_id v)) in
     let whole : Whole next = record { state = there; fits = fits_put v v.acting c (own_id v) k (pid_of c 0) h.fits; phases = own_put_phases v p k s d h.phases h.fits phase topic acting untold once } in
     let n = puts_next Whole whole_packet pt (Owns k (pid_of c 0) c) c (own_id v) k (pid_of c 0) [] w refl whole (ap (λ (m : ℕ). spelled pt (Owns k (pid_of m 0) m ∷ [])) (sym to) ∙ e) in
-    subst Whole n.point (whole_ends n.next n.rest n.stands n.more)
+    subst Whole n.point (subst Whole (said n.next n.rest n.more) n.stands)
 
 -- the message at the front of the inbox is the one about its process
 pub record Due (pt : Point) (i : MsgId) (t : Told) (h : InPhases pt.view) : Type 0 where
@@ -59,17 +56,8 @@ pub record Due (pt : Point) (i : MsgId) (t : Told) (h : InPhases pt.view) : Type
   pub acting : pt.view.acting ≡ receiver_in k s d
   pub from : i.from ≡ pid_of (sender_in k s d) 0
 
-front_one : (v : View) (m : ℕ) (i : MsgId) (is : List MsgId) → v.inbox m ≡ i ∷ is → 1 ≤ standing v i (Inbox m)
-front_one v m i is front =
-    let a : times i (v.inbox m) ≡ times i (i ∷ is) = ap (times i) front in
-    let b : one_of i i ≡ 1 = ap (λ (c : Bool). if c then 1 else 0) (id_eq-same i) in
-    omega (arith, a, b)
-
 pub inbox_is : (m from to : ℕ) → (Inbox m ≡ Inbox to) ⊎ (Inbox m ≡ Untaken from to) → m ≡ to
-inbox_is m from to e = elim e [
-  | inl x ↦ cc
-  | inr x ↦ cc
-]
+inbox_is m from to e = elim e [ inl x ↦ cc | inr x ↦ cc ]
 
 pub due : (pt : Point) (i : MsgId) (is : List MsgId) (t : Told) (h : InPhases pt.view) → pt.view.inbox pt.view.acting ≡ i ∷ is → pt.view.told i ≡ Some t → is_between t.kind ≡ true → Due pt i t h
 due pt i is t h front told b =
@@ -90,9 +78,6 @@ front_gone pt l i is h quiet front off =
     nowhere_of bag i (standing (view_after pt.view l) i)
     ((Stands-handled bag pt.view (view_after pt.view l) i is front (λ z. off z ∙ first_off pt.view i is front z) (λ j. ap (λ (f : MsgId → Option Told). f j) (hushed pt.view l quiet).told) h.stands).kept i)
 
-first_spots : (pt : Point) (l : Line) (i : MsgId) (is : List MsgId) → pt.view.inbox pt.view.acting ≡ i ∷ is → ((z : Spot) → ids_at (view_after pt.view l) z ≡ ids_at (handled_first pt.view) z) → (j : MsgId) → id_eq i j ≡ false → (z : Spot) → standing (view_after pt.view l) j z ≡ standing pt.view j z
-first_spots pt l i is front off j apart z = ap (times j) (off z ∙ first_off pt.view i is front z) ∙ handled_spots pt.view i j apart z
-
 pub about_same : (p q : Pid) → Of p ≡ Of q → p ≡ q
 about_same p q e = cc
 
@@ -107,7 +92,7 @@ first_learns pt l i is t p h quiet front told about off known =
       kept = λ j u e. same j ∙ e;
       back = λ j u e b z st. elim (cases_Bool (id_eq i j)) [
         | inl is_i ↦ absurd (let none : standing w j z ≡ 0 = subst (λ (x : MsgId). standing w x z ≡ 0) (id_eq-is i j is_i) (front_gone pt l i is h quiet front off z) in omega (arith, st, none))
-        | inr apart ↦ inl (subst (λ n. 1 ≤ n) (first_spots pt l i is front off j apart z) st)
+        | inr apart ↦ inl (subst (λ n. 1 ≤ n) (ap (times j) (off z ∙ first_off pt.view i is front z) ∙ handled_spots pt.view i j apart z) st)
       ];
       on = λ j u q apart e b ab z st. elim (cases_Bool (id_eq i j)) [
         | inl is_i ↦ absurd (
@@ -117,17 +102,12 @@ first_learns pt l i is t p h quiet front told about off known =
             let mine : t.about ≡ Of p = about (ap (λ (x : Told). is_between x.kind) g ∙ b) in
             let pq : p ≡ q = about_same p q (sym mine ∙ ap (λ (x : Told). x.about) g ∙ ab) in
             false≢true (sym apart ∙ ap (pid_eq p) (sym pq) ∙ pid_eq-same p))
-        | inr off_i ↦ (z, subst (λ n. 1 ≤ n) (sym (first_spots pt l i is front off j off_i z)) st)
+        | inr off_i ↦ (z, subst (λ n. 1 ≤ n) (sym (ap (times j) (off z ∙ first_off pt.view i is front z) ∙ handled_spots pt.view i j off_i z)) st)
       ];
     }
 
 pub token_one : (phase : Phase) (k : MessageKind) (s d : ℕ) (i j : MsgId) → phase ≡ Moves k s d (Some i) → token_in phase ≡ Some j → i ≡ j
 token_one phase k s d i j e f = let g : Some i ≡ Some j = sym (ap token_in e) ∙ f in cc
-
-pub still_apart : (v : View) (h : InPhases v) (p : Pid) (k j : MessageKind) (s d : ℕ) (i : MsgId) → h.of p ≡ Moves k s d (Some i) → is_between j ≡ true → (is_between j && not (s == d)) ≡ true
-still_apart v h p k j s d i e b =
-    let was : (is_between k && not (s == d)) ≡ true = sym (ap is_apart e) ∙ (h.each p).apart in
-    both_true (is_between j) (not (s == d)) b (second (is_between k) (not (s == d)) was)
 
 -- a line handles it, and the next message about the process is put
 pub answer_row : (pt : Point) (l : Line) (i : MsgId) (is : List MsgId) (t : Told) (k : MessageKind) (b : ℕ) (w : Spelled) (h : Whole pt) (u : Due pt i t h.phases) → label_of l ≡ None → is_put l ≡ false → touches l ≡ false
@@ -141,7 +121,8 @@ answer_row pt l i is t k b w h u none quiet calm front told there off others kno
     let next = moved pt l pt.kernel in
     let same : next.view ≡ view_after v l = seen_none pt.kernel v l none in
     let learns = subst (λ (x : View). Learns v x u.p) (sym same) (first_learns pt l i is t u.p h.state quiet front told (λ x. ap (λ (y : Told). y.about) u.told) off others) in
-    let apart : is_apart (Moves k u.s u.d None) ≡ true = still_apart v h.phases u.p u.k k u.s u.d i u.phase between in
+    let was : (is_between u.k && not (u.s == u.d)) ≡ true = sym (ap is_apart u.phase) ∙ (h.phases.each u.p).apart in
+    let apart : is_apart (Moves k u.s u.d None) ≡ true = both_true (is_between k) (not (u.s == u.d)) between (second (is_between u.k) (not (u.s == u.d)) was) in
     let turned = learns_phases v next.view u.p (Moves k u.s u.d None) h.phases (none_only u.p) learns refl apart known
     (λ j x z. ap (λ (y : View). standing y j z) same ∙ subst (λ (y : MsgId). standing (view_after v l) y z ≡ 0) (token_one (h.phases.of u.p) u.k u.s u.d i j u.phase x) (front_gone pt l i is h.state quiet front off z)) in
     let whole : WholeBut (Some u.p) next = record { state = there; fits = fits_as v next.view (pair_same v l calm) h.fits; phases = turned.phases } in

@@ -60,28 +60,22 @@ stands_where v i from to z h c = elim c [
 pub between_of : (k : MessageKind) (s d : ℕ) → (is_between k && not (s == d)) ≡ true → is_between k ≡ true
 between_of k s d e = left_true (is_between k) (not (s == d)) e
 
-calm_token : (v w : View) (p : Pid) (k : MessageKind) (s d : ℕ) (id : MsgId) → is_between k ≡ true → Calm v w → IsToken v p k s d id → IsToken w p k s d id
-calm_token v w p k s d id b c h =
-    let (y, x) = c.on id (told_between p k s d) h.told b h.spot h.stands in
+calm_has : (v w : View) (p : Pid) (phase : Phase) → is_apart phase ≡ true → Calm v w → HasToken v p phase → HasToken w p phase
+calm_has v w p (Moves k s d (Some id)) a c h =
+    let (y, x) = c.on id (told_between p k s d) h.told (between_of k s d a) h.spot h.stands in
     record {
       told = c.kept id (told_between p k s d) h.told;
       from = h.from;
       spot = y;
       stands = x;
-      ways = λ z st. stands_where v id (sender_in k s d) (receiver_in k s d) z h.ways (c.back id (told_between p k s d) h.told b z st);
+      ways = λ z st. stands_where v id (sender_in k s d) (receiver_in k s d) z h.ways (c.back id (told_between p k s d) h.told (between_of k s d a) z st);
     }
-
-calm_has : (v w : View) (p : Pid) (phase : Phase) → is_apart phase ≡ true → Calm v w → HasToken v p phase → HasToken w p phase
-calm_has v w p (Moves k s d (Some id)) a c h = calm_token v w p k s d id (between_of k s d a) c h
 calm_has v w p _ a c h = tt
 
 calm_alone : (v w : View) (p : Pid) (o : Option MsgId) → Calm v w → Alone v p o → Alone w p o
 calm_alone v w p o c h i t z told b about st =
     let was = c.fresh i t told b in
-    elim (c.back i t was b z st) [
-      | inl s ↦ h i t z was b about s
-      | inr x ↦ let (y, s, is) = x in h i t y was b about s
-    ]
+    elim (c.back i t was b z st) [ inl s ↦ h i t z was b about s | inr x ↦ let (y, s, is) = x in h i t y was b about s ]
 
 pub calm_in : (v w : View) (p : Pid) (phase : Phase) → Calm v w → IsIn v p phase → IsIn w p phase
 calm_in v w p phase c h = record {

@@ -30,19 +30,16 @@ turn_fit pt m h sane fits = record {
   fits = record { within = fits.within; home = fits.home };
 }
 
-turn_state : (pt : Point) (m : ℕ) → State None pt → State None (turned pt m)
-turn_state pt m h = begun pt (Step.Turn m) h (λ z. turn_off pt.view m z) (λ i. refl)
-
 comes_row : (b : Boot) (pt : Point) (m : ℕ) (i : MsgId) (is : List MsgId) (o : Option PlainMessage) (parts : List Part) (w : Spelled) → InPhases pt.view → State None pt → Sane pt → PairsFit pt.view → Rooted pt → pt.view.inbox m ≡ i ∷ is → pt.kernel.bag i ≡ o
     → rule.comes_to b pt m i o ≡ Some parts → spelled (turned pt m) parts ≡ Some w → InPhases w.point.view
 comes_row b pt m i is None parts w h state sane fits rooted front there e n =
     let f = turn_fit pt m h sane fits in
-    let whole : Whole (turned pt m) = record { state = turn_state pt m state; fits = f.fits; phases = f.phases } in
+    let whole : Whole (turned pt m) = record { state = begun pt (Step.Turn m) state (λ z. turn_off pt.view m z) (λ i. refl); fits = f.fits; phases = f.phases } in
     (phases_hears b pt (turned pt m) m i is (pt.view.told i) parts w whole f.sane front there refl
     (record { same = record { kernel = refl; queue = λ q. refl; held = λ q. refl }; acting = refl; known = λ q. refl; topic = refl }) e n).phases
 comes_row b pt m i is (Some msg) parts w h state sane fits rooted front there e n =
     let f = turn_fit pt m h sane fits in
-    let begun_ = turn_state pt m state in
+    let begun_ = begun pt (Step.Turn m) state (λ z. turn_off pt.view m z) (λ i. refl) in
     let (q, way) = front_way (turned pt m) i is begun_ front in
     let (t, told) = told_some (pt.view.told i) q (begun_.stands.told i q way) in
     phases_handles b pt (turned pt m) m i msg parts w f (record { there = there; told = t; is = told; state = begun_; others = is; front = front }) (λ k. rooted.unborn m k) refl refl e n

@@ -13,7 +13,7 @@ use Rattle.dm_rule.proofs.Telling.{Sane, sane_line}
 use Rattle.dm_rule.proofs.Phases.Calm.{calm_same}
 use Rattle.dm_rule.proofs.Phases.Quiet.{Tame, AllQuiet, parts_settle}
 use Rattle.dm_rule.proofs.Phases.Stand.{InPhases, calm_phases}
-use Rattle.dm_rule.proofs.Phases.Answers.{Whole, due}
+use Rattle.dm_rule.proofs.Phases.Answers.{Whole, due, about_same}
 use Rattle.dm_rule.proofs.Phases.Pieces.{ask_row, pull_state_row, pull_block_row, chunk_row, block_row}
 use Rattle.dm_rule.proofs.Phases.Rests.{stays_whole, restart_whole, frozen_row}
 use Rattle.dm_rule.proofs.Phases.Leaves.{leaves_row}
@@ -31,12 +31,9 @@ quiet_row parts pt w h sane state quiet e =
     let s = parts_settle parts pt.view pt w quiet (record { calm = calm_same pt.view; sane = sane; fits = h.fits }) e in
     record { state = state; fits = s.fits; phases = calm_phases pt.view w.point.view s.calm h.phases }
 
-told_quiet : (v : View) (c : Bool) (q : Pid) (to : ℕ) → AllQuiet v (if c then Owns MessageKind.Update q to ∷ [] else [])
-told_quiet v true q to = (refl, tt)
-told_quiet v false q to = tt
-
 pub forwards_quiet : (v : View) (a : Addresses) (i : MsgId) (k : MessageKind) (sender : Pid) (to : ℕ) → Tame v i → AllQuiet v (forwards_on a i k sender to)
-forwards_quiet v a i k sender to tame = (tame, (tame, told_quiet v (is_told_back k) sender (a (Sender i)).at))
+forwards_quiet v a i k sender to tame = (tame, (tame, elim (is_told_back k) as (λ c. AllQuiet v (if c then Owns MessageKind.Update sender (a (Sender i)).at ∷ [] else []))
+    [ true ↦ (refl, tt) | false ↦ tt ]))
 
 -- a line that ends a move is followed by the answer, if somebody asked for it
 asker_quiet : (v : View) (q : Option MoveNote) (r : Outcome) → AllQuiet v (tells_asker q r)
@@ -49,9 +46,6 @@ ends_row pt l q r w none quiet h sane state e =
     let n = line_next pt l (tells_asker q r) w none e in
     let sane_ : Sane next = sane_line pt next l quiet (ap (λ (o : Option Label). bind (kernel_after pt.kernel o) (λ s. Some (moved pt l s))) none) sane in
     subst Whole n.point (quiet_row (tells_asker q r) next n.rest h sane_ (State-at None w.point n.rest.point (sym n.point) state) (asker_quiet next.view q r) n.more)
-
-about_same : (p q : Pid) → Of p ≡ Of q → p ≡ q
-about_same p q e = cc
 
 -- a message of the protocol, by its kind
 told_row : (o pt : Point) (m : ℕ) (i : MsgId) (is : List MsgId) (t : Told) (p : Pid) (room : Bool × ℕ × ℕ) (x : PlainProcess) (k : MessageKind) (parts : List Part) (w : Spelled) (h : Whole pt) → Sane pt → State None w.point

@@ -14,14 +14,15 @@ use Rattle.dm_rule.proofs.Lines.{Stands-stays}
 use Rattle.dm_rule.proofs.Said.{fits_as}
 use Rattle.dm_rule.proofs.Moves.Lists.{both_lists, both_times, emptied, first_off}
 use Rattle.dm_rule.proofs.Moves.States.{Between, again}
-use Rattle.dm_rule.proofs.Moves.Sent.{Way, steadied, way_packet, sent_way, sent_off, line_next, fits_put}
+use Rattle.dm_rule.proofs.Moves.Sent.{Way, steadied, way_packet, sent_way, sent_off, line_next, fits_put, least_of}
 use Rattle.dm_rule.proofs.Moves.Rows.{left_off}
 use Rattle.dm_rule.proofs.Phases.Calm.{Calm}
 use Rattle.dm_rule.proofs.Phases.Lines.{handled_spots, put_calm, packet_calm}
-use Rattle.dm_rule.proofs.Phases.Quiet.{Tame}
+use Rattle.dm_rule.proofs.Phases.Quiet.{Tame, tame_on, tame_kind}
 use Rattle.dm_rule.proofs.Phases.Stand.{PhasesBut, none_only, some_only, InPhases, calm_phases, queued_plain, held_plain, Learns, learns_phases}
-use Rattle.dm_rule.proofs.Phases.Answers.{WholeBut, Whole, Due, owns_whole, nowhere_of, token_one}
+use Rattle.dm_rule.proofs.Phases.Answers.{WholeBut, Whole, Due, owns_whole, nowhere_of, token_one, about_same}
 use Rattle.dm_rule.proofs.Phases.Pieces.{record_off, same_row, due_apart, to_sender}
+use Rattle.dm_rule.proofs.Bags.{zero_if}
 
 -- where messages are on the way, in the phase of a process
 pub record WayIn (p : Pid) (ph : Phase) (a : ℕ) (gone : List MsgId) (pt : Point) : Type 0 where
@@ -30,9 +31,6 @@ pub record WayIn (p : Pid) (ph : Phase) (a : ℕ) (gone : List MsgId) (pt : Poin
   pub now : phases.of p ≡ ph
   pub acting : pt.view.acting ≡ a
   pub tame : (i : MsgId) → 1 ≤ times i gone → Tame pt.view i
-
-tame_on : (v w : View) (i : MsgId) → Calm v w → Tame v i → Tame w i
-tame_on v w i c h = record { what = h.what; told = c.kept i h.what h.told; plain = h.plain }
 
 in_packet : (p : Pid) (ph : Phase) (a : ℕ) (gone : List MsgId) (q : Point) (x y k : ℕ) (l : Load) → WayIn p ph a gone q → WayIn p ph a gone (moved q (Line.Packet x y k l) q.kernel)
 in_packet p ph a gone q x y k l h =
@@ -48,16 +46,13 @@ in_packet p ph a gone q x y k l h =
 pub first_of : (i : MsgId) (is : List MsgId) → 1 ≤ times i (i ∷ is)
 first_of i is = let one : one_of i i ≡ 1 = ap (λ (c : Bool). if c then 1 else 0) (id_eq-same i) in omega (arith, one)
 
-tame_is : (v : View) (i : MsgId) (t : Told) → Tame v i → v.told i ≡ Some t → is_between t.kind ≡ false
-tame_is v i t h told = (let f : Some h.what ≡ Some t = sym h.told ∙ told in let g : h.what ≡ t = cc in subst (λ (s : Told). is_between s.kind ≡ false) g h.plain)
-
 one_again : (p : Pid) (ph : Phase) (a : ℕ) (pt : Point) (b : ℕ) (i : MsgId) (is : List MsgId) (ps : List Part) (w : Spelled) → WayIn p ph a (i ∷ is) pt → spelled pt (Again i b ∷ ps) ≡ Some w → PutNext (WayIn p ph a is) ps w
 one_again p ph a pt b i is ps w h e =
     let (ls, lines, rest) = bind-is (lines_of pt (Again i b)) (λ ls. bind (after pt ls) (λ n. bind (spelled n ps) (λ v. Some (behind ls v)))) w e in
     let (t, there, last) = bind-is (pt.view.told i) (λ t. Some (puts pt.view b i t.kind t.receiver)) ls lines in
     let v = pt.view in
     let plain = h.tame i (first_of i is) in
-    let c : Calm v (view.after_put v v.acting b i t.kind t.receiver) = put_calm v v.acting b i t.kind t.receiver h.way.fits (tame_is v i t plain there) (λ u told. tame_is v i u plain told) in
+    let c : Calm v (view.after_put v v.acting b i t.kind t.receiver) = put_calm v v.acting b i t.kind t.receiver h.way.fits (tame_kind v i t plain there) (λ u told. tame_kind v i u plain told) in
     puts_next (WayIn p ph a is) (in_packet p ph a is) pt (Again i b) b i t.kind t.receiver ps w (lines ∙ sym last)
     (record {
       way = record { between = again pt b i is t h.way.fits there h.way.between; fits = fits_put v v.acting b i t.kind t.receiver h.way.fits };
@@ -86,10 +81,6 @@ emptied_back v p j (Queue m q) st = fewer_record v.queue v.acting p j m q st
 emptied_back v p j (Held m q) st = fewer_record v.held v.acting p j m q st
 emptied_back v p j _ st = st
 
-zero_or : (n : ℕ) → (1 ≤ n → ⊥) → n ≡ 0
-zero_or zero h = refl
-zero_or (suc n) h = absurd (h (omega arith))
-
 sent_spot : (pt : Point) (p : Pid) (n : ℕ) (j : MsgId) (z : Spot) → 1 ≤ standing (view_after pt.view (Line.SentOn p n)) j z → 1 ≤ standing (handled_first pt.view) j z
 sent_spot pt p n j z st = emptied_back (handled_first pt.view) p j z (subst (λ x. 1 ≤ x) (ap (times j) (sent_off pt.view p n z)) st)
 
@@ -102,7 +93,7 @@ first_same : (v : View) (i : MsgId) (is : List MsgId) (j : MsgId) → v.inbox v.
 first_same v i is j front apart z = ap (times j) (first_off v i is front z) ∙ handled_spots v i j apart z
 
 sent_gone : (pt : Point) (p : Pid) (n : ℕ) (i : MsgId) (is : List MsgId) (h : State None pt) → pt.view.inbox pt.view.acting ≡ i ∷ is → (z : Spot) → standing (view_after pt.view (Line.SentOn p n)) i z ≡ 0
-sent_gone pt p n i is h front z = zero_or (standing (view_after pt.view (Line.SentOn p n)) i z) (λ st. let none = first_gone pt i is h front z in let some = sent_spot pt p n i z st in absurd (omega (arith, none, some)))
+sent_gone pt p n i is h front z = zero_if (standing (view_after pt.view (Line.SentOn p n)) i z) (λ st. let none = first_gone pt i is h front z in let some = sent_spot pt p n i z st in absurd (omega (arith, none, some)))
 
 -- what is of the protocol stands in no list, and stays where it is
 sent_on : (pt : Point) (p : Pid) (n : ℕ) (i : MsgId) (is : List MsgId) (h : InPhases pt.view) (j : MsgId) (t : Told) (z : Spot) → pt.view.inbox pt.view.acting ≡ i ∷ is → id_eq i j ≡ false → pt.view.told j ≡ Some t → is_between t.kind ≡ true → 1 ≤ standing pt.view j z → 1 ≤ standing (view_after pt.view (Line.SentOn p n)) j z
@@ -110,9 +101,6 @@ sent_on pt p n i is h j t (Queue m q) front apart told b st = absurd (false≢tr
 sent_on pt p n i is h j t (Held m q) front apart told b st = absurd (false≢true (sym (held_plain pt.view m q j t h told st) ∙ b))
 sent_on pt p n i is h j t (Inbox m) front apart told b st = subst (λ x. 1 ≤ x) (sym (first_same pt.view i is j front apart (Inbox m))) st
 sent_on pt p n i is h j t (Untaken c d) front apart told b st = st
-
-about_same : (p q : Pid) → Of p ≡ Of q → p ≡ q
-about_same p q e = cc
 
 sent_learns : (pt : Point) (n : ℕ) (i : MsgId) (is : List MsgId) (t : Told) (h : Whole pt) (u : Due pt i t h.phases) → pt.view.inbox pt.view.acting ≡ i ∷ is → pt.view.told i ≡ Some t → Learns pt.view (view_after pt.view (Line.SentOn u.p n)) u.p
 sent_learns pt n i is t h u front told =
@@ -142,10 +130,6 @@ pub told_some : (o : Option Told) (q : Pid) → receiver_of o ≡ Some q → (t 
 told_some None q e = cc
 told_some (Some t) q e = (t, refl)
 
-one_least : (m n : ℕ) → 1 ≤ m + n → (1 ≤ m) ⊎ (1 ≤ n)
-one_least zero n le = inr (omega (arith, le))
-one_least (suc m) n le = inl (omega arith)
-
 lists_tame : (v : View) (p : Pid) (j : MsgId) (q : Pid) → InPhases v → 1 ≤ times j (both_lists v p) → receiver_of (v.told j) ≡ Some q → Tame v j
 lists_tame v p j q h least told =
     let (t, is) = told_some (v.told j) q told in
@@ -153,7 +137,7 @@ lists_tame v p j q h least told =
     record {
       what = t;
       told = is;
-      plain = elim (one_least (standing v j (Queue v.acting p)) (standing v j (Held v.acting p)) (subst (λ n. 1 ≤ n) sum least)) [
+      plain = elim (least_of (standing v j (Queue v.acting p)) (standing v j (Held v.acting p)) (subst (λ n. 1 ≤ n) sum least)) [
         | inl x ↦ queued_plain v v.acting p j t h is x
         | inr y ↦ held_plain v v.acting p j t h is y
       ];
@@ -164,17 +148,14 @@ left_if : (d : ℕ) (y : Known) (n : ℕ) → phase.kind_leaves MessageKind.AllT
 left_if d (Frozen to) n e = e
 left_if d _ n e = absurd (false≢true e)
 
-comes_same : (s : ℕ) (y : Known) → kind_comes MessageKind.Restart s y ≡ kind_comes MessageKind.AllTaken s y
-comes_same s Unknown = refl
-comes_same s _ = refl
-
 left_known : (s d m n : ℕ) (b : Bool) (y : Known) → (s == m) ≡ b → knows (Moves MessageKind.AllTaken s d None) m y ≡ true → knows (Moves MessageKind.Restart s d None) m (if b then gone_to y n else y) ≡ true
 left_known s d m n true y e h =
     ap (λ (c : Bool). if c then phase.kind_leaves MessageKind.Restart d (gone_to y n) else if d == m then kind_comes MessageKind.Restart s (gone_to y n) else is_away (gone_to y n)) e
     ∙ left_if d y n (sym (ap (λ (c : Bool). if c then phase.kind_leaves MessageKind.AllTaken d y else if d == m then kind_comes MessageKind.AllTaken s y else is_away y) e) ∙ h)
 left_known s d m n false y e h =
     ap (λ (c : Bool). if c then phase.kind_leaves MessageKind.Restart d y else if d == m then kind_comes MessageKind.Restart s y else is_away y) e
-    ∙ ap (λ (c : Bool). if d == m then c else is_away y) (comes_same s y)
+    ∙ ap (λ (c : Bool). if d == m then c else is_away y) (elim y as (λ y_. kind_comes MessageKind.Restart s y_ ≡ kind_comes MessageKind.AllTaken s y_)
+        [ Unknown ↦ refl | _ ↦ refl ])
     ∙ sym (ap (λ (c : Bool). if c then phase.kind_leaves MessageKind.AllTaken d y else if d == m then kind_comes MessageKind.AllTaken s y else is_away y) e) ∙ h
 
 left_by : (v : View) (a m : ℕ) (p : Pid) (n : ℕ) (b : Bool) → (a == m) ≡ b → (if b && true then gone_to (v.known a p) n else v.known m p) ≡ (if b then gone_to (v.known m p) n else v.known m p)
@@ -186,15 +167,6 @@ left_at v s m p n e =
     ap (λ (c : Bool). if (v.acting == m) && c then gone_to (v.known v.acting p) n else v.known m p) (pid_eq-same p)
     ∙ left_by v v.acting m p n (v.acting == m) refl ∙ ap (λ (x : ℕ). if x == m then gone_to (v.known m p) n else v.known m p) e
 
-left_calm : (v : View) (p : Pid) → Learns v (view_after v (Line.Migration Stage.Left p)) p
-left_calm v p = record {
-  calm = λ m q off. record_off v.known v.acting p (gone_to (v.known v.acting p) (v.moves p + 1)) m q off;
-  fresh = λ j x e b. e;
-  kept = λ j x e. e;
-  back = λ j x e b z st. inl (subst (λ n. 1 ≤ n) (ap (times j) (left_off v p z)) st);
-  on = λ j x q apart e b ab z st. (z, subst (λ n. 1 ≤ n) (sym (ap (times j) (left_off v p z))) st);
-}
-
 left_row : (pt : Point) (p : Pid) (s d b : ℕ) (w : Spelled) (h : WayIn p (Moves MessageKind.AllTaken s d None) s [] pt) → (is_between MessageKind.AllTaken && not (s == d)) ≡ true → b ≡ d → spelled pt (Says (Line.Migration Stage.Left p) ∷ to_kernel MessageKind.Restart b ∷ []) ≡ Some w → Whole w.point
 left_row pt p s d b w h apart to e =
     let v = pt.view in
@@ -203,7 +175,13 @@ left_row pt p s d b w h apart to e =
     let n = line_next pt l (to_kernel MessageKind.Restart b ∷ []) w refl e in
     let steady = steadied pt h.way in
     let was : (m : ℕ) → knows (Moves MessageKind.AllTaken s d None) m (v.known m p) ≡ true = λ m. subst (λ (x : Phase). knows x m (v.known m p) ≡ true) h.now ((h.phases.each p).known m) in
-    let turned = learns_phases v next.view p (Moves MessageKind.Restart s d None) h.phases (some_only p) (left_calm v p) refl apart
+    let turned = learns_phases v next.view p (Moves MessageKind.Restart s d None) h.phases (some_only p) (record {
+      calm = λ m q off. record_off v.known v.acting p (gone_to (v.known v.acting p) (v.moves p + 1)) m q off;
+      fresh = λ j x e b. e;
+      kept = λ j x e. e;
+      back = λ j x e b z st. inl (subst (λ n. 1 ≤ n) (ap (times j) (left_off v p z)) st);
+      on = λ j x q apart e b ab z st. (z, subst (λ n. 1 ≤ n) (sym (ap (times j) (left_off v p z))) st);
+    }) refl apart
     (λ m. ap (knows (Moves MessageKind.Restart s d None) m) (left_at v s m p (v.moves p + 1) h.acting) ∙ left_known s d m (v.moves p + 1) (s == m) (v.known m p) refl (was m))
     (λ j x z. absurd (let f : None ≡ Some j = sym (ap token_in h.now) ∙ x in cc)) in
     let whole : WholeBut (Some p) next = record {

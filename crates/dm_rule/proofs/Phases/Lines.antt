@@ -17,10 +17,7 @@ pub last_times : (i j : MsgId) (xs : List MsgId) → id_eq i j ≡ false → tim
 last_times i j xs e = let a = times-append j xs (i ∷ []) in let z = off_zero i j e in omega (arith, a, z)
 
 one_less : (i j x : MsgId) (xs ys : List MsgId) (b : Bool) → id_eq i x ≡ b → id_eq i j ≡ false → times j ys ≡ times j xs → times j (if b then xs else x ∷ ys) ≡ times j (x ∷ xs)
-one_less i j x xs ys true is e same =
-    let ix : i ≡ x = id_eq-is i x is in
-    let z : one_of j x ≡ 0 = ap (one_of j) (sym ix) ∙ off_zero i j e in
-    omega (arith, z)
+one_less i j x xs ys true is e same = let ix : i ≡ x = id_eq-is i x is in let z : one_of j x ≡ 0 = ap (one_of j) (sym ix) ∙ off_zero i j e in omega (arith, z)
 one_less i j x xs ys false is e same = omega (arith, same)
 
 pub front_times : (i j : MsgId) (xs : List MsgId) → id_eq i j ≡ false → times j (without_front i xs) ≡ times j xs
@@ -31,13 +28,9 @@ pub without_times : (i j : MsgId) (xs : List MsgId) → id_eq i j ≡ false → 
 without_times i j [] e = refl
 without_times i j (x ∷ xs) e = one_less i j x xs (without_id i xs) (id_eq i x) refl e (without_times i j xs e)
 
-drop_none : (i j : MsgId) (n : ℕ) → times j (drop n []) ≡ 0
-drop_none i j zero = refl
-drop_none i j (suc n) = refl
-
 drop_times : (i j : MsgId) (n : ℕ) (xs : List MsgId) → id_eq i j ≡ false → times j (drop n (xs ++ i ∷ [])) ≡ times j (drop n xs)
 drop_times i j zero xs e = last_times i j xs e
-drop_times i j (suc n) [] e = drop_none i j n
+drop_times i j (suc n) [] e = elim n as (λ n_. times j (drop n_ []) ≡ 0) [ zero ↦ refl | suc e ↦ refl ]
 drop_times i j (suc n) (x ∷ xs) e = drop_times i j n xs e
 
 -- one machine's list, one record's, one pair's
@@ -109,16 +102,12 @@ put_inbox : (v : View) (a b : ℕ) (i j : MsgId) (c : Bool) → id_eq i j ≡ fa
 put_inbox v a b i j true e n = machine_times v.inbox b (v.inbox b ++ i ∷ []) j (last_times i j (v.inbox b) e) n
 put_inbox v a b i j false e n = refl
 
-all_taken : (i j : MsgId) (xs : List MsgId) (n : ℕ) → n ≡ length xs → times j (drop (n + 1) (xs ++ i ∷ [])) ≡ times j (drop n xs)
-all_taken i j xs n e =
-    let long : length (xs ++ i ∷ []) ≡ n + 1 = length-append xs (i ∷ []) ∙ ap (λ k. k + 1) (sym e) in
-    let gone : drop (n + 1) (xs ++ i ∷ []) ≡ [] = subst (λ k. drop k (xs ++ i ∷ []) ≡ []) long (drop-length (xs ++ i ∷ [])) in
-    let was : drop n xs ≡ [] = ap (λ k. drop k xs) e ∙ drop-length xs in
-    ap (times j) gone ∙ sym (ap (times j) was)
-
 put_pair : (a b : ℕ) (p : Pair) (i j : MsgId) (c : Bool) → (a == b) ≡ c → id_eq i j ≡ false → (c ≡ true → p.taken ≡ length p.ids) → times j (untaken (routed_on a b p i)) ≡ times j (untaken p)
 put_pair a b p i j true is e full =
-    ap (λ (x : Bool). times j (drop (if x then p.taken + 1 else p.taken) (p.ids ++ i ∷ []))) is ∙ all_taken i j p.ids p.taken (full refl)
+    let long : length (p.ids ++ i ∷ []) ≡ p.taken + 1 = length-append p.ids (i ∷ []) ∙ ap (λ k. k + 1) (sym (full refl)) in
+    let gone : drop (p.taken + 1) (p.ids ++ i ∷ []) ≡ [] = subst (λ k. drop k (p.ids ++ i ∷ []) ≡ []) long (drop-length (p.ids ++ i ∷ [])) in
+    let was : drop p.taken p.ids ≡ [] = ap (λ k. drop k p.ids) (full refl) ∙ drop-length p.ids in
+    ap (λ (x : Bool). times j (drop (if x then p.taken + 1 else p.taken) (p.ids ++ i ∷ []))) is ∙ (ap (times j) gone ∙ sym (ap (times j) was))
 put_pair a b p i j false is e full =
     ap (λ (x : Bool). times j (drop (if x then p.taken + 1 else p.taken) (p.ids ++ i ∷ []))) is ∙ drop_times i j p.taken p.ids e
 

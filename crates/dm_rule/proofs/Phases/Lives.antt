@@ -8,8 +8,9 @@ use Rattle.dm_rule.proofs.Turns.{ended_off, created_off}
 use Rattle.dm_rule.proofs.Phases.Calm.{Plain}
 use Rattle.dm_rule.proofs.Phases.Lines.{handled_spots}
 use Rattle.dm_rule.proofs.Phases.Stand.{none_only, InPhases, Learns, learns_phases}
-use Rattle.dm_rule.proofs.Phases.Pieces.{record_off}
+use Rattle.dm_rule.proofs.Phases.Pieces.{record_off, and_true}
 use Rattle.dm_rule.proofs.Phases.Rests.{rests_here}
+use Rattle.dm_rule.proofs.Trails.Steps.{set_at}
 
 -- one machine learns something of one process, and no message of the protocol stands elsewhere
 pub still_learns : (v w : View) (p : Pid) (x : Known) → w.known ≡ at_record v.known v.acting p x → w.told ≡ v.told → ((j : MsgId) (t : Told) → v.told j ≡ Some t → is_between t.kind ≡ true → (z : Spot) → standing w j z ≡ standing v j z) → Learns v w p
@@ -20,13 +21,6 @@ still_learns v w p x known told spots = record {
   back = λ j t e b z st. inl (subst (λ n. 1 ≤ n) (spots j t e b z) st);
   on = λ j t q apart e b ab z st. (z, subst (λ n. 1 ≤ n) (sym (spots j t e b z)) st);
 }
-
-and_true : (b : Bool) (x y : Known) → (if b && true then x else y) ≡ (if b then x else y)
-and_true true x y = refl
-and_true false x y = refl
-
-record_at : (v : View) (p : Pid) (x : Known) (m : ℕ) → at_record v.known v.acting p x m p ≡ (if v.acting == m then x else v.known m p)
-record_at v p x m = ap (λ (c : Bool). if (v.acting == m) && c then x else v.known m p) (pid_eq-same p) ∙ and_true (v.acting == m) x (v.known m p)
 
 -- it ends where it was
 over_of : (a m : ℕ) (b : Bool) (y : Known) → (a == m) ≡ b → knows (Rests a) m y ≡ true → knows (Over a) m (if b then Ended else y) ≡ true
@@ -39,7 +33,7 @@ ends_phases v w p h here known told spots =
     let phase : h.of p ≡ Rests a = rests_here (h.of p) a (sym (ap (knows (h.of p) a) here) ∙ (h.each p).known a) in
     let rested : (m : ℕ) → knows (Rests a) m (v.known m p) ≡ true = λ m. subst (λ (x : Phase). knows x m (v.known m p) ≡ true) phase ((h.each p).known m) in
     (learns_phases v w p (Over a) h (none_only p) (still_learns v w p Ended known told spots) refl refl
-    (λ m. ap (λ (f : ℕ → Pid → Known). knows (Over a) m (f m p)) known ∙ ap (knows (Over a) m) (record_at v p Ended m) ∙ over_of a m (a == m) (v.known m p) refl (rested m))
+    (λ m. ap (λ (f : ℕ → Pid → Known). knows (Over a) m (f m p)) known ∙ ap (knows (Over a) m) (set_at v p Ended m) ∙ over_of a m (a == m) (v.known m p) refl (rested m))
     (λ j x z. absurd (let f : None ≡ Some j = sym (ap token_in phase) ∙ x in cc))).phases
 
 -- an end by a call or a fault
@@ -72,7 +66,7 @@ made_phases v w p h unknown known told spots =
     let a = v.acting in
     let phase : h.of p ≡ Nowhere = nowhere_known (h.of p) (λ m. sym (ap (knows (h.of p) m) (unknown m)) ∙ (h.each p).known m) in
     (learns_phases v w p (Rests a) h (none_only p) (still_learns v w p Here known told spots) refl refl
-    (λ m. ap (λ (f : ℕ → Pid → Known). knows (Rests a) m (f m p)) known ∙ ap (knows (Rests a) m) (record_at v p Here m ∙ ap (λ (y : Known). if a == m then Here else y) (unknown m)) ∙ made_of a m (a == m) refl)
+    (λ m. ap (λ (f : ℕ → Pid → Known). knows (Rests a) m (f m p)) known ∙ ap (knows (Rests a) m) (set_at v p Here m ∙ ap (λ (y : Known). if a == m then Here else y) (unknown m)) ∙ made_of a m (a == m) refl)
     (λ j x z. absurd (let f : None ≡ Some j = sym (ap token_in phase) ∙ x in cc))).phases
 
 -- by a message at the front of the inbox that is none of the protocol

@@ -4,13 +4,14 @@ use Rattle.dm_rule.proofs.Names.{nat_tests, Pid, MsgId, Step, Line, at_machine, 
 use Rattle.dm_rule.proofs.Names.{Queue, Held, Inbox, Untaken, times, untaken, ids_at, standing}
 use Rattle.dm_rule.proofs.Standing.{times-append}
 use Rattle.dm_rule.proofs.Once.{one_of}
-use Rattle.dm_rule.proofs.Lines.{parts, eq_is, at_place, past_place, pair_keeps}
+use Rattle.dm_rule.proofs.Lines.{parts, eq_is, at_place, past_place, pair_keeps, eq_self}
 use Rattle.dm_rule.proofs.States.{says_next, transmits_next, said}
 use Rattle.dm_rule.proofs.Groups.{IsNetLine, IsNet, early_off, acked_off, turn_off, tick_off, deliver_off, migrate_off}
 use Rattle.dm_rule.proofs.Phases.Calm.{Came, Calm, calm_about, calm_same, calm_trans, calm_still}
 use Rattle.dm_rule.proofs.Phases.Lines.{packet_calm}
 use Rattle.dm_rule.proofs.Phases.Quiet.{AllQuiet, moves_none}
 use Rattle.dm_rule.proofs.Requests.{by_migrates}
+use Rattle.dm_rule.proofs.Bags.{cases_zero}
 
 pub head_calm : (v : View) (s : Step) → Calm v (after_head v s)
 head_calm v (Step.Turn m) = calm_still v (after_head v (Step.Turn m)) (λ n q. refl) (λ i. refl) (λ i z. ap (times i) (turn_off v m z))
@@ -26,23 +27,10 @@ abbrev taken_view : View → ℕ → ℕ → ℕ → View
 taken_view v a b n = with_pair v a b (one_taken (v.pair a b) n)
 
 none_taken : (p : Pair) (n : ℕ) → slice_get p.ids p.taken ≡ None → untaken (one_taken p n) ≡ untaken p
-none_taken p n is =
-    let k = past_place p.ids p.taken is in
-    let next : p.taken + 1 ≡ suc p.taken = omega arith in
-    ap (λ m. drop m p.ids) next ∙ k.1 ∙ sym k.0
+none_taken p n is = let k = past_place p.ids p.taken is in let next : p.taken + 1 ≡ suc p.taken = omega arith in ap (λ m. drop m p.ids) next ∙ k.1 ∙ sym k.0
 
 taken_front : (p : Pair) (n : ℕ) (i : MsgId) → slice_get p.ids p.taken ≡ Some i → untaken p ≡ i ∷ untaken (one_taken p n)
-taken_front p n i is =
-    let next : suc p.taken ≡ p.taken + 1 = omega arith in
-    at_place p.ids p.taken i is ∙ ap (λ m. i ∷ drop m p.ids) next
-
-none_off : (v : View) (a b n : ℕ) (z : Spot) → untaken (one_taken (v.pair a b) n) ≡ untaken (v.pair a b) → ids_at (taken_view v a b n) z ≡ ids_at v z
-none_off v a b n (Untaken c d) same = pair_keeps v.pair a b (one_taken (v.pair a b) n) same c d
-none_off v a b n _ same = refl
-
-zero_cases : (n : ℕ) → (n ≡ 0) ⊎ (1 ≤ n)
-zero_cases zero = inl refl
-zero_cases (suc n) = inr (omega arith)
+taken_front p n i is = let next : suc p.taken ≡ p.taken + 1 = omega arith in at_place p.ids p.taken i is ∙ ap (λ m. i ∷ drop m p.ids) next
 
 -- the stream has one less, and the inbox one more
 stream_back : (v : View) (a b n : ℕ) (i j : MsgId) (c d : ℕ) → untaken (v.pair a b) ≡ i ∷ untaken (one_taken (v.pair a b) n) → 1 ≤ times j (untaken (at_pair v.pair a b (one_taken (v.pair a b) n) c d)) → 1 ≤ times j (untaken (v.pair c d))
@@ -61,7 +49,7 @@ inbox_back v a b n i j m front st = elim (cases_Bool (b == m)) [
       let bm : b ≡ m = eq_is b m same in
       let now : times j (at_machine v.inbox b (v.inbox b ++ i ∷ []) m) ≡ times j (v.inbox b ++ i ∷ []) = ap (λ (c : Bool). times j (if c then v.inbox b ++ i ∷ [] else v.inbox m)) same in
       let sum = times-append j (v.inbox b) (i ∷ []) in
-      elim (zero_cases (times j (v.inbox b))) [
+      elim (cases_zero (times j (v.inbox b))) [
         | inl none ↦
             let was : times j (untaken (v.pair a b)) ≡ times j (i ∷ untaken (one_taken (v.pair a b) n)) = ap (times j) front in
             inr (Untaken a b, omega (arith, st, now, sum, none, was), ap (λ (k : ℕ). Inbox k) (sym bm))
@@ -81,11 +69,7 @@ taken_back v a b n i j _ front st = inl st
 in_inbox : (v : View) (a b n : ℕ) (i j : MsgId) (m : ℕ) → (b == m) ≡ true → 1 ≤ times j (v.inbox b) + one_of j i → 1 ≤ standing (came_view v a b n i) j (Inbox m)
 in_inbox v a b n i j m same st =
     let now : times j (at_machine v.inbox b (v.inbox b ++ i ∷ []) m) ≡ times j (v.inbox b ++ i ∷ []) = ap (λ (c : Bool). times j (if c then v.inbox b ++ i ∷ [] else v.inbox m)) same in
-    let sum = times-append j (v.inbox b) (i ∷ []) in
-    omega (arith, st, now, sum)
-
-eq_self : (m : ℕ) → (m == m) ≡ true
-eq_self m = grind (arith, nat_tests)
+    let sum = times-append j (v.inbox b) (i ∷ []) in omega (arith, st, now, sum)
 
 taken_on : (v : View) (a b n : ℕ) (i j : MsgId) (z : Spot) → untaken (v.pair a b) ≡ i ∷ untaken (one_taken (v.pair a b) n) → 1 ≤ standing v j z → (y : Spot) × (1 ≤ standing (came_view v a b n i) j y)
 taken_on v a b n i j (Queue m p) front st = (Queue m p, st)
@@ -102,7 +86,7 @@ taken_on v a b n i j (Untaken c d) front st = elim (cases_Bool ((a == c) && (b =
       let here : 1 ≤ times j (untaken (v.pair a b)) = subst (λ (k : ℕ). 1 ≤ times j (untaken (v.pair k b))) (sym (eq_is a c both.0)) (subst (λ (k : ℕ). 1 ≤ times j (untaken (v.pair c k))) (sym (eq_is b d both.1)) st) in
       let was : times j (untaken (v.pair a b)) ≡ times j (i ∷ untaken (one_taken (v.pair a b) n)) = ap (times j) front in
       let now : times j (untaken (at_pair v.pair a b (one_taken (v.pair a b) n) c d)) ≡ times j (untaken (one_taken (v.pair a b) n)) = ap (λ (t : Bool). times j (untaken (if t then one_taken (v.pair a b) n else v.pair c d))) same in
-      elim (zero_cases (one_of j i)) [
+      elim (cases_zero (one_of j i)) [
         | inl none ↦ (Untaken c d, omega (arith, here, was, now, none))
         | inr some ↦ (Inbox b, in_inbox v a b n i j b (eq_self b) (omega (arith, some)))
       ]
@@ -110,7 +94,8 @@ taken_on v a b n i j (Untaken c d) front st = elim (cases_Bool ((a == c) && (b =
 ]
 
 taken_by : (v : View) (a b n : ℕ) (o : Option MsgId) → slice_get (v.pair a b).ids (v.pair a b).taken ≡ o → Calm v (taken_id (taken_view v a b n) b o)
-taken_by v a b n None is = calm_still v (taken_view v a b n) (λ m p. refl) (λ i. refl) (λ i z. ap (times i) (none_off v a b n z (none_taken (v.pair a b) n is)))
+taken_by v a b n None is = calm_still v (taken_view v a b n) (λ m p. refl) (λ i. refl) (λ i z. ap (times i) (elim z as (λ z_. ids_at (taken_view v a b n) z_ ≡ ids_at v z_)
+    [ Untaken c d ↦ pair_keeps v.pair a b (one_taken (v.pair a b) n) (none_taken (v.pair a b) n is) c d | _ ↦ refl ]))
 taken_by v a b n (Some i) is =
     let front = taken_front (v.pair a b) n i is in
     record { known = λ m p. refl; fresh = λ j t e c. e; kept = λ j t e. e; back = λ j t e c z st. taken_back v a b n i j z front st; on = λ j t e c z st. taken_on v a b n i j z front st }

@@ -6,6 +6,7 @@ use Rattle.dm_rule.proofs.Moves.Lists.{first_off}
 use Rattle.dm_rule.proofs.Moves.Rows.{goes_first, goes_front, accepted_off, state_off, memory_off, lacks_off, proto_off}
 use Rattle.dm_rule.proofs.Phases.Stand.{InPhases}
 use Rattle.dm_rule.proofs.Phases.Answers.{Whole, Due, answer_row}
+use Rattle.dm_rule.proofs.Lines.{eq_self}
 
 -- two kinds between which no machine learns anything
 leaves_as : (k j : MessageKind) (d : ℕ) (y : Known) → is_restart k ≡ is_restart j → kind_leaves k d y ≡ kind_leaves j d y
@@ -48,10 +49,7 @@ pub same_row : (pt : Point) (i : MsgId) (t : Told) (h : InPhases pt.view) (u : D
 same_row pt i t h u j w same e f m =
     ap (knows (Moves j u.s u.d None) m) (same m) ∙ sym (knows_as u.k j u.s u.d (Some i) None m (pt.view.known m u.p) e f) ∙ due_known pt i t h u m
 
-eq_self : (m : ℕ) → (m == m) ≡ true
-eq_self m = grind (arith, nat_tests)
-
-and_true : (b : Bool) (x y : Known) → (if b && true then x else y) ≡ (if b then x else y)
+pub and_true : (b : Bool) (x y : Known) → (if b && true then x else y) ≡ (if b then x else y)
 and_true true x y = refl
 and_true false x y = refl
 
@@ -111,23 +109,15 @@ pub asks_acting : (v : View) (a : About) → (asks_on v a).acting ≡ v.acting
 asks_acting v NothingElse = refl
 asks_acting v _ = refl
 
-follows_known : (v : View) (a : About) (k : MessageKind) (m : ℕ) (p : Pid) → (follows_up v a k).known m p ≡ v.known m p
-follows_known v a MessageKind.State m p = asks_known v a m p
-follows_known v a MessageKind.Memory m p = asks_known v a m p
-follows_known v a _ m p = refl
-
-pub follows_acting : (v : View) (a : About) (k : MessageKind) → (follows_up v a k).acting ≡ v.acting
-follows_acting v a MessageKind.State = asks_acting v a
-follows_acting v a MessageKind.Memory = asks_acting v a
-follows_acting v a _ = refl
-
 pub proto_known : (v : View) (o : Option Told) (m : ℕ) (p : Pid) → (after_proto v o).known m p ≡ v.known m p
 proto_known v None m p = refl
-proto_known v (Some t) m p = follows_known v t.about t.kind m p
+proto_known v (Some t) m p = elim t.kind as (λ k. (follows_up v t.about k).known m p ≡ v.known m p)
+    [ MessageKind.State ↦ asks_known v t.about m p | MessageKind.Memory ↦ asks_known v t.about m p | _ ↦ refl ]
 
 pub proto_acting : (v : View) (o : Option Told) → (after_proto v o).acting ≡ v.acting
 proto_acting v None = refl
-proto_acting v (Some t) = follows_acting v t.about t.kind
+proto_acting v (Some t) = elim t.kind as (λ k. (follows_up v t.about k).acting ≡ v.acting)
+    [ MessageKind.State ↦ asks_acting v t.about | MessageKind.Memory ↦ asks_acting v t.about | _ ↦ refl ]
 
 proto_topic : (v : View) (o : Option Told) (t : Told) → o ≡ Some t → (after_proto v o).topic ≡ t.about
 proto_topic v None t e = cc

@@ -15,16 +15,12 @@ abbrev pub put_spot : ℕ → ℕ → Spot
 put_spot a b = if a == b then Inbox b else Untaken a b
 
 pub last_there : (i : MsgId) (xs : List MsgId) → 1 ≤ times i (xs ++ i ∷ [])
-last_there i xs =
-    let a = times-append i xs (i ∷ []) in
-    let one : one_of i i ≡ 1 = ap (λ (c : Bool). if c then 1 else 0) (id_eq-same i) in
-    omega (arith, a, one)
+last_there i xs = let a = times-append i xs (i ∷ []) in let one : one_of i i ≡ 1 = ap (λ (c : Bool). if c then 1 else 0) (id_eq-same i) in omega (arith, a, one)
 
 put_by : (v : View) (a b : ℕ) (i : MsgId) (k : MessageKind) (q : Pid) (c : Bool) → (a == b) ≡ c → PairsFit v → 1 ≤ standing (after_put v a b i k q) i (if c then Inbox b else Untaken a b)
 put_by v a b i k q true is fits =
     let e : times i ((after_put v a b i k q).inbox b) ≡ times i (v.inbox b ++ i ∷ []) = ap (λ (c : Bool). times i ((if c then at_machine v.inbox b (v.inbox b ++ i ∷ []) else v.inbox) b)) is ∙ ap (times i) (at_machine_at v.inbox b (v.inbox b ++ i ∷ [])) in
-    let l = last_there i (v.inbox b) in
-    omega (arith, e, l)
+    let l = last_there i (v.inbox b) in omega (arith, e, l)
 put_by v a b i k q false is fits =
     let p = v.pair a b in
     let at : untaken ((after_put v a b i k q).pair a b) ≡ untaken p ++ i ∷ [] = ap untaken (pair_at v.pair a b (routed_on a b p i)) ∙ ap (λ (c : Bool). drop (if c then p.taken + 1 else p.taken) (p.ids ++ i ∷ [])) is ∙ drop-append-le p.taken p.ids (i ∷ []) (fits.within a b) in
@@ -56,10 +52,9 @@ first_none (Some t) u e = cc
 pub of_same : (p q : Pid) → Of p ≡ Of q → p ≡ q
 of_same p q e = cc
 
--- the other processes keep theirs
-others_token : (v w : View) (q : Pid) (k : MessageKind) (s d : ℕ) (id i : MsgId) → ((j : MsgId) (t : Told) → v.told j ≡ Some t → id_eq i j ≡ false) → ((j : MsgId) → id_eq i j ≡ false → w.told j ≡ v.told j)
-    → ((j : MsgId) → id_eq i j ≡ false → (z : Spot) → standing w j z ≡ standing v j z) → IsToken v q k s d id → IsToken w q k s d id
-others_token v w q k s d id i kept told spots h =
+others_has : (v w : View) (q : Pid) (phase : Phase) (i : MsgId) → ((j : MsgId) (t : Told) → v.told j ≡ Some t → id_eq i j ≡ false) → ((j : MsgId) → id_eq i j ≡ false → w.told j ≡ v.told j)
+    → ((j : MsgId) → id_eq i j ≡ false → (z : Spot) → standing w j z ≡ standing v j z) → HasToken v q phase → HasToken w q phase
+others_has v w q (Moves k s d (Some id)) i kept told spots h =
     let apart = kept id (told_between q k s d) h.told in
     record {
       told = told id apart ∙ h.told;
@@ -68,10 +63,6 @@ others_token v w q k s d id i kept told spots h =
       stands = subst (λ n. 1 ≤ n) (sym (spots id apart h.spot)) h.stands;
       ways = λ z st. h.ways z (subst (λ n. 1 ≤ n) (spots id apart z) st);
     }
-
-others_has : (v w : View) (q : Pid) (phase : Phase) (i : MsgId) → ((j : MsgId) (t : Told) → v.told j ≡ Some t → id_eq i j ≡ false) → ((j : MsgId) → id_eq i j ≡ false → w.told j ≡ v.told j)
-    → ((j : MsgId) → id_eq i j ≡ false → (z : Spot) → standing w j z ≡ standing v j z) → HasToken v q phase → HasToken w q phase
-others_has v w q (Moves k s d (Some id)) i kept told spots h = others_token v w q k s d id i kept told spots h
 others_has v w q _ i kept told spots h = tt
 
 put_others : (v w : View) (p q : Pid) (phase : Phase) (i : MsgId) (u : Told) → pid_eq p q ≡ false → ((m : ℕ) → w.known m q ≡ v.known m q) → w.told i ≡ Some u → u.about ≡ Of p → ((j : MsgId) → id_eq i j ≡ false → w.told j ≡ v.told j)
@@ -125,7 +116,6 @@ own_put_phases v p k s d h fits phase topic acting untold once =
       | inl same ↦
           let is : i ≡ j = id_eq-is i j same in
           let f : Some u ≡ Some t = sym told_i ∙ ap w.told is ∙ told in
-          let g : u ≡ t = cc in
-          (p, sym (ap (λ (x : Told). x.about) g) ∙ topic)
+          let g : u ≡ t = cc in (p, sym (ap (λ (x : Told). x.about) g) ∙ topic)
       | inr apart ↦ h.about j t (sym (told_off j apart) ∙ told) bt
     ])

@@ -10,7 +10,7 @@ use Rattle.dm_rule.proofs.Hushed.{is_put, hushed}
 use Rattle.dm_rule.proofs.Pairs.Lines.{touches, pair_same}
 use Rattle.dm_rule.proofs.States.{PairsFit}
 use Rattle.dm_rule.proofs.Said.{fits_as}
-use Rattle.dm_rule.proofs.Turns.{served_keeps}
+use Rattle.dm_rule.proofs.Turns.{served_keeps, serving_off}
 use Rattle.dm_rule.proofs.Moves.Sent.{fits_put, fits_packet}
 use Rattle.dm_rule.proofs.Telling.{Sane, plain_not, Sayable, part_sane}
 use Rattle.dm_rule.proofs.Phases.Calm.{Calm, Plain, calm_about, calm_same, calm_trans, calm_others, calm_still}
@@ -68,7 +68,7 @@ AllQuiet v [] = ⊤
 AllQuiet v (p ∷ ps) = Quiet v p × AllQuiet v ps
 
 -- what is quiet stays so
-tame_on : (v w : View) (i : MsgId) → Calm v w → Tame v i → Tame w i
+pub tame_on : (v w : View) (i : MsgId) → Calm v w → Tame v i → Tame w i
 tame_on v w i c h = record { what = h.what; told = c.kept i h.what h.told; plain = h.plain }
 
 label_on : (v w : View) (l : Label) → Calm v w → QuietLabel v l → QuietLabel w l
@@ -87,11 +87,6 @@ line_on v w (Line.NoMove i) c h = tame_on v w i c h
 line_on v w (Line.Migration Stage.Frozen p) c h = h
 line_on v w _ c h = h
 
-quiet_on : (v w : View) (p : Part) → Calm v w → Quiet v p → Quiet w p
-quiet_on v w (Says l) c h = line_on v w l c h
-quiet_on v w (Again i b) c h = tame_on v w i c h
-quiet_on v w _ c h = h
-
 quiet_touches : (v : View) (l : Line) → QuietLine v l → touches l ≡ false
 quiet_touches v (Line.Head s) h = absurd h
 quiet_touches v (Line.Put a b i k q) h = absurd h
@@ -107,13 +102,9 @@ quiet_put v (Line.Put a b i k q) h = absurd h
 quiet_put v (Line.Migration Stage.Frozen p) h = refl
 quiet_put v _ h = refl
 
--- a message of the bag is none of the protocol
-plain_by : (pt : Point) (i : MsgId) (x : PlainMessage) (h : Sane pt) (t : Told) (b : Bool) → is_between t.kind ≡ b → pt.kernel.bag i ≡ Some x → pt.view.told i ≡ Some t → b ≡ false
-plain_by pt i x h t true is there told = absurd (false≢true (sym (not_kernels h.r h.e pt.kernel i x there h.sound) ∙ h.tells.own i t told is))
-plain_by pt i x h t false is there told = refl
-
 pub plain_in_bag : (pt : Point) (i : MsgId) (x : PlainMessage) → Sane pt → pt.kernel.bag i ≡ Some x → Plain pt.view i
-plain_in_bag pt i x h there t told = plain_by pt i x h t (is_between t.kind) refl there told
+plain_in_bag pt i x h there t told = (elim (is_between t.kind) as (λ b. is_between t.kind ≡ b → b ≡ false)
+    [ true ↦ λ is. absurd (false≢true (sym (not_kernels h.r h.e pt.kernel i x there h.sound) ∙ h.tells.own i t told is)) | false ↦ λ is. refl ]) refl
 
 tame_plain : (v : View) (i : MsgId) → Tame v i → Plain v i
 tame_plain v i h t told = (let f : Some h.what ≡ Some t = sym h.told ∙ told in let g : h.what ≡ t = cc in subst (λ (s : Told). is_between s.kind ≡ false) g h.plain)
@@ -129,21 +120,14 @@ hushed_calm v l i quiet plain known spots =
 pub moves_none : (v : View) (l : Line) → is_put l ≡ false → ((m : ℕ) (p : Pid) → (view_after v l).known m p ≡ v.known m p) → ((z : Spot) → ids_at (view_after v l) z ≡ ids_at v z) → Calm v (view_after v l)
 moves_none v l quiet known off = calm_still v (view_after v l) known (λ j. ap (λ (f : MsgId → Option Told). f j) (hushed v l quiet).told) (λ i z. ap (times i) (off z))
 
-serving_off : (v : View) (p : Pid) (z : Spot) → ids_at (view.serving v p) z ≡ ids_at v z
-serving_off v p (Queue m q) = refl
-serving_off v p _ = refl
-
 pub received_spots : (v : View) (p : Pid) (i j : MsgId) → id_eq i j ≡ false → (z : Spot) → standing (record (view.serving v p) { queue = at_record v.queue v.acting p (without_id i (v.queue v.acting p)) }) j z ≡ standing v j z
 received_spots v p i j e (Queue m q) = record_times v.queue v.acting p (without_id i (v.queue v.acting p)) j (without_times i j (v.queue v.acting p) e) m q
 received_spots v p i j e _ = refl
 
-spares_known : (k : MessageKind) (v : View) (p : Pid) → is_kill k ≡ false → (m : ℕ) (q : Pid) → (kills k v (Some p)).known m q ≡ v.known m q
-spares_known MessageKind.Kill v p e m q = absurd (false≢true (sym e))
-spares_known _ v p e m q = refl
-
 served_known : (v : View) (o : Option Told) (t : Told) → o ≡ Some t → is_kill t.kind ≡ false → (m : ℕ) (q : Pid) → (served_told v o).known m q ≡ v.known m q
 served_known v None t e spares m q = refl
-served_known v (Some s) t e spares m q = let f : s ≡ t = cc in spares_known s.kind v s.receiver (ap (λ (u : Told). is_kill u.kind) f ∙ spares) m q
+served_known v (Some s) t e spares m q = let f : s ≡ t = cc in (elim s.kind as (λ k. is_kill k ≡ false → (kills k v (Some s.receiver)).known m q ≡ v.known m q)
+    [ MessageKind.Kill ↦ λ e. absurd (false≢true (sym e)) | _ ↦ λ e. refl ]) (ap (λ (u : Told). is_kill u.kind) f ∙ spares)
 
 gone_plain : (pt : Point) (s : OneKernel) (l : Label) (i : MsgId) → Sane pt → kernel.step pt.kernel l ≡ Some s → out_of l ≡ Some i → Plain pt.view i
 gone_plain pt s l i h is goes = let g = gone_in pt.kernel s l i is goes in plain_in_bag pt i g.message h g.there
@@ -211,23 +195,20 @@ puts_calm pt next b i k q ls fits e plain is leads =
     packet_or_none v mid next (v.acting == b) (goes_out (v.pair v.acting b)) v.acting b (length (v.pair v.acting b).wire) (Load.Data (length (v.pair v.acting b).ids))
     (put_calm v v.acting b i k q fits e plain) (fits_put v v.acting b i k q fits) (ap (after pt) f ∙ leads)
 
-says_calm : (pt next : Point) (l : Line) (ls : List Line) → Sane pt → PairsFit pt.view → QuietLine pt.view l → Some (l ∷ []) ≡ Some ls → after pt ls ≡ Some next → (Calm pt.view next.view) × (PairsFit next.view)
-says_calm pt next l ls h fits quiet is leads =
-    let f : l ∷ [] ≡ ls = cc in
-    let (mid, first, last) = bind-is (after_line pt l) (λ q. after q []) next (ap (after pt) f ∙ leads) in
-    let (s, step, then_) = bind-is (kernel_after pt.kernel (label_of l)) (λ s. Some (moved pt l s)) mid first in
-    let g : moved pt l s ≡ mid = cc in
-    let e : mid ≡ next = cc in
-    subst (λ (q : Point). (Calm pt.view q.view) × (PairsFit q.view)) (g ∙ e) (calm_about pt.view (view_after pt.view l) (seen pt.kernel pt.view l).topic (line_calm pt s l h quiet step), fits_as pt.view (seen pt.kernel pt.view l) (pair_same pt.view l (quiet_touches pt.view l quiet)) fits)
-
-tame_kind : (v : View) (i : MsgId) (t : Told) → Tame v i → v.told i ≡ Some t → is_between t.kind ≡ false
+pub tame_kind : (v : View) (i : MsgId) (t : Told) → Tame v i → v.told i ≡ Some t → is_between t.kind ≡ false
 tame_kind v i t h told = tame_plain v i h t told
 
 own_plain : (pt : Point) → Sane pt → Plain pt.view (own_id pt.view)
 own_plain pt h t told = absurd (let f : None ≡ Some t = sym (h.numbered pt.view.acting (pt.view.count pt.view.acting) (omega arith)) ∙ told in cc)
 
 part_calm : (pt next : Point) (p : Part) (ls : List Line) → Sane pt → PairsFit pt.view → Quiet pt.view p → lines_of pt p ≡ Some ls → after pt ls ≡ Some next → (Calm pt.view next.view) × (PairsFit next.view)
-part_calm pt next (Says l) ls h fits quiet is leads = says_calm pt next l ls h fits quiet is leads
+part_calm pt next (Says l) ls h fits quiet is leads =
+    let f : l ∷ [] ≡ ls = cc in
+    let (mid, first, last) = bind-is (after_line pt l) (λ q. after q []) next (ap (after pt) f ∙ leads) in
+    let (s, step, then_) = bind-is (kernel_after pt.kernel (label_of l)) (λ s. Some (moved pt l s)) mid first in
+    let g : moved pt l s ≡ mid = cc in
+    let e : mid ≡ next = cc in
+    subst (λ (q : Point). (Calm pt.view q.view) × (PairsFit q.view)) (g ∙ e) (calm_about pt.view (view_after pt.view l) (seen pt.kernel pt.view l).topic (line_calm pt s l h quiet step), fits_as pt.view (seen pt.kernel pt.view l) (pair_same pt.view l (quiet_touches pt.view l quiet)) fits)
 part_calm pt next (Routes i) ls h fits quiet is leads =
     let (m, there, last) = bind-is (pt.kernel.bag i) (λ m. Some (puts pt.view (pt.addresses (Receiver i)).at i (plain_kind m.what) m.to)) ls is in
     puts_calm pt next (pt.addresses (Receiver i)).at i (plain_kind m.what) m.to ls fits (plain_not m.what) (plain_in_bag pt i m h there) last leads
@@ -239,10 +220,6 @@ part_calm pt next (Transmits a b l) ls h fits quiet is leads =
     let f : packet_line pt.view a b l ∷ [] ≡ ls = cc in
     packet_or_none pt.view pt next false true a b (length (pt.view.pair a b).wire) l (calm_same pt.view) fits (ap (after pt) f ∙ leads)
 
-sayable_of : (v : View) (p : Part) → Quiet v p → Sayable p
-sayable_of v (Says l) h = quiet_put v l h
-sayable_of v _ h = tt
-
 pub parts_settle : (ps : List Part) (v : View) (pt : Point) (w : Spelled) → AllQuiet v ps → Settled v pt → spelled pt ps ≡ Some w → Settled v w.point
 parts_settle [] v pt w quiet h is = let f : record { lines = []; point = pt } ≡ w = cc in subst (λ (x : Spelled). Settled v x.point) f h
 parts_settle (p ∷ ps) v pt w quiet h is =
@@ -250,7 +227,9 @@ parts_settle (p ∷ ps) v pt w quiet h is =
     let (next, leads, last) = bind-is (after pt ls) (λ (q : Point). bind (spelled q ps) (λ (z : Spelled). Some (behind ls z))) w rest in
     let (z, more, end) = bind-is (spelled next ps) (λ (y : Spelled). Some (behind ls y)) w last in
     let f : behind ls z ≡ w = cc in
-    let here : Quiet pt.view p = quiet_on v pt.view p h.calm quiet.0 in
+    let here : Quiet pt.view p = (elim p as (λ p_. Quiet v p_ → Quiet pt.view p_)
+        [ Says l ↦ λ h_. line_on v pt.view l h.calm h_ | Again i b ↦ λ h_. tame_on v pt.view i h.calm h_ | _ ↦ λ h_. h_ ]) quiet.0 in
     let c = part_calm pt next p ls h.sane h.fits here lines leads in
-    let there : Settled v next = record { calm = calm_trans v pt.view next.view h.calm c.0; sane = part_sane pt next p ls (sayable_of pt.view p here) lines leads h.sane; fits = c.1 } in
+    let there : Settled v next = record { calm = calm_trans v pt.view next.view h.calm c.0; sane = part_sane pt next p ls ((elim p as (λ p_. Quiet pt.view p_ → Sayable p_)
+        [ Says l ↦ λ h. quiet_put pt.view l h | _ ↦ λ h. tt ]) here) lines leads h.sane; fits = c.1 } in
     subst (λ (x : Spelled). Settled v x.point) f (parts_settle ps v next z quiet.1 there more)

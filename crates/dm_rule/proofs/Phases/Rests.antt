@@ -2,15 +2,15 @@
 use Rattle.dm_rule.proofs.Names.{◌≡◌, ◌⊎◌, ℕ, zero, suc, ◌+◌, ◌≤◌, ◌==◌, ◌&&◌, Bool, true, false, not, List, [], ◌∷◌, ◌++◌, refl, ap, ◌∙◌, sym, subst, inl, inr, arith, if◌then◌else◌, Option, None, Some, cases_Bool, false≢true, nat_tests}
 use Rattle.dm_rule.proofs.Names.{Pid, pid_eq, MsgId, MessageKind, Stage, id_eq, Line, at_machine, at_record, View, Told, Of, Known, Unknown, Here, Frozen, Incoming, Forward, view_after, handled_first, released, is_kernels, target_of}
 use Rattle.dm_rule.proofs.Names.{front_told, Point, label_of, moved, Says, Spelled, spelled, to_kernel, Spot, Queue, Held, Inbox, Untaken, times, ids_at, standing, is_between, is_restart, is_early, kind_comes, is_away, is_here, is_over}
-use Rattle.dm_rule.proofs.Names.{Phase, Nowhere, Rests, Over, Moves, knows, token_in, receiver_in, id_eq-is, pid_eq-is, pid_eq-same, NothingElse, Target, frozen_for, leaves_for, kind_leaves}
+use Rattle.dm_rule.proofs.Names.{Phase, Nowhere, Rests, Over, Moves, knows, token_in, receiver_in, id_eq-is, pid_eq-is, pid_eq-same, NothingElse, Target, frozen_for, leaves_for, kind_leaves, sets_off}
 use Rattle.dm_rule.proofs.Standing.{times-append}
-use Rattle.dm_rule.proofs.Lines.{Bag, hidden, Stands, Stands-stays, Stands-handled, parts, eq_is}
+use Rattle.dm_rule.proofs.Lines.{Bag, hidden, Stands, Stands-stays, Stands-handled, parts, eq_is, eq_self}
 use Rattle.dm_rule.proofs.Letters.{letters}
 use Rattle.dm_rule.proofs.Hushed.{is_put, hushed}
 use Rattle.dm_rule.proofs.Pairs.Lines.{touches, pair_same}
 use Rattle.dm_rule.proofs.States.{State, by_line}
 use Rattle.dm_rule.proofs.Said.{fits_as}
-use Rattle.dm_rule.proofs.Seen.{seen_none, frozen_is, frozen_asked}
+use Rattle.dm_rule.proofs.Seen.{seen_none}
 use Rattle.dm_rule.proofs.Moves.Lists.{Stands-released, first_off}
 use Rattle.dm_rule.proofs.Moves.Sent.{line_next}
 use Rattle.dm_rule.proofs.Moves.Rows.{goes_first, comes_back, home_again, home_off, frozen_off, asked_off, frozen_state, restarted_off}
@@ -18,12 +18,8 @@ use Rattle.dm_rule.proofs.Phases.Calm.{Came}
 use Rattle.dm_rule.proofs.Phases.Lines.{handled_spots}
 use Rattle.dm_rule.proofs.Phases.Stand.{none_only, Learns, learns_phases}
 use Rattle.dm_rule.proofs.Phases.Answers.{WholeBut, Whole, Due, owns_whole, nowhere_of, first_learns, token_one}
-use Rattle.dm_rule.proofs.Phases.Pieces.{record_off, due_known}
-
--- held messages come to the inbox
-zero_cases : (n : ℕ) → (n ≡ 0) ⊎ (1 ≤ n)
-zero_cases zero = inl refl
-zero_cases (suc n) = inr (omega arith)
+use Rattle.dm_rule.proofs.Phases.Pieces.{record_off, due_known, and_true}
+use Rattle.dm_rule.proofs.Bags.{cases_zero}
 
 held_back : (v : View) (p : Pid) (j : MsgId) (m : ℕ) (q : Pid) → 1 ≤ times j (at_record v.held v.acting p [] m q) → 1 ≤ times j (v.held m q)
 held_back v p j m q st = elim (cases_Bool ((v.acting == m) && pid_eq p q)) [
@@ -37,26 +33,17 @@ inbox_back v p j m st = elim (cases_Bool (v.acting == m)) [
       let am : v.acting ≡ m = eq_is v.acting m same in
       let now : times j (at_machine v.inbox v.acting (v.held v.acting p ++ v.inbox v.acting) m) ≡ times j (v.held v.acting p ++ v.inbox v.acting) = ap (λ (c : Bool). times j (if c then (v.held v.acting p ++ v.inbox v.acting) else v.inbox m)) same in
       let sum = times-append j (v.held v.acting p) (v.inbox v.acting) in
-      elim (zero_cases (times j (v.held v.acting p))) [
+      elim (cases_zero (times j (v.held v.acting p))) [
         | inl none ↦ inl (subst (λ (n : ℕ). 1 ≤ times j (v.inbox n)) am (omega (arith, st, now, sum, none)))
         | inr some ↦ inr (Held v.acting p, some, ap (λ (n : ℕ). Inbox n) (sym am))
       ]
   | inr off ↦ inl (subst (λ n. 1 ≤ n) (ap (λ (c : Bool). times j (if c then (v.held v.acting p ++ v.inbox v.acting) else v.inbox m)) off) st)
 ]
 
-released_back : (v : View) (p : Pid) (j : MsgId) (z : Spot) → 1 ≤ standing (released v p) j z → Came v j z
-released_back v p j (Held m q) st = inl (held_back v p j m q st)
-released_back v p j (Inbox m) st = inbox_back v p j m st
-released_back v p j _ st = inl st
-
 pub in_inbox : (v : View) (p : Pid) (j : MsgId) (m : ℕ) → (v.acting == m) ≡ true → 1 ≤ times j (v.held v.acting p) + times j (v.inbox v.acting) → 1 ≤ standing (released v p) j (Inbox m)
 in_inbox v p j m same st =
     let now : times j (at_machine v.inbox v.acting (v.held v.acting p ++ v.inbox v.acting) m) ≡ times j (v.held v.acting p ++ v.inbox v.acting) = ap (λ (c : Bool). times j (if c then (v.held v.acting p ++ v.inbox v.acting) else v.inbox m)) same in
-    let sum = times-append j (v.held v.acting p) (v.inbox v.acting) in
-    omega (arith, st, now, sum)
-
-eq_self : (m : ℕ) → (m == m) ≡ true
-eq_self m = grind (arith, nat_tests)
+    let sum = times-append j (v.held v.acting p) (v.inbox v.acting) in omega (arith, st, now, sum)
 
 pub released_on : (v : View) (p : Pid) (j : MsgId) (z : Spot) → 1 ≤ standing v j z → (y : Spot) × (1 ≤ standing (released v p) j y)
 released_on v p j (Queue m q) st = (Queue m q, st)
@@ -110,7 +97,8 @@ back_learns pt l i is t p h quiet front told about off known =
       kept = λ j x e. same j ∙ e;
       back = λ j x e b z st. elim (cases_Bool (id_eq i j)) [
         | inl is_i ↦ absurd (let none : standing w j z ≡ 0 = subst (λ (y : MsgId). standing w y z ≡ 0) (id_eq-is i j is_i) (back_gone pt l i is p h quiet front off z) in omega (arith, st, none))
-        | inr apart ↦ came_home v i is p j front apart z (released_back u p j z (subst (λ n. 1 ≤ n) (ap (times j) (off z)) st))
+        | inr apart ↦ came_home v i is p j front apart z ((elim z as (λ z_. 1 ≤ standing (released u p) j z_ → Came u j z_)
+            [ Held m q ↦ λ st_. inl (held_back u p j m q st_) | Inbox m ↦ λ st_. inbox_back u p j m st_ | _ ↦ λ st_. inl st_ ]) (subst (λ n. 1 ≤ n) (ap (times j) (off z)) st))
       ];
       on = λ j x q apart e b ab z st. elim (cases_Bool (id_eq i j)) [
         | inl is_i ↦ absurd (
@@ -118,8 +106,7 @@ back_learns pt l i is t p h quiet front told about off known =
             let f : Some t ≡ Some x = sym told ∙ ap v.told ij ∙ e in
             let g : t ≡ x = cc in
             let fq : Of p ≡ Of q = sym about ∙ ap (λ (y : Told). y.about) g ∙ ab in
-            let pq : p ≡ q = cc in
-            false≢true (sym apart ∙ ap (pid_eq p) (sym pq) ∙ pid_eq-same p))
+            let pq : p ≡ q = cc in false≢true (sym apart ∙ ap (pid_eq p) (sym pq) ∙ pid_eq-same p))
         | inr off_i ↦
             let (y, s) = released_on u p j z (subst (λ n. 1 ≤ n) (sym (home_spots v i is p j front off_i z)) st) in
             (y, subst (λ n. 1 ≤ n) (sym (ap (times j) (off y))) s)
@@ -133,35 +120,23 @@ early_away k s (Incoming from) e h = absurd (false≢true (sym (ap (λ (b : Bool
 early_away k s (Forward at moves) e h = refl
 early_away k s _ e h = absurd (false≢true h)
 
-restart_away : (k : MessageKind) (d : ℕ) (y : Known) → is_restart k ≡ true → kind_leaves k d y ≡ true → is_away y ≡ true
-restart_away k d (Frozen to) e h = absurd (false≢true (sym (ap (λ (b : Bool). not b && (d == to)) e) ∙ h))
-restart_away k d (Forward at moves) e h = refl
-restart_away k d _ e h = absurd (false≢true h)
-
--- the source, when it was refused, and the destination, when it may restart the process
-coming_away : (k : MessageKind) (s d m : ℕ) (y : Known) (c : Bool) → is_early k ≡ true → (if c then kind_comes k s y else is_away y) ≡ true → is_away y ≡ true
-coming_away k s d m y true e h = early_away k s y e h
-coming_away k s d m y false e h = h
-
 left_away : (k : MessageKind) (d : ℕ) (y : Known) (c : Bool) → is_restart k ≡ true → (if c then kind_leaves k d y else is_away y) ≡ true → is_away y ≡ true
-left_away k d y true e h = restart_away k d y e h
+left_away k d y true e h = (elim y as (λ y_. kind_leaves k d y_ ≡ true → is_away y_ ≡ true)
+    [ Frozen to ↦ λ h_. absurd (false≢true (sym (ap (λ (b : Bool). not b && (d == to)) e) ∙ h_)) | Forward at moves ↦ λ h_. refl | _ ↦ λ h_. absurd (false≢true h_) ]) h
 left_away k d y false e h = h
 
 refused_if : (k : MessageKind) (s d m : ℕ) (o : Option MsgId) (b : Bool) (y : Known) → is_early k ≡ true → (s == m) ≡ b → knows (Moves k s d o) m y ≡ true → knows (Rests s) m (if b then Here else y) ≡ true
 refused_if k s d m o true y e f h = ap (λ (c : Bool). if c then is_here Here else is_away Here) f
 refused_if k s d m o false y e f h =
     ap (λ (c : Bool). if c then is_here y else is_away y) f
-    ∙ coming_away k s d m y (d == m) e (sym (ap (λ (c : Bool). if c then kind_leaves k d y else if d == m then kind_comes k s y else is_away y) f) ∙ h)
+    ∙ ((elim (d == m) as (λ c_. (if c_ then kind_comes k s y else is_away y) ≡ true → is_away y ≡ true)
+        [ true ↦ λ h_. early_away k s y e h_ | false ↦ λ h_. h_ ]) (sym (ap (λ (c : Bool). if c then kind_leaves k d y else if d == m then kind_comes k s y else is_away y) f) ∙ h))
 
 restarted_if : (k : MessageKind) (s d m : ℕ) (o : Option MsgId) (b : Bool) (y : Known) → is_restart k ≡ true → (d == m) ≡ b → knows (Moves k s d o) m y ≡ true → knows (Rests d) m (if b then Here else y) ≡ true
 restarted_if k s d m o true y e f h = ap (λ (c : Bool). if c then is_here Here else is_away Here) f
 restarted_if k s d m o false y e f h =
     ap (λ (c : Bool). if c then is_here y else is_away y) f
     ∙ left_away k d y (s == m) e (sym (ap (λ (c : Bool). if s == m then kind_leaves k d y else if c then kind_comes k s y else is_away y) f) ∙ h)
-
-and_true : (b : Bool) (x y : Known) → (if b && true then x else y) ≡ (if b then x else y)
-and_true true x y = refl
-and_true false x y = refl
 
 at_acting : (v : View) (a m : ℕ) (p : Pid) (x : Known) → v.acting ≡ a → at_record v.known v.acting p x m p ≡ (if a == m then x else v.known m p)
 at_acting v a m p x e = ap (λ (n : ℕ). at_record v.known n p x m p) e ∙ ap (λ (c : Bool). if (a == m) && c then x else v.known m p) (pid_eq-same p) ∙ and_true (a == m) x (v.known m p)
@@ -195,14 +170,6 @@ restart_whole pt i is t h u e front told mine =
     home_whole pt (Line.Migration Stage.Restarted u.p) i is t u.d h u refl refl refl front told mine (λ z. restarted_off pt.view u.p z) refl
     (λ m. ap (knows (Rests u.d) m) (at_acting pt.view u.d m u.p Here at) ∙ restarted_if u.k u.s u.d m (Some i) (u.d == m) (pt.view.known m u.p) (ap is_restart e) refl (due_known pt i t h.phases u m))
 
-rests_if : (at m : ℕ) (b : Bool) → (at == m) ≡ b → (if b then is_here Here else is_away Here) ≡ true → Rests at ≡ Rests m
-rests_if at m true e h = ap (λ (n : ℕ). Rests n) (eq_is at m e)
-rests_if at m false e h = absurd (false≢true h)
-
-over_if : (b : Bool) → (if b then is_over Here else is_away Here) ≡ false
-over_if true = refl
-over_if false = refl
-
 moves_if : (k : MessageKind) (s d : ℕ) (b c : Bool) → (if b then kind_leaves k d Here else if c then kind_comes k s Here else is_away Here) ≡ false
 moves_if k s d true c = refl
 moves_if k s d false true = refl
@@ -217,8 +184,10 @@ away_comes a _ true h = absurd (false≢true h)
 -- what is here rests here
 pub rests_here : (phase : Phase) (m : ℕ) → knows phase m Here ≡ true → phase ≡ Rests m
 rests_here Nowhere m e = absurd (false≢true e)
-rests_here (Rests at) m e = rests_if at m (at == m) refl e
-rests_here (Over at) m e = absurd (false≢true (sym (over_if (at == m)) ∙ e))
+rests_here (Rests at) m e = (elim (at == m) as (λ b. (at == m) ≡ b → (if b then is_here Here else is_away Here) ≡ true → Rests at ≡ Rests m)
+    [ true ↦ λ e_ h. ap (λ (n : ℕ). Rests n) (eq_is at m e_) | false ↦ λ e_ h. absurd (false≢true h) ]) refl e
+rests_here (Over at) m e = absurd (false≢true (sym (elim (at == m) as (λ b. (if b then is_over Here else is_away Here) ≡ false)
+    [ true ↦ refl | false ↦ refl ]) ∙ e))
 rests_here (Moves k s d o) m e = absurd (false≢true (sym (moves_if k s d (s == m) (d == m)) ∙ e))
 
 -- it is frozen, and the other machine is asked
@@ -259,7 +228,7 @@ frozen_row pt i is t p to w h topic plain front told mine here target apart e =
     let v = pt.view in
     let l = Line.Migration Stage.Frozen p in
     let aim : target_of (front_told v (v.inbox v.acting)) ≡ to = ap (λ (is : List MsgId). target_of (front_told v is)) front ∙ ap target_of told ∙ target in
-    let at : view_after v l ≡ frozen_for (handled_first v) p to = frozen_is v p topic ∙ ap (frozen_for (handled_first v) p) aim in
+    let at : view_after v l ≡ frozen_for (handled_first v) p to = ap (sets_off v p) topic ∙ ap (frozen_for (handled_first v) p) aim in
     let learns = first_learns pt l i is t p h.state refl front told (λ b. absurd (false≢true (sym plain ∙ b))) (λ z. frozen_off v p topic z) (λ m q off. ap (λ (x : View). x.known m q) at ∙ record_off v.known v.acting p (Frozen to) m q off) in
     frozen_ends pt p to w h (goes_first pt l i is refl h.state front mine (λ z. frozen_off v p topic z)) learns here apart (handled_first v) at refl refl e
 
@@ -268,7 +237,7 @@ pub asked_row : (pt : Point) (p : Pid) (to : ℕ) (w : Spelled) → Whole pt →
 asked_row pt p to w h topic here apart e =
     let v = pt.view in
     let l = Line.Migration Stage.Frozen p in
-    let at : view_after v l ≡ frozen_for v p to = frozen_asked v p to topic in
+    let at : view_after v l ≡ frozen_for v p to = ap (sets_off v p) topic in
     let same : (j : MsgId) → (view_after v l).told j ≡ v.told j = λ j. ap (λ (f : MsgId → Option Told). f j) (hushed v l refl).told in
     let learns : Learns v (view_after v l) p = record {
       calm = λ m q off. ap (λ (x : View). x.known m q) at ∙ record_off v.known v.acting p (Frozen to) m q off;

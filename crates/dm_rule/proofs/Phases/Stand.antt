@@ -35,16 +35,12 @@ calm_phases v w c h = record {
   put = h.put;
 }
 
--- a message of the protocol that stands somewhere is the token of the process that it is about
-token_by : (v : View) (p : Pid) (phase : Phase) (i : MsgId) → IsIn v p phase → token_in phase ≡ Some i → (k : MessageKind) × (s : ℕ) × (d : ℕ) × (phase ≡ Moves k s d (Some i))
-token_by v p (Moves k s d id) i h e = (k, s, d, ap (λ (o : Option MsgId). Moves k s d o) e)
-token_by v p _ i h e = cc
-
 pub token_is : (v : View) (h : InPhases v) (i : MsgId) (t : Told) (z : Spot) → v.told i ≡ Some t → is_between t.kind ≡ true → 1 ≤ standing v i z
     → (p : Pid) × (k : MessageKind) × (s : ℕ) × (d : ℕ) × (t.about ≡ Of p) × (h.of p ≡ Moves k s d (Some i))
 token_is v h i t z told b st =
     let (p, about) = h.about i t told b in
-    let (k, s, d, is) = token_by v p (h.of p) i (h.each p) ((h.each p).alone i t z told b about st) in
+    let (k, s, d, is) = (elim (h.of p) as (λ phase. IsIn v p phase → token_in phase ≡ Some i → (k : MessageKind) × (s : ℕ) × (d : ℕ) × (phase ≡ Moves k s d (Some i)))
+        [ Moves k s d id ↦ λ h_ e. (k, s, d, ap (λ (o : Option MsgId). Moves k s d o) e) | _ ↦ λ h_ e. cc ]) (h.each p) ((h.each p).alone i t z told b about st) in
     (p, k, s, d, about, is)
 
 -- the token of a phase
@@ -57,17 +53,11 @@ is_list (Inbox m) = false
 is_list (Untaken a b) = false
 is_list _ = true
 
-not_listed : (z : Spot) (from to : ℕ) → (z ≡ Inbox to) ⊎ (z ≡ Untaken from to) → is_list z ≡ false
-not_listed z from to e = elim e [
-  | inl x ↦ ap is_list x
-  | inr x ↦ ap is_list x
-]
-
 listed_free : (v : View) (h : InPhases v) (i : MsgId) (t : Told) (z : Spot) → is_list z ≡ true → v.told i ≡ Some t → 1 ≤ standing v i z → (b : Bool) → is_between t.kind ≡ b → b ≡ false
 listed_free v h i t z l told st true b =
     let (p, k, s, d, about, is) = token_is v h i t z told b st in
     let token = token_at v p (h.of p) k s d i is (h.each p) in
-    absurd (false≢true (sym (not_listed z (sender_in k s d) (receiver_in k s d) (token.ways z st)) ∙ l))
+    absurd (false≢true (sym (elim (token.ways z st) [ inl x ↦ ap is_list x | inr x ↦ ap is_list x ]) ∙ l))
 listed_free v h i t z l told st false b = refl
 
 pub queued_plain : (v : View) (m : ℕ) (p : Pid) (i : MsgId) (t : Told) → InPhases v → v.told i ≡ Some t → 1 ≤ standing v i (Queue m p) → is_between t.kind ≡ false
@@ -101,47 +91,29 @@ pub record Learns (v w : View) (p : Pid) : Type 0 where
   pub back : (i : MsgId) (t : Told) → v.told i ≡ Some t → is_between t.kind ≡ true → (z : Spot) → 1 ≤ standing w i z → Came v i z
   pub on : (i : MsgId) (t : Told) (q : Pid) → pid_eq p q ≡ false → v.told i ≡ Some t → is_between t.kind ≡ true → t.about ≡ Of q → (z : Spot) → 1 ≤ standing v i z → (y : Spot) × (1 ≤ standing w i y)
 
--- the other processes stay in their phases
-learns_token : (v w : View) (p q : Pid) (k : MessageKind) (s d : ℕ) (id : MsgId) → pid_eq p q ≡ false → is_between k ≡ true → Learns v w p → IsToken v q k s d id → IsToken w q k s d id
-learns_token v w p q k s d id apart b c h =
+learns_has : (v w : View) (p q : Pid) (phase : Phase) → pid_eq p q ≡ false → is_apart phase ≡ true → Learns v w p → HasToken v q phase → HasToken w q phase
+learns_has v w p q (Moves k s d (Some id)) apart a c h =
     let t = told_between q k s d in
-    let (y, x) = c.on id t q apart h.told b refl h.spot h.stands in
+    let (y, x) = c.on id t q apart h.told (between_of k s d a) refl h.spot h.stands in
     record {
       told = c.kept id t h.told;
       from = h.from;
       spot = y;
       stands = x;
-      ways = λ z st. stands_where v id (sender_in k s d) (receiver_in k s d) z h.ways (c.back id t h.told b z st);
+      ways = λ z st. stands_where v id (sender_in k s d) (receiver_in k s d) z h.ways (c.back id t h.told (between_of k s d a) z st);
     }
-
-learns_has : (v w : View) (p q : Pid) (phase : Phase) → pid_eq p q ≡ false → is_apart phase ≡ true → Learns v w p → HasToken v q phase → HasToken w q phase
-learns_has v w p q (Moves k s d (Some id)) apart a c h = learns_token v w p q k s d id apart (between_of k s d a) c h
 learns_has v w p q _ apart a c h = tt
 
 learns_alone : (v w : View) (p q : Pid) (o : Option MsgId) → Learns v w p → Alone v q o → Alone w q o
 learns_alone v w p q o c h i t z told b about st =
     let was = c.fresh i t told b in
-    elim (c.back i t was b z st) [
-      | inl s ↦ h i t z was b about s
-      | inr x ↦ let (y, s, is) = x in h i t y was b about s
-    ]
-
-pub learns_in : (v w : View) (p q : Pid) (phase : Phase) → pid_eq p q ≡ false → Learns v w p → IsIn v q phase → IsIn w q phase
-learns_in v w p q phase apart c h = record {
-  known = λ m. ap (knows phase m) (c.calm m q apart) ∙ h.known m;
-  token = learns_has v w p q phase apart h.apart c h.token;
-  alone = learns_alone v w p q (token_in phase) c h.alone;
-  apart = h.apart;
-}
+    elim (c.back i t was b z st) [ inl s ↦ h i t z was b about s | inr x ↦ let (y, s, is) = x in h i t y was b about s ]
 
 -- the process itself comes to a phase without a message under way, where its own token is gone
 none_left : (v w : View) (p : Pid) (o : Option MsgId) → Learns v w p → Alone v p o → ((i : MsgId) → o ≡ Some i → (z : Spot) → standing w i z ≡ 0) → Alone w p None
 none_left v w p o c h gone i t z told b about st =
     let was = c.fresh i t told b in
-    let mine : o ≡ Some i = elim (c.back i t was b z st) [
-      | inl s ↦ h i t z was b about s
-      | inr x ↦ let (y, s, is) = x in h i t y was b about s
-    ] in
+    let mine : o ≡ Some i = elim (c.back i t was b z st) [ inl s ↦ h i t z was b about s | inr x ↦ let (y, s, is) = x in h i t y was b about s ] in
     absurd (let none : standing w i z ≡ 0 = gone i mine z in omega (arith, st, none))
 
 rests_token : (w : View) (p : Pid) (phase : Phase) → token_in phase ≡ None → HasToken w p phase
@@ -157,7 +129,12 @@ pub learns_phases : {o : Option Pid} (v w : View) (p : Pid) (next : Phase) (h : 
     → ((i : MsgId) → token_in (h.of p) ≡ Some i → (z : Spot) → standing w i z ≡ 0) → Turned w p next
 unfolding phase_set
 learns_phases v w p next h only c none apart known gone = record {
-  phases = phase_set v w p next (due_of next p) h only (λ (e : is_due next ≡ true). ap (λ (x : Bool). if x then Some p else None) e) (λ q off. learns_in v w p q (h.of q) off c (h.each q))
+  phases = phase_set v w p next (due_of next p) h only (λ (e : is_due next ≡ true). ap (λ (x : Bool). if x then Some p else None) e) (λ q off. record {
+    known = λ m. ap (knows (h.of q) m) (c.calm m q off) ∙ (h.each q).known m;
+    token = learns_has v w p q (h.of q) off (h.each q).apart c (h.each q).token;
+    alone = learns_alone v w p q (token_in (h.of q)) c (h.each q).alone;
+    apart = (h.each q).apart;
+  })
       (record { known = known; token = rests_token w p next none; alone = subst (λ (o : Option MsgId). Alone w p o) (sym none) (none_left v w p (token_in (h.of p)) c (h.each p).alone gone); apart = apart })
       (λ i t told b. h.about i t (c.fresh i t told b) b);
   now = ap (λ (x : Bool). if x then next else h.of p) (pid_eq-same p);

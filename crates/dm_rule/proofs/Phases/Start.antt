@@ -30,35 +30,21 @@ abbrev pub start_phase : Bool → Pid → Phase
 start_phase true q = Rests q.home
 start_phase false q = Nowhere
 
-knows_if : (c : Bool) → (if c then is_here (if c then Here else Unknown) else is_away (if c then Here else Unknown)) ≡ true
-knows_if true = refl
-knows_if false = refl
-
 start_knows : (b : Bool) (q : Pid) (m : ℕ) → knows (start_phase b q) m (at_home b q m) ≡ true
-start_knows true q m = knows_if (q.home == m)
+start_knows true q m = elim (q.home == m) as (λ c. (if c then is_here (if c then Here else Unknown) else is_away (if c then Here else Unknown)) ≡ true)
+    [ true ↦ refl | false ↦ refl ]
 start_knows false q m = refl
-
-start_token : (v : View) (b : Bool) (q : Pid) → HasToken v q (start_phase b q)
-start_token v true q = tt
-start_token v false q = tt
-
-start_apart : (b : Bool) (q : Pid) → is_apart (start_phase b q) ≡ true
-start_apart true q = refl
-start_apart false q = refl
-
-start_put : (b : Bool) (q : Pid) → is_due (start_phase b q) ≡ true → ⊥
-start_put true q e = false≢true e
-start_put false q e = false≢true e
 
 pub phases_start : (b : Boot) → InPhases (first_view b)
 phases_start b = record {
   of = λ q. start_phase (starts b.processes q) q;
   each = λ q. record {
     known = λ m. ap (knows (start_phase (starts b.processes q) q) m) (start_known b.processes m q) ∙ start_knows (starts b.processes q) q m;
-    token = start_token (first_view b) (starts b.processes q) q;
+    token = elim (starts b.processes q) as (λ b_. HasToken (first_view b) q (start_phase b_ q)) [ true ↦ tt | false ↦ tt ];
     alone = λ i t z told bt about st. cc;
-    apart = start_apart (starts b.processes q) q;
+    apart = elim (starts b.processes q) as (λ b_. is_apart (start_phase b_ q) ≡ true) [ true ↦ refl | false ↦ refl ];
   };
-  put = λ q e. absurd (start_put (starts b.processes q) q e);
+  put = λ q e. absurd ((elim (starts b.processes q) as (λ b_. is_due (start_phase b_ q) ≡ true → ⊥)
+      [ true ↦ λ e_. false≢true e_ | false ↦ λ e_. false≢true e_ ]) e);
   about = λ i t told bt. absurd (let f : None ≡ Some t = told in cc);
 }

@@ -52,16 +52,6 @@ ends_row pt p y queue w h here e =
 abbrev Into : Point → List Part → Type 0
 Into pt ps = (w : Spelled) → spelled pt ps ≡ Some w → InPhases w.point.view
 
-runs_stops : (pt : Point) (p : Pid) (queue : List MsgId) → Fit pt → pt.view.known pt.view.acting p ≡ Here → Stops (Into pt) p queue
-runs_stops pt p queue h here = record {
-  over = λ w. quiet_parts [] pt w h tt;
-  replies = λ n r w. quiet_parts (rule.says (Label.Call p n r) ∷ []) pt w h (tt, tt);
-  sends = λ id w. quiet_parts (rule.says (Label.Send p id) ∷ Routes id ∷ []) pt w h (tt, (tt, tt));
-  waits = λ w. quiet_parts (rule.says (Label.Wait p) ∷ []) pt w h (tt, tt);
-  outputs = λ word w. quiet_parts (rule.says (Label.Out p word) ∷ []) pt w h (tt, tt);
-  ends = λ y w. ends_row pt p y queue w h here;
-}
-
 -- a message of the bag, at the front of the inbox
 pub record Front (pt : Point) (i : MsgId) (msg : PlainMessage) : Type 0 where
   pub there : pt.kernel.bag i ≡ Some msg
@@ -87,10 +77,6 @@ killed_row pt i msg queue w h f k here e =
     (λ s is. killed_phases pt.view i f.told h.phases (plain_in_bag pt i msg h.sane f.there) f.is (h.sane.tells.kind i msg f.told f.there f.is ∙ k) (ap (pt.view.known pt.view.acting) same ∙ here))
     (λ s next rest more. quiet_parts (rule.drop_parts queue) (moved pt l s) rest next (drops_quiet (view_after pt.view l) queue) more) e
 
-routes_quiet : (v : View) (o : Option PlainMessage) → AllQuiet v (rule.routes o)
-routes_quiet v None = tt
-routes_quiet v (Some m) = (tt, tt)
-
 -- a kernel makes a process, of which nothing is known yet, or has no room
 creates_row : (pt : Point) (i : MsgId) (msg : PlainMessage) (child : Pid) (room : Bool) (slots blocks : ℕ) (w : Spelled) (h : Fit pt) → Front pt i msg → ((m : ℕ) → pt.view.known m child ≡ Unknown)
     → spelled pt ((if room then rule.says (Label.Created i child) else rule.says (Label.NoSpace i slots blocks)) ∷ Routes (answer_id i) ∷ []) ≡ Some w → InPhases w.point.view
@@ -111,10 +97,6 @@ asks_row pt i msg to w h f what here apart e =
     let whole : Whole next = record { state = asked_state pt i f.others k.s f.state f.front k.is; fits = fits_as pt.view next.view refl h.fits; phases = calm_phases pt.view next.view calm h.phases } in
     subst (λ (q : Point). InPhases q.view) k.point (asked_row next msg.to to k.rest whole (ap machine_in f.there ∙ ap move_target what) here apart k.more).phases
 
-kill_is : (k : MessageKind) → is_kill k ≡ true → k ≡ MessageKind.Kill
-kill_is MessageKind.Kill e = refl
-kill_is _ e = cc
-
 -- a message of the bag is handled, where nothing is known of the process that would be made next
 pub phases_handles : (b : Boot) (o pt : Point) (m : ℕ) (i : MsgId) (msg : PlainMessage) (parts : List Part) (w : Spelled) (h : Fit pt) → Front pt i msg → ((n : ℕ) → pt.view.known n (pid_of m (first_number + o.kernel.made m)) ≡ Unknown)
     → pt.view.known pt.view.acting msg.to ≡ o.view.known m msg.to → pt.view.acting ≡ m
@@ -122,11 +104,13 @@ pub phases_handles : (b : Boot) (o pt : Point) (m : ℕ) (i : MsgId) (msg : Plai
 phases_handles b o pt m i msg parts w h f unknown known acting is = by_handles (Into pt) b o m i msg parts (record {
   created = λ fixed w. creates_row pt i msg (pid_of m (first_number + o.kernel.made m)) true 0 0 w h f unknown;
   no_space = λ fixed slots blocks w. creates_row pt i msg (pid_of m (first_number + o.kernel.made m)) false slots blocks w h f unknown;
-  took = λ fixed sent w. quiet_parts (rule.says (Label.Took i) ∷ rule.routes sent) pt w h (tt, routes_quiet pt.view sent);
+  took = λ fixed sent w. quiet_parts (rule.says (Label.Took i) ∷ rule.routes sent) pt w h (tt, elim sent as (λ o. AllQuiet pt.view (rule.routes o))
+      [ None ↦ tt | Some m ↦ (tt, tt) ]);
   queued = λ to user w. quiet_parts (Says (Line.Queued i) ∷ []) pt w h (front_tame pt i msg h f, tt);
   served = λ to mild w. quiet_parts (rule.says (Label.Served i) ∷ []) pt w h (front_mild pt i msg h f mild, tt);
   answers = λ to mild j w. quiet_parts (rule.says (Label.Served i) ∷ Routes j ∷ []) pt w h (front_mild pt i msg h f mild, (tt, tt));
-  kills = λ to kills w. killed_row pt i msg (o.view.queue m msg.to) w h f (kill_is (plain_kind msg.what) kills) (known ∙ to.known);
+  kills = λ to kills w. killed_row pt i msg (o.view.queue m msg.to) w h f ((elim (plain_kind msg.what) as (λ k. is_kill k ≡ true → k ≡ MessageKind.Kill)
+      [ MessageKind.Kill ↦ λ e. refl | _ ↦ λ e. cc ]) kills) (known ∙ to.known);
   moved = λ to what w. quiet_parts (rule.says (Label.Asked i) ∷ answers_move i Outcome.Done) pt w h (tt, (tt, (tt, tt)));
   sets_off = λ machine to what apart w. asks_row pt i msg machine w h f what (known ∙ to.known) (ap (λ (a : ℕ). a == machine) acting ∙ apart);
   gone = λ to w. quiet_parts (rule.says (Label.Gone i) ∷ Routes (answer_id i) ∷ []) pt w h (tt, (tt, tt));
@@ -142,7 +126,14 @@ phases_round b o pt m p parts w h here is = by_round (Into pt) b o m p parts (λ
   runs = λ k rest stops w. (
       let l = Line.Label (Label.Ran q k) in
       line_first pt l rest w h refl refl (λ s e. calm_phases pt.view (view_after pt.view l) (line_calm pt s l h.sane tt e) h.phases)
-      (λ s next v more. stops (Into (moved pt l s)) (runs_stops (moved pt l s) q (o.view.queue m q) next (here q at)) v more)
+      (λ s next v more. stops (Into (moved pt l s)) (record {
+        over = λ w. quiet_parts [] (moved pt l s) w next tt;
+        replies = λ n r w. quiet_parts (rule.says (Label.Call q n r) ∷ []) (moved pt l s) w next (tt, tt);
+        sends = λ id w. quiet_parts (rule.says (Label.Send q id) ∷ Routes id ∷ []) (moved pt l s) w next (tt, (tt, tt));
+        waits = λ w. quiet_parts (rule.says (Label.Wait q) ∷ []) (moved pt l s) w next (tt, tt);
+        outputs = λ word w. quiet_parts (rule.says (Label.Out q word) ∷ []) (moved pt l s) w next (tt, tt);
+        ends = λ y w. ends_row (moved pt l s) q y (o.view.queue m q) w next (here q at);
+      }) v more)
       );
   takes = λ mask id first w. quiet_parts (rule.says (Label.Receive q id) ∷ []) pt w h (tt, tt);
   refuses = λ id r w. quiet_parts (rule.says (Label.Refuse q id r) ∷ []) pt w h (tt, tt);

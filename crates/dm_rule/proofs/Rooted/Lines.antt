@@ -25,9 +25,6 @@ idles v = record { known = refl; ring = refl }
 roots_idle : (s t : OneKernel) (v w : View) → Kept s t → Idles v w → Roots s v → Roots t w
 roots_idle s t v w kept i h = record { rings = rings_same v w i.known i.ring h.rings; lives = lives_same s t v w kept i.known h.lives }
 
-roots_kept : (s t : OneKernel) (v : View) → Kept s t → Roots s v → Roots t v
-roots_kept s t v kept h = record { rings = h.rings; lives = lives_same s t v v kept refl h.lives }
-
 -- one machine's ring, or what it knows of a process, or both
 roots_ring : (s t : OneKernel) (v w : View) (p : Pid) → Kept s t → w.known ≡ v.known → w.ring ≡ at_machine v.ring v.acting (moved_back p (v.ring v.acting)) → v.known v.acting p ≡ Here → Roots s v → Roots t w
 roots_ring s t v w p kept known is here h = record {
@@ -59,10 +56,6 @@ held_idles : (v : View) (id : MsgId) (o : Option Pid) → Idles v (view.held_for
 held_idles v id None = idles v
 held_idles v id (Some p) = record { known = refl; ring = refl }
 
-dropped_idles : (v : View) (id : MsgId) (o : Option Pid) → Idles v (view.dropped_for v id o)
-dropped_idles v id None = idles v
-dropped_idles v id (Some p) = record { known = refl; ring = refl }
-
 forwarded_idles : (v : View) (o : Option Pid) → Idles v (view.forwarded_for v o)
 forwarded_idles v None = idles v
 forwarded_idles v (Some p) = record { known = refl; ring = refl }
@@ -75,23 +68,15 @@ asks_idles : (v : View) (a : About) → Idles v (view.asks_on v a)
 asks_idles v (Of p) = record { known = refl; ring = refl }
 asks_idles v _ = idles v
 
-follows_idles : (v : View) (a : About) (k : MessageKind) → Idles v (view.follows_up v a k)
-follows_idles v a MessageKind.State = asks_idles v a
-follows_idles v a MessageKind.Memory = asks_idles v a
-follows_idles v a _ = idles v
-
 proto_idles : (v : View) (o : Option Told) → Idles v (view.after_proto v o)
 proto_idles v None = record { known = refl; ring = refl }
-proto_idles v (Some t) = let h = follows_idles v t.about t.kind in record { known = h.known; ring = h.ring }
-
--- a kill ends its receiver
-kills_roots : (k : MessageKind) (s : OneKernel) (v : View) (p : Pid) → Lived s p → Roots s v → Roots s (kills k v (Some p))
-kills_roots MessageKind.Kill s v p lived h = roots_leaves s s v (view.ended v p) p Ended (λ q e. e) lived refl refl h
-kills_roots _ s v p lived h = h
+proto_idles v (Some t) = let h = elim t.kind as (λ k. Idles v (view.follows_up v t.about k))
+    [ MessageKind.State ↦ asks_idles v t.about | MessageKind.Memory ↦ asks_idles v t.about | _ ↦ idles v ] in record { known = h.known; ring = h.ring }
 
 served_roots : (s : OneKernel) (v : View) (o : Option Told) → ((t : Told) → o ≡ Some t → Lived s t.receiver) → Roots s v → Roots s (served_told v o)
 served_roots s v None lived h = h
-served_roots s v (Some t) lived h = kills_roots t.kind s v t.receiver (lived t refl) h
+served_roots s v (Some t) lived h = elim t.kind as (λ k. Roots s (kills k v (Some t.receiver)))
+    [ MessageKind.Kill ↦ roots_leaves s s v (view.ended v t.receiver) t.receiver Ended (λ q e. e) (lived t refl) refl refl h | _ ↦ h ]
 
 -- what steps of the kernel say of the process that they name
 pub kept_by : (s t : OneKernel) (l : Option Label) (pt : Point) → Sane pt → pt.kernel ≡ s → kernel_after s l ≡ Some t → Kept s t
@@ -102,12 +87,6 @@ kept_by s t (Some l) pt h is e p none =
 
 alive_lived : (s t : OneKernel) (p : Pid) (l : Life) → Kept s t → s.processes p ≡ Some l → Lived t p
 alive_lived s t p l kept is none le = absurd (let f : Some l ≡ None = sym is ∙ kept p none in cc)
-
-ends_lived : (s t : OneKernel) (p : Pid) (y : Why) → Kept s t → kernel.step s (Label.End p y) ≡ Some t → Lived t p
-ends_lived s t p y kept e =
-    let (x, next, rest) = bind-is (kernel.next_trap s p) (kernel.ends s p y) t e in
-    let n = nexts s p x next in
-    alive_lived s t p (Alive n.x) kept n.is.alive
 
 served_lived : (pt : Point) (t : OneKernel) (id : MsgId) → Sane pt → Kept pt.kernel t → kernel.step pt.kernel (Label.Served id) ≡ Some t → (u : Told) → pt.view.told id ≡ Some u → Lived t u.receiver
 served_lived pt t id h kept e u told none le =
@@ -150,11 +129,15 @@ Needs pt _ = ⊤
 
 label_roots : (pt : Point) (t : OneKernel) (l : Label) → NeedsLabel pt l → Sane pt → Kept pt.kernel t → kernel.step pt.kernel l ≡ Some t → Roots pt.kernel pt.view → Roots t (view_after pt.view (Line.Label l))
 label_roots pt t (Label.Ran p k) need sane kept e h = roots_ring pt.kernel t pt.view (view_after pt.view (Line.Label (Label.Ran p k))) p kept refl refl need h
-label_roots pt t (Label.End p y) need sane kept e h = roots_leaves pt.kernel t pt.view (view_after pt.view (Line.Label (Label.End p y))) p Ended kept (ends_lived pt.kernel t p y kept e) refl refl h
+label_roots pt t (Label.End p y) need sane kept e h =
+    let (x, next, rest) = bind-is (kernel.next_trap pt.kernel p) (kernel.ends pt.kernel p y) t e in
+    let n = nexts pt.kernel p x next in
+    roots_leaves pt.kernel t pt.view (view_after pt.view (Line.Label (Label.End p y))) p Ended kept (alive_lived pt.kernel t p (Alive n.x) kept n.is.alive) refl refl h
 label_roots pt t (Label.Receive p id) need sane kept e h = roots_ring pt.kernel t pt.view (view_after pt.view (Line.Label (Label.Receive p id))) p kept refl refl need h
 label_roots pt t (Label.Refuse p id c) need sane kept e h = roots_ring pt.kernel t pt.view (view_after pt.view (Line.Label (Label.Refuse p id c))) p kept refl refl need h
 label_roots pt t (Label.Dropped id) need sane kept e h =
-    let i = dropped_idles (handled pt.view id) id (receiver_of (pt.view.told id)) in
+    let i = elim (receiver_of (pt.view.told id)) as (λ o. Idles (handled pt.view id) (view.dropped_for (handled pt.view id) id o))
+        [ None ↦ idles (handled pt.view id) | Some p ↦ record { known = refl; ring = refl } ] in
     roots_idle pt.kernel t pt.view (view_after pt.view (Line.Label (Label.Dropped id))) kept (record { known = i.known; ring = i.ring }) h
 label_roots pt t (Label.Served id) need sane kept e h =
     served_roots t (handled pt.view id) (pt.view.told id) (served_lived pt t id sane kept e) (roots_idle pt.kernel t pt.view (handled pt.view id) kept (record { known = refl; ring = refl }) h)
@@ -164,7 +147,7 @@ label_roots pt t (Label.Created id p) need sane kept e h =
     roots_comes pt.kernel t pt.view (view_after pt.view (Line.Label (Label.Created id p))) p kept (created_lived pt.kernel t id p e) refl refl h
 label_roots pt t (Label.NoSpace id a b) need sane kept e h = roots_idle pt.kernel t pt.view (handled pt.view id) kept (record { known = refl; ring = refl }) h
 label_roots pt t (Label.Asked id) need sane kept e h = roots_idle pt.kernel t pt.view (handled pt.view id) kept (record { known = refl; ring = refl }) h
-label_roots pt t _ need sane kept e h = roots_kept pt.kernel t pt.view kept h
+label_roots pt t _ need sane kept e h = record { rings = h.rings; lives = lives_same pt.kernel t pt.view pt.view kept refl h.lives }
 
 gone_here : (k : Known) (moves : ℕ) → k ≡ Here → gone_to k moves ≡ Here
 gone_here k moves e = ap (λ (x : Known). gone_to x moves) e

@@ -54,16 +54,12 @@ hears_first pt b o m id q same lives known asks = first_of pt (rule.hears b o m 
     }
     )))
 
--- a turn
-comes_first : (pt : Point) (b : Boot) (o : Point) (m : ℕ) (id : MsgId) (q : Option PlainMessage) → pt.kernel ≡ o.kernel → Lives pt.kernel pt.view → ((p : Pid) → pt.view.known pt.view.acting p ≡ o.view.known m p) → ((t : Told) → o.view.told id ≡ Some t → Asks pt t) → FirstOf pt (rule.comes_to b o m id q)
-comes_first pt b o m id None same lives known asks = hears_first pt b o m id (o.view.told id) same lives known asks
-comes_first pt b o m id (Some msg) same lives known asks = handles_first pt b o m id msg lives known
-
 pub turns_first : (pt : Point) (b : Boot) (o : Point) (m : ℕ) (inbox : List MsgId) → pt.kernel ≡ o.kernel → Lives pt.kernel pt.view → ((p : Pid) → pt.view.known pt.view.acting p ≡ o.view.known m p)
     → ((p : Pid) → rule.first_runnable o.kernel (o.view.queue m) (o.view.ring m) ≡ Some p → pt.view.known pt.view.acting p ≡ Here)
     → ((i : MsgId) (is : List MsgId) (t : Told) → inbox ≡ i ∷ is → o.view.told i ≡ Some t → Asks pt t) → FirstOf pt (rule.turns b o m inbox)
 turns_first pt b o m [] same lives known served asks = round_first pt b o m (rule.first_runnable o.kernel (o.view.queue m) (o.view.ring m)) served
-turns_first pt b o m (i ∷ is) same lives known served asks = comes_first pt b o m i (o.kernel.bag i) same lives known (λ t told. asks i is t refl told)
+turns_first pt b o m (i ∷ is) same lives known served asks = elim (o.kernel.bag i) as (λ q. FirstOf pt (rule.comes_to b o m i q))
+    [ None ↦ hears_first pt b o m i (o.view.told i) same lives known (λ t told. asks i is t refl told) | Some msg ↦ handles_first pt b o m i msg lives known ]
 
 -- the other directives
 net_needs : (l : Line) → IsNetLine l → (pt : Point) → Needs pt l

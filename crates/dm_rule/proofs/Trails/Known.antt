@@ -1,7 +1,7 @@
 -- What machines learn of a process agrees with its trail.
 use Rattle.dm_rule.proofs.Names.{◌≡◌, ◌≢◌, ◌⊎◌, ℕ, zero, suc, ◌+◌, ◌<◌, ◌==◌, Bool, true, false, List, [], ◌∷◌, ◌++◌, length, refl, ap, ◌∙◌, sym, inl, inr, arith, nat_tests, if◌then◌else◌, slice_get, Some, cases_Bool, slice_get_within, Pid}
 use Rattle.dm_rule.proofs.Names.{View, Known, Unknown, Here, Incoming, Forward, Nowhere, Trails, Trail, StoodOnTrail}
-use Rattle.dm_rule.proofs.Lines.{eq_is}
+use Rattle.dm_rule.proofs.Lines.{eq_is, eq_self}
 
 -- lists that grow at the end
 pub get_more : {X : Type 0} (xs ys : List X) (c : ℕ) (m : X) → slice_get xs c ≡ Some m → slice_get (xs ++ ys) c ≡ Some m
@@ -52,10 +52,6 @@ trail_learns v w t p x n known off there before h = record {
   kept = λ m i c e f g. is_known (v.acting == m) x (v.known m p) there (h.kept m n c before f) (sym (known m) ∙ g);
 }
 
--- it is made at home
-same_true : (m : ℕ) → (m == m) ≡ true
-same_true m = grind (arith, nat_tests)
-
 pub trail_made : (v w : View) (t : Trails) (p : Pid) → Learnt v w p Here → ((m : ℕ) → v.known m p ≡ Unknown) → ((c m : ℕ) → slice_get (t p) c ≡ Some m → m ≡ v.acting) → Trail v t p → Trail w t p
 trail_made v w t p known unknown only h = record {
   begins = h.begins;
@@ -63,9 +59,8 @@ trail_made v w t p known unknown only h = record {
   behind = λ m k j c e f. h.behind m k j c (not_forward (v.acting == m) Here (v.known m p) k j (λ x. cc) (sym (known m) ∙ e)) f;
   kept = λ m i c e f g.
       let at : m ≡ v.acting = only c m f in
-      let here : w.known v.acting p ≡ Here = known v.acting ∙ ap (λ (b : Bool). if b then Here else v.known v.acting p) (same_true v.acting) in
-      let none : Here ≡ Unknown = sym here ∙ sym (ap (λ (k : ℕ). w.known k p) at) ∙ g in
-      cc;
+      let here : w.known v.acting p ≡ Here = known v.acting ∙ ap (λ (b : Bool). if b then Here else v.known v.acting p) (eq_self v.acting) in
+      let none : Here ≡ Unknown = sym here ∙ sym (ap (λ (k : ℕ). w.known k p) at) ∙ g in cc;
 }
 
 -- its messages are sent on to a machine where it comes: the trail has one machine more
@@ -111,8 +106,7 @@ trail_left v w t p d known there at long apart h = record {
         elim (cases_Bool (c == v.moves p + 1)) [
           | inl same ↦
               absurd (let i : Some d ≡ Some m = sym at ∙ sym (ap (λ (k : ℕ). slice_get (t p) k) (eq_is c (v.moves p + 1) same)) ∙ f in
-              let dm : d ≡ m = cc in
-              apart (dm ∙ sym (eq_is v.acting m s)))
+              let dm : d ≡ m = cc in apart (dm ∙ sym (eq_is v.acting m s)))
           | inr off ↦ before c (v.moves p) (length (t p)) j within long off n
         ]
 
@@ -124,5 +118,4 @@ home_alone v t p h s c m e =
     let moves = s.unmade refl in
     let first : c ≡ 0 = omega (arith, within, long, moves) in
     let f : Some p.home ≡ Some m = sym h.begins ∙ sym (ap (λ (n : ℕ). slice_get (t p) n) first) ∙ e in
-    let g : p.home ≡ m = cc in
-    sym g
+    let g : p.home ≡ m = cc in sym g

@@ -28,20 +28,14 @@ kills_topic v MessageKind.Kill (Some p) = refl
 kills_topic v MessageKind.Kill None = refl
 kills_topic v _ o = refl
 
-served_topic : (v : View) (o : Option Told) → (served_told v o).topic ≡ v.topic
-served_topic v None = refl
-served_topic v (Some u) = kills_topic v u.kind (Some u.receiver)
-
-dropped_topic : (v : View) (i : MsgId) (o : Option Pid) → (dropped_for v i o).topic ≡ v.topic
-dropped_topic v i None = refl
-dropped_topic v i (Some p) = refl
-
 pub label_told : (v : View) (l : Label) → (after_label v l).told ≡ v.told
 label_told v l = (hushed v (Line.Label l) refl).told
 
 pub label_topic : (v : View) (l : Label) → (after_label v l).topic ≡ v.topic
-label_topic v (Label.Served id) = served_topic (handled v id) (v.told id)
-label_topic v (Label.Dropped id) = dropped_topic (handled v id) id (receiver_of (v.told id))
+label_topic v (Label.Served id) = elim (v.told id) as (λ o. (served_told (handled v id) o).topic ≡ (handled v id).topic)
+    [ None ↦ refl | Some u ↦ kills_topic (handled v id) u.kind (Some u.receiver) ]
+label_topic v (Label.Dropped id) = elim (receiver_of (v.told id)) as (λ o. (dropped_for (handled v id) id o).topic ≡ (handled v id).topic)
+    [ None ↦ refl | Some p ↦ refl ]
 label_topic v _ = refl
 
 -- kernels' own messages keep theirs

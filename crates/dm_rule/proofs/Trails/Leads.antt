@@ -42,13 +42,11 @@ passing_more f g (suc n) x less h off on = elim (cases_eq x n) [
   | inl last ↦
       let a : one (f n) ≡ 0 = ap (λ (k : ℕ). one (f k)) (sym last) ∙ ap one off in
       let b : one (g n) ≡ 1 = ap (λ (k : ℕ). one (g k)) (sym last) ∙ ap one on in
-      let c = passing_grows f g n h in
-      omega (arith, a, b, c)
+      let c = passing_grows f g n h in omega (arith, a, b, c)
   | inr other ↦
       let before : x < n = omega (arith, less, other) in
       let a = passing_more f g n x before h off on in
-      let b = one_grows (f n) (g n) (h n) in
-      omega (arith, a, b)
+      let b = one_grows (f n) (g n) (h n) in omega (arith, a, b)
 ]
 
 passing_some : (f : ℕ → Bool) (n x : ℕ) → x < n → f x ≡ true → 0 < passing f n
@@ -111,14 +109,12 @@ walk v t p machines zero c m h there most at le =
     (λ k j e.
     let less = fewer v t p machines c m k j h (most c m at) at e in
     let next = h.named m k j e in
-    let some = left_some (t p) machines j k (most j k next) next in
-    absurd (omega (arith, le, less, some)))
+    let some = left_some (t p) machines j k (most j k next) next in absurd (omega (arith, le, less, some)))
 walk v t p machines (suc n) c m h there most at le =
     goes_on (v.known m p) c (leads v p n) (there c m at)
     (λ k j e.
     let less = fewer v t p machines c m k j h (most c m at) at e in
-    let next = h.named m k j e in
-    (h.behind m k j c e at, walk v t p machines n j k h there most next (omega (arith, le, less))))
+    let next = h.named m k j e in (h.behind m k j c e at, walk v t p machines n j k h there most next (omega (arith, le, less))))
 
 left_most : (xs : List ℕ) (machines c : ℕ) → left_at xs machines c ≤ machines
 unfolding left_at

@@ -41,11 +41,6 @@ unnamed_sender s v i q bag told (Links e) = let f : None ≡ Some q = sym (ap se
 unnamed_sender s v i q bag told (Owns (Goes j u is k was r)) = cc
 unnamed_sender s v i q bag told (Owns (Comes j u is mine was k r)) = let ij : i ≡ j = cc in let f : None ≡ Some u = sym told ∙ ap v.told ij ∙ was in cc
 
--- a message that is forwarded, and the update for its sender
-back_gets : (s : OneKernel) (v : View) (a : Addresses) (t : Trails) (id : MsgId) (b : Bool) → s.bag (own_id v) ≡ None → v.told (own_id v) ≡ None → AllGet s v t (told_back_gets v a id b)
-back_gets s v a t id true bag told = ((λ q e. absurd (unnamed_receiver s v (own_id v) q bag told e)), ((λ q e. absurd (unnamed_sender s v (own_id v) q bag told e)), tt))
-back_gets s v a t id false bag told = tt
-
 pub forwarded_all : (s : OneKernel) (v : View) (a : Addresses) (t : Trails) (id : MsgId) (u : Told) (d n : ℕ) → v.told id ≡ Some u → v.known v.acting u.receiver ≡ Forward d n → ((q : Pid) → Named s v (Receiver id) q → q ≡ u.receiver)
     → s.bag (own_id v) ≡ None → v.told (own_id v) ≡ None → Trail v t u.receiver → AllAre s v a t → AllAre s v (given a (forwards v a id (v.told id))) t
 forwarded_all s v a t id u d n told at for bag fresh trail h =
@@ -54,7 +49,8 @@ forwarded_all s v a t id u d n told at for bag fresh trail h =
       (λ q e. let is : q ≡ u.receiver = for q e in
           subst (λ (x : Known). IsOn t q (place_known x (v.moves u.receiver) (a (Receiver id)))) (sym at)
           (subst (λ (p : Pid). slice_get (t p) n ≡ Some d) (sym is) (trail.named v.acting d n at))),
-      back_gets s v a t id (is_told_back u.kind) bag fresh,
+      (elim (is_told_back u.kind) as (λ b. AllGet s v t (told_back_gets v a id b))
+          [ true ↦ ((λ q e. absurd (unnamed_receiver s v (own_id v) q bag fresh e)), ((λ q e. absurd (unnamed_sender s v (own_id v) q bag fresh e)), tt)) | false ↦ tt ]),
     ))
 
 -- the update goes to where the message came from
@@ -105,8 +101,7 @@ leads_where s v h p q e (Owns (Comes i u is mine told k r)) = absurd (let f : No
 pub behind_where : (s : OneKernel) (a : Addresses) (q p : Pid) (n : ℕ) (h : Holder) → is_behind s a q p n h ≡ true → leads_to s h ≡ Some p
 behind_where s a q p n h e =
     let x = parts (belongs_to q h) (is_pid p (leads_to s h) && nat_lt (a h).moves n) e in
-    let y = parts (is_pid p (leads_to s h)) (nat_lt (a h).moves n) x.1 in
-    pid_there p (leads_to s h) y.0
+    let y = parts (is_pid p (leads_to s h)) (nat_lt (a h).moves n) x.1 in pid_there p (leads_to s h) y.0
 
 update_by : (s : OneKernel) (v : View) (a : Addresses) (t : Trails) (r p : Pid) (place : Place) → IsOn t p place → AllAre s v a t → AllAre s v (updated_to s a (Some r) (Some (p, place))) t
 update_by s v a t r p place on h g q e = elim (cases_Bool (is_behind s a r p place.moves g)) [

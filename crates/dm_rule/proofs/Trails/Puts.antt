@@ -17,8 +17,7 @@ put_named s v x y id k q h r none (Owns (Goes i u is own told to)) = elim (cases
       let at : id ≡ i = id_eq-is id i same in
       let w : Told = record { kind = k; receiver = q; about = v.topic } in
       let e : Some w ≡ Some u = sym (put_at v x y id k q ∙ ap (λ (o : Option Told). Some (view.first_told o w)) none) ∙ ap (λ (j : MsgId). (after_put v x y id k q).told j) at ∙ told in
-      let f : w ≡ u = cc in
-      inr (inl (is ∙ ap Receiver (sym at), ap (λ (z : Told). z.receiver) f ∙ to))
+      let f : w ≡ u = cc in inr (inl (is ∙ ap Receiver (sym at), ap (λ (z : Told). z.receiver) f ∙ to))
   | inr apart ↦ inl (Owns (Goes i u is own (sym (put_told_off v x y id i k q apart) ∙ told) to))
 ]
 put_named s v x y id k q h r none (Owns (Comes i u is mine told move to)) = elim (cases_Bool (id_eq id i)) [
@@ -26,30 +25,22 @@ put_named s v x y id k q h r none (Owns (Comes i u is mine told move to)) = elim
       let at : id ≡ i = id_eq-is id i same in
       let w : Told = record { kind = k; receiver = q; about = v.topic } in
       let e : Some w ≡ Some u = sym (put_at v x y id k q ∙ ap (λ (o : Option Told). Some (view.first_told o w)) none) ∙ ap (λ (j : MsgId). (after_put v x y id k q).told j) at ∙ told in
-      let f : w ≡ u = cc in
-      inr (inr (is ∙ ap Sender (sym at), ap (λ (z : Told). z.kind) f ∙ move, to))
+      let f : w ≡ u = cc in inr (inr (is ∙ ap Sender (sym at), ap (λ (z : Told). z.kind) f ∙ move, to))
   | inr apart ↦ inl (Owns (Comes i u is mine (sym (put_told_off v x y id i k q apart) ∙ told) move to))
 ]
 
--- what a kernel's own message gets counts for nothing before
-two_get : (s : OneKernel) (v : View) (t : Trails) (id : MsgId) (to from : Place) → s.bag id ≡ None → v.told id ≡ None → AllGet s v t (gets (Receiver id) to ∷ gets (Sender id) from ∷ [])
-two_get s v t id to from bag told = ((λ q e. absurd (unnamed_receiver s v id q bag told e)), ((λ q e. absurd (unnamed_sender s v id q bag told e)), tt))
-
 own_gets_by : (s : OneKernel) (v : View) (a : Addresses) (t : Trails) (id : MsgId) (q : Pid) (w : Sort) → s.bag id ≡ None → v.told id ≡ None → AllGet s v t (own_given s v a id q w)
-own_gets_by s v a t id q Sort.Request bag told = two_get s v t id _ _ bag told
-own_gets_by s v a t id q (Sort.Between passage) bag told = two_get s v t id _ _ bag told
-own_gets_by s v a t id q Sort.Unsent bag told = two_get s v t id _ _ bag told
+own_gets_by s v a t id q Sort.Request bag told = ((λ q e. absurd (unnamed_receiver s v id q bag told e)), ((λ q e. absurd (unnamed_sender s v id q bag told e)), tt))
+own_gets_by s v a t id q (Sort.Between passage) bag told = ((λ q e. absurd (unnamed_receiver s v id q bag told e)), ((λ q e. absurd (unnamed_sender s v id q bag told e)), tt))
+own_gets_by s v a t id q Sort.Unsent bag told = ((λ q e. absurd (unnamed_receiver s v id q bag told e)), ((λ q e. absurd (unnamed_sender s v id q bag told e)), tt))
 own_gets_by s v a t id q _ bag told = tt
-
-own_gets : (s : OneKernel) (v : View) (a : Addresses) (t : Trails) (id : MsgId) (q : Pid) (k : MessageKind) → s.bag id ≡ None → v.told id ≡ None → AllGet s v t (own_gives s v a id q k)
-own_gets s v a t id q k bag told = own_gets_by s v a t id q (sort_of k) bag told
 
 pub put_all : (s : OneKernel) (v : View) (a : Addresses) (t : Trails) (x y : ℕ) (id : MsgId) (k : MessageKind) (q : Pid) → s.bag id ≡ None → v.told id ≡ None → IsOn t q (given a (own_gives s v a id q k) (Receiver id))
     → (k ≡ MessageKind.Migrate → IsOn t manager (given a (own_gives s v a id q k) (Sender id))) → AllAre s v a t → AllAre s (after_put v x y id k q) (given a (first_gives (v.told id) (own_gives s v a id q k))) t
 put_all s v a t x y id k q bag none to from h g r e =
     subst (λ (o : Option Told). IsOn t r (given a (first_gives o (own_gives s v a id q k)) g)) (sym none)
     (elim (put_named s v x y id k q g r none e) [
-      | inl old ↦ given_on s v a t (own_gives s v a id q k) h (own_gets s v a t id q k bag none) g r old
+      | inl old ↦ given_on s v a t (own_gives s v a id q k) h (own_gets_by s v a t id q (sort_of k) bag none) g r old
       | inr new ↦ elim new [
         | inl way ↦ subst (λ (i : Holder). IsOn t r (given a (own_gives s v a id q k) i)) (sym way.0) (subst (λ (p : Pid). IsOn t p (given a (own_gives s v a id q k) (Receiver id))) way.1 to)
         | inr way ↦ subst (λ (i : Holder). IsOn t r (given a (own_gives s v a id q k) i)) (sym way.0) (subst (λ (p : Pid). IsOn t p (given a (own_gives s v a id q k) (Sender id))) way.2 (from way.1))
@@ -62,8 +53,7 @@ child_there k p [] n e = cc
 child_there k p (q ∷ ps) n e = elim (cases_Bool (pid_eq p q)) [
   | inl same ↦
       let f : Some k ≡ Some n = sym (ap (λ (c : Bool). if c then Some k else child_from (k + 1) p ps) same) ∙ e in
-      let g : k ≡ n = cc in
-      (0, omega (arith, g), ap Some (sym (pid_eq-is p q same)))
+      let g : k ≡ n = cc in (0, omega (arith, g), ap Some (sym (pid_eq-is p q same)))
   | inr apart ↦
       let (j, is, at) = child_there (k + 1) p ps n (sym (ap (λ (c : Bool). if c then Some k else child_from (k + 1) p ps) apart) ∙ e) in
       (suc j, omega (arith, is), at)
@@ -72,8 +62,7 @@ child_there k p (q ∷ ps) n e = elim (cases_Bool (pid_eq p q)) [
 pub child_is : (s : OneKernel) (p : Pid) (n : ℕ) → child_number s p ≡ Some n → names s (Child n) ≡ Some p
 child_is s p n e =
     let (j, is, at) = child_there 1 p s.manager.children n e in
-    let next : n ≡ suc j = omega (arith, is) in
-    ap (λ (k : ℕ). names s (Child k)) next ∙ at
+    let next : n ≡ suc j = omega (arith, is) in ap (λ (k : ℕ). names s (Child k)) next ∙ at
 
 -- a message that was put before: nothing changes
 kept_told : (o : Option Told) (u w : Told) → o ≡ Some u → Some (view.first_told o w) ≡ o
@@ -119,10 +108,7 @@ routed_named s v x y id k q h r other plain none (Owns (Goes i u is own told to)
 ]
 routed_named s v x y id k q h r other plain none (Owns (Comes i u is mine told move to)) = elim (put_named s v x y id k q h r none (Owns (Comes i u is mine told move to))) [
   | inl old ↦ old
-  | inr new ↦ elim new [
-    | inl way ↦ absurd (let f : Receiver id ≡ Sender i = sym way.0 ∙ is in cc)
-    | inr way ↦ absurd (not_own k plain way.1)
-  ]
+  | inr new ↦ elim new [ inl way ↦ absurd (let f : Receiver id ≡ Sender i = sym way.0 ∙ is in cc) | inr way ↦ absurd (not_own k plain way.1) ]
 ]
 
 pub put_routed : (s : OneKernel) (v : View) (a : Addresses) (t : Trails) (x y : ℕ) (id : MsgId) (k : MessageKind) (q : Pid) → is_kernels id ≡ false → is_own k ≡ false → v.told id ≡ None → AllAre s v a t

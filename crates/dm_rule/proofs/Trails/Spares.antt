@@ -31,25 +31,19 @@ both : (b c : Bool) → (b && c) ≡ true → (b ≡ true) × (c ≡ true)
 both true c e = (refl, e)
 both false c e = absurd (false≢true e)
 
-receiver_off : (i : MsgId) (h : Holder) → spares_one i h ≡ true → holder_eq h (Receiver i) ≡ false
-receiver_off i (Receiver j) e = not_is (id_eq j i) e
-receiver_off i _ e = refl
-
-sender_off : (i : MsgId) (h : Holder) → spares_one i h ≡ true → holder_eq h (Sender i) ≡ false
-sender_off i (Sender j) e = not_is (id_eq j i) e
-sender_off i _ e = refl
-
 pub spared_receiver : (a : Addresses) (i : MsgId) (gs : List Gets) → spares i gs ≡ true → given a gs (Receiver i) ≡ a (Receiver i)
 spared_receiver a i [] e = refl
 spared_receiver a i (g ∷ gs) e =
     let x = both (spares_one i g.holder) (spares i gs) e in
-    ap (λ (c : Bool). if c then g.place else given a gs (Receiver i)) (receiver_off i g.holder x.0) ∙ spared_receiver a i gs x.1
+    ap (λ (c : Bool). if c then g.place else given a gs (Receiver i)) ((elim g.holder as (λ h. spares_one i h ≡ true → holder_eq h (Receiver i) ≡ false)
+        [ Receiver j ↦ λ e. not_is (id_eq j i) e | _ ↦ λ e. refl ]) x.0) ∙ spared_receiver a i gs x.1
 
 pub spared_sender : (a : Addresses) (i : MsgId) (gs : List Gets) → spares i gs ≡ true → given a gs (Sender i) ≡ a (Sender i)
 spared_sender a i [] e = refl
 spared_sender a i (g ∷ gs) e =
     let x = both (spares_one i g.holder) (spares i gs) e in
-    ap (λ (c : Bool). if c then g.place else given a gs (Sender i)) (sender_off i g.holder x.0) ∙ spared_sender a i gs x.1
+    ap (λ (c : Bool). if c then g.place else given a gs (Sender i)) ((elim g.holder as (λ h. spares_one i h ≡ true → holder_eq h (Sender i) ≡ false)
+        [ Sender j ↦ λ e. not_is (id_eq j i) e | _ ↦ λ e. refl ]) x.0) ∙ spared_sender a i gs x.1
 
 pub spares_both : (i : MsgId) (xs ys : List Gets) → spares i xs ≡ true → spares i ys ≡ true → spares i (xs ++ ys) ≡ true
 spares_both i [] ys e f = f
@@ -81,14 +75,9 @@ pub fills_spares : (p : Pid) (o : Option ℕ) (place : Place) (i : MsgId) → sp
 fills_spares p None place i = refl
 fills_spares p (Some slot) place i = refl
 
--- calls
-pub fills_by_spares : (v : View) (a : Addresses) (p : Pid) (x : PlainProcess) (n : calls.CallNumber) (i : MsgId) → spares i (fills_by v a p x n) ≡ true
-fills_by_spares v a p x calls.Make i = fills_spares p (first_empty x.links) _ i
-fills_by_spares v a p x calls.Copy i = fills_spares p (first_empty x.links) _ i
-fills_by_spares v a p x _ i = refl
-
 pub made_spares : (v : View) (a : Addresses) (p : Pid) (n : ℕ) (c : Reply) (o : Option PlainProcess) (i : MsgId) → spares i (call_gets v a p n c o) ≡ true
-made_spares v a p n Reply.Done (Some x) i = fills_by_spares v a p x (calls.call_number n) i
+made_spares v a p n Reply.Done (Some x) i = elim (calls.call_number n) as (λ n_. spares i (fills_by v a p x n_) ≡ true)
+    [ calls.Make ↦ fills_spares p (first_empty x.links) _ i | calls.Copy ↦ fills_spares p (first_empty x.links) _ i | _ ↦ refl ]
 made_spares v a p n Reply.Done None i = refl
 made_spares v a p n _ o i = refl
 
@@ -125,14 +114,11 @@ receives_links_spares a p id n slots (l ∷ ls) i =
     spares_both i (fills p (first_empty slots) (a (Enclosed id n))) (receives_links a p id (n + 1) (slot_after slots l (first_empty slots)) ls)
     (fills_spares p (first_empty slots) (a (Enclosed id n)) i) (receives_links_spares a p id (n + 1) (slot_after slots l (first_empty slots)) ls i)
 
-pub receives_what_spares : (a : Addresses) (p : Pid) (id : MsgId) (x : PlainProcess) (w : PlainWhat) (i : MsgId) → spares i (receives_what a p id x w) ≡ true
-receives_what_spares a p id x (PlainWhat.User b1 b2 b3 b4) i = receives_links_spares a p id 0 x.links b4 i
-receives_what_spares a p id x _ i = refl
-
 pub receives_spares : (a : Addresses) (p : Pid) (id : MsgId) (o : Option PlainProcess) (m : Option PlainMessage) (i : MsgId) → spares i (addresses.reception_gets a p id o m) ≡ true
 receives_spares a p id None m i = refl
 receives_spares a p id (Some x) None i = refl
-receives_spares a p id (Some x) (Some m) i = receives_what_spares a p id x m.what i
+receives_spares a p id (Some x) (Some m) i = elim m.what as (λ w. spares i (receives_what a p id x w) ≡ true)
+    [ PlainWhat.User b1 b2 b3 b4 ↦ receives_links_spares a p id 0 x.links b4 i | _ ↦ refl ]
 
 -- served
 landed_spares : (s t : OneKernel) (v : View) (a : Addresses) (id : MsgId) (m : PlainMessage) (c : pieces.Landed) (i : MsgId) → Outside t → is_kernels i ≡ true → service.landed s id m c ≡ t → spares i (landing_gets v a m.to (Some c)) ≡ true
@@ -158,10 +144,6 @@ pub creates_what_spares : (a : Addresses) (id : MsgId) (child : Pid) (w : PlainW
 creates_what_spares a id child (PlainWhat.Create b1 b2) i = child_links_spares a child id 0 b2 i
 creates_what_spares a id child _ i = refl
 
-creates_spares : (v : View) (a : Addresses) (id : MsgId) (child : Pid) (o : Option PlainMessage) (i : MsgId) → is_kernels i ≡ true → spares i (addresses.creation_gets v a id child o) ≡ true
-creates_spares v a id child None i own = refl
-creates_spares v a id child (Some m) i own = two_more i (answer_id id) (addresses.creates_what a id child m.what) (answers_apart i id own) (creates_what_spares a id child m.what i)
-
 -- the switchboard
 pub finds_spares : (a : Addresses) (sent : MsgId) (names : List NamedLink) (body : List ℕ) (k : board.Answer) (i : MsgId) → spares i (board_finds a sent names body k) ≡ true
 finds_spares a sent names [] k i = refl
@@ -179,10 +161,6 @@ board_links_spares s v a id code channel body (l ∷ ls) i own =
     let asked = board.asks s.switchboard.names body ls in
     two_more i sent (board_finds a sent s.switchboard.names body asked.answer ++ board_keeps a id s.switchboard.names asked.answer) (apart i sent own refl)
     (spares_both i (board_finds a sent s.switchboard.names body asked.answer) (board_keeps a id s.switchboard.names asked.answer) (finds_spares a sent s.switchboard.names body asked.answer i) (keeps_spares a id s.switchboard.names asked.answer i))
-
-board_takes_spares : (s : OneKernel) (v : View) (a : Addresses) (id : MsgId) (w : PlainWhat) (i : MsgId) → is_kernels i ≡ true → spares i (board_gets s v a id w) ≡ true
-board_takes_spares s v a id (PlainWhat.User b1 b2 b3 b4) i own = board_links_spares s v a id b1 b2 b3 b4 i own
-board_takes_spares s v a id _ i own = refl
 
 -- the manager
 pub tells_spares : (v : View) (a : Addresses) (id : MsgId) (code : ℕ) (sent : PlainMessage) (w : PlainWhat) (i : MsgId) → id_eq sent.id i ≡ false → spares i (manager_tells v a id code sent w) ≡ true
@@ -215,22 +193,14 @@ takes_spares : (s t : OneKernel) (v : View) (a : Addresses) (id : MsgId) (m : Pl
     else if c then bind (manage.manager_takes s.manager s.machines (length s.images) m m.what) (λ (k : manage.ManagerTook). Some (service.manager_took s id k))
     else None) ≡ Some t
     → spares i (if b then board_gets s v a id m.what else manager_gets s v a m m.what (manage.manager_takes s.manager s.machines (length s.images) m m.what)) ≡ true
-takes_spares s t v a id m true c i out own e = board_takes_spares s v a id m.what i own
+takes_spares s t v a id m true c i out own e = elim m.what as (λ w. spares i (board_gets s v a id w) ≡ true)
+    [ PlainWhat.User b1 b2 b3 b4 ↦ board_links_spares s v a id b1 b2 b3 b4 i own | _ ↦ refl ]
 takes_spares s t v a id m false true i out own e =
     let o = manage.manager_takes s.manager s.machines (length s.images) m m.what in
     let (k, is, last) = bind-is o (λ (x : manage.ManagerTook). Some (service.manager_took s id x)) t e in
     let f : service.manager_took s id k ≡ t = cc in
     manager_takes_spares s v a m m.what o i (λ j g. let h : k ≡ j = (let z : Some k ≡ Some j = sym is ∙ g in cc) in subst (λ (y : manage.ManagerTook). (x : PlainMessage) → y.message ≡ Some x → id_eq x.id i ≡ false) h (took_outside s t id k i k.message refl out own f))
 takes_spares s t v a id m false false i out own e = cc
-
--- a request to move
-follows_spares : (a : Addresses) (id : MsgId) (o : Option PlainMessage) (i : MsgId) → spares i (request.given_to_follow a id o) ≡ true
-follows_spares a id None i = refl
-follows_spares a id (Some m) i = refl
-
-ends_spares : (v : View) (a : Addresses) (id : MsgId) (o : Option Pid) (i : MsgId) → is_kernels i ≡ true → spares i (request.given_at_end v a id o) ≡ true
-ends_spares v a id None i own = refl
-ends_spares v a id (Some p) i own = two_more i (answer_id id) [] (answers_apart i id own) refl
 
 -- a row a label
 pub gives_spares : (s t : OneKernel) (v : View) (a : Addresses) (l : Label) (i : MsgId) → kernel.step s l ≡ Some t → Outside t → is_kernels i ≡ true → spares i (gives s v a l) ≡ true
@@ -249,8 +219,10 @@ gives_spares s t v a (Label.Gone id) i is out own = two_more i (answer_id id) []
 gives_spares s t v a (Label.Took id) i is out own =
     let (m, there, rest) = bind-is (s.bag id) (service.takes s id) t is in
     subst (λ (gs : List Gets). spares i gs ≡ true) (ap (addresses.taking_gets s v a id) (sym there)) (takes_spares s t v a id m (pid_eq m.to switchboard) (pid_eq m.to manager) i out own rest)
-gives_spares s t v a (Label.Created id child) i is out own = creates_spares v a id child (s.bag id) i own
+gives_spares s t v a (Label.Created id child) i is out own = elim (s.bag id) as (λ o. spares i (addresses.creation_gets v a id child o) ≡ true)
+    [ None ↦ refl | Some m ↦ two_more i (answer_id id) (addresses.creates_what a id child m.what) (answers_apart i id own) (creates_what_spares a id child m.what i) ]
 gives_spares s t v a (Label.NoSpace id f b) i is out own = two_more i (answer_id id) [] (answers_apart i id own) refl
-gives_spares s t v a (Label.Asked id) i is out own = follows_spares a id (s.bag id) i
-gives_spares s t v a (Label.Answered id o) i is out own = ends_spares v a id (s.noted id) i own
+gives_spares s t v a (Label.Asked id) i is out own = elim (s.bag id) as (λ o. spares i (request.given_to_follow a id o) ≡ true) [ None ↦ refl | Some m ↦ refl ]
+gives_spares s t v a (Label.Answered id o) i is out own = elim (s.noted id) as (λ o. spares i (request.given_at_end v a id o) ≡ true)
+    [ None ↦ refl | Some p ↦ two_more i (answer_id id) [] (answers_apart i id own) refl ]
 gives_spares s t v a _ i is out own = refl

@@ -8,10 +8,6 @@ start_no_forward : (b : Bool) (k j : ℕ) → (if b then Here else Unknown) ≢ 
 start_no_forward true k j = λ e. cc
 start_no_forward false k j = λ e. cc
 
-start_some : (b c : Bool) → (if b && c then Here else Unknown) ≢ Unknown → b ≡ true
-start_some true c e = refl
-start_some false c e = absurd (e refl)
-
 start_place : (p : Pid) (c m : ℕ) → slice_get (p.home ∷ []) c ≡ Some m → (p.home == m) ≡ true
 start_place p zero m e = let f : p.home ≡ m = cc in let g : (p.home == p.home) ≡ true = grind (arith, nat_tests) in ap (λ (n : ℕ). p.home == n) (sym f) ∙ g
 start_place p (suc c) m e = cc
@@ -26,7 +22,8 @@ trail_start b p = record {
   named = λ m k j e. absurd (start_no_forward (starts b.processes p && (p.home == m)) k j (sym (start_known b.processes m p) ∙ e));
   behind = λ m k j c e f. absurd (start_no_forward (starts b.processes p && (p.home == m)) k j (sym (start_known b.processes m p) ∙ e));
   kept = λ m n c e f g.
-      let some : starts b.processes p ≡ true = start_some (starts b.processes p) (p.home == n) (λ x. e (start_known b.processes n p ∙ x)) in
+      let some : starts b.processes p ≡ true = (elim (starts b.processes p) as (λ b_. (if b_ && (p.home == n) then Here else Unknown) ≢ Unknown → b_ ≡ true)
+          [ true ↦ λ e_. refl | false ↦ λ e_. absurd (e_ refl) ]) (λ x. e (start_known b.processes n p ∙ x)) in
       here_not (starts b.processes p && (p.home == m)) (both_true (starts b.processes p) (p.home == m) some (start_place p c m f)) (sym (start_known b.processes m p) ∙ g);
 }
 
@@ -34,14 +31,11 @@ stood_start : (b : Boot) (p : Pid) (s : Bool) → StoodOnTrail (first_view b) fi
 stood_start b p true = record { now = refl; next = λ d e. absurd (let f : None ≡ Some d = e in cc); long = refl; unmade = λ e. refl }
 stood_start b p false = record { now = refl; next = λ d e. absurd (let f : None ≡ Some d = e in cc); long = refl; unmade = λ e. refl }
 
-home_on : (p : Pid) (place : Place) → place ≡ unmoved p.home → IsOn first_trails p place
-home_on p place e = subst (IsOn first_trails p) (sym e) refl
-
 pub trailed_start : (b : Boot) → IsValid b → Trailed (first_point b) first_trails (λ p. start_phase (starts b.processes p) p)
 trailed_start b valid = record {
   trail = trail_start b;
   stood = λ p. stood_start b p (starts b.processes p);
-  links = λ h q e. home_on q ((first_point b).addresses h) ((Homes-start b valid).home h q e);
+  links = λ h q e. subst (IsOn first_trails q) (sym ((Homes-start b valid).home h q e)) refl;
   own = record {
     receiver = λ i u k e. absurd (let f : None ≡ Some u = e in cc);
     sender = λ i u m e k. absurd (let f : None ≡ Some u = e in cc);

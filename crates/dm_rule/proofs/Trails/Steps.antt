@@ -2,13 +2,9 @@
 use Rattle.dm_rule.proofs.Names.{◌≡◌, ◌≢◌, ℕ, ◌+◌, ◌==◌, ◌&&◌, Bool, true, false, not, List, [], ◌∷◌, ◌++◌, length, refl, ap, ◌∙◌, sym, subst, inl, inr, arith, if◌then◌else◌, slice_get, Option, Some, cases_Bool, false≢true, nat_tests}
 use Rattle.dm_rule.proofs.Names.{append-nil, Pid, pid_eq, MsgId, MessageKind, Line, Stage, at_record, View, Known, Unknown, Here, Frozen, Incoming, Forward, Ended, view_after, front_of, front_told, target_of, gone_to, Nowhere, Moves, IsIn}
 use Rattle.dm_rule.proofs.Names.{kind_comes, is_restart, is_early, is_between, is_away, Trails, Trail, StoodOnTrail, destination, trails_after, pid_eq-is, pid_eq-same, kind_leaves}
-use Rattle.dm_rule.proofs.Lines.{eq_is, parts, not_true}
+use Rattle.dm_rule.proofs.Lines.{eq_is, parts, not_true, eq_self}
 use Rattle.dm_rule.proofs.Seen.{aim, sets}
 use Rattle.dm_rule.proofs.Trails.Known.{trail_same, trail_learns, trail_made, trail_grows, trail_left, home_alone}
-
--- where a process moves: the source holds it, and the destination expects it
-same_true : (m : ℕ) → (m == m) ≡ true
-same_true m = grind (arith, nat_tests)
 
 pub holds_is : (k : MessageKind) (d : ℕ) (x : Known) → is_restart k ≡ false → kind_leaves k d x ≡ true → x ≡ Frozen d
 holds_is k d (Frozen m) e h = let both = parts (not (is_restart k)) (d == m) h in sym (ap Frozen (eq_is d m both.1))
@@ -22,16 +18,16 @@ expects_is k s (Forward m n) e h = absurd (false≢true (sym e ∙ h))
 expects_is k s _ e h = absurd (false≢true h)
 
 pub two_apart : (v : View) (p : Pid) (k : MessageKind) (s d : ℕ) (o : Option MsgId) → IsIn v p (Moves k s d o) → d ≢ s
-two_apart v p k s d o h e = let both = parts (is_between k) (not (s == d)) h.apart in false≢true (sym (ap not (ap (λ (n : ℕ). s == n) e ∙ same_true s)) ∙ both.1)
+two_apart v p k s d o h e = let both = parts (is_between k) (not (s == d)) h.apart in false≢true (sym (ap not (ap (λ (n : ℕ). s == n) e ∙ eq_self s)) ∙ both.1)
 
 pub source_holds : (v : View) (p : Pid) (k : MessageKind) (s d : ℕ) (o : Option MsgId) → IsIn v p (Moves k s d o) → is_restart k ≡ false → v.known s p ≡ Frozen d
-source_holds v p k s d o h e = holds_is k d (v.known s p) e (sym (ap (λ (c : Bool). if c then kind_leaves k d (v.known s p) else if d == s then kind_comes k s (v.known s p) else is_away (v.known s p)) (same_true s)) ∙ h.known s)
+source_holds v p k s d o h e = holds_is k d (v.known s p) e (sym (ap (λ (c : Bool). if c then kind_leaves k d (v.known s p) else if d == s then kind_comes k s (v.known s p) else is_away (v.known s p)) (eq_self s)) ∙ h.known s)
 
 pub destination_expects : (v : View) (p : Pid) (k : MessageKind) (s d : ℕ) (o : Option MsgId) → IsIn v p (Moves k s d o) → is_early k ≡ false → v.known d p ≡ Incoming s
 destination_expects v p k s d o h e =
     let off : (s == d) ≡ false = not_true (s == d) (λ x. two_apart v p k s d o h (sym (eq_is s d x))) in
     expects_is k s (v.known d p) e
-    (sym (ap (λ (c : Bool). if c then kind_leaves k d (v.known d p) else if d == d then kind_comes k s (v.known d p) else is_away (v.known d p)) off ∙ ap (λ (c : Bool). if c then kind_comes k s (v.known d p) else is_away (v.known d p)) (same_true d)) ∙ h.known d)
+    (sym (ap (λ (c : Bool). if c then kind_leaves k d (v.known d p) else if d == d then kind_comes k s (v.known d p) else is_away (v.known d p)) off ∙ ap (λ (c : Bool). if c then kind_comes k s (v.known d p) else is_away (v.known d p)) (eq_self d)) ∙ h.known d)
 
 -- one machine learns something of one process
 pub set_at : (v : View) (p : Pid) (x : Known) (m : ℕ) → at_record v.known v.acting p x m p ≡ (if v.acting == m then x else v.known m p)

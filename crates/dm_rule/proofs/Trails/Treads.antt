@@ -153,14 +153,10 @@ proto_place : (v w : View) (a : Addresses) (t : Trails) (id : MsgId) (o : Option
 proto_place v w a t id None told h p m c e = cc
 proto_place v w a t id (Some u) told h p m c e = h.about id u p m c told e
 
--- a label
-kills_trail : (v : View) (t : Trails) (p q : Pid) (k : MessageKind) → (k ≡ MessageKind.Kill → v.known v.acting p ≡ Here) → Trail v t q → Trail (kills k v (Some p)) t q
-kills_trail v t p q MessageKind.Kill here h = ended_trail v (kills MessageKind.Kill v (Some p)) t p q refl (here refl) h
-kills_trail v t p q _ here h = h
-
 served_trail : (v : View) (t : Trails) (q : Pid) (o : Option Told) → ((u : Told) → o ≡ Some u → u.kind ≡ MessageKind.Kill → v.known v.acting u.receiver ≡ Here) → Trail v t q → Trail (served_told v o) t q
 served_trail v t q None here h = h
-served_trail v t q (Some u) here h = kills_trail v t u.receiver q u.kind (here u refl) h
+served_trail v t q (Some u) here h = (elim u.kind as (λ k. ((k ≡ MessageKind.Kill → v.known v.acting u.receiver ≡ Here)) → Trail (kills k v (Some u.receiver)) t q)
+    [ MessageKind.Kill ↦ λ here_. ended_trail v (kills MessageKind.Kill v (Some u.receiver)) t u.receiver q refl (here_ refl) h | _ ↦ λ here_. h ]) (here u refl)
 
 handled_trail : (v : View) (t : Trails) (id : MsgId) (q : Pid) → Trail v t q → Trail (handled v id) t q
 handled_trail v t id q h = trail_same v (handled v id) t t q (λ m. refl) refl h
@@ -172,17 +168,9 @@ label_trail pt t (Label.Served id) q fits h = served_trail (handled pt.view id) 
 label_trail pt t (Label.Dropped id) q fits h = trail_same pt.view (after_label pt.view (Label.Dropped id)) t t q (λ m. dropped_known (handled pt.view id) id (receiver_of (pt.view.told id)) m q) refl h
 label_trail pt t any_ q fits h = trail_same pt.view (after_label pt.view any_) t t q (λ m. refl) refl h
 
--- where an asked process goes is no place of a process
-move_place : (w : PlainWhat) (p : Pid) (m c : ℕ) → move_target w ≡ view.Place p m c → ⊥
-move_place (PlainWhat.Move machine) p m c e = cc
-move_place _ p m c e = cc
-
-moved_place : (o : Option PlainMessage) (p : Pid) (m c : ℕ) → machine_in o ≡ view.Place p m c → ⊥
-moved_place None p m c e = cc
-moved_place (Some x) p m c e = move_place x.what p m c e
-
 label_place : (s : OneKernel) (v : View) (l : Label) (p : Pid) (m c : ℕ) → (seen s v (Line.Label l)).topic ≡ view.Place p m c → (after_label v l).topic ≡ view.Place p m c
-label_place s v (Label.Asked id) p m c e = absurd (moved_place (s.bag id) p m c e)
+label_place s v (Label.Asked id) p m c e = absurd ((elim (s.bag id) as (λ o. machine_in o ≡ view.Place p m c → ⊥)
+    [ None ↦ λ e_. cc | Some x ↦ λ f. (elim x.what as (λ w. move_target w ≡ view.Place p m c → ⊥) [ PlainWhat.Move machine ↦ λ e_. cc | _ ↦ λ e_. cc ]) f ]) e)
 label_place s v _ p m c e = e
 
 label_treads : (pt : Point) (s : OneKernel) (t : Trails) (l : Label) → kernel.step pt.kernel l ≡ Some s → LabelFits pt t l → Treads pt t → Treads (moved pt (Line.Label l) s) t
@@ -201,8 +189,7 @@ forward_topic v t p x d n is at q m c e =
     let f : view.Place p d n ≡ view.Place q m c = sym (ap (forward_about p) is) ∙ e in
     let pq : p ≡ q = cc in
     let dm : d ≡ m = cc in
-    let nc : n ≡ c = cc in
-    sym (ap (λ (r : Pid). slice_get (t r) c) pq) ∙ sym (ap (slice_get (t p)) nc) ∙ at ∙ ap Some dm
+    let nc : n ≡ c = cc in sym (ap (λ (r : Pid). slice_get (t r) c) pq) ∙ sym (ap (slice_get (t p)) nc) ∙ at ∙ ap Some dm
 
 forwarded_topic : (v w : View) (t : Trails) (u : Told) (o : Option Told) (d n : ℕ) → o ≡ Some u → w.known w.acting u.receiver ≡ Forward d n → slice_get (t u.receiver) n ≡ Some d → (q : Pid) (m c : ℕ) → (forwarded_for w (receiver_of o)).topic ≡ view.Place q m c → slice_get (t q) c ≡ Some m
 forwarded_topic v w t u None d n is away at q m c e = absurd (let f : None ≡ Some u = is in cc)

@@ -30,10 +30,6 @@ within_set n v w p x known acting h = record {
   acting = subst (λ (a : ℕ). a < n) (sym acting) h.acting;
 }
 
-head_within : (n : ℕ) (v : View) (d : Step) → actor d < n → Within n v → Within n (after_head v d)
-head_within n v (Step.Turn m) e h = record { known = h.known; acting = e }
-head_within n v _ e h = record { known = h.known; acting = e }
-
 pub queued_acting : (v : View) (i : MsgId) (o : Option Pid) → (queued_for v i o).acting ≡ v.acting
 queued_acting v i None = refl
 queued_acting v i (Some p) = refl
@@ -50,13 +46,10 @@ taken_within : (n : ℕ) (v : View) (b : ℕ) (o : Option MsgId) → Within n v 
 taken_within n v b None h = h
 taken_within n v b (Some i) h = record { known = h.known; acting = h.acting }
 
-kills_within : (n : ℕ) (v : View) (k : MessageKind) (p : Pid) → Within n v → Within n (kills k v (Some p))
-kills_within n v MessageKind.Kill p h = within_set n v (kills MessageKind.Kill v (Some p)) p Ended refl refl h
-kills_within n v _ p h = h
-
 served_within : (n : ℕ) (v : View) (o : Option Told) → Within n v → Within n (served_told v o)
 served_within n v None h = h
-served_within n v (Some u) h = kills_within n v u.kind u.receiver h
+served_within n v (Some u) h = elim u.kind as (λ k. Within n (kills k v (Some u.receiver)))
+    [ MessageKind.Kill ↦ within_set n v (kills MessageKind.Kill v (Some u.receiver)) u.receiver Ended refl refl h | _ ↦ h ]
 
 label_within : (n : ℕ) (v : View) (l : Label) → Within n v → Within n (after_label v l)
 label_within n v (Label.End p y) h = within_set n v (after_label v (Label.End p y)) p Ended refl refl h
@@ -74,7 +67,8 @@ stage_within n v p Stage.Restarted h = within_set n v (view_after v (Line.Migrat
 stage_within n v p _ h = record { known = h.known; acting = h.acting }
 
 pub line_within : (n : ℕ) (v : View) (l : Line) → HeadIn n l → Within n v → Within n (view_after v l)
-line_within n v (Line.Head d) e h = head_within n v d e h
+line_within n v (Line.Head d) e h = (elim d as (λ d_. actor d_ < n → Within n (after_head v d_))
+    [ Step.Turn m ↦ λ e_. record { known = h.known; acting = e_ } | _ ↦ λ e_. record { known = h.known; acting = e_ } ]) e
 line_within n v (Line.Label l) e h = label_within n v l h
 line_within n v (Line.Migration s p) e h = stage_within n v p s h
 line_within n v (Line.Stays p) e h = within_set n v (view_after v (Line.Stays p)) p Here refl refl h
