@@ -2,8 +2,9 @@
 pub use Rattle.std.proofs.lemmas.List.Sums.{fold-append}
 pub use Rattle.std.specs.List.{fold}
 pub use Rattle.dm_records.proofs.Names.{Option, Pid, Some, ap, arith, false, refl, sym, ◌∙◌, ◌≡◌}
-pub use Rattle.dm_processor.proofs.Names.{List, [], get_or, length, ℕ, ◌*◌, ◌++◌, ◌+◌, ◌-◌, ◌<◌, ◌^◌, ◌∷◌, ◌≤◌}
-pub use Rattle.dm_stream.proofs.Names.{inl, inr, subst}
+pub use Rattle.dm_processor.proofs.Names.{List, [], drop, get_or, length, ℕ, ◌*◌, ◌++◌, ◌+◌, ◌-◌, ◌<◌, ◌^◌, ◌∷◌, ◌≤◌}
+pub use Rattle.dm_wire.proofs.Names.{inl, inr}
+pub use Rattle.dm_stream.proofs.Names.{subst}
 pub use Rattle.dm_packet.proofs.Names.{All, IfOk}
 pub use Rattle.dm_process.proofs.Names.{add-one}
 pub use Rattle.dm_linkupdate.proofs.Names.{None}
@@ -22,7 +23,7 @@ pub use Rattle.dm_mirror.proofs.Names.{AreWhole, GoesOn, IsDirective, RunStands,
 pub use Rattle.dm_run.proofs.Counted.{happens, worn_out}
 pub use Rattle.dm_run.proofs.Decisions.{ends_once}
 pub use Rattle.dm_run.proofs.Laws.{next_is_said, run_begins, run_goes_on}
-pub use Rattle.dm_run.proofs.Names.{Cursor, IsErr, IsOver, Lasts, RunGoes, WearsAfter, drop, todo_of}
+pub use Rattle.dm_run.proofs.Names.{Cursor, IsErr, IsOver, Lasts, RunGoes, WearsAfter, todo_of}
 pub use Rattle.dm_run.proofs.Settling.{IsOnWay, goes_on_way, on_way_begins}
 pub use Rattle.dm_run.proofs.Stepping.{are_directives, one_group_more}
 pub use Rattle.dm_drawing.specs.Collected.{Came, HasKept, HasWorn, Stopped}

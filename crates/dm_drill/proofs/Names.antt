@@ -1,7 +1,8 @@
 -- What the proofs of this crate name of what lies below it.
 pub use Rattle.dm_records.proofs.Names.{Bool, Option, Some, ap, arith, false, refl, sym, true, ◌∙◌, ◌≡◌}
-pub use Rattle.dm_processor.proofs.Names.{List, [], get_or, length, take, ℕ, ◌*◌, ◌++◌, ◌+◌, ◌-◌, ◌<◌, ◌^◌, ◌∷◌, ◌≤◌}
-pub use Rattle.dm_stream.proofs.Names.{inl, inr, subst}
+pub use Rattle.dm_processor.proofs.Names.{List, [], drop, get_or, length, take, ℕ, ◌*◌, ◌++◌, ◌+◌, ◌-◌, ◌<◌, ◌^◌, ◌∷◌, ◌≤◌}
+pub use Rattle.dm_wire.proofs.Names.{inl, inr}
+pub use Rattle.dm_stream.proofs.Names.{subst}
 pub use Rattle.dm_packet.proofs.Names.{All, OnOk, append-nil, ◌↔◌}
 pub use Rattle.dm_draw.proofs.Names.{All-nil, Boot, Directive, IsValid}
 pub use Rattle.dm_draw.specs.declared.drill.Drill.{Drill}
@@ -20,14 +21,14 @@ pub use Rattle.dm_mirror.proofs.QuietSaid.{quiet_is_said}
 pub use Rattle.dm_run.proofs.Comes.{always_ok}
 pub use Rattle.dm_run.proofs.Counted.{happens, worn_out}
 pub use Rattle.dm_run.proofs.Decisions.{ends_once}
-pub use Rattle.dm_run.proofs.Names.{Cursor, HasCome, IsErr, Lasts, Offered, World, appended, drop, rounds_of, todo_of}
+pub use Rattle.dm_run.proofs.Names.{Cursor, HasCome, IsErr, Lasts, Offered, World, appended, rounds_of, todo_of}
 pub use Rattle.dm_run.proofs.Settling.{IsOnWay, goes_on_way}
 pub use Rattle.dm_run.proofs.Stepping.{are_directives, blames_err, one_group_more}
 pub use Rattle.dm_run.proofs.Writing.{some_left}
 pub use Rattle.dm_run.specs.declared.stop.Stop.{Stop}
 pub use Rattle.dm_run.specs.declared.stop.Stop.TheVariants.{NoMemory, Worn, WriteFault}
 pub use Rattle.dm_drill.specs.Counts.{counted_as, nothing, one_more, shown, with_group}
-unfoldable pub use Rattle.dm_drill.specs.Counts.{with_groups, with_group_lines}
+unfoldable pub use Rattle.dm_drill.specs.Counts.{with_group_lines, with_groups}
 pub use Rattle.dm_drill.specs.Drilled.{Came, DrillIsOfFirst, DrillIsWhole, DrillTold, DrillWears, Ended, HasDrilled, Stopped, TellsQuiet, at, text_shown}
 pub use Rattle.dm_drill.specs.Summary.{summary}
 pub use Rattle.dm_drill.specs.Totals.{Totals}
