@@ -56,8 +56,7 @@ move_stands b es w pt p m valid leads ((l, h, st), sent) lt may =
 steps_stand_by : FewAlways → TablesAlways → StepsStand
 steps_stand_by fews tables b es w pt (Step.Turn m) valid leads stands able readable lt =
     let both = run_always b es pt valid leads in
-    let counts = fews b es pt valid leads stands.0.2.counts in
-    let may = may_step_turn b es w pt m valid leads both.run both.own counts stands able lt in
+    let may = may_step_turn b es w pt m valid leads both.run both.own (fews b es pt valid leads stands.0.2.counts) stands able lt in
     (may, λ whole. turn_stands tables b es w pt m valid leads stands lt may whole)
 steps_stand_by fews tables b es w pt (Step.Tick m) valid leads ((l, h, s), sent) able readable lt =
     (may_step_tick b w m able lt, λ whole. inl (tick_goes b w pt l h m s sent (below b es pt m leads lt)))
@@ -72,8 +71,7 @@ steps_stand_by fews tables b es w pt (Step.Deliver a c k) valid leads ((l, h, s)
       (λ whole. inl (deliver_goes b w pt l h a c k valid run s sent a_in c_in apart machines reads)),
     )
 steps_stand_by fews tables b es w pt (Step.Migrate p m) valid leads stands able readable lt =
-    let counts = fews b es pt valid leads stands.0.2.counts in
-    let may = may_step_migrate b es w pt p m valid leads counts stands able lt in
+    let may = may_step_migrate b es w pt p m valid leads (fews b es pt valid leads stands.0.2.counts) stands able lt in
     (may, λ whole. move_stands b es w pt p m valid leads stands lt may)
 
 few_always : FewAlways

@@ -124,8 +124,7 @@ stands_went b pt l w h m c n x apart small less out st =
     let is : u.nodes m ≡ g = at_here w.nodes m g in
     let given : (u.nodes m).senders c ≡ with_given ((w.nodes m).senders c) x = (λ i. (is i).senders c) ∙ at_here (w.nodes m).senders c (with_given ((w.nodes m).senders c) x) in
     let pair : PairStands b pt l u h m c = st.pairs m c small less apart in
-    let senders : Senders u m c (at_machine u.nodes m (node_went w m c x)) (with_sent ((u.nodes m).senders c)) =
-    one_sender u m c (node_went w m c x) (with_sent ((u.nodes m).senders c)) (λ i. at_machine (sym is i).senders c (with_sent ((sym is i).senders c))) (λ i. (sym is i).receivers) in
+    let senders : Senders u m c (at_machine u.nodes m (node_went w m c x)) (with_sent ((u.nodes m).senders c)) = grind (arith, nat_tests, one_sender) in
     let goes : StandsWith b (world_put u m c (at_machine u.nodes m (node_went w m c x)) (Load.Data n x)) (point_put pt m c (Load.Data n x)) l (with_put h m c (Load.Data n x)) =
     stands_put b pt l u h m c (at_machine u.nodes m (node_went w m c x)) (with_sent ((u.nodes m).senders c)) (Load.Data n x) apart senders (λ z e. at_other u.nodes m _ z e)
     (λ d. same_records u m (node_went w m c x) d (m == d) refl (λ i. (sym is i).kernel.records))

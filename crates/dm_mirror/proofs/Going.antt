@@ -72,11 +72,10 @@ goes_on b ds gs pt left w n valid machines r is fits may g again =
 
 pub run_goes_on_by : StepsStand → RunGoesOn
 run_goes_on_by steps b ds gs pt left w n valid r is =
-    let machines = machines_stay b r.steps pt valid r.leads in
     let due : next_step pt.kernel.machines pt.view left ≡ Some n = sym (next_is_said b r.steps w pt left valid r.leads r.stands r.todo) ∙ is in
     let fits = next_fits (length b.machines) (world.world_undelivered w) (world.world_has_mail w) (world.world_is_quiet (length b.machines) w) left n r.todo is in
     let (may, does) = steps b r.steps w pt n.step valid r.leads r.stands r.able r.readable fits.step in
-    record { may = may; steps = does; on = λ g. goes_on b ds gs pt left w n valid machines r due fits may g }
+    record { may = may; steps = does; on = λ g. goes_on b ds gs pt left w n valid (machines_stay b r.steps pt valid r.leads) r due fits may g }
 
 -- A run of directives is a run of more of them, as far as it has come.
 
@@ -127,16 +126,12 @@ later_behind machines first mail quiet p ds more n e = grind (arith, nat_tests, 
 unless_behind : (over : Bool) (more : List Directive) (o p : Option Next) → p ≡ option_map (next_behind more) o → (if over then None else p) ≡ option_map (next_behind more) (if over then None else o)
 unless_behind over more o p e = grind (arith, nat_tests)
 
--- what follows is the same with more directives behind
-pub following_behind : (machines : ℕ) (first : ℕ → ℕ → Option ℕ) (mail : ℕ → Bool) (quiet : Bool) (t : Todo) (more : List Directive) (n : Next) → following machines first mail quiet t ≡ Some n → following machines first mail quiet (behind more t) ≡ Some (next_behind more n)
-following_behind machines first mail quiet t more n is = search (or_behind, unless_behind, pass_behind, later_behind)
-
 pub run_behind : (b : Boot) (gs : List (List Line)) (pt end : Point) (t left : Todo) (more : List Directive) → IsRun b pt t gs end left → IsRun b pt (behind more t) gs end (behind more left)
 run_behind b [] pt end t left more (e, f) = (e, ap (behind more) f)
 run_behind b (g ∷ gs) pt end t left more (n, w, next, is, said, kept, rest) = (
   next_behind more n,
   w,
-  following_behind pt.kernel.machines (undelivered pt.view) (has_mail pt.view) (is_quiet pt.kernel.machines pt.view) t more n next,
+  search (or_behind, unless_behind, pass_behind, later_behind),
   is,
   said,
   kept,

@@ -103,10 +103,9 @@ delivers_same : (b : Boot) (w u : WorldState) (a c k : ℕ) (s : Said) (o : Opti
 delivers_same b w u a c k s None here_is there_is is node happens =
     let e = Step.Deliver a c k in
     let x : Said = record { state = record w { groups = w.groups + 1 }; lines = Line.Head e ∷ Line.Nothing ∷ [] } in
-    let y : Said = record { state = record u { groups = u.groups + 1 }; lines = Line.Head e ∷ Line.Nothing ∷ [] } in
     let same : s ≡ x = says_same s x (sym happens) in
     record {
-      said = y;
+      said = record { state = record u { groups = u.groups + 1 }; lines = Line.Head e ∷ Line.Nothing ∷ [] };
       happens = nothing_comes b u a c k there_is;
       node = node ∙ ap (λ (z : Said). z.state.nodes c) (sym same);
       more = λ n. [];

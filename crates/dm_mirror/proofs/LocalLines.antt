@@ -10,15 +10,11 @@ use Rattle.dm_mirror.proofs.Outs.{AreFrom, IsFrom}
 abbrev Wires : Type 0
 Wires = ℕ → ℕ → List Sent
 
--- but for the numbers
-packet_unnumbered : (v w : Wires) (p : Packet) → unnumbered (packet_line v p) ≡ unnumbered (packet_line w p)
-packet_unnumbered v w p = grind (arith, nat_tests)
-
 spoken_unnumbered : (v w : Wires) (outs : List Out) → map unnumbered (spoken v outs).lines ≡ map unnumbered (spoken w outs).lines
 spoken_unnumbered v w [] = refl
 spoken_unnumbered v w (Says l ∷ outs) = ap (λ (ls : List Line). unnumbered l ∷ ls) (spoken_unnumbered v w outs)
 spoken_unnumbered v w (Sends p ∷ outs) =
-    ap (λ (l : Line). l ∷ map unnumbered (spoken (with_packet v p) outs).lines) (packet_unnumbered v w p)
+    ap (λ (l : Line). l ∷ map unnumbered (spoken (with_packet v p) outs).lines) (grind (arith, nat_tests))
     ∙ ap (λ (ls : List Line). unnumbered (packet_line w p) ∷ ls) (spoken_unnumbered (with_packet v p) (with_packet w p) outs)
 
 pub acted_unnumbered : (w u : WorldState) (e : Step) (m : ℕ) (d : Acted) → map unnumbered (acted u e m d).lines ≡ map unnumbered (acted w e m d).lines
@@ -28,24 +24,18 @@ acted_unnumbered w u e m d = ap (λ (ls : List Line). unnumbered (Line.Head e) �
 abbrev Long : ℕ → Wires → Wires → Type 0
 Long m v w = (c : ℕ) → length (v m c) ≡ length (w m c)
 
-put_by : (xs ys : List Sent) (bytes : List ℕ) (here : Bool) → length xs ≡ length ys → length (if here then xs ++ just_put bytes ∷ [] else xs) ≡ length (if here then ys ++ just_put bytes ∷ [] else ys)
-put_by xs ys bytes here e = grind (arith, nat_tests, length-append)
-
 put_long : (m : ℕ) (v w : Wires) (a c : ℕ) (bytes : List ℕ) → Long m v w → Long m (after_put v a c bytes) (after_put w a c bytes)
-put_long m v w a c bytes h n = put_by (v m n) (w m n) bytes (is_pair a c m n) (h n)
+put_long m v w a c bytes h n = grind (arith, nat_tests, length-append)
 
 packet_long : (m : ℕ) (v w : Wires) (p : Packet) → Long m v w → Long m (with_packet v p) (with_packet w p)
 packet_long m v w (Packet.Data a c k x) h = put_long m v w a c (spelling (Packet.Data a c k x)) h
 packet_long m v w (Packet.Ack a c k) h = put_long m v w a c (spelling (Packet.Ack a c k)) h
 
-packet_same : (m : ℕ) (v w : Wires) (p : Packet) (outs : List Out) → AreFrom m (Sends p ∷ outs) → Long m v w → packet_line v p ≡ packet_line w p
-packet_same m v w p outs from h = grind (arith, nat_tests)
-
 spoken_same : (m : ℕ) (v w : Wires) (outs : List Out) → AreFrom m outs → Long m v w → (spoken v outs).lines ≡ (spoken w outs).lines
 spoken_same m v w [] from h = refl
 spoken_same m v w (Says l ∷ outs) from h = ap (λ (ls : List Line). l ∷ ls) (spoken_same m v w outs from h)
 spoken_same m v w (Sends p ∷ outs) from h =
-    ap (λ (l : Line). l ∷ (spoken (with_packet v p) outs).lines) (packet_same m v w p outs from h)
+    ap (λ (l : Line). l ∷ (spoken (with_packet v p) outs).lines) (grind (arith, nat_tests))
     ∙ ap (λ (ls : List Line). packet_line w p ∷ ls) (spoken_same m (with_packet v p) (with_packet w p) outs from.1 (packet_long m v w p h))
 
 pub acted_exact : (w u : WorldState) (e : Step) (m : ℕ) (d : Acted) → IsFrom m d → AsLong m w u → (acted u e m d).lines ≡ (acted w e m d).lines

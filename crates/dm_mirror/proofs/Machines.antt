@@ -55,34 +55,25 @@ record IsMade (s t : OneKernel) (p : Pid) : Type 0 where
 made_if : (s t : OneKernel) (p : Pid) (c : Bool) (k : Makes s t) → pid_eq (child_of s t k) p ≡ c → MadeStands s → is_some (t.processes p) ≡ true → IsMade s t p
 made_if s t p true k e h there =
     let is : child_of s t k ≡ p = pid_eq-is (child_of s t k) p e in
-    let machines = k.machines in
-    let within = k.within in
-    let made = k.made in
-    subst (IsMade s t) is (record { home = omega (arith, within, machines); first = omega arith; below = omega (arith, made) })
+    subst (IsMade s t) is (record { home = omega (arith, k.within, k.machines); first = omega arith; below = omega (arith, k.made) })
 made_if s t p false k e h there =
     let was : is_some (s.processes p) ≡ true = sym (k.lives p e) ∙ there in
-    let machines = k.machines in
     let home = h.home p was in
     let below = h.below p was in
-    let rises : s.made p.home ≤ t.made p.home = rises_at (p.home == k.home) refl in
-    record { home = omega (arith, home, machines); first = h.first p was; below = omega (arith, below, rises) }
+    record { home = omega (arith, home, k.machines); first = h.first p was; below = omega (arith, below, rises_at (p.home == k.home) refl) }
   where
     rises_at : (d : Bool) → (p.home == k.home) ≡ d → s.made p.home ≤ t.made p.home
     rises_at true f =
         let same : p.home ≡ k.home = grind (arith, nat_tests) in
-        let made = k.made in
-        subst (λ v. s.made v ≤ t.made v) (sym same) (omega (arith, made))
+        subst (λ v. s.made v ≤ t.made v) (sym same) (omega (arith, k.made))
     rises_at false f = let e = k.others p.home (grind (arith, nat_tests)) in omega (arith, e)
-
-all_if : (s t : OneKernel) (home n : ℕ) (c : Bool) (k : Makes s t) → pid_eq (child_of s t k) (pid_of home (first_number + n)) ≡ c → MadeStands s → home < t.machines → n < t.made home → is_some (t.processes (pid_of home (first_number + n))) ≡ true
-all_if s t home n c k e h within below = grind (arith, nat_tests, pid_eq-is)
 
 makes_stands : (s t : OneKernel) → Makes s t → MadeStands s → MadeStands t
 makes_stands s t k h = record {
   home = λ p there. (made_if s t p (pid_eq (child_of s t k) p) k refl h there).home;
   first = λ p there. (made_if s t p (pid_eq (child_of s t k) p) k refl h there).first;
   below = λ p there. (made_if s t p (pid_eq (child_of s t k) p) k refl h there).below;
-  all = λ home n within below. all_if s t home n (pid_eq (child_of s t k) (pid_of home (first_number + n))) k refl h within below;
+  all = λ home n within below. grind (arith, nat_tests, pid_eq-is);
 }
 
 -- each step, and each group

@@ -42,9 +42,6 @@ none_taken pt n p k e z = grind (arith, nat_tests)
 taken_life : (pt next : Point) (n : ℕ) (p : Pid) → next.view.known n p ≡ pt.view.known n p → next.kernel.processes p ≡ pt.kernel.processes p → taken_by next n p ≡ taken_by pt n p
 taken_life pt next n p known life = λ i. record { slots = takes_room (known i); blocks = if takes_room (known i) == 0 then 0 else blocks_of (kernel.alive (life i)) }
 
-taken_stays : (pt next : Point) (n : ℕ) (p : Pid) (k : view.Known) → pt.view.known n p ≡ k → next.view.known n p ≡ pt.view.known n p → (has_process k ≡ true → next.kernel.processes p ≡ pt.kernel.processes p) → taken_by next n p ≡ taken_by pt n p
-taken_stays pt next n p k e known life = grind (arith, nat_tests, taken_life, none_taken)
-
 -- processes that are made now are known to no other machine
 pub record MadeHere (m n : ℕ) (pt next : Point) : Type 0 where
   pub more : pt.kernel.made m ≤ next.kernel.made m
@@ -111,7 +108,7 @@ kernel_stays b m n pt next l placed k apart made e h =
       made = h.made ∙ sym (e.made n apart);
       room =
           subst (RoomStands k.room (room_of (slice_get b.machines n)))
-          (sym (taken_elsewhere pt next n m made (λ p. taken_stays pt next n p (pt.view.known n p) refl (e.known n p apart) (λ is. e.life n p apart is)) e.machines e.made))
+          (sym (taken_elsewhere pt next n m made (λ p. grind (arith, nat_tests, taken_life, none_taken)) e.machines e.made))
           h.room;
       servers = h.servers ∙ sym (servers_stay l placed m n apart e.board e.manager);
     }

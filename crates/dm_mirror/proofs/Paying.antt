@@ -227,8 +227,7 @@ each_pending P (x ∷ xs) k r h e = by (x.n == k) (each_pending P xs k r h.1) e
     by false more f = more f
 
 creates_kind : (k : PendingKind) → kind_eq PendingKind.Create k ≡ true → k ≡ PendingKind.Create
-creates_kind PendingKind.Create e = refl
-creates_kind PendingKind.Move e = cc
+creates_kind z0 e = grind (arith, nat_tests)
 
 has_answer : (b : Boot) (pt : Point) (i : MsgId) (msg : PlainMessage) → Run b pt → pt.kernel.bag i ≡ Some msg → HasAnswer pt.kernel.manager msg.id.n msg.what
 has_answer b pt i msg run there child r is found =
@@ -259,15 +258,8 @@ mute_paid (Again i b ∷ ps) s h = mute_paid ps s h
 mute_paid (Owns k q b ∷ ps) s h = mute_paid ps s h
 mute_paid (Transmits a c l ∷ ps) s h = mute_paid ps s h
 
--- deliveries and ticks are no steps
-net_label : (l : Line) → IsNetLine l → label_of l ≡ None
-net_label l is = grind (arith, nat_tests)
-
-net_free : (l : Line) → IsNetLine l → is_free l ≡ true
-net_free l is = grind (arith, nat_tests)
-
 pub net_paid : (ps : List Part) (s : OneKernel) → IsNet ps → Paid s ps
 net_paid [] s is = tt
-net_paid (Says l ∷ ps) s is = (net_free l is.0, λ t e. inl (line_within s t (label_of l) (net_label l is.0) e, net_paid ps t is.1))
+net_paid (Says l ∷ ps) s is = (grind (arith, nat_tests), λ t e. inl (line_within s t (label_of l) (grind (arith, nat_tests)) e, net_paid ps t is.1))
 net_paid (Transmits a c l ∷ ps) s is = net_paid ps s is.1
 net_paid _ s is = absurd is.0

@@ -79,17 +79,11 @@ set_raises s t p x life k is le processes made board manager machines =
 goes_raises : (s t : OneKernel) (p : Pid) (x y : PlainProcess) → step.goes_on s p y ≡ t → s.processes p ≡ Some (Alive x) → y.sent ≡ x.sent → Raises 0 s t
 goes_raises s t p x y e is sent = subst (Raises 0 s) e (set_raises s (step.goes_on s p y) p x (Alive y) 0 is (omega (arith, sent)) (λ q. refl) (λ h. refl) refl refl refl)
 
--- the rows of processes
-stopped_is : (y : PlainProcess) (c : Bool) (x : PlainProcess) → (if c then None else Some y) ≡ Some x → y ≡ x
-stopped_is y c x e = grind (arith, nat_tests)
-
 ready_is : (y : PlainProcess) (st : PlainStatus) (x : PlainProcess) → step.if_ready y st ≡ Some x → y ≡ x
-ready_is y st x e = grind (arith, nat_tests, stopped_is)
+ready_is y st x e = grind (arith, nat_tests)
 
 runs : (s : OneKernel) (p : Pid) (x : PlainProcess) → step.running s p ≡ Some x → s.processes p ≡ Some (Alive x)
-runs s p x e =
-    let (y, hand, ready) = bind-is (step.at_hand s p) (λ v. step.if_ready v v.status) x e in
-    (at_hand-is s p x (hand ∙ ap Some (ready_is y y.status x ready))).1
+runs s p x e = grind (arith, nat_tests, at_hand-is, ready_is)
 
 pub ran_raises : (s t : OneKernel) (p : Pid) (k : ℕ) → step.step s (Label.Ran p k) ≡ Some t → Raises 0 s t
 ran_raises s t p k is =
@@ -100,8 +94,7 @@ ran_raises s t p k is =
 replies_raise : (s t : OneKernel) (p : Pid) (n : ℕ) (c : Reply) (next : step.Trap) → Nexts s p next → step.replies s p n c next ≡ Some t → Raises 0 s t
 replies_raise s t p n c (step.Calls number (Called.Replies reply y)) w is =
     let (z, sent, pending, counted) = w.counts in
-    let k = when-is _ (step.goes_on s p y) t is in
-    goes_raises s t p w.x y k.1 w.is.alive (counted.0 ∙ sent)
+    goes_raises s t p w.x y (when-is _ (step.goes_on s p y) t is).1 w.is.alive (counted.0 ∙ sent)
 replies_raise s t p n c _ w is = cc
 
 sends_raise : (s t : OneKernel) (p : Pid) (id : MsgId) (next : step.Trap) → Nexts s p next → step.sends s p id next ≡ Some t → Raises 1 s t
@@ -121,8 +114,7 @@ waits_raise s t p _ w is = cc
 outputs_raise : (s t : OneKernel) (p : Pid) (word : ℕ) (next : step.Trap) → Nexts s p next → step.outputs s p word next ≡ Some t → Raises 0 s t
 outputs_raise s t p word (step.Calls number (Called.Outputs put y)) w is =
     let (z, sent, pending, counted) = w.counts in
-    let k = when-is _ (step.goes_on s p y) t is in
-    goes_raises s t p w.x y k.1 w.is.alive (counted.0 ∙ sent)
+    goes_raises s t p w.x y (when-is _ (step.goes_on s p y) t is).1 w.is.alive (counted.0 ∙ sent)
 outputs_raise s t p word _ w is = cc
 
 pub end_raises_of : (s t : OneKernel) (p : Pid) (x : PlainProcess) (y : Why) → with_process s p (Ended y) ≡ t → s.processes p ≡ Some (Alive x) → Raises 0 s t
@@ -152,9 +144,8 @@ end_raises s t p y is = let (x, next, rest) = bind-is (step.next_trap s p) (step
 receives_raise : (s t : OneKernel) (p : Pid) (id : MsgId) (c : receiving.Completed) → Completing s p id c → step.receives s p id c ≡ Some t → Raises 0 s t
 receives_raise s t p id (receiving.Receives y) w is =
     let v = step.goes_on (without_message s id) p y in
-    let sent = w.is.0 in
     let e : v ≡ t = cc in
-    subst (Raises 0 s) e (set_raises s v p w.x (Alive y) 0 w.alive (omega (arith, sent)) (λ q. refl) (λ h. refl) refl refl refl)
+    subst (Raises 0 s) e (set_raises s v p w.x (Alive y) 0 w.alive (omega (arith, w.is.0)) (λ q. refl) (λ h. refl) refl refl refl)
 receives_raise s t p id (receiving.Refuses reply y) w is = cc
 
 refuses_raise : (s t : OneKernel) (p : Pid) (id : MsgId) (reply : Reply) (c : receiving.Completed) → Completing s p id c → step.refuses s p reply c ≡ Some t → Raises 0 s t

@@ -131,34 +131,22 @@ abbrev pub sent_raise : Option PlainMessage → ℕ
 sent_raise None = 0
 sent_raise (Some m) = 1
 
-board_sent : (n after : ℕ) (o : Option PlainMessage) → ServerSends switchboard n o after → after ≡ n + sent_raise o
-board_sent n after o h = grind (arith, nat_tests)
-
 -- a request keeps at most one name more
 pub append-longer : {A : Type 0} (xs : List A) (y : A) → length (xs ++ y ∷ []) ≡ length xs + 1
 append-longer [] y = refl
 append-longer (x ∷ xs) y = omega (arith, append-longer xs y)
 
-names_new : (names : List NamedLink) (name : List ℕ) (l : PlainLink) (o : Option PlainLink) → length (board.registers_new names name l o).names ≤ length names + 1
-names_new names name l o = grind (arith, nat_tests, append-longer)
-
 names_if : (names : List NamedLink) (c : Bool) (x y : board.Asked) → length x.names ≤ length names + 1 → length y.names ≤ length names + 1 → length (if c then x else y).names ≤ length names + 1
 names_if names c x y h k = grind (arith, nat_tests)
 
 names_registered : (names : List NamedLink) (name : List ℕ) (others : List PlainLink) → length (board.asks_to_register names name others).names ≤ length names + 1
-names_registered names name others = grind (arith, nat_tests, names_if, names_new)
-
-names_looked : (names : List NamedLink) (name : List ℕ) (others : List PlainLink) → length (board.asks_to_look_up names name others).names ≤ length names + 1
-names_looked names name others = grind (arith, nat_tests, names_if)
+names_registered names name others = grind (arith, nat_tests, names_if, append-longer)
 
 names_asked : (names : List NamedLink) (body : List ℕ) (others : List PlainLink) → length (board.asks names body others).names ≤ length names + 1
-names_asked names body others = grind (arith, nat_tests, names_if, names_registered, names_looked)
-
-names_requested : (b : Switchboard) (body : List ℕ) (links : List PlainLink) → length (board.takes_request b body links).switchboard.names ≤ length b.names + sent_raise (board.takes_request b body links).answer
-names_requested b body links = grind (arith, nat_tests, names_asked)
+names_asked names body others = grind (arith, nat_tests, names_if, names_registered)
 
 names_took : (b : Switchboard) (m : PlainMessage) (w : PlainWhat) (k : board.BoardTook) → board.board_takes b m w ≡ Some k → length k.switchboard.names ≤ length b.names + sent_raise k.answer
-names_took b m w k e = grind (arith, nat_tests, names_requested)
+names_took b m w k e = grind (arith, nat_tests, names_asked)
 
 board_raises_of : (s : OneKernel) (id : MsgId) (b : Switchboard) (o : Option PlainMessage) (k : ℕ) → b.sent ≡ s.switchboard.sent + k → length b.names ≤ length s.switchboard.names + k → Raises k s (with_sent (record (without_message s id) { switchboard = b }) o)
 board_raises_of s id b None k e n = record {
@@ -173,7 +161,7 @@ board_raises_of s id b (Some m) k e n = record {
 pub board_raises : (s : OneKernel) (id : MsgId) (m : PlainMessage) (k : board.BoardTook) → board.board_takes s.switchboard m m.what ≡ Some k → Raises (sent_raise k.answer) s (service.switchboard_took s id k)
 board_raises s id m k took =
     let (memory, piece, sends) = board_takes_lem s.switchboard m m.what k took in
-    board_raises_of s id k.switchboard k.answer (sent_raise k.answer) (board_sent s.switchboard.sent k.switchboard.sent k.answer sends) (names_took s.switchboard m m.what k took)
+    board_raises_of s id k.switchboard k.answer (sent_raise k.answer) (grind (arith, nat_tests)) (names_took s.switchboard m m.what k took)
 
 -- How much a step raises counts: what the manager says, and a process that is made.
 
@@ -210,8 +198,7 @@ paid_wants g machines images machine image (l ∷ ls) =
     paid_if g (nat_lt machine machines && nat_lt image images) (manage.asks_for g machine image l ls) (manage.bad_request g (l ∷ ls)) (omega arith) (paid_bad g (l ∷ ls))
 
 paid_requests : (g : Manager) (machines images : ℕ) (body : List ℕ) (links : List PlainLink) → Paid g (manage.requests_child g machines images body links)
-paid_requests g machines images (a ∷ b ∷ c ∷ d ∷ []) links =
-    paid_if g (a == 1) (manage.wants_child g machines images b (256 * c + d) links) (manage.bad_request g links) (paid_wants g machines images b (256 * c + d) links) (paid_bad g links)
+paid_requests g machines images (a ∷ b ∷ c ∷ d ∷ []) links = search (paid_if, paid_wants, paid_bad)
 paid_requests g machines images _ links = paid_bad g links
 
 paid_control : (g : Manager) (child : Pid) (o : Option PlainWhat) (links : List PlainLink) → Paid g (manage.tells_child g child o links)

@@ -39,19 +39,15 @@ record Changed (o n x y : Room) : Type 0 where
 -- the change is in the first part, or in the second
 changed_first : (o n x y r s : Room) → Changed o n x y → s ≡ r → Changed (and o r) (and n s) x y
 changed_first o n x y r s h e =
-    let a = h.slots in
-    let b = h.blocks in
     let c : s.slots ≡ r.slots = ap (λ (t : Room). t.slots) e in
     let d : s.blocks ≡ r.blocks = ap (λ (t : Room). t.blocks) e in
-    record { slots = omega (arith, a, c); blocks = omega (arith, b, d) }
+    record { slots = omega (arith, h.slots, c); blocks = omega (arith, h.blocks, d) }
 
 changed_second : (o n x y r s : Room) → Changed o n x y → s ≡ r → Changed (and r o) (and s n) x y
 changed_second o n x y r s h e =
-    let a = h.slots in
-    let b = h.blocks in
     let c : s.slots ≡ r.slots = ap (λ (t : Room). t.slots) e in
     let d : s.blocks ≡ r.blocks = ap (λ (t : Room). t.blocks) e in
-    record { slots = omega (arith, a, c); blocks = omega (arith, b, d) }
+    record { slots = omega (arith, h.slots, c); blocks = omega (arith, h.blocks, d) }
 
 changed_itself : (o n x y : Room) → o ≡ x → n ≡ y → Changed o n x y
 changed_itself o n x y e f =
@@ -90,8 +86,7 @@ changed_homes pt next m p (suc home) made within first below others =
           let here : Changed (taken_of_home pt m p.home (pt.kernel.made p.home)) (taken_of_home next m p.home (pt.kernel.made p.home)) (taken_by pt m p) (taken_by next m p) =
           changed_home pt next m p (pt.kernel.made p.home) first below others in
           let there : Changed (taken_of_home pt m home (pt.kernel.made home)) (taken_of_home next m home (next.kernel.made home)) (taken_by pt m p) (taken_by next m p) =
-          subst (λ (n : ℕ). Changed (taken_of_home pt m home (pt.kernel.made home)) (taken_of_home next m home n) (taken_by pt m p) (taken_by next m p)) (sym (made home))
-          (subst (λ (h : ℕ). Changed (taken_of_home pt m h (pt.kernel.made h)) (taken_of_home next m h (pt.kernel.made h)) (taken_by pt m p) (taken_by next m p)) (sym e.1) here) in
+          grind (arith, nat_tests) in
           changed_second (taken_of_home pt m home (pt.kernel.made home)) (taken_of_home next m home (next.kernel.made home)) (taken_by pt m p) (taken_by next m p)
           (taken_at pt m home) (taken_at next m home) there
           (same_homes pt next m home (λ h low. same_made pt next m h (made h) (λ n. others (pid_of h n) (home_apart h n p (let f : home ≡ p.home = e.1 in λ z. omega (arith, f, z, low))))))
@@ -132,8 +127,7 @@ made_homes pt next m home (suc h) within one made others =
     elim (eqb_tells h home) [
       | inl e ↦
           let below = same_homes pt next m h (λ k low. apart k (let f : h ≡ home = e.1 in λ z. omega (arith, f, z, low))) in
-          let here : taken_of_home next m h (next.kernel.made h) ≡ and (taken_of_home pt m h (pt.kernel.made h)) new =
-          subst (λ (k : ℕ). taken_of_home next m k (next.kernel.made k) ≡ and (taken_of_home pt m k (pt.kernel.made k)) new) (sym e.1) (made_home pt next m home one others) in
+          let here : taken_of_home next m h (next.kernel.made h) ≡ and (taken_of_home pt m h (pt.kernel.made h)) new = grind (arith, nat_tests, made_home) in
           (λ i. and (below i) (here i)) ∙ and_second (taken_at pt m h) (taken_of_home pt m h (pt.kernel.made h)) new
       | inr e ↦
           (λ i. and (made_homes pt next m home h (let f : h ≢ home = e.1 in omega (arith, f, within)) one made others i) (apart h e.1 i))

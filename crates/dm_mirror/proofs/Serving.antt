@@ -68,20 +68,14 @@ is_for s p (j ∷ js) i h least = elim (cases_Bool (id_eq i j)) [
       is_for s p js i h.2 (omega (arith, least, e))
 ]
 
--- a message that stands at a spot stands nowhere else
-outside_elsewhere : (c : Bool) (f : Spot → ℕ) (x y : Spot) → 1 ≤ f x → y ≢ x → StandsOutside c f → f y ≡ 0
-outside_elsewhere c f x y least apart h = grind (arith, nat_tests, once_at)
-
 right_elsewhere : (i : MsgId) (o : Option PlainMessage) (f : Spot → ℕ) (x y : Spot) → 1 ≤ f x → y ≢ x → StandsRight i o f → f y ≡ 0
-right_elsewhere i o f x y least apart h = grind (arith, nat_tests, outside_elsewhere, once_at)
+right_elsewhere i o f x y least apart h = grind (arith, nat_tests, once_at)
 
 pub queue_alone : (m : ℕ) (p : Pid) (s : OneKernel) (v : View) → ((i : MsgId) → StandsRight i (s.bag i) (standing v i)) → AreAlone (is_queue_of m p) v (v.queue m p)
 queue_alone m p s v kept j least i spot off there = elim (cases_Bool (id_eq j i)) [
   | inl same ↦
-      let is : j ≡ i = id_eq-is j i same in
-      let none : standing v j spot ≡ 0 = right_elsewhere j (s.bag j) (standing v j) (Queue m p) spot least apart (kept j) in
-      let some : standing v j spot ≡ standing v i spot = ap (λ (k : MsgId). standing v k spot) is in
-      absurd (omega (arith, none, some, there))
+      let some : standing v j spot ≡ standing v i spot = ap (λ (k : MsgId). standing v k spot) (id_eq-is j i same) in
+      absurd (omega (arith, right_elsewhere j (s.bag j) (standing v j) (Queue m p) spot least apart (kept j), some, there))
   | inr away ↦ away
 ]
   where

@@ -17,10 +17,9 @@ no_server q least = grind (arith, nat_tests)
 pub first_mine : (b : Boot) (m : ℕ) (q : Pid) (p : BootProcess) → IsValid b → (q.home == m) ≡ true → process_named q b.processes ≡ Some p → (first_point b).view.known m q ≡ Known.Here
 first_mine b m q p valid on named =
     let n = named_is b [] b.processes q p valid.processes named in
-    let least = n.least in
     first_known b m q valid
     ∙ ap (λ (c : Bool). if c then (if is_server q then Known.Here else known_of_life (bind (process_named q b.processes) (first_life b))) else Known.Unknown) on
-    ∙ ap (λ (c : Bool). if c then Known.Here else known_of_life (bind (process_named q b.processes) (first_life b))) (no_server q (omega (arith, least)))
+    ∙ ap (λ (c : Bool). if c then Known.Here else known_of_life (bind (process_named q b.processes) (first_life b))) (no_server q (omega (arith, n.least)))
     ∙ ap (λ (o : Option BootProcess). known_of_life (bind o (first_life b))) named
     ∙ ap known_of_life (first_alive b p n.image n.there)
 

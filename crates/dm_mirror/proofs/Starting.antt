@@ -165,12 +165,8 @@ kernel_first b m valid lt =
       servers = o.servers;
     }
 
--- no kernel has sent a message of its own
-sent_if : (b : Boot) (p : BootProcess) (i : BootImage) (s : KernelState) (c : Bool) → (if c then with_child s p.pid (child_of b p.pid i p.links) i.blocks else s).sent ≡ s.sent
-sent_if b p i s c = grind (arith, nat_tests)
-
 sent_one : (b : Boot) (p : BootProcess) (s : KernelState) (o : Option BootImage) → (begins_process b s p o).sent ≡ s.sent
-sent_one b p s o = grind (arith, nat_tests, sent_if)
+sent_one b p s o = grind (arith, nat_tests)
 
 sent_all : (b : Boot) (ps : List BootProcess) (s : KernelState) → (with_all b s ps).sent ≡ s.sent
 sent_all b [] s = refl
@@ -185,11 +181,8 @@ kept_nones zero i = refl
 kept_nones (suc k) zero = refl
 kept_nones (suc k) (suc i) = kept_nones k i
 
-kept_if : (c : Bool) (o : Option Message) → o ≡ None → is_some (if c then None else o) ≡ false
-kept_if c o e = grind (arith, nat_tests)
-
 none_kept : (n : ℕ) → is_some (kept_under (fresh_receiving {M = Message}) n) ≡ false
-none_kept n = kept_if (nat_lt n 0) (place (replicate 8 None) (n - 0)) (kept_nones 8 (n - 0))
+none_kept n = grind (arith, nat_tests)
 
 pair_first : (b : Boot) (a c : ℕ) → IsValid b → c < length b.machines → PairStands b (first_point b) (placed_start b) (first_world b) no_history a c
 pair_first b a c valid lt =

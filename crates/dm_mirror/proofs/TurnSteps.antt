@@ -47,9 +47,6 @@ late_made : (m n : ℕ) (start q : Point) (late : Late) → MadeHere m n start q
 late_made m n start q Nothing h = h
 late_made m n start q (Leaves p x) h = record { more = h.more; fresh = h.fresh }
 
-headed_whole : (head : Line) (ls : List Line) (v y group : Spelled) → rule.behind ls v ≡ y → headed head y ≡ group → headed head (rule.behind ls v) ≡ group
-headed_whole head ls v y group e f = ap (headed head) e ∙ f
-
 -- a directive that machine m acts on, with what its kernel does
 pub record Acting (b : Boot) (w : WorldState) (pt : Point) (m : ℕ) (d : Step) (o : Option machine.Turned) (a : About) : Type 0 where
   pub head : after_line pt (Line.Head d) ≡ Some (record pt { view = begins pt.view m a })
@@ -85,7 +82,7 @@ module _ (b : Boot) (w : WorldState) (pt : Point) (l : Placed) (h : History) (m 
       let (y, is, last) = bind-is (spelled start (map rule.Says t.says ++ rest)) (λ (y : Spelled). Some (headed head y)) group f in
       let g : headed head y ≡ group = cc in
       let (v, on, whole) = says_rest t.says start t.next rest y is t.after in
-      (v, on, headed_whole head t.says v y group whole g)
+      (v, on, ap (headed head) whole ∙ g)
 
   abbrev v : Spelled
   v = spells.0

@@ -25,25 +25,10 @@ pub away_awaits : (k : Known) → is_away k ≡ true → rule.awaits k ≡ None
 away_awaits k e = grind (arith, nat_tests)
 
 pub silent_lines : (pt : Point) (l : Placed) (p : Pid) (q held : List MsgId) (m : ℕ) (k : Known) (r : Option machine.KernelKnown) → is_silent k ≡ true → KnownStands pt l p q held k r → record_lines m p r ≡ None
-silent_lines pt l p q held m Unknown None e h = refl
-silent_lines pt l p q held m (Incoming from) (Some (Record.Incoming x)) e h = refl
-silent_lines pt l p q held m (Forward at moves) (Some (Record.Forward x y)) e h = refl
-silent_lines pt l p q held m Here (Some (Record.Here x)) e h = cc
-silent_lines pt l p q held m (Frozen to) (Some (Record.Frozen x)) e h = cc
-silent_lines pt l p q held m Ended (Some (Record.Ended x)) e h = cc
-silent_lines pt l p q held m k r e h = absurd h
+silent_lines pt l p q held m k r e h = grind (arith, nat_tests)
 
 pub silent_queue : (pt : Point) (l : Placed) (p : Pid) (q held : List MsgId) (k : Known) (r : Option machine.KernelKnown) → is_silent k ≡ true → KnownStands pt l p q held k r → record_queue p r ≡ None
-silent_queue pt l p q held Unknown None e h = refl
-silent_queue pt l p q held (Incoming from) (Some (Record.Incoming x)) e h = refl
-silent_queue pt l p q held (Forward at moves) (Some (Record.Forward x y)) e h = refl
-silent_queue pt l p q held Here (Some (Record.Here x)) e h = cc
-silent_queue pt l p q held (Frozen to) (Some (Record.Frozen x)) e h = cc
-silent_queue pt l p q held Ended (Some (Record.Ended x)) e h = cc
-silent_queue pt l p q held k r e h = absurd h
-
-pub away_awaited : (pt : Point) (l : Placed) (p : Pid) (q held : List MsgId) (m : ℕ) (k : Known) (r : Option machine.KernelKnown) → is_away k ≡ true → KnownStands pt l p q held k r → awaited_lines m p r ≡ None
-away_awaited pt l p q held m k r e h = grind (arith, nat_tests)
+silent_queue pt l p q held k r e h = grind (arith, nat_tests)
 
 -- a machine that has it
 pub record IsAt (l : Placed) (p : Pid) (q : List MsgId) (m : ℕ) (s : Standing) (r : Option machine.KernelKnown) : Type 0 where
@@ -100,13 +85,7 @@ come_all l p held a c wanted = grind (arith, nat_tests)
 
 -- the messages that are held
 pub held_said : (pt : Point) (l : Placed) (p : Pid) (q held : List MsgId) (k : Known) (r : Option machine.KernelKnown) → ((i : MsgId) (m : Message) → l.bag i ≡ Some m → m.id ≡ i) → (has_nothing_held k ≡ true → held ≡ []) → KnownStands pt l p q held k r → names_of (held_for r) ≡ held
-held_said pt l p q held Unknown None named none h = sym (none refl)
-held_said pt l p q held Here (Some (Record.Here x)) named none h = sym (none refl)
-held_said pt l p q held (Frozen to) (Some (Record.Frozen x)) named none h = names_are l.bag held x.held named h.held
-held_said pt l p q held (Incoming from) (Some (Record.Incoming x)) named none h = names_are l.bag held x.held named h.held
-held_said pt l p q held (Forward at moves) (Some (Record.Forward x y)) named none h = sym (none refl)
-held_said pt l p q held Ended (Some (Record.Ended x)) named none h = sym (none refl)
-held_said pt l p q held k r named none h = absurd h
+held_said pt l p q held k r named none h = grind (arith, nat_tests, names_are)
 
 -- What is said of each process at the end: the machine that has it says it, or where it has ended, or where it comes to.
 
@@ -131,7 +110,7 @@ no_queue : (b : Boot) (w : WorldState) (pt : Point) (l : Placed) (h : History) (
 no_queue b w pt l h p m g silent below = grind (arith, nat_tests, silent_queue)
 
 away_machine : (b : Boot) (w : WorldState) (pt : Point) (l : Placed) (h : History) (p : Pid) (m : ℕ) → IsOfHome b w pt l h p → is_away (pt.view.known m p) ≡ true → m < pt.kernel.machines → awaited_lines m p ((w.nodes m).kernel.records p) ≡ None
-away_machine b w pt l h p m g away below = grind (arith, nat_tests, away_awaited)
+away_machine b w pt l h p m g away below = grind (arith, nat_tests)
 
 -- the machine that says the first thing
 had_at : (b : Boot) (w : WorldState) (pt : Point) (l : Placed) (h : History) (p : Pid) (at : ℕ) → IsOfHome b w pt l h p → at < pt.kernel.machines → ((m : ℕ) → m ≢ at → is_silent (pt.view.known m p) ≡ true)
@@ -178,12 +157,10 @@ has_said b w pt l h p a g =
     let below = within_has b pt p a g.run in
     let i = at_machine b w pt l h p a g in
     let x = i.process in
-    let places = g.stands.mirrors.places.process p (record x { queue = i.rest }) i.placed in
-    let there : Option Stood = Some (record { at = a.at; standing = a.standing }) in
-    let stood : rule.stood pt.view p pt.kernel.machines ≡ there =
+    let stood : rule.stood pt.view p pt.kernel.machines ≡ (Some (record { at = a.at; standing = a.standing })) =
     ap (λ (o : Option Stood). or o (first_with rule.awaits pt.view p pt.kernel.machines)) (with_at pt p a.at below a.others ∙ ap (stood_at a.at) a.known) in
     ap (λ (o : Option (List EndLine)). lines_in (or o (first_awaited pt.kernel.machines w p))) (had_at b w pt l h p a.at g below a.others ∙ i.lines)
-    ∙ (alive_same pt.addresses a.at p a.standing x places.slots
+    ∙ (alive_same pt.addresses a.at p a.standing x (g.stands.mirrors.places.process p (record x { queue = i.rest }) i.placed).slots
     ∙ (ap (rule.alive_lines pt.addresses p (plain_process x)) (sym stood) ∙ ap (rule.process_lines pt p) (sym (alive_of b w pt l h p (record x { queue = i.rest }) g i.placed))))
 
 has_queue : (b : Boot) (w : WorldState) (pt : Point) (l : Placed) (h : History) (p : Pid) (a : HasIt pt.view p) → IsOfHome b w pt l h p
@@ -212,9 +189,8 @@ over_queue : (b : Boot) (w : WorldState) (pt : Point) (l : Placed) (h : History)
     → world.queue_of pt.kernel.machines w p ≡ rule.queue_at pt.view p (first_with rule.standing_of pt.view p pt.kernel.machines)
 over_queue b w pt l h p a g =
     let below = within_over b pt p a g.run in
-    let e = over_machine b w pt l h p a g in
     queue_by b w pt l h p a.at g below a.others
-    ∙ (ap (λ (r : Option machine.KernelKnown). lines_in (record_queue p r)) e.is
+    ∙ (ap (λ (r : Option machine.KernelKnown). lines_in (record_queue p r)) (over_machine b w pt l h p a g).is
     ∙ ap (rule.queue_at pt.view p) (sym (with_at pt p a.at below a.others ∙ ap (λ (k : Known). stood_at a.at (rule.standing_of k)) a.known)))
 
 -- a process that comes: nobody has it
@@ -316,9 +292,7 @@ plain_end l None is few lawful = cc
 plain_end l (Some v) is few lawful =
     let same : v ≡ record { board = l.board; manager = l.manager } = cc in
     let many : length v.manager.children ≡ length l.manager.children = ap (λ (x : Servers). length x.manager.children) same in
-    let lawful_ : IsLawfulPair v = lawful in
-    let end : HasPlainEnd v = record { board = lawful_.board; children = omega (arith, many, few) } in
-    end
+    record { board = lawful.board; children = omega (arith, many, few) }
 
 -- where no pair counts more messages than it may, no count is too great
 abbrev pub FewAlways : Type 0
@@ -326,13 +300,11 @@ FewAlways = (b : Boot) (es : List Step) (pt : Point) → IsValid b → Leads b (
 
 pub end_may_by : FewAlways → EndMay
 end_may_by fews b es w pt valid leads ((l, h, stands), counts) =
-    let machines = machines_stay b es pt valid leads in
     let few = fews b es pt valid leads stands.counts in
-    let node = λ (m : ℕ) (lt : m < length b.machines). stands.nodes m (subst (λ (n : ℕ). m < n) (sym machines) lt) in
+    let node = λ (m : ℕ) (lt : m < length b.machines). stands.nodes m (subst (λ (n : ℕ). m < n) (sym (machines_stay b es pt valid leads)) lt) in
     let first = node 0 (let k = some_machine b valid in omega (arith, k)) in
     let children : length l.manager.children ≡ length pt.kernel.manager.children = sym (map-length plain_child l.manager.children) ∙ ap (λ (g : Manager). length g.children) stands.mirrors.plain.manager in
-    let small = few.children in
     record {
       made = λ m lt. let made = (node m lt).kernel.made in let below = few.made m in omega (arith, made, below);
-      servers = plain_end l (w.nodes 0).kernel.servers first.kernel.servers (omega (arith, children, small)) first.lawful.servers;
+      servers = plain_end l (w.nodes 0).kernel.servers first.kernel.servers (omega (arith, children, few.children)) first.lawful.servers;
     }

@@ -59,10 +59,9 @@ untaken_said b pt l w h a c p =
     let r = (w.nodes c).receivers a in
     let given = h.given a c in
     let order = p.stream.in_order in
-    let counted : s.acked + (r.count - s.acked) ≡ r.count = (let k = order.acked_taken in omega (arith, k)) in
     ap (λ (ms : List Message). world.names_of (drop (r.count - s.acked) ms)) order.unacked
     ∙ (ap world.names_of (drop-drop (r.count - s.acked) s.acked given)
-    ∙ (ap (λ (n : ℕ). world.names_of (drop n given)) (counted ∙ p.taken)
+    ∙ (ap (λ (n : ℕ). world.names_of (drop n given)) ((let k = order.acked_taken in omega (arith, k)) ∙ p.taken)
     ∙ (sym (drop-map message_id (pt.view.pair a c).taken given) ∙ ap (drop (pt.view.pair a c).taken) p.ids)))
 
 home_untaken : (pt : Point) (a : ℕ) → HomeStands (pt.view.pair a a) → spots.untaken (pt.view.pair a a) ≡ []
@@ -146,13 +145,9 @@ links_same a p k (o ∷ ls) leads =
     let rest = links_same a p (k + 1) ls (λ j w e. ap (λ (n : ℕ). a (Slot p n)) (let f : k + 1 + j ≡ k + suc j = omega arith in f) ∙ leads (suc j) w e) in
     ap (λ (xs : List EndLine). xs ++ world.link_lines p (k + 1) ls) here ∙ ap (λ (xs : List EndLine). rule.slot_line a p k (option_map plain_link o) ++ xs) rest
 
--- a process, as the plain one and the addresses say
-doing_same : (s : Status) → world.doing_of s ≡ rule.doing_of (plain_status s)
-doing_same s = grind (arith, nat_tests)
-
 pub alive_same : (a : Addresses) (m : ℕ) (p : Pid) (s : Standing) (x : Process) → ((k : ℕ) (w : Link) → link_at x.table k ≡ Some w → a (Slot p k) ≡ place_of w.addr)
     → world.alive_lines m p s x ≡ rule.alive_lines a p (plain_process x) (Some (record { at = m; standing = s }))
-alive_same a m p s x leads = grind (arith, nat_tests, doing_same, links_same)
+alive_same a m p s x leads = grind (arith, nat_tests, links_same)
 
 -- Where a process is, by its phase: one machine has it, or it has ended on one, or it comes to one and nobody has it.
 
@@ -186,26 +181,11 @@ pub record ComesTo (v : View) (p : Pid) : Type 0 where
   pub others : (m : ℕ) → m ≢ to → is_away (v.known m p) ≡ true
   pub token : IsToken v p MessageKind.Restart source to id
 
-unknown_is : (k : Known) → is_unknown k ≡ true → k ≡ Unknown
-unknown_is k e = grind (arith, nat_tests)
-
-here_has : (k : Known) → is_here k ≡ true → rule.standing_of k ≡ Some Standing.Here
-here_has k e = grind (arith, nat_tests)
-
-over_is : (k : Known) → is_over k ≡ true → k ≡ Ended
-over_is k e = grind (arith, nat_tests)
-
 pub away_silent : (k : Known) → is_away k ≡ true → is_silent k ≡ true
 away_silent k e = grind (arith, nat_tests)
 
-comes_silent : (k : MessageKind) (s : ℕ) (x : Known) → kind_comes k s x ≡ true → is_silent x ≡ true
-comes_silent k s x e = grind (arith, nat_tests)
-
 leaves_has : (k : MessageKind) (d : ℕ) (x : Known) → is_restart k ≡ false → kind_leaves k d x ≡ true → rule.standing_of x ≡ Some Standing.Leaving
 leaves_has k d x off e = grind (arith, nat_tests, off, left_true)
-
-restart_away : (d : ℕ) (x : Known) → kind_leaves MessageKind.Restart d x ≡ true → is_away x ≡ true
-restart_away d x e = grind (arith, nat_tests)
 
 restart_comes : (s : ℕ) (x : Known) → kind_comes MessageKind.Restart s x ≡ true → (from : ℕ) × (x ≡ Incoming from)
 restart_comes s x e = grind (arith, nat_tests)
@@ -218,19 +198,19 @@ rests_has : (v : View) (p : Pid) (at : ℕ) → IsIn v p (Rests at) → HasIt v 
 rests_has v p at h = record {
   at = at;
   standing = Standing.Here;
-  known = here_has (v.known at p) (sym (ap (λ (c : Bool). if c then is_here (v.known at p) else is_away (v.known at p)) (eq_self at)) ∙ h.known at);
+  known = grind (arith, nat_tests);
   others = λ m apart. away_silent (v.known m p) (sym (ap (λ (c : Bool). if c then is_here (v.known m p) else is_away (v.known m p)) (off at m apart)) ∙ h.known m);
 }
 
 over_has : (v : View) (p : Pid) (at : ℕ) → IsIn v p (Over at) → OverAt v p
 over_has v p at h = record {
   at = at;
-  known = over_is (v.known at p) (sym (ap (λ (c : Bool). if c then is_over (v.known at p) else is_away (v.known at p)) (eq_self at)) ∙ h.known at);
+  known = grind (arith, nat_tests);
   others = λ m apart. away_silent (v.known m p) (sym (ap (λ (c : Bool). if c then is_over (v.known m p) else is_away (v.known m p)) (off at m apart)) ∙ h.known m);
 }
 
 other_silent : (k : MessageKind) (s : ℕ) (x : Known) (c : Bool) → (if c then kind_comes k s x else is_away x) ≡ true → is_silent x ≡ true
-other_silent k s x c e = grind (arith, nat_tests, comes_silent, away_silent)
+other_silent k s x c e = grind (arith, nat_tests, away_silent)
 
 moves_has : (v : View) (p : Pid) (k : MessageKind) (s d : ℕ) (id : Option MsgId) → is_restart k ≡ false → IsIn v p (Moves k s d id) → HasIt v p
 moves_has v p k s d id early h = record {
@@ -242,24 +222,17 @@ moves_has v p k s d id early h = record {
       (sym (ap (λ (c : Bool). if c then kind_leaves k d (v.known m p) else if d == m then kind_comes k s (v.known m p) else is_away (v.known m p)) (off s m apart)) ∙ h.known m);
 }
 
--- the destination, and another machine
-to_known : (s d : ℕ) (x : Known) → (s == d) ≡ false → knows (Moves MessageKind.Restart s d None) d x ≡ true → kind_comes MessageKind.Restart s x ≡ true
-to_known s d x apart e = grind (arith, nat_tests, eq_self)
-
 by_away : (s d : ℕ) (x : Known) (c : Bool) → (if c then kind_leaves MessageKind.Restart d x else is_away x) ≡ true → is_away x ≡ true
-by_away s d x c e = grind (arith, nat_tests, restart_away)
-
-other_known : (s d m : ℕ) (x : Known) → m ≢ d → knows (Moves MessageKind.Restart s d None) m x ≡ true → is_away x ≡ true
-other_known s d m x apart e = grind (arith, nat_tests, by_away, off)
+by_away s d x c e = grind (arith, nat_tests)
 
 restart_to : (v : View) (p : Pid) (s d : ℕ) (id : MsgId) → IsIn v p (Moves MessageKind.Restart s d (Some id)) → ComesTo v p
 restart_to v p s d id h =
     let apart : (s == d) ≡ false = not_false (s == d) h.apart in
-    let (from, is) = restart_comes s (v.known d p) (to_known s d (v.known d p) apart (h.known d)) in
-    record { source = s; to = d; id = id; from = from; known = is; others = λ m other. other_known s d m (v.known m p) other (h.known m); token = h.token }
+    let (from, is) = restart_comes s (v.known d p) (grind (arith, nat_tests, eq_self)) in
+    record { source = s; to = d; id = id; from = from; known = is; others = λ m other. grind (arith, nat_tests, by_away, off); token = h.token }
 
 pub where_is : (v : View) (p : Pid) (phase : Phase) → IsIn v p phase → is_due phase ≡ false → v.known p.home p ≢ Unknown → HasIt v p ⊎ (OverAt v p ⊎ ComesTo v p)
-where_is v p Nowhere h put home = absurd (home (unknown_is (v.known p.home p) (h.known p.home)))
+where_is v p Nowhere h put home = absurd (home (grind (arith, nat_tests)))
 where_is v p (Rests at) h put home = inl (rests_has v p at h)
 where_is v p (Over at) h put home = inr (inl (over_has v p at h))
 where_is v p (Moves k s d None) h put home = absurd (false≢true (sym put))

@@ -46,8 +46,7 @@ own_asked b pt l records k c p to i x there plain = let o = c.own i x there plai
 
 kernel_asked : (b : Boot) (pt : Point) (l : Placed) (records : AllRecords) (k : KernelState) (c : Asks b pt l records k) (p : Pid) (to : ℕ) → KernelStands b (asked_point pt p to) l 0 k
 kernel_asked b pt l records k c p to =
-    let h = c.stands in
-    search h.known
+    search c.stands.known
 
 sent_asked : (b : Boot) (pt : Point) (l : Placed) (k : KernelState) → KernelStands b pt l 0 k → KernelStands b pt l 0 (with_sent k)
 sent_asked b pt l k h = record { here = h.here; known = h.known; no_server = h.no_server; ring = h.ring; inbox = h.inbox; made = h.made; room = h.room; servers = h.servers }
@@ -199,9 +198,6 @@ front_known b m pt l records k y c fixed e =
 pub front_sort : (b : Boot) (m : ℕ) (pt : Point) (l : Placed) (records : AllRecords) (k : KernelState) (y : Message) (c : Fronts b m pt l records k y) → plain_what y.what ≡ None → own_sort (kind_of y.what) y.to.pid c.told.about ≡ true
 front_sort b m pt l records k y c none = grind (arith, nat_tests)
 
-left_true : (a b : Bool) → (not a && b) ≡ true → a ≡ false
-left_true a b e = grind (arith, nat_tests)
-
 -- an update, at a process
 update_known : (b : Boot) (m : ℕ) (pt : Point) (l : Placed) (records : AllRecords) (k : KernelState) (y : Message) (c : Fronts b m pt l records k y) (about : Addr) (w : Known) → is_fixed y.to.pid ≡ false → y.what ≡ What.Update about → pt.view.known m y.to.pid ≡ w → TurnsAt b m pt l records k
 update_known b m pt l records k y c about Unknown fixed e knows = absurd (front_known b m pt l records k y c fixed knows)
@@ -214,15 +210,14 @@ update_known b m pt l records k y c about Ended fixed e knows = updated_ended_tu
 update_server : (b : Boot) (m : ℕ) (pt : Point) (l : Placed) (records : AllRecords) (k : KernelState) (y : Message) (c : Fronts b m pt l records k y) (about : Addr) (s : Bool) → is_server y.to.pid ≡ true → y.what ≡ What.Update about → pid_eq y.to.pid switchboard ≡ s → TurnsAt b m pt l records k
 update_server b m pt l records k y c about true server e is = updated_board_turn b m pt l records k y c about (pid_eq-is y.to.pid switchboard is) e
 update_server b m pt l records k y c about false server e is =
-    let f : pid_eq y.to.pid manager ≡ true = sym (ap (λ (s : Bool). s || pid_eq y.to.pid manager) is) ∙ server in
-    updated_manager_turn b m pt l records k y c about (pid_eq-is y.to.pid manager f) e
+    updated_manager_turn b m pt l records k y c about (pid_eq-is y.to.pid manager (sym (ap (λ (s : Bool). s || pid_eq y.to.pid manager) is) ∙ server)) e
 
 -- an update, wherever it comes
 pub update_turn : (b : Boot) (m : ℕ) (pt : Point) (l : Placed) (records : AllRecords) (k : KernelState) (y : Message) (c : Fronts b m pt l records k y) (about : Addr) → y.what ≡ What.Update about → TurnsAt b m pt l records k
 update_turn b m pt l records k y c about e =
     let none = ap plain_what e in
     let sort : (not (y.to.pid.num == 0) && is_place c.told.about) ≡ true = ap (λ (w : What). own_sort (kind_of w) y.to.pid c.told.about) (sym e) ∙ front_sort b m pt l records k y c none in
-    let num : (y.to.pid.num == 0) ≡ false = left_true (y.to.pid.num == 0) (is_place c.told.about) sort in
+    let num : (y.to.pid.num == 0) ≡ false = grind (arith, nat_tests) in
     elim (cases_Bool (is_server y.to.pid)) [
       | inl server ↦ update_server b m pt l records k y c about (pid_eq y.to.pid switchboard) server e refl
       | inr other ↦ update_known b m pt l records k y c about (pt.view.known m y.to.pid) (ap (λ (s : Bool). s || is_server y.to.pid) num ∙ other) e refl
@@ -232,7 +227,7 @@ update_turn b m pt l records k y c about e =
 pub migrate_process : (b : Boot) (m : ℕ) (pt : Point) (l : Placed) (records : AllRecords) (k : KernelState) (y : Message) (c : Fronts b m pt l records k y) (to : ℕ) → y.what ≡ What.Migrate to → is_fixed y.to.pid ≡ false
 migrate_process b m pt l records k y c to e =
     let sort : (not (is_fixed y.to.pid) && is_target c.told.about) ≡ true = ap (λ (w : What). own_sort (kind_of w) y.to.pid c.told.about) (sym e) ∙ front_sort b m pt l records k y c (ap plain_what e) in
-    left_true (is_fixed y.to.pid) (is_target c.told.about) sort
+    grind (arith, nat_tests)
 
 -- where the process isn't here
 pub migrate_apart : (b : Boot) (m : ℕ) (pt : Point) (l : Placed) (records : AllRecords) (k : KernelState) (y : Message) (c : Fronts b m pt l records k y) (to : ℕ) (w : Known) → y.what ≡ What.Migrate to → pt.view.known m y.to.pid ≡ w → w ≢ Here → TurnsAt b m pt l records k

@@ -23,10 +23,6 @@ use Rattle.dm_mirror.proofs.Handle.Taking.{held_apart, record_off, record_others
 own_back : (w : What) → plain_what w ≡ None → is_told_back (kind_of w) ≡ true → kind_of w ≡ MessageKind.Migrate
 own_back w e back = grind (arith, nat_tests)
 
--- the name of the kernel's next message is free
-once_told : (i : MsgId) (f : Spot → ℕ) (o : Option Told) → StandsOnce f → ((z : Spot) → 1 ≤ f z → is_some o ≡ true) → o ≡ None → ⊥
-once_told i f o once told none = grind (arith, nat_tests, is_some)
-
 pub next_untold : (b : Boot) (m : ℕ) (pt : Point) → Run b pt → pt.view.told (id_of (pid_of m 0) (pt.view.count m)) ≡ None
 next_untold b m pt run = run.based.phased.state.numbered m (pt.view.count m) (omega arith)
 
@@ -38,13 +34,10 @@ free_by b pt l i (Some x) run mirrors own is none = absurd (bad (plain_message x
     bad None plain = let f : None ≡ Some _ = sym none ∙ (own i x is plain).told in cc
     bad (Some w) plain =
         let bag : pt.kernel.bag i ≡ Some w = sym (mirrors.plain.bag i) ∙ ap (λ (z : Option Message). bind z plain_message) is ∙ plain in
-        once_told i (standing pt.view i) (pt.view.told i) (stands_right pt i run.based.phased.state (Some w) bag) (λ z least. run.found.told i z least) none
+        grind (arith, nat_tests, is_some)
 
 pub next_free : (b : Boot) (m : ℕ) (pt : Point) (l : Placed) → Run b pt → Mirrors pt.kernel pt.view pt.addresses l → AllOwnStand pt.view l → l.bag (id_of (pid_of m 0) (pt.view.count m)) ≡ None
 next_free b m pt l run mirrors own = let i = id_of (pid_of m 0) (pt.view.count m) in free_by b pt l i (l.bag i) run mirrors own refl (next_untold b m pt run)
-
-own_untold : (b : Boot) (m : ℕ) (pt : Point) (l : Placed) (records : AllRecords) (k : KernelState) (y : Message) (c : Fronts b m pt l records k y) → pt.view.told (own_id (begun pt m).view) ≡ None
-own_untold b m pt l records k y c = next_untold b m pt c.run
 
 own_free : (b : Boot) (m : ℕ) (pt : Point) (l : Placed) (records : AllRecords) (k : KernelState) (y : Message) (c : Fronts b m pt l records k y) → l.bag (own_id (begun pt m).view) ≡ None
 own_free b m pt l records k y c = next_free b m pt l c.run c.mirrors c.own
@@ -109,7 +102,7 @@ update_may b m pt l records all k y c at moves knows has =
       plain = refl;
       encloses = refl;
       bag = ap (with_message l y.id (Some (sent_on at moves y))).bag named ∙ ap (λ (t : Bool). if t then Some (sent_on at moves y) else l.bag own) off ∙ free;
-      untold = ap pt.view.told named ∙ own_untold b m pt l records k y c;
+      untold = ap pt.view.told named ∙ next_untold b m pt c.run;
       receiver = ap (λ (i : MsgId). (forwarded pt m y at).addresses (Receiver i)) named ∙ places.0;
       sender = ap (λ (i : MsgId). (forwarded pt m y at).addresses (Sender i)) named ∙ places.1 ∙ ap unmoved (sym c.stands.here);
       about = refl;
@@ -120,8 +113,7 @@ update_may b m pt l records all k y c at moves knows has =
 -- the message that goes on may be put
 on_may : (b : Boot) (m : ℕ) (pt : Point) (l : Placed) (records all : AllRecords) (k : KernelState) (y : Message) (c : Fronts b m pt l records k y) (at moves : ℕ) → IsProcess y.to.pid
     → MayPut (handled_point pt m y.id pt.view.held (About.Place y.to.pid at moves) (forwarded pt m y at).addresses) (with_message l y.id (Some (sent_on at moves y))) all (On (sent_on at moves y))
-on_may b m pt l records all k y c at moves is =
-    (ap (λ (t : Bool). if t then Some (sent_on at moves y) else l.bag y.id) (id_eq-same y.id), (c.told, c.told_is, c.kind, c.receiver), front_still b m pt l records k y c is.number)
+on_may b m pt l records all k y c at moves is = search (id_eq-same, front_still, l.bag, y.id, c.told, c.told_is, c.kind, c.receiver)
 
 all_may : (b : Boot) (m : ℕ) (pt : Point) (l : Placed) (records all : AllRecords) (k : KernelState) (y : Message) (c : Fronts b m pt l records k y) (at moves : ℕ) (back : Bool) → IsProcess y.to.pid → pt.view.known m y.to.pid ≡ Forward at moves → is_told_back (kind_of y.what) ≡ back
     → AllMayPut (handled_point pt m y.id pt.view.held (About.Place y.to.pid at moves) (forwarded pt m y at).addresses) (with_message l y.id (Some (sent_on at moves y))) all (routes_of y (machine.own_id k) k.here at moves back)
@@ -143,9 +135,6 @@ sent_is k rest y id here at moves false = record { here = refl; records = refl; 
 
 inbox_is : (k : KernelState) (rest : List Message) (back : Bool) → (sent_by (record k { inbox = rest }) back).inbox ≡ rest
 inbox_is k rest back = grind (arith, nat_tests)
-
-own_most : (y : Message) (id : MsgId) (here at moves : ℕ) (back : Bool) → owns (routes_of y id here at moves back) ≤ 1
-own_most y id here at moves back = grind (arith, nat_tests)
 
 forward_row : (b : Boot) (m : ℕ) (pt : Point) (l : Placed) (records : AllRecords) (k : KernelState) (y : Message) (c : Fronts b m pt l records k y) (at moves : ℕ) (back : Bool) → IsProcess y.to.pid → pt.view.known m y.to.pid ≡ Forward at moves → is_told_back (kind_of y.what) ≡ back → TurnsAt b m pt l records k
 forward_row b m pt l records k y c at moves back is knows has =
@@ -180,10 +169,9 @@ forward_row b m pt l records k y c at moves back is knows has =
       mirrors = mirrors_view pt.kernel next.view (handled_view pt m y.id pt.view.held topic) next.addresses placed (sym (moves_forwarded (handled (begun pt m).view y.id) (receiver_of (pt.view.told y.id)))) gone;
       own_front = λ z e plain. (let w : sent_on at moves y ≡ z = grind (arith, nat_tests, id_eq-same) in
           let o = c.own y.id y c.there (sym (plain_sent_on at moves y) ∙ ap plain_message w ∙ plain) in
-          let u : OwnStands pt.view y.id (sent_on at moves y) = record { told = o.told; mine = o.mine; sender = o.sender } in
-          subst (OwnStands pt.view y.id) w u);
+          subst (OwnStands pt.view y.id) w (record { told = o.told; mine = o.mine; sender = o.sender }));
       sent = same.sent;
-      single = own_most y (machine.own_id k) k.here at moves back;
+      single = grind (arith, nat_tests);
       known = λ server. subst (KnownStands (handled_point pt m y.id pt.view.held topic next.addresses) placed p (pt.view.queue m p) (pt.view.held m p) (pt.view.known m p)) (ap (λ (f : Pid → Option machine.KernelKnown). f p) (sym same.records))
           (known_on pt (handled_point pt m y.id pt.view.held topic next.addresses) l placed p (pt.view.queue m p) (pt.view.held m p) (pt.view.known m p) (k.records p) refl refl refl
           (λ j least. bag_off j (apart_at b m pt l records k y c (Queue m p) j (queue_apart m m p) least)) (λ j least. bag_off j (apart_at b m pt l records k y c (Held m p) j (held_apart m m p) least)) (c.stands.known p server));
@@ -233,8 +221,7 @@ held_row b m pt l records k y c w r new is knows there turn bag own known wants 
     let state = with_known (record k { inbox = c.rest }) p new in
     let more : (n : ℕ) (q : Pid) (i : MsgId) → id_eq y.id i ≡ false → times i (held n q) ≡ times i (pt.view.held n q) = λ n q i off. grown pt.view.held m p n q i y.id (id_eq-swap i y.id ∙ off) in
     let keeps : is_server p ≡ true → state.records p ≡ k.records p = λ server. absurd (false≢true (sym is.server ∙ server)) in
-    let asked : (u : Wanted) → Wants (incoming_of (k.records p)) u → Wants (incoming_of (state.records p)) u =
-    λ u h. subst (λ (o : Option machine.KernelKnown). Wants (incoming_of o) u) (sym (set_self k.records p new)) (wants u (subst (λ (o : Option machine.KernelKnown). Wants (incoming_of o) u) there h)) in
+    let asked : (u : Wanted) → Wants (incoming_of (k.records p)) u → Wants (incoming_of (state.records p)) u = grind (arith, nat_tests, set_self) in
     turns_follow b m pt l records k y c (record {
       state = state;
       said = Line.Held y.id;

@@ -68,8 +68,7 @@ apart_at b m pt l records k y c s j off least =
 
 pub apart_behind : (b : Boot) (m : ℕ) (pt : Point) (l : Placed) (records : AllRecords) (k : KernelState) (y : Message) (c : Fronts b m pt l records k y) (j : MsgId) → 1 ≤ times j c.ids → id_eq y.id j ≡ false
 apart_behind b m pt l records k y c j least =
-    let one : standing pt.view y.id (Inbox m) ≡ 1 = (stands_once b pt y.id (Inbox m) c.run (at_front b m pt l records k y c)).0 in
-    let is : times y.id (y.id ∷ c.ids) ≡ 1 = ap (times y.id) (sym c.box) ∙ one in
+    let is : times y.id (y.id ∷ c.ids) ≡ 1 = ap (times y.id) (sym c.box) ∙ (stands_once b pt y.id (Inbox m) c.run (at_front b m pt l records k y c)).0 in
     let self : times y.id (y.id ∷ c.ids) ≡ 1 + times y.id c.ids = ap (λ (d : Bool). (if d then 1 else 0) + times y.id c.ids) (id_eq-same y.id) in
     not_it y.id j (λ (i : MsgId). times i c.ids) (omega (arith, is, self)) least
 
@@ -78,10 +77,6 @@ pub front_gone : (i : MsgId) (is xs : List MsgId) → xs ≡ i ∷ is → withou
 front_gone i is xs e = ap (without_front i) e ∙ ap (λ (c : Bool). if c then is else i ∷ is) (id_eq-same i)
 
 -- The message at the front of an inbox: what it is, and what was told of it.
-
--- what has a plain meaning is no message of a migration under way, and its kind is the plain one
-plain_still : (w : What) (o : PlainWhat) → plain_what w ≡ Some o → is_between (kind_of w) ≡ false
-plain_still w o e = grind (arith, nat_tests)
 
 pub plain_kinds : (w : What) (o : PlainWhat) → plain_what w ≡ Some o → plain_kind o ≡ kind_of w
 plain_kinds w o e = grind (arith, nat_tests)
@@ -111,10 +106,9 @@ pub plain_there : (b : Boot) (m : ℕ) (pt : Point) (l : Placed) (records : AllR
 plain_there b m pt l records k y c = sym (c.mirrors.plain.bag y.id) ∙ ap (λ (o : Option Message). bind o plain_message) c.there
 
 still_by : (b : Boot) (m : ℕ) (pt : Point) (l : Placed) (records : AllRecords) (k : KernelState) (y : Message) (c : Fronts b m pt l records k y) (o : Option PlainWhat) → plain_what y.what ≡ o → (y.to.pid.num == 0) ≡ false → is_between (kind_of y.what) ≡ false
-still_by b m pt l records k y c (Some w) e num = plain_still y.what w e
+still_by b m pt l records k y c (Some w) e num = grind (arith, nat_tests)
 still_by b m pt l records k y c None e num =
-    let own = c.own y.id y c.there (ap (with_what y) e) in
-    let sort = c.own_told.own y.id c.told c.told_is own.mine in
+    let sort = c.own_told.own y.id c.told c.told_is (c.own y.id y c.there (ap (with_what y) e)).mine in
     sym (ap is_between c.kind) ∙ own_still c.told.kind c.told.receiver c.told.about sort (ap (λ (p : Pid). p.num == 0) c.receiver ∙ num)
 
 pub front_still : (b : Boot) (m : ℕ) (pt : Point) (l : Placed) (records : AllRecords) (k : KernelState) (y : Message) (c : Fronts b m pt l records k y) → (y.to.pid.num == 0) ≡ false → is_between (kind_of y.what) ≡ false
@@ -194,13 +188,10 @@ machine_process b s y r o is e h = grind (arith, nat_tests, last_row)
 bag_process : (b : Boot) (pt : Point) (m : ℕ) (id : MsgId) (x : PlainMessage) (k : Known) (o : Option (List rule.Part)) → IsProcess x.to → pt.view.known m x.to ≡ k → process_handles pt m id x k ≡ o → outcomes.handles b pt m id x ≡ o
 bag_process b pt m id x k o is e h = grind (arith, nat_tests, last_row)
 
-own_process : (b : Boot) (pt : Point) (m : ℕ) (id : MsgId) (t : Told) (k : Known) (o : Option (List rule.Part)) → IsProcess t.receiver → pt.view.known m t.receiver ≡ k → process_told pt m id t k ≡ o → hears b pt m id (Some t) ≡ o
-own_process b pt m id t k o is e h = grind (arith, nat_tests, last_row)
-
 -- a message of the bag, or a kernel's own
 pub rule_process : (b : Boot) (m : ℕ) (pt : Point) (l : Placed) (records : AllRecords) (k : KernelState) (y : Message) (c : Fronts b m pt l records k y) (w : Known) (o : Option (List rule.Part)) (z : Option PlainMessage) → IsProcess y.to.pid → pt.view.known m y.to.pid ≡ w → plain_message y ≡ z
     → ((x : PlainMessage) → z ≡ Some x → process_handles pt m y.id x w ≡ o) → (z ≡ None → process_told pt m y.id c.told w ≡ o) → comes_to b pt m y.id (pt.kernel.bag y.id) ≡ o
-rule_process b m pt l records k y c w o None is e plain bag own = grind (arith, nat_tests, plain_there, own_process)
+rule_process b m pt l records k y c w o None is e plain bag own = grind (arith, nat_tests, plain_there, last_row)
 rule_process b m pt l records k y c w o (Some x) is e plain bag own =
     let to : y.to.pid ≡ x.to = (parts y x plain).to in
     ap (comes_to b pt m y.id) (plain_there b m pt l records k y c ∙ plain) ∙ bag_process b pt m y.id x w o (subst IsProcess to is) (ap (pt.view.known m) (sym to) ∙ e) (bag x refl)
@@ -366,10 +357,9 @@ kernel_follows : (b : Boot) (m : ℕ) (pt : Point) (l : Placed) (records : AllRe
     → KernelStands b (handled_point pt m y.id h.held h.topic h.addresses) h.placed m h.state
 kernel_follows b m pt l records k y c h =
     let stands = c.stands in
-    let next = handled_point pt m y.id h.held h.topic h.addresses in
     let waits : (q : Pid) (j : MsgId) → 1 ≤ times j (pt.view.queue m q) → h.placed.bag j ≡ l.bag j = λ q j least. kept_at b m pt l records k y c h (Queue m q) j (queue_apart m m q) least in
     let holds : (q : Pid) (j : MsgId) → 1 ≤ times j (pt.view.held m q) → h.placed.bag j ≡ l.bag j = λ q j least. kept_at b m pt l records k y c h (Held m q) j (held_apart m m q) least in
-    stands_set b pt next l h.placed m k h.state h.process
+    stands_set b pt (handled_point pt m y.id h.held h.topic h.addresses) l h.placed m k h.state h.process
     (search (h.leaves.here, h.leaves.records_, h.leaves.held_others, h.leaves.processes, h.leaves.notes, waits, holds, h.known, h.leaves.keeps)) stands
     (h.leaves.ring ∙ stands.ring)
     (ap (map h.placed.bag) (machine_self pt.view.inbox m (without_front y.id (pt.view.inbox m)) ∙ front_gone y.id c.ids (pt.view.inbox m) c.box)

@@ -137,13 +137,8 @@ nowhere_else b m n pt p run here apart has =
 
 none_under_way : (b : Boot) (m : ℕ) (pt : Point) (p : Pid) (i : MsgId) (t : Told) (z : Spot) → Run b pt → pt.view.known m p ≡ Here → pt.view.told i ≡ Some t → is_between t.kind ≡ true → t.about ≡ Of p → 1 ≤ standing pt.view i z → ⊥
 none_under_way b m pt p i t z run here told between about least =
-    let h = run.based.phased.phases in
-    let f : None ≡ Some i = sym (ap token_in (rests_at b m pt p run here)) ∙ (h.each p).alone i t z told between about least in
+    let f : None ≡ Some i = sym (ap token_in (rests_at b m pt p run here)) ∙ (run.based.phased.phases.each p).alone i t z told between about least in
     cc
-
--- what was told of an update
-pub update_told : (b : Boot) (m : ℕ) (pt : Point) (l : Placed) (records : AllRecords) (k : KernelState) (y : Message) (c : Fronts b m pt l records k y) (about : Addr) → y.what ≡ What.Update about → pt.view.told y.id ≡ Some (told_of y)
-update_told b m pt l records k y c about e = (c.own y.id y c.there (ap (λ (w : What). with_what y (plain_what w)) e)).told
 
 -- what the machine has of a process that is here
 record IsHere (l : Placed) (p : Pid) (queue : List MsgId) (r : Option machine.KernelKnown) : Type 0 where
@@ -173,7 +168,7 @@ updated_here_turn b m pt l records k y c about fixed knows e =
     let s = record k { inbox = c.rest } in
     let state = with_here s p next in
     let n = count_by (slot_is_behind r about.moves) x.table in
-    let told = update_told b m pt l records k y c about e in
+    let told = (c.own y.id y c.there (ap (λ (w : What). with_what y (plain_what w)) e)).told in
     let was : c.told ≡ told_of y = grind (arith, nat_tests, ap plain_what e) in
     let start = mirrors_view pt.kernel pt.view (begun pt m).view pt.addresses l refl c.mirrors in
     let placed = with_process l p (Some (applied r about.at about.moves z)) in
@@ -239,7 +234,7 @@ updated_board_turn b m pt l records k y c about to e =
     let there : k.servers ≡ Some v = c.stands.servers ∙ first_servers l m home in
     let r = about.pid in
     let n = count_by (named_is_behind r about.moves) l.board.names in
-    let told = update_told b m pt l records k y c about e in
+    let told = (c.own y.id y c.there (ap (λ (w : What). with_what y (plain_what w)) e)).told in
     let was : c.told ≡ told_of y = grind (arith, nat_tests, ap plain_what e) in
     let start = mirrors_view pt.kernel pt.view (begun pt m).view pt.addresses l refl c.mirrors in
     let placed = board_told l r about.at about.moves in
@@ -272,7 +267,7 @@ updated_manager_turn b m pt l records k y c about to e =
     let there : k.servers ≡ Some v = c.stands.servers ∙ first_servers l m home in
     let r = about.pid in
     let n = count_by (places.is_behind r about.moves) l.manager.children + count_by (pending_is_behind r about.moves) l.manager.pending in
-    let told = update_told b m pt l records k y c about e in
+    let told = (c.own y.id y c.there (ap (λ (w : What). with_what y (plain_what w)) e)).told in
     let was : c.told ≡ told_of y = grind (arith, nat_tests, ap plain_what e) in
     let start = mirrors_view pt.kernel pt.view (begun pt m).view pt.addresses l refl c.mirrors in
     let placed = manager_told l r about.at about.moves in

@@ -32,10 +32,9 @@ made_point pt m i child next = seen_point pt m (Label.Created i child) next (aft
 made_known : (b : Boot) (m : ℕ) (pt : Point) (l : Placed) (k : KernelState) (y : Message) (w : PlainWhat) (c : Taking b m pt l k y w) (next : Point) (on : Placed) (p : Pid) (held : List MsgId) (x : Process) (r : Option state.KernelKnown) → pt.view.known m p ≡ Known.Unknown → r ≡ Some (Record.Here x) → x.queue ≡ [] → on.processes p ≡ Some x
     → (known : Known) → known ≡ Known.Here → KnownStands next on p (pt.view.queue m p) held known r
 made_known b m pt l k y w c next on p held x r none is empty there known here =
-    let waits : pt.view.queue m p ≡ [] = c.run.based.lists.queue m p (ap has_no_queue none) in
     subst (λ (z : Known). KnownStands next on p (pt.view.queue m p) held z r) (sym here)
     (subst (KnownStands next on p (pt.view.queue m p) held Known.Here) (sym is)
-    ((x.queue, there), ap (map on.bag) waits ∙ ap (map Some) (sym empty)))
+    ((x.queue, there), ap (map on.bag) (c.run.based.lists.queue m p (ap has_no_queue none)) ∙ ap (map Some) (sym empty)))
 
 pub created_row : (b : Boot) (m : ℕ) (pt : Point) (l : Placed) (k : KernelState) (y : Message) (image : ℕ) (ls : List PlainLink) (g : BootImage) → Taking b m pt l k y (PlainWhat.Create image ls) → (y.to.pid.num == 0) ≡ true → slice_get b.images image ≡ Some g
     → rule.has_room (rule.free_room b pt m) g.blocks ≡ true → image_is_valid g ≡ true → Row b m pt l k

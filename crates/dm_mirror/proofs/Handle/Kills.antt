@@ -17,7 +17,7 @@ use Rattle.dm_kernel.specs.declared.part.Part as part_
 use Rattle.dm_kernel.specs.State as state
 use Rattle.dm_onekernel.specs.Service as service
 use Rattle.dm_kernel.specs.Handle as machine
-use Rattle.dm_mirror.proofs.Handle.Rows.{IsLeft, Elsewhere, Over, Moves, here_left, kept_at, kept_behind, mirrors_one, own_back, own_kept, seen_point, standing_begun, out_back, handled_point, turns_row}
+use Rattle.dm_mirror.proofs.Handle.Rows.{IsLeft, Elsewhere, Over, Moves, here_left, kept_at, kept_behind, mirrors_one, own_back, own_kept, seen_point, standing_begun, handled_point, turns_row}
 use Rattle.dm_mirror.proofs.Handle.Taking.{Taking, apart_at, outcome_is, sane_of, turn_is, held_apart, held_no_queue, queue_apart, waits, eq_off, eq_self, machine_off, machine_self, map_same, pid_apart, record_off, record_others}
 use Rattle.dm_mirror.proofs.Handle.Taking.{record_self, stands_set, times_more, times_self, not_server, known_on, to_kernel, rule_to_kernel}
 use Rattle.dm_mirror.proofs.Rooms.{taken_changed, taken_same}
@@ -86,7 +86,6 @@ all_dropped (j ∷ js) pt l p y front ended drops told inbox h =
     let v = pt.view in
     let m = v.acting in
     let step = dropped_is s j drops.0.x y drops.0.there (ap s.processes drops.0.to ∙ ended) (user_dropped drops.0.x.what drops.0.user) in
-    let first = told j (times_self j js) in
     let mid = dropped_point pt j p in
     let boxes = machine_same v.inbox m (without_front j (v.inbox m)) (front_none j (v.inbox m) (inbox j (times_self j js))) in
     let left : mid.view.queue m p ≡ js =
@@ -101,7 +100,7 @@ all_dropped (j ∷ js) pt l p y front ended drops told inbox h =
     record {
       next = g.next;
       on = g.on;
-      after = one_after pt j p (map drop_line js) step first ∙ g.after;
+      after = one_after pt j p (map drop_line js) step (told j (times_self j js)) ∙ g.after;
       mirrors = g.mirrors;
       acting = g.acting;
       groups = g.groups;
@@ -120,7 +119,7 @@ all_dropped (j ∷ js) pt l p y front ended drops told inbox h =
       processes = g.processes;
       notes = g.notes;
       bag = λ i none. let f = times_off i j js none in g.bag i f.1 ∙ ap (λ (c : Bool). if c then None else l.bag i) f.0;
-      back = λ i x there. out_back (id_eq j i) (l.bag i) x (g.back i x there);
+      back = λ i x there. grind (arith, nat_tests);
       board = g.board;
       manager = g.manager;
     }
@@ -131,9 +130,7 @@ drops_are bag [] [] names h = refl
 drops_are bag (j ∷ js) (z ∷ zs) names h =
     let first : bag j ≡ Some z = cc in
     let rest : map bag js ≡ map Some zs = cc in
-    let more = drops_are bag js zs names rest in
-    let name = names j z first in
-    λ i. state.says (Label.Dropped (name i)) ∷ more i
+    λ i. state.says (Label.Dropped ((names j z first) i)) ∷ (drops_are bag js zs names rest) i
 drops_are bag [] (z ∷ zs) names h = cc
 drops_are bag (j ∷ js) [] names h = cc
 
@@ -204,11 +201,10 @@ goes b m pt l k y c h =
     let i = y.id in
     let x = plainly y w in
     let t = ended_kernel pt i p in
-    let v = handled (begun pt m).view i in
     let ids = pt.view.queue m p in
     let on = ended_placed l i p in
     let mid = ended_point pt m i p in
-    let view_is : after_label (begun pt m).view (Label.Served i) ≡ ended_view pt m i p = served_is b m pt i x v w refl c.front in
+    let view_is : after_label (begun pt m).view (Label.Served i) ≡ ended_view pt m i p = served_is b m pt i x (handled (begun pt m).view i) w refl c.front in
     let step = served_step s i x (plain_process h.x) t c.front.there h.life h.free refl in
     let placed_is = served_placed pt l on m y (with_queue h.x h.queue) c.there h.placed (ap (placed.serves m (placed.without_message l i) y (with_queue h.x h.queue)) (kill_what y.what c.says)) in
     let mirrors = mirrors_one pt m (Label.Served i) t (ended_view pt m i p) l on step view_is tt placed_is c.mirrors in
@@ -220,8 +216,7 @@ goes b m pt l k y c h =
     let once : StandsAsBag (Some q.x) (standing pt.view j) = stands_right pt j c.run.based.phased.state (Some q.x) q.there in
     let none : times j (pt.view.inbox m) ≡ 0 = StandsAsBag-elsewhere (Some q.x) (standing pt.view j) (Queue m p) (Inbox m) least (λ e. queue_apart m m p (sym e)) once in
     let all : times j (i ∷ c.ids) ≡ 0 = ap (times j) (sym c.box) ∙ none in
-    let more = times_more j i c.ids in
-    let behind : times j c.ids ≡ 0 = omega (arith, all, more) in
+    let behind : times j c.ids ≡ 0 = omega (arith, all, times_more j i c.ids) in
     ap (times j) (machine_self pt.view.inbox m (without_front i (pt.view.inbox m)) ∙ front_gone i c.ids (pt.view.inbox m) c.box) ∙ behind) in
     record { view = view_is; step = step; drops = all_dropped ids mid on p Why.Killed refl ended (droppable_on s t p ids off (c.front.drops p)) told inbox mirrors }
 
@@ -242,8 +237,7 @@ kill_row b m pt l k y c h =
     let drops = drops_are l.bag ids h.x.queue (λ j z there. (c.mirrors.places.message j z there).id) h.waits in
     let kept : (q : Spot) (j : MsgId) → q ≢ Inbox m → 1 ≤ standing pt.view j q → on.bag j ≡ l.bag j = kept_at b m pt l k y w c on None (λ j. refl) (λ a f. absurd (cc)) in
     let behind : (j : MsgId) → 1 ≤ times j c.ids → g.on.bag j ≡ l.bag j = λ j least. (
-    let more = times_more j i c.ids in
-    let there : 1 ≤ standing pt.view j (Inbox m) = subst (λ (z : List MsgId). 1 ≤ times j z) (sym c.box) (omega (arith, least, more)) in
+    let there : 1 ≤ standing pt.view j (Inbox m) = subst (λ (z : List MsgId). 1 ≤ times j z) (sym c.box) (omega (arith, least, times_more j i c.ids)) in
     g.bag j (in_queue pt m p (Inbox m) j b l k y w c (λ f. queue_apart m m p (sym f)) there) ∙ kept_behind b m pt l k y w c on None (λ n. refl) (λ a f. absurd (cc)) j least) in
     let known : g.next.view.known m p ≡ view.Ended = g.known m p ∙ record_self pt.view.known m p view.Ended (pid_eq-same p) in
     let life : g.next.kernel.processes p ≡ Some (Ended Why.Killed) = g.lives p ∙ ap (λ (d : Bool). if d then Some (Ended Why.Killed) else s.processes p) (pid_eq-same p) in
@@ -252,8 +246,7 @@ kill_row b m pt l k y c h =
     let others_placed : (q : Pid) → pid_eq p q ≡ false → g.on.processes q ≡ l.processes q = λ q off. g.processes q ∙ ap (λ (d : Bool). if d then None else l.processes q) off in
     let left : (q : Pid) → IsLeft m pt q → pid_eq p q ≡ false = λ q is. here_left pt m p q c.run.based.phased.phases h.known is in
     let there : is_some (s.processes p) ≡ true = ap is_some h.life in
-    let within : p.home < s.machines = c.made.home p there in
-    let taken = taken_changed pt g.next m p g.machines g.made within (c.made.first p there) (c.made.below p there)
+    let taken = taken_changed pt g.next m p g.machines g.made (c.made.home p there) (c.made.first p there) (c.made.below p there)
     (λ q apart. (let off = pid_apart p q apart in
     (λ n. record {
       slots = takes_room (others_known q off n);
@@ -354,14 +347,13 @@ pub no_room_row : (b : Boot) (m : ℕ) (pt : Point) (l : Placed) (k : KernelStat
 no_room_row b m pt l k y image ls g c num found none =
     let s = pt.kernel in
     let p = y.to.pid in
-    let x = plainly y (PlainWhat.Create image ls) in
     let k0 = record k { inbox = c.rest } in
     let r = rule.free_room b pt m in
     let e = Label.NoSpace y.id r.slots r.blocks in
     let w = create_what y.what image ls c.says in
     let free = free_of k.room (slice_get b.machines m) (taken_at pt m s.machines) c.stands.room in
     let a = answer m 0 y What.NoRoom in
-    let next = with_sent (without_message s y.id) (Some (answer_to x PlainWhat.NoRoom)) in
+    let next = with_sent (without_message s y.id) (Some (answer_to (plainly y (PlainWhat.Create image ls)) PlainWhat.NoRoom)) in
     let on = placed.with_sent (placed.without_message l y.id) (Some a) in
     let step : kernel.step s e ≡ Some next =
     ap (λ (o : Option PlainMessage). bind o (λ (v : PlainMessage). service.has_no_room s y.id v v.what)) c.front.there ∙ ap (λ (d : Bool). when d next) (kernel_is s p m num (kernel_home b m pt l k y (PlainWhat.Create image ls) c num) c.below) in
@@ -418,8 +410,7 @@ user_row b m pt l k y code channel bytes ls c h =
     let sets : (q : Pid) → pid_eq p q ≡ false → (with_here k0 p z).records q ≡ k.records q = λ q off. ap (λ (c : Bool). if c then Some (Record.Here z) else k.records q) off in
     let queues : (q : Pid) → pid_eq p q ≡ false → next.view.queue m q ≡ pt.view.queue m q = λ q off. record_others pt.view.queue m p q xs off in
     let mine : KnownStands next l p (next.view.queue m p) (next.view.held m p) (next.view.known m p) ((with_here k0 p z).records p) =
-    here_known next l p (at_record pt.view.queue m p xs m p) (pt.view.held m p) z h.queue ((with_here k0 p z).records p) (pt.view.known m p) (ap (λ (d : Bool). if d then Some (Record.Here z) else k.records p) (pid_eq-same p)) h.known h.placed
-    (ap (map l.bag) (record_self pt.view.queue m p xs (pid_eq-same p)) ∙ last_message l.bag (pt.view.queue m p) h.x.queue i y h.waits c.there) in
+    grind (arith, nat_tests, here_known, pid_eq-same, record_self, last_message) in
     let keeps : is_server p ≡ true → (with_here k0 p z).records p ≡ k.records p = λ server. absurd (false≢true (sym (not_server p h.process) ∙ server)) in
     record {
       state = with_here k0 p z;

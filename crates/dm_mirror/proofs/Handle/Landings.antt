@@ -35,8 +35,7 @@ if_same x true c d h k = h
 if_same x false c d h k = k
 
 goes_same : (here : ℕ) (x : Process) (r : Rest) → Same x (landing.goes_on here x r)
-goes_same here x r =
-    if_same x (r.left - piece_of r.left == 0) (landing.done Reply.Done x) (landing.asks here x (landing.behind r)) (record { queue = refl; memory = refl }) (record { queue = refl; memory = refl })
+goes_same here x r = search (if_same, r.left)
 
 goes_lands : (here : ℕ) (p : Pid) (x y : Process) (o : Option Landing) (r : Rest) (c : pieces.Landed) → o ≡ Some (landing.goes_on here y r) → y.pid ≡ p → y.queue ≡ x.queue → length y.memory ≡ length x.memory
     → pieces.move_goes_on p (plain_process y) r.dir r.owner.pid r.base r.own r.left (piece_of r.left) ≡ c → Lands p x o c
@@ -236,8 +235,7 @@ served_fresh b m pt l k y w c h t i step is =
     let same : g.m ≡ plainly y w = let f : Some g.m ≡ Some (plainly y w) = sym g.there ∙ c.front.there in cc in
     let lives : Some (Alive g.x) ≡ Some (Alive (plain_process h.x)) = sym g.alive ∙ ap (λ (n : PlainMessage). s.processes n.to) same ∙ h.life in
     let one : g.x ≡ plain_process h.x = cc in
-    let named : served_id y.id g.m g.x g.m.what ≡ Some i = (λ j. served_id y.id (same j) (one j) (same j).what) ∙ is in
-    bag_none seen.r seen.e s i (g.is.fresh i named) seen.sound.entered
+    bag_none seen.r seen.e s i (g.is.fresh i ((λ j. served_id y.id (same j) (one j) (same j).what) ∙ is)) seen.sound.entered
 
 pub read_row : (b : Boot) (m : ℕ) (pt : Point) (l : Placed) (k : KernelState) (y : Message) (base len : ℕ) (c : Taking b m pt l k y (PlainWhat.Read base len)) → IsHere b m pt l k y.to.pid → WhatFits pt.kernel y.id (plainly y (PlainWhat.Read base len)) (PlainWhat.Read base len) → Row b m pt l k
 read_row b m pt l k y base len c h fits =

@@ -66,12 +66,8 @@ other_than p q off = grind (arith, nat_tests, pid_eq-is)
 pub here_left : (pt : Point) (m : ℕ) (p q : Pid) → InPhases pt.view → pt.view.known m p ≡ Here → IsLeft m pt q → pid_eq p q ≡ false
 here_left pt m p q h here is = other_than p q (λ e. here_not pt m p h here (subst (IsLeft m pt) (sym e) is))
 
--- nor is a process that nobody knows
-unknown_not : (pt : Point) (m : ℕ) (p : Pid) → ((n : ℕ) → pt.view.known n p ≡ Unknown) → IsLeft m pt p → ⊥
-unknown_not pt m p h e = grind (arith, nat_tests)
-
 pub unknown_left : (pt : Point) (m : ℕ) (p q : Pid) → ((n : ℕ) → pt.view.known n p ≡ Unknown) → IsLeft m pt q → pid_eq p q ≡ false
-unknown_left pt m p q h is = other_than p q (λ e. unknown_not pt m p h (subst (IsLeft m pt) (sym e) is))
+unknown_left pt m p q h is = other_than p q (λ e. grind (arith, nat_tests))
 
 -- what such a row leaves of both kernels and of the machine, but for the process that may go on
 pub record RowLeaves (m : ℕ) (pt : Point) (l : Placed) (k : KernelState) (rest : List Message) (i : MsgId) (process : Pid) (next : OneKernel) (placed : Placed) (state : KernelState) (route : Option Message) : Type 0 where
@@ -128,22 +124,19 @@ kept_at b m pt l k y w c n o bag fresh s j off least =
 pub kept_behind : (b : Boot) (m : ℕ) (pt : Point) (l : Placed) (k : KernelState) (y : Message) (w : PlainWhat) (c : Taking b m pt l k y w) (n : Placed) (o : Option Message) → ((j : MsgId) → n.bag j ≡ (with_sent (without_message l y.id) o).bag j)
     → ((a : Message) → o ≡ Some a → (pt.kernel.bag a.id ≡ None) × (is_kernels a.id ≡ false)) → (j : MsgId) → 1 ≤ times j c.ids → n.bag j ≡ l.bag j
 kept_behind b m pt l k y w c n o bag fresh j least =
-    let more = times_more j y.id c.ids in
-    let there : 1 ≤ standing pt.view j (Inbox m) = subst (λ (z : List MsgId). 1 ≤ times j z) (sym c.box) (omega (arith, least, more)) in
+    let there : 1 ≤ standing pt.view j (Inbox m) = subst (λ (z : List MsgId). 1 ≤ times j z) (sym c.box) (omega (arith, least, times_more j y.id c.ids)) in
     bag j ∙ bag_kept l y.id o j (apart_behind b m pt l k y w c j least) (λ a is. fresh_at b pt (Inbox m) a.id j c.run (fresh a is).0 (fresh a is).1 there)
 
 -- kernels' own messages stay
 pub own_kept : (b : Boot) (m : ℕ) (pt : Point) (l : Placed) (k : KernelState) (y : Message) (w : PlainWhat) (c : Taking b m pt l k y w) (n : Placed) (o : Option Message) → ((j : MsgId) → n.bag j ≡ (with_sent (without_message l y.id) o).bag j)
     → ((a : Message) → o ≡ Some a → is_kernels a.id ≡ false) → (j : MsgId) (x : Message) → plain_message x ≡ None → l.bag j ≡ Some x → n.bag j ≡ Some x
 own_kept b m pt l k y w c n o bag other j x none there =
-    let front : id_eq y.id j ≡ false = apart (id_eq y.id j) refl in
-    bag j ∙ bag_kept l y.id o j front (λ a is. sent_apart a is (id_eq a.id j) refl) ∙ there
+    bag j ∙ bag_kept l y.id o j (apart (id_eq y.id j) refl) (λ a is. sent_apart a is (id_eq a.id j) refl) ∙ there
   where
     apart : (d : Bool) → id_eq y.id j ≡ d → d ≡ false
     apart false e = refl
     apart true e =
-        let same : l.bag y.id ≡ l.bag j = ap l.bag (id_eq-is y.id j e) in
-        let f : Some y ≡ Some x = sym c.there ∙ same ∙ there in
+        let f : Some y ≡ Some x = sym c.there ∙ (ap l.bag (id_eq-is y.id j e)) ∙ there in
         let g : y ≡ x = cc in
         let z : Some (plainly y w) ≡ None = sym (ap (with_what y) c.says) ∙ ap plain_message g ∙ none in
         cc
@@ -152,15 +145,8 @@ own_kept b m pt l k y w c n o bag other j x none there =
     sent_apart a is false e = refl
     sent_apart a is true e = absurd (false≢true (sym (other a is) ∙ ap is_kernels (id_eq-is a.id j e) ∙ (c.own j x there none).mine))
 
--- what was in the bag without a message, or with another one
-pub out_back : (d : Bool) (o : Option Message) (x : Message) → (if d then None else o) ≡ Some x → o ≡ Some x
-out_back d o x e = grind (arith, nat_tests)
-
-put_back : (d : Bool) (a : Message) (o : Option Message) (x : Message) → is_some (plain_message a) ≡ true → plain_message x ≡ None → (if d then Some a else o) ≡ Some x → o ≡ Some x
-put_back d a o x plain none e = grind (arith, nat_tests)
-
 own_at : (l : Placed) (i : MsgId) (o : Option Message) (j : MsgId) (x : Message) → ((a : Message) → o ≡ Some a → is_some (plain_message a) ≡ true) → plain_message x ≡ None → (with_sent (without_message l i) o).bag j ≡ Some x → l.bag j ≡ Some x
-own_at l i o j x plain none there = grind (arith, nat_tests, out_back, put_back)
+own_at l i o j x plain none there = grind (arith, nat_tests)
 
 pub own_back : (l n : Placed) (i : MsgId) (o : Option Message) → ((j : MsgId) → n.bag j ≡ (with_sent (without_message l i) o).bag j) → ((a : Message) → o ≡ Some a → is_some (plain_message a) ≡ true)
     → (j : MsgId) (x : Message) → plain_message x ≡ None → n.bag j ≡ Some x → l.bag j ≡ Some x

@@ -85,11 +85,7 @@ plain_if false t u h k = k
 
 controls_plain : (here : ℕ) (g : Managing) (o : Option Addr) (body : List ℕ) (ls : List Link) → IsPlain (manage.controls here g o body ls).message
 controls_plain here g (Some child) (operation ∷ []) ls = control_plain here g child (manage.control_of operation) ls (control_of_plain operation)
-controls_plain here g (Some child) (operation ∷ machine ∷ []) ls =
-    let bad = bad_plain here g ls in
-    let asks = manage.asks here g PendingKind.Move child (What.Move machine) (manage.first_link ls) in
-    plain_if (operation == 5) (manage.wants_move here g child machine ls) (manage.bad_request here g ls)
-    (plain_if (nat_lt machine g.machines) asks (manage.bad_request here g ls) (plain_one (message_to here g.sent child (What.Move machine)) refl) bad) bad
+controls_plain here g (Some child) (operation ∷ machine ∷ []) ls = search (bad_plain, plain_if, plain_one, g.machines, g.sent)
 controls_plain here g None body ls = bad_plain here g ls
 controls_plain here g (Some child) _ ls = bad_plain here g ls
 
@@ -205,8 +201,7 @@ user_row b m pt l k y code channel bytes ls c num is =
     let t = board.takes_request m l.board u.body.items u.links.items in
     let v : Servers = record { board = l.board; manager = l.manager } in
     let kk : boards.BoardTook = record { switchboard = plain_board t.board; answer = bind t.took.answer plain_message } in
-    let takes : boards.board_takes s.switchboard x w ≡ Some kk =
-    (λ i. Some (boards.takes_request (sym c.mirrors.plain.board i) (sym u.bytes_are i) (sym u.links_are i))) ∙ sym (plain_request m l.board u.body.items u.links.items t refl) in
+    let takes : boards.board_takes s.switchboard x w ≡ Some kk = grind (arith, nat_tests, plain_request) in
     let taken : board.takes m l.board y.what ≡ Some t = ap (board.takes m l.board) u.is in
     took_row b m pt l k y w c (record {
       u = record (service.without_message s y.id) { switchboard = kk.switchboard };

@@ -202,9 +202,8 @@ fresh_at b pt s i j h none other least =
 pub sent_other : (pt : Point) (e : Label) (next : OneKernel) (placed : Placed) (a : Message) → kernel.step pt.kernel e ≡ Some next → MirrorsKernel next placed → placed.bag a.id ≡ Some a → is_some (plain_message a) ≡ true → Sane pt → is_kernels a.id ≡ false
 sent_other pt e next placed a step mirrors there plain h =
     let (q, is) = some_of (plain_message a) plain in
-    let g = after_step h.r h.e pt.kernel next e step h.sound in
     let found : next.bag a.id ≡ Some q = sym (mirrors.bag a.id) ∙ ap (λ (o : Option Message). bind o plain_message) there ∙ is in
-    not_kernels (λ i. h.r i + reception i e) (λ i. h.e i + entry i pt.kernel next) next a.id q found g.sound
+    not_kernels (λ i. h.r i + reception i e) (λ i. h.e i + entry i pt.kernel next) next a.id q found (after_step h.r h.e pt.kernel next e step h.sound).sound
 
 -- the bag without it, and with what is sent
 pub bag_kept : (l : Placed) (i : MsgId) (o : Option Message) (j : MsgId) → id_eq i j ≡ false → ((a : Message) → o ≡ Some a → id_eq a.id j ≡ false) → (with_sent (without_message l i) o).bag j ≡ l.bag j

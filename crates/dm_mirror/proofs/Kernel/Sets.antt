@@ -96,15 +96,7 @@ placed_leaves_on t p v k l n g h = record {
 }
 
 placed_leaves_from : (m : ℕ) (t : Spot → Bool) (p : Pid) (v w : View) (l n : Placed) → ViewLeaves m t p v w → PlacedLeaves t p w l n → PlacedLeaves t p v l n
-placed_leaves_from m t p v w l n g h = record {
-  process = h.process;
-  notes = h.notes;
-  bag = λ i s off least. h.bag i s off (subst (λ (k : ℕ). 1 ≤ k) (sym (ap (times i) (g.lists s off))) least);
-  own = h.own;
-  own_back = h.own_back;
-  board = h.board;
-  manager = h.manager;
-}
+placed_leaves_from m t p v w l n g h = search (h.process, h.notes, h.bag, g.lists, h.own, h.own_back, h.board, h.manager)
 
 pub leaves_on : (m : ℕ) (t : Spot → Bool) (p : Pid) (a b c : Point) (k l n : Placed) → Leaves m t p a k b l → Leaves m t p b l c n → Leaves m t p a k c n
 leaves_on m t p a b c k l n g h = search (
@@ -159,9 +151,7 @@ queue_of_others m p q off = right_off (m == m) (pid_eq p q) off
 pub map_same : (f g : MsgId → Option Message) (ids : List MsgId) → ((i : MsgId) → 1 ≤ times i ids → g i ≡ f i) → map g ids ≡ map f ids
 map_same f g [] h = refl
 map_same f g (i ∷ is) h =
-    let first = h i (times_self i is) in
-    let rest = map_same f g is (λ k least. h k (let m = times_more k i is in omega (arith, least, m))) in
-    λ j. first j ∷ rest j
+    λ j. (h i (times_self i is)) j ∷ (map_same f g is (λ k least. h k (let m = times_more k i is in omega (arith, least, m)))) j
 
 pub messages_on : (f g : MsgId → Option Message) (ids : List MsgId) (ms : List Message) → ((i : MsgId) → 1 ≤ times i ids → g i ≡ f i) → AreMessages f ids ms → AreMessages g ids ms
 messages_on f g ids ms same h = map_same f g ids same ∙ h
@@ -200,8 +190,7 @@ set_stands b m t p pt next l placed k n g s queues helds server known ring inbox
     | inr apart ↦
         let w : KnownStands next placed q (pt.view.queue m q) (pt.view.held m q) (pt.view.known m q) (k.records q) =
         known_at pt next l placed q (pt.view.queue m q) (pt.view.held m q) (pt.view.known m q) (k.records q) (g.placed_.process q apart) (g.placed_.notes q) (g.kernel.life q apart)
-        (λ i least. g.placed_.bag i (Queue m q) (queues q apart) least) (λ i least. g.placed_.bag i (Held m q) (helds q) least) (h.known q off)
-        in
+        (λ i least. g.placed_.bag i (Queue m q) (queues q apart) least) (λ i least. g.placed_.bag i (Held m q) (helds q) least) (h.known q off) in
         let ids : next.view.queue m q ≡ pt.view.queue m q = g.view.lists (Queue m q) (queues q apart) in
         let same : next.view.known m q ≡ pt.view.known m q = g.view.known m q (right_off (m == m) (pid_eq p q) apart) in
         subst (λ (r : Option machine.KernelKnown). KnownStands next placed q (next.view.queue m q) (next.view.held m q) (next.view.known m q) r) (sym (s.records q apart))
@@ -248,19 +237,16 @@ pub room_released : (b : Boot) (m : ℕ) (t : Spot → Bool) (p : Pid) (pt next 
     → RoomStands k.room (room_of (slice_get b.machines m)) (taken_at pt m pt.kernel.machines) → RoomStands n.room (room_of (slice_get b.machines m)) (taken_at next m next.kernel.machines)
 room_released b m t p pt next l placed k n blocks g e before after there made h =
     let c = taken_changed pt next m p g.kernel.machines g.kernel.made (made.home p there) (made.first p there) (made.below p there) (λ q apart. others_take m t p pt next l placed g q (off q apart)) in
-    let first = c.0 in
-    let second = c.1 in
     let before_slots : (taken_by pt m p).slots ≡ 1 = ap (λ (r : Room). r.slots) before in
     let before_blocks : (taken_by pt m p).blocks ≡ blocks = ap (λ (r : Room). r.blocks) before in
     let after_slots : (taken_by next m p).slots ≡ 0 = ap (λ (r : Room). r.slots) after in
     let after_blocks : (taken_by next m p).blocks ≡ 0 = ap (λ (r : Room). r.blocks) after in
     let slots = h.taken_slots in
-    let all = h.taken_blocks in
     subst (λ (r : Taken). RoomStands r (room_of (slice_get b.machines m)) (taken_at next m next.kernel.machines)) (sym e) (record {
       slots = h.slots;
       blocks = h.blocks;
-      taken_slots = omega (arith, first, before_slots, after_slots, slots);
-      taken_blocks = omega (arith, second, before_blocks, after_blocks, all);
+      taken_slots = omega (arith, c.0, before_slots, after_slots, slots);
+      taken_blocks = omega (arith, c.1, before_blocks, after_blocks, h.taken_blocks);
     })
   where
     off : (q : Pid) → q ≢ p → pid_eq p q ≡ false
@@ -305,8 +291,7 @@ pub goes_stands : (b : Boot) (m : ℕ) (t : Spot → Bool) (p : Pid) (pt next : 
     → ((q : Pid) → pid_eq p q ≡ false → t (Queue m q) ≡ false) → ((q : Pid) → t (Held m q) ≡ false) → n.records p ≡ Some (Record.Here y) → n.room ≡ k.room → n.ring ≡ next.view.ring m → AreMessages placed.bag (next.view.inbox m) n.inbox → next.view.known m p ≡ pt.view.known m p
     → next.kernel.processes p ≡ Some (Alive (plain_process y)) → placed.processes p ≡ Some (with_queue y queue) → AreMessages placed.bag (next.view.queue m p) y.queue → length y.memory ≡ length x.memory → KernelStands b pt l m k → KernelStands b next placed m n
 goes_stands b m t p pt next l placed k n x y queue at g s queues helds e room ring inbox known alive there messages memory h =
-    let takes : taken_by next m p ≡ taken_by pt m p =
-    takes_as pt next m p known (ap (λ (o : Option Life). blocks_of (kernel.alive o)) alive ∙ blocks_same x y memory ∙ ap (λ (o : Option Life). blocks_of (kernel.alive o)) (sym at.alive)) in
+    let takes : taken_by next m p ≡ taken_by pt m p = grind (arith, nat_tests, takes_as, blocks_same) in
     set_stands b m t p pt next l placed k n g s queues helds at.server (known_here next placed m n p y queue e (known ∙ at.known) there messages) ring inbox (room_same b m t p pt next l placed k n g room takes h.room) h
 
 -- it ends, and its slot and its blocks are free again
@@ -314,10 +299,8 @@ pub ends_stands : (b : Boot) (m : ℕ) (t : Spot → Bool) (p : Pid) (pt next : 
     → ((q : Pid) → pid_eq p q ≡ false → t (Queue m q) ≡ false) → ((q : Pid) → t (Held m q) ≡ false) → n.records p ≡ Some (Record.Ended because) → n.room ≡ with_released k.room (machine.blocks_of y) → n.ring ≡ next.view.ring m → AreMessages placed.bag (next.view.inbox m) n.inbox
     → next.view.known m p ≡ view.Ended → next.kernel.processes p ≡ Some (Life.Ended because) → length y.memory ≡ length x.memory → MadeStands pt.kernel → KernelStands b pt l m k → KernelStands b next placed m n
 ends_stands b m t p pt next l placed k n x y because at g s queues helds e room ring inbox known ended memory made h =
-    let before : taken_by pt m p ≡ record { slots = 1; blocks = machine.blocks_of y } =
-    (λ i. record { slots = takes_room (at.known i); blocks = if takes_room (at.known i) == 0 then 0 else blocks_of (kernel.alive (at.alive i)) }) ∙ (λ i. record { slots = 1; blocks = sym memory i / 256 }) in
-    let after : taken_by next m p ≡ record { slots = 0; blocks = 0 } =
-    (λ i. record { slots = takes_room (known i); blocks = if takes_room (known i) == 0 then 0 else blocks_of (kernel.alive (next.kernel.processes p)) }) in
+    let before : taken_by pt m p ≡ record { slots = 1; blocks = machine.blocks_of y } = grind (arith, nat_tests) in
+    let after : taken_by next m p ≡ record { slots = 0; blocks = 0 } = grind (arith, nat_tests) in
     set_stands b m t p pt next l placed k n g s queues helds at.server (known_ended next placed m n p because e known ended) ring inbox
     (room_released b m t p pt next l placed k n (machine.blocks_of y) g room before after (ap is_some at.alive) made h.room) h
 
@@ -327,10 +310,6 @@ ends_stands b m t p pt next l placed k n x y because at g s queues helds e room 
 pub lists_same : (t : Spot → Bool) (v w : View) → ((n : ℕ) (q : Pid) → t (Queue n q) ≡ false → w.queue n q ≡ v.queue n q) → ((n : ℕ) (q : Pid) → w.held n q ≡ v.held n q) → ((n : ℕ) → t (Inbox n) ≡ false → w.inbox n ≡ v.inbox n)
     → ((a c : ℕ) → w.pair a c ≡ v.pair a c) → (s : Spot) → t s ≡ false → ids_at w s ≡ ids_at v s
 lists_same t v w queue held inbox pair s off = grind (arith, nat_tests)
-
--- values of machines and of processes, and those that were set
-pub machine_off : {X : Type 0} (f : ℕ → X) (a m n : ℕ) (x : X) → a ≡ m → n ≢ m → at_machine f a x n ≡ f n
-machine_off f a m n x e apart = off_if (a == n) x (f n) (ap (λ (k : ℕ). k == n) e ∙ eq_apart m n apart)
 
 pub machine_on : {X : Type 0} (f : ℕ → X) (a m : ℕ) (x : X) → a ≡ m → at_machine f a x m ≡ x
 machine_on f a m x e = on_if (a == m) x (f m) (ap (λ (k : ℕ). k == m) e ∙ eq_self m)
@@ -348,13 +327,13 @@ view_same m t p v = record { acting = refl; groups = refl; pair = λ a c. refl; 
 pub view_serving : (m : ℕ) (t : Spot → Bool) (p : Pid) (v : View) → v.acting ≡ m → ViewLeaves m t p v (serving v p)
 view_serving m t p v at = search (
   lists_same t v (serving v p) (λ n q off. refl) (λ n q. refl) (λ n off. refl) (λ a c. refl),
-  λ (n : ℕ) (apart : n ≢ m). machine_off v.ring v.acting m n (moved_back p (v.ring v.acting)) at apart,
+  λ (n : ℕ) (apart : n ≢ m). off_if (v.acting == n) (moved_back p (v.ring v.acting)) (v.ring n) (ap (λ (k : ℕ). k == n) at ∙ eq_apart m n apart),
 )
 
 pub view_ended : (m : ℕ) (t : Spot → Bool) (p : Pid) (v : View) → v.acting ≡ m → ViewLeaves m t p v (ended v p)
 view_ended m t p v at = search (
   lists_same t v (ended v p) (λ n q off. refl) (λ n q. refl) (λ n off. refl) (λ a c. refl),
-  λ (n : ℕ) (apart : n ≢ m). machine_off v.ring v.acting m n (without p (v.ring v.acting)) at apart,
+  λ (n : ℕ) (apart : n ≢ m). off_if (v.acting == n) (without p (v.ring v.acting)) (v.ring n) (ap (λ (k : ℕ). k == n) at ∙ eq_apart m n apart),
   λ (n : ℕ) (q : Pid) (off : ((m == n) && pid_eq p q) ≡ false). record_off v.known v.acting m n p q Known.Ended at off,
 )
 
@@ -366,13 +345,9 @@ pub view_queue : (m : ℕ) (t : Spot → Bool) (p : Pid) (v : View) (ids : List 
 view_queue m t p v ids at covers = search
     (lists_same t v (with_queue_ids v p ids) (λ n q off. record_off v.queue v.acting m n p q ids at (covers n q off)) (λ n q. refl) (λ n off. refl) (λ a c. refl))
 
--- it isn't this one
-same_there : (f : ℕ → List MsgId) (a n : ℕ) (x : List MsgId) → x ≡ f a → at_machine f a x n ≡ f n
-same_there f a n x e = grind (arith, nat_tests, on_if, off_if)
-
 pub view_not_handled : (m : ℕ) (t : Spot → Bool) (p : Pid) (v : View) (id : MsgId) → without_front id (v.inbox v.acting) ≡ v.inbox v.acting → ViewLeaves m t p v (handled v id)
 view_not_handled m t p v id e = search
-    (lists_same t v (handled v id) (λ n q off. refl) (λ n q. refl) (λ n off. same_there v.inbox v.acting n (without_front id (v.inbox v.acting)) e) (λ a c. refl))
+    (lists_same t v (handled v id) (λ n q off. refl) (λ n q. refl) (λ n off. grind (arith, nat_tests, on_if, off_if)) (λ a c. refl))
 
 -- the kernel without machines: a process is set, a message goes, or one comes
 pub kernel_same : (p : Pid) (s : OneKernel) → KernelLeaves p s s
@@ -406,8 +381,7 @@ pub placed_same : (t : Spot → Bool) (p : Pid) (v : View) (l : Placed) → Plac
 placed_same t p v l = record { process = λ q off. refl; notes = λ q. refl; bag = λ i s off least. refl; own = λ i x none there. there; own_back = λ i x none there. there; board = refl; manager = refl }
 
 pub placed_sets : (t : Spot → Bool) (p : Pid) (v : View) (l : Placed) (y : Option Process) → PlacedLeaves t p v l (with_process l p y)
-placed_sets t p v l y =
-    record { process = λ q off. off_if (pid_eq p q) y (l.processes q) off; notes = λ q. refl; bag = λ i s off least. refl; own = λ i x none there. there; own_back = λ i x none there. there; board = refl; manager = refl }
+placed_sets t p v l y = search (off_if, l.processes)
 
 pub placed_message : (t : Spot → Bool) (p : Pid) (v : View) (l : Placed) (id : MsgId) (x : Option Message) → NotOwn (l.bag id) → NotOwn x → ((i : MsgId) (s : Spot) → t s ≡ false → 1 ≤ standing v i s → id_eq id i ≡ false) → PlacedLeaves t p v l (with_message l id x)
 placed_message t p v l id x was is alone = record {
@@ -441,8 +415,7 @@ nowhere_of id None f off e h = subst (λ (c : Bool). StandsOutside c f) off h
 pub nowhere_alone : (v : View) (id : MsgId) (o : Option PlainMessage) → is_kernels id ≡ false → o ≡ None → StandsRight id o (standing v id) → (t : Spot → Bool) (i : MsgId) (s : Spot) → t s ≡ false → 1 ≤ standing v i s → id_eq id i ≡ false
 nowhere_alone v id o own e h t i s off least = elim (cases_Bool (id_eq id i)) [
   | inl same ↦
-      let nowhere = nowhere_of id o (standing v id) own e h in
-      let z : standing v i s ≡ 0 = ap (λ (j : MsgId). standing v j s) (sym (id_eq-is id i same)) ∙ nowhere s in
+      let z : standing v i s ≡ 0 = ap (λ (j : MsgId). standing v j s) (sym (id_eq-is id i same)) ∙ (nowhere_of id o (standing v id) own e h) s in
       absurd (omega (arith, least, z))
   | inr apart ↦ apart
 ]

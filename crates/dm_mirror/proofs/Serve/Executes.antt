@@ -88,9 +88,8 @@ call_acts b m pt l k p x y c n regs s r is =
     let lm = ran_placed l p y s.at.queue in
     let pid : y.pid ≡ p = (r.mirrors.places.process p (with_queue y s.at.queue) r.there).pid in
     let plain : plain_called d.called d.process ≡ Some (calls.call p (plain_process y2) n) = call_plainly m y2 d.process n d.called refl refl ∙ ap (λ (q : Pid). Some (calls.call q (plain_process y2) n)) pid in
-    let kept : d.process.queue ≡ y.queue = ap (λ (v : syscall.Done). v.process.queue) (calls_with m y2 n y.queue) in
     called_acts b m pt l k p x y d.process c n d.called (calls.call p (plain_process y2) n) s r plain (next_of m pt l p x y s.at.queue c (Row.Calls n regs) r is) (call_matches m lm p y s.at.queue n regs r.there r.ready is)
-    (kept ∙ r.same_queue) (ap (λ (v : List ℕ). length v) (call_keeps m y2 n) ∙ r.memory)
+    ((ap (λ (v : syscall.Done). v.process.queue) (calls_with m y2 n y.queue)) ∙ r.same_queue) (ap (λ (v : List ℕ). length v) (call_keeps m y2 n) ∙ r.memory)
 
 -- a fault
 fault_acts : (b : Boot) (m : ℕ) (pt : Point) (l : Placed) (k : KernelState) (p : Pid) (x y : Process) (c : ℕ) (f : Fault) (s : Served b m pt l k p x) → Ran m pt l p x s.at.queue c y → instruction y.regs y.memory ≡ Row.Faults f
@@ -98,10 +97,9 @@ fault_acts : (b : Boot) (m : ℕ) (pt : Point) (l : Placed) (k : KernelState) (p
 fault_acts b m pt l k p x y c f s r is =
     let u = ran_kernel pt p y in
     let gone = with_process u p (Ended (Why.Fault f)) in
-    let lm = ran_placed l p y s.at.queue in
     ends_acts b m pt l k p x y y c (Why.Fault f) s r
     (ap (λ (o : Option kernel.Trap). bind o (kernel.ends u p (Why.Fault f))) (next_of m pt l p x y s.at.queue c (Row.Faults f) r is) ∙ ap (λ (d : Bool). when d gone) (eq_self (why_code (Why.Fault f))))
-    (fault_matches m lm p y s.at.queue f r.there r.ready is) r.same_queue r.memory
+    (fault_matches m (ran_placed l p y s.at.queue) p y s.at.queue f r.there r.ready is) r.same_queue r.memory
 
 -- as far as the quantum allows
 executes_by : (b : Boot) (m : ℕ) (pt : Point) (l : Placed) (k : KernelState) (p : Pid) (x : Process) (q : ℕ) (u : rule.Ran) (v : serve.Ran) (s : Served b m pt l k p x) → x.status ≡ Status.Ready → Comes q u v → kernel.plain_steps u.count (kernel.machine_of (plain_process x)) ≡ Some u.machine

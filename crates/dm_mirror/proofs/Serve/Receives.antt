@@ -72,9 +72,7 @@ completes_of b m pt l k p x mask base size w d s waits f e =
     let pid : x.pid ≡ p = (s.mirrors.places.process p (with_queue x s.at.queue) s.at.there).pid in
     let on : IsAwaited x.status (Some w) = subst (λ (z : Status). IsAwaited z (Some w)) (sym waits) f.on in
     let plain : receiving.completes_status x.pid (plain_process x) c.u (plain_status x.status) ≡ Some (plain_completed d.completed d.process) = status_plainly x 0 x.status (Some w) d c.u on e c.says (c.to ∙ sym pid) in
-    let with_ : receiving.completes_with p (plain_process x) c.u ≡ Some (plain_completed d.completed d.process) =
-    ap (λ (z : Bool). if z then None else receiving.completes_status p (plain_process x) c.u (plain_status x.status)) s.going ∙ ap (λ (q : Pid). receiving.completes_status q (plain_process x) c.u (plain_status x.status)) (sym pid) ∙ plain
-    in
+    let with_ : receiving.completes_with p (plain_process x) c.u ≡ Some (plain_completed d.completed d.process) = grind (arith, nat_tests) in
     record {
       machine_ = e;
       parts = ap (λ (o : Option PlainMessage). bind o (λ (u : PlainMessage). bind (receiving.completes_with p (plain_process x) u) (λ (v : receiving.Completed). Some (rule.completion_parts p w.id v)))) c.there
@@ -194,8 +192,7 @@ receives_acts b m pt l k p x mask base size w s lawful waits first =
 
 -- behind the head of the turn
 pub begun_stands : (b : Boot) (pt : Point) (l : Placed) (m : ℕ) (k : KernelState) → KernelStands b pt l m k → KernelStands b (begun pt m) l m k
-begun_stands b pt l m k h = search
-    (h.known, subst (RoomStands k.room (room_of (slice_get b.machines m))) (sym (taken_same pt (begun pt m) m refl (λ n. refl) (λ p. refl))) h.room)
+begun_stands b pt l m k h = search (taken_same, h.known, k.room, b.machines, h.room)
 
 pub begun_mirrors : (pt : Point) (l : Placed) (m : ℕ) → Mirrors pt.kernel pt.view pt.addresses l → Mirrors (begun pt m).kernel (begun pt m).view (begun pt m).addresses l
 begun_mirrors pt l m h = mirrors_view pt.kernel pt.view (begun pt m).view pt.addresses l refl h
@@ -245,8 +242,7 @@ chosen b m pt l k p h first =
     let f = first_is k.records k.ring p first in
     let r = in_ring pt m p h.run.based.known (subst (λ (ps : List Pid). 1 ≤ rings p ps) h.stands.ring f.stands) in
     let at = here_of b pt l m k p r.z h.stands h.mirrors.plain r.here r.server r.alive in
-    let run : (not at.x.stopped && status_is_runnable at.x.status at.x.queue) ≡ true = sym (ap turn.known_is_runnable at.record_is) ∙ f.goes in
-    let two = both (not at.x.stopped) (status_is_runnable at.x.status at.x.queue) run in
+    let two = both (not at.x.stopped) (status_is_runnable at.x.status at.x.queue) (sym (ap turn.known_is_runnable at.record_is) ∙ f.goes) in
     let state = h.run.based.phased.state in
     record {
       x = at.x;

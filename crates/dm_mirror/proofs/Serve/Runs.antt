@@ -121,10 +121,6 @@ status_same : (s : OneKernel) (l : Placed) (ids : List MsgId) (ms : List Message
 status_same s l ids ms (Status.Waiting mask base size) h names are = ap is_some (first_same s l mask ids ms h names are) ∙ some_same (first_on mask ms)
 status_same s l ids ms _ h names are = refl
 
-go_same : (b : Boot) (pt : Point) (l : Placed) (m : ℕ) (k : KernelState) (p : Pid) (z : PlainProcess) → MirrorsKernel pt.kernel l → Names l → pt.kernel.processes p ≡ Some (Alive z) → IsHere pt l m k p z
-    → rule.can_go pt.kernel (pt.view.queue m p) (kernel.alive (pt.kernel.processes p)) ≡ turn.known_is_runnable (k.records p)
-go_same b pt l m k p z h names alive at = grind (arith, nat_tests, status_same)
-
 -- the first process of the ring that can be served
 if_same : (c d : Bool) (p : Pid) (o u : Option Pid) → c ≡ d → o ≡ u → (if c then Some p else o) ≡ (if d then Some p else u)
 if_same c d p o u e f = λ i. if e i then Some p else f i
@@ -169,7 +165,7 @@ pub first_runs : (b : Boot) (pt : Point) (l : Placed) (m : ℕ) (k : KernelState
 first_runs b pt l m k h mirrors names known =
     runs_same pt.kernel (pt.view.queue m) k.records (pt.view.ring m) (λ p least.
     let r = in_ring pt m p known least in
-    go_same b pt l m k p r.z mirrors names r.alive (here_of b pt l m k p r.z h mirrors r.here r.server r.alive))
+    grind (arith, nat_tests, status_same))
     ∙ sym (ap (turn.first_runnable k.records) h.ring)
 
 -- how far a process comes: the same count by the rule and by the machine, and what stops it
@@ -213,9 +209,7 @@ machine_drops l (i ∷ is) [] names are = cc
 machine_drops l (i ∷ is) (m ∷ ms) names are =
     let there : l.bag i ≡ Some m = cc in
     let rest : AreMessages l.bag is ms = cc in
-    let name = names i m there in
-    let more = machine_drops l is ms names rest in
-    λ j. machine.says (Label.Dropped (name j)) ∷ more j
+    λ j. machine.says (Label.Dropped ((names i m there) j)) ∷ (machine_drops l is ms names rest) j
 
 -- the messages stand at no other spot
 abbrev pub AreAlone : (Spot → Bool) → View → List MsgId → Type 0

@@ -44,12 +44,7 @@ ran_of b m pt l k p x c n s ready steps memory =
     let y = serve.with_machine x n in
     let queue = s.at.queue in
     let t = ran_kernel pt p y in
-    let plain : plain_status x.status ≡ Ready = ap plain_status ready in
-    let step : kernel.step pt.kernel (Label.Ran p c) ≡ Some t =
-    ap (λ (o : Option PlainProcess). bind o (λ (v : PlainProcess). bind (kernel.plain_steps c (kernel.machine_of v)) (λ (z : Machine). Some (kernel.goes_on pt.kernel p (kernel.with_machine v z)))))
-    (running_of pt.kernel p (plain_process x) s.at.alive s.at.free s.going plain)
-    ∙ ap (λ (o : Option Machine). bind o (λ (z : Machine). Some (kernel.goes_on pt.kernel p (kernel.with_machine (plain_process x) z)))) steps
-    in
+    let step : kernel.step pt.kernel (Label.Ran p c) ≡ Some t = grind (arith, nat_tests, running_of) in
     let ready_x : placed.if_ready x x.status ≡ Some x = ap (placed.if_ready x) ready ∙ ap (λ (d : Bool). if d then None else Some x) s.going in
     search (
       label_mirrors pt l (ran_placed l p y queue) m (Label.Ran p c) t s.mirrors s.acting tt step (ran_matches l p c x queue n s.at.there ready_x steps),
@@ -57,7 +52,7 @@ ran_of b m pt l k p x c n s ready steps memory =
       kernel_sets p pt.kernel (Alive (plain_process y)),
       placed_sets (is_queue_of m p) p pt.view l (Some (with_queue y queue)),
       ap (placed.if_ready y) ready ∙ ap (λ (d : Bool). if d then None else Some y) s.going,
-      running_of t p (plain_process y) (set_at pt.kernel p (Alive (plain_process y))) s.at.free s.going plain,
+      running_of t p (plain_process y) (set_at pt.kernel p (Alive (plain_process y))) s.at.free s.going (ap plain_status ready),
       on_if (pid_eq p p) (Some (with_queue y queue)) (l.processes p) (pid_eq-same p),
       machine_on pt.view.ring pt.view.acting m (moved_back p (pt.view.ring pt.view.acting)) s.acting ∙ ap (λ (a : ℕ). moved_back p (pt.view.ring a)) s.acting,
     )
@@ -137,9 +132,7 @@ fresh_message b m pt l k p x y c n w z s step next =
     let (v, sent, pending, counted) = g.counts in
     let from : w.id.from ≡ p = ap (λ (i : MsgId). i.from) counted.id in
     let number : w.id.n ≡ v.sent = ap (λ (i : MsgId). i.n) counted.id in
-    let off : counts t w.id ≡ false =
-    counts_process t p w.id from (not_server t p g.x g.is.alive a.sound.made) ∙ ap (is_counted w.id.n) g.is.alive ∙ (let e : nat_lt w.id.n g.x.sent ≡ false = grind (arith, nat_tests) in e)
-    in
+    let off : counts t w.id ≡ false = grind (arith, nat_tests, counts_process, not_server) in
     let made : nat_le 3 p.num ≡ true = s.sound.made.least p (ap is_some s.at.alive) in
     let num : w.id.from.num ≡ p.num = ap (λ (q : Pid). q.num) from in
     record {
@@ -165,9 +158,7 @@ sends_acts b m pt l k p x y z c n w u s r says next with_ queue_is memory =
     let e = Label.Send p w.id in
     let goes = kernel.goes_on (ran_kernel pt p y) p (plain_process z) in
     let after_ = with_sent goes (Some u) in
-    let step : kernel.step (ran_kernel pt p y) e ≡ Some after_ =
-    ap (λ (v : Option kernel.Trap). bind v (kernel.sends (ran_kernel pt p y) p w.id)) next ∙ ap (λ (d : Bool). when d after_) (ap (λ (i : MsgId). id_eq w.id i) (sym name) ∙ id_eq-same w.id)
-    in
+    let step : kernel.step (ran_kernel pt p y) e ≡ Some after_ = grind (arith, nat_tests, id_eq-same) in
     let next_ = moved o (Line.Label e) after_ in
     let mid = placed.with_process lm p (Some (with_queue z queue)) in
     let on = placed.with_sent mid (Some w) in
@@ -209,10 +200,9 @@ pub ends_acts : (b : Boot) (m : ℕ) (pt : Point) (l : Placed) (k : KernelState)
     → Acts b m pt l k p (serve.ends (with_here (moved_round k p) p z) p c z because) (Some (rule.says (Label.Ran p c) ∷ rule.says (Label.End p because) ∷ rule.drop_parts (pt.view.queue m p)))
 ends_acts b m pt l k p x y z c because s r step with_ queue_is memory =
     let t = is_queue_of m p in
-    let queue = s.at.queue in
     let ids = pt.view.queue m p in
     let o = ran_point pt p c y in
-    let lm = ran_placed l p y queue in
+    let lm = ran_placed l p y s.at.queue in
     let e = Label.End p because in
     let u = with_process (ran_kernel pt p y) p (Ended because) in
     let o2 = moved o (Line.Label e) u in
@@ -227,9 +217,7 @@ ends_acts b m pt l k p x y z c because s r step with_ queue_is memory =
     let n = without_process (with_here (moved_round k p) p z) p z because in
     let messages : AreMessages l.bag ids z.queue = subst (AreMessages l.bag ids) (sym queue_is) s.at.messages in
     let names = λ (i : MsgId) (w : Message) (there : l.bag i ≡ Some w). (s.mirrors.places.message i w there).id in
-    let ring : n.ring ≡ d.next.view.ring m =
-    ap (λ (ps : List Pid). without p (moved_back p ps)) s.stands.ring ∙ ap (without p) (sym r.ring) ∙ ap (λ (a : ℕ). without p (o.view.ring a)) (sym s.acting) ∙ sym (machine_on o.view.ring o.view.acting m (without p (o.view.ring o.view.acting)) s.acting)
-    ∙ sym d.ring in
+    let ring : n.ring ≡ d.next.view.ring m = grind (arith, nat_tests, machine_on) in
     record {
       state = n;
       says = Line.Label (Label.Ran p c) ∷ Line.Label e ∷ drop_lines ids;
