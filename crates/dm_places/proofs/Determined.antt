@@ -25,8 +25,7 @@ links_are (x ∷ xs) (y ∷ ys) e h =
     let f : plain_link x ≡ plain_link y = cc in
     let g : map plain_link xs ≡ map plain_link ys = cc in
     let first : x ≡ y = link_is x y f (h zero x y refl refl) in
-    let rest : xs ≡ ys = links_are xs ys g (λ k u w. h (suc k) u w) in
-    λ i. first i ∷ rest i
+    let rest : xs ≡ ys = links_are xs ys g (λ k u w. h (suc k) u w) in λ i. first i ∷ rest i
 
 slot_is : (x y : Option Link) → plain_slot x ≡ plain_slot y → ((u w : Link) → x ≡ Some u → y ≡ Some w → place_of u.addr ≡ place_of w.addr) → x ≡ y
 slot_is None None e h = refl
@@ -42,16 +41,14 @@ slots_are (x ∷ xs) (y ∷ ys) e h =
     let f : plain_slot x ≡ plain_slot y = cc in
     let g : map plain_slot xs ≡ map plain_slot ys = cc in
     let first : x ≡ y = slot_is x y f (λ u w. h zero u w) in
-    let rest : xs ≡ ys = slots_are xs ys g (λ k u w. h (suc k) u w) in
-    λ i. first i ∷ rest i
+    let rest : xs ≡ ys = slots_are xs ys g (λ k u w. h (suc k) u w) in λ i. first i ∷ rest i
 
 status_is : (s t : Status) → plain_status s ≡ plain_status t → ((o p : Addr) → owner_at s ≡ Some o → owner_at t ≡ Some p → place_of o ≡ place_of p) → s ≡ t
 status_is Status.Ready Status.Ready e h = refl
 status_is (Status.Waiting mask base size) (Status.Waiting m b c) e h = cc
 status_is (Status.Moving dir owner base own left pending) (Status.Moving d o b w l p) e h =
     let pid : owner.pid ≡ o.pid = cc in
-    let same : owner ≡ o = addr_is owner o pid (h owner o refl refl) in
-    cc
+    let same : owner ≡ o = addr_is owner o pid (h owner o refl refl) in cc
 status_is _ (Status.Waiting m b c) e h = cc
 status_is _ (Status.Moving d o b w l p) e h = cc
 status_is _ Status.Ready e h = cc
@@ -107,10 +104,6 @@ what_is w z (PlainWhat.Moved outcome) e f h = moved_what w outcome e ∙ sym (mo
 pub message_is : (a : Addresses) (i : MsgId) (m n : Message) (k : PlainMessage) → plain_message m ≡ Some k → plain_message n ≡ Some k → MirrorsMessage a i m → MirrorsMessage a i n → m ≡ n
 message_is a i m n k e f h j = grind (arith, nat_tests, parts, addr_is, what_is)
 
--- a process of both
-alike_of : (o : Option PlainProcess) (b c : Option Process) (x y : Process) → o ≡ option_map plain_process b → o ≡ option_map plain_process c → b ≡ Some x → c ≡ Some y → plain_process x ≡ plain_process y
-alike_of o b c x y e f g h = grind (arith, nat_tests, option_map)
-
 pub point_determines : PointDetermines
 point_determines s v a l m h k = (
   λ i x e.
@@ -118,5 +111,5 @@ point_determines s v a l m h k = (
       let (r, stands, means) = there_of s m i x k.plain e in
       there ∙ ap Some (message_is a i n r x says means (h.places.message i n there) (k.places.message i r stands)) ∙ sym stands,
   λ p x y e f.
-      process_is v a p x y y.queue (alike_of (kernel.alive (s.processes p)) (l.processes p) (m.processes p) x y (h.plain.processes p) (k.plain.processes p) e f) (h.places.process p x e) (k.places.process p y f),
+      process_is v a p x y y.queue (grind (arith, nat_tests, option_map, h.plain.processes p, k.plain.processes p)) (h.places.process p x e) (k.places.process p y f),
 )

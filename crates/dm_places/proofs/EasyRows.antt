@@ -33,15 +33,10 @@ pub routes_easy : (o : Option PlainMessage) → EasyParts (rule.routes o)
 routes_easy None = tt
 routes_easy (Some k) = (tt, tt)
 
--- a process is served
-called_easy : (p : Pid) (n : ℕ) (queue : List MsgId) (c : calls.Called) → EasyParts (rule.called p n queue c)
-called_easy p n queue (calls.Sends m x) = (tt, (tt, tt))
-called_easy p n queue (calls.Ends because) = (tt, drops_easy queue)
-called_easy p n queue _ = (tt, tt)
-
 stops_easy : (p : Pid) (queue : List MsgId) (o : Option kernel.Trap) → EasyParts (rule.stops p queue o)
 stops_easy p queue None = tt
-stops_easy p queue (Some (kernel.Calls n c)) = called_easy p n queue c
+stops_easy p queue (Some (kernel.Calls n c)) = elim c as (λ c_. EasyParts (rule.called p n queue c_))
+    [ calls.Sends m x ↦ (tt, (tt, tt)) | calls.Ends because ↦ (tt, drops_easy queue) | _ ↦ (tt, tt) ]
 stops_easy p queue (Some (kernel.Faults fault)) = (tt, drops_easy queue)
 
 completes_easy : (p : Pid) (id : MsgId) (o : Option receiving.Completed) → Easy (bind o (λ (c : receiving.Completed). Some (rule.completion_parts p id c)))
@@ -53,16 +48,13 @@ received_easy : (p : Pid) (x : PlainProcess) (id : MsgId) (o : Option PlainMessa
 received_easy p x id None = tt
 received_easy p x id (Some k) = completes_easy p id (receiving.completes_with p x k)
 
-receives_easy : (s : OneKernel) (p : Pid) (x : PlainProcess) (o : Option MsgId) → Easy (rule.reception_parts s p x o)
-receives_easy s p x None = tt
-receives_easy s p x (Some id) = received_easy p x id (s.bag id)
-
 status_easy : (s : OneKernel) (quantum : ℕ) (p : Pid) (queue : List MsgId) (x : PlainProcess) (st : PlainStatus) → Easy (rule.serves_status quantum s p queue x st)
 status_easy s quantum p queue x Ready =
     let r = rule.ran quantum (kernel.machine_of x) in
     let next = rule.stops p queue (kernel.next_row p (kernel.with_machine x r.machine) (instruction r.machine.regs r.machine.bytes)) in
     (tt, if_parts (r.count == quantum) [] next tt (stops_easy p queue (kernel.next_row p (kernel.with_machine x r.machine) (instruction r.machine.regs r.machine.bytes))))
-status_easy s quantum p queue x (Waiting mask base size) = receives_easy s p x (rule.first_awaited s mask queue)
+status_easy s quantum p queue x (Waiting mask base size) = elim (rule.first_awaited s mask queue) as (λ o. Easy (rule.reception_parts s p x o))
+    [ None ↦ tt | Some id ↦ received_easy p x id (s.bag id) ]
 status_easy s quantum p queue x (Moving dir owner base own left pending) = tt
 
 alive_easy : (s : OneKernel) (quantum : ℕ) (p : Pid) (queue : List MsgId) (o : Option PlainProcess) → Easy (bind o (λ (x : PlainProcess). rule.serves_status quantum s p queue x x.status))
@@ -107,17 +99,11 @@ ended_easy id (PlainWhat.Move machine) = (tt, (tt, tt))
 ended_easy id (PlainWhat.Moved outcome) = tt
 ended_easy id _ = (tt, tt)
 
-alive_handles : (pt : Point) (m : ℕ) (id : MsgId) (k : PlainMessage) (o : Option PlainProcess) → AsksEasily id k.what → Easy (bind o (λ (x : PlainProcess). rule.here_handles pt m id k x k.what))
-alive_handles pt m id k None asks = tt
-alive_handles pt m id k (Some x) asks = here_easy pt m id k x k.what asks
-
-forwards_easy : (a : Addresses) (id : MsgId) (k : MessageKind) (sender : Pid) (to : ℕ) → EasyParts (migrating.forwards_on a id k sender to)
-forwards_easy a id k sender to = (tt, (tt, if_parts (is_told_back k) _ [] (tt, tt) tt))
-
 pub process_easy : (pt : Point) (m : ℕ) (id : MsgId) (k : PlainMessage) (w : Known) → AsksEasily id k.what → Easy (rule.process_handles pt m id k w)
 process_easy pt m id k Unknown asks = tt
-process_easy pt m id k Here asks = alive_handles pt m id k (kernel.alive (pt.kernel.processes k.to)) asks
-process_easy pt m id k (Forward at moves) asks = forwards_easy pt.addresses id (plain_kind k.what) k.sender at
+process_easy pt m id k Here asks = elim (kernel.alive (pt.kernel.processes k.to)) as (λ o. Easy (bind o (λ (x : PlainProcess). rule.here_handles pt m id k x k.what)))
+    [ None ↦ tt | Some x ↦ here_easy pt m id k x k.what asks ]
+process_easy pt m id k (Forward at moves) asks = (tt, (tt, if_parts (is_told_back (plain_kind k.what)) _ [] (tt, tt) tt))
 process_easy pt m id k Ended asks = ended_easy id k.what
 process_easy pt m id k _ asks = (tt, tt)
 

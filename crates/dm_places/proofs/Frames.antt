@@ -94,18 +94,14 @@ acts_leaves : (here : ℕ) (l m : Placed) (p : Pid) → acts here l p ≡ Some m
 acts_leaves here l m p e =
     let (x, runs, rest) = bind-is (running l p) (λ (y : Process). bind (acted here y (instruction y.regs y.memory)) (λ (w : Acted). Some (with_acted l p w))) m e in
     let (w, acts, last) = bind-is (acted here x (instruction x.regs x.memory)) (λ (w : Acted). Some (with_acted l p w)) m rest in
-    let f : with_acted l p w ≡ m = cc in
-    subst (Leaves l (Some p) None) f (sets l p w.process w.message)
-
-landing_leaves : (l : Placed) (id : MsgId) (p : Pid) (d : Landed) (x : Process) → Leaves l (Some p) (Some id) (after_landing (without_message l id) p d x)
-landing_leaves l id p (Landed.Next n) x = sets_and_takes l id p (Some x) (Some n)
-landing_leaves l id p (Landed.Done c) x = sets_and_takes l id p (Some x) None
+    let f : with_acted l p w ≡ m = cc in subst (Leaves l (Some p) None) f (sets l p w.process w.message)
 
 lands_leaves : (here : ℕ) (l m : Placed) (id : MsgId) (n : Message) (x : Process) → lands here (without_message l id) n x ≡ Some m → Leaves l (Some n.to.pid) (Some id) m
 lands_leaves here l m id n x e =
     let (d, is, last) = bind-is (landing here x n.what x.status) (λ (d : Landing). Some (after_landing (without_message l id) n.to.pid d.landed d.process)) m e in
     let f : after_landing (without_message l id) n.to.pid d.landed d.process ≡ m = cc in
-    subst (Leaves l (Some n.to.pid) (Some id)) f (landing_leaves l id n.to.pid d.landed d.process)
+    subst (Leaves l (Some n.to.pid) (Some id)) f (elim d.landed as (λ d_. Leaves l (Some n.to.pid) (Some id) (after_landing (without_message l id) n.to.pid d_ d.process))
+        [ Landed.Next n_ ↦ sets_and_takes l id n.to.pid (Some d.process) (Some n_) | Landed.Done c ↦ sets_and_takes l id n.to.pid (Some d.process) None ])
 
 answers_leaves : (here : ℕ) (l m : Placed) (id : MsgId) (n : Message) (x : Process) → answers here (without_message l id) n x ≡ Some m → Leaves l (Some n.to.pid) (Some id) m
 answers_leaves here l m id n x e =
@@ -115,9 +111,7 @@ answers_leaves here l m id n x e =
     subst (Leaves l (Some n.to.pid) (Some id)) f (sets_and_takes l id n.to.pid (Some y) (Some a))
 
 goes_leaves : (l m : Placed) (id : MsgId) (p : Pid) (x : Option Process) → Some (with_process (without_message l id) p x) ≡ Some m → Leaves l (Some p) (Some id) m
-goes_leaves l m id p x e =
-    let f : with_process (without_message l id) p x ≡ m = cc in
-    subst (Leaves l (Some p) (Some id)) f (sets_and_takes l id p x None)
+goes_leaves l m id p x e = let f : with_process (without_message l id) p x ≡ m = cc in subst (Leaves l (Some p) (Some id)) f (sets_and_takes l id p x None)
 
 serves_leaves : (here : ℕ) (l m : Placed) (id : MsgId) (n : Message) (x : Process) (w : What) → serves here (without_message l id) n x w ≡ Some m → Leaves l (Some n.to.pid) (Some id) m
 serves_leaves here l m id n x What.Stop e = goes_leaves l m id n.to.pid (Some (record x { stopped = true })) e
@@ -171,12 +165,6 @@ takes_if here l m id n false true e =
     record { processes = kept_processes u t.message; sent = t.message; bag = with_manager (without_message l id) t.manager t.message; notes = kept_notes u t.message; noted = kept_noted u t.message })
 takes_if here l m id n false false e = cc
 
-took_leaves : (here : ℕ) (l m : Placed) (id : MsgId) → bind (l.bag id) (takes here (without_message l id)) ≡ Some m → Changes l (Label.Took id) m
-took_leaves here l m id e =
-    let (n, found, rest) = bind-is (l.bag id) (takes here (without_message l id)) m e in
-    let h = takes_if here l m id n (pid_eq n.to.pid switchboard) (pid_eq n.to.pid manager) rest in
-    record { processes = λ q k. h.processes q; sent = h.sent; bag = h.bag; board = λ k. absurd (false≢true (sym k)); manager = λ k. absurd (false≢true (sym k)); notes = λ k. h.notes; noted = λ k. h.noted }
-
 pub steps_change_little : StepsChangeLittle
 steps_change_little here f images l m (Label.Ran p k) e = leaves l (Label.Ran p k) m (ran_leaves l m p k e)
 steps_change_little here f images l m (Label.Call p n c) e = leaves l (Label.Call p n c) m (acts_leaves here l m p e)
@@ -201,7 +189,10 @@ steps_change_little here f images l m (Label.Gone id) e =
     let (n, found, last) = bind-is (l.bag id) (λ (n : Message). Some (with_sent (without_message l id) (Some (gone_answer here n)))) m e in
     let g : with_sent (without_message l id) (Some (gone_answer here n)) ≡ m = cc in
     leaves l (Label.Gone id) m (subst (Leaves l None (Some id)) g (only_takes l id (Some (gone_answer here n))))
-steps_change_little here f images l m (Label.Took id) e = took_leaves here l m id e
+steps_change_little here f images l m (Label.Took id) e =
+    let (n, found, rest) = bind-is (l.bag id) (takes here (without_message l id)) m e in
+    let h = takes_if here l m id n (pid_eq n.to.pid switchboard) (pid_eq n.to.pid manager) rest in
+    record { processes = λ q k. h.processes q; sent = h.sent; bag = h.bag; board = λ k. absurd (false≢true (sym k)); manager = λ k. absurd (false≢true (sym k)); notes = λ k. h.notes; noted = λ k. h.noted }
 steps_change_little here f images l m (Label.Created id child) e =
     let (n, found, last) = bind-is (l.bag id) (λ (n : Message). creates here f images (without_message l id) n child n.what) m e in
     leaves l (Label.Created id child) m (creates_leaves here f images l m id n child n.what last)

@@ -24,22 +24,12 @@ moves_kills : (v : View) (k : MessageKind) (o : Option Pid) → (view.kills k v 
 moves_kills v MessageKind.Kill (Some p) = refl
 moves_kills v k o = refl
 
-moves_told : (v : View) (o : Option Told) → (view.served_told v o).moves ≡ v.moves
-moves_told v None = refl
-moves_told v (Some t) = moves_kills v t.kind (Some t.receiver)
-
-moves_dropped : (v : View) (id : MsgId) (o : Option Pid) → (view.dropped_for v id o).moves ≡ v.moves
-moves_dropped v id None = refl
-moves_dropped v id (Some p) = refl
-
 pub moves_label : (v : View) (e : Label) → (after_label v e).moves ≡ v.moves
-moves_label v (Label.Dropped id) = moves_dropped (handled v id) id (view.receiver_of (v.told id))
-moves_label v (Label.Served id) = moves_told (handled v id) (v.told id)
+moves_label v (Label.Dropped id) = elim (view.receiver_of (v.told id)) as (λ o. (view.dropped_for (handled v id) id o).moves ≡ (handled v id).moves)
+    [ None ↦ refl | Some p ↦ refl ]
+moves_label v (Label.Served id) = elim (v.told id) as (λ o. (view.served_told (handled v id) o).moves ≡ (handled v id).moves)
+    [ None ↦ refl | Some t ↦ moves_kills (handled v id) t.kind (Some t.receiver) ]
 moves_label v _ = refl
-
-pub moves_head : (v : View) (d : Step) → (after_head v d).moves ≡ v.moves
-moves_head v (Step.Turn m) = refl
-moves_head v _ = refl
 
 moves_taken : (v : View) (b : ℕ) (o : Option MsgId) → (view.taken_id v b o).moves ≡ v.moves
 moves_taken v b None = refl
@@ -57,14 +47,10 @@ moves_on : (v : View) (a : About) → (view.asks_on v a).moves ≡ v.moves
 moves_on v view.NothingElse = refl
 moves_on v _ = refl
 
-moves_follow : (v : View) (a : About) (k : MessageKind) → (view.follows_up v a k).moves ≡ v.moves
-moves_follow v a MessageKind.State = moves_on v a
-moves_follow v a MessageKind.Memory = moves_on v a
-moves_follow v a _ = refl
-
 moves_proto : (v : View) (o : Option Told) → (view.after_proto v o).moves ≡ v.moves
 moves_proto v None = refl
-moves_proto v (Some t) = moves_follow v t.about t.kind
+moves_proto v (Some t) = elim t.kind as (λ k. (view.follows_up v t.about k).moves ≡ v.moves)
+    [ MessageKind.State ↦ moves_on v t.about | MessageKind.Memory ↦ moves_on v t.about | _ ↦ refl ]
 
 moves_sets : (v : View) (p : Pid) (a : About) → (view.sets_off v p a).moves ≡ v.moves
 moves_sets v p (view.Target m) = refl
@@ -84,14 +70,14 @@ routed_keeps pt from to id m =
     first_none (pt.view.told id) (own_gives pt.kernel pt.view pt.addresses id m.to (plain_kind m.what)) (own_none pt.kernel pt.view pt.addresses id m.to m.what)
 
 pub lines_keep : LinesKeep
-lines_keep pt pt' l (Line.Head d) keeps h e = says pt pt' l (Line.Head d) (moves_head pt.view d) h (cc)
+lines_keep pt pt' l (Line.Head d) keeps h e = says pt pt' l (Line.Head d) (elim d as (λ d_. (after_head pt.view d_).moves ≡ pt.view.moves)
+    [ Step.Turn m ↦ refl | _ ↦ refl ]) h (cc)
 lines_keep pt pt' l (Line.Label x) keeps h e = absurd keeps
 lines_keep pt pt' l (Line.Put from to id k q) keeps h e =
     let gives = first_gives (pt.view.told id) (own_gives pt.kernel pt.view pt.addresses id q k) in
     let v = view_after pt.view (Line.Put from to id k q) in
     says pt pt' l (Line.Put from to id k q) refl h (ap (λ (g : List Gets). record { kernel = pt.kernel; view = v; addresses = given pt.addresses g }) (sym keeps) ∙ (cc))
-lines_keep pt pt' l (Line.Taken from to n) keeps h e =
-    says pt pt' l (Line.Taken from to n) (moves_taken _ to (view.oldest (pt.view.pair from to))) h (cc)
+lines_keep pt pt' l (Line.Taken from to n) keeps h e = says pt pt' l (Line.Taken from to n) (moves_taken _ to (view.oldest (pt.view.pair from to))) h (cc)
 lines_keep pt pt' l (Line.Queued id) keeps h e = says pt pt' l (Line.Queued id) (moves_queued (handled pt.view id) id (view.receiver_of (pt.view.told id))) h (cc)
 lines_keep pt pt' l (Line.Held id) keeps h e = says pt pt' l (Line.Held id) (moves_held (handled pt.view id) id (view.receiver_of (pt.view.told id))) h (cc)
 lines_keep pt pt' l (Line.Forwarded id m) keeps h e = absurd keeps

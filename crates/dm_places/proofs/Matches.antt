@@ -7,13 +7,9 @@ use Rattle.dm_places.specs.PlacedStep.{answers}
 use Rattle.dm_places.proofs.Keeps.{of_map}
 use Rattle.dm_places.proofs.Queues.{after_serving_with, calls_with, completion_is, completion_with, landing_is, landing_with, queue_after, serving_with, with_queue}
 
--- a process that is ready, and not stopped
-ready_if : (b : Bool) (x y : Process) (q : List Message) → (if b then None else Some x) ≡ Some y → (if b then None else Some (with_queue x q)) ≡ Some (with_queue y q)
-ready_if true x y q e = cc
-ready_if false x y q e = let f : x ≡ y = cc in ap (λ (z : Process). Some (with_queue z q)) f
-
 ready_with : (x y : Process) (st : Status) (q : List Message) → if_ready x st ≡ Some y → if_ready (with_queue x q) st ≡ Some (with_queue y q)
-ready_with x y Status.Ready q e = ready_if x.stopped x y q e
+ready_with x y Status.Ready q e = (elim x.stopped as (λ b. (if b then None else Some x) ≡ Some y → (if b then None else Some (with_queue x q)) ≡ Some (with_queue y q))
+    [ true ↦ λ e_. cc | false ↦ λ e_. let f : x ≡ y = cc in ap (λ (z : Process). Some (with_queue z q)) f ]) e
 ready_with x y _ q e = cc
 
 runs_with : (l : Placed) (p : Pid) (y : Process) (q : List Message) → l.processes p ≡ Some (with_queue y q) → if_ready y y.status ≡ Some y → running l p ≡ Some (with_queue y q)

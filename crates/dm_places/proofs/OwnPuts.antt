@@ -17,28 +17,18 @@ own_are_by s v a id q (Sort.Between passage) = inr (unmoved q.home, unmoved v.ac
 own_are_by s v a id q Sort.Unsent = inr (unmoved q.home, unmoved v.acting, refl)
 own_are_by s v a id q _ = inl refl
 
-own_are : (s : OneKernel) (v : View) (a : Addresses) (id : MsgId) (q : Pid) (k : MessageKind) → OwnGives s v a id q (sort_of k)
-own_are s v a id q k = own_are_by s v a id q (sort_of k)
-
-cases_first : (o : Option Told) (gs : List Gets) → (first_gives o gs ≡ []) ⊎ (first_gives o gs ≡ gs)
-cases_first None gs = inr refl
-cases_first (Some t) gs = inl refl
-
 -- no other holder gets any
 record OnlyFor (a b : Addresses) (id : MsgId) : Type 0 where
   processes : (q : Pid) → SameProcess a b q
   others : (i : MsgId) → id_eq id i ≡ false → SameMessage a b i
   servers : SameServers a b
 
-only_none : (a : Addresses) (id : MsgId) → OnlyFor a a id
-only_none a id = record { processes = stays_process a; others = λ i e. stays_message a i; servers = stays_servers a }
-
 only_two : (a : Addresses) (id : MsgId) (to from : Place) → OnlyFor a (given a (two id to from)) id
 only_two a id to from = record { processes = two_process a id to from; others = two_off a id to from; servers = two_servers a id to from }
 
 only_own : (s : OneKernel) (v : View) (a : Addresses) (id : MsgId) (q : Pid) (k : MessageKind) → OnlyFor a (given a (own_gives s v a id q k)) id
-only_own s v a id q k = elim (own_are s v a id q k) [
-  | inl e ↦ subst (λ (g : List Gets). OnlyFor a (given a g) id) (sym e) (only_none a id)
+only_own s v a id q k = elim (own_are_by s v a id q (sort_of k)) [
+  | inl e ↦ subst (λ (g : List Gets). OnlyFor a (given a g) id) (sym e) (record { processes = stays_process a; others = λ i e. stays_message a i; servers = stays_servers a })
   | inr e ↦ subst (λ (g : List Gets). OnlyFor a (given a g) id) (sym e.2) (only_two a id e.0 e.1)
 ]
 
@@ -76,9 +66,9 @@ absent_put_mirrors pt l from to id k q h none =
     let w = view_after v (Line.Put from to id k q) in
     let gs = own_gives s v a id q k in
     let b = given a (first_gives (v.told id) gs) in
-    let now : Mirrors s v b l = elim (cases_first (v.told id) gs) [
+    let now : Mirrors s v b l = elim (elim (v.told id) as (λ o. (first_gives o gs ≡ []) ⊎ (first_gives o gs ≡ gs)) [ None ↦ inr refl | Some t ↦ inl refl ]) [
       | inl e ↦ subst (λ (g : List Gets). Mirrors s v (given a g) l) (sym e) h
-      | inr e ↦ elim (own_are s v a id q k) [
+      | inr e ↦ elim (own_are_by s v a id q (sort_of k)) [
         | inl f ↦ subst (λ (g : List Gets). Mirrors s v (given a g) l) (sym (e ∙ f)) h
         | inr f ↦ subst (λ (g : List Gets). Mirrors s v (given a g) l) (sym (e ∙ f.2)) (free_mirrors s v a l id f.0 f.1 none h)
       ]
@@ -105,8 +95,7 @@ children_are s v a l p h = ap (λ (g : Manager). child_from 1 p g.children) (sym
 pub child_place : (s : OneKernel) (v : View) (a : Addresses) (l : Placed) (p : Pid) (c : Addr) → Mirrors s v a l → child_named p l.manager.children ≡ Some c → (n : ℕ) × (child_number s p ≡ Some n) × (a (Child n) ≡ place_of c)
 child_place s v a l p c h e =
     let (j, from, there) = child_has l.manager.children 1 p c e in
-    let n : 1 + j ≡ suc j = omega arith in
-    (suc j, children_are s v a l p h ∙ from ∙ ap Some n, h.places.child (suc j) c there)
+    let n : 1 + j ≡ suc j = omega arith in (suc j, children_are s v a l p h ∙ from ∙ ap Some n, h.places.child (suc j) c there)
 
 child_none : (cs : List Addr) (k : ℕ) (p : Pid) → child_named p cs ≡ None → child_from k p (map plain_child cs) ≡ None
 child_none [] k p e = refl
@@ -120,10 +109,6 @@ child_none (d ∷ ds) k p e = elim (cases_Bool (pid_eq d.pid p)) [
 -- where there is no such child there is none without places
 pub no_child : (s : OneKernel) (v : View) (a : Addresses) (l : Placed) (p : Pid) → Mirrors s v a l → child_named p l.manager.children ≡ None → child_number s p ≡ None
 no_child s v a l p h e = children_are s v a l p h ∙ child_none l.manager.children 1 p e
-
--- a put that gives nothing leaves the addresses, and one of a message that goes on leaves the name of the kernel's next
-pub put_addresses : (pt : Point) (from to : ℕ) (id : MsgId) (k : MessageKind) (q : Pid) → KeepsPlaces pt (Line.Put from to id k q) → (moved pt (Line.Put from to id k q) pt.kernel).addresses ≡ pt.addresses
-put_addresses pt from to id k q keeps = ap (λ (g : List Gets). given pt.addresses g) keeps
 
 pub put_own_id : (pt : Point) (from to : ℕ) (id : MsgId) (k : MessageKind) (q : Pid) (t : Told) → pt.view.told id ≡ Some t → own_id (moved pt (Line.Put from to id k q) pt.kernel).view ≡ own_id pt.view
 put_own_id pt from to id k q t told = grind (arith, nat_tests)

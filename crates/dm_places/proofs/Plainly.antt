@@ -12,29 +12,18 @@ kept (Some m) = if_plain m (plain_what m.what)
 abbrev pub without_own : Placed → Placed
 without_own l = record l { bag = λ i. kept (l.bag i) }
 
-means_if : (m : Message) (o : Option PlainWhat) → plain_what m.what ≡ o → bind (if_plain m o) plain_message ≡ with_what m o
-means_if m None e = refl
-means_if m (Some w) e = ap (with_what m) e
-
 means_same : (o : Option Message) → bind (kept o) plain_message ≡ bind o plain_message
 means_same None = refl
-means_same (Some m) = means_if m (plain_what m.what) refl
-
-is_if : (m x : Message) (o : Option PlainWhat) → if_plain m o ≡ Some x → Some m ≡ Some x
-is_if m x None e = cc
-is_if m x (Some w) e = e
+means_same (Some m) = (elim (plain_what m.what) as (λ o. plain_what m.what ≡ o → bind (if_plain m o) plain_message ≡ with_what m o)
+    [ None ↦ λ e. refl | Some w ↦ λ e. ap (with_what m) e ]) refl
 
 is_there : (o : Option Message) (x : Message) → kept o ≡ Some x → o ≡ Some x
 is_there None x e = e
-is_there (Some m) x e = is_if m x (plain_what m.what) e
-
-gone_if : (m : Message) (o : Option PlainWhat) → with_what m o ≡ None → if_plain m o ≡ None
-gone_if m None e = refl
-gone_if m (Some w) e = cc
+is_there (Some m) x e = (elim (plain_what m.what) as (λ o. if_plain m o ≡ Some x → Some m ≡ Some x) [ None ↦ λ e_. cc | Some w ↦ λ e_. e_ ]) e
 
 gone : (o : Option Message) → bind o plain_message ≡ None → kept o ≡ None
 gone None e = refl
-gone (Some m) e = gone_if m (plain_what m.what) e
+gone (Some m) e = (elim (plain_what m.what) as (λ o. with_what m o ≡ None → if_plain m o ≡ None) [ None ↦ λ e_. refl | Some w ↦ λ e_. cc ]) e
 
 pub without_own_mirrors : (s : OneKernel) (v : View) (a : Addresses) (l : Placed) → Mirrors s v a l → Mirrors s v a (without_own l)
 without_own_mirrors s v a l h =

@@ -2,7 +2,9 @@
 use Rattle.dm_places.proofs.Names.{◌≡◌, ℕ, ◌==◌, Bool, true, false, List, [], ◌∷◌, length, refl, ap, ◌∙◌, sym, subst, inl, inr, if◌then◌else◌, Option, Some, cases_Bool, Pid, MsgId, MessageKind, id_eq, plain_kind, PlainMessage, bind, arith, nat_tests}
 use Rattle.dm_places.proofs.Names.{id_eq-is, bind-is, Line, Load, Told, first_told, own_id, Receiver, Again, Routes, goes_out, lines_of, puts, Point, after, moved, Placed, MirrorsPoint}
 use Rattle.dm_places.proofs.Lines.{lines_keep, routed_keeps, told_keeps}
-use Rattle.dm_places.proofs.OwnPuts.{put_addresses, put_own_id}
+use Rattle.dm_places.proofs.OwnPuts.{put_own_id}
+use Rattle.dm_places.proofs.Names.{Gets}
+use Rattle.dm_places.proofs.Names.{given}
 
 -- what the packet leaves as it is
 pub record SamePoint (pt pt' : Point) : Type 0 where
@@ -57,7 +59,7 @@ again_same pt pt' id b t ls told is next =
     let s = puts_same pt pt' b id t.kind t.receiver (ap (after pt) f ∙ next) in
     record {
       kernel = s.kernel;
-      addresses = s.addresses ∙ put_addresses pt a b id t.kind t.receiver keeps;
+      addresses = s.addresses ∙ ap (λ (g : List Gets). given pt.addresses g) keeps;
       own = s.own ∙ put_own_id pt a b id t.kind t.receiver t told;
       told = λ i. s.told i ∙ told_stays pt a b id t.kind t.receiver t i told;
       mirrors = λ l h. s.mirrors l (lines_keep pt mid l x keeps h refl);

@@ -26,14 +26,6 @@ puts_with : (x : Process) (w : Link) (o : Option ℕ) (q : List Message) → cal
 puts_with x w None q = refl
 puts_with x w (Some slot) q = refl
 
-copies_with : (x : Process) (o : Option Link) (q : List Message) → calls.copies (with_queue x q) o ≡ done_with (calls.copies x o) q
-copies_with x None q = refl
-copies_with x (Some w) q = grind (arith, nat_tests, puts_with, if_with)
-
-drops_with : (x : Process) (o : Option Link) (q : List Message) → calls.drops (with_queue x q) o ≡ done_with (calls.drops x o) q
-drops_with x None q = refl
-drops_with x (Some w) q = refl
-
 sends_with : (here : ℕ) (x : Process) (o : Option Link) (q : List Message) → calls.sends here (with_queue x q) o ≡ done_with (calls.sends here x o) q
 sends_with here x None q = refl
 sends_with here x (Some w) q =
@@ -43,18 +35,17 @@ begins_with : (here : ℕ) (x : Process) (w : Link) (dir : Direction) (q : List 
 begins_with here x w Direction.FromArea q = refl
 begins_with here x w Direction.IntoArea q = refl
 
-over_with : (here : ℕ) (x : Process) (w : Link) (o : Option Direction) (q : List Message) → calls.moves_over here (with_queue x q) w o ≡ done_with (calls.moves_over here x w o) q
-over_with here x w None q = refl
-over_with here x w (Some dir) q = grind (arith, nat_tests, begins_with, if_with, unless_with)
-
 moves_with : (here : ℕ) (x : Process) (o : Option Link) (q : List Message) → calls.moves here (with_queue x q) o ≡ done_with (calls.moves here x o) q
 moves_with here x None q = refl
-moves_with here x (Some w) q = over_with here x w (direction_numbered (reg x.regs 2)) q
+moves_with here x (Some w) q = elim (direction_numbered (reg x.regs 2)) as (λ o. calls.moves_over here (with_queue x q) w o ≡ done_with (calls.moves_over here x w o) q)
+    [ None ↦ refl | Some dir ↦ grind (arith, nat_tests, begins_with, if_with, unless_with) ]
 
 does_with : (here : ℕ) (x : Process) (n : CallNumber) (q : List Message) → calls.does_call here (with_queue x q) n ≡ done_with (calls.does_call here x n) q
 does_with here x Make q = grind (arith, nat_tests, puts_with, unless_with)
-does_with here x Copy q = copies_with x (link_at x.table (reg x.regs 1)) q
-does_with here x Drop q = drops_with x (link_at x.table (reg x.regs 1)) q
+does_with here x Copy q = elim (link_at x.table (reg x.regs 1)) as (λ o. calls.copies (with_queue x q) o ≡ done_with (calls.copies x o) q)
+    [ None ↦ refl | Some w ↦ grind (arith, nat_tests, puts_with, if_with) ]
+does_with here x Drop q = elim (link_at x.table (reg x.regs 1)) as (λ o. calls.drops (with_queue x q) o ≡ done_with (calls.drops x o) q)
+    [ None ↦ refl | Some w ↦ refl ]
 does_with here x Send q = sends_with here x (link_at x.table (reg x.regs 1)) q
 does_with here x Receive q =
     if_with (is_outside (plain_process x) (reg x.regs 2) (reg x.regs 3)) (calls.replied Reply.BadRange x) (record { called = Called.Waits; process = record x { status = Status.Waiting (reg x.regs 1) (reg x.regs 2) (reg x.regs 3) } }) q
@@ -87,14 +78,9 @@ completion_is x q place (Status.Waiting mask base size) (Some m) = what_with x q
 completion_is x q place (Status.Waiting mask base size) None = refl
 completion_is x q place _ o = refl
 
--- the service of a piece
-answer_is : (here : ℕ) (x : Process) (m : Message) (w : What) (q : List Message) → answer_with here (with_queue x q) m (answer_of (with_queue x q) w) ≡ answer_with here x m (answer_of x w)
-answer_is here x m (What.Read base len) q = refl
-answer_is here x m (What.Write base bytes) q = refl
-answer_is here x m w q = refl
-
 pub serving_with : (here : ℕ) (x : Process) (m : Message) (q : List Message) → serving_answer here (with_queue x q) m ≡ serving_answer here x m
-serving_with here x m q = answer_is here x m m.what q
+serving_with here x m q = elim m.what as (λ w. answer_with here (with_queue x q) m (answer_of (with_queue x q) w) ≡ answer_with here x m (answer_of x w))
+    [ What.Read base len ↦ refl | What.Write base bytes ↦ refl | w ↦ refl ]
 
 pub after_serving_with : (x : Process) (w : What) (q : List Message) → after_serving (with_queue x q) w ≡ with_queue (after_serving x w) q
 after_serving_with x (What.Write base bytes) q = refl

@@ -56,10 +56,6 @@ child_kept_of [] n c e = cc
 child_kept_of (p ∷ ps) zero c e = let f : child_at_home p ≡ c = cc in ap place_of f
 child_kept_of (p ∷ ps) (suc n) c e = child_kept_of ps n c e
 
-child_kept : (ps : List BootProcess) (n : ℕ) (c : Addr) → child_address (map child_at_home ps) n ≡ Some c → unmoved (boot_home (nth_child ps n)) ≡ place_of c
-child_kept ps zero c e = cc
-child_kept ps (suc n) c e = child_kept_of ps n c e
-
 pub start_mirrors : StartMirrors
 start_mirrors b = record {
   plain = record {
@@ -76,7 +72,8 @@ start_mirrors b = record {
     process = λ q x e. started_kept b b.processes q x refl e;
     message = λ i m e. absurd (let f : None ≡ Some m = e in cc);
     name = λ n k e. absurd (let f : None ≡ Some k = e in cc);
-    child = λ n c e. child_kept b.processes n c e;
+    child = λ n c e. (elim n as (λ n_. child_address (map child_at_home b.processes) n_ ≡ Some c → unmoved (boot_home (nth_child b.processes n_)) ≡ place_of c)
+        [ zero ↦ λ e_. cc | suc f ↦ λ e_. child_kept_of b.processes f c e_ ]) e;
     answer = λ n r e. absurd (let f : None ≡ Some r = e in cc);
     asker = λ p k e. absurd (let f : None ≡ Some k = e in cc);
   };

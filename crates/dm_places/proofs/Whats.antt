@@ -27,8 +27,7 @@ pub record CreateWhat (w : What) (image : ℕ) (ls : List PlainLink) : Type 0 wh
   pub links_are : map plain_link links.items ≡ ls
 
 pub create_what : (w : What) (image : ℕ) (ls : List PlainLink) → plain_what w ≡ Some (PlainWhat.Create image ls) → CreateWhat w image ls
-create_what (What.Create n links) image ls e =
-    record { links = links; is = let f : n ≡ image = cc in ap (λ (k : ℕ). What.Create k links) f; links_are = cc }
+create_what (What.Create n links) image ls e = record { links = links; is = let f : n ≡ image = cc in ap (λ (k : ℕ). What.Create k links) f; links_are = cc }
 create_what w image ls e = cc
 
 -- a piece of a data move

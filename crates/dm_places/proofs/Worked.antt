@@ -27,8 +27,7 @@ message_has_places = refl
 
 -- the other receives it
 abbrev second_half : List (ℕ × Label)
-second_half =
-    (1, Label.Ran (pid_of 1 3) 3) ∷ (1, Label.Wait (pid_of 1 3)) ∷ (1, Label.Receive (pid_of 1 3) (id_of (pid_of 0 3) 0)) ∷ []
+second_half = (1, Label.Ran (pid_of 1 3) 3) ∷ (1, Label.Wait (pid_of 1 3)) ∷ (1, Label.Receive (pid_of 1 3) (id_of (pid_of 0 3) 0)) ∷ []
 
 abbrev bytes_there : Option Process → Option (List ℕ)
 bytes_there o = option_map (λ x. take 2 (drop 64 x.memory)) o

@@ -40,23 +40,12 @@ not_made : (o : Option Life) → (is_some o ≡ true → ⊥) → o ≡ None
 not_made None none = refl
 not_made (Some life) none = absurd (none refl)
 
-next_unmade : (s : OneKernel) (m : ℕ) → SoundAt s → s.processes (pid_of m (first_number + s.made m)) ≡ None
-next_unmade s m h = grind (arith, nat_tests, not_made, nat_lt)
-
 creates_if : (pt : Point) (v : View) (m : ℕ) (id : MsgId) (r : rule.Room) (c : Bool) → v.moves ≡ pt.view.moves → SoundAt pt.kernel → GroupNeeds pt
     → PartsNeed pt.kernel v ((if c then rule.says (Label.Created id (pid_of m (first_number + pt.kernel.made m))) else rule.says (Label.NoSpace id r.slots r.blocks)) ∷ Routes (pieces.answer_id id) ∷ [])
 creates_if pt v m id r true counts h needs =
     let p = pid_of m (first_number + pt.kernel.made m) in
-    (inr (Label.Created id p, refl, ap (λ (f : Pid → ℕ). f p) counts ∙ needs.unmoved p (next_unmade pt.kernel m h)), (tt, tt))
+    (inr (Label.Created id p, refl, ap (λ (f : Pid → ℕ). f p) counts ∙ needs.unmoved p (grind (arith, nat_tests, not_made, nat_lt))), (tt, tt))
 creates_if pt v m id r false counts h needs = (inl tt, (tt, tt))
-
-creates_fit : (pt : Point) (v : View) (m : ℕ) (id : MsgId) (r : rule.Room) (o : Option BootImage) → v.moves ≡ pt.view.moves → SoundAt pt.kernel → GroupNeeds pt → Fits pt.kernel v (rule.creation_parts pt m id r o)
-creates_fit pt v m id r None counts h needs = tt
-creates_fit pt v m id r (Some i) counts h needs = creates_if pt v m id r (rule.has_room r i.blocks) counts h needs
-
-kernel_fits : (b : Boot) (pt : Point) (v : View) (m : ℕ) (id : MsgId) (w : PlainWhat) → v.moves ≡ pt.view.moves → SoundAt pt.kernel → GroupNeeds pt → Fits pt.kernel v (rule.kernel_handles b pt m id w)
-kernel_fits b pt v m id (PlainWhat.Create image links) counts h needs = creates_fit pt v m id (rule.free_room b pt m) (slice_get b.images image) counts h needs
-kernel_fits b pt v m id _ counts h needs = tt
 
 or_first : (b c : Bool) → b ≡ true → (b || c) ≡ true
 or_first true c e = refl
@@ -72,7 +61,9 @@ comes_fit b pt v m id (Some k) acting counts h needs server asks =
     let three = rule.manager_parts id (manage.manager_takes s.manager s.machines (length s.images) k k.what) in
     let four = rule.process_handles pt m id k (pt.view.known m k.to) in
     let last = if pid_eq k.to manager then three else four in
-    if_fits s v (k.to.num == 0) one (if pid_eq k.to switchboard then two else last) (λ e. kernel_fits b pt v m id k.what counts h needs)
+    if_fits s v (k.to.num == 0) one (if pid_eq k.to switchboard then two else last) (λ e. elim k.what as (λ w. Fits pt.kernel v (rule.kernel_handles b pt m id w))
+        [ PlainWhat.Create image links ↦ (elim (slice_get b.images image) as (λ o. Fits pt.kernel v (rule.creation_parts pt m id (rule.free_room b pt m) o))
+            [ None ↦ tt | Some i ↦ creates_if pt v m id (rule.free_room b pt m) (rule.has_room (rule.free_room b pt m) i.blocks) counts h needs ]) | _ ↦ tt ])
     (if_fits s v (pid_eq k.to switchboard) two last
     (λ e. board_fits pt v id (board.board_takes s.switchboard k k.what) (acting ∙ server k refl (or_first (pid_eq k.to switchboard) (pid_eq k.to manager) e)) needs)
     (if_fits s v (pid_eq k.to manager) three four
@@ -92,9 +83,6 @@ outcome_fits b pt (Step.Deliver a c k) h needs =
     easy_fits pt.kernel (after_head pt.view (Step.Deliver a c k)) (outcome b pt (Step.Deliver a c k)) (arrives_easy a c (pt.view.pair a c) (pt.view.pair c a) (slice_get (pt.view.pair a c).wire k))
 outcome_fits b pt (Step.Migrate p m) h needs = easy_fits pt.kernel (after_head pt.view (Step.Migrate p m)) (outcome b pt (Step.Migrate p m)) (migrates_easy pt p)
 
-fits_as : (s : OneKernel) (v : View) (o : Option (List Part)) (ps : List Part) → Fits s v o → o ≡ Some ps → PartsNeed s v ps
-fits_as s v o ps h is = subst (Fits s v) is h
-
 -- a group
 group_behind : (b : Boot) (pt : Point) (l : Placed) (d : Step) (w : Spelled) → SoundAt pt.kernel → GroupNeeds pt → group_of b pt d ≡ Some w → MirrorsPoint pt l → Behind w.point
 group_behind b pt l d w sound needs is h =
@@ -103,7 +91,7 @@ group_behind b pt l d w sound needs is h =
     let (z, more, end) = bind-is (spelled begun ps) (λ (y : Spelled). Some (headed (Line.Head d) y)) w rest in
     let f : headed (Line.Head d) z ≡ w = cc in
     subst (λ (x : Spelled). Behind x.point) f
-    (parts_follow ps begun z l (fits_as pt.kernel (after_head pt.view d) (outcome b pt d) ps (outcome_fits b pt d sound needs) comes) sound (lines_keep pt begun l (Line.Head d) tt h refl) more)
+    (parts_follow ps begun z l (subst (Fits pt.kernel (after_head pt.view d)) comes (outcome_fits b pt d sound needs)) sound (lines_keep pt begun l (Line.Head d) tt h refl) more)
 
 pub group_follows : (b : Boot) (pt : Point) (l : Placed) (d : Step) (w : Spelled) → SoundAt pt.kernel → GroupNeeds pt → group_of b pt d ≡ Some w → MirrorsPoint pt l → (m : Placed) × MirrorsPoint w.point m × SoundAt w.point.kernel
 group_follows b pt l d w sound needs is h = let z = group_behind b pt l d w sound needs is h in (z.l, z.mirrors, z.sound)

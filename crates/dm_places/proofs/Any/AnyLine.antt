@@ -66,13 +66,10 @@ receiver_follows s v a l q r place apart h = elim (cases_Bool (pid_eq q switchbo
   ]
 ]
 
-about_follows : (s : OneKernel) (v : View) (a : Addresses) (l : Placed) (q : Pid) (o : Option (Pid × Place)) → ServersApart s → Mirrors s v a l → Some_ s v (λ h. updated_to s a (Some q) o h)
-about_follows s v a l q None apart h = record { l = l; mirrors = h }
-about_follows s v a l q (Some w) apart h = receiver_follows s v a l q w.0 w.1 apart h
-
 update_follows : (s : OneKernel) (v : View) (a : Addresses) (l : Placed) (o : Option Told) → ServersApart s → Mirrors s v a l → Some_ s v (λ h. updated s v a o h)
 update_follows s v a l None apart h = record { l = l; mirrors = h }
-update_follows s v a l (Some t) apart h = about_follows s v a l t.receiver (place_told t.about) apart h
+update_follows s v a l (Some t) apart h = elim (place_told t.about) as (λ o. Some_ s v (λ h. updated_to s a (Some t.receiver) o h))
+    [ None ↦ record { l = l; mirrors = h } | Some w ↦ receiver_follows s v a l t.receiver w.0 w.1 apart h ]
 
 -- a process has come, or has ended on the way
 absent_comes : (v : View) (p q : Pid) (l : Placed) (x : Process) → l.processes p ≡ None → l.processes q ≡ Some x → (if pid_eq p q then v.moves p + 1 else v.moves q) ≡ v.moves q

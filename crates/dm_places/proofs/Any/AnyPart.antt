@@ -23,18 +23,9 @@ never_alive : (o : Option Life) → (is_some o ≡ true → ⊥) → kernel.aliv
 never_alive None none = refl
 never_alive (Some life) none = absurd (none refl)
 
-servers_apart : (s : OneKernel) → SoundAt s → ServersApart s
-servers_apart s h = (
-  never_alive (s.processes switchboard) (λ made. let f : nat_le 3 1 ≡ true = h.sound.made.least switchboard made in cc),
-  never_alive (s.processes manager) (λ made. let f : nat_le 3 2 ≡ true = h.sound.made.least manager made in cc),
-)
-
 own_apart_of : (s : OneKernel) (i : MsgId) (o : Option PlainMessage) → s.bag i ≡ o → is_kernels i ≡ true → SoundAt s → o ≡ None
 own_apart_of s i None is mine h = refl
 own_apart_of s i (Some x) is mine h = absurd (let f : is_kernels i ≡ false = not_kernels h.r h.e s i x is h.sound in let g : true ≡ false = sym mine ∙ f in cc)
-
-own_apart : (s : OneKernel) (v : View) → SoundAt s → s.bag (own_id v) ≡ None
-own_apart s v h = own_apart_of s (own_id v) (s.bag (own_id v)) refl refl h
 
 -- what needs little beside: all labels but those of a server and of a new process; a request to move is the manager's
 abbrev pub EasyLabel : Label → Type 0
@@ -59,8 +50,11 @@ EasyLine _ = ⊤
 easy_line : (pt : Point) (x : Line) → EasyLine x → SoundAt pt.kernel → LineNeeds pt x
 easy_line pt (Line.Label e) easy h = easy_label pt.kernel pt.view e easy h
 easy_line pt (Line.Put from to id k q) easy h = absurd easy
-easy_line pt (Line.Forwarded id m) easy h = own_apart pt.kernel pt.view h
-easy_line pt (Line.Updated id n) easy h = servers_apart pt.kernel h
+easy_line pt (Line.Forwarded id m) easy h = own_apart_of pt.kernel (own_id pt.view) (pt.kernel.bag (own_id pt.view)) refl refl h
+easy_line pt (Line.Updated id n) easy h = (
+  never_alive (pt.kernel.processes switchboard) (λ made. let f : nat_le 3 1 ≡ true = h.sound.made.least switchboard made in cc),
+  never_alive (pt.kernel.processes manager) (λ made. let f : nat_le 3 2 ≡ true = h.sound.made.least manager made in cc),
+)
 easy_line pt _ easy h = tt
 
 abbrev pub EasyPart : Part → Type 0
@@ -97,14 +91,11 @@ says_follow pt next l x needs sound h is =
 same_follows : (pt next : Point) (l : Placed) → SamePoint pt next → SoundAt pt.kernel → MirrorsPoint pt l → Behind next
 same_follows pt next l same sound h = record { l = l; mirrors = same.mirrors l h; sound = subst SoundAt (sym same.kernel) sound }
 
-routes_follow : (pt next : Point) (l : Placed) (id : MsgId) (ls : List Line) → SoundAt pt.kernel → MirrorsPoint pt l → lines_of pt (Routes id) ≡ Some ls → after pt ls ≡ Some next → Behind next
-routes_follow pt next l id ls sound h lines is =
-    record { l = l; mirrors = routes_mirrors pt next l id ls h lines is; sound = subst SoundAt (sym (routes_kernel pt next id ls lines is)) sound }
-
 part_follows : (pt next : Point) (l : Placed) (p : Part) (ls : List Line) → EasyPart p → SoundAt pt.kernel → MirrorsPoint pt l → lines_of pt p ≡ Some ls → after pt ls ≡ Some next → Behind next
 part_follows pt next l (Says x) ls easy sound h lines is =
     let f : x ∷ [] ≡ ls = cc in says_follow pt next l x (easy_line pt x easy sound) sound h (ap (after pt) f ∙ is)
-part_follows pt next l (Routes id) ls easy sound h lines is = routes_follow pt next l id ls sound h lines is
+part_follows pt next l (Routes id) ls easy sound h lines is =
+    record { l = l; mirrors = routes_mirrors pt next l id ls h lines is; sound = subst SoundAt (sym (routes_kernel pt next id ls lines is)) sound }
 part_follows pt next l (Again id b) ls easy sound h lines is =
     let (t, told, last) = bind-is (pt.view.told id) (λ (w : Told). Some (puts pt.view b id w.kind w.receiver)) ls lines in
     same_follows pt next l (again_same pt next id b t ls told lines is) sound h
@@ -113,20 +104,18 @@ part_follows pt next l (Owns k q b) ls easy sound h lines is =
     let x = Line.Put pt.view.acting b own k q in
     let mid = moved pt x pt.kernel in
     let f : puts pt.view b own k q ≡ ls = cc in
-    let (m, on) = line_follows pt mid l x (inr (own_apart pt.kernel pt.view sound)) h refl in
+    let (m, on) = line_follows pt mid l x (inr (own_apart_of pt.kernel (own_id pt.view) (pt.kernel.bag (own_id pt.view)) refl refl sound)) h refl in
     same_follows mid next m (puts_same pt next b own k q (ap (after pt) f ∙ is)) sound on
 part_follows pt next l (Transmits a b x) ls easy sound h lines is =
     let y = packet_line pt.view a b x in
-    let f : y ∷ [] ≡ ls = cc in
-    says_follow pt next l y tt sound h (ap (after pt) f ∙ is)
+    let f : y ∷ [] ≡ ls = cc in says_follow pt next l y tt sound h (ap (after pt) f ∙ is)
 
 first_follows : (pt next : Point) (l : Placed) (p : Part) (ls : List Line) → FirstNeeds pt.kernel pt.view p → SoundAt pt.kernel → MirrorsPoint pt l → lines_of pt p ≡ Some ls → after pt ls ≡ Some next → Behind next
 first_follows pt next l p ls needs sound h lines is = elim needs [
   | inl easy ↦ part_follows pt next l p ls easy sound h lines is
   | inr said ↦
       let f : Some (Line.Label said.0 ∷ []) ≡ Some ls = ap (lines_of pt) said.1 ∙ lines in
-      let g : Line.Label said.0 ∷ [] ≡ ls = cc in
-      says_follow pt next l (Line.Label said.0) said.2 sound h (ap (after pt) g ∙ is)
+      let g : Line.Label said.0 ∷ [] ≡ ls = cc in says_follow pt next l (Line.Label said.0) said.2 sound h (ap (after pt) g ∙ is)
 ]
 
 abbrev StandsBehind : Spelled → Type 0
@@ -135,8 +124,7 @@ StandsBehind w = Behind w.point
 easy_follow : (ps : List Part) (pt : Point) (w : Spelled) (l : Placed) → EasyParts ps → SoundAt pt.kernel → MirrorsPoint pt l → spelled pt ps ≡ Some w → Behind w.point
 easy_follow [] pt w l easy sound h is =
     let z : Spelled = record { lines = []; point = pt } in
-    let f : z ≡ w = cc in
-    subst StandsBehind f (record { l = l; mirrors = h; sound = sound })
+    let f : z ≡ w = cc in subst StandsBehind f (record { l = l; mirrors = h; sound = sound })
 easy_follow (p ∷ ps) pt w l easy sound h is =
     let (ls, lines, rest) = bind-is (lines_of pt p) (λ (xs : List Line). bind (after pt xs) (λ (q : Point). bind (spelled q ps) (λ (z : Spelled). Some (behind xs z)))) w is in
     let (next, comes, last) = bind-is (after pt ls) (λ (q : Point). bind (spelled q ps) (λ (z : Spelled). Some (behind ls z))) w rest in

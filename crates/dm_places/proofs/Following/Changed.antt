@@ -36,13 +36,8 @@ places_message v a b l id m h processes off on servers = record {
 pub this_message : (a : Addresses) (i : MsgId) (m : Message) → MirrorsMessage a i m → (x : Message) → Some m ≡ Some x → MirrorsMessage a i x
 this_message a i m h x e = let f : m ≡ x = cc in subst (MirrorsMessage a i) f h
 
--- a message that goes on means the same
-plain_on : (at moves : ℕ) (x : Message) (o : Option PlainWhat) → with_what (sent_on at moves x) o ≡ with_what x o
-plain_on at moves x None = refl
-plain_on at moves x (Some w) = refl
-
 pub plain_sent_on : (at moves : ℕ) (x : Message) → plain_message (sent_on at moves x) ≡ plain_message x
-plain_sent_on at moves x = plain_on at moves x (plain_what x.what)
+plain_sent_on at moves x = elim (plain_what x.what) as (λ o. with_what (sent_on at moves x) o ≡ with_what x o) [ None ↦ refl | Some w ↦ refl ]
 
 -- its receiver's address follows
 pub sent_on_one : (s : OneKernel) (v : View) (a : Addresses) (l : Placed) (id : MsgId) (x : Message) (at moves : ℕ) → l.bag id ≡ Some x → Mirrors s v a l

@@ -49,8 +49,7 @@ all_onward : (v : View) (a : Addresses) (p : Pid) (to : ℕ) (ids : List MsgId) 
 unfolding onward
 all_onward v a p to [] knows = refl
 all_onward v a p to (i ∷ is) knows =
-    let rest = all_onward v a p to is knows in
-    λ c. gets (Receiver i) (place_known (knows c) (v.moves p) (a (Receiver i))) ∷ rest c
+    let rest = all_onward v a p to is knows in λ c. gets (Receiver i) (place_known (knows c) (v.moves p) (a (Receiver i))) ∷ rest c
 
 more_bag : (l : Placed) (at moves : ℕ) (i : MsgId) (is : List MsgId) (j : MsgId) → (with_message (sent_all l at moves is) i (option_map (sent_on at moves) (l.bag i))).bag j ≡ (sent_all l at moves (i ∷ is)).bag j
 more_bag l at moves i is j = grind (arith, nat_tests, option_map, id_eq-is)
@@ -92,8 +91,7 @@ among_times i (j ∷ js) e = elim (cases_Bool (id_eq j i)) [
   | inl same ↦ ap (λ (c : Bool). c || is_among i js) same
   | inr apart ↦
       let f : times i (j ∷ js) ≡ 0 + times i js = ap (λ (c : Bool). (if c then 1 else 0) + times i js) (id_eq-swap i j ∙ apart) in
-      let g : 1 ≤ times i js = omega (arith, f, e) in
-      or_first (id_eq j i) (is_among i js) (among_times i js g)
+      let g : 1 ≤ times i js = omega (arith, f, e) in or_first (id_eq j i) (is_among i js) (among_times i js g)
 ]
 
 -- restarted: the process has moved once more

@@ -71,18 +71,11 @@ told_process s v a q r at moves x alive h = record {
   owner = λ o e. owner_follows s a q r at moves x.status o (ap owner_of alive) h.owner e;
 }
 
--- it means the same
-retargeted_pid : (r : Pid) (at moves : ℕ) (o : Addr) (b : Bool) → (if b then relocated at moves o else o).pid ≡ o.pid
-retargeted_pid r at moves o true = refl
-retargeted_pid r at moves o false = refl
-
 plain_status_after : (r : Pid) (at moves : ℕ) (st : Status) → plain_status (status_after r at moves st) ≡ plain_status st
 plain_status_after r at moves (Status.Moving dir owner base own left pending) =
-    ap (λ (p : Pid). Moving dir p base own left pending) (retargeted_pid r at moves owner (places.is_behind r moves owner))
+    ap (λ (p : Pid). Moving dir p base own left pending) (elim (places.is_behind r moves owner) as (λ b. (if b then relocated at moves owner else owner).pid ≡ owner.pid)
+        [ true ↦ refl | false ↦ refl ])
 plain_status_after r at moves _ = refl
-
-pub plain_applied : (r : Pid) (at moves : ℕ) (x : Process) → plain_process (applied r at moves x) ≡ plain_process x
-plain_applied r at moves x = search (plain_map_retargeted, plain_status_after)
 
 process_places : (s : OneKernel) (v : View) (a : Addresses) (l : Placed) (q r : Pid) (at moves : ℕ) (x : Process) (p : Pid) (z : Process) → Mirrors s v a l → l.processes q ≡ Some x → (with_process l q (Some (applied r at moves x))).processes p ≡ Some z
     → MirrorsProcess v (told_of s a q r at moves) p z
@@ -103,7 +96,7 @@ pub process_told : (s : OneKernel) (v : View) (a : Addresses) (l : Placed) (q r 
 process_told s v a l q r at moves x no_board no_manager there h =
     let g = h.places in
     record {
-      plain = kernel_process_again s l q x (applied r at moves x) there (plain_applied r at moves x) h.plain;
+      plain = kernel_process_again s l q x (applied r at moves x) there (search (plain_map_retargeted, plain_status_after)) h.plain;
       places = record {
         process = λ p z e. process_places s v a l q r at moves x p z h there e;
         message = λ i m e. message_same a (told_of s a q r at moves) i m (messages_keep s a q r at moves i) (g.message i m e);

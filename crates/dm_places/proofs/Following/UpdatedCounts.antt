@@ -11,9 +11,6 @@ use Rattle.dm_places.proofs.Following.Updated.{alive_is, answer_leads, behind_le
 use Rattle.dm_places.proofs.Names.{AnswerNames, leads_to, link_target, option_map, plain_link}
 use Rattle.dm_procman.specs.Managing.{answer_is_behind}
 
-count_cons : {X : Type 0} (p : X → Bool) (x : X) (xs : List X) → count_by p (x ∷ xs) ≡ cond (p x) 1 0 + count_by p xs
-count_cons p x xs = sum_by-cons (λ y. cond (p y) 1 0) x xs
-
 -- holders in order of their numbers
 among_numbered : {X Y : Type 0} (f : Holder → Bool) (g : ℕ → Holder) (plain : X → Y) (p : X → Bool) (n : ℕ) (xs : List X) → ((j : ℕ) (x : X) → slice_get xs j ≡ Some x → f (g (n + j)) ≡ p x)
     → behind_among f (holders_numbered g n (map plain xs)) ≡ count_by p xs
@@ -22,7 +19,7 @@ among_numbered f g plain p n (x ∷ xs) each =
     let at : n ≡ n + 0 = omega arith in
     let first : f (g n) ≡ p x = ap (λ (k : ℕ). f (g k)) at ∙ each zero x refl in
     let rest = among_numbered f g plain p (n + 1) xs (λ j y there. let on : (n + 1) + j ≡ n + suc j = omega arith in ap (λ (k : ℕ). f (g k)) on ∙ each (suc j) y there) in
-    (λ i. (if first i then 1 else 0) + rest i) ∙ sym (count_cons p x xs)
+    (λ i. (if first i then 1 else 0) + rest i) ∙ sym (sum_by-cons (λ y. cond (p y) 1 0) x xs)
 
 -- holders that their elements name
 among_named : {X Y : Type 0} (f : Holder → Bool) (g : Y → Holder) (plain : X → Y) (p : X → Bool) (xs : List X) → ((j : ℕ) (x : X) → slice_get xs j ≡ Some x → f (g (plain x)) ≡ p x) → behind_among f (map g (map plain xs)) ≡ count_by p xs
@@ -30,7 +27,7 @@ among_named f g plain p [] each = refl
 among_named f g plain p (x ∷ xs) each =
     let first = each zero x refl in
     let rest = among_named f g plain p xs (λ j y there. each (suc j) y there) in
-    (λ i. (if first i then 1 else 0) + rest i) ∙ sym (count_cons p x xs)
+    (λ i. (if first i then 1 else 0) + rest i) ∙ sym (sum_by-cons (λ y. cond (p y) 1 0) x xs)
 
 among_both : (f : Holder → Bool) (hs gs : List Holder) → behind_among f (hs ++ gs) ≡ behind_among f hs + behind_among f gs
 among_both f [] gs = let e : behind_among f gs ≡ 0 + behind_among f gs = omega arith in e
@@ -49,15 +46,11 @@ slot_there [] j o e = cc
 slot_there (t ∷ ts) zero o e = cc
 slot_there (t ∷ ts) (suc j) o e = slot_there ts j o e
 
-none_behind : (b c : Bool) → (b && (false && c)) ≡ false
-none_behind true c = refl
-none_behind false c = refl
-
 slot_behind : (s : OneKernel) (v : View) (a : Addresses) (l : Placed) (q r : Pid) (moves : ℕ) (x : Process) (k : ℕ) (o : Option Link) → Mirrors s v a l → l.processes q ≡ Some x → link_at x.table k ≡ o
     → addresses.is_behind s a q r moves (Slot q k) ≡ slot_is_behind r moves o
 slot_behind s v a l q r moves x k None h there at =
     ap (λ (w : Option Pid). pid_eq q q && (is_pid r w && nat_lt (a (Slot q k)).moves moves)) (slot_leads s q x k None (alive_is s v a l q x h there) at)
-    ∙ none_behind (pid_eq q q) (nat_lt (a (Slot q k)).moves moves)
+    ∙ (elim (pid_eq q q) as (λ b. (b && (false && (nat_lt (a (Slot q k)).moves moves))) ≡ false) [ true ↦ refl | false ↦ refl ])
 slot_behind s v a l q r moves x k (Some w) h there at =
     behind_led s a q r moves (Slot q k) w.addr (pid_eq-same q) (slot_leads s q x k (Some w) (alive_is s v a l q x h there) at) ((h.places.process q x there).slots k w at)
 

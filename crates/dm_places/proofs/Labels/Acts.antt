@@ -18,13 +18,9 @@ Follows t v b o = (l : Placed) × (o ≡ Some l) × Mirrors t v b l
 pub mirrors_as : (s t : OneKernel) (v : View) (a b : Addresses) (l m : Placed) → s ≡ t → a ≡ b → l ≡ m → Mirrors s v a l → Mirrors t v b m
 mirrors_as s t v a b l m e f g h = subst (λ (u : OneKernel). Mirrors u v b m) e (subst (λ (c : Addresses). Mirrors s v c m) f (subst (Mirrors s v a) g h))
 
--- the process that executes
-ready_if : (y : Process) (b : Bool) (x : PlainProcess) → (if b then None else Some (plain_process y)) ≡ Some x → ((if b then None else Some y) ≡ Some y) × (plain_process y ≡ x)
-ready_if y true x e = cc
-ready_if y false x e = (refl, let g : plain_process y ≡ x = cc in g)
-
 ready_of : (y : Process) (st : Status) (x : PlainProcess) → kernel.if_ready (plain_process y) (plain_status st) ≡ Some x → (if_ready y st ≡ Some y) × (plain_process y ≡ x)
-ready_of y Status.Ready x e = ready_if y y.stopped x e
+ready_of y Status.Ready x e = (elim y.stopped as (λ b. (if b then None else Some (plain_process y)) ≡ Some x → ((if b then None else Some y) ≡ Some y) × (plain_process y ≡ x))
+    [ true ↦ λ e_. cc | false ↦ λ e_. (refl, let g : plain_process y ≡ x = cc in g) ]) e
 ready_of y _ x e = cc
 
 record Runs (l : Placed) (p : Pid) (x : PlainProcess) : Type 0 where
@@ -103,9 +99,7 @@ called_as v a p x n Called.Waits y k e h =
 called_as v a p x n (Called.Out w) y k e h =
     let f : one.Outputs w (plain_process y) ≡ k = cc in
     subst (CalledAs v a p x n (after_call (Called.Out w) y)) f (record { y = y; acted = refl; is = refl; kept = h })
-called_as v a p x n (Called.Ended because) y k e h =
-    let f : one.Ends because ≡ k = cc in
-    subst (CalledAs v a p x n ended) f refl
+called_as v a p x n (Called.Ended because) y k e h = let f : one.Ends because ≡ k = cc in subst (CalledAs v a p x n ended) f refl
 
 abbrev ActsNext : View → Addresses → Pid → Process → Acted → kernel.Trap → Type 0
 ActsNext v a p x w (kernel.Calls number k) = CalledAs v a p x (one.call_number number) w k

@@ -18,24 +18,18 @@ use Rattle.dm_datamove.specs.Serving as serving
 use Rattle.dm_rule.specs.Given as giving
 use Rattle.dm_places.specs.PlacedStep as placed
 
-pub two_message : (a : Addresses) (m : Message) (to from : Place) → enclosed m.what ≡ [] → to ≡ place_of m.to → from ≡ place_of m.sender → MirrorsMessage (given a (two m.id to from)) m.id m
-two_message a m to from none e f = record {
-  id = refl;
-  receiver = ap (λ (c : Bool). if c then to else a (Receiver m.id)) (id_eq-same m.id) ∙ e;
-  sender = ap (λ (c : Bool). if c then from else a (Sender m.id)) (id_eq-same m.id) ∙ f;
-  enclosed = λ k w there. absurd (let g : None ≡ Some w = ap (λ (ls : List Link). slice_get ls k) (sym none) ∙ there in cc);
-}
-
 -- a message without links comes
 pub two_sends : (s : OneKernel) (v : View) (a : Addresses) (l : Placed) (m : Message) (k : PlainMessage) (to from : Place) → plain_message m ≡ Some k → enclosed m.what ≡ [] → to ≡ place_of m.to → from ≡ place_of m.sender → Mirrors s v a l
     → Mirrors (kernels.with_sent s (Some k)) v (given a (two m.id to from)) (with_sent l (Some m))
 two_sends s v a l m k to from says none e f h = record {
   plain = kernel_sent s l k m says h.plain;
-  places = places_sent v a (given a (two m.id to from)) l m h.places (two_process a m.id to from) (two_off a m.id to from) (two_message a m to from none e f) (two_servers a m.id to from);
+  places = places_sent v a (given a (two m.id to from)) l m h.places (two_process a m.id to from) (two_off a m.id to from) (record {
+    id = refl;
+    receiver = ap (λ (c : Bool). if c then to else a (Receiver m.id)) (id_eq-same m.id) ∙ e;
+    sender = ap (λ (c : Bool). if c then from else a (Sender m.id)) (id_eq-same m.id) ∙ f;
+    enclosed = λ k w there. absurd (let g : None ≡ Some w = ap (λ (ls : List Link). slice_get ls k) (sym none) ∙ there in cc);
+  }) (two_servers a m.id to from);
 }
-
-pub answer_plainly : (n moves : ℕ) (m : Message) (k : PlainMessage) (w : What) (u : PlainWhat) → plain_message m ≡ Some k → plain_what w ≡ Some u → plain_message (answer n moves m w) ≡ Some (answer_to k u)
-answer_plainly n moves m k w u says e = grind (arith, nat_tests, parts)
 
 -- an answer goes back to where its request came from
 pub answer_mirrors : (s : OneKernel) (v : View) (a : Addresses) (l : Placed) (id : MsgId) (m : Message) (k : PlainMessage) (w : What) (u : PlainWhat) (moves : ℕ) → MirrorsMessage a id m → plain_message m ≡ Some k → plain_what w ≡ Some u → enclosed w ≡ []
@@ -44,7 +38,7 @@ answer_mirrors s v a l id m k w u moves hm says e none h =
     let from : Place = record { at = v.acting; moves = moves } in
     let n = answer v.acting moves m w in
     subst (λ (i : MsgId). Mirrors (kernels.with_sent s (Some (answer_to k u))) v (given a (two (answer_id i) (a (Sender id)) from)) (with_sent l (Some n))) hm.id
-    (two_sends s v a l n (answer_to k u) (a (Sender id)) from (answer_plainly v.acting moves m k w u says e) none hm.sender refl h)
+    (two_sends s v a l n (answer_to k u) (a (Sender id)) from (grind (arith, nat_tests, parts)) none hm.sender refl h)
 
 -- dropped
 pub dropped_follows : (s t : OneKernel) (v : View) (a : Addresses) (l : Placed) (id : MsgId) → kernel.step s (Label.Dropped id) ≡ Some t → Mirrors s v a l → Follows t v a (Some (without_message l id))
@@ -131,10 +125,6 @@ asked_follows s t v a l id is needs h =
       subst (λ (gs : List Gets). Mirrors t v (given a gs) on) (ap (giving.given_to_follow a id) (sym there)) (asked_row s t v a l id m k k.what last needs (h.places.message id m found) says h),
     )
 
--- answered
-noted_of : (s : OneKernel) (l : Placed) (p : Pid) (n : MoveNote) → MirrorsKernel s l → s.notes p ≡ Some n → (k : Asker) × (l.notes p ≡ Some k) × (plain_note k ≡ n)
-noted_of s l p n h e = of_map plain_note (l.notes p) n (sym e ∙ sym (h.notes p))
-
 pub answered_follows : (s t : OneKernel) (v : View) (a : Addresses) (l : Placed) (id : MsgId) (o : Outcome) → kernel.step s (Label.Answered id o) ≡ Some t
     → ((p : Pid) (n : MoveNote) → s.noted id ≡ Some p → s.notes p ≡ Some n → (x : PlainProcess) × (n.id ≡ id) × (kernel.alive (s.processes p) ≡ Some x)) → Mirrors s v a l
     → Follows t v (given a (gives s v a (Label.Answered id o))) (bind (l.noted id) (λ (p : Pid). placed.ends_move v.acting l id p o))
@@ -142,7 +132,7 @@ answered_follows s t v a l id o is needs h =
     let (p, noted, rest) = bind-is (s.noted id) (λ (q : Pid). bind (s.notes q) (λ (n : MoveNote). service.ends_move s id q n o)) t is in
     let (n, notes, last) = bind-is (s.notes p) (λ (m : MoveNote). service.ends_move s id p m o) t rest in
     let (x, name, alive) = needs p n noted notes in
-    let (k, waits, is_note) = noted_of s l p n h.plain notes in
+    let (k, waits, is_note) = of_map plain_note (l.notes p) n (sym notes ∙ sym (h.plain.notes p)) in
     let (y, stands, is_process) = alive_of s l p x h.plain alive in
     let m = moved_answer v.acting y o k in
     let to : k.addr.pid ≡ n.asker = ap (λ (w : MoveNote). w.asker) is_note in

@@ -64,10 +64,6 @@ found_at name (k ∷ ks) n w e = elim (cases_Bool (bytes_eq k.name name)) [
       record { i = suc hi; k = h.k; there = h.there; link = h.link; place = ap (λ (b : Bool). if b then n else place_named name (map plain_named ks) (n + 1)) apart ∙ hp ∙ (let g : (n + 1) + hi ≡ n + suc hi = omega arith in g) }
 ]
 
-found_one : (a : Addresses) (sent : MsgId) (pl : Place) (l : Link) → pl ≡ place_of l.addr → (n : ℕ) (w : Link) → slice_get (l ∷ []) n ≡ Some w → given a (gets (Enclosed sent 0) pl ∷ []) (Enclosed sent n) ≡ place_of w.addr
-found_one a sent pl l at zero w e = grind (arith, nat_tests, id_eq-same)
-found_one a sent pl l at (suc n) w e = absurd (let f : None ≡ Some w = e in cc)
-
 looks_up_kept : (a : Addresses) (id sent : MsgId) (names : List Named) (op : ℕ) (name : List ℕ) (o : Option Link) → board.link_named name names ≡ o → NamesKept a names
     → AsksKept a id sent names (op ∷ name) (record { names = names; reply = board.found_or_unknown o })
 looks_up_kept a id sent names op name None is h = nothing_given a sent names Reply.Unknown refl h
@@ -78,7 +74,8 @@ looks_up_kept a id sent names op name (Some l) is h =
     let at : pl ≡ place_of l.addr = ap (λ (n : ℕ). a (Name n)) place ∙ h f.i f.k f.there ∙ ap (λ (w : Link). place_of w.addr) f.link in
     record {
       name = h;
-      enclosed = λ n w e. found_one a sent pl l at n w e;
+      enclosed = λ n w e. (elim n as (λ n_. slice_get (l ∷ []) n_ ≡ Some w → given a (gets (Enclosed sent 0) pl ∷ []) (Enclosed sent n_) ≡ place_of w.addr)
+          [ zero ↦ λ e_. grind (arith, nat_tests, id_eq-same) | suc g ↦ λ e_. absurd (let f : None ≡ Some w = e_ in cc) ]) e;
       process = λ q. record { slot = λ n. refl; owner = refl };
       message = λ i e. record { receiver = refl; sender = refl; enclosed = λ n. ap (λ (c : Bool). if c && (0 == n) then pl else a (Enclosed i n)) e };
       child = λ n. refl;
@@ -167,11 +164,7 @@ request_mirrors s v a l id body w ws en h =
 
 board_request : (s : OneKernel) (v : View) (a : Addresses) (l : Placed) (id : MsgId) (code channel : ℕ) (body : List ℕ) (links : List Link) → ((n : ℕ) (u : Link) → slice_get links n ≡ Some u → a (Enclosed id n) ≡ place_of u.addr) → Mirrors s v a l
     → Mirrors (service.switchboard_took s id (one.takes_request s.switchboard body (map plain_link links))) v (given a (board_gets s v a id (PlainWhat.User code channel body (map plain_link links)))) (board_took (without_message l id) (board.takes_request v.acting l.board body links))
-board_request s v a l id code channel body [] en h =
-    let u = out_mirrors s v a l id h in
-    let p = u.plain in
-    let g = u.places in
-    search
+board_request s v a l id code channel body [] en h = let u = out_mirrors s v a l id h in let p = u.plain in let g = u.places in search
 board_request s v a l id code channel body (w ∷ ws) en h =
     let asked = board.asks l.board.names body ws in
     subst (λ (b : Switchboard). BoardAt s v a l id body w ws b (one.asks b.names body (map plain_link ws))) h.plain.board

@@ -40,14 +40,11 @@ stands_here v a p x h = ap (λ (n : ℕ). record { at = v.acting; moves = n }) (
 regs_kept : (v : View) (a : Addresses) (p : Pid) (x : Process) (regs : Regs) → MirrorsProcess v a p x → MirrorsProcess v a p (record x { regs = regs })
 regs_kept v a p x regs h = record { pid = h.pid; moves = h.moves; slots = h.slots; owner = h.owner }
 
-refused_kept : (v : View) (a : Addresses) (p : Pid) (x : Process) (n : CallNumber) (c : Reply) → fills_by v a p (plain_process x) n ≡ [] → MirrorsProcess v a p x → MirrorsDone v a p x n (calls.replied c (behind x))
-refused_kept v a p x n c e h =
-    subst (λ (gs : List Gets). MirrorsProcess v (given a gs) p (calls.replied c (behind x)).process) (sym (no_gives v a p (plain_process x) n c e)) (regs_kept v a p x (calls.replied c (behind x)).process.regs h)
-
 unless_kept : (v : View) (a : Addresses) (p : Pid) (x : Process) (n : CallNumber) (c : Option Reply) (d : Done) → fills_by v a p (plain_process x) n ≡ [] → MirrorsProcess v a p x → MirrorsDone v a p x n d
     → MirrorsDone v a p x n (calls.unless_refused c (behind x) d)
 unless_kept v a p x n None d e h j = j
-unless_kept v a p x n (Some c) d e h j = refused_kept v a p x n c e h
+unless_kept v a p x n (Some c) d e h j =
+    subst (λ (gs : List Gets). MirrorsProcess v (given a gs) p (calls.replied c (behind x)).process) (sym (no_gives v a p (plain_process x) n c e)) (regs_kept v a p x (calls.replied c (behind x)).process.regs h)
 
 if_kept : (v : View) (a : Addresses) (p : Pid) (x : Process) (n : CallNumber) (b : Bool) (c d : Done) → MirrorsDone v a p x n c → MirrorsDone v a p x n d → MirrorsDone v a p x n (if b then c else d)
 if_kept v a p x n true c d h k = h
@@ -63,8 +60,7 @@ set_slot_kept v a p x regs slot w place is h = record {
     | inl there ↦
         let same : (pid_eq p p && (slot == k)) ≡ true = let g = pid_eq-same p in let f = there.0 in grind (arith, nat_tests) in
         let f : Some w ≡ Some u = there.1 in
-        let wu : w ≡ u = cc in
-        ap (λ (c : Bool). if c then place else a (Slot p k)) same ∙ is ∙ ap (λ (z : Link). place_of z.addr) wu
+        let wu : w ≡ u = cc in ap (λ (c : Bool). if c then place else a (Slot p k)) same ∙ is ∙ ap (λ (z : Link). place_of z.addr) wu
     | inr off ↦
         let apart : (pid_eq p p && (slot == k)) ≡ false = let g = pid_eq-same p in let f = off.0 in grind (arith, nat_tests) in
         ap (λ (c : Bool). if c then place else a (Slot p k)) apart ∙ h.slots k u off.1
@@ -103,10 +99,6 @@ record Listed (a : Addresses) (p : Pid) (ss : List ℕ) (k : ℕ) (w : Link) : T
   there : slice_get (map (λ (n : ℕ). a (Slot p n)) ss) k ≡ Some place
   is : place ≡ place_of w.addr
 
-none_plainly : (o : Option Link) → is_none (plain_slot o) ≡ is_none o
-none_plainly None = refl
-none_plainly (Some w) = refl
-
 listed_step : (v : View) (a : Addresses) (p : Pid) (x : Process) (s : ℕ) (ss : List ℕ) (k : ℕ) (w : Link) (o : Option Link) → MirrorsProcess v a p x → link_at x.table s ≡ o → is_none o ≡ false
     → ((j : ℕ) → slice_get (filter_map (link_at x.table) ss) j ≡ Some w → Listed a p ss j w) → slice_get (cons_option o (filter_map (link_at x.table) ss)) k ≡ Some w → Listed a p (s ∷ ss) k w
 listed_step v a p x s ss k w None h is some rest e = cc
@@ -117,19 +109,16 @@ listed_kept : (v : View) (a : Addresses) (p : Pid) (x : Process) (ss : List ℕ)
 listed_kept v a p x [] k w h some e = cc
 listed_kept v a p x (s ∷ ss) k w h some e =
     let first : is_none (link_at (map plain_slot x.table) s) ≡ false = or-left (is_none (link_at (map plain_slot x.table) s)) (one.any_empty (map plain_slot x.table) ss) some in
-    listed_step v a p x s ss k w (link_at x.table s) h refl (sym (none_plainly (link_at x.table s)) ∙ sym (ap is_none (slot_at x.table s)) ∙ first)
+    listed_step v a p x s ss k w (link_at x.table s) h refl (sym (elim (link_at x.table s) as (λ o. is_none (plain_slot o) ≡ is_none o)
+        [ None ↦ refl | Some w ↦ refl ]) ∙ sym (ap is_none (slot_at x.table s)) ∙ first)
     (λ j f. listed_kept v a p x ss j w h (or-right (is_none (link_at (map plain_slot x.table) s)) (one.any_empty (map plain_slot x.table) ss) some) f) e
-
--- of slots some of which were emptied
-emptied_if : (b : Bool) (slots : List (Option Link)) (k j : ℕ) (w : Link) → link_at (if b then slice_set slots k None else slots) j ≡ Some w → link_at slots j ≡ Some w
-emptied_if true slots k j w e = emptied_link slots k j w e
-emptied_if false slots k j w e = e
 
 emptied_at : (ss : List ℕ) (slots : List (Option Link)) (j : ℕ) (w : Link) → link_at (emptied slots ss) j ≡ Some w → link_at slots j ≡ Some w
 emptied_at [] slots j w e = e
 emptied_at (s ∷ ss) slots j w e =
     let b = one.holds_reply (plain_slot (link_at slots s)) in
-    emptied_if b slots s j w (emptied_at ss (if b then slice_set slots s None else slots) j w e)
+    ((elim b as (λ b_. link_at (if b_ then slice_set slots s None else slots) j ≡ Some w → link_at slots j ≡ Some w)
+        [ true ↦ λ e_. emptied_link slots s j w e_ | false ↦ λ e_. e_ ]) (emptied_at ss (if b then slice_set slots s None else slots) j w e))
 
 -- a user message goes over the link in slot r1
 user_sent : (v : View) (a : Addresses) (p : Pid) (x : Process) (w : Link) → link_at x.table (reg x.regs 1) ≡ Some w → one.any_empty (map plain_slot x.table) (calls.listed x) ≡ false → MirrorsProcess v a p x
@@ -154,8 +143,7 @@ user_sent v a p x w over some h k e =
         receiver = ap (λ (c : Bool). if c then to else given a (encloses id 0 ps) (Receiver id)) (id_eq-same id) ∙ h.slots (reg x.regs 1) w over;
         sender = ap (λ (c : Bool). if c then acting_place v p else given a (encloses id 0 ps) (Sender id)) (id_eq-same id) ∙ stands_here v a p x h;
         enclosed = λ n u g.
-            let r = listed_kept v a p x (calls.listed x) n u h some g in
-            encloses_at a id 0 ps n n r.place r.there (omega arith) ∙ r.is;
+            let r = listed_kept v a p x (calls.listed x) n u h some g in encloses_at a id 0 ps n n r.place r.there (omega arith) ∙ r.is;
       };
       others = λ q g. let s = encloses_process a id 0 ps q in record { slot = s.slot; owner = s.owner };
       messages = λ i g. let s = encloses_message a id 0 ps i g in record {
@@ -193,8 +181,7 @@ move_sent v a p m x y to there from none pid moves table owner h = record {
     slots = λ k w e. h.slots k w (ap (λ (s : List (Option Link)). link_at s k) (sym table) ∙ e);
     owner = λ q e.
         let f : Some m.to ≡ Some q = sym owner ∙ e in
-        let g : m.to ≡ q = cc in
-        ap (λ (c : Bool). if c then to else a (Owner p)) (pid_eq-same p) ∙ there ∙ ap place_of g;
+        let g : m.to ≡ q = cc in ap (λ (c : Bool). if c then to else a (Owner p)) (pid_eq-same p) ∙ there ∙ ap place_of g;
   };
   message = record {
     id = refl;

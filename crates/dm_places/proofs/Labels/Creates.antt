@@ -11,8 +11,9 @@ use Rattle.dm_rule.specs.Addresses as addresses
 use Rattle.dm_places.specs.PlacedStep as placed
 use Rattle.dm_places.proofs.Keeps.{kernel_out, kernel_process, parts, places_out, places_process, there_of, this_process}
 use Rattle.dm_places.proofs.Labels.Acts.{Follows}
-use Rattle.dm_places.proofs.Labels.Answers.{answer_plainly, two_sends}
+use Rattle.dm_places.proofs.Labels.Answers.{two_sends}
 use Rattle.dm_places.proofs.Whats.{create_what}
+use Rattle.dm_places.proofs.Names.{nat_tests}
 
 -- the slots of a process as it begins
 pub begun_link : (links : List Link) (n k : ℕ) (w : Link) → link_at (map Some links ++ replicate n None) k ≡ Some w → slice_get links k ≡ Some w
@@ -66,7 +67,7 @@ created_row s t v a l id m k child image links is none hm says links_are h =
     let z = when-is (service.is_kernel s k.to && pid_eq child (pid_of k.to.home (first_number + s.made k.to.home))) (kernels.with_sent u (Some q)) t is in
     let on = with_child (without_message l id) s.format child image links in
     let sent : Mirrors (kernels.with_sent u (Some q)) v (given b (two n.id (a (Sender id)) (unmoved v.acting))) (with_sent on (Some n)) =
-    two_sends u v b on n q (a (Sender id)) (unmoved v.acting) (answer_plainly v.acting 0 m k (What.Created child) (PlainWhat.Created child) says refl) refl hm.sender refl (begun_mirrors s v a l id m child image links none hm links_are h) in
+    two_sends u v b on n q (a (Sender id)) (unmoved v.acting) (grind (arith, nat_tests, parts)) refl hm.sender refl (begun_mirrors s v a l id m child image links none hm links_are h) in
     subst (λ (w : OneKernel). Mirrors w v (given a (answer_gets a id (unmoved v.acting) ++ child_links a child id 0 ls)) (with_sent on (Some n))) z.1
     (subst (λ (i : MsgId). Mirrors (kernels.with_sent u (Some q)) v (given a (two (answer_id i) (a (Sender id)) (unmoved v.acting) ++ child_links a child id 0 ls)) (with_sent on (Some n))) hm.id sent)
 

@@ -32,17 +32,11 @@ took_if s v a l id mid code false k j t u h i = i
 -- its count rises
 counted : (s : OneKernel) (v : View) (a : Addresses) (l : Placed) (id : MsgId) → Mirrors s v a l
     → Mirrors (record (service.without_message s id) { manager = record (plain_manager l.manager) { sent = l.manager.sent + 1 } }) v a (record (without_message l id) { manager = record l.manager { sent = l.manager.sent + 1 } })
-counted s v a l id h =
-    let u = kernel_out s l id h.plain in
-    let g = places_out v a l id h.places in
-    search
+counted s v a l id h = let u = kernel_out s l id h.plain in let g = places_out v a l id h.places in search
 
 bad_mirrors : (s : OneKernel) (v : View) (a : Addresses) (l : Placed) (id mid : MsgId) (code : ℕ) (links : List Link) → LinksKept a mid links → Mirrors s v a l
     → TookAt s v a l id mid code (one.bad_request (plain_manager l.manager) (map plain_link links)) (take.bad_request v.acting l.manager links)
-bad_mirrors s v a l id mid code [] en h =
-    let u = kernel_out s l id h.plain in
-    let g = places_out v a l id h.places in
-    search
+bad_mirrors s v a l id mid code [] en h = let u = kernel_out s l id h.plain in let g = places_out v a l id h.places in search
 bad_mirrors s v a l id mid code (w ∷ ws) en h =
     let n = l.manager.sent in
     two_sends (record (service.without_message s id) { manager = record (plain_manager l.manager) { sent = n + 1 } }) v a (record (without_message l id) { manager = record l.manager { sent = n + 1 } })

@@ -127,11 +127,10 @@ record Completes (v : View) (a : Addresses) (p : Pid) (id : MsgId) (x : Process)
   plain : plain_completed e.completed e.process ≡ d
   kept : CompletedKept v a p id x u d e.process
 
-completes_user : (v : View) (a : Addresses) (p : Pid) (id : MsgId) (x : Process) (m : Message) (k : PlainMessage) (d : one.Completed) (mask base size code channel : ℕ) (bytes : List ℕ) (ls : List PlainLink) → x.status ≡ Status.Waiting mask base size
-    → plain_message m ≡ Some k → k.what ≡ PlainWhat.User code channel bytes ls → MirrorsProcess v a p x → EnclosedFrom a id 0 (enclosed m.what) → one.completes_what p (plain_process x) k mask base size (PlainWhat.User code channel bytes ls) ≡ Some d
-    → Completes v a p id x m k.what d
-completes_user v a p id x m k d mask base size code channel bytes ls waits says what_is h en e =
-    let w = user_what m.what code channel bytes ls ((parts m k says).what ∙ ap Some what_is) in
+completes_what_of : (v : View) (a : Addresses) (p : Pid) (id : MsgId) (x : Process) (m : Message) (k : PlainMessage) (d : one.Completed) (mask base size : ℕ) (u : PlainWhat) → x.status ≡ Status.Waiting mask base size
+    → plain_message m ≡ Some k → k.what ≡ u → MirrorsProcess v a p x → EnclosedFrom a id 0 (enclosed m.what) → one.completes_what p (plain_process x) k mask base size u ≡ Some d → Completes v a p id x m k.what d
+completes_what_of v a p id x m k d mask base size (PlainWhat.User code channel bytes ls) waits says is h en e =
+    let w = user_what m.what code channel bytes ls ((parts m k says).what ∙ ap Some is) in
     let tests = and-both (pid_eq k.to p) (on_mask mask channel) (test_is (pid_eq k.to p && on_mask mask channel) (one.completes (plain_process x) base size code channel bytes ls) d e) in
     let o = first_failed (one.receive_refusals (plain_process x) size w.body.items (map plain_link w.links.items)) in
     let z = completes_unless o x (completing.receives x 0 m.id base code channel w.body.items w.links.items) in
@@ -142,20 +141,16 @@ completes_user v a p id x m k d mask base size code channel bytes ls waits says 
     status_plainly x 0 (Status.Waiting mask base size) (Some m) z k on comp says to
     in
     let same_k : one.completes_status x.pid (plain_process x) k (plain_status (Status.Waiting mask base size)) ≡ Some d =
-    (λ i. one.completes_what (h.pid i) (plain_process x) k mask base size (what_is i)) ∙ e
+    (λ i. one.completes_what (h.pid i) (plain_process x) k mask base size (is i)) ∙ e
     in
     let both : Some (plain_completed z.completed z.process) ≡ Some d = sym same ∙ same_k in
     let plain : plain_completed z.completed z.process ≡ d = cc in
-    let u_is : PlainWhat.User code channel w.body.items (map plain_link w.links.items) ≡ k.what = (λ i. PlainWhat.User code channel (w.bytes_are i) (w.links_are i)) ∙ sym what_is in
+    let u_is : PlainWhat.User code channel w.body.items (map plain_link w.links.items) ≡ k.what = (λ i. PlainWhat.User code channel (w.bytes_are i) (w.links_are i)) ∙ sym is in
     let links : EnclosedFrom a id 0 w.links.items = subst (λ (u : What). EnclosedFrom a id 0 (enclosed u)) w.is en in
     search (
       ap (λ (st : Status). completing.completion x 0 st (Some m)) waits ∙ comp,
       subst (λ (u : PlainWhat). CompletedKept v a p id x u d z.process) u_is (unless_kept v a p id m.id x base code channel w.body.items w.links.items o d h links plain),
     )
-
-completes_what_of : (v : View) (a : Addresses) (p : Pid) (id : MsgId) (x : Process) (m : Message) (k : PlainMessage) (d : one.Completed) (mask base size : ℕ) (u : PlainWhat) → x.status ≡ Status.Waiting mask base size
-    → plain_message m ≡ Some k → k.what ≡ u → MirrorsProcess v a p x → EnclosedFrom a id 0 (enclosed m.what) → one.completes_what p (plain_process x) k mask base size u ≡ Some d → Completes v a p id x m k.what d
-completes_what_of v a p id x m k d mask base size (PlainWhat.User code channel bytes ls) waits says is h en e = completes_user v a p id x m k d mask base size code channel bytes ls waits says is h en e
 completes_what_of v a p id x m k d mask base size u waits says is h en e = cc
 
 completes_status_of : (v : View) (a : Addresses) (p : Pid) (id : MsgId) (x : Process) (m : Message) (k : PlainMessage) (d : one.Completed) (st : Status) → x.status ≡ st → plain_message m ≡ Some k → MirrorsProcess v a p x → EnclosedFrom a id 0 (enclosed m.what)
@@ -194,14 +189,6 @@ completing_of s v a l p id d h is =
       ap (λ (o : Option Process). bind o (λ (y : Process). bind (l.bag id) (λ (n : Message). completion y 0 y.status (Some n)))) stands ∙ ap (λ (o : Option Message). bind o (λ (n : Message). completion x 0 x.status (Some n))) found ∙ c.completion,
     )
 
-received_is : (c : Completed) (y : Process) (z : PlainProcess) → plain_completed c y ≡ one.Receives z → plain_process y ≡ z
-received_is (Completed.Received i) y z e = cc
-received_is (Completed.Refused r) y z e = cc
-
-refused_is : (c : Completed) (y : Process) (r : Reply) (z : PlainProcess) → plain_completed c y ≡ one.Refuses r z → plain_process y ≡ z
-refused_is (Completed.Received i) y r z e = cc
-refused_is (Completed.Refused q) y r z e = cc
-
 -- receive
 receive_row : (s t : OneKernel) (v : View) (a : Addresses) (l : Placed) (p : Pid) (id : MsgId) (d : one.Completed) → CompletingOf s v a l p id d → kernel.receives s p id d ≡ Some t → Mirrors s v a l
     → Follows t v (given a (gives s v a (Label.Receive p id))) (bind (placed.completed l p id) (λ (e : Completion). Some (with_process (without_message l id) p (Some e.process))))
@@ -215,7 +202,8 @@ receive_row s t v a l p id (one.Receives z) w f h =
       on,
       ap (λ (q : Option Completion). bind q (λ (e : Completion). Some (with_process (without_message l id) p (Some e.process)))) w.completed,
       mirrors_as (kernel.goes_on (service.without_message s id) p (plain_process y)) t v (given a gs) (given a (gives s v a (Label.Receive p id))) on on
-          (ap (kernel.goes_on (service.without_message s id) p) (received_is w.e.completed y z w.plain) ∙ eq) (ap (given a) gs_is) refl
+          (ap (kernel.goes_on (service.without_message s id) p) ((elim w.e.completed as (λ c. plain_completed c y ≡ one.Receives z → plain_process y ≡ z)
+              [ Completed.Received i ↦ λ e_. cc | Completed.Refused r ↦ λ e_. cc ]) w.plain) ∙ eq) (ap (given a) gs_is) refl
           (record {
             plain = kernel_process (service.without_message s id) (without_message l id) p (Alive (plain_process y)) (Some y) refl (kernel_out s l id h.plain);
             places = places_process v a (given a gs) (without_message l id) p (Some y) (places_out v a l id h.places) o.others (this_process v (given a gs) p y w.kept.process) o.messages o.servers;
@@ -239,7 +227,8 @@ refuse_row s t v a l p id r (one.Refuses c z) w f h =
     let on = with_process l p (Some y) in (
       on,
       ap (λ (q : Option Completion). bind q (λ (e : Completion). Some (with_process l p (Some e.process)))) w.completed,
-      subst (λ (u : OneKernel). Mirrors u v a on) (ap (kernel.goes_on s p) (refused_is w.e.completed y c z w.plain) ∙ k.1) (goes_mirrors s v a l p y h w.kept),
+      subst (λ (u : OneKernel). Mirrors u v a on) (ap (kernel.goes_on s p) ((elim w.e.completed as (λ c_. plain_completed c_ y ≡ one.Refuses c z → plain_process y ≡ z)
+          [ Completed.Received i ↦ λ e_. cc | Completed.Refused q ↦ λ e_. cc ]) w.plain) ∙ k.1) (goes_mirrors s v a l p y h w.kept),
     )
 
 pub refuse_follows : (s t : OneKernel) (v : View) (a : Addresses) (l : Placed) (p : Pid) (id : MsgId) (r : Reply) → kernel.step s (Label.Refuse p id r) ≡ Some t → Mirrors s v a l

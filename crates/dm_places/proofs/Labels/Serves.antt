@@ -37,10 +37,6 @@ LandingKept v a p d = LandedKept v a p d.landed d.process
 done_kept : (v : View) (a : Addresses) (p : Pid) (x : Process) (c : Reply) → MirrorsProcess v a p x → LandingKept v a p (landing.done c x)
 done_kept v a p x c h = record { pid = h.pid; moves = h.moves; slots = h.slots; owner = λ q e. absurd (let f : None ≡ Some q = e in cc) }
 
-if_kept : (v : View) (a : Addresses) (p : Pid) (b : Bool) (c d : Landing) → LandingKept v a p c → LandingKept v a p d → LandingKept v a p (if b then c else d)
-if_kept v a p true c d h k = h
-if_kept v a p false c d h k = k
-
 asks_kept : (v : View) (a : Addresses) (p : Pid) (x : Process) (dir : Direction) (owner : Addr) (base own left : ℕ) → MirrorsProcess v a p x → a (Owner p) ≡ place_of owner
     → LandingKept v a p (landing.asks v.acting x (record { dir = dir; owner = owner; base = base; own = own; left = left }))
 asks_kept v a p x Direction.FromArea owner base own left h at =
@@ -51,7 +47,8 @@ asks_kept v a p x Direction.IntoArea owner base own left h at =
 goes_on_kept : (v : View) (a : Addresses) (p : Pid) (x : Process) (r : Rest) → MirrorsProcess v a p x → a (Owner p) ≡ place_of r.owner → LandingKept v a p (landing.goes_on v.acting x r)
 goes_on_kept v a p x r h at =
     let b = landing.behind r in
-    if_kept v a p (r.left - piece_of r.left == 0) (landing.done Reply.Done x) (landing.asks v.acting x b) (done_kept v a p x Reply.Done h) (asks_kept v a p x b.dir b.owner b.base b.own b.left h at)
+    (elim (r.left - piece_of r.left == 0) as (λ b_. LandingKept v a p (if b_ then (landing.done Reply.Done x) else (landing.asks v.acting x b)))
+        [ true ↦ (done_kept v a p x Reply.Done h) | false ↦ (asks_kept v a p x b.dir b.owner b.base b.own b.left h at) ])
 
 record Lands (v : View) (a : Addresses) (p : Pid) (x : Process) (o : Option Landing) (c : pieces.Landed) : Type 0 where
   d : Landing
