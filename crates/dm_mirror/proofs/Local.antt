@@ -133,22 +133,6 @@ delivers_same b w u a c k s (Some bytes) here_is there_is is node happens =
       exact = λ long. acted_exact x y e c d from (marked_long c e w u long) ∙ ap (λ (z : Said). z.lines) (sym p.said);
     }
 
-turn_same : KernelStays → (b : Boot) (w u : WorldState) (m : ℕ) (s : Said) → here (w.nodes m) ≡ m → u.nodes m ≡ w.nodes m → world_step b w (Step.Turn m) ≡ Some (Says s) → DoesSame b w u (Step.Turn m) s
-turn_same stays b w u m s is node happens =
-    let e = Step.Turn m in
-    let t = turn_is stays b w m s is happens in
-    let d = t.acted_ in
-    record {
-      said = acted u e m d;
-      happens = ap (turned u e m) (ap (machine.turn b) node ∙ t.is);
-      node = acted_node u e m d ∙ sym (ap (λ (z : Said). z.state.nodes m) t.said ∙ acted_node w e m d);
-      more = λ n. packets_to n d.outs;
-      puts = subst (λ (z : Said). PutsFrom m (λ n. packets_to n d.outs) w z.state) (sym t.said) (acted_puts w e m d t.from);
-      puts_there = acted_puts u e m d t.from;
-      lines = acted_unnumbered w u e m d ∙ ap (λ (z : Said). map unnumbered z.lines) (sym t.said);
-      exact = λ long. acted_exact w u e m d t.from long ∙ ap (λ (z : Said). z.lines) (sym t.said);
-    }
-
 tick_same : (b : Boot) (w u : WorldState) (m : ℕ) (s : Said) → here (w.nodes m) ≡ m → u.nodes m ≡ w.nodes m → world_step b w (Step.Tick m) ≡ Some (Says s) → DoesSame b w u (Step.Tick m) s
 tick_same b w u m s is node happens =
     let e = Step.Tick m in
@@ -183,7 +167,20 @@ migrate_same b w u p m s is node happens =
     }
 
 pub reads_locally : KernelStays → ReadsLocally
-reads_locally stays b w u (Step.Turn m) s is node same happens = turn_same stays b w u m s is node happens
+reads_locally stays b w u (Step.Turn m) s is node same happens =
+    let e = Step.Turn m in
+    let t = turn_is stays b w m s is happens in
+    let d = t.acted_ in
+    record {
+      said = acted u e m d;
+      happens = ap (turned u e m) (ap (machine.turn b) node ∙ t.is);
+      node = acted_node u e m d ∙ sym (ap (λ (z : Said). z.state.nodes m) t.said ∙ acted_node w e m d);
+      more = λ n. packets_to n d.outs;
+      puts = subst (λ (z : Said). PutsFrom m (λ n. packets_to n d.outs) w z.state) (sym t.said) (acted_puts w e m d t.from);
+      puts_there = acted_puts u e m d t.from;
+      lines = acted_unnumbered w u e m d ∙ ap (λ (z : Said). map unnumbered z.lines) (sym t.said);
+      exact = λ long. acted_exact w u e m d t.from long ∙ ap (λ (z : Said). z.lines) (sym t.said);
+    }
 reads_locally stays b w u (Step.Tick m) s is node same happens = tick_same b w u m s is node happens
 reads_locally stays b w u (Step.Deliver a c k) s is node same happens = delivers_same b w u a c k s (bytes_at (w.wires a c) k) refl same is node happens
 reads_locally stays b w u (Step.Migrate p m) s is node same happens = migrate_same b w u p m s is node happens

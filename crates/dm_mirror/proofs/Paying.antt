@@ -227,7 +227,7 @@ each_pending P (x ∷ xs) k r h e = by (x.n == k) (each_pending P xs k r h.1) e
     by false more f = more f
 
 creates_kind : (k : PendingKind) → kind_eq PendingKind.Create k ≡ true → k ≡ PendingKind.Create
-creates_kind z0 e = grind (arith, nat_tests)
+creates_kind k e = grind (arith, nat_tests)
 
 has_answer : (b : Boot) (pt : Point) (i : MsgId) (msg : PlainMessage) → Run b pt → pt.kernel.bag i ≡ Some msg → HasAnswer pt.kernel.manager msg.id.n msg.what
 has_answer b pt i msg run there child r is found =

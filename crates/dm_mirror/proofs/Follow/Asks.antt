@@ -111,33 +111,6 @@ move_may b pt l records all k c p to child found =
       carried = λ e q f. absurd (false≢true e);
     }
 
-asked_child : (b : Boot) (pt : Point) (l : Placed) (records : AllRecords) (k : KernelState) (c : Asks b pt l records k) (p : Pid) (to : ℕ) (child : Addr) → child_named p l.manager.children ≡ Some child → asks_move k p to ≡ Some (record { state = with_sent k; parts = Part.Routes (move_of k child to) ∷ [] })
-    → migrates pt p ≡ migrates_child pt.addresses p (child_number pt.kernel p) → Turns b 0 (Step.Migrate p to) (asks_move k p to) pt (asked_point pt p to) l records k
-asked_child b pt l records k c p to child found turn is =
-    let (n, number, place) = child_place pt.kernel pt.view pt.addresses l p child c.mirrors found in
-    let who : p ≡ child.pid = sym (named_is l.manager.children p child found) in
-    record {
-      state = with_sent k;
-      says = [];
-      routes = Own (move_of k child to) ∷ [];
-      late = Nothing;
-      turn = turn;
-      outcome = ap Some (is ∙ ap (migrates_child pt.addresses p) number ∙ (λ i. rule.Owns MessageKind.Migrate (who i) (place i).at ∷ []));
-      next = asked_point pt p to;
-      after = refl;
-      placed = l;
-      mirrors = mirrors_view pt.kernel pt.view (asked_point pt p to).view pt.addresses l refl c.mirrors;
-      kernel = sent_asked b (asked_point pt p to) l k (kernel_asked b pt l records k c p to);
-      sent = λ e. (let f : k.sent + 1 ≡ pt.view.count 0 + ((1 + 0) + 0) = omega (arith, e) in f);
-      elsewhere = search;
-      may = (move_may b pt l records (at_machine records 0 (with_sent k).records) k c p to child found, tt);
-      late_may = tt;
-      single = omega arith;
-      topic = tt;
-      own = own_asked b pt l records k c p to;
-      tokens = tokens_asked b pt l records k c p to;
-    }
-
 -- a server doesn't move, nor does what is no child
 asked_server : (b : Boot) (pt : Point) (l : Placed) (records : AllRecords) (k : KernelState) (c : Asks b pt l records k) (p : Pid) (to : ℕ) → (pid_eq p switchboard || pid_eq p manager) ≡ true → asks_move k p to ≡ told_to_move k p (moves_child l.manager.children p to (machine.own_id k))
     → Turns b 0 (Step.Migrate p to) (asks_move k p to) pt (asked_point pt p to) l records k
@@ -156,7 +129,29 @@ asked_other b pt l records k c p to None found turn is =
     asked_line b pt l records k c p to (Line.NoChild p) (turn ∙ ap (λ (o : Option Addr). told_to_move k p (tells_to_move (machine.own_id k) to o)) found)
     (is ∙ ap (migrates_child pt.addresses p) (no_child pt.kernel pt.view pt.addresses l p c.mirrors found)) refl
 asked_other b pt l records k c p to (Some child) found turn is =
-    asked_child b pt l records k c p to child found (turn ∙ ap (λ (o : Option Addr). told_to_move k p (tells_to_move (machine.own_id k) to o)) found) is
+    let (n, number, place) = child_place pt.kernel pt.view pt.addresses l p child c.mirrors found in
+    let who : p ≡ child.pid = sym (named_is l.manager.children p child found) in
+    record {
+      state = with_sent k;
+      says = [];
+      routes = Own (move_of k child to) ∷ [];
+      late = Nothing;
+      turn = turn ∙ ap (λ (o : Option Addr). told_to_move k p (tells_to_move (machine.own_id k) to o)) found;
+      outcome = ap Some (is ∙ ap (migrates_child pt.addresses p) number ∙ (λ i. rule.Owns MessageKind.Migrate (who i) (place i).at ∷ []));
+      next = asked_point pt p to;
+      after = refl;
+      placed = l;
+      mirrors = mirrors_view pt.kernel pt.view (asked_point pt p to).view pt.addresses l refl c.mirrors;
+      kernel = sent_asked b (asked_point pt p to) l k (kernel_asked b pt l records k c p to);
+      sent = λ e. (let f : k.sent + 1 ≡ pt.view.count 0 + ((1 + 0) + 0) = omega (arith, e) in f);
+      elsewhere = search;
+      may = (move_may b pt l records (at_machine records 0 (with_sent k).records) k c p to child found, tt);
+      late_may = tt;
+      single = omega arith;
+      topic = tt;
+      own = own_asked b pt l records k c p to;
+      tokens = tokens_asked b pt l records k c p to;
+    }
 
 pub asks_turn : (b : Boot) (pt : Point) (l : Placed) (records : AllRecords) (k : KernelState) (p : Pid) (to : ℕ) → Asks b pt l records k → Turns b 0 (Step.Migrate p to) (asks_move k p to) pt (moved pt (Line.Head (Step.Migrate p to)) pt.kernel) l records k
 asks_turn b pt l records k p to c =

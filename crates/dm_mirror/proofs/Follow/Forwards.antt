@@ -113,7 +113,7 @@ update_may b m pt l records all k y c at moves knows has =
 -- the message that goes on may be put
 on_may : (b : Boot) (m : ℕ) (pt : Point) (l : Placed) (records all : AllRecords) (k : KernelState) (y : Message) (c : Fronts b m pt l records k y) (at moves : ℕ) → IsProcess y.to.pid
     → MayPut (handled_point pt m y.id pt.view.held (About.Place y.to.pid at moves) (forwarded pt m y at).addresses) (with_message l y.id (Some (sent_on at moves y))) all (On (sent_on at moves y))
-on_may b m pt l records all k y c at moves is = search (id_eq-same, front_still, l.bag, y.id, c.told, c.told_is, c.kind, c.receiver)
+on_may b m pt l records all k y c at moves is = search (id_eq-same, front_still, y.id, c.told_is, c.kind, c.receiver)
 
 all_may : (b : Boot) (m : ℕ) (pt : Point) (l : Placed) (records all : AllRecords) (k : KernelState) (y : Message) (c : Fronts b m pt l records k y) (at moves : ℕ) (back : Bool) → IsProcess y.to.pid → pt.view.known m y.to.pid ≡ Forward at moves → is_told_back (kind_of y.what) ≡ back
     → AllMayPut (handled_point pt m y.id pt.view.held (About.Place y.to.pid at moves) (forwarded pt m y at).addresses) (with_message l y.id (Some (sent_on at moves y))) all (routes_of y (machine.own_id k) k.here at moves back)

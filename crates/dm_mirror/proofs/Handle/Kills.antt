@@ -130,7 +130,7 @@ drops_are bag [] [] names h = refl
 drops_are bag (j ∷ js) (z ∷ zs) names h =
     let first : bag j ≡ Some z = cc in
     let rest : map bag js ≡ map Some zs = cc in
-    λ i. state.says (Label.Dropped ((names j z first) i)) ∷ (drops_are bag js zs names rest) i
+    λ i. state.says (Label.Dropped (names j z first i)) ∷ drops_are bag js zs names rest i
 drops_are bag [] (z ∷ zs) names h = cc
 drops_are bag (j ∷ js) [] names h = cc
 

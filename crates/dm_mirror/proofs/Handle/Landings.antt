@@ -35,7 +35,7 @@ if_same x true c d h k = h
 if_same x false c d h k = k
 
 goes_same : (here : ℕ) (x : Process) (r : Rest) → Same x (landing.goes_on here x r)
-goes_same here x r = search (if_same, r.left)
+goes_same here x r = search if_same
 
 goes_lands : (here : ℕ) (p : Pid) (x y : Process) (o : Option Landing) (r : Rest) (c : pieces.Landed) → o ≡ Some (landing.goes_on here y r) → y.pid ≡ p → y.queue ≡ x.queue → length y.memory ≡ length x.memory
     → pieces.move_goes_on p (plain_process y) r.dir r.owner.pid r.base r.own r.left (piece_of r.left) ≡ c → Lands p x o c

@@ -85,7 +85,7 @@ plain_if false t u h k = k
 
 controls_plain : (here : ℕ) (g : Managing) (o : Option Addr) (body : List ℕ) (ls : List Link) → IsPlain (manage.controls here g o body ls).message
 controls_plain here g (Some child) (operation ∷ []) ls = control_plain here g child (manage.control_of operation) ls (control_of_plain operation)
-controls_plain here g (Some child) (operation ∷ machine ∷ []) ls = search (bad_plain, plain_if, plain_one, g.machines, g.sent)
+controls_plain here g (Some child) (operation ∷ machine ∷ []) ls = search (bad_plain, plain_if, plain_one)
 controls_plain here g None body ls = bad_plain here g ls
 controls_plain here g (Some child) _ ls = bad_plain here g ls
 
@@ -189,8 +189,9 @@ took_row b m pt l k y w c h =
       );
     })
 
-user_row : (b : Boot) (m : ℕ) (pt : Point) (l : Placed) (k : KernelState) (y : Message) (code channel : ℕ) (bytes : List ℕ) (ls : List PlainLink) → Taking b m pt l k y (PlainWhat.User code channel bytes ls) → (y.to.pid.num == 0) ≡ false → pid_eq y.to.pid switchboard ≡ true → Row b m pt l k
-user_row b m pt l k y code channel bytes ls c num is =
+pub board_row : (b : Boot) (m : ℕ) (pt : Point) (l : Placed) (k : KernelState) (y : Message) (w : PlainWhat) (ps : List Part) → Taking b m pt l k y w → (y.to.pid.num == 0) ≡ false → pid_eq y.to.pid switchboard ≡ true
+    → rule.board_took y.id (boards.board_takes pt.kernel.switchboard (plainly y w) w) ≡ Some ps → Row b m pt l k
+board_row b m pt l k y (PlainWhat.User code channel bytes ls) ps c num is goes =
     let s = pt.kernel in
     let w = PlainWhat.User code channel bytes ls in
     let x = plainly y w in
@@ -232,10 +233,6 @@ user_row b m pt l k y code channel bytes ls c num is =
           let sends = subst (λ (o : Option PlainMessage). ServerSends switchboard s.switchboard.sent o kk.switchboard.sent) e (board_takes_lem s.switchboard x w kk takes).2 in
           ap (counts s) sends.0 ∙ (let z : nat_lt s.switchboard.sent s.switchboard.sent ≡ false = grind (arith, nat_tests) in z);
     })
-
-pub board_row : (b : Boot) (m : ℕ) (pt : Point) (l : Placed) (k : KernelState) (y : Message) (w : PlainWhat) (ps : List Part) → Taking b m pt l k y w → (y.to.pid.num == 0) ≡ false → pid_eq y.to.pid switchboard ≡ true
-    → rule.board_took y.id (boards.board_takes pt.kernel.switchboard (plainly y w) w) ≡ Some ps → Row b m pt l k
-board_row b m pt l k y (PlainWhat.User code channel bytes ls) ps c num is goes = user_row b m pt l k y code channel bytes ls c num is
 board_row b m pt l k y w ps c num is goes = absurd (let f : None ≡ Some ps = goes in cc)
 
 manager_by : (b : Boot) (m : ℕ) (pt : Point) (l : Placed) (k : KernelState) (y : Message) (w : PlainWhat) (t : manage.Taken) → Taking b m pt l k y w → (y.to.pid.num == 0) ≡ false → pid_eq y.to.pid switchboard ≡ false → pid_eq y.to.pid manager ≡ true

@@ -151,7 +151,7 @@ queue_of_others m p q off = right_off (m == m) (pid_eq p q) off
 pub map_same : (f g : MsgId → Option Message) (ids : List MsgId) → ((i : MsgId) → 1 ≤ times i ids → g i ≡ f i) → map g ids ≡ map f ids
 map_same f g [] h = refl
 map_same f g (i ∷ is) h =
-    λ j. (h i (times_self i is)) j ∷ (map_same f g is (λ k least. h k (let m = times_more k i is in omega (arith, least, m)))) j
+    λ j. h i (times_self i is) j ∷ (map_same f g is (λ k least. h k (let m = times_more k i is in omega (arith, least, m)))) j
 
 pub messages_on : (f g : MsgId → Option Message) (ids : List MsgId) (ms : List Message) → ((i : MsgId) → 1 ≤ times i ids → g i ≡ f i) → AreMessages f ids ms → AreMessages g ids ms
 messages_on f g ids ms same h = map_same f g ids same ∙ h
@@ -381,7 +381,7 @@ pub placed_same : (t : Spot → Bool) (p : Pid) (v : View) (l : Placed) → Plac
 placed_same t p v l = record { process = λ q off. refl; notes = λ q. refl; bag = λ i s off least. refl; own = λ i x none there. there; own_back = λ i x none there. there; board = refl; manager = refl }
 
 pub placed_sets : (t : Spot → Bool) (p : Pid) (v : View) (l : Placed) (y : Option Process) → PlacedLeaves t p v l (with_process l p y)
-placed_sets t p v l y = search (off_if, l.processes)
+placed_sets t p v l y = search off_if
 
 pub placed_message : (t : Spot → Bool) (p : Pid) (v : View) (l : Placed) (id : MsgId) (x : Option Message) → NotOwn (l.bag id) → NotOwn x → ((i : MsgId) (s : Spot) → t s ≡ false → 1 ≤ standing v i s → id_eq id i ≡ false) → PlacedLeaves t p v l (with_message l id x)
 placed_message t p v l id x was is alone = record {

@@ -192,7 +192,7 @@ receives_acts b m pt l k p x mask base size w s lawful waits first =
 
 -- behind the head of the turn
 pub begun_stands : (b : Boot) (pt : Point) (l : Placed) (m : ℕ) (k : KernelState) → KernelStands b pt l m k → KernelStands b (begun pt m) l m k
-begun_stands b pt l m k h = search (taken_same, h.known, k.room, b.machines, h.room)
+begun_stands b pt l m k h = search (h.known, h.room)
 
 pub begun_mirrors : (pt : Point) (l : Placed) (m : ℕ) → Mirrors pt.kernel pt.view pt.addresses l → Mirrors (begun pt m).kernel (begun pt m).view (begun pt m).addresses l
 begun_mirrors pt l m h = mirrors_view pt.kernel pt.view (begun pt m).view pt.addresses l refl h
@@ -314,20 +314,17 @@ idle_acts b m pt l k p mirrors stands = record {
   records = λ q off. refl;
 }
 
-idle_round : (b : Boot) (m : ℕ) (pt : Point) (l : Placed) (k : KernelState) → Ready b m pt l k → Round b m pt l k None
-idle_round b m pt l k h = record {
-  p = pid_of m 0;
-  acts = idle_acts b m pt l k (pid_of m 0) h.mirrors h.stands;
-  elsewhere = search;
-  moving = λ q is. (refl, refl, refl);
-}
-
 -- a process that is here doesn't move
 here_apart : (v : View) (m : ℕ) (p q : Pid) → v.known m p ≡ view.Here → is_moving (v.known m q) ≡ true → pid_eq p q ≡ false
 here_apart v m p q here is = grind (arith, nat_tests, pid_eq-is)
 
 round_of : (b : Boot) (m : ℕ) (pt : Point) (l : Placed) (k : KernelState) (o : Option Pid) → turn.first_runnable k.records k.ring ≡ o → Ready b m pt l k → Round b m pt l k o
-round_of b m pt l k None first h = idle_round b m pt l k h
+round_of b m pt l k None first h = record {
+  p = pid_of m 0;
+  acts = idle_acts b m pt l k (pid_of m 0) h.mirrors h.stands;
+  elsewhere = search;
+  moving = λ q is. (refl, refl, refl);
+}
 round_of b m pt l k (Some p) first h =
     let c = chosen b m pt l k p h first in
     let s = c.served in

@@ -209,7 +209,7 @@ machine_drops l (i ∷ is) [] names are = cc
 machine_drops l (i ∷ is) (m ∷ ms) names are =
     let there : l.bag i ≡ Some m = cc in
     let rest : AreMessages l.bag is ms = cc in
-    λ j. machine.says (Label.Dropped ((names i m there) j)) ∷ (machine_drops l is ms names rest) j
+    λ j. machine.says (Label.Dropped (names i m there j)) ∷ machine_drops l is ms names rest j
 
 -- the messages stand at no other spot
 abbrev pub AreAlone : (Spot → Bool) → View → List MsgId → Type 0
