@@ -18,19 +18,8 @@ with_turned w m k = record w { nodes = at_machine w.nodes m (with_kernel (w.node
 pub turned_here : (w : WorldState) (m : ℕ) (k : KernelState) → (with_turned w m k).nodes m ≡ with_kernel (w.nodes m) k
 turned_here w m k = ap (λ (c : Bool). if c then with_kernel (w.nodes m) k else w.nodes m) (elim (eqb_tells m m) [ inl e ↦ e.0 | inr e ↦ absurd (e.1 refl) ])
 
-pub turned_there : (w : WorldState) (m n : ℕ) (k : KernelState) → m ≢ n → (with_turned w m k).nodes n ≡ w.nodes n
-turned_there w m n k h = ap (λ (c : Bool). if c then with_kernel (w.nodes m) k else w.nodes n) (apart_tells m n h)
-
--- the streams stay
-turned_senders : (w : WorldState) (m n c : ℕ) (k : KernelState) → ((with_turned w m k).nodes n).senders c ≡ (w.nodes n).senders c
-turned_senders w m n c k = grind (arith, nat_tests, eqb_tells)
-
--- what the machines know then
-records_if : (w : WorldState) (m n : ℕ) (k : KernelState) (t : Bool) → (if t then with_kernel (w.nodes m) k else w.nodes n).kernel.records ≡ (if t then k.records else (w.nodes n).kernel.records)
-records_if w m n k t = grind (arith, nat_tests)
-
 pub turned_records : (w : WorldState) (m : ℕ) (k : KernelState) (n : ℕ) → ((with_turned w m k).nodes n).kernel.records ≡ at_machine (λ (d : ℕ). (w.nodes d).kernel.records) m k.records n
-turned_records w m k n = records_if w m n k (m == n)
+turned_records w m k n = grind (arith, nat_tests)
 
 -- the machine that turns, and another one
 node_turns : (b : Boot) (m : ℕ) (pt next : Point) (l placed : Placed) (n : NodeState) (k : KernelState) → next.kernel.machines ≡ pt.kernel.machines → next.view.pair m m ≡ pt.view.pair m m
@@ -60,11 +49,13 @@ turned_stands b w pt next l placed h m k x within made e mirrors kernel lawful o
                 subst (λ (j : ℕ). NodeStands b next placed j (u.nodes j)) (sym same.1)
                 (subst (NodeStands b next placed m) (sym (turned_here w m k)) (node_turns b m pt next l placed (w.nodes m) k machines (e.pair m m) kernel lawful (x.nodes m within)))
             | inr apart ↦
-                subst (NodeStands b next placed i) (sym (turned_there w m i k (λ z. apart.1 (sym z))))
+                subst (NodeStands b next placed i)
+                (sym (ap (λ (c : Bool). if c then with_kernel (w.nodes m) k else w.nodes i) (apart_tells m i (λ z. apart.1 (sym z)))))
                 (node_stays b m i pt next l placed (w.nodes i) apart.1 (made i apart.1) e (x.nodes i (subst (λ (j : ℕ). i < j) machines below)))
           ];
       pairs = λ a c from to apart.
-          pair_stays b pt next l placed w u h a c (turned_senders w m a c k) (grind (arith, nat_tests, eqb_tells)) refl (e.pair a c) (λ i stands. e.bag i (Untaken a c) refl stands)
+          pair_stays b pt next l placed w u h a c (grind (arith, nat_tests, eqb_tells))
+          (grind (arith, nat_tests, eqb_tells)) refl (e.pair a c) (λ i stands. e.bag i (Untaken a c) refl stands)
           (x.pairs a c (subst (λ (j : ℕ). a < j) machines from) (subst (λ (j : ℕ). c < j) machines to) apart);
       counts = λ a c. subst (λ (p : Pair). length p.ids ≤ b.numbers) (sym (e.pair a c)) (x.counts a c);
       own = own;
@@ -124,16 +115,13 @@ pub record IsPlain (o : Option PlainMessage) (x : Message) : Type 0 where
   pub kind : plain_kind m.what ≡ kind_of x.what
   pub to : m.to ≡ x.to.pid
 
-meaning_is : (x : Message) (o : Option PlainWhat) (m : PlainMessage) → with_what x o ≡ Some m → (o ≡ Some m.what) × (m.to ≡ x.to.pid)
-meaning_is x o m e = grind (arith, nat_tests)
-
 pub some_plain : (o : Option PlainMessage) → is_some o ≡ true → (m : PlainMessage) × (o ≡ Some m)
 some_plain o e = grind (arith, nat_tests)
 
 pub plain_of : (pt : Point) (l : Placed) (x : Message) → Mirrors pt.kernel pt.view pt.addresses l → l.bag x.id ≡ Some x → is_some (plain_message x) ≡ true → IsPlain (pt.kernel.bag x.id) x
 plain_of pt l x mirrors there plain =
     let (m, is) = some_plain (plain_message x) plain in
-    let k = meaning_is x (plain_what x.what) m is in
+    let k : ((plain_what x.what) ≡ Some m.what) × (m.to ≡ x.to.pid) = grind (arith, nat_tests) in
     search (sym (mirrors.plain.bag x.id) ∙ ap (λ (o : Option Message). bind o plain_message) there ∙ is, subst (IsKindOfPlain x.what) k.0 (kind_plain x.what))
 
 -- the packet that goes with it

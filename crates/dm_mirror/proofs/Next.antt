@@ -189,9 +189,8 @@ unless_fits machines false o h = h
 pub next_fits : (machines : ℕ) (first : ℕ → ℕ → Option ℕ) (mail : ℕ → Bool) (quiet : Bool) (t : Todo) (n : Next) → IsTodo machines t → following machines first mail quiet t ≡ Some n → NextFits machines n
 next_fits machines first mail quiet t n h is =
     let here = in_pass mail t (next_delivery first t.pairs) in
-    let later = next_pass machines first mail quiet t.pass t.directives in
     subst (Fits machines) is
-    (or_fits machines (if is_over t.pass quiet then None else here) later
+    (or_fits machines (if is_over t.pass quiet then None else here) (next_pass machines first mail quiet t.pass t.directives)
     (unless_fits machines (is_over t.pass quiet) here (pass_fits machines mail t (next_delivery first t.pairs) h (delivery_fits machines first t.pairs h.pairs)))
     (later_fits machines first mail quiet t.pass t.directives h.directives))
 

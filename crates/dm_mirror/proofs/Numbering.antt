@@ -4,20 +4,13 @@ use Rattle.dm_mirror.proofs.Names.{cases_Bool, nat_tests, Pid, pid_of, pid_eq, P
 use Rattle.dm_mirror.proofs.Names.{life_at, started, started_at, pid_eq-is, both, get_some, ◌||◌, map, option_map, plain_link, IsValid, switchboard, manager, Alive, first_point, Known, known_at, is_server, servers_known}
 use Rattle.dm_laws.proofs.Names.{begun}
 
--- the processes of a list by name
-life_if : (b : Boot) (p : BootProcess) (c : Bool) (o : Option BootProcess) (x : Option Life) → x ≡ bind o (first_life b) → (if c then first_life b p else x) ≡ bind (if c then Some p else o) (first_life b)
-life_if b p c o x e = grind (arith, nat_tests)
-
 pub life_named : (b : Boot) (ps : List BootProcess) (q : Pid) → life_at b ps q ≡ bind (process_named q ps) (first_life b)
 life_named b [] q = refl
-life_named b (p ∷ ps) q = life_if b p (pid_eq p.pid q) (process_named q ps) (life_at b ps q) (life_named b ps q)
-
-started_if : (b : Boot) (p : BootProcess) (c : Bool) (o : Option BootProcess) (x : Option Process) → x ≡ bind o (started b) → (if c then started b p else x) ≡ bind (if c then Some p else o) (started b)
-started_if b p c o x e = grind (arith, nat_tests)
+life_named b (p ∷ ps) q = grind (arith, nat_tests, (life_named b ps q))
 
 pub started_named : (b : Boot) (ps : List BootProcess) (q : Pid) → started_at b ps q ≡ bind (process_named q ps) (started b)
 started_named b [] q = refl
-started_named b (p ∷ ps) q = started_if b p (pid_eq p.pid q) (process_named q ps) (started_at b ps q) (started_named b ps q)
+started_named b (p ∷ ps) q = grind (arith, nat_tests, (started_named b ps q))
 
 -- a process of a list after some others of the file
 pub record Listed (b : Boot) (earlier : List BootProcess) (p : BootProcess) (ps : List BootProcess) : Type 0 where
@@ -53,16 +46,12 @@ starting-last m (q ∷ qs) p = let h = starting-last m qs p in omega (arith, h)
 pub number_of : (b : Boot) (earlier : List BootProcess) (p : BootProcess) (ps : List BootProcess) (q : Pid) → Listed b earlier p ps → p.pid ≡ q → q.num ≡ 3 + starting_at q.home earlier
 number_of b earlier p ps q k is = sym (ap (λ (v : Pid). v.num) is) ∙ k.number ∙ ap (λ (v : Pid). 3 + starting_at v.home earlier) is
 
--- a number below those that are left is none of theirs
-apart_by : (b : Boot) (earlier : List BootProcess) (p : BootProcess) (ps : List BootProcess) (q : Pid) (c : Bool) → pid_eq p.pid q ≡ c → Listed b earlier p ps → q.num < 3 + starting_at q.home earlier → pid_eq p.pid q ≡ false
-apart_by b earlier p ps q c e k low = grind (arith, nat_tests, number_of, pid_eq-is)
-
 pub none_below : (b : Boot) (earlier ps : List BootProcess) (q : Pid) → processes_are_valid b earlier ps ≡ true → q.num < 3 + starting_at q.home earlier → process_named q ps ≡ None
 none_below b earlier [] q h low = refl
 none_below b earlier (p ∷ ps) q h low =
     let k = listed b earlier p ps h in
     let more = starting-last q.home earlier p in
-    let apart = apart_by b earlier p ps q (pid_eq p.pid q) refl k low in
+    let apart : pid_eq p.pid q ≡ false = grind (arith, nat_tests, number_of, pid_eq-is) in
     ap (λ (c : Bool). if c then Some p else process_named q ps) apart ∙ none_below b (earlier ++ p ∷ []) ps q k.rest (omega (arith, low, more))
 
 -- the first of a list isn't named again
@@ -86,9 +75,8 @@ named_if b earlier p ps q x true e k is rest =
     let n = number_of b earlier p ps q k name in
     let home : p.pid.home ≡ q.home = ap (λ (v : Pid). v.home) name in
     let one : one_if (p.pid.home == q.home) ≡ 1 = (let e : (p.pid.home == q.home) ≡ true = grind (arith, nat_tests) in ap one_if e) in
-    let within = k.home in
     subst (Named b earlier (p ∷ ps) q) same
-    (record { is = name; home = omega (arith, home, within); least = omega (arith, n); most = omega (arith, n, one); image = k.image; there = k.there })
+    (record { is = name; home = omega (arith, home, k.home); least = omega (arith, n); most = omega (arith, n, one); image = k.image; there = k.there })
 named_if b earlier p ps q x false e k is rest =
     let r = rest is in
     let more = starting-last q.home earlier p in
@@ -108,9 +96,8 @@ named_all b earlier (p ∷ ps) home n h least most = elim (cases_Bool (pid_eq p.
   | inl same ↦ ap (λ (c : Bool). is_some (if c then Some p else process_named (pid_of home (3 + n)) ps)) same
   | inr apart ↦
       let k = listed b earlier p ps h in
-      let more = starting-last home earlier p in
       ap (λ (c : Bool). is_some (if c then Some p else process_named (pid_of home (3 + n)) ps)) apart
-      ∙ named_all b (earlier ++ p ∷ []) ps home n k.rest (grind (arith, nat_tests, starting-last)) (omega (arith, most, more))
+      ∙ named_all b (earlier ++ p ∷ []) ps home n k.rest (grind (arith, nat_tests, starting-last)) (omega (arith, most, starting-last home earlier p))
 ]
 
 -- What machines know at the start: the home of each process of the boot file has it, and nobody else knows anything of it.

@@ -8,7 +8,7 @@ use Rattle.dm_node.specs.declared.out.Out.TheVariants.{Says}
 use Rattle.dm_node.specs.Wired.{packet_line}
 use Rattle.dm_stream.specs.Packets as stream
 use Rattle.dm_wire.specs.Sent as wire
-use Rattle.dm_mirror.proofs.Streams.{Joined, pair_stands, pair_stays, with_back, with_bytes, with_line, apart_is, at_here, at_other, mirrors_same, node_same, nodes_are, pair_here, pair_other, pairs_are, swapped, tokens_same}
+use Rattle.dm_mirror.proofs.Streams.{Joined, pair_stands, pair_stays, with_back, with_bytes, with_line, apart_is, at_here, at_other, mirrors_same, node_same, nodes_are, pair_here, pair_other, pairs_are, tokens_same}
 use Rattle.dm_mirror.proofs.Kernel.Sets.{left_off as both_false}
 
 -- the parts of a group, one after the other
@@ -54,17 +54,11 @@ pub record Senders (w : WorldState) (m c : ℕ) (nodes : ℕ → NodeState) (s :
 pub same_senders : (w : WorldState) (m c : ℕ) → Senders w m c w.nodes ((w.nodes m).senders c)
 same_senders w m c = record { here = refl; others = λ a d e. refl; receivers = λ a d. refl }
 
-sender_if : (f : ℕ → NodeState) (m c : ℕ) (n : NodeState) (s : Sending Message) (a d : ℕ) (t u : Bool) → (m == a) ≡ t → (c == d) ≡ u → n.senders ≡ at_machine (f m).senders c s → (t && u) ≡ false → (if t then n else f a).senders d ≡ (f a).senders d
-sender_if f m c n s a d t u e g is off = grind (arith, nat_tests, at_other, eqb-true)
-
-receiver_if : (f : ℕ → NodeState) (m : ℕ) (n : NodeState) (a d : ℕ) (t : Bool) → (m == d) ≡ t → n.receivers ≡ (f m).receivers → (if t then n else f d).receivers a ≡ (f d).receivers a
-receiver_if f m n a d t e is = grind (arith, nat_tests, eqb-true)
-
 pub one_sender : (w : WorldState) (m c : ℕ) (n : NodeState) (s : Sending Message) → n.senders ≡ at_machine (w.nodes m).senders c s → n.receivers ≡ (w.nodes m).receivers → Senders w m c (at_machine w.nodes m n) s
 one_sender w m c n s is same = record {
   here = (λ i. (at_here w.nodes m n i).senders c) ∙ (λ i. is i c) ∙ at_here (w.nodes m).senders c s;
-  others = λ a d e. sender_if w.nodes m c n s a d (m == a) (c == d) refl refl is e;
-  receivers = λ a d. receiver_if w.nodes m n a d (m == d) refl same;
+  others = λ a d e. grind (arith, nat_tests, at_other, eqb-true);
+  receivers = λ a d. grind (arith, nat_tests, eqb-true);
 }
 
 -- the packets, the world and the point with one more packet
@@ -110,7 +104,7 @@ pairs_put b pt l w h m c nodes s ld apart senders there back =
       receiver = senders.receivers a d;
       given = refl;
       out = pair_other h.packets m c _ a d e;
-      back = pair_other h.packets m c _ d a (swapped (c == a) (m == d) f);
+      back = pair_other h.packets m c _ d a (grind (arith, nat_tests));
       wire = wire_other w.wires m c ld a d e;
       pair = pair_other pt.view.pair m c _ a d e;
     })

@@ -5,20 +5,12 @@ use Rattle.dm_mirror.proofs.Names.{Stands, StandsWith}
 use Rattle.dm_world.specs.Next as world
 use Rattle.dm_mirror.proofs.Machines.{machines_are}
 
--- as many messages as names
-as_many : {B : Type 0} (bag : MsgId → B) (wrap : Message → B) (ids : List MsgId) (ms : List Message) → map bag ids ≡ map wrap ms → length ms ≡ length ids
-as_many bag wrap ids ms e = sym (length-map ms wrap) ∙ sym (ap length e) ∙ length-map ids bag
-
 pub mail_same : (b : Boot) (w : WorldState) (pt : Point) (l : Placed) (h : History) (m : ℕ) → m < pt.kernel.machines → StandsWith b w pt l h → world.world_has_mail w m ≡ has_mail pt.view m
-mail_same b w pt l h m small s = ap (nat_lt 0) (as_many l.bag Some (pt.view.inbox m) (w.nodes m).kernel.inbox (s.nodes m small).kernel.inbox)
-
--- a machine's pair with itself is always quiet
-home_quiet : (p : Pair) → HomeStands p → pair_is_quiet true p ≡ true
-home_quiet p h = let e = h.taken in let f : (p.taken == length p.ids) ≡ true = grind (arith, nat_tests) in ap (λ (t : Bool). t && true) f
+mail_same b w pt l h m small s = grind (arith, nat_tests, length-map)
 
 heard_same : (b : Boot) (w : WorldState) (pt : Point) (l : Placed) (h : History) (a c : ℕ) (same : Bool) → (a == c) ≡ same → (same ≡ true → HomeStands (pt.view.pair a c)) → (same ≡ false → PairStands b pt l w h a c)
     → (same || (length ((w.nodes a).senders c).unacked == 0)) ≡ pair_is_quiet same (pt.view.pair a c)
-heard_same b w pt l h a c same e home apart = grind (arith, nat_tests, home_quiet, length-map)
+heard_same b w pt l h a c same e home apart = grind (arith, nat_tests, length-map)
 
 is_home : (v : ℕ → ℕ → Pair) (a c : ℕ) → (a == c) ≡ true → HomeStands (v a a) → HomeStands (v a c)
 is_home v a c e h = let same : a ≡ c = grind (arith, nat_tests) in subst (λ (k : ℕ). HomeStands (v a k)) same h
@@ -42,8 +34,7 @@ quiet_same b es w pt valid leads ((l, h, s), counts) =
 pub quiet_is_said : QuietIsSaid
 quiet_is_said b es w pt valid leads stands =
     let n = length b.machines in
-    let machines = machines_are b es pt leads in
-    let same = quiet_same b es w pt valid leads stands ∙ ap (λ (m : ℕ). is_quiet m pt.view) (sym machines) in
+    let same = quiet_same b es w pt valid leads stands ∙ ap (λ (m : ℕ). is_quiet m pt.view) (sym (machines_are b es pt leads)) in
     (λ e. passes_quiet pt.kernel.machines pt.view (sym same ∙ e), λ q. same ∙ quiet_passes pt.kernel.machines pt.view q)
 
 pub mail_is_said : MailIsSaid

@@ -273,16 +273,14 @@ abbrev pub SameIds : View → View → Type 0
 SameIds v w = (a c : ℕ) → (w.pair a c).ids ≡ (v.pair a c).ids
 
 put_alike : (v w : View) (a b : ℕ) (i : MsgId) (c d : ℕ) (t : Bool) → SameIds v w → (if t then routed_on a b (w.pair a b) i else w.pair c d).ids ≡ (if t then routed_on a b (v.pair a b) i else v.pair c d).ids
-put_alike v w a b i c d true h = ap (λ (ids : List MsgId). ids ++ i ∷ []) (h a b)
-put_alike v w a b i c d false h = h c d
+put_alike v w a b i c d t h = grind (arith, nat_tests)
 
 line_alike : (v w : View) (l : Line) → SameIds v w → SameIds (view_after v l) (view_after w l)
 line_alike v w (Line.Put a b i k q) h c d = put_alike v w a b i c d ((a == c) && (b == d)) h
 line_alike v w any_ h c d = line_ids w any_ refl c d ∙ h c d ∙ sym (line_ids v any_ refl c d)
 
 full_alike : (numbers : ℕ) (v w : View) (x : Act) → SameIds v w → full_route numbers w x ≡ full_route numbers v x
-full_alike numbers v w (act.Routes a b i k q) h = ap (λ (ids : List MsgId). if nat_le numbers (length ids) then Some (record { from = a; to = b }) else None) (h a b)
-full_alike numbers v w _ h = refl
+full_alike numbers v w x h = grind (arith, nat_tests, nat_le)
 
 pub worn_alike : (numbers : ℕ) (ls : List Line) (v w : View) → SameIds v w → worn_in numbers w ls ≡ worn_in numbers v ls
 worn_alike numbers [] v w h = refl

@@ -90,11 +90,8 @@ taken_within b bag a c s sent p j = omega (arith, j.stream.in_order.taken_gone, 
 -- a message is given
 untaken_then : (bag : MsgId → Option Message) (n : ℕ) (ids : List MsgId) (xs : List Message) (x : Message) → n ≤ length ids → n ≤ length xs → bag x.id ≡ Some x → AreMessages bag (drop n ids) (drop n xs) → AreMessages bag (drop n (ids ++ x.id ∷ [])) (drop n (xs ++ x ∷ []))
 untaken_then bag n ids xs x few less there e =
-    ap (map bag) (drop-append-le n ids (x.id ∷ []) few)
-    ∙ map-append bag (drop n ids) (x.id ∷ [])
-    ∙ (λ i. e i ++ there i ∷ [])
-    ∙ sym (map-append Some (drop n xs) (x ∷ []))
-    ∙ ap (map Some) (sym (drop-append-le n xs (x ∷ []) less))
+    ap (map bag) (drop-append-le n ids (x.id ∷ []) few) ∙ map-append bag (drop n ids) (x.id ∷ []) ∙ (λ i. e i ++ there i ∷ [])
+    ∙ sym (map-append Some (drop n xs) (x ∷ [])) ∙ ap (map Some) (sym (drop-append-le n xs (x ∷ []) less))
 
 pub is_given : (b : Boot) (bag : MsgId → Option Message) (a c : ℕ) (s : Stream Message) (sent : List wire.Sent) (p : Pair) (x : Message) → is_worn s.sender ≡ false → bag x.id ≡ Some x → IsLawfulMessage x → Joined b bag a c s sent p → Joined b bag a c (record s { sender = with_given s.sender x; given = s.given ++ x ∷ [] }) sent (record p { ids = p.ids ++ x.id ∷ [] })
 is_given b bag a c s sent p x fresh there lawful j = search (
@@ -169,9 +166,6 @@ module _ {X : Type 0} where
   pub pair_other : (f : ℕ → ℕ → X) (a c : ℕ) (x : X) (d e : ℕ) → ((a == d) && (c == e)) ≡ false → at_pair f a c x d e ≡ f d e
   pair_other f a c x d e is = ap (λ (t : Bool). if t then x else f d e) is
 
-pub swapped : (s t : Bool) → (s && t) ≡ false → (t && s) ≡ false
-swapped s t e = grind (arith, nat_tests)
-
 -- the point with this view, but for what machines know of processes, rings, queues and held messages
 abbrev pub with_view : Point → View → Point
 with_view pt v = record pt { view = record v { known = pt.view.known; ring = pt.view.ring; queue = pt.view.queue; held = pt.view.held; moves = pt.view.moves } }
@@ -237,6 +231,5 @@ pub tokens_same : (v u : View) (l : Placed) (r s : AllRecords) → ((i : MsgId) 
 tokens_same v u l r s told asked spots records h p i t z is between about st =
     let k = h p i t z (sym (told i) ∙ is) between about (subst (λ (n : ℕ). 1 ≤ n) (spots i z) st) in
     let d : ℕ = destination_of i t in
-    search
-    (subst (λ (n : ℕ). Carries p k.process (l.notes p) n (incoming_of (s d p)) k.message.what) (sym (asked p))
+    search (subst (λ (n : ℕ). Carries p k.process (l.notes p) n (incoming_of (s d p)) k.message.what) (sym (asked p))
     (subst (λ (f : Pid → Option machine.KernelKnown). Carries p k.process (l.notes p) (v.asked p) (incoming_of (f p)) k.message.what) (sym (records d)) k.carries))

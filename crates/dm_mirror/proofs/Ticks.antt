@@ -39,8 +39,7 @@ again_then b l w pt xs ys ps qs a c = record {
   lines = a.lines ++ c.lines;
   next = c.next;
   spells = λ rs v e.
-      ap (spelled pt) (append_assoc ps qs rs)
-      ∙ a.spells (qs ++ rs) (behind c.lines v) (c.spells rs v e)
+      ap (spelled pt) (append_assoc ps qs rs) ∙ a.spells (qs ++ rs) (behind c.lines v) (c.spells rs v e)
       ∙ ap (λ (ls : List Line). Some (record { lines = ls; point = v.point })) (sym (append_assoc a.lines c.lines v.lines));
   said = ap (λ s. s.lines) (spoken-append w.wires xs ys) ∙ (λ i. a.said i ++ c.said i);
   history = c.history;
@@ -78,8 +77,7 @@ numbers_next n (suc k) = ap (λ (ns : List ℕ). n ∷ ns) (numbers_next (n + 1)
 out_there : (s : Stream Message) (k : ℕ) → order.StreamStands s → suc k ≤ count_out s.sender → (x : Message) × (outstanding s.sender k ≡ Some (s.sender.acked + k, x))
 out_there s k st few =
     let long : length s.sender.unacked ≡ length s.given - s.sender.acked = ap length st.in_order.unacked ∙ length-drop s.sender.acked s.given in
-    let within : k < length s.sender.unacked = omega (arith, long, few, st.in_order.gone_given) in
-    let (x, is) = get_there s.sender.unacked k within in
+    let (x, is) = get_there s.sender.unacked k (omega (arith, long, few, st.in_order.gone_given)) in
     let test : nat_lt (s.sender.acked + k) s.sender.gone ≡ true = grind (arith, nat_tests, few) in (
       x,
       ap (λ (t : Bool). if t then numbered (s.sender.acked + k) (slice_get s.sender.unacked k) else None) test ∙ ap (numbered (s.sender.acked + k)) is,
@@ -138,10 +136,8 @@ counts_same : (b : Boot) (l : Placed) (w : WorldState) (m : ℕ) (pt : Point) (h
 counts_same b l w m pt h small st zero few = refl
 counts_same b l w m pt h small st (suc n) few =
     let rest = counts_same b l w m pt h small st n (omega (arith, few)) in
-    let is : here (w.nodes m) ≡ m = (st.nodes m small).kernel.here in
     let own : ℕ → ℕ = λ (z : ℕ). if z == n then 0 else count_out ((w.nodes m).senders n) in
-    let one : own (here (w.nodes m)) ≡ (if m == n then 0 else (pt.view.pair m n).gone - (pt.view.pair m n).acked) = ap own is ∙ count_if b l w m pt h n (m == n) refl small (omega (arith, few)) st in
-    λ i. rest i + one i
+    λ i. rest i + (ap own ((st.nodes m small).kernel.here) ∙ count_if b l w m pt h n (m == n) refl small (omega (arith, few)) st) i
 
 -- no machine counts more of its own messages
 tick_sent : (w : WorldState) (m d : ℕ) (f : ℕ → ℕ) {g : ℕ → ℕ} → f ≡ g → (w.nodes d).kernel.sent ≡ g d → (at_machine w.nodes m (w.nodes m) d).kernel.sent ≡ f d

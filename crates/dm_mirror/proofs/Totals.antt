@@ -21,9 +21,8 @@ grows_on u v w h k = record { ids = λ a c. omega (arith, h.ids a c, k.ids a c) 
 set_grows : (v w : View) (a b : ℕ) (p : Pair) → w.pair ≡ at_pair v.pair a b p → length (v.pair a b).ids ≤ length p.ids → Grows v w
 set_grows v w a b p e le = record {
   ids = λ c d.
-      let f : ids_of w c d ≡ length (at_pair v.pair a b p c d).ids = ap (λ (q : ℕ → ℕ → Pair). length (q c d).ids) e in
       let g : length (v.pair c d).ids ≤ length (at_pair v.pair a b p c d).ids = grind (arith, nat_tests, parts, eq_is) in
-      omega (arith, f, g);
+      omega (arith, ap (λ (q : ℕ → ℕ → Pair). length (q c d).ids) e, g);
 }
 
 head_grows : (v : View) (d : Step) → Grows v (view.after_head v d)
@@ -75,12 +74,8 @@ sum_more zero f g j le within more = absurd (omega (arith, within))
 sum_more (suc n) f g j le within more = elim (cases_Bool (j == n)) [
   | inl same ↦
       let here : f n + 1 ≤ g n = subst (λ m. f m + 1 ≤ g m) (eq_is j n same) more in
-      let h = sum_less n f g le in
-      omega (arith, h, here)
-  | inr apart ↦
-      let h = sum_more n f g j le (grind (arith, nat_tests)) more in
-      let k = le n in
-      omega (arith, h, k)
+      omega (arith, sum_less n f g le, here)
+  | inr apart ↦ omega (arith, sum_more n f g j le (grind (arith, nat_tests)) more, le n)
 ]
 
 sum_most : (n : ℕ) (f : ℕ → ℕ) → n ≤ 16 → ((i : ℕ) → f i ≤ 16777216) → sum_to n f ≤ n * 16777216

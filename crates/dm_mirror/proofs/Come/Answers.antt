@@ -56,8 +56,7 @@ pub can_come : (b : Boot) (m : ℕ) (pt : Point) (l : Placed) (records : AllReco
     → ((n : ℕ) → n < pt.kernel.machines → (z : KernelState) × KernelStands b pt l n z) → CanMove (record a.process { queue = [] })
 can_come b m pt l records k y p c a is nodes =
     let (to, frozen) = leaves_where b m pt l k y p a is in
-    let below : a.source < pt.kernel.machines = c.run.found.known_within a.source p (λ e. frozen_unknown to (sym frozen ∙ e)) in
-    let (z, stands) = nodes a.source below in
+    let (z, stands) = nodes a.source (c.run.found.known_within a.source p (λ e. frozen_unknown to (sym frozen ∙ e))) in
     can_by b pt l a.source to z p a.process frozen a.server stands a.there
 
 -- nothing of it is here
@@ -102,8 +101,7 @@ taken_then : (b : Boot) (m : ℕ) (pt : Point) (l : Placed) (records : AllRecord
     → RoomStands (with_reserved k.room (length a.process.memory / 256)) (room_of (slice_get b.machines m)) (taken_at (come_point pt (come_view pt.view m p box (at_record pt.view.known m p (Incoming from)) asked)) m pt.kernel.machines)
 taken_then b m pt l records k y p c a box from asked none =
     let v = pt.view in
-    let now = at_record v.known m p (Incoming from) in
-    let next = come_point pt (come_view v m p box now asked) in
+    let next = come_point pt (come_view v m p box (at_record v.known m p (Incoming from)) asked) in
     let changed = taken_changed pt next m p refl (λ h. refl) (c.made.home p a.is_made) (c.made.first p a.is_made) (c.made.below p a.is_made)
     (λ q apart. ap (λ (n : Known). takes_as n (rule.blocks_of (kernel.alive (pt.kernel.processes q)))) (record_off v.known m m p q (Incoming from) (pid_off p q apart))) in
     let before : taken_by pt m p ≡ record { slots = 0; blocks = 0 } = ap (λ (n : ℕ). record { slots = n; blocks = if n == 0 then 0 else rule.blocks_of (kernel.alive (pt.kernel.processes p)) }) none.room in
@@ -160,8 +158,7 @@ accepts_row b m pt l records k y p c a is handles some_ whole table =
       known = now;
       asked = asked;
       turn = turn_kernel b m pt l records k y p c a (accepts b s y p (length x.memory / 256) x.moves (length (state_of x)) (l.notes p) true) handles;
-      outcome = outcome_kernel b m pt l records k y p c a _
-          (ap (kernel_told pt m y.id p (fits r (length x.memory / 256)) (plain_process x)) is
+      outcome = outcome_kernel b m pt l records k y p c a _ (ap (kernel_told pt m y.id p (fits r (length x.memory / 256)) (plain_process x)) is
           ∙ ap (λ (d : Bool). Some (rule_moves.accepts y.id.from.home p d r.slots r.blocks)) some_);
       after = refl;
       is_box = first_gone y.id c.ids (v.inbox m) c.box;
@@ -206,11 +203,9 @@ turns_ask b m pt l records k y p q blocks moves size asker c e nodes tables =
     let carried = subst (λ (w : What). Carries p x (l.notes p) (pt.view.asked p) (incoming_of (k.records p)) w) e a.carries in
     let is : kind_of y.what ≡ MessageKind.Ask = ap kind_of e in
     let free = free_as k.room (slice_get b.machines m) (taken_at pt m pt.kernel.machines) c.stands.room in
-    let room : room_.has_room k.room (length x.memory / 256) ≡ rule.has_room r (length x.memory / 256) = room_as k.room r (length x.memory / 256) free in
-    ask_by b m pt l records k y p c a (rule.has_room r (length x.memory / 256)) is
-    (ap (kernel_handles b s y) (e ∙ carried)
+    ask_by b m pt l records k y p c a (rule.has_room r (length x.memory / 256)) is (ap (kernel_handles b s y) (e ∙ carried)
     ∙ ap (λ (z : Pid). accepts b s y z (length x.memory / 256) x.moves (length (state_of x)) (l.notes p) (room_.has_room k.room (length x.memory / 256))) a.named
-    ∙ ap (accepts b s y p (length x.memory / 256) x.moves (length (state_of x)) (l.notes p)) room)
+    ∙ ap (accepts b s y p (length x.memory / 256) x.moves (length (state_of x)) (l.notes p)) (room_as k.room r (length x.memory / 256) free))
     refl (can_come b m pt l records k y p c a is nodes) (tables x a.there)
 
 -- A turn that handles what the machine that a process leaves tells the machine that it comes to.

@@ -58,10 +58,7 @@ times_self i is = ap (λ (c : Bool). (if c then 1 else 0) + times i is) (id_eq-s
 
 -- an own message stands nowhere else
 once_of : (c : Bool) (f : Spot → ℕ) (z : Spot) → c ≡ true → 1 ≤ f z → StandsOutside c f → StandsOnce f
-once_of true f z e least h = elim h [
-  | inl n ↦ absurd (let g : f z ≡ 0 = n z in omega (arith, g, least))
-  | inr o ↦ o
-]
+once_of true f z e least h = elim h [ inl n ↦ absurd (let g : f z ≡ 0 = n z in omega (arith, g, least)) | inr o ↦ o ]
 once_of false f z e least h = absurd (false≢true e)
 
 pub own_once : (b : Boot) (pt : Point) (i : MsgId) (z : Spot) → Run b pt → pt.kernel.bag i ≡ None → is_kernels i ≡ true → 1 ≤ standing pt.view i z → StandsOnce (standing pt.view i)
@@ -135,18 +132,12 @@ arrives b m pt l records k y p c =
 
 -- How many pieces a process that moves has, by its bytes and by the rule, and which of them is asked for next.
 
--- the bytes of a status, of the links, and of what stands before them
-status_length : (size : ℕ) (s : Status) → length (spell_status size s) ≡ 1 + status_size (plain_status s)
-status_length size s = grind (arith, nat_tests)
-
-slot_length : (o : Option Link) → length (spell_slot o) ≡ link_size (option_map plain_link o)
-slot_length o = grind (arith, nat_tests)
-
 slots_length : (xs : List (Option Link)) → length (flat_map spell_slot xs) ≡ links_size (map (option_map plain_link) xs)
 slots_length [] = omega arith
 slots_length (x ∷ xs) =
     let one : length (flat_map spell_slot (x ∷ xs)) ≡ length (spell_slot x) + length (flat_map spell_slot xs) = ap length (flat_map-cons spell_slot x xs) ∙ length-append (spell_slot x) (flat_map spell_slot xs) in
-    omega (arith, one, slot_length x, slots_length xs)
+    let slot_length : length (spell_slot x) ≡ link_size (option_map plain_link x) = grind (arith, nat_tests) in
+    omega (arith, one, slot_length, slots_length xs)
 
 registers_length : (xs : List ℕ) → length xs ≡ 16 → length (registers.spell xs) ≡ 64
 unfolding registers
@@ -154,7 +145,7 @@ registers_length xs e = omega (arith, e, numbers_size xs)
 
 shell_length : (s : Shell) → length s.regs.r ≡ 16 → length (shell_spelling s) ≡ 102 + status_size (plain_status s.status) + links_size (map (option_map plain_link) s.table)
 unfolding shell_spelling
-shell_length s sixteen = grind (arith, nat_tests, flat_map, length-append, registers_length, status_length, slots_length)
+shell_length s sixteen = grind (arith, nat_tests, flat_map, length-append, registers_length, slots_length)
 
 pub chunks_same : (x : Process) → length x.regs.r ≡ 16 → chunks x ≡ chunks_of (plain_process x)
 chunks_same x sixteen = ap (λ (n : ℕ). (n + 511) / 512) (shell_length (shell_of x) sixteen)
@@ -180,12 +171,8 @@ chunk_next false x n k e asked there = (omega (arith, asked.0), there)
 pub asked_after_chunk : (x : Process) (n k : ℕ) → IsAsked x n (Chunk k) → HasPiece x (after_chunk k (is_last (state_of x) k)) → IsAsked x (n + 1) (after_chunk k (is_last (state_of x) k))
 asked_after_chunk x n k asked there = chunk_next (is_last (state_of x) k) x n k refl asked there
 
--- a block is the last where as many pieces were asked for as there are
-pub block_count : (more : Bool) (n j chunks blocks : ℕ) → nat_lt (j + 1) blocks ≡ more → n ≡ chunks + j + 1 → j < blocks → (n == chunks + blocks) ≡ not more
-block_count more n j chunks blocks e asked there = grind (arith, nat_tests, eq_is)
-
 pub block_last : (x : Process) (n j : ℕ) → length x.regs.r ≡ 16 → length x.memory ≡ 256 * (length x.memory / 256) → IsAsked x n (Block j) → (n == pieces_of (plain_process x)) ≡ not (nat_lt (j + 1) (length x.memory / 256))
-block_last x n j sixteen whole asked = grind (arith, nat_tests, chunks_same, block_count, nat_lt)
+block_last x n j sixteen whole asked = grind (arith, nat_tests, chunks_same, nat_lt)
 
 block_next : (more : Bool) (x : Process) (n j : ℕ) → IsAsked x n (Block j) → HasPiece x (if more then Block (j + 1) else Nothing) → IsAsked x (n + 1) (if more then Block (j + 1) else Nothing)
 block_next true x n j asked there = (omega (arith, asked.0), there)

@@ -72,24 +72,8 @@ told_about b m pt l records k y p c a = a.told ∙ ap (λ (x : About). Some (rec
 
 -- A piece comes of a process that comes, and the next is asked for, or all is said to have come.
 
--- what asks for a piece, or says that all has come
-pull_between : (p : Pid) (w : Wanted) → is_between (kind_of (pull p w)) ≡ true
-pull_between p w = grind (arith, nat_tests)
-
-pull_replies : (p : Pid) (w : Wanted) → is_of_source (kind_of (pull p w)) ≡ false
-pull_replies p w = grind (arith, nat_tests)
-
 pull_about : (p : Pid) (w : Wanted) → about_of (pull p w) ≡ Of p
 pull_about p w = grind (arith, nat_tests)
-
-pull_plain : (p : Pid) (w : Wanted) → plain_what (pull p w) ≡ None
-pull_plain p w = grind (arith, nat_tests)
-
-pull_encloses : (p : Pid) (w : Wanted) → enclosed (pull p w) ≡ []
-pull_encloses p w = grind (arith, nat_tests)
-
-pull_gives : (p : Pid) (w : Wanted) (s : OneKernel) (v : View) (a : Addresses) (i : MsgId) (q : Pid) → own_gives s v a i q (kind_of (pull p w)) ≡ goes_between v i q
-pull_gives p w s v a i q = grind (arith, nat_tests)
 
 pull_carries : (p : Pid) (x : Process) (k : Option Asker) (n : ℕ) (held : List Message) (w : Wanted) → x.pid ≡ p → IsAsked x n w → Carries p x k n (Some (coming x k held w)) (pull x.pid w)
 pull_carries p x k n held Nothing named asked = (named, refl)
@@ -136,9 +120,7 @@ turns_piece b m pt l records k y p c a h =
       known = pt.view.known;
       asked = h.asked;
       turn = turn_kernel b m pt l records k y p c a (Some (record { state = state; parts = part.Says h.line ∷ part.Routes (machine.own k y.sender (pull a.process.pid h.wanted)) ∷ [] }))
-          (h.takes
-          ∙ ap (λ (o : Option machine.KernelKnown). bind (incoming_of o) (takes_piece s y p)) h.is
-          ∙ ap (took_piece s y p) h.took
+          (h.takes ∙ ap (λ (o : Option machine.KernelKnown). bind (incoming_of o) (takes_piece s y p)) h.is ∙ ap (took_piece s y p) h.took
           ∙ ap (λ (x : Line). Some (record { state = state; parts = part.Says x ∷ part.Routes (machine.own k y.sender (pull a.process.pid h.wanted)) ∷ [] })) h.says);
       outcome = outcome_kernel b m pt l records k y p c a (Some (Part.Says h.line ∷ to_kernel (kind_of (pull a.process.pid h.wanted)) y.id.from.home ∷ [])) h.told;
       after = h.after;
@@ -158,12 +140,12 @@ turns_piece b m pt l records k y p c a h =
           subst (λ (n : Known). KnownStands next l p (pt.view.queue m p) (pt.view.held m p) n (state.records p)) (sym (known_incoming b m pt l k y p a h.late))
           (subst (KnownStands next l p (pt.view.queue m p) (pt.view.held m p) (Incoming a.source)) (sym (set_self k.records p (Record.Incoming now)))
           (record { process = a.process; there = a.there; whole = h.whole; pieces = refl; held = h.held.held }));
-      between = pull_between a.process.pid h.wanted;
-      is_reply = pull_replies a.process.pid h.wanted;
+      between = grind (arith, nat_tests);
+      is_reply = grind (arith, nat_tests);
       about = pull_about a.process.pid h.wanted ∙ ap Of a.named;
-      plain = pull_plain a.process.pid h.wanted;
-      encloses = pull_encloses a.process.pid h.wanted;
-      gives = λ v i q. pull_gives a.process.pid h.wanted pt.kernel v pt.addresses i q;
+      plain = grind (arith, nat_tests);
+      encloses = grind (arith, nat_tests);
+      gives = λ v i q. grind (arith, nat_tests);
       carries = subst (λ (o : Option machine.KernelKnown). Carries p a.process (l.notes p) (h.asked p) (incoming_of o) (pull a.process.pid h.wanted)) (sym (set_self k.records p (Record.Incoming now)))
           (pull_carries p a.process (l.notes p) (h.asked p) h.arrival.held h.wanted a.named h.is_asked);
     })
@@ -186,9 +168,6 @@ before b m pt l records k y p c a w late wants =
     let is_wanted : e.arrival.wanted ≡ w = subst (λ (o : Option machine.KernelKnown). Wants (incoming_of o) w) e.is wants in
     search (subst (λ (z : Process). CanMove (record z { queue = [] })) same h.whole, h.pieces ∙ (λ i. coming (same i) (l.notes p) e.arrival.held (is_wanted i)))
 
-asked_more : (f : Pid → ℕ) (p : Pid) (n : ℕ) → at_pid f p n p ≡ n
-asked_more f p n = ap (λ (d : Bool). if d then n else f p) (pid_eq-same p)
-
 asked_others : (f : Pid → ℕ) (p q : Pid) (n : ℕ) → pid_eq p q ≡ false → at_pid f p n q ≡ f q
 asked_others f p q n off = ap (λ (d : Bool). if d then n else f q) off
 
@@ -206,7 +185,7 @@ state_by b m pt l records k y p c a chunk h true is takes took asked test =
       after_state_taken pt m p,
       first_gone y.id c.ids (v.inbox m) c.box,
       asked_others,
-      subst (λ (n : ℕ). IsAsked a.process n (Block 0)) (sym (asked_more v.asked p (v.asked p + 1))) asked,
+      subst (λ (n : ℕ). IsAsked a.process n (Block 0)) (sym (ap (λ (d : Bool). if d then (v.asked p + 1) else v.asked p) (pid_eq-same p))) asked,
     ))
 state_by b m pt l records k y p c a chunk h false is takes took asked test =
     let v = pt.view in
@@ -217,11 +196,9 @@ state_by b m pt l records k y p c a chunk h false is takes took asked test =
       after_piece pt m p y.to.pid y.id (kind_of y.what) is (told_about b m pt l records k y p c a),
       front_gone y.id c.ids (v.inbox m) c.box,
       asked_others,
-      subst (λ (n : ℕ). IsAsked a.process n (Chunk (chunk + 1))) (sym (asked_more v.asked p (v.asked p + 1))) asked,
+      subst (λ (n : ℕ). IsAsked a.process n (Chunk (chunk + 1)))
+      (sym (ap (λ (d : Bool). if d then (v.asked p + 1) else v.asked p) (pid_eq-same p))) asked,
     ))
-
-chunk_pid : (q r : Pid) (i j : ℕ) (d e : Bool) (f g : _) → What.State q i d f ≡ What.State r j e g → q ≡ r
-chunk_pid q r i j d e f g is = cc
 
 pub turns_state : (b : Boot) (m : ℕ) (pt : Point) (l : Placed) (records : AllRecords) (k : KernelState) (y : Message) (p : Pid) (q : Pid) (chunk : ℕ) (last : Bool) (bytes : _) → Comes b m pt l records k y p → y.what ≡ What.State q chunk last bytes → TurnsAt b m pt l records k
 turns_state b m pt l records k y p q chunk last bytes c e =
@@ -232,11 +209,10 @@ turns_state b m pt l records k y p q chunk last bytes c e =
     let is : kind_of y.what ≡ MessageKind.State = ap kind_of e in
     let h = before b m pt l records k y p c a (Chunk chunk) (ap is_early is) carried.2 in
     let pieces : ComesByPieces (record x { queue = [] }) (l.notes p) h.arrival.held = by_pieces (record x { queue = [] }) (l.notes p) h.arrival.held h.whole in
-    let named : q ≡ p = chunk_pid q x.pid chunk chunk last (is_last (state_of x) chunk) bytes _ carried.0 ∙ a.named in
-    let content : y.what ≡ chunk_of x.pid (state_of x) chunk = e ∙ carried.0 in
+    let chunk_pid : q ≡ x.pid = cc (carried.0) in
     state_by b m pt l records k y p c a chunk h (is_last (state_of x) chunk) is
-    (ap (kernel_handles b s y) e ∙ ap (λ (z : Pid). bind (incoming_of (k.records z)) (takes_piece s y z)) named)
-    ((λ i. with_piece (h.pieces i) (content i)) ∙ pieces.chunk_taken chunk carried.1.1)
+    (ap (kernel_handles b s y) e ∙ ap (λ (z : Pid). bind (incoming_of (k.records z)) (takes_piece s y z)) (chunk_pid ∙ a.named))
+    ((λ i. with_piece (h.pieces i) ((e ∙ carried.0) i)) ∙ pieces.chunk_taken chunk carried.1.1)
     (asked_after_chunk x (pt.view.asked p) chunk carried.1 (pieces.after_chunk chunk carried.1.1))
     (chunk_last x (pt.view.asked p) chunk h.whole.lawful.registers carried.1)
 
@@ -255,19 +231,16 @@ memory_by b m pt l records k y p c a block h true is takes took asked test later
       after_block pt m p y.to.pid y.id (kind_of y.what) is (told_about b m pt l records k y p c a),
       front_gone y.id c.ids (v.inbox m) c.box,
       asked_others,
-      subst (λ (n : ℕ). IsAsked a.process n (Block (block + 1))) (sym (asked_more v.asked p (v.asked p + 1))) asked,
+      subst (λ (n : ℕ). IsAsked a.process n (Block (block + 1)))
+      (sym (ap (λ (d : Bool). if d then (v.asked p + 1) else v.asked p) (pid_eq-same p))) asked,
     ))
 memory_by b m pt l records k y p c a block h false is takes took asked test later =
-    let v = pt.view in
     turns_piece b m pt l records k y p c a (search (
       ap is_early is,
       ap (kernel_told pt m y.id p (fits (free_room b pt m) (length a.process.memory / 256)) (plain_process a.process)) is ∙ ap (λ (e : Bool). Some (takes_block y.id p e)) test,
       after_memory_taken pt m p,
-      first_gone y.id c.ids (v.inbox m) c.box,
+      first_gone y.id c.ids (pt.view.inbox m) c.box,
     ))
-
-block_pid : (q r : Pid) (i j : ℕ) (f g : _) → What.Memory q i f ≡ What.Memory r j g → q ≡ r
-block_pid q r i j f g is = cc
 
 pub turns_memory : (b : Boot) (m : ℕ) (pt : Point) (l : Placed) (records : AllRecords) (k : KernelState) (y : Message) (p : Pid) (q : Pid) (block : ℕ) (bytes : _) → Comes b m pt l records k y p → y.what ≡ What.Memory q block bytes → TurnsAt b m pt l records k
 turns_memory b m pt l records k y p q block bytes c e =
@@ -278,14 +251,12 @@ turns_memory b m pt l records k y p q block bytes c e =
     let is : kind_of y.what ≡ MessageKind.Memory = ap kind_of e in
     let h = before b m pt l records k y p c a (Block block) (ap is_early is) carried.2 in
     let pieces : ComesByPieces (record x { queue = [] }) (l.notes p) h.arrival.held = by_pieces (record x { queue = [] }) (l.notes p) h.arrival.held h.whole in
-    let named : q ≡ p = block_pid q x.pid block block bytes _ carried.0 ∙ a.named in
-    let content : y.what ≡ block_of x.pid x.memory block = e ∙ carried.0 in
+    let block_pid : q ≡ x.pid = cc (carried.0) in
     memory_by b m pt l records k y p c a block h (nat_lt (block + 1) (length x.memory / 256)) is
-    (ap (kernel_handles b s y) e ∙ ap (λ (z : Pid). bind (incoming_of (k.records z)) (takes_piece s y z)) named)
-    ((λ i. with_piece (h.pieces i) (content i)) ∙ pieces.block_taken block carried.1.1)
+    (ap (kernel_handles b s y) e ∙ ap (λ (z : Pid). bind (incoming_of (k.records z)) (takes_piece s y z)) (block_pid ∙ a.named))
+    ((λ i. with_piece (h.pieces i) ((e ∙ carried.0) i)) ∙ pieces.block_taken block carried.1.1)
     (asked_after_block x (pt.view.asked p) block carried.1 (pieces.after_block block carried.1.1))
-    (block_last x (pt.view.asked p) block h.whole.lawful.registers (grind (arith, nat_tests, h.whole.lawful)) carried.1)
-    (not_first block)
+    (block_last x (pt.view.asked p) block h.whole.lawful.registers (grind (arith, nat_tests, h.whole.lawful)) carried.1) (not_first block)
   where
     not_first : (n : ℕ) → (n + 1 == 0) ≡ false
     not_first n = grind (arith, nat_tests)

@@ -88,8 +88,7 @@ back_stood : (b : Boot) (m : ℕ) (pt : Point) (l : Placed) (records : AllRecord
 back_stood b m pt l records k y p c i z st =
     let v = pt.view in
     let box = without_first (v.inbox m) in
-    let bound = back_standing pt m p i z in
-    elim (least_of (standing (come_view v m p box v.known v.asked) i z) (standing v i (Held m p)) (omega (arith, bound, st))) [
+    elim (least_of (standing (come_view v m p box v.known v.asked) i z) (standing v i (Held m p)) (omega (arith, back_standing pt m p i z, st))) [
       | inl e ↦ (z, (let f = fewer v m p c.ids box v.known v.asked y.id i z c.box (first_gone y.id c.ids (v.inbox m) c.box) in omega (arith, e, f)))
       | inr e ↦ (Held m p, e)
     ]
@@ -99,16 +98,14 @@ none_back : (b : Boot) (m : ℕ) (pt : Point) (l : Placed) (records : AllRecords
 none_back b m pt l records k y p c a i t z told between about st =
     let v = pt.view in
     let box = without_first (v.inbox m) in
-    let bound = back_standing pt m p i z in
     let (where_, least) = back_stood b m pt l records k y p c i z st in
     let mine : Some y.id ≡ Some i = a.phase.alone i t where_ told between about least in
     let is : y.id ≡ i = cc in
-    let once = own_once b pt y.id (Inbox m) c.run a.unplain a.mine a.first in
-    let one = once_at (standing v y.id) (Inbox m) once a.first in
+    let one = once_at (standing v y.id) (Inbox m) (own_once b pt y.id (Inbox m) c.run a.unplain a.mine a.first) a.first in
     let none : standing (come_view v m p box v.known v.asked) i z ≡ 0 =
     ap (λ (j : MsgId). standing (come_view v m p box v.known v.asked) j z) (sym is) ∙ gone v m p c.ids box v.known v.asked y.id z c.box (first_gone y.id c.ids (v.inbox m) c.box) one.0 one.1 in
     let held : standing v i (Held m p) ≡ 0 = ap (λ (j : MsgId). standing v j (Held m p)) (sym is) ∙ one.1 (Held m p) (λ x. cc) in
-    omega (arith, bound, none, held, st)
+    omega (arith, back_standing pt m p i z, none, held, st)
 
 -- the tokens of other processes
 tokens_back : (b : Boot) (m : ℕ) (pt : Point) (l : Placed) (records : AllRecords) (k : KernelState) (y : Message) (p : Pid) (c : Comes b m pt l records k y p) (a : Arrives b m pt l k y p) (o : Option Process) (s : KernelState)
@@ -137,11 +134,10 @@ known_back b m pt l records k y p c a s q incoming there records_off server =
     let placed = with_process l p (Some (way.moved a.process)) in
     elim (cases_Bool (pid_eq p q)) [
       | inl same ↦
-          let none : v.queue m p ≡ [] = c.run.based.lists.queue m p (ap has_no_queue incoming) in
           subst (λ (z : Pid). KnownStands next placed z (next.view.queue m z) (next.view.held m z) (next.view.known m z) (s.records z)) (pid_eq-is p q same)
           (subst (KnownStands next placed p (v.queue m p) (next.view.held m p) (next.view.known m p)) (sym there)
           (subst (λ (n : Known). KnownStands next placed p (v.queue m p) (next.view.held m p) n (Some (Record.Here (way.moved a.process)))) (sym (at_record_at v.known m p Here))
-          (([], set_self l.processes p (Some (way.moved a.process))), ap (map l.bag) none)))
+          (([], set_self l.processes p (Some (way.moved a.process))), ap (map l.bag) (c.run.based.lists.queue m p (ap has_no_queue incoming)))))
       | inr off ↦
           subst (KnownStands next placed q (v.queue m q) (next.view.held m q) (next.view.known m q)) (sym (records_off q off))
           (subst (λ (n : Known). KnownStands next placed q (v.queue m q) (next.view.held m q) n (k.records q)) (sym (record_off v.known m m p q Here off))
@@ -177,7 +173,6 @@ turns_restart b m pt l records k y p q c e =
     let h = before b m pt l records k y p c a Nothing late carried.1 in
     let incoming = known_incoming b m pt l k y p a late in
     let pieces : ComesByPieces (record x { queue = [] }) (l.notes p) h.arrival.held = by_pieces (record x { queue = [] }) (l.notes p) h.arrival.held h.whole in
-    let whole : restarted h.arrival ≡ Some (way.moved x) = ap restarted h.pieces ∙ pieces.whole in
     let state : KernelState = record s { records = with_record k.records p (Record.Here (way.moved x)); ring = k.ring ++ p ∷ []; inbox = h.arrival.held ++ c.rest } in
     let next = back_point pt m p in
     let placed = with_process l p (Some (way.moved x)) in
@@ -222,10 +217,9 @@ turns_restart b m pt l records k y p q c e =
     } in
     ends_move_row b m pt l records k p line state next.view placed ends Outcome.Done (l.notes p) refl (λ n. refl)
     (turn_kernel b m pt l records k y p c a (Some (record { state = state; parts = part.Says line ∷ tells_asker m (way.moved x) Outcome.Done (l.notes p) }))
-    (ap (kernel_handles b s y) e
-    ∙ ap (λ (z : Pid). bind (incoming_of (k.records z)) (restarts s z)) carried.0
+    (ap (kernel_handles b s y) e ∙ ap (λ (z : Pid). bind (incoming_of (k.records z)) (restarts s z)) carried.0
     ∙ ap (λ (o : Option machine.KernelKnown). bind (incoming_of o) (restarts s p)) h.is
-    ∙ ap (restarts_as s p h.arrival) whole
+    ∙ ap (restarts_as s p h.arrival) (ap restarted h.pieces ∙ pieces.whole)
     ∙ (λ i. Some (record { state = state; parts = part.Says line ∷ tells_asker (stands.here i) (way.moved x) Outcome.Done (asker i) }))))
     (outcome_kernel b m pt l records k y p c a (Some (Part.Says line ∷ migrating.tells_asker (pt.kernel.notes p) Outcome.Done))
     (ap (kernel_told pt m y.id p (fits (free_room b pt m) (length x.memory / 256)) (plain_process x)) is))

@@ -102,19 +102,16 @@ tokens_kept b m pt l records k y p c a box known asked s is_box asked_off record
     let least : 1 ≤ standing v i z = (let f = fewer v m p c.ids box known asked y.id i z c.box is_box in omega (arith, f, st)) in
     elim (cases_Bool (pid_eq p q)) [
       | inl same ↦
-          let e : p ≡ q = pid_eq-is p q same in
-          let mine : Some y.id ≡ Some i = a.phase.alone i t z told between (about ∙ ap Of (sym e)) least in
+          let mine : Some y.id ≡ Some i = a.phase.alone i t z told between (about ∙ ap Of (sym (pid_eq-is p q same))) least in
           let is : y.id ≡ i = cc in
-          let once = own_once b pt y.id (Inbox m) c.run a.unplain a.mine a.first in
-          let one = once_at (standing v y.id) (Inbox m) once a.first in
+          let one = once_at (standing v y.id) (Inbox m) (own_once b pt y.id (Inbox m) c.run a.unplain a.mine a.first) a.first in
           let none : standing (come_view v m p box known asked) i z ≡ 0 = ap (λ (j : MsgId). standing (come_view v m p box known asked) j z) (sym is) ∙ gone v m p c.ids box known asked y.id z c.box is_box one.0 one.1 in
           absurd (omega (arith, none, st))
       | inr off ↦
           let h = c.tokens q i t z told between about least in
           let n = destination_of i t in
           let r : at_machine records m s.records n q ≡ records n q = others_known records m n s k q c.mine (records_off q off) (m == n) refl in
-          search
-          (subst (λ (o : Option machine.KernelKnown). Carries q h.process (l.notes q) (asked q) (incoming_of o) h.message.what) (sym r)
+          search (subst (λ (o : Option machine.KernelKnown). Carries q h.process (l.notes q) (asked q) (incoming_of o) h.message.what) (sym r)
           (subst (λ (j : ℕ). Carries q h.process (l.notes q) j (incoming_of (records n q)) h.message.what) (sym (asked_off q off)) h.carries))
     ]
 
@@ -143,8 +140,7 @@ may_answer b m pt l records k y p c a h =
       about = sym h.about;
       asker = λ e. absurd (false≢true (sym (ap is_between e) ∙ h.between));
       carried = λ between q about.
-          let e : p ≡ q = of_same p q (sym h.about ∙ about) in
-          subst (λ (z : Pid). IsCarried l (h.asked z) (at_machine records m h.state.records) z x) e (search
+          subst (λ (z : Pid). IsCarried l (h.asked z) (at_machine records m h.state.records) z x) (of_same p q (sym h.about ∙ about)) (search
           (subst (λ (o : Option machine.KernelKnown). Carries p a.process (l.notes p) (h.asked p) (incoming_of o) h.what) (sym known) h.carries));
     }
   where
@@ -155,14 +151,13 @@ pub turns_answer : (b : Boot) (m : ℕ) (pt : Point) (l : Placed) (records : All
 turns_answer b m pt l records k y p c a h =
     let v = come_view pt.view m p h.box h.known h.asked in
     let next = come_point pt v in
-    let x = own k y.sender h.what in
     let stands = c.stands in
     let sender : y.sender ≡ kernel_at y.id.from.home = a.sender in
     let keeps : is_server p ≡ true → h.state.records p ≡ k.records p = λ is. absurd (false≢true (sym a.server ∙ is)) in
     record {
       state = h.state;
       says = h.line ∷ [];
-      routes = Own x ∷ [];
+      routes = Own (own k y.sender h.what) ∷ [];
       late = Nothing;
       turn = h.turn;
       outcome = h.outcome ∙ ap (λ (z : Addr). Some (Part.Says h.line ∷ Part.Owns (kind_of h.what) z.pid z.at ∷ [])) (sym sender);

@@ -219,18 +219,14 @@ pub ends_before : (n : ℕ) (pt mid end : Point) → Grows pt.view mid.view → 
 ends_before n pt mid end g s h = record {
   grows = grows_on pt.view mid.view end.view g h.grows;
   still = still_on pt.view mid.view end.view s h.still;
-  under = elim h.under [
-    | inl u ↦ inl u
-    | inr u ↦ inr (u.0, puts_before pt.view mid.view end.view g u.1)
-  ];
+  under = elim h.under [ inl u ↦ inl u | inr u ↦ inr (u.0, puts_before pt.view mid.view end.view g u.1) ];
 }
 
 pays : (n : ℕ) (pt mid : Point) (id : MsgId) (w : Spelled) → Grows pt.view mid.view → Still pt.view mid.view → Under (n + 1) mid.kernel → spelled mid (Routes id ∷ []) ≡ Some w → Ends n pt w.point
 pays n pt mid id w g s under e =
     let k = routes_next mid id [] w e in
-    let same : k.next ≡ w.point = said k.next k.rest k.on ∙ k.end in
     let a = k.after_put in
-    subst (Ends n pt) same
+    subst (Ends n pt) (said k.next k.rest k.on ∙ k.end)
     (record {
       grows = grows_on pt.view mid.view k.next.view g a.grows;
       still = still_on pt.view mid.view k.next.view s a.still;
@@ -278,9 +274,6 @@ pub record BearEnds (pt end : Point) : Type 0 where
 bears_before : (pt mid end : Point) → mid.kernel ≡ pt.kernel → Grows pt.view mid.view → mid.view.moves ≡ pt.view.moves → BearEnds mid end → BearEnds pt end
 bears_before pt mid end k g m h = record { kernel = h.kernel ∙ k; grows = grows_on pt.view mid.view end.view g h.grows; moves = h.moves ∙ m }
 
-bears_none : (l : Line) → bears l ≡ true → label_of l ≡ None
-bears_none l e = grind (arith, nat_tests)
-
 same_kernel : (s t : OneKernel) (o : Option Label) → o ≡ None → kernel_after s o ≡ Some t → t ≡ s
 same_kernel s t o e f = grind (arith, nat_tests)
 
@@ -291,7 +284,7 @@ pub bear_ends : (ps : List Part) (pt : Point) (w : Spelled) → spelled pt ps �
 bear_ends [] pt w e h = subst (BearEnds pt) (said pt w e) (record { kernel = refl; grows = grows_same pt.view pt.view refl; moves = refl })
 bear_ends (Says l ∷ ps) pt w e h =
     let k = says_next pt l ps w e in
-    subst (BearEnds pt) k.point (bears_before pt (moved pt l k.s) k.rest.point (same_kernel pt.kernel k.s (label_of l) (bears_none l h.0) k.is)
+    subst (BearEnds pt) k.point (bears_before pt (moved pt l k.s) k.rest.point (same_kernel pt.kernel k.s (label_of l) (grind (arith, nat_tests, h.0)) k.is)
     (seen_grows pt.kernel pt.view l) (line_moves pt.view l h.0) (bear_ends ps (moved pt l k.s) k.rest k.more h.1))
 bear_ends (Routes i ∷ ps) pt w e h = let k = routes_next pt i ps w e in part_bears ps pt w k (bear_ends ps k.next k.rest k.on h)
 bear_ends (Again i b ∷ ps) pt w e h = let k = again_next pt i b ps w e in part_bears ps pt w k (bear_ends ps k.next k.rest k.on h)

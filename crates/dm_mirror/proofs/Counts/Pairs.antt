@@ -139,11 +139,8 @@ line_still v any_ e = still_same v (view_after v any_) (record { moves = refl; k
 pub seen_still : (s : OneKernel) (v : View) (l : Line) → is_free l ≡ true → Still v (seen s v l)
 seen_still s v l e = let h = line_still v l e in record { moves = h.moves; incoming = h.incoming; forward = h.forward }
 
-sets_moves : (v : View) (p : Pid) (a : About) → (view.sets_off v p a).moves ≡ v.moves
-sets_moves v p a = (sets v p a).moves
-
 pub line_moves : (v : View) (l : Line) → bears l ≡ true → (view_after v l).moves ≡ v.moves
-line_moves v l e = grind (arith, nat_tests, sets_moves)
+line_moves v l e = grind (arith, nat_tests)
 
 -- No count is too great.
 
@@ -163,12 +160,8 @@ pub record CountsFew (pt : Point) : Type 0 where
 
 -- The acting machine stays, but for heads and what comes over wires.
 
-stage_acting : (v : View) (p : Pid) (s : Stage) → (view.after_stage v p s).acting ≡ v.acting
-stage_acting v p Stage.Frozen = (sets v p v.topic).acting
-stage_acting v p s = grind (arith, nat_tests)
-
 pub line_acting : (v : View) (l : Line) → touches l ≡ false → (view_after v l).acting ≡ v.acting
-line_acting v l e = grind (arith, nat_tests, acting_label, queued_acting, held_acting, forwarded_acting, stage_acting, proto_acting)
+line_acting v l e = grind (arith, nat_tests, acting_label, queued_acting, held_acting, forwarded_acting, proto_acting)
 
 -- A machine's kernel counts no more messages of its own than were routed in all.
 
@@ -213,26 +206,19 @@ count_if f home m own = grind (arith, nat_tests, at_machine_most)
 
 pub put_total : (n : ℕ) (v : View) (a b : ℕ) (i : MsgId) (k : MessageKind) (q : Pid) → PairsWithin n (after_put v a b i k q) → total v n + 1 ≤ total (after_put v a b i k q) n
 put_total n v a b i k q within =
-    let w = after_put v a b i k q in
     let adds = put_adds v a b i k q in
-    let g = line_grows v (Line.Put a b i k q) in
     let at_ = within a b (omega (arith, adds)) in
-    total_adds v w n a b g at_.0 at_.1 (omega (arith, adds))
+    total_adds v (after_put v a b i k q) n a b (line_grows v (Line.Put a b i k q)) at_.0 at_.1 (omega (arith, adds))
 
 still_own : (n : ℕ) (v : View) (l : Line) → is_put l ≡ false → OwnFew n v → OwnFew n (view_after v l)
 still_own n v l off h = λ within m.
     let g = line_grows v l in
-    let count : (view_after v l).count m ≡ v.count m = ap (λ (f : ℕ → ℕ). f m) (hushed v l off).count in
-    let few = h (within_before n v (view_after v l) g within) m in
-    let more = total_grows v (view_after v l) n g in
-    omega (arith, count, few, more)
+    omega (arith, ap (λ (f : ℕ → ℕ). f m) (hushed v l off).count, h (within_before n v (view_after v l) g within) m, total_grows v (view_after v l) n g)
 
 line_own : (top : ℕ) (v : View) (l : Line) → OwnFew top v → OwnFew top (view_after v l)
 line_own top v (Line.Put a b i k q) h = λ within m.
     let few = h (within_before top v (after_put v a b i k q) (line_grows v (Line.Put a b i k q)) within) m in
-    let one = count_if v.count i.from.home m (is_own i (v.told i)) in
-    let more = put_total top v a b i k q within in
-    omega (arith, few, one, more)
+    omega (arith, few, count_if v.count i.from.home m (is_own i (v.told i)), put_total top v a b i k q within)
 line_own top v any_ h = still_own top v any_ refl h
 
 pub own_group : (n : ℕ) (b : Boot) (pt : Point) (d : Step) (w : Spelled) → group_of b pt d ≡ Some w → OwnFew n pt.view → OwnFew n w.point.view
@@ -275,11 +261,7 @@ fresh_by u m v w a h acting from taken others =
           ]
           | inr off ↦
               let apart : c ≢ a = λ same. false≢true (sym off ∙ (let t : (c == m) ≡ true = grind (arith, nat_tests) in t)) in
-              let e = others c d apart in
-              elim (h.new c d (omega (arith, e, some))) [
-                | inl had ↦ inl had
-                | inr way ↦ absurd (apart (way.0 ∙ sym from))
-              ]
+              elim (h.new c d (omega (arith, others c d apart, some))) [ inl had ↦ inl had | inr way ↦ absurd (apart (way.0 ∙ sym from)) ]
         ]
       ];
       none = none;
@@ -358,36 +340,28 @@ address_within b pt i z None there run stands =
     run.found.own_within i t told (own_by (is_kernels i) (standing pt.view i) z stands (stands_right pt i run.based.phased.state None there))
 
 pub stood_within : (b : Boot) (pt : Point) (i : MsgId) (z : Spot) → Run b pt → 1 ≤ standing pt.view i z → machine_of z < pt.kernel.machines
-stood_within b pt i z run stands =
-    let lt = address_within b pt i z (pt.kernel.bag i) refl run stands in
-    let at_ = run.found.at_ i z stands in
-    omega (arith, lt, at_)
+stood_within b pt i z run stands = omega (arith, address_within b pt i z (pt.kernel.bag i) refl run stands, run.found.at_ i z stands)
 
 fresh_within : (b : Boot) (u : View) (m n : ℕ) (end : Point) → end.kernel.machines ≡ n → m < n → Run b end → Fresh u m end.view → PairsWithin n u → PairsWithin n end.view
 fresh_within b u m n end machines small run h within = λ a c some.
     elim (h.new a c some) [
       | inl had ↦ within a c had
       | inr way ↦
-          let here = way.0 in
-          let left : a < n = omega (arith, here, small) in
+          let left : a < n = omega (arith, way.0, small) in
           elim way.1 [
             | inl home ↦ (left, omega (arith, left, home))
             | inr none ↦
                 let (i, first) = first_of (end.view.pair a c).ids some in
                 let stands : 1 ≤ standing end.view i (Untaken a c) = subst (λ (k : ℕ). 1 ≤ times i (drop k (end.view.pair a c).ids)) (sym none) first in
-                let lt = stood_within b end i (Untaken a c) run stands in
-                (left, omega (arith, lt, machines))
+                (left, omega (arith, stood_within b end i (Untaken a c) run stands, machines))
           ]
     ]
 
 pub net_ids : (v : View) (l : Line) → IsNetLine l → (a c : ℕ) → ((view_after v l).pair a c).ids ≡ (v.pair a c).ids
 net_ids v l h a c = grind (arith, nat_tests, taken_pair, set_ids)
 
-head_ids : (v : View) (d : Step) (x y : ℕ) → ((view_after v (Line.Head d)).pair x y).ids ≡ (v.pair x y).ids
-head_ids v d x y = grind (arith, nat_tests, set_ids)
-
 pub line_ids : (v : View) (l : Line) → is_put l ≡ false → (x y : ℕ) → ((view_after v l).pair x y).ids ≡ (v.pair x y).ids
-line_ids v l e x y = grind (arith, nat_tests, head_ids, set_ids, net_ids, pair_same)
+line_ids v l e x y = grind (arith, nat_tests, set_ids, net_ids, pair_same)
 
 net_parts : (ps : List Part) (pt : Point) (w : Spelled) → IsNet ps → spelled pt ps ≡ Some w → (a c : ℕ) → (w.point.view.pair a c).ids ≡ (pt.view.pair a c).ids
 net_parts [] pt w h e a c = ap (λ (q : Point). (q.view.pair a c).ids) (sym (said pt w e))
@@ -423,8 +397,7 @@ within_group b pt (Step.Deliver a c k) w n some same after_ fit e pairs run h =
     let qs = rule.arrives a c (pt.view.pair a c) (pt.view.pair c a) there in
     let f : qs ≡ g.parts = let t = g.is in cc in
     let start = moved pt (Line.Head (Step.Deliver a c k)) pt.kernel in
-    subst (λ (q : Point). PairsWithin n q.view) g.point
-    (ids_within n pt.view g.rest.point.view
+    subst (λ (q : Point). PairsWithin n q.view) g.point (ids_within n pt.view g.rest.point.view
     (λ x y. net_parts qs start g.rest (arrives_net a c (pt.view.pair a c) (pt.view.pair c a) there) (ap (spelled start) f ∙ g.said) x y ∙ set_ids pt.view.pair a c (marked (pt.view.pair a c) k) x y ((a == x) && (c == y)) refl refl) h)
 within_group b pt (Step.Migrate p m) w n some same after_ fit e pairs run h =
     let g = group_is b pt (Step.Migrate p m) w e in

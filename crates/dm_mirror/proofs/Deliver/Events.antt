@@ -97,12 +97,9 @@ off n ks = filter (λ k. not (k == n)) ks
 pub not_less_test : (m n : ℕ) → n ≤ m → nat_lt m n ≡ false
 not_less_test m n e = grind (arith, nat_tests)
 
-has_step : (j n k : ℕ) (c : Bool) (ks js : List ℕ) → (k == n) ≡ c → has j js ≡ (not (j == n) && has j ks) → has j (if not c then k ∷ js else js) ≡ (not (j == n) && ((j == k) || has j ks))
-has_step j n k c ks js e h = grind (arith, nat_tests)
-
 pub has_off : (j n : ℕ) (ks : List ℕ) → has j (off n ks) ≡ (not (j == n) && has j ks)
 has_off j n [] = grind (arith, nat_tests)
-has_off j n (k ∷ ks) = has_step j n k (k == n) ks (off n ks) refl (has_off j n ks)
+has_off j n (k ∷ ks) = grind (arith, nat_tests, (has_off j n ks))
 
 module _ {M : Type 0} where
   -- what a receiver knows when the next message has come

@@ -136,11 +136,8 @@ pub record IsReadAs (w : WorldState) (a c n : ℕ) (m : Message) : Type 0 where
 abbrev pub ReadsAs : WorldState → History → ℕ → ℕ → ℕ → Type 0
 ReadsAs w h a c k = (n : ℕ) (m : Message) → load_at (h.packets a c) k ≡ Some (Data n m) → IsReadAs w a c n m
 
-of_some : (f : stream.Packet Message → Sent) (o : Option (stream.Packet Message)) → option_map (λ (p : Sent). p.bytes) (option_map f o) ≡ option_map (λ (p : stream.Packet Message). (f p).bytes) o
-of_some f o = grind (arith, nat_tests)
-
 pub bytes_are : (b : Boot) (l : Placed) (a c : ℕ) (x : Ends) (sent : List Sent) (p : Pair) (k : ℕ) → PairIs b l a c x sent p → bytes_at sent k ≡ option_map (bytes_for a c) (slice_get x.out k)
-bytes_are b l a c x sent p k h = grind (arith, nat_tests, option_map, slice_get-map, of_some, slice_get)
+bytes_are b l a c x sent p k h = grind (arith, nat_tests, option_map, slice_get-map, slice_get)
 
 pub lines_are : (b : Boot) (l : Placed) (a c : ℕ) (x : Ends) (sent : List Sent) (p : Pair) (k : ℕ) → PairIs b l a c x sent p → slice_get p.wire k ≡ option_map line_of (slice_get x.out k)
 lines_are b l a c x sent p k h = ap (λ (ss : List view.SentLoad). slice_get ss k) (sym h.packets) ∙ slice_get-map line_of x.out k
@@ -275,10 +272,8 @@ comes_in_sent n a k x = grind (arith, nat_tests, takes_kept_sent)
 pub arrives_sent : (n : NodeState) (a : ℕ) (x : Load Message) → (arrives n a x).state.kernel.sent ≡ n.kernel.sent
 arrives_sent n a x = grind (arith, nat_tests, comes_in_sent, lets_go_sent)
 
-pub sent_at : (nodes : ℕ → NodeState) (c : ℕ) (n : NodeState) (m : ℕ) → n.kernel.sent ≡ (nodes c).kernel.sent → (at_machine nodes c n m).kernel.sent ≡ (nodes m).kernel.sent
-sent_at nodes c n m e = grind (arith, nat_tests, eqb_tells)
-
 -- a machine acts, and has counted as many as the lines then
 pub counts_on : (w v : WorldState) (pt end : Point) (c : ℕ) (n : NodeState) → v.nodes ≡ at_machine w.nodes c n → n.kernel.sent ≡ (w.nodes c).kernel.sent → Same pt end → CountsStand w pt → CountsStand v end
 counts_on w v pt end c n is sent same h m lt =
-    ap (λ (f : ℕ → NodeState). (f m).kernel.sent) is ∙ sent_at w.nodes c n m sent ∙ h m (subst (λ (s : OneKernel). m < s.machines) same.kernel lt) ∙ sym (ap (λ (f : ℕ → ℕ). f m) same.count)
+    let sent_at : (at_machine w.nodes c n m).kernel.sent ≡ (w.nodes m).kernel.sent = grind (arith, nat_tests, eqb_tells) in
+    ap (λ (f : ℕ → NodeState). (f m).kernel.sent) is ∙ sent_at ∙ h m (subst (λ (s : OneKernel). m < s.machines) same.kernel lt) ∙ sym (ap (λ (f : ℕ → ℕ). f m) same.count)

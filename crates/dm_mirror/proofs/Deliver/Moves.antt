@@ -278,10 +278,7 @@ room_none i g a e = grind (arith, nat_tests, nat_le)
 
 -- the message under this number is due
 pub given_at : (xs : List Message) (n : ℕ) → n < length xs → (m : Message) × (slice_get xs n ≡ Some m)
-given_at xs n lt = elim (slice_get_cases xs n).1 [
-  | inl k ↦ (k.0, k.2)
-  | inr k ↦ absurd (omega (arith, k.0))
-]
+given_at xs n lt = elim (slice_get_cases xs n).1 [ inl k ↦ (k.0, k.2) | inr k ↦ absurd (omega (arith, k.0)) ]
 
 waits_at : (s : Sending Message) (given : List Message) → s.unacked ≡ drop s.acked given → s.acked ≤ s.gone → slice_get s.unacked (s.gone - s.acked) ≡ slice_get given s.gone
 waits_at s given e le = ap (λ (xs : List Message). slice_get xs (s.gone - s.acked)) e ∙ get-drop s.acked given (s.gone - s.acked) s.gone (omega arith)

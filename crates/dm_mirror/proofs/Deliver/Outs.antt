@@ -81,8 +81,7 @@ sent_reads a c s k x is read h =
             | inr off ↦
                 let last : s.acked + j ≡ s.gone = (let f : s.acked + j < s.gone + 1 = o.below in grind (arith, nat_tests)) in
                 let same : n ≡ k = o.number ∙ last ∙ sym t.is in
-                let at : slice_get s.unacked j ≡ Some x = ap (slice_get s.unacked) (omega (arith, last)) ∙ t.there in
-                let f : Some m ≡ Some x = sym o.there ∙ at in
+                let f : Some m ≡ Some x = sym o.there ∙ (ap (slice_get s.unacked) (omega (arith, last)) ∙ t.there) in
                 let one : m ≡ x = cc in
                 subst (λ (y : Message). packet_of (spelling (Packet.Data a c n y)) ≡ Ok (Packet.Data a c n y)) (sym one) (subst (λ (i : ℕ). packet_of (spelling (Packet.Data a c i x)) ≡ Ok (Packet.Data a c i x)) (sym same) read)
           ];
@@ -229,12 +228,9 @@ spoken_read wires (Out.Sends p ∷ outs) read h = spoken_read (with_packet wires
 
 -- Where what is sent is read as it was put, the world stays readable, whatever its machines do.
 
-none_out : (t : Bool) (p : ℕ × Message) → (if t then None else None) ≡ Some p → ⊥
-none_out t p e = grind (arith, nat_tests)
-
 -- nothing is out where nothing was given
 fresh_reads : (a c numbers : ℕ) → SenderReads a c (fresh_sending numbers)
-fresh_reads a c numbers = record { acked = omega arith; gone = omega arith; out = λ j n m e. absurd (none_out (nat_lt (0 + j) 0) (n, m) e) }
+fresh_reads a c numbers = record { acked = omega arith; gone = omega arith; out = λ j n m e. absurd (grind (arith, nat_tests)) }
 
 pub first_readable : (b : Boot) → IsReadable (first_world b)
 first_readable b = record { reads = λ a c k bytes e. cc; out = λ m y. fresh_reads (here ((first_world b).nodes m)) y (if nat_lt y 16 then b.numbers else 0) }

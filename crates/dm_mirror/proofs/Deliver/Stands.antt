@@ -105,10 +105,7 @@ came_one v a c j i first least = elim (cases_Bool (id_eq i j)) [
   | inl same ↦
       let e : i ≡ j = id_eq-is i j same in
       (Untaken a c, subst (λ (k : MsgId). 1 ≤ times k (untaken (v.pair a c))) (sym e) (get_times j (v.pair a c).ids (v.pair a c).taken first))
-  | inr off ↦
-      let parts : times i (v.inbox c ++ j ∷ []) ≡ times i (v.inbox c) + times i (j ∷ []) = times-append i (v.inbox c) (j ∷ []) in
-      let none : times i (j ∷ []) ≡ 0 = ap (λ (t : Bool). (if t then 1 else 0) + 0) off in
-      (Inbox c, omega (arith, parts, none, least))
+  | inr off ↦ (Inbox c, omega (arith, times-append i (v.inbox c) (j ∷ []), ap (λ (t : Bool). (if t then 1 else 0) + 0) off, least))
 ]
 
 pub took_set : (f : ℕ → ℕ → Pair) (a c : ℕ) (p : Pair) → (f a c).taken ≤ p.taken → (m n : ℕ) → (f m n).taken ≤ (at_pair f a c p m n).taken

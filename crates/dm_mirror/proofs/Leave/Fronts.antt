@@ -77,9 +77,7 @@ pub not_behind : (b : Boot) (m : ℕ) (pt : Point) (l : Placed) (records : AllRe
 not_behind b m pt l records k y h =
     let s = h.run.based.phased.state in
     let one : standing pt.view y.id (Inbox m) ≡ 1 = StandsAsBag-one (letters s.own pt.kernel.bag y.id) (standing pt.view y.id) (Inbox m) (stands_first b m pt l records k y h) (s.stands.kept y.id) in
-    let is : times y.id (y.id ∷ h.ids) ≡ 1 = ap (times y.id) (sym h.box) ∙ one in
-    let self : times y.id (y.id ∷ h.ids) ≡ 1 + times y.id h.ids = ap (λ (d : Bool). (if d then 1 else 0) + times y.id h.ids) (id_eq-same y.id) in
-    omega (arith, is, self)
+    omega (arith, ap (times y.id) (sym h.box) ∙ one, ap (λ (d : Bool). (if d then 1 else 0) + times y.id h.ids) (id_eq-same y.id))
 
 -- the front has gone from machine m's inbox; messages may have come there that were held, and some may stand nowhere
 pub record FrontGone (m : ℕ) (is : List MsgId) (v w : View) : Type 0 where
@@ -137,26 +135,21 @@ pub record Leaving (m : ℕ) (pt : Point) (y : Message) (p : Pid) : Type 0 where
   pub receiver : y.to.pid ≡ pid_of m 0
   pub phase : (n : ℕ) → knows (Moves (kind_of y.what) m to (Some y.id)) n (pt.view.known n p) ≡ true
 
-off_source : (c : Bool) (s d : ℕ) → (c && not (s == d)) ≡ true → d ≢ s
-off_source c s d e = grind (arith, nat_tests, eq_self)
-
 pub leaving : (b : Boot) (m : ℕ) (pt : Point) (l : Placed) (records : AllRecords) (k : KernelState) (y : Message) (p : Pid) → Hearing b m pt l records k y → is_between (kind_of y.what) ≡ true → is_of_source (kind_of y.what) ≡ false → is_restart (kind_of y.what) ≡ false → about_of y.what ≡ Of p
     → Leaving m pt y p
 leaving b m pt l records k y p h between source restart about =
     let v = pt.view in
     let phases = h.run.based.phased.phases in
     let (q, j, s, d, of_q, moves) = token_is v phases y.id (told_of y) (Inbox m) h.told between (stands_first b m pt l records k y h) in
-    let is : q ≡ p = of_same q p (sym of_q ∙ about) in
     let token = token_at v q (phases.of q) j s d y.id moves (phases.each q) in
     let told : told_between q j s d ≡ told_of y = some_same (told_between q j s d) (told_of y) (sym token.told ∙ h.told) in
     let kind : j ≡ kind_of y.what = ap (λ (t : Told). t.kind) told in
     let of_source : is_of_source j ≡ false = ap is_of_source kind ∙ source in
     let to_m : m ≡ receiver_in j s d = inbox_is m (sender_in j s d) (receiver_in j s d) (token.ways (Inbox m) (stands_first b m pt l records k y h)) in
-    let source_is : receiver_in j s d ≡ s = ap (λ (c : Bool). if c then d else s) of_source in
-    let here : m ≡ s = to_m ∙ source_is in
-    let phase : phases.of p ≡ Moves j s d (Some y.id) = ap phases.of (sym is) ∙ moves in
+    let here : m ≡ s = to_m ∙ (ap (λ (c : Bool). if c then d else s) of_source) in
+    let phase : phases.of p ≡ Moves j s d (Some y.id) = ap phases.of (sym (of_same q p (sym of_q ∙ about))) ∙ moves in
     let each = phases.each p in
-    let off : d ≢ s = off_source (is_between j) s d (sym (ap is_apart phase) ∙ each.apart) in
+    let off : d ≢ s = grind (arith, nat_tests, eq_self, (sym (ap is_apart phase) ∙ each.apart)) in
     record {
       to = d;
       known = ap (λ (x : ℕ). v.known x p) here ∙ holds_is j d (v.known s p) (ap is_restart kind ∙ restart) (source_knows j s d (Some y.id) (v.known s p) (sym (ap (λ (x : Phase). knows x s (v.known s p)) phase) ∙ each.known s));
@@ -208,10 +201,6 @@ pub record Between (pt : Point) (placed : Placed) (records : AllRecords) (m c : 
 carried_of : (pt : Point) (placed : Placed) (records : AllRecords) (m c : ℕ) (p : Pid) (x : Message) → Between pt placed records m c p x → IsCarried placed (pt.view.asked p) records p x
 carried_of pt placed records m c p x h = record { process = h.process; there = h.there; sender = h.sender ∙ ap kernel_at (sym h.from); carries = h.carries }
 
--- no message of a protocol asks to move
-no_request : (p : Pid) (x : Process) (k : Option Asker) (n : ℕ) (a : Option Arrival) (w : What) → kind_of w ≡ MessageKind.Migrate → Carries p x k n a w → ⊥
-no_request p x k n a w e h = grind (arith, nat_tests)
-
 pub may_between : (pt : Point) (placed : Placed) (records : AllRecords) (m c : ℕ) (p : Pid) (x : Message) → Between pt placed records m c p x → MayOwn pt placed records x
 may_between pt placed records m c p x h =
     let a = pt.addresses in
@@ -228,7 +217,7 @@ may_between pt placed records m c p x h =
       sender = ap (λ (g : List Gets). given a g (Sender x.id)) h.gives ∙ ap (λ (e : Bool). if e then unmoved pt.view.acting else a (Sender x.id)) (id_eq-same x.id)
           ∙ ap unmoved h.acting ∙ ap place_of (sym h.sender);
       about = h.topic ∙ sym h.about;
-      asker = λ e. absurd (no_request p h.process (placed.notes p) (pt.view.asked p) (incoming_of (records (destination_of x.id (told_of x)) p)) x.what e h.carries);
+      asker = λ e. absurd (grind (arith, nat_tests, h.carries));
       carried = λ between r of_r. subst (λ (z : Pid). IsCarried placed (pt.view.asked z) records z x) (about_same p r (sym h.about ∙ of_r)) (carried_of pt placed records m c p x h);
     }
 

@@ -23,10 +23,7 @@ pub times_among : (i : MsgId) (ids : List MsgId) → is_among i ids ≡ true →
 times_among i [] e = absurd (false≢true e)
 times_among i (j ∷ js) e = elim (cases_Bool (id_eq j i)) [
   | inl same ↦ (let f : times i (j ∷ js) ≡ 1 + times i js = ap (λ (c : Bool). (if c then 1 else 0) + times i js) (id_eq-swap i j ∙ same) in omega (arith, f))
-  | inr apart ↦
-      let rest : is_among i js ≡ true = sym (ap (λ (c : Bool). c || is_among i js) apart) ∙ e in
-      let least = times_among i js rest in
-      omega (arith, least)
+  | inr apart ↦ omega (arith, times_among i js (sym (ap (λ (c : Bool). c || is_among i js) apart) ∙ e))
 ]
 
 -- what goes on, and what doesn't
@@ -59,15 +56,12 @@ not_held b pt m p z i t run told between least e = false≢true (sym (held_plain
 own_if : (v : View) (l : Placed) (at moves : ℕ) (i : MsgId) (x : Message) (o : Option Message) → l.bag i ≡ o → option_map (sent_on at moves) o ≡ Some x → (y : Message) × (l.bag i ≡ Some y) × (sent_on at moves y ≡ x)
 own_if v l at moves i x o is e = grind (arith, nat_tests, some_same)
 
-plain_none : (x : Message) (o : Option PlainWhat) → with_what x o ≡ None → o ≡ None
-plain_none x o none = grind (arith, nat_tests)
-
 pub own_on : (v w : View) (l : Placed) (at moves : ℕ) (ids : List MsgId) → w.told ≡ v.told → AllOwnStand v l → AllOwnStand w (sent_all l at moves ids)
 own_on v w l at moves ids e h i x there none = elim (cases_Bool (is_among i ids)) [
   | inl on ↦
       let (y, was, is) = own_if v l at moves i x (l.bag i) refl (sym (ap (λ (c : Bool). if c then option_map (sent_on at moves) (l.bag i) else l.bag i) on) ∙ there) in
-      let plain : plain_what y.what ≡ None = ap (λ (z : Message). plain_what z.what) is ∙ plain_none x (plain_what x.what) none in
-      let g = h i y was (ap (with_what y) plain) in
+      let plain_none : (plain_what x.what) ≡ None = grind (arith, nat_tests) in
+      let g = h i y was (ap (with_what y) (ap (λ (z : Message). plain_what z.what) is ∙ plain_none)) in
       record { told = ap (λ (f : MsgId → Option Told). f i) e ∙ g.told ∙ ap (λ (z : Message). Some (told_of z)) is; mine = g.mine; sender = λ c. sym (ap (λ (z : Message). z.sender.pid) is) ∙ g.sender (ap (λ (z : Message). kind_of z.what) is ∙ c) }
   | inr off ↦
       let g = h i x (sym (ap (λ (c : Bool). if c then option_map (sent_on at moves) (l.bag i) else l.bag i) off) ∙ there) none in
@@ -96,9 +90,7 @@ on_rule_parts bag at moves (i ∷ is) [] named e = cc
 on_rule_parts bag at moves (i ∷ is) (m ∷ ms) named e =
     let first : bag i ≡ Some m = cc in
     let more : map bag is ≡ map Some ms = cc in
-    let name = named i m first in
-    let rest = on_rule_parts bag at moves is ms named more in
-    λ c. rule.Again (name c) at ∷ rest c
+    λ c. rule.Again ((named i m first) c) at ∷ (on_rule_parts bag at moves is ms named more) c
 
 pub all_may : (pt : Point) (placed : Placed) (records : AllRecords) (at moves : ℕ) (bag : MsgId → Option Message) (is : List MsgId) (ms : List Message)
     → ((i : MsgId) (x : Message) → 1 ≤ times i is → bag i ≡ Some x → MayPut pt placed records (On (sent_on at moves x))) → AreMessages bag is ms → AllMayPut pt placed records (map On (map (sent_on at moves) ms))
@@ -167,9 +159,7 @@ gone_taken m end p to moves known = ap (λ (n : Known). record { slots = takes_r
 
 pub room_released : (t given : Taken) (o n : Room) (blocks : ℕ) → RoomStands t given o → n.slots + 1 ≡ o.slots + 0 → n.blocks + blocks ≡ o.blocks + 0 → RoomStands (with_released t blocks) given n
 room_released t given o n blocks h slots pieces =
-    let a = h.taken_slots in
-    let c = h.taken_blocks in
-    record { slots = h.slots; blocks = h.blocks; taken_slots = omega (arith, a, slots); taken_blocks = omega (arith, c, pieces) }
+    record { slots = h.slots; blocks = h.blocks; taken_slots = omega (arith, h.taken_slots, slots); taken_blocks = omega (arith, h.taken_blocks, pieces) }
 
 pub life_some : (o : Option Life) (x : PlainProcess) → kernel.alive o ≡ Some x → is_some o ≡ true
 life_some o x e = grind (arith, nat_tests)

@@ -66,11 +66,8 @@ same_end q m c x true out = record { kernel = refl; addresses = refl; acting = r
 same_end q m c x false false = record { kernel = refl; addresses = refl; acting = refl; count = refl; told = refl; topic = refl; asked = refl; groups = refl }
 same_end q m c x false true = record { kernel = refl; addresses = refl; acting = refl; count = refl; told = refl; topic = refl; asked = refl; groups = refl }
 
-kernels_not_own : (i : MsgId) (o : Option Told) → is_kernels i ≡ false → is_own i o ≡ false
-kernels_not_own i o e = grind (arith, nat_tests)
-
 pub first_not_own : (pt : Point) (l : Placed) (records : AllRecords) (x : Message) → Sane pt → Mirrors pt.kernel pt.view pt.addresses l → MayPut pt l records (First x) → is_own x.id (pt.view.told x.id) ≡ false
-first_not_own pt l records x sane mirrors may = grind (arith, nat_tests, plain_of, kernels_not_own, not_kernels)
+first_not_own pt l records x sane mirrors may = grind (arith, nat_tests, plain_of, not_kernels)
 
 pub on_not_own : (pt : Point) (l : Placed) (records : AllRecords) (x : Message) → MayPut pt l records (On x) → is_own x.id (pt.view.told x.id) ≡ false
 on_not_own pt l records x may = not_first x.id (pt.view.told x.id) may.1.0 may.1.1
@@ -250,9 +247,6 @@ all_grow (r ∷ rs) late q v e fits =
 own_counted : (i : MsgId) (o : Option Told) (f : ℕ → ℕ) (m n : ℕ) → is_own i o ≡ true → i.from.home ≡ m → (if is_own i o then at_machine f i.from.home (f i.from.home + 1) else f) n ≡ at_machine f m (f m + 1) n
 own_counted i o f m n own home = ap (λ (t : Bool). (if t then at_machine f i.from.home (f i.from.home + 1) else f) n) own ∙ ap (λ (k : ℕ). at_machine f k (f k + 1) n) home
 
-untold_own : (i : MsgId) (o : Option Told) (v : View) → o ≡ None → i ≡ own_id v → is_own i o ≡ true
-untold_own i o v e is = grind (arith, nat_tests)
-
 set_here : (f : ℕ → ℕ) (m x n : ℕ) → (m == n) ≡ true → at_machine f m x n ≡ x
 set_here f m x n e = ap (λ (t : Bool). if t then x else f n) e
 
@@ -265,7 +259,7 @@ count_here pt l records m (First x) home out sane mirrors acting self may =
     ap (λ (f : ℕ → ℕ). f m) (same_end pt m x.to.at x home out).count
     ∙ ap (λ (t : Bool). (if t then at_machine pt.view.count x.id.from.home (pt.view.count x.id.from.home + 1) else pt.view.count) m) (first_not_own pt l records x sane mirrors may) ∙ omega arith
 count_here pt l records m (On x) home out sane mirrors acting self may = grind (arith, nat_tests, same_end, on_not_own)
-count_here pt l records m (Own x) home out sane mirrors acting self may = grind (arith, nat_tests, same_end, own_counted, untold_own, set_here)
+count_here pt l records m (Own x) home out sane mirrors acting self may = grind (arith, nat_tests, same_end, own_counted, set_here)
 
 pub count_off : (pt : Point) (l : Placed) (records : AllRecords) (m n : ℕ) (r : Route) (home out : Bool) → Sane pt → Mirrors pt.kernel pt.view pt.addresses l → pt.view.acting ≡ m → (m == n) ≡ false → MayPut pt l records r
     → (put_end pt m (message_of r).to.at (message_of r) home out).view.count n ≡ pt.view.count n
@@ -273,4 +267,4 @@ count_off pt l records m n (First x) home out sane mirrors acting off may =
     ap (λ (f : ℕ → ℕ). f n) (same_end pt m x.to.at x home out).count
     ∙ ap (λ (t : Bool). (if t then at_machine pt.view.count x.id.from.home (pt.view.count x.id.from.home + 1) else pt.view.count) n) (first_not_own pt l records x sane mirrors may)
 count_off pt l records m n (On x) home out sane mirrors acting off may = grind (arith, nat_tests, same_end, on_not_own)
-count_off pt l records m n (Own x) home out sane mirrors acting off may = grind (arith, nat_tests, same_end, own_counted, untold_own, set_off)
+count_off pt l records m n (Own x) home out sane mirrors acting off may = grind (arith, nat_tests, same_end, own_counted, set_off)

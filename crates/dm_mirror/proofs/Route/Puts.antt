@@ -282,12 +282,8 @@ late_lines q late m c x home out = grind (arith, nat_tests)
 pub late_pair : (q : Point) (late : Late) → (late_point q late).view.pair ≡ q.view.pair
 late_pair q late = grind (arith, nat_tests)
 
--- what is given to a kernel's own message is by the machine that acts
-own_given_same : (s : OneKernel) (v u : View) (a : Addresses) (id : MsgId) (q : Pid) (w : Sort) → u.acting ≡ v.acting → own_given s u a id q w ≡ own_given s v a id q w
-own_given_same s v u a id q w e = grind (arith, nat_tests)
-
 pub own_gives_same : (s : OneKernel) (v u : View) (a : Addresses) (id : MsgId) (q : Pid) (k : MessageKind) → u.acting ≡ v.acting → own_gives s u a id q k ≡ own_gives s v a id q k
-own_gives_same s v u a id q k e = own_given_same s v u a id q (sort_of k) e
+own_gives_same s v u a id q k e = grind (arith, nat_tests)
 
 -- a put, where the message is told to be about this
 abbrev put_about : Point → ℕ → ℕ → Message → About → Addresses → Point

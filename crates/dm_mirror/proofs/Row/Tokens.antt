@@ -27,16 +27,6 @@ carries_on p x k n a c (What.AllTaken pid) same h = subst (λ (o : Option Arriva
 carries_on p x k n a c (What.Restart pid) same h = subst (λ (o : Option Arrival). Carries p x k n o (What.Restart pid)) (same refl) h
 carries_on p x k n a c w same h = absurd h
 
--- what the two machines know
-early_leaves : (k : MessageKind) → is_early k ≡ true → is_restart k ≡ false
-early_leaves k e = grind (arith, nat_tests)
-
-source_moving : (k : MessageKind) (d : ℕ) (x : Known) → is_early k ≡ true → kind_leaves k d x ≡ true → is_moving x ≡ true
-source_moving k d x early h = grind (arith, nat_tests, early_leaves, left_true)
-
-destination_moving : (k : MessageKind) (s : ℕ) (x : Known) → is_early k ≡ false → kind_comes k s x ≡ true → is_moving x ≡ true
-destination_moving k s x late h = grind (arith, nat_tests)
-
 at_source : (k : MessageKind) (s d : ℕ) (i : MsgId) (x : Known) → knows (Moves k s d (Some i)) s x ≡ true → kind_leaves k d x ≡ true
 at_source k s d i x h = sym (on_if (s == s) (kind_leaves k d x) (if d == s then kind_comes k s x else is_away x) (eq_self s)) ∙ h
 
@@ -61,12 +51,12 @@ moving_by : (v : View) (p : Pid) (i : MsgId) (t : Told) (k : MessageKind) (s d :
     → Moving v p i t
 moving_by v p i t k s d is from apart known true early = record {
   at = s;
-  moving = source_moving k d (v.known s p) early (at_source k s d i (v.known s p) (known s));
+  moving = grind (arith, nat_tests, left_true, (at_source k s d i (v.known s p) (known s)));
   comes_ = λ late. absurd (false≢true (sym late ∙ ap (λ (u : Told). is_early u.kind) is ∙ early));
 }
 moving_by v p i t k s d is from apart known false late = record {
   at = d;
-  moving = destination_moving k s (v.known d p) late (at_destination k s d i (v.known d p) apart (known d));
+  moving = grind (arith, nat_tests, (at_destination k s d i (v.known d p) apart (known d)));
   comes_ = λ e. sym (ap (destination_of i) is ∙ destination_is i p k s d from);
 }
 
@@ -81,9 +71,6 @@ moving_of v p i t z h told b about st =
     let is : t ≡ told_between p k s d = cc in
     let apart : (is_between k && not (s == d)) ≡ true = sym (ap is_apart now) ∙ (h.each p).apart in
     moving_by v p i t k s d is token.from (not_is (s == d) (right_true (is_between k) (not (s == d)) apart)) (λ m. ap (λ (x : Phase). knows x m (v.known m p)) (sym now) ∙ (h.each p).known m) (is_early k) refl
-
-pub has_moving : (k : Known) → is_moving k ≡ true → has_process k ≡ true
-has_moving k h = grind (arith, nat_tests)
 
 -- what a row leaves of what moves
 pub record LeavesMoving (pt : Point) (l : Placed) (records : AllRecords) (next : Point) (placed : Placed) (after : AllRecords) : Type 0 where
@@ -149,11 +136,11 @@ row_leaves : (b : Boot) (m : ℕ) (pt : Point) (l : Placed) (records : AllRecord
 row_leaves b m pt l records k run same r = record {
   process = λ n p is. elim (eqb_tells n m) [
     | inl e ↦ (r.moving p (subst (λ (q : ℕ). is_moving (pt.view.known q p) ≡ true) e.1 is)).0
-    | inr e ↦ r.elsewhere.process n p e.1 (has_moving (pt.view.known n p) is)
+    | inr e ↦ r.elsewhere.process n p e.1 (grind (arith, nat_tests))
   ];
   notes = λ n p is. elim (eqb_tells n m) [
     | inl e ↦ (r.moving p (subst (λ (q : ℕ). is_moving (pt.view.known q p) ≡ true) e.1 is)).2
-    | inr e ↦ r.elsewhere.notes n p e.1 (has_moving (pt.view.known n p) is)
+    | inr e ↦ r.elsewhere.notes n p e.1 (grind (arith, nat_tests))
   ];
   records_ = λ n p is. elim (eqb_tells n m) [
     | inl e ↦
