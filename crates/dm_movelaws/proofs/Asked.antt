@@ -1,7 +1,5 @@
 -- Lemmas of the family Asked, by file.
 pub mod Following
-pub mod Rows
-pub mod Kernel
 pub mod Always
 pub mod Said
 pub mod Causes

@@ -1,6 +1,5 @@
 -- Lemmas of the family At, by file.
 pub mod RestPairs
-pub mod RestBuried
 pub mod RestOnly
 pub mod RestQueues
 pub mod RestAlways

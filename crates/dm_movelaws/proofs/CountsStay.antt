@@ -1,11 +1,11 @@
 -- The count of an address that a process or a server has doesn't fall until a step gives it a new one.
 use Rattle.dm_movelaws.proofs.Names.{◌≡◌, ℕ, ◌≤◌, ◌||◌, Bool, true, false, List, [], ◌∷◌, refl, ap, ◌∙◌, sym, subst, arith, nat_tests, Option, Some, Pid, Place, MsgId, MessageKind, OneKernel, bind-is, Line, Addresses, Holder, Receiver}
-use Rattle.dm_movelaws.proofs.Names.{Gets, holder_eq, given, gives, belongs_to, leads_to, forwards, all_follow, own_gives, first_gives, updated, addresses_after, Point, label_of, kernel_after, moved, after_line, after, View, Told, is_owned}
-use Rattle.dm_movelaws.proofs.Names.{gives_to, is_filled, in_next, refilled, CountsStay, CountsKept, Updated, Sort, sort_of, own_given}
+use Rattle.dm_movelaws.proofs.Names.{Gets, holder_eq, given, gives, belongs_to, leads_to, forwards, all_follow, own_gives, first_gives, addresses_after, Point, label_of, kernel_after, moved, after_line, after, View, Told, is_owned}
+use Rattle.dm_movelaws.proofs.Names.{gives_to, is_filled, in_next, refilled, CountsStay, CountsKept, Updated}
+use Rattle.dm_rule.specs.View as view
 use Rattle.dm_movelaws.proofs.After.{group_after}
 use Rattle.dm_movelaws.proofs.Updates.Always.{updates_always}
-use Rattle.dm_movelaws.proofs.Promise.Before.{neither as either, not_given}
-use Rattle.dm_rule.specs.View as view
+use Rattle.dm_movelaws.proofs.Promise.Slots.{neither as either, not_given}
 
 abbrev count_of : Addresses → Holder → ℕ
 count_of a h = (a h).moves
@@ -24,18 +24,11 @@ follows_none : (v : View) (a : Addresses) (p : Pid) (h : Holder) (is : List MsgI
 follows_none v a p h [] e = refl
 follows_none v a p h (i ∷ is) e = ap (λ (c : Bool). c || gives_to h (all_follow v a p is)) (no_receiver i h e) ∙ follows_none v a p h is e
 
-own_none_by : (s : OneKernel) (v : View) (a : Addresses) (id : MsgId) (r : Pid) (h : Holder) (w : Sort) → is_owned h ≡ true → gives_to h (own_given s v a id r w) ≡ false
-own_none_by s v a id r h w e = grind (arith, nat_tests)
-
 own_none : (s : OneKernel) (v : View) (a : Addresses) (id : MsgId) (r : Pid) (h : Holder) (x : MessageKind) → is_owned h ≡ true → gives_to h (own_gives s v a id r x) ≡ false
-own_none s v a id r h x e = own_none_by s v a id r h (sort_of x) e
+own_none s v a id r h x e = grind (arith, nat_tests)
 
 first_none : (h : Holder) (o : Option Told) (gs : List Gets) → gives_to h gs ≡ false → gives_to h (first_gives o gs) ≡ false
 first_none h o gs e = grind (arith, nat_tests)
-
--- an update only raises
-update_raises : (s : OneKernel) (v : View) (a : Addresses) (h : Holder) (o : Option Told) → count_of a h ≤ (updated s v a o h).moves
-update_raises s v a h o = grind (arith, nat_tests)
 
 -- each line
 by_line : (pt : Point) (l : Line) (h : Holder) → is_owned h ≡ true → is_filled pt (label_of l) h ≡ false → count_of pt.addresses h ≤ count_of (addresses_after pt.kernel pt.view pt.addresses l) h
@@ -43,12 +36,8 @@ by_line pt (Line.Label l) h mine e = same_count pt.addresses (given pt.addresses
 by_line pt (Line.Forwarded id m) h mine e = search (same_count, not_given, forwards_none)
 by_line pt (Line.SentOn p n) h mine e = search (same_count, not_given, follows_none)
 by_line pt (Line.Put from to id x r) h mine e = search (same_count, not_given, first_none, own_none)
-by_line pt (Line.Updated id n) h mine e = update_raises pt.kernel pt.view pt.addresses h (pt.view.told id)
+by_line pt (Line.Updated id n) h mine e = grind (arith, nat_tests)
 by_line pt _ h mine e = omega arith
-
--- and so all lines of a group
-in_some : (o : Option Point) (f : Point → Bool) (next : Point) → o ≡ Some next → in_next o f ≡ false → f next ≡ false
-in_some o f next is e = sym (ap (λ (x : Option Point). in_next x f) is) ∙ e
 
 by_lines : (ls : List Line) (pt end : Point) (h : Holder) → is_owned h ≡ true → after pt ls ≡ Some end → refilled h pt ls ≡ false → count_of pt.addresses h ≤ count_of end.addresses h
 by_lines [] pt end h mine is e = let f : pt ≡ end = cc in same_count pt.addresses end.addresses h (sym (ap (λ (x : Point). x.addresses h) f))
@@ -58,7 +47,7 @@ by_lines (l ∷ ls) pt end h mine is e =
     let f : moved pt l s ≡ next = cc in
     let two = either (is_filled pt (label_of l) h) (in_next (after_line pt l) (λ next. refilled h next ls)) e in
     let one : count_of pt.addresses h ≤ count_of next.addresses h = subst (λ (x : Point). count_of pt.addresses h ≤ count_of x.addresses h) f (by_line pt l h mine two.0) in
-    let others = by_lines ls next end h mine rest (in_some (after_line pt l) (λ next. refilled h next ls) next first two.1) in
+    let others = by_lines ls next end h mine rest (sym (ap (λ (x : Option Point). in_next x (λ next. refilled h next ls)) first) ∙ two.1) in
     omega (arith, one, others)
 
 pub counts_stay : CountsStay
@@ -67,10 +56,6 @@ counts_stay b (d ∷ ds) pt end h mine (w, fit, is, unfilled, more) =
     let one = by_lines w.lines pt w.point h mine (group_after b pt d w is) unfilled in
     grind (arith, nat_tests, counts_stay b ds w.point end h mine more)
 
--- what belongs to a process or a server is its own
-owned_by : (q : Pid) (h : Holder) → belongs_to q h ≡ true → is_owned h ≡ true
-owned_by q h e = grind (arith, nat_tests)
-
 -- what an update told stays
 kept_by : (pt next end : Point) (id : MsgId) (n : ℕ) (t : Told) (p : Pid) (c : Place) (h : Holder) → Updated pt next id n → pt.view.told id ≡ Some t → t.about ≡ view.Place p c.at c.moves → belongs_to t.receiver h ≡ true → leads_to pt.kernel h ≡ Some p
     → count_of next.addresses h ≤ count_of end.addresses h → c.moves ≤ count_of end.addresses h
@@ -78,4 +63,4 @@ kept_by pt next end id n t p c h u told about mine leads stay = grind (arith, na
 
 pub counts_kept : CountsKept
 counts_kept b es more pt end d w id n t p c h earlier later valid leads is lines told about mine slot unfilled =
-    kept_by pt w.point end id n t p c h (updates_always b es pt d w id n earlier later valid leads is lines).1 told about mine slot (counts_stay b more w.point end h (owned_by t.receiver h mine) unfilled)
+    kept_by pt w.point end id n t p c h (updates_always b es pt d w id n earlier later valid leads is lines).1 told about mine slot (counts_stay b more w.point end h (grind (arith, nat_tests)) unfilled)

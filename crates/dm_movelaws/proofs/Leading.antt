@@ -87,6 +87,24 @@ abbrev pub Saying : (Line → Type 0) → Part → Type 0
 Saying Q (Says l) = Q l
 Saying Q _ = ⊤
 
+-- each line is so, where the parts say such lines
+abbrev pub AllLines : (Line → Type 0) → List Line → Type 0
+AllLines Q [] = ⊤
+AllLines Q (l ∷ ls) = Q l × AllLines Q ls
+
+lines_append : (Q : Line → Type 0) (xs ys : List Line) → AllLines Q xs → AllLines Q ys → AllLines Q (xs ++ ys)
+lines_append Q [] ys h k = k
+lines_append Q (x ∷ xs) ys h k = (h.0, lines_append Q xs ys h.1 k)
+
+pub parts_say : (Q : Line → Type 0) → ((a b : ℕ) (i : MsgId) (k : MessageKind) (q : Pid) → Q (Line.Put a b i k q)) → ((a b n : ℕ) (l : Load) → Q (Line.Packet a b n l)) → (ps : List Part) (pt : Point) (w : Spelled)
+    → All (Saying Q) ps → spelled pt ps ≡ Some w → AllLines Q w.lines
+parts_say Q put packet qs q w so is = by_parts (λ ps pt v. All (Saying Q) ps → AllLines Q v.lines) (λ pt so. tt) (λ p ps pt next ls z lines leads rest so. lines_append Q ls z.lines (lines_are (AllLines Q) pt p ls (record {
+  says = λ l e. (subst (Saying Q) e so.0, tt);
+  put = λ none a b i k q. (put a b i k q, tt);
+  goes = λ none a b n i k q l. (put a b i k q, (packet a b n l, tt));
+  packet = λ none a b n l. (packet a b n l, tt);
+}) lines) (rest so.1)) qs q w is so
+
 pub net_says : (Q : Line → Type 0) → ((l : Line) → IsNetLine l → Q l) → (ps : List Part) → IsNet ps → All (Saying Q) ps
 net_says Q so = by_net (All (Saying Q)) tt (λ l ps net h. (so l net, h)) (λ a b l ps h. (tt, h))
 

@@ -6,10 +6,10 @@ use Rattle.dm_movelaws.proofs.Names.{each_process, name_lines, child_lines, pend
 use Rattle.dm_movelaws.proofs.Names.{life_lines, IsSaid, LivesAreSaid, not, ◌&&◌, false≢true, MessageKind, Standing, or, Phase, Nowhere, Rests, Over, Moves, IsIn, knows, is_here, is_restart, is_early, Known, Unknown, Frozen, Forward}
 use Rattle.dm_movelaws.proofs.Names.{agrees, living, stands_by, IsPlace}
 use Rattle.dm_rule.specs.Ends.{awaits}
-use Rattle.dm_movelaws.proofs.At.RestAlways.{is_unknown_is as unknown_by}
-use Rattle.dm_movelaws.proofs.Stages.Spares.{restart_late}
 use Rattle.dm_onekernel.specs.Step as kernel
 use Rattle.dm_rule.specs.Phases as phases
+use Rattle.dm_movelaws.proofs.At.RestAlways.{is_unknown_is as unknown_by}
+use Rattle.dm_movelaws.proofs.Stages.Spares.{restart_late}
 
 -- the first of so many machines that is looked for
 record Finds (f : Known → Option Standing) (v : View) (p : Pid) (n : ℕ) : Type 0 where
@@ -34,9 +34,6 @@ has_stands k x e = grind (arith, nat_tests)
 awaits_stands : (k : Known) (x : Standing) → awaits k ≡ Some x → stands_by k ≡ Some x
 awaits_stands k x e = grind (arith, nat_tests)
 
-neither : (k : Known) (x : Standing) → standing_of k ≡ None → awaits k ≡ None → stands_by k ≡ Some x → ⊥
-neither k x a b e = grind (arith, nat_tests)
-
 -- a process that stands on some machine is found
 pub record Placed (pt : Point) (p : Pid) : Type 0 where
   pub at : Stood
@@ -58,7 +55,7 @@ placed pt p m x less some =
           is = ap (λ (y : Option Stood). or y (first_with awaits pt.view p n)) none.is ∙ found.is;
           place = record { machine = found.within; stands = awaits_stands (pt.view.known found.at.at p) found.at.standing found.stands };
         }
-        | inr nor ↦ absurd (neither (pt.view.known m p) x (none.none m less) (nor.none m less) some)
+        | inr nor ↦ absurd (grind (arith, nat_tests, (none.none m less), (nor.none m less)))
       ]
     ]
 
@@ -193,12 +190,9 @@ mute_memory : (p q : Pid) (bytes : List ℕ) (k : ℕ) → Mute p (memory_lines 
 mute_memory p q bytes zero = refl
 mute_memory p q bytes (suc k) = search (mute_both, mute_block, mute_memory p q bytes k)
 
-mute_slot : (p : Pid) (a : Addresses) (q : Pid) (k : ℕ) (o : Option PlainLink) → Mute p (slot_line a q k o)
-mute_slot p a q k o = grind (arith, nat_tests)
-
 mute_links : (p : Pid) (a : Addresses) (q : Pid) (k : ℕ) (ls : List (Option PlainLink)) → Mute p (link_lines a q k ls)
 mute_links p a q k [] = refl
-mute_links p a q k (l ∷ ls) = mute_both p (slot_line a q k l) (link_lines a q (k + 1) ls) (mute_slot p a q k l) (mute_links p a q (k + 1) ls)
+mute_links p a q k (l ∷ ls) = mute_both p (slot_line a q k l) (link_lines a q (k + 1) ls) (grind (arith, nat_tests)) (mute_links p a q (k + 1) ls)
 
 mute_state : (p : Pid) (a : Addresses) (q : Pid) (x : PlainProcess) → Mute p (state_lines a q x)
 mute_state p a q x = search (mute_both, mute_memory, mute_links)

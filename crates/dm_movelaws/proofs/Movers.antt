@@ -1,4 +1,3 @@
 -- Lemmas of the family Movers, by file.
 pub mod Says
-pub mod Rows
 pub mod Always

@@ -1,6 +1,5 @@
 -- Lemmas of the family Open, by file.
 pub mod Moves
-pub mod Quiet
 pub mod Fine
 pub mod Apart
 pub mod Stays

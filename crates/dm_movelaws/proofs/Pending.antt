@@ -1,4 +1,3 @@
 -- Lemmas of the family Pending, by file.
 pub mod Pairs
-pub mod Steps
 pub mod Always

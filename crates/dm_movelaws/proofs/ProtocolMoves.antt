@@ -1,9 +1,5 @@
 -- Each message of a migration that stands anywhere is the one that is under way of a process that moves.
-use Rattle.dm_movelaws.proofs.Names.{◌≡◌, ℕ, subst, Some, Pid, MsgId, MessageKind, Moves, IsIn, View, Told, token_is, run_always, ProtocolMoves}
-
--- what was told of the message says its kind
-kind_is : (v : View) (p : Pid) (i : MsgId) (t : Told) (k : MessageKind) (s d : ℕ) → v.told i ≡ Some t → IsIn v p (Moves k s d (Some i)) → k ≡ t.kind
-kind_is v p i t k s d told h = search
+use Rattle.dm_movelaws.proofs.Names.{◌≡◌, subst, Some, MessageKind, Moves, IsIn, token_is, run_always, ProtocolMoves}
 
 pub protocol_moves : ProtocolMoves
 protocol_moves b es pt i t z valid leads told between stands =
@@ -15,5 +11,5 @@ protocol_moves b es pt i t z valid leads told between stands =
       about = about;
       source = s;
       destination = d;
-      moves = subst (λ (x : MessageKind). IsIn pt.view p (Moves x s d (Some i))) (kind_is pt.view p i t k s d told moves) moves;
+      moves = subst (λ (x : MessageKind). IsIn pt.view p (Moves x s d (Some i))) (let e_ : k ≡ t.kind = search in e_) moves;
     }

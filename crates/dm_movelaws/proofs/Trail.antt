@@ -2,8 +2,5 @@
 pub mod Placed
 pub mod Loose
 pub mod Rows
-pub mod Forwards
-pub mod Hears
-pub mod Real
 pub mod Standing
 pub mod Known

@@ -1,3 +1,2 @@
 -- Lemmas of the family Updates, by file.
-pub mod Groups
 pub mod Always

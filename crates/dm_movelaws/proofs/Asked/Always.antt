@@ -2,9 +2,9 @@
 use Rattle.dm_movelaws.proofs.Names.{◌≡◌, ℕ, ◌+◌, List, [], ◌∷◌, refl, ap, ◌∙◌, sym, arith, Option, None, Some, Pid, MsgId, Label, Line, first_point, labels, label_of, with_label, after_replay, start, start-sound, in_bag}
 use Rattle.dm_movelaws.proofs.Names.{notes_always_agree, count, AnsweredAlways, asks_move}
 use Rattle.dm_movelaws.specs.Asked.{answers_move}
-use Rattle.dm_movelaws.proofs.Asked.Kernel.{asked_by, answered_by, of_labels, one_for, run_counts, counted_start}
 use Rattle.dm_movelaws.proofs.At.RestAlways.{at_rest_always}
 use Rattle.dm_movelaws.proofs.Open.Moves.{leads_of, run_after}
+use Rattle.dm_movelaws.proofs.Asked.Following.{asked_by, answered_by, of_labels, one_for, run_counts, counted_start}
 
 -- lines, by their labels
 line_asked : (i : MsgId) (l : Line) (ks : List Label) → of_labels (asked_by i) (with_label (label_of l) ks) ≡ one_for (asks_move i l) + of_labels (asked_by i) ks

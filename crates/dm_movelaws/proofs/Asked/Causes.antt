@@ -1,33 +1,21 @@
 -- The answer to a request to move follows at once on a line that is its cause.
-use Rattle.dm_movelaws.proofs.Names.{◌≡◌, Bool, true, false, List, [], ◌∷◌, ◌++◌, length, refl, ap, ◌∙◌, sym, subst, inl, inr, ⊤, cases_Bool, false≢true, if◌then◌else◌, Option, None, Some, Pid, pid_eq, pid_eq-is, MsgId, Outcome, MoveNote}
-use Rattle.dm_movelaws.proofs.Names.{PlainMessage, Boot, IsValid, Label, Line, Step, Told, View, Point, first_point, Part, Says, Routes, Spelled, spelled, lines_of, group_of, group_is, by_parts, answers_move, LeadsBy, Both, both_start}
+use Rattle.dm_movelaws.proofs.Names.{◌≡◌, Bool, true, false, List, [], ◌∷◌, ◌++◌, length, refl, ap, ◌∙◌, sym, subst, inl, inr, cases_Bool, false≢true, if◌then◌else◌, Option, None, Some, Pid, pid_eq, pid_eq-is, MsgId, Outcome, MoveNote}
+use Rattle.dm_movelaws.proofs.Names.{PlainMessage, Boot, IsValid, Label, Line, Step, Told, View, Point, first_point, Part, Says, Routes, Spelled, spelled, group_of, group_is, answers_move, LeadsBy, Both, both_start}
 use Rattle.dm_movelaws.proofs.Names.{both_group, run_start, run_group, Run, begun, receiver_of, append_assoc, answer_id, AnswersHaveCauses, HasCause, IsCause, is_answer_by, letter_of, act_of}
-use Rattle.dm_movelaws.proofs.Leading.{All, Saying, lines_are, next_of}
-use Rattle.dm_movelaws.proofs.Asked.Rows.{Row, Plain, Ends, IsHere, Leaves, AllUnmarked, EndLine, outcome_row, plain_notes, ends_notes, here_notes, here_gone, leaves_notes}
-use Rattle.dm_movelaws.proofs.Ends.Lines.{Extends}
-use Rattle.dm_movelaws.proofs.Ends.Own.{unmarked_answer}
+use Rattle.dm_movelaws.proofs.Leading.{All, AllLines, Saying, parts_say, next_of}
 use Rattle.dm_movelaws.proofs.Ends.Sources.{Sources, group_acts}
 use Rattle.dm_movelaws.proofs.Ends.Always.{step_for}
 use Rattle.dm_movelaws.proofs.Open.Stays.{Lies, First, Later, lies, none_there}
+use Rattle.dm_movelaws.proofs.Ends.Parts.{Extends}
+use Rattle.dm_movelaws.proofs.Ends.Groups.{unmarked_answer}
+use Rattle.dm_movelaws.proofs.Asked.Following.{Row, Plain, Ends, IsHere, Leaves, AllUnmarked, EndLine, outcome_row, plain_notes, ends_notes, here_notes, here_gone, leaves_notes}
 
 -- lines that answer no request
 abbrev Unsaid : Line → Type 0
 Unsaid l = is_answer_by (act_of l) ≡ false
 
-abbrev AllUnsaid : List Line → Type 0
-AllUnsaid [] = ⊤
-AllUnsaid (l ∷ ls) = Unsaid l × AllUnsaid ls
-
-unsaid_append : (xs ys : List Line) → AllUnsaid xs → AllUnsaid ys → AllUnsaid (xs ++ ys)
-unsaid_append [] ys h k = k
-unsaid_append (x ∷ xs) ys h k = (h.0, unsaid_append xs ys h.1 k)
-
-part_unsaid : (pt : Point) (p : Part) (ls : List Line) → Saying Unsaid p → lines_of pt p ≡ Some ls → AllUnsaid ls
-part_unsaid pt p ls so is = lines_are AllUnsaid pt p ls
-    (record { says = λ l e. (subst (Saying Unsaid) e so, tt); put = λ none a b i k q. (refl, tt); goes = λ none a b n i k q l. (refl, (refl, tt)); packet = λ none a b n l. (refl, tt) }) is
-
-parts_unsaid : (ps : List Part) (pt : Point) (w : Spelled) → All (Saying Unsaid) ps → spelled pt ps ≡ Some w → AllUnsaid w.lines
-parts_unsaid qs q w so is = by_parts (λ ps pt v. All (Saying Unsaid) ps → AllUnsaid v.lines) (λ pt so. tt) (λ p ps pt next ls z lines leads rest so. unsaid_append ls z.lines (part_unsaid pt p ls so.0 lines) (rest so.1)) qs q w is so
+parts_unsaid : (ps : List Part) (pt : Point) (w : Spelled) → All (Saying Unsaid) ps → spelled pt ps ≡ Some w → AllLines Unsaid w.lines
+parts_unsaid = parts_say Unsaid (λ a b i k q. refl) (λ a b n l. refl)
 
 unmarked_unsaid : (ps : List Part) → AllUnmarked ps → All (Saying Unsaid) ps
 unmarked_unsaid [] so = tt
@@ -35,7 +23,7 @@ unmarked_unsaid (Says l ∷ ps) so = (unmarked_answer l so.0, unmarked_unsaid ps
 unmarked_unsaid (p ∷ ps) so = (tt, unmarked_unsaid ps so.1)
 
 -- where the answer stands among lines that say one
-none_answers : (xs earlier g : List Line) (i : MsgId) (o : Outcome) → AllUnsaid xs → xs ≡ earlier ++ Line.Label (Label.Answered i o) ∷ g → ⊥
+none_answers : (xs earlier g : List Line) (i : MsgId) (o : Outcome) → AllLines Unsaid xs → xs ≡ earlier ++ Line.Label (Label.Answered i o) ∷ g → ⊥
 none_answers [] [] g i o h e = cc
 none_answers [] (y ∷ earlier) g i o h e = cc
 none_answers (x ∷ xs) [] g i o h e = let f : x ≡ Line.Label (Label.Answered i o) = cc in false≢true (sym h.0 ∙ ap (λ (l : Line). is_answer_by (act_of l)) f)
@@ -46,7 +34,7 @@ record Stands (earlier xs : List Line) (i j : MsgId) (o r : Outcome) : Type 0 wh
   request : i ≡ j
   outcome : o ≡ r
 
-only_answer : (xs zs earlier g : List Line) (j i : MsgId) (r o : Outcome) → AllUnsaid xs → AllUnsaid zs → xs ++ Line.Label (Label.Answered j r) ∷ zs ≡ earlier ++ Line.Label (Label.Answered i o) ∷ g → Stands earlier xs i j o r
+only_answer : (xs zs earlier g : List Line) (j i : MsgId) (r o : Outcome) → AllLines Unsaid xs → AllLines Unsaid zs → xs ++ Line.Label (Label.Answered j r) ∷ zs ≡ earlier ++ Line.Label (Label.Answered i o) ∷ g → Stands earlier xs i j o r
 only_answer [] zs [] g j i r o h k e = record { lines = refl; request = cc; outcome = cc }
 only_answer [] zs (y ∷ earlier) g j i r o h k e = absurd (none_answers zs earlier g i o k (let f : zs ≡ earlier ++ Line.Label (Label.Answered i o) ∷ g = cc in f))
 only_answer (x ∷ xs) zs [] g j i r o h k e = absurd (let f : x ≡ Line.Label (Label.Answered i o) = cc in false≢true (sym h.0 ∙ ap (λ (l : Line). is_answer_by (act_of l)) f))

@@ -4,11 +4,11 @@ use Rattle.dm_movelaws.proofs.Names.{PlainWhat, Outcome, MoveNote, Line, first_p
 use Rattle.dm_movelaws.proofs.Names.{manager_takes_lem, lands-is, after_step, fits_step, by_step, append_assoc, append-nil, ascends, came, stayed, View, switchboard, manager, labels, label_of, with_label, after_replay, start, start-sound}
 use Rattle.dm_movelaws.proofs.Names.{first_view, arith, nat_tests, MovedIsSaid, IsSaidOf, note-is, Follows, start_fits}
 use Rattle.dm_laws.proofs.Entered.{asks}
-use Rattle.dm_movelaws.proofs.Promise.Before.{step_pending}
-use Rattle.dm_movelaws.proofs.Open.Moves.{run_after}
 use Rattle.dm_onekernel.specs.Pieces as pieces
 use Rattle.dm_onekernel.specs.Service as service
 use Rattle.dm_onekernel.specs.Step as kernel
+use Rattle.dm_movelaws.proofs.Open.Moves.{run_after}
+use Rattle.dm_movelaws.proofs.Promise.Slots.{step_pending}
 
 -- the step that says it
 abbrev said_by : MsgId → Outcome → Label
@@ -45,16 +45,10 @@ abbrev is_moved : PlainWhat → Bool
 is_moved (PlainWhat.Moved o) = true
 is_moved w = false
 
-no_moved : (l : Label) (i : MsgId) (w : PlainWhat) (o : Outcome) → w ≡ PlainWhat.Moved o → is_moved w ≡ false → Cause l i o
-no_moved l i w o e off = absurd (false≢true (sym off ∙ ap is_moved e))
-
-gone_moved : (w v : PlainWhat) (o : Outcome) → service.gone_what w ≡ Some v → v ≡ PlainWhat.Moved o → (asks w ≡ true) × (o ≡ Outcome.Ended)
-gone_moved w v o e f = grind (arith, nat_tests)
-
 gone_cause : (r e : MsgId → ℕ) (s : OneKernel) (l : Label) (id : MsgId) (m : PlainMessage) (v : PlainWhat) (o : Outcome) → l ≡ Label.Gone id → s.bag id ≡ Some m → service.gone_what m.what ≡ Some v → v ≡ PlainWhat.Moved o → Sound r e s
     → Cause l (answer_to m v).id o
 gone_cause r e s l id m v o is there goes what h =
-    let g = gone_moved m.what v o goes what in
+    let g : (asks m.what ≡ true) × (o ≡ Outcome.Ended) = grind (arith, nat_tests) in
     record { request = id; name = ap answer_id (h.entered.named id m there); asked = h.entered.requests id m there g.0; is = is ∙ sym (ap (said_by id) g.1) }
 
 answered_cause : (r e : MsgId → ℕ) (s : OneKernel) (l : Label) (id : MsgId) (a o : Outcome) (p : Pid) (n : MoveNote) → l ≡ Label.Answered id a → PlainWhat.Moved a ≡ PlainWhat.Moved o → Follows s id a p n → Sound r e s → KernelFits s
@@ -91,9 +85,9 @@ step_came r e s t l h fits = by_step (Came s l) s t l (record {
   kills = λ id m x is w f i z there. inl (stayed s id i z there);
   reads = λ id m x base len is w f.
       (let b = PlainWhat.Block (take len (drop base x.memory)) in
-      put_came s (service.changed s id m x) l (answer_to m b) (stayed s id) (λ answers o what. no_moved l (answer_to m b).id b o what refl));
+      put_came s (service.changed s id m x) l (answer_to m b) (stayed s id) (λ answers o what. absurd (false≢true (sym refl ∙ ap is_moved what))));
   writes = λ id m x base bytes is w f.
-      put_came s (service.changed s id m (record x { memory = pieces.written_at x.memory base bytes })) l (answer_to m PlainWhat.Written) (stayed s id) (λ answers o what. no_moved l (answer_to m PlainWhat.Written).id PlainWhat.Written o what refl);
+      put_came s (service.changed s id m (record x { memory = pieces.written_at x.memory base bytes })) l (answer_to m PlainWhat.Written) (stayed s id) (λ answers o what. absurd (false≢true (sym refl ∙ ap is_moved what)));
   lands = λ id m x q y is w f c.
       put_came s (service.changed s id m y) l q (stayed s id) (λ answers o what. own_none l q.id m.to x.sent (lands-is m.to x m x.status (pieces.Next q y) c).0.id answers o);
   done = λ id m x c y is w f g i z there. inl (stayed s id i z there);
@@ -101,8 +95,8 @@ step_came r e s t l h fits = by_step (Came s l) s t l (record {
   manager = λ id m k is there c took.
       server_came s (record (without_message s id) { manager = k.manager }) l manager k.message s.manager.sent k.manager.sent (manager_takes_lem s.manager s.machines (length s.images) m m.what k took).2.sends (stayed s id);
   creates = λ id child m image links i is w found name.
-      put_came s (service.with_created (without_message s id) child i links) l (answer_to m (PlainWhat.Created child)) (stayed s id) (λ answers o what. no_moved l (answer_to m (PlainWhat.Created child)).id (PlainWhat.Created child) o what refl);
-  no_room = λ id a b m image links is w. put_came s (without_message s id) l (answer_to m PlainWhat.NoRoom) (stayed s id) (λ answers o what. no_moved l (answer_to m PlainWhat.NoRoom).id PlainWhat.NoRoom o what refl);
+      put_came s (service.with_created (without_message s id) child i links) l (answer_to m (PlainWhat.Created child)) (stayed s id) (λ answers o what. absurd (false≢true (sym refl ∙ ap is_moved what)));
+  no_room = λ id a b m image links is w. put_came s (without_message s id) l (answer_to m PlainWhat.NoRoom) (stayed s id) (λ answers o what. absurd (false≢true (sym refl ∙ ap is_moved what)));
 })
 
 -- among the steps so far
@@ -117,15 +111,12 @@ among_more l xs ys h = record { before = h.before; behind = h.behind ++ ys; is =
 abbrev AllSaid : List Label → OneKernel → Type 0
 AllSaid ls s = (i : MsgId) (m : PlainMessage) (o : Outcome) → i.answer ≡ false → s.bag (answer_id i) ≡ Some m → m.what ≡ PlainWhat.Moved o → Among (said_by i o) ls
 
-same_request : (i j : MsgId) → answer_id i ≡ answer_id j → i.answer ≡ false → j.answer ≡ false → j ≡ i
-same_request i j e a b = λ k. record { from = (sym e k).from; n = (sym e k).n; answer = (b ∙ sym a) k }
-
 said_step : (r e : MsgId → ℕ) (s t : OneKernel) (l : Label) (ls : List Label) → Sound r e s → KernelFits s → kernel.step s l ≡ Some t → AllSaid ls s → AllSaid (ls ++ l ∷ []) t
 said_step r e s t l ls h fits is said i m o asked there what = elim (step_came r e s t l h fits is (answer_id i) m there) [
   | inl was ↦ among_more (said_by i o) ls (l ∷ []) (said i m o asked was what)
   | inr new ↦
       let c = new refl o what in
-      let j : c.request ≡ i = same_request i c.request c.name asked c.asked in
+      let j : c.request ≡ i = λ k. record { from = (sym c.name k).from; n = (sym c.name k).n; answer = (c.asked ∙ sym asked) k } in
       record { before = ls; behind = []; is = ap (λ (x : Label). ls ++ x ∷ []) (c.is ∙ ap (λ (x : MsgId). said_by x o) j) }
 ]
 

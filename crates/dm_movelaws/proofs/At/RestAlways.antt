@@ -15,18 +15,15 @@ within_by b pt i z None there h least =
 pub within : (b : Boot) (pt : Point) (i : MsgId) (z : Spot) → Run b pt → 1 ≤ standing pt.view i z → machine_of z < pt.kernel.machines
 within b pt i z h least = subst (λ (n : ℕ). n < pt.kernel.machines) (h.found.at_ i z least) (within_by b pt i z (pt.kernel.bag i) refl h least)
 
-first_times : (i : MsgId) (is xs : List MsgId) → xs ≡ i ∷ is → 1 ≤ times i xs
-first_times i is xs e = grind (arith, nat_tests, id_eq-same)
-
 -- no message is on its way
 no_inbox : (b : Boot) (pt : Point) (m : ℕ) (is : List MsgId) → pt.view.inbox m ≡ is → Run b pt → IsQuiet pt.kernel.machines pt.view → pt.view.inbox m ≡ []
 no_inbox b pt m [] e h quiet = e
-no_inbox b pt m (i ∷ is) e h quiet = quiet.inbox m (within b pt i (Inbox m) h (first_times i is (pt.view.inbox m) e))
+no_inbox b pt m (i ∷ is) e h quiet = quiet.inbox m (within b pt i (Inbox m) h (grind (arith, nat_tests, id_eq-same)))
 
 no_untaken : (b : Boot) (pt : Point) (x y : ℕ) (is : List MsgId) → untaken (pt.view.pair x y) ≡ is → Run b pt → Routed pt.kernel.machines pt.view → IsQuiet pt.kernel.machines pt.view → untaken (pt.view.pair x y) ≡ []
 no_untaken b pt x y [] e h routed quiet = e
 no_untaken b pt x y (i ∷ is) e h routed quiet =
-    let to = within b pt i (Untaken x y) h (first_times i is (untaken (pt.view.pair x y)) e) in
+    let to = within b pt i (Untaken x y) h (grind (arith, nat_tests, id_eq-same)) in
     let p = pt.view.pair x y in
     elim (cases_Bool (nat_lt x pt.kernel.machines)) [
       | inl less ↦ ap (λ (n : ℕ). drop n p.ids) (quiet.taken x y (let f : x < pt.kernel.machines = grind (arith, nat_tests) in f) to) ∙ drop-length p.ids
@@ -82,20 +79,14 @@ waits_in b pt i x m p h rest there one others =
       alone = subst (λ (r : Pid). (z : Spot) → z ≢ Queue m r → standing pt.view i z ≡ 0) same others;
     }
 
-nothing_one : (i : MsgId) (xs : List MsgId) → xs ≡ [] → times i xs ≡ 1 → ⊥
-nothing_one i xs e one = let f : times i xs ≡ 0 = ap (times i) e in omega (arith, one, f)
-
 waits_at : (b : Boot) (pt : Point) (i : MsgId) (x : PlainMessage) (z : Spot) → Run b pt → Rest pt → pt.kernel.bag i ≡ Some x → standing pt.view i z ≡ 1 → ((y : Spot) → y ≢ z → standing pt.view i y ≡ 0) → IsWaiting pt i x
 waits_at b pt i x (Queue m p) h rest there one others = waits_in b pt i x m p h rest there one others
-waits_at b pt i x (Held m p) h rest there one others = absurd (nothing_one i (pt.view.held m p) (rest.held m p) one)
-waits_at b pt i x (Inbox m) h rest there one others = absurd (nothing_one i (pt.view.inbox m) (rest.calm.inbox m) one)
-waits_at b pt i x (Untaken c d) h rest there one others = absurd (nothing_one i (untaken (pt.view.pair c d)) (rest.calm.untaken c d) one)
-
-own_queue : (b : Boot) (pt : Point) (i : MsgId) (m : ℕ) (p : Pid) → Run b pt → is_kernels i ≡ true → standing pt.view i (Queue m p) ≡ 0
-own_queue b pt i m p h own = grind (arith, nat_tests, kernels_fresh)
+waits_at b pt i x (Held m p) h rest there one others = absurd (let f : times i (pt.view.held m p) ≡ 0 = ap (times i) (rest.held m p) in omega (arith, one, f))
+waits_at b pt i x (Inbox m) h rest there one others = absurd (let f : times i (pt.view.inbox m) ≡ 0 = ap (times i) (rest.calm.inbox m) in omega (arith, one, f))
+waits_at b pt i x (Untaken c d) h rest there one others = absurd (let f : times i (untaken (pt.view.pair c d)) ≡ 0 = ap (times i) (rest.calm.untaken c d) in omega (arith, one, f))
 
 own_nowhere : (b : Boot) (pt : Point) (i : MsgId) (z : Spot) → Run b pt → Rest pt → is_kernels i ≡ true → standing pt.view i z ≡ 0
-own_nowhere b pt i (Queue m p) h rest own = own_queue b pt i m p h own
+own_nowhere b pt i (Queue m p) h rest own = grind (arith, nat_tests, kernels_fresh)
 own_nowhere b pt i (Held m p) h rest own = ap (times i) (rest.held m p)
 own_nowhere b pt i (Inbox m) h rest own = ap (times i) (rest.calm.inbox m)
 own_nowhere b pt i (Untaken c d) h rest own = ap (times i) (rest.calm.untaken c d)

@@ -1,11 +1,116 @@
--- A process ends only where a group says so.
+-- Where a process has ended nothing comes to its queue: each group keeps it.
 use Rattle.dm_movelaws.proofs.Names.{◌≡◌, ℕ, ◌+◌, Bool, true, false, List, [], ◌∷◌, refl, ap, ◌∙◌, sym, false≢true, Option, None, Some, Pid, MsgId, MessageKind, plain_kind, Label, Step, Line, Stage, migrates, Part, Says, Routes, Spelled}
-use Rattle.dm_movelaws.proofs.Names.{spelled, Point, at_record, View, Told, Known, Here, Ended, view_after, handled, receiver_of, IsNetLine, IsNet, set_all, by_migrates, ◌++◌, ⊤, PlainMessage, Boot, manager, Addresses, forwards_on}
-use Rattle.dm_movelaws.proofs.Names.{sends_on, is_kill, Sane, by_hears, by_round, by_handles, by_forwards, queued_known, held_known, forwarded_known, proto_known, nat_tests, arith, aim, sets, Frozen}
-use Rattle.dm_movelaws.proofs.At.RestBuried.{Knows}
-use Rattle.dm_movelaws.proofs.Leading.{Behind, whatever_put, parts_lead, net_says, All, Saying}
+use Rattle.dm_movelaws.proofs.Names.{spelled, Point, at_record, View, Told, Known, Here, Ended, view_after, handled, receiver_of, IsNetLine, set_all, by_migrates, ◌++◌, ⊤, PlainMessage, Boot, manager, Addresses, forwards_on}
+use Rattle.dm_movelaws.proofs.Names.{sends_on, is_kill, Sane, by_hears, by_round, by_handles, by_forwards, queued_known, held_known, forwarded_known, proto_known, nat_tests, arith, aim, sets, Frozen, subst, PlainProcess, Life, Alive}
+use Rattle.dm_movelaws.proofs.Names.{OneKernel, after_step, is_away, kernel_after, label_of, group_of, without_id, without_front, Incoming, served_told, front_of, gone_to, Phased, KnownStands, group_keeps, Loud}
+use Rattle.dm_movelaws.proofs.Names.{keeps_by, killed_or}
 use Rattle.dm_rule.specs.View as view
 use Rattle.dm_rule.specs.Rule as rule
+use Rattle.dm_onekernel.specs.Step as kernel
+use Rattle.dm_movelaws.proofs.Leading.{Behind, whatever_put, parts_lead, All, Saying}
+
+abbrev pub Knows : Type 0
+Knows = ℕ → Pid → Known
+
+abbrev pub is_dead : Option Life → Bool
+is_dead (Some (Life.Ended y)) = true
+is_dead _ = false
+
+-- what had ended before has ended, and has no queue
+pub record Buried (before : Knows) (s : OneKernel) (v : View) : Type 0 where
+  pub known : (n : ℕ) (q : Pid) → before n q ≡ Ended → v.known n q ≡ Ended
+  pub queue : (n : ℕ) (q : Pid) → before n q ≡ Ended → v.queue n q ≡ []
+  pub dead : (n : ℕ) (q : Pid) → before n q ≡ Ended → is_dead (s.processes q) ≡ true
+
+abbrev Dies : OneKernel → OneKernel → Type 0
+Dies s t = (q : Pid) → is_dead (s.processes q) ≡ true → is_dead (t.processes q) ≡ true
+
+dies_label : (pt : Point) (t : OneKernel) (l : Label) → Sane pt → kernel.step pt.kernel l ≡ Some t → Dies pt.kernel t
+dies_label pt t l h e q dead = grind (arith, nat_tests, ((after_step h.r h.e pt.kernel t l e h.sound).grown.lives q))
+
+dies_by : (pt : Point) (t : OneKernel) (o : Option Label) → Sane pt → kernel_after pt.kernel o ≡ Some t → Dies pt.kernel t
+dies_by pt t None h e q dead = sym (ap (λ (k : OneKernel). is_dead (k.processes q)) (let f : pt.kernel ≡ t = cc in f)) ∙ dead
+dies_by pt t (Some l) h e q dead = dies_label pt t l h e q dead
+
+as_ : (before : Knows) (s t : OneKernel) (v w : View) → Dies s t → w.known ≡ v.known → w.queue ≡ v.queue → Buried before s v → Buried before t w
+as_ before s t v w dies known queue h = grind (arith, nat_tests)
+
+learns : (before : Knows) (s t : OneKernel) (v w : View) (p : Pid) (k : Known) → Dies s t → w.known ≡ at_record v.known v.acting p k → w.queue ≡ v.queue → (before v.acting p ≡ Ended → k ≡ Ended) → Buried before s v → Buried before t w
+learns before s t v w p k dies known queue new h = record {
+  known = λ n q e. ap (λ (f : Knows). f n q) known ∙ set_all (λ m r x. before m r ≡ Ended → x ≡ Ended) v.known v.acting p k new (λ m r off. h.known m r) n q e;
+  queue = λ n q e. ap (λ (f : ℕ → Pid → List MsgId). f n q) queue ∙ h.queue n q e;
+  dead = λ n q e. dies q (h.dead n q e);
+}
+
+queues : (before : Knows) (s t : OneKernel) (v w : View) (p : Pid) (xs : List MsgId) → Dies s t → w.known ≡ v.known → w.queue ≡ at_record v.queue v.acting p xs → (before v.acting p ≡ Ended → xs ≡ []) → Buried before s v → Buried before t w
+queues before s t v w p xs dies known queue new h = record {
+  known = λ n q e. ap (λ (f : Knows). f n q) known ∙ h.known n q e;
+  queue = λ n q e. ap (λ (f : ℕ → Pid → List MsgId). f n q) queue ∙ set_all (λ m r ys. before m r ≡ Ended → ys ≡ []) v.queue v.acting p xs new (λ m r off. h.queue m r) n q e;
+  dead = λ n q e. dies q (h.dead n q e);
+}
+
+same : (s : OneKernel) → Dies s s
+same s q e = e
+
+frozen_off : (to : ℕ) → Frozen to ≡ Ended → ⊥
+frozen_off to e = cc
+
+lives_off : (before : Knows) (s : OneKernel) (v : View) (p : Pid) (x : PlainProcess) → Buried before s v → s.processes p ≡ Some (Alive x) → before v.acting p ≡ Ended → ⊥
+lives_off before s v p x h alive e = false≢true (sym (ap is_dead alive) ∙ h.dead v.acting p e)
+
+dropped : (before : Knows) (s t : OneKernel) (v : View) (id : MsgId) (o : Option Pid) → Dies s t → Buried before s v → Buried before t (view.dropped_for (handled v id) id o)
+dropped before s t v id None dies h = as_ before s t v (handled v id) dies refl refl h
+dropped before s t v id (Some p) dies h =
+    queues before s t v (view.dropped_for (handled v id) id (Some p)) p (without_front id (v.queue v.acting p)) dies refl refl (λ e. ap (without_front id) (h.queue v.acting p e)) h
+
+served : (before : Knows) (s t : OneKernel) (v : View) (id : MsgId) (o : Option Told) → Dies s t → Buried before s v → Buried before t (served_told (handled v id) o)
+served before s t v id o dies h = grind (arith, nat_tests, as_, killed_or, learns)
+
+queued : (before : Knows) (s : OneKernel) (v : View) (id : MsgId) (o : Option Told) → ((t : Told) → o ≡ Some t → v.known v.acting t.receiver ≡ Here) → Buried before s v → Buried before s (view.queued_for (handled v id) id (receiver_of o))
+queued before s v id None here h = as_ before s s v (handled v id) (same s) refl refl h
+queued before s v id (Some t) here h =
+    queues before s s v (view.queued_for (handled v id) id (Some t.receiver)) t.receiver (v.queue v.acting t.receiver ++ id ∷ []) (same s) refl refl (λ e. absurd (cc (sym (here t refl) ∙ h.known v.acting t.receiver e))) h
+
+held : (before : Knows) (s : OneKernel) (v : View) (id : MsgId) (o : Option Told) → Buried before s v → Buried before s (view.held_for (handled v id) id (receiver_of o))
+held before s v id o h = grind (arith, nat_tests, as_, same)
+
+loud : (before : Knows) → Loud (λ pt. Buried before pt.kernel pt.view)
+loud before = record {
+  rides = grind (arith, nat_tests);
+  quiet = λ pt w t l e s told alike sane is h. subst (Buried before t) (sym e) (as_ before pt.kernel t pt.view w (dies_by pt t (label_of l) sane is) s.known s.queue h);
+  ran = λ pt t p k here alike sane is h. as_ before pt.kernel t pt.view (view_after pt.view (Line.Label (Label.Ran p k))) (dies_label pt t (Label.Ran p k) sane is) refl refl h;
+  receive = λ pt t p id here alike sane is h.
+      queues before pt.kernel t pt.view (view_after pt.view (Line.Label (Label.Receive p id))) p (without_id id (pt.view.queue pt.view.acting p)) (dies_label pt t (Label.Receive p id) sane is) refl refl (λ e. ap (without_id id) (h.queue pt.view.acting p e)) h;
+  refuse = λ pt t p id c here alike sane is h. as_ before pt.kernel t pt.view (view_after pt.view (Line.Label (Label.Refuse p id c))) (dies_label pt t (Label.Refuse p id c) sane is) refl refl h;
+  end = λ pt t p y rests sane is h. learns before pt.kernel t pt.view (view_after pt.view (Line.Label (Label.End p y))) p Ended (dies_label pt t (Label.End p y) sane is) refl refl (λ e. refl) h;
+  dropped = λ pt t id alike sane is h. dropped before pt.kernel t pt.view id (receiver_of (pt.view.told id)) (dies_label pt t (Label.Dropped id) sane is) h;
+  served = λ pt t id serves sane is h. served before pt.kernel t pt.view id (pt.view.told id) (dies_label pt t (Label.Served id) sane is) h;
+  created = λ pt t id p unborn sane is h.
+      learns before pt.kernel t pt.view (view_after pt.view (Line.Label (Label.Created id p))) p Here (dies_label pt t (Label.Created id p) sane is) refl refl (λ e. absurd (cc (sym (unborn.unknown pt.view.acting) ∙ h.known pt.view.acting p e))) h;
+  queued = λ pt id need sane h. queued before pt.kernel pt.view id (pt.view.told id) (λ t e. (need t e).here) h;
+  held = λ pt id need sane h. held before pt.kernel pt.view id (pt.view.told id) h;
+  frozen = λ pt p lives here h.
+      let set = sets pt.view p pt.view.topic in
+      learns before pt.kernel pt.kernel pt.view (view.after_stage pt.view p Stage.Frozen) p (Frozen (aim pt.view pt.view.topic)) (same pt.kernel) set.known set.queue (λ e. absurd (cc (sym here ∙ h.known pt.view.acting p e))) h;
+  accepted = λ pt p lives away h.
+      learns before pt.kernel pt.kernel pt.view (view.after_stage pt.view p Stage.Accepted) p (Incoming (front_of (pt.view.inbox pt.view.acting))) (same pt.kernel) refl refl
+      (λ e. absurd (false≢true (sym (ap is_away (h.known pt.view.acting p e)) ∙ away))) h;
+  left = λ pt p leaves h.
+      learns before pt.kernel pt.kernel pt.view (view.after_stage pt.view p Stage.Left) p (gone_to (pt.view.known pt.view.acting p) (pt.view.moves p + 1)) (same pt.kernel) refl refl
+      (λ e. absurd ((frozen_off leaves.to) (sym leaves.frozen ∙ h.known pt.view.acting p e))) h;
+  restarted = λ pt p lives off h.
+      learns before pt.kernel pt.kernel pt.view (view.after_stage pt.view p Stage.Restarted) p Here (same pt.kernel) refl refl (λ e. absurd (lives_off before pt.kernel pt.view p lives.process h lives.alive e)) h;
+  stays_ = λ pt p lives off h. learns before pt.kernel pt.kernel pt.view (view_after pt.view (Line.Stays p)) p Here (same pt.kernel) refl refl (λ e. absurd (lives_off before pt.kernel pt.view p lives.process h lives.alive e)) h;
+  sent_on = λ pt p n h. queues before pt.kernel pt.kernel pt.view (view_after pt.view (Line.SentOn p n)) p [] (same pt.kernel) refl refl (λ e. refl) h;
+}
+
+pub buried_group : (b : Boot) (pt : Point) (d : Step) (w : Spelled) → group_of b pt d ≡ Some w → Phased pt → KnownStands pt.kernel pt.view → ((n : ℕ) (q : Pid) → pt.view.known n q ≡ Ended → pt.view.queue n q ≡ []) → Buried pt.view.known w.point.kernel w.point.view
+buried_group b pt d w is phased known h =
+    let before = pt.view.known in
+    group_keeps (λ o. Buried before o.kernel o.view) (keeps_by (λ o. Buried before o.kernel o.view) (loud before)) b pt d w is phased known
+    (record { known = λ n q e. e; queue = h; dead = λ n q e. (let e_ : is_dead (pt.kernel.processes q) ≡ true = grind (arith, nat_tests) in e_) })
+
+-- A process ends only where a group says so.
 
 -- no process ends by such a line
 abbrev pub is_ending : Line → Bool
@@ -59,14 +164,11 @@ kill_ends o a id msg sane there on t told = (
 forwards_ends : (o : Point) (a : ℕ) (c : Addresses) (id : MsgId) (k : MessageKind) (sender : Pid) (to : ℕ) → Ends o a (forwards_on c id k sender to)
 forwards_ends o a c id k sender to = by_forwards (Ends o a) c id k sender to (Once (tt, tt)) (Once (tt, (tt, tt)))
 
-routes_stay : (m : Option PlainMessage) → AllStay (rule.routes m)
-routes_stay m = grind (arith, nat_tests)
-
 handles_ends : (b : Boot) (o : Point) (m : ℕ) (id : MsgId) (msg : PlainMessage) (ps : List Part) → Sane o → o.kernel.bag id ≡ Some msg → (t : Told) → o.view.told id ≡ Some t → rule.handles b o m id msg ≡ Some ps → Ends o m ps
 handles_ends b o m id msg ps sane there t told = by_handles (Ends o m) b o m id msg ps (record {
   created = λ fixed. Once (tt, tt);
   no_space = λ fixed slots blocks. Once (tt, tt);
-  took = λ fixed sent. Once (routes_stay sent);
+  took = λ fixed sent. Once (grind (arith, nat_tests));
   queued = λ here user. Once tt;
   served = λ here mild. Once (no_kill o m id msg [] sane there mild tt);
   answers = λ here mild i. Once (no_kill o m id msg (Routes i ∷ []) sane there mild (tt, tt));
@@ -145,11 +247,8 @@ stage_only before v p Stage.Left h = only_set before v (view.after_stage v p Sta
 stage_only before v p Stage.Restarted h = only_set before v (view.after_stage v p Stage.Restarted) p Here refl (here_not (v.known v.acting p ≡ Ended)) h
 stage_only before v p any_ h = only_as before v (view.after_stage v p any_) (λ n q. refl) h
 
-label_only : (before : Knows) (v : View) (l : Label) → is_ending (Line.Label l) ≡ false → Only before v → Only before (view_after v (Line.Label l))
-label_only before v l e h = grind (arith, nat_tests, only_as, dropped_known, only_set, here_not)
-
 line_only : (before : Knows) (v : View) (l : Line) → is_ending l ≡ false → Only before v → Only before (view_after v l)
-line_only before v (Line.Label l) e h = label_only before v l e h
+line_only before v (Line.Label l) e h = grind (arith, nat_tests, only_as, dropped_known, only_set, here_not)
 line_only before v (Line.Head d) e h = only_as before v (view_after v (Line.Head d)) (λ n q. ap (λ (f : Knows). f n q) (head_known v d)) h
 line_only before v (Line.Taken a b k) e h = grind (arith, nat_tests, only_as)
 line_only before v (Line.Queued id) e h = only_as before v (view_after v (Line.Queued id)) (λ n q. queued_known (handled v id) id (receiver_of (v.told id)) n q) h
@@ -168,11 +267,8 @@ pub parts_only : (before : Knows) (ps : List Part) (pt : Point) (w : Spelled) �
 parts_only before = parts_lead (λ q. Only before q.view) (λ q a b k l h. line_only before q.view (Line.Packet a b k l) refl h) PartStays (only_behind before)
 
 -- all directives but turns are so
-net_stays : (l : Line) → IsNetLine l → is_ending l ≡ false
+pub net_stays : (l : Line) → IsNetLine l → is_ending l ≡ false
 net_stays l h = grind (arith, nat_tests)
-
-pub nets_stay : (ps : List Part) → IsNet ps → AllStay ps
-nets_stay = net_says (λ l. is_ending l ≡ false) net_stays
 
 pub migrates_stay : (pt : Point) (p : Pid) → AllStay (migrates pt p)
 migrates_stay pt p = by_migrates AllStay pt p (refl, tt) (refl, tt) (λ n off is. (tt, tt))

@@ -1,10 +1,10 @@
 -- No message goes from a machine that there isn't.
 use Rattle.dm_movelaws.proofs.Names.{◌≡◌, ℕ, ◌<◌, ◌≤◌, Bool, true, false, List, [], ◌∷◌, ◌++◌, length, refl, subst, arith, if◌then◌else◌, nat_tests, Some, Pid, MsgId, MessageKind, Boot, IsValid, Step, Line, Load, IsStep, Leads, Part}
 use Rattle.dm_movelaws.proofs.Names.{Spelled, spelled, Point, first_point, moved, group_of, at_pair, View, Pair, view_after, after_head, after_put, IsNetLine, group_is, acting_label, touches, pair_same, taken_pair, acting_taken}
-use Rattle.dm_movelaws.proofs.Names.{proto_acting, queued_acting, held_acting, forwarded_acting, topic_by, label_of}
+use Rattle.dm_movelaws.proofs.Names.{proto_acting, queued_acting, held_acting, forwarded_acting}
+use Rattle.dm_rule.specs.View as view
 use Rattle.dm_movelaws.proofs.Leading.{All, Behind, whatever_put, parts_lead, Saying, outcome_says}
 use Rattle.dm_movelaws.proofs.After.{keeps_always}
-use Rattle.dm_rule.specs.View as view
 
 pub record Routed (n : ℕ) (v : View) : Type 0 where
   pub acting : v.acting < n
@@ -44,12 +44,8 @@ calm_of l e = grind (arith, nat_tests)
 net_calm : (l : Line) → IsNetLine l → is_calm l ≡ true
 net_calm l h = grind (arith, nat_tests)
 
--- each part keeps it
-about_routed : (n : ℕ) (w : View) (a : view.About) → Routed n w → Routed n (view.about w a)
-about_routed n w a h = record { acting = h.acting; none = h.none }
-
 routed_behind : (n : ℕ) (pt : Point) (p : Part) → PartCalm p → Routed n pt.view → Behind (λ q. Routed n q.view) pt p
-routed_behind n pt p calm h = whatever_put (λ q. Routed n q.view) pt p (λ l is s step. about_routed n (view_after pt.view l) (topic_by pt.kernel (view_after pt.view l).topic (label_of l)) (calm_line n pt.view l (subst PartCalm is calm) h)) (λ b i k q. put_routed n pt.view b i k q h) h
+routed_behind n pt p calm h = whatever_put (λ q. Routed n q.view) pt p (λ l is s step. record { acting = (calm_line n pt.view l (subst PartCalm is calm) h).acting; none = (calm_line n pt.view l (subst PartCalm is calm) h).none }) (λ b i k q. put_routed n pt.view b i k q h) h
 
 parts_routed : (n : ℕ) (ps : List Part) (pt : Point) (w : Spelled) → All PartCalm ps → spelled pt ps ≡ Some w → Routed n pt.view → Routed n w.point.view
 parts_routed n = parts_lead (λ q. Routed n q.view) (λ q a b k l h. packet_routed n q.view a b k l h) PartCalm (routed_behind n)

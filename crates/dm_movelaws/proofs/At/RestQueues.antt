@@ -2,13 +2,13 @@
 use Rattle.dm_movelaws.proofs.Names.{◌≡◌, ◌⊎◌, ℕ, ◌≤◌, true, false, List, [], ◌∷◌, refl, ap, ◌∙◌, sym, subst, inl, inr, arith, cases_Bool, false≢true, nat_tests, Option, None, Some, Pid, MsgId, MessageKind, Boot, Label, id_eq-same, Step}
 use Rattle.dm_movelaws.proofs.Names.{Line, Part, Says, Spelled, spelled, Point, moved, group_of, at_record, times, View, Told, Ended, view_after, handled, PlainMessage, IsValid, Leads, first_point, Spot, Queue, Inbox, standing, StandsRight}
 use Rattle.dm_movelaws.proofs.Names.{is_kernels, group_is, arrives_net, resends_net, stands_right, kernels_fresh, not_true, is_kill, says_next, DropsAlways, killed_or, stands_first, Run, told_of, more_front}
-use Rattle.dm_movelaws.proofs.At.RestBuried.{Knows, buried_group}
-use Rattle.dm_movelaws.proofs.At.RestOnly.{AllStay, LineEnds, LastEnds, Ends, Once, Runs, turns_ends, Only, only_as, parts_only, nets_stay, migrates_stay}
-use Rattle.dm_movelaws.proofs.After.{keeps_always}
 use Rattle.dm_laws.proofs.Equal as equal
 use Rattle.dm_rule.specs.Rule as rule
 use Rattle.dm_rule.specs.View as view
 use Rattle.dm_rule.proofs.Lines as lines
+use Rattle.dm_movelaws.proofs.At.RestOnly.{AllStay, LineEnds, LastEnds, Ends, Once, Runs, turns_ends, Only, only_as, parts_only, migrates_stay, is_ending, net_stays, Knows, buried_group}
+use Rattle.dm_movelaws.proofs.After.{keeps_always}
+use Rattle.dm_movelaws.proofs.Leading.{net_says}
 
 -- what is left of the queue of a process that has ended
 record Left (a : ℕ) (p : Pid) (known : Knows) (v : View) (ids : List MsgId) : Type 0 where
@@ -44,13 +44,10 @@ record Starts (o : Point) (a : ℕ) (v : View) : Type 0 where
   told : v.told ≡ o.view.told
   receivers : (p : Pid) (i : MsgId) → 1 ≤ times i (o.view.queue a p) → (t : Told) × (o.view.told i ≡ Some t) × (t.receiver ≡ p)
 
-left_starts : (o : Point) (a : ℕ) (p : Pid) (v w : View) → Starts o a v → w.acting ≡ v.acting → w.known ≡ at_record v.known v.acting p Ended → w.queue ≡ v.queue → w.told ≡ v.told → Left a p (at_record o.view.known a p Ended) w (o.view.queue a p)
-left_starts o a p v w h acting known queue told = grind (arith, nat_tests)
-
 ends_left : (o : Point) (a : ℕ) (p : Pid) (pt mid : Point) (ps : List Part) (rest : Spelled) → Starts o a pt.view → ps ≡ rule.drop_parts (o.view.queue a p) → spelled mid ps ≡ Some rest
     → mid.view.acting ≡ pt.view.acting → mid.view.known ≡ at_record pt.view.known pt.view.acting p Ended → mid.view.queue ≡ pt.view.queue → mid.view.told ≡ pt.view.told → Cleared o.view.known rest.point.view
 ends_left o a p pt mid ps rest h drops more acting known queue told =
-    cleared_left a p o.view.known rest.point.view (drops_left a p (at_record o.view.known a p Ended) (o.view.queue a p) mid rest (ap (spelled mid) (sym drops) ∙ more) (left_starts o a p pt.view mid.view h acting known queue told))
+    cleared_left a p o.view.known rest.point.view (drops_left a p (at_record o.view.known a p Ended) (o.view.queue a p) mid rest (ap (spelled mid) (sym drops) ∙ more) (grind (arith, nat_tests)))
 
 begins_only : (o : Point) (a : ℕ) (v : View) → Starts o a v → Only o.view.known v
 begins_only o a v h = record { only = λ n q e. sym (ap (λ (f : Knows). f n q) h.known) ∙ e }
@@ -134,10 +131,10 @@ group_cleared b pt (Step.Turn m) w is h =
     let ends : Ends pt m g.parts = turns_ends b pt m (pt.view.inbox m) g.parts h.based.phased.sane (λ i js box. told_of (pt.view.told i) (h.found.told i (Inbox m) (stands_first pt.view m i js box))) g.is in
     let start : Starts pt m (moved pt (Line.Head (Step.Turn m)) pt.kernel).view = record { acting = refl; known = refl; queue = refl; told = refl; receivers = λ p i least. receivers b pt m p i h least } in
     subst (λ (q : Point). Cleared pt.view.known q.view) g.point (ends_cleared pt m g.parts (moved pt (Line.Head (Step.Turn m)) pt.kernel) g.rest start ends g.said)
-group_cleared b pt (Step.Tick m) w is h = grind (arith, nat_tests, group_is, nets_stay, resends_net, cleared_only, parts_only)
+group_cleared b pt (Step.Tick m) w is h = grind (arith, nat_tests, group_is, net_says (λ l. is_ending l ≡ false) net_stays, resends_net, cleared_only, parts_only)
 group_cleared b pt (Step.Deliver a c k) w is h =
     let g = group_is b pt (Step.Deliver a c k) w is in
-    grind (arith, nat_tests, nets_stay, arrives_net, cleared_only, parts_only)
+    grind (arith, nat_tests, net_says (λ l. is_ending l ≡ false) net_stays, arrives_net, cleared_only, parts_only)
 group_cleared b pt (Step.Migrate p m) w is h =
     let g = group_is b pt (Step.Migrate p m) w is in
     grind (arith, nat_tests, migrates_stay, cleared_only, parts_only)

@@ -1,15 +1,94 @@
--- Wherever the rule leads, each directive to move a process has at most one end, and one where nothing is on its way.
-use Rattle.dm_movelaws.proofs.Names.{◌≡◌, ℕ, ◌+◌, List, [], ◌∷◌, length, refl, ap, subst, arith, Pid, MsgId, Boot, IsValid, Step, Line, IsStep, Point, first_point, IsQuiet, first_view, fits, LeadsBy, Both, both_start, both_group, run_start}
-use Rattle.dm_movelaws.proofs.Names.{run_group, asks, count, EndsAlways, nat_tests, own_ends, ◌∙◌}
-use Rattle.dm_movelaws.proofs.Ends.Lines.{Extends}
-use Rattle.dm_movelaws.proofs.Ends.Moving.{moving_in, waits_or}
-use Rattle.dm_movelaws.proofs.Ends.Open.{Opens}
-use Rattle.dm_movelaws.proofs.Ends.Parts.{count-append}
-use Rattle.dm_movelaws.proofs.Ends.Groups.{group_balance}
+-- Where nothing is on its way between machines, no kernel's own message stands anywhere, and no process moves.
+use Rattle.dm_movelaws.proofs.Names.{◌≡◌, ℕ, ◌+◌, List, [], ◌∷◌, length, refl, ap, subst, arith, Pid, MsgId, Boot, IsValid, Step, Line, IsStep, Point, first_point, IsQuiet, fits, LeadsBy, Both, both_start, both_group, run_start}
+use Rattle.dm_movelaws.proofs.Names.{run_group, asks, count, EndsAlways, nat_tests, own_ends, ◌∙◌, ◌⊎◌, ◌<◌, ◌≤◌, Bool, true, false, drop, sym, inl, inr, Option, None, Some, false≢true, drop-length, PlainMessage, Phase, Moves, is_due, IsIn}
+use Rattle.dm_movelaws.proofs.Names.{told_between, Spot, Queue, Held, Inbox, Untaken, times, untaken, standing, View, Told, is_kernels, letters, kernels_fresh, under_way, kernels_by, between_of, Run, is_moving}
+use Rattle.dm_movelaws.proofs.Names.{not_true, times_self}
+use Rattle.dm_movelaws.proofs.Ends.Open.{Opens, moving_in, waits_or, IsOpen, waits_moves}
+use Rattle.dm_movelaws.proofs.Ends.Parts.{count-append, Extends, plain_in_bag}
+use Rattle.dm_movelaws.proofs.Ends.Groups.{group_balance, owned, owned_zero, own-append, leads_next}
 use Rattle.dm_movelaws.proofs.Ends.Sources.{Sources, group_acts}
-use Rattle.dm_movelaws.proofs.Ends.Quiet.{quiet_stays, quiet_empty}
-use Rattle.dm_movelaws.proofs.Ends.Own.{owned, owned_zero, own-append, leads_next}
 use Rattle.dm_movelaws.proofs.Asked.Following.{noted_moves}
+use Rattle.dm_movelaws.proofs.At.RestAlways.{still_held as rests_empty}
+
+abbrev is_listed : Spot → Bool
+is_listed (Inbox m) = false
+is_listed (Untaken a b) = false
+is_listed _ = true
+
+nothing_stands : (i : MsgId) (xs : List MsgId) → xs ≡ [] → 1 ≤ times i xs → ⊥
+nothing_stands i xs none st = let z : times i xs ≡ 0 = ap (times i) none in omega (arith, z, st)
+
+less_or : (x y : ℕ) → (x < y) ⊎ (y ≤ x)
+less_or x y = grind (arith, nat_tests)
+
+drop_nothing : (k : ℕ) → drop {A = MsgId} k [] ≡ []
+drop_nothing k = grind (arith, nat_tests)
+
+-- streams are empty: all was taken, or nothing was routed
+stream_empty : (n : ℕ) (v : View) → IsQuiet n v → Sources n v → (a b : ℕ) → b < n → untaken (v.pair a b) ≡ []
+stream_empty n v quiet sources a b less = elim (less_or a n) [
+  | inl x ↦ ap (λ (k : ℕ). drop k (v.pair a b).ids) (quiet.taken a b x less) ∙ drop-length (v.pair a b).ids
+  | inr x ↦ ap (drop (v.pair a b).taken) (sources a b x) ∙ drop_nothing (v.pair a b).taken
+]
+
+-- a kernel's own message then stands in a list of a process, if anywhere
+own_listed : (b : Boot) (pt : Point) (h : Run b pt) (n : ℕ) → pt.kernel.machines ≡ n → IsQuiet n pt.view → Sources n pt.view → (i : MsgId) (t : Told) → pt.view.told i ≡ Some t → is_kernels i ≡ true → (z : Spot) → 1 ≤ standing pt.view i z → is_listed z ≡ true
+own_listed b pt h n is quiet sources i t told mine (Inbox m) st =
+    let less : m < n = subst (λ (k : ℕ). m < k) is (subst (λ (k : ℕ). k < pt.kernel.machines) (h.found.at_ i (Inbox m) st) (h.found.own_within i t told mine)) in
+    absurd (nothing_stands i (pt.view.inbox m) (quiet.inbox m less) st)
+own_listed b pt h n is quiet sources i t told mine (Untaken a c) st =
+    let less : c < n = subst (λ (k : ℕ). c < k) is (subst (λ (k : ℕ). k < pt.kernel.machines) (h.found.at_ i (Untaken a c) st) (h.found.own_within i t told mine)) in
+    absurd (nothing_stands i (untaken (pt.view.pair a c)) (stream_empty n pt.view quiet sources a c less) st)
+own_listed b pt h n is quiet sources i t told mine _ st = refl
+
+none_moves : (b : Boot) (pt : Point) (h : Run b pt) (n : ℕ) → pt.kernel.machines ≡ n → IsQuiet n pt.view → Sources n pt.view → (p : Pid) (x : Phase) → IsIn pt.view p x → is_due x ≡ false → moving_in x ≡ 0
+none_moves b pt h n is quiet sources p (Moves k s d None) i due = absurd (false≢true (sym due))
+none_moves b pt h n is quiet sources p (Moves k s d (Some id)) i due =
+    let token = i.token in
+    let mine = h.based.phased.sane.tells.own id (told_between p k s d) token.told (between_of k s d i.apart) in
+    let listed = own_listed b pt h n is quiet sources id (told_between p k s d) token.told mine token.spot token.stands in
+    absurd (false≢true (sym (let e_ : is_listed token.spot ≡ false = grind (arith, nat_tests, (token.ways token.spot token.stands)) in e_) ∙ listed))
+none_moves b pt h n is quiet sources p _ i due = refl
+
+pub quiet_stays : (b : Boot) (pt : Point) (h : Run b pt) (n : ℕ) → pt.kernel.machines ≡ n → IsQuiet n pt.view → Sources n pt.view → (p : Pid) → moving_in (h.based.phased.phases.of p) ≡ 0
+quiet_stays b pt h n is quiet sources p =
+    let phases = h.based.phased.phases in
+    none_moves b pt h n is quiet sources p (phases.of p) (phases.each p) (not_true (is_due (phases.of p)) (λ e. let f : None ≡ Some p = phases.put p e in cc))
+
+-- and nothing is held
+quiet_rests : (b : Boot) (pt : Point) (h : Run b pt) (n : ℕ) → pt.kernel.machines ≡ n → IsQuiet n pt.view → Sources n pt.view → (m : ℕ) (p : Pid) → is_moving (pt.view.known m p) ≡ false
+quiet_rests b pt h n is quiet sources m p = not_true (is_moving (pt.view.known m p)) (λ e.
+    let one = waits_moves pt.view h.based.phased.phases p m e in
+    let none = quiet_stays b pt h n is quiet sources p in
+    omega (arith, one, none))
+
+-- no kernel's own message stands anywhere
+pub quiet_own : (b : Boot) (pt : Point) (h : Run b pt) (n : ℕ) → pt.kernel.machines ≡ n → IsQuiet n pt.view → Sources n pt.view → (i : MsgId) (t : Told) → pt.view.told i ≡ Some t → is_kernels i ≡ true → (z : Spot) → 1 ≤ standing pt.view i z → ⊥
+quiet_own b pt h n is quiet sources i t told mine (Queue m p) st = grind (arith, nat_tests, kernels_fresh)
+quiet_own b pt h n is quiet sources i t told mine (Held m p) st =
+    nothing_stands i (pt.view.held m p) (h.based.lists.held m p (rests_empty (pt.view.known m p) (quiet_rests b pt h n is quiet sources m p))) st
+quiet_own b pt h n is quiet sources i t told mine any_ st = false≢true (own_listed b pt h n is quiet sources i t told mine any_ st)
+
+-- a request to move is a kernel's own
+outside : (p : Pid) (pt : Point) (b : Boot) (h : Run b pt) (i : MsgId) (o : Option PlainMessage) → IsOpen p pt.view i → pt.kernel.bag i ≡ o → pt.kernel.bag i ≡ None
+outside p pt b h i None is e = e
+outside p pt b h i (Some x) is e = absurd (false≢true (sym (plain_in_bag p pt i x h.based.phased.sane e is.told is.is) ∙ is.asks))
+
+pub open_own : (p : Pid) (pt : Point) (b : Boot) (h : Run b pt) (i : MsgId) → IsOpen p pt.view i → is_kernels i ≡ true
+open_own p pt b h i is =
+    let state = h.based.phased.state in
+    let (z, st) = is.stands in
+    let (q, way) = under_way (letters state.own pt.kernel.bag i) (standing pt.view i) z st (state.stands.kept i) in
+    kernels_by state.own pt.kernel.bag i q (is_kernels i) refl (outside p pt b h i (pt.kernel.bag i) is refl) way
+
+pub none_open : (p : Pid) (b : Boot) (pt : Point) (h : Run b pt) (n : ℕ) → pt.kernel.machines ≡ n → IsQuiet n pt.view → Sources n pt.view → (i : MsgId) → IsOpen p pt.view i → ⊥
+none_open p b pt h n is quiet sources i k = let (z, st) = k.stands in quiet_own b pt h n is quiet sources i k.told k.is (open_own p pt b h i k) z st
+
+pub empty_by : (p : Pid) (v : View) (ids : List MsgId) → ((i : MsgId) → IsOpen p v i → ⊥) → Opens p v ids → length ids ≡ 0
+empty_by p v [] none h = refl
+empty_by p v (i ∷ is) none h = absurd (none i (h.each i (times_self i is)))
+
+-- Wherever the rule leads, each directive to move a process has at most one end, and one where nothing is on its way.
 
 -- how many moves are under way that no process asked for
 abbrev moving_at : (b : Boot) (pt : Point) → Both b pt → Pid → ℕ
@@ -60,20 +139,13 @@ ran p b (d ∷ ds) pt end ls ids valid h sources opens (w, rest, fit, is, split,
           omega (arith, s, z, a, c));
     }
 
--- where a run begins nothing moves
-start_rests : (b : Boot) (p : Pid) (h : Both b (first_point b)) → moving_in (h.run.based.phased.phases.of p) ≡ 0
-start_rests b p h = grind (arith, nat_tests, waits_or)
-
 start_stays : (b : Boot) (p : Pid) (h : Both b (first_point b)) → moving_at b (first_point b) h p ≡ 0
-start_stays b p h = owned_zero ((first_point b).kernel.notes p) (moving_in (h.run.based.phased.phases.of p)) (start_rests b p h)
-
-start_opens : (b : Boot) (p : Pid) → Opens p (first_view b) []
-start_opens b p = grind (arith, nat_tests)
+start_stays b p h = owned_zero ((first_point b).kernel.notes p) (moving_in (h.run.based.phased.phases.of p)) (grind (arith, nat_tests, waits_or))
 
 pub ends_always : EndsAlways
 ends_always b es ls pt p valid leads =
     let h = both_start run_start b valid in
-    let r = ran p b es (first_point b) pt ls [] valid h (λ x y le. refl) (start_opens b p) leads in
+    let r = ran p b es (first_point b) pt ls [] valid h (λ x y le. refl) (grind (arith, nat_tests)) leads in
     let zero_ = start_stays b p h in
     let sum = r.sum in
     record {
@@ -82,7 +154,7 @@ ends_always b es ls pt p valid leads =
           let n = length b.machines in
           let is = r.both.run.based.machines in
           let still : IsQuiet n pt.view = subst (λ (k : ℕ). IsQuiet k pt.view) is quiet in
-          let none = quiet_empty p b pt r.both.run n r.left is still r.sources r.opens in
+          let none = empty_by p pt.view r.left (none_open p b pt r.both.run n is still r.sources) r.opens in
           let rests = owned_zero (pt.kernel.notes p) (moving_in (r.both.run.based.phased.phases.of p)) (quiet_stays b pt r.both.run n is still r.sources p) in
           omega (arith, zero_, sum, none, rests);
     }

@@ -1,26 +1,113 @@
--- What each group does with requests to move a process: directives and ends are counted against those that are under way.
+-- Ends of moves that no process asked for: those that no answer to a request follows.
 use Rattle.dm_movelaws.proofs.Names.{◌≡◌, ℕ, ◌+◌, Bool, true, List, [], ◌∷◌, length, refl, ap, ◌∙◌, sym, subst, inl, inr, arith, if◌then◌else◌, Option, Some, cases_Bool, Pid, pid_eq, MsgId, MessageKind, Boot, Step, Line, Child, migrates}
 use Rattle.dm_movelaws.proofs.Names.{View, Told, after_head, after_put, view_after, own_id, Point, Part, Says, Owns, Spelled, behind, spelled, group_of, IsNet, front_way, Phased, told_some, put_spots, put_at, head_calm, put_there, put_spot}
 use Rattle.dm_movelaws.proofs.Names.{InPhases, calm_phases, PairsFit, PacketsKeep, put_told_off, said, Sane, KnownStands, Begins, begins, WalksOf, loose_walks, begun, begun_sane, turned, resting, round_walks, handles_walks, asks, ends}
 use Rattle.dm_movelaws.proofs.Names.{count, first_none, by_migrates, by_outcome, group_is, None, false, label_of, nat_tests, seen_none, MoveNote, Outcome, PlainMessage, PlainWhat, Label, Stage, Target, Frozen, Known, Here, to_kernel}
-use Rattle.dm_movelaws.proofs.Names.{leaves_for, answers_move, said_by, part_sane, machine_in, move_target, sets, aim, asked_off, moved, is_moving, Walks, pid_eq-is, pid_eq-same, own_ends, ◌&&◌}
-use Rattle.dm_movelaws.proofs.Ends.Lines.{is_migrate, Extends, Still, plain_in_bag, own_untold, smooth_same, Tame, still_same}
-use Rattle.dm_movelaws.proofs.Ends.Net.{head_smooth, net_level, net_asks, net_ends}
-use Rattle.dm_movelaws.proofs.Ends.Parts.{packet_smooth, one_if, zero_if, parts_count, round_quiet, handles_quiet}
-use Rattle.dm_movelaws.proofs.Ends.Moving.{moving_in, still_moves}
-use Rattle.dm_movelaws.proofs.Ends.Open.{Opens, Adds, Balance, level_balance, smooth_opens, add_opens}
-use Rattle.dm_movelaws.proofs.Ends.Rows.{Turn, Comes, line_alone, quiet_row, and_off}
-use Rattle.dm_movelaws.proofs.Ends.Hears.{ComesOf, hears_comes}
-use Rattle.dm_movelaws.proofs.Leading.{next_of, part_leads}
+use Rattle.dm_movelaws.proofs.Names.{leaves_for, answers_move, said_by, part_sane, machine_in, move_target, sets, aim, asked_off, moved, is_moving, Walks, pid_eq-is, pid_eq-same, own_ends, ◌&&◌, not, ◌++◌, lines_of, LeadsBy, by_parts}
+use Rattle.dm_movelaws.proofs.Names.{is_answered_next, is_answer_by, act_of}
 use Rattle.dm_rule.specs.Rule as rule
-use Rattle.dm_movelaws.proofs.Ends.Own.{OwnBalance, owned, owned_zero, own_count, own_same, own_is, kept_own, end_ends, asker_here, head_still, asks_silent}
-use Rattle.dm_movelaws.proofs.Ends.Parts.{Rest, rest_packet, rest_behind, Handled, Quiets, SetsOff, part_count, unit_if}
-use Rattle.dm_movelaws.proofs.Ends.Rows.{line_then, other_still, pid_swap}
-use Rattle.dm_movelaws.proofs.Ends.Lines.{Smooth, smooth_trans, moves_none}
-use Rattle.dm_movelaws.proofs.Ends.Moving.{here_stays}
-use Rattle.dm_movelaws.proofs.Asked.Rows.{Row, Plain, Ends, IsHere, Leaves, outcome_row, plain_notes, ends_notes, here_notes, leaves_notes}
-use Rattle.dm_movelaws.proofs.Asked.Rows.{AllUnmarked, IsUnmarked, net_unmarked}
-use Rattle.dm_movelaws.proofs.Leading.{net_says}
+use Rattle.dm_movelaws.proofs.Ends.Parts.{packet_smooth, one_if, zero_if, parts_count, round_quiet, handles_quiet, Rest, rest_packet, rest_behind, Handled, Quiets, SetsOff, part_count, unit_if, is_migrate, Extends, Still, plain_in_bag}
+use Rattle.dm_movelaws.proofs.Ends.Parts.{own_untold, smooth_same, Tame, still_same, Smooth, smooth_trans, moves_none}
+use Rattle.dm_movelaws.proofs.Ends.Open.{Opens, Adds, Balance, level_balance, smooth_opens, add_opens, moving_in, still_moves, here_stays, Turn, Comes, line_alone, quiet_row, and_off, line_then, other_still, pid_swap, head_smooth}
+use Rattle.dm_movelaws.proofs.Ends.Open.{net_level, net_asks, net_ends}
+use Rattle.dm_movelaws.proofs.Ends.Hears.{ComesOf, kernel_comes, of_if, process_comes, server_comes}
+use Rattle.dm_movelaws.proofs.Leading.{next_of, part_leads, net_says, lines_are, asker_known}
+use Rattle.dm_movelaws.proofs.Asked.Following.{Row, Plain, Ends, IsHere, Leaves, outcome_row, plain_notes, ends_notes, here_notes, leaves_notes, AllUnmarked, IsUnmarked, net_unmarked, EndLine}
+use Rattle.dm_movelaws.proofs.Names.{hears}
+
+abbrev pub is_answer_part : List Part → Bool
+is_answer_part (Says l ∷ ps) = is_answer_by (act_of l)
+is_answer_part _ = false
+
+abbrev pub own_count : (MsgId → Option Told) → Pid → List Part → ℕ
+own_count f p [] = 0
+own_count f p (Says l ∷ ps) = unit_if (ends f p l && not (is_answer_part ps)) + own_count f p ps
+own_count f p (x ∷ ps) = own_count f p ps
+
+-- as the lines of the parts have it
+own_step : (f : MsgId → Option Told) (p : Pid) (pt : Point) (x : Part) (ps : List Part) (ls zs : List Line) → lines_of pt x ≡ Some ls → own_ends f p zs ≡ own_count f p ps → is_answered_next zs ≡ is_answer_part ps
+    → (own_ends f p (ls ++ zs) ≡ own_count f p (x ∷ ps)) × (is_answered_next (ls ++ zs) ≡ is_answer_part (x ∷ ps))
+own_step f p pt (Says l) ps ls zs is e n =
+    let k : l ∷ [] ≡ ls = cc in
+    subst (λ (xs : List Line). (own_ends f p (xs ++ zs) ≡ own_count f p (Says l ∷ ps)) × (is_answered_next (xs ++ zs) ≡ is_answer_by (act_of l))) k
+    (ap (λ (c : Bool). unit_if (ends f p l && not c) + own_ends f p zs) n ∙ ap (λ (m : ℕ). unit_if (ends f p l && not (is_answer_part ps)) + m) e, refl)
+own_step f p pt x ps ls zs is e n = grind (arith, nat_tests, lines_are)
+
+pub own_is : (f : MsgId → Option Told) (p : Pid) (ps : List Part) (pt : Point) (w : Spelled) → spelled pt ps ≡ Some w → (own_ends f p w.lines ≡ own_count f p ps) × (is_answered_next w.lines ≡ is_answer_part ps)
+own_is f p = by_parts (λ ps pt w. (own_ends f p w.lines ≡ own_count f p ps) × (is_answered_next w.lines ≡ is_answer_part ps)) (λ pt. (refl, refl)) (λ x ps pt next ls z lines leads rest. own_step f p pt x ps ls z.lines lines rest.0 rest.1)
+
+pub unmarked_answer : (l : Line) → IsUnmarked l → is_answer_by (act_of l) ≡ false
+unmarked_answer l h = grind (arith, nat_tests)
+
+unmarked_next : (ps : List Part) → AllUnmarked ps → is_answer_part ps ≡ false
+unmarked_next [] so = refl
+unmarked_next (Says l ∷ ps) so = unmarked_answer l so.0
+unmarked_next (x ∷ ps) so = refl
+
+and_true : (a b : Bool) → b ≡ false → unit_if (a && not b) ≡ unit_if a
+and_true a b e = grind (arith, nat_tests)
+
+pub own_same : (f : MsgId → Option Told) (p : Pid) (ps : List Part) → AllUnmarked ps → own_count f p ps ≡ part_count (ends f p) ps
+own_same f p [] so = refl
+own_same f p (Says l ∷ ps) so = let a = and_true (ends f p l) (is_answer_part ps) (unmarked_next ps so.1) in let h = own_same f p ps so.1 in omega (arith, a, h)
+own_same f p (x ∷ ps) so = own_same f p ps so.1
+
+-- a move is a process's own, unless it follows a request
+abbrev pub owned : Option MoveNote → ℕ → ℕ
+owned None n = n
+owned (Some k) n = 0
+
+pub owned_zero : (o : Option MoveNote) (n : ℕ) → n ≡ 0 → owned o n ≡ 0
+owned_zero None n e = e
+owned_zero (Some k) n e = refl
+
+-- what a group does, where only these ends count
+pub record OwnBalance (p : Pid) (w : View) (ids : List MsgId) (asked before behind : ℕ) (parts : List Part) : Type 0 where
+  pub left : List MsgId
+  pub opens : Opens p w left
+  pub quiet : part_count (asks p) parts ≡ 0
+  pub sum : (f : MsgId → Option Told) → Extends w.told f → asked + (length ids + before) ≡ own_count f p parts + (length left + behind)
+
+-- the process follows what it followed
+pub kept_own : (p : Pid) (w : View) (ids : List MsgId) (asked before behind : ℕ) (ps : List Part) (a : Option MoveNote) → ((f : MsgId → Option Told) → own_count f p ps ≡ part_count (ends f p) ps) → ((n : MoveNote) → a ≡ Some n → before ≡ 1)
+    → ((n : MoveNote) → a ≡ Some n → behind ≡ 1) → Balance p w ids asked before behind ps
+    → OwnBalance p w ids asked (owned a before) (owned a behind) ps
+kept_own p w ids asked before behind ps None same one two h = record { left = h.left; opens = h.opens; quiet = h.quiet; sum = λ f ext. (let s = h.sum f ext in let z = same f in omega (arith, s, z)) }
+kept_own p w ids asked before behind ps (Some n) same one two h =
+    let x = one n refl in
+    let y = two n refl in
+    record { left = h.left; opens = h.opens; quiet = h.quiet; sum = λ f ext. (let s = h.sum f ext in let z = same f in omega (arith, s, z, x, y)) }
+
+pub end_ends : (f : MsgId → Option Told) (p q : Pid) (r : Outcome) (l : Line) → EndLine q r l → ends f p l ≡ pid_eq p q
+end_ends f p q Outcome.Done l e = ap (ends f p) e
+end_ends f p q Outcome.Stayed l e = ap (ends f p) e
+end_ends f p q Outcome.Ended l e = absurd e
+
+-- a process that is asked to move where it is stays there
+pub asker_here : (pt : Point) (id : MsgId) (r : Outcome) (q : Pid) (w : Spelled) → spelled pt (rule.says (Label.Asked id) ∷ answers_move id r) ≡ Some w → pt.view.known pt.view.acting q ≡ Here → w.point.view.known pt.view.acting q ≡ Here
+asker_here pt id r q w e here =
+    let l = Line.Label (Label.Asked id) in
+    let n = next_of pt (Says l) (answers_move id r) w e in
+    let k = said_by pt n.next l n.steps in
+    let note : MoveNote = record { id = id; asker = q } in
+    ap (λ (x : Point). x.view.known pt.view.acting q) (sym n.point) ∙ asker_known pt.view.acting q Here (Some note) r n.next n.rest n.more (ap (λ (x : Point). x.view.known pt.view.acting q) (sym k.is) ∙ here)
+
+pub head_still : (p : Pid) (v : View) (d : Step) → Still p v (after_head v d)
+head_still p v d m = grind (arith, nat_tests)
+
+-- lists of lines, one after another
+pub own-append : (f : MsgId → Option Told) (p : Pid) (xs ys : List Line) → is_answered_next ys ≡ false → own_ends f p (xs ++ ys) ≡ own_ends f p xs + own_ends f p ys
+own-append f p [] ys e = omega arith
+own-append f p (x ∷ []) ys e = let a : own_ends f p (x ∷ ys) ≡ own_ends f p (x ∷ []) + own_ends f p ys = (let k = ap (λ (c : Bool). unit_if (ends f p x && not c)) e in omega (arith, k)) in a
+own-append f p (x ∷ y ∷ xs) ys e = let h = own-append f p (y ∷ xs) ys e in omega (arith, h)
+
+pub leads_next : (b : Boot) (es : List Step) (pt end : Point) (ls : List Line) → LeadsBy b pt es ls end → is_answered_next ls ≡ false
+leads_next b [] pt end ls (none, at) = ap is_answered_next none
+leads_next b (d ∷ ds) pt end ls (w, rest, fit, is, split, more) =
+    let k = group_is b pt d w is in
+    ap is_answered_next (split ∙ ap (λ (x : Spelled). x.lines ++ rest) (sym k.whole))
+
+-- What each group does with requests to move a process: directives and ends are counted against those that are under way.
 
 abbrev begun_phases : (pt : Point) (d : Step) → InPhases pt.view → InPhases (begun pt d).view
 begun_phases pt d h = calm_phases pt.view (after_head pt.view d) (head_calm pt.view d) h
@@ -224,6 +311,9 @@ handled_own p pt m id msg h ps w sane fits there row walks e (Quiets quiet) = ow
 handled_own p pt m id msg h ps w sane fits there row walks e (SetsOff to here what are) =
     subst (λ (xs : List Part). OwnDirected p (Step.Turn m) (turned pt m) h xs w) (sym are) (leaves_own p (Step.Turn m) (turned pt m) h id msg to w refl sane fits there here what (ap (spelled (turned pt m)) (sym are) ∙ e))
 
+pub hears_comes : (p : Pid) (b : Boot) (o : Point) (m : ℕ) (i : MsgId) (is : List MsgId) (t : Told) (h : Turn (turned o m) i is t) → ComesOf p (turned o m) h.phases (hears b o m i (Some t))
+hears_comes p b o m i is t h = search (of_if, kernel_comes, server_comes, process_comes)
+
 -- what comes of a directive
 directed : (p : Pid) (b : Boot) (pt : Point) (d : Step) (parts : List Part) (w : Spelled) (h : InPhases pt.view) → Phased pt → KnownStands pt.kernel pt.view → PairsFit pt.view → rule.outcome b pt d ≡ Some parts
     → spelled (begun pt d) parts ≡ Some w → OwnDirected p d (begun pt d) (begun_phases pt d h) parts w
@@ -271,7 +361,7 @@ whole_balance p d parts ids before behind start rest e h = record {
   opens = h.opens;
   sum = λ f ext.
       let s = h.sum f ext in
-      let a = parts_count (asks p) (asks_silent p) parts start rest e in
+      let a = parts_count (asks p) (record { put = λ a b i k q. refl; packet = λ a b k l. refl }) parts start rest e in
       let q = h.quiet in
       let o = (own_is f p parts start rest e).0 in
       omega (arith, s, a, q, o);

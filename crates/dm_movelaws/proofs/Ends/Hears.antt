@@ -1,21 +1,18 @@
 -- A turn that handles a kernel's own message: a request to move ends where it finds its process, and else goes on.
 use Rattle.dm_movelaws.proofs.Names.{◌≡◌, ℕ, ◌==◌, ◌&&◌, Bool, true, false, List, [], ◌∷◌, length, refl, ap, ◌∙◌, sym, subst, inl, inr, arith, if◌then◌else◌, Option, None, Some, cases_Bool, Pid, pid_eq, MsgId, MessageKind, Stage, Boot}
 use Rattle.dm_movelaws.proofs.Names.{manager, bind, pid_eq-is, Line, Addresses, Sender, is_told_back, to_kernel, forwards_on, kernel_told, here_told, ended_told, process_told, server_told, View, Told, About, Of, Known, Unknown, Here}
-use Rattle.dm_movelaws.proofs.Names.{Frozen, Forward, Ended, view_after, handled, handled_first, receiver_of, target_of, Point, moved, Part, Says, Again, Owns, Spelled, spelled, kernel_hears, hears, Spot, Inbox, ids_at, first_off}
+use Rattle.dm_movelaws.proofs.Names.{Frozen, Forward, Ended, view_after, handled, handled_first, receiver_of, target_of, Point, moved, Part, Says, Again, Owns, Spelled, spelled, kernel_hears, Spot, Inbox, ids_at, first_off}
 use Rattle.dm_movelaws.proofs.Names.{line_next, fits_put, pair_same, handled_spots, held_known, forwarded_spots, forwarded_known, put_spots, put_there, put_spot, InPhases, fits_as, PairsFit, sane_line, part_sane, AllLoose, loose_walks}
 use Rattle.dm_movelaws.proofs.Names.{turned, is_moving, is_for, frozen_off, ◌+◌, ◌++◌, ⊤, pid_of, PlainProcess, accepts, takes_chunk, takes_block, sends_on, chunks_of, pieces_of, Incoming, rejoins, front_of, gone_to, is_between, parts}
 use Rattle.dm_movelaws.proofs.Names.{at_record_off, due, Walks, asks, ends, accepted_off, state_off, memory_off, lacks_off, left_off, leaves, label_of, is_put, touches, nat_tests, sets, aim, at_record, MoveNote, Outcome, tells_asker}
 use Rattle.dm_movelaws.proofs.Names.{restarted_off, times}
-use Rattle.dm_movelaws.proofs.Ends.Lines.{is_migrate, asks_for, kind_not, Smooth, Still, smooth_trans, told_by, Tame, Foreign, still_by, smooth_still, moves_none}
-use Rattle.dm_movelaws.proofs.Ends.Parts.{AllQuiet, Rest, rest_packet, Settled, parts_settle, quiet_count, quiet_asks, told_quiet, one_if, zero_if, first_off as first_off_and}
-use Rattle.dm_movelaws.proofs.Ends.Moving.{moving_in, waits_moves, here_stays, still_moves, not_false, target_waits}
-use Rattle.dm_movelaws.proofs.Ends.Open.{IsOpen, level_balance, close_opens, smooth_opens}
-use Rattle.dm_movelaws.proofs.Ends.Rows.{Turn, plain_one, front_one, stands_front, first_smooth, first_closes, line_then, and_off, other_still, set_here, level_row, level_still, quiet_row, end_row, Comes, between_plain}
-use Rattle.dm_movelaws.proofs.Ends.Rows.{due_moves, about_same}
-use Rattle.dm_movelaws.proofs.Ends.Sends.{smooth_moves, held_smooth, again_told, all_sent, sent_smooth, sends_count, sent_begins, handled_smooth, rejoins_smooth}
-use Rattle.dm_movelaws.proofs.Leading.{next_of, part_leads}
 use Rattle.dm_rule.specs.View as view
-use Rattle.dm_movelaws.proofs.Leading.{asker_known}
+use Rattle.dm_movelaws.proofs.Ends.Parts.{AllQuiet, Rest, rest_packet, Settled, parts_settle, quiet_count, quiet_asks, told_quiet, one_if, zero_if, first_off as first_off_and, is_migrate, asks_for, kind_not, Smooth, Still, smooth_trans}
+use Rattle.dm_movelaws.proofs.Ends.Parts.{told_by, Tame, Foreign, still_by, smooth_still, moves_none}
+use Rattle.dm_movelaws.proofs.Ends.Open.{IsOpen, level_balance, close_opens, smooth_opens, moving_in, waits_moves, here_stays, still_moves, not_false, target_waits, Turn, plain_one, front_one, stands_front, first_smooth, first_closes}
+use Rattle.dm_movelaws.proofs.Ends.Open.{line_then, and_off, other_still, set_here, level_row, level_still, quiet_row, end_row, Comes, between_plain, due_moves, about_same}
+use Rattle.dm_movelaws.proofs.Leading.{next_of, part_leads, asker_known}
+use Rattle.dm_movelaws.proofs.Ends.Sources.{smooth_moves, held_smooth, again_told, all_sent, sent_smooth, sends_count, sent_begins, handled_smooth, rejoins_smooth}
 
 abbrev pub ComesOf : Pid → (pt : Point) → InPhases pt.view → Option (List Part) → Type 0
 ComesOf p pt h None = ⊤
@@ -199,9 +196,6 @@ forwarded_put p v i is t to b front told pairs =
     smooth_moves p v n i (λ j. again_told u u.acting b i t (same i ∙ told) j ∙ same j) (Inbox v.acting, front_one v v.acting i is front) (put_spot u.acting b, put_there u u.acting b i t.kind t.receiver pairs)
     (λ j e z. put_spots u u.acting b i j t.kind t.receiver pairs e z ∙ forwarded_spots (handled v i) j o z ∙ handled_spots v i j e z)
 
-told_loose : (c : Bool) (q : Pid) (to : ℕ) → AllLoose (if c then Owns MessageKind.Update q to ∷ [] else [])
-told_loose c q to = grind (arith, nat_tests)
-
 forwards_settle : (p : Pid) (pt : Point) (i : MsgId) (is : List MsgId) (t : Told) (to b : ℕ) (ps : List Part) (w : Spelled) → Turn pt i is t → ((v : View) → AllQuiet p v ps) → AllLoose ps → spelled pt (Says (Line.Forwarded i to) ∷ Again i b ∷ ps) ≡ Some w → Settled p pt.view w.point
 forwards_settle p pt i is t to b ps w h quiet loose e =
     let v = pt.view in
@@ -224,7 +218,7 @@ forwards_comes : (p : Pid) (pt : Point) (i : MsgId) (is : List MsgId) (t : Told)
 forwards_comes p pt i is t a k sender to h w e g ids opens =
     let ps = if is_told_back k then Owns MessageKind.Update sender (a (Sender i)).at ∷ [] else [] in
     let quiet : (v : View) → AllQuiet p v ps = λ v. told_quiet p v (is_told_back k) sender (a (Sender i)).at in
-    let s = forwards_settle p pt i is t to to ps w h quiet (told_loose (is_told_back k) sender (a (Sender i)).at) e in
+    let s = forwards_settle p pt i is t to to ps w h quiet (grind (arith, nat_tests)) e in
     let u = w.point.view in
     level_balance p pt.view u ids (moving_in (h.phases.of p)) (moving_in (g.of p)) (forwards_on a i k sender to) s.smooth opens (still_moves p pt.view u h.phases g s.still)
     (let c = quiet_asks p u ps (quiet u) in omega (arith, c)) (λ f ext. let c = quiet_count p u ps f (quiet u) ext in omega (arith, c))
@@ -309,11 +303,11 @@ over_comes p pt i is t MessageKind.Migrate h e = ended_comes p pt i is t h e
 over_comes p pt i is t MessageKind.Update h e = updated_comes p pt i is t 0 h e
 over_comes p pt i is t k h e = tt
 
-server_comes : (p : Pid) (o pt : Point) (i : MsgId) (is : List MsgId) (t : Told) (k : MessageKind) (h : Turn pt i is t) → t.kind ≡ k → ComesOf p pt h.phases (server_told o i t k)
+pub server_comes : (p : Pid) (o pt : Point) (i : MsgId) (is : List MsgId) (t : Told) (k : MessageKind) (h : Turn pt i is t) → t.kind ≡ k → ComesOf p pt h.phases (server_told o i t k)
 server_comes p o pt i is t MessageKind.Update h e = updated_comes p pt i is t _ h e
 server_comes p o pt i is t k h e = tt
 
-process_comes : (p : Pid) (o : Point) (m : ℕ) (i : MsgId) (is : List MsgId) (t : Told) (k : Known) (h : Turn (turned o m) i is t) → o.view.known m t.receiver ≡ k → ComesOf p (turned o m) h.phases (process_told o m i t k)
+pub process_comes : (p : Pid) (o : Point) (m : ℕ) (i : MsgId) (is : List MsgId) (t : Told) (k : Known) (h : Turn (turned o m) i is t) → o.view.known m t.receiver ≡ k → ComesOf p (turned o m) h.phases (process_told o m i t k)
 process_comes p o m i is t Unknown h known = tt
 process_comes p o m i is t Here h known = here_comes p o m i is t t.kind h refl known
 process_comes p o m i is t (Forward at moves) h known = forwards_comes p (turned o m) i is t o.addresses t.kind manager at h
@@ -323,12 +317,9 @@ process_comes p o m i is t _ h known = held_comes p (turned o m) i is t h
 of_bind : {X : Type 0} (p : Pid) (pt : Point) (h : InPhases pt.view) (x : Option X) (f : X → Option (List Part)) → ((y : X) → ComesOf p pt h (f y)) → ComesOf p pt h (bind x f)
 of_bind p pt h x f k = grind (arith, nat_tests)
 
-of_if : (p : Pid) (pt : Point) (h : InPhases pt.view) (c : Bool) (x y : Option (List Part)) → ComesOf p pt h x → ComesOf p pt h y → ComesOf p pt h (if c then x else y)
+pub of_if : (p : Pid) (pt : Point) (h : InPhases pt.view) (c : Bool) (x y : Option (List Part)) → ComesOf p pt h x → ComesOf p pt h y → ComesOf p pt h (if c then x else y)
 of_if p pt h c x y k l = grind (arith, nat_tests)
 
-kernel_comes : (p : Pid) (b : Boot) (o : Point) (m : ℕ) (i : MsgId) (is : List MsgId) (t : Told) (a : About) (h : Turn (turned o m) i is t) → t.about ≡ a → ComesOf p (turned o m) h.phases (kernel_hears b o m i t.kind a)
+pub kernel_comes : (p : Pid) (b : Boot) (o : Point) (m : ℕ) (i : MsgId) (is : List MsgId) (t : Told) (a : About) (h : Turn (turned o m) i is t) → t.about ≡ a → ComesOf p (turned o m) h.phases (kernel_hears b o m i t.kind a)
 kernel_comes p b o m i is t (Of q) h about = search (of_bind, told_comes)
 kernel_comes p b o m i is t _ h about = tt
-
-pub hears_comes : (p : Pid) (b : Boot) (o : Point) (m : ℕ) (i : MsgId) (is : List MsgId) (t : Told) (h : Turn (turned o m) i is t) → ComesOf p (turned o m) h.phases (hears b o m i (Some t))
-hears_comes p b o m i is t h = search (of_if, kernel_comes, server_comes, process_comes)

@@ -1,14 +1,13 @@
 -- Where all is at rest, a process that was told of a forward has links that lead to where the other is.
-use Rattle.dm_movelaws.proofs.Names.{◌≡◌, ◌≢◌, ℕ, ◌+◌, ◌<◌, ◌≤◌, true, false, List, [], ◌∷◌, ◌++◌, is_some, refl, ap, ◌∙◌, sym, subst, arith, slice_get, slice_get_within, Some, Pid, Place, MsgId, Boot, OneKernel, receptions, reached, Sound}
+use Rattle.dm_movelaws.proofs.Names.{◌≡◌, ◌≢◌, ℕ, ◌+◌, ◌≤◌, true, false, List, [], ◌∷◌, ◌++◌, is_some, refl, ap, ◌∙◌, sym, subst, arith, slice_get, slice_get_within, Some, Pid, Place, MsgId, Boot, OneKernel, receptions, reached, Sound}
 use Rattle.dm_movelaws.proofs.Names.{Step, IsStep, Leads, Point, first_point, labels, Trails, View, Unknown, Forward, actor, is_server, KnownStands, group_replay, run_always, AtRest, IsThere, CountsPromise, update_of, IsUnderWay, nat_tests}
 use Rattle.dm_movelaws.proofs.At.RestAlways.{at_rest_always}
 use Rattle.dm_movelaws.proofs.Forwards.Told.{forwards_tell}
 use Rattle.dm_movelaws.proofs.Promise.Always.{promises_always, same_some}
 use Rattle.dm_movelaws.proofs.Promise.Finds.{lines_by, leads_append}
-use Rattle.dm_movelaws.proofs.Promise.Kept.{lines_told}
-use Rattle.dm_movelaws.proofs.Promise.Trail.{OnTrail}
 use Rattle.dm_movelaws.proofs.Trail.Known.{trail_known}
-use Rattle.dm_movelaws.proofs.Real.Lines.{made_by as life_stays}
+use Rattle.dm_movelaws.proofs.Real.Always.{made_by as life_stays}
+use Rattle.dm_movelaws.proofs.Promise.Spots.{lines_told, OnTrail}
 
 -- a process that was made stays made
 made_on : (b : Boot) (es : List Step) (pt end : Point) (q : Pid) (r e : MsgId → ℕ) → Leads b pt es end → Sound r e pt.kernel → is_some (pt.kernel.processes q) ≡ true → is_some (end.kernel.processes q) ≡ true
@@ -18,13 +17,6 @@ made_on b (d ∷ es) pt end q r e (w, fit, is, rest) h there =
     made_on b es w.point end q (λ i. r i + receptions i (labels w.lines)) k.e' rest k.sound (life_stays (pt.kernel.processes q) (w.point.kernel.processes q) (k.grown.lives q) there)
 
 -- what a machine forwards for is a process that was made
-
--- a machine has one forwarding address for it
-one_count : (to m n : ℕ) → Forward to m ≡ Forward to n → m ≡ n
-one_count to m n e = cc
-
-turn_fits : (n : ℕ) (d : Step) → d ≡ Step.Turn (actor d) → actor d < n → IsStep n d
-turn_fits n d e h = subst (IsStep n) (sym e) h
 
 forwarded_made : (s : OneKernel) (v : View) (m : ℕ) (q : Pid) (to moves : ℕ) → KnownStands s v → v.known m q ≡ Forward to moves → (is_server q ≡ false) × (is_some (s.processes q) ≡ true)
 forwarded_made s v m q to moves h known = grind (arith, nat_tests)
@@ -50,9 +42,9 @@ pub counts_promise : CountsPromise
 counts_promise b before between start pt d sent p q place valid comes forwards known goes quiet =
     let run = (run_always b before start valid comes).run in
     let t = forwards_tell b before start d sent p q place.at valid comes forwards in
-    let moves : t.moves ≡ place.moves = one_count place.at t.moves place.moves (sym t.known ∙ known) in
+    let moves : t.moves ≡ place.moves = cc (sym t.known ∙ known) in
     let way : IsUnderWay sent.point.view t.update p q place = subst (λ (n : ℕ). IsUnderWay sent.point.view t.update p q (record { at = place.at; moves = n })) moves t.way in
-    let fit = turn_fits start.kernel.machines d t.turn (run.found.known_within (actor d) q (forwarded_some start.view (actor d) q place.at place.moves known)) in
+    let fit = subst (IsStep start.kernel.machines) (sym t.turn) (run.found.known_within (actor d) q (forwarded_some start.view (actor d) q place.at place.moves known)) in
     let first = before ++ d ∷ [] in
     let told : Leads b (first_point b) first sent.point = leads_append b before (d ∷ []) (first_point b) start sent.point comes (sent, fit, forwards.is, refl) in
     let all : Leads b (first_point b) (first ++ between) pt = leads_append b first between (first_point b) sent.point pt told goes in

@@ -1,13 +1,13 @@
 -- Where a group that sends a message on leads: the update for its sender is under way.
-use Rattle.dm_movelaws.proofs.Names.{◌≡◌, ℕ, Bool, true, List, [], ◌∷◌, ◌++◌, refl, ap, ◌∙◌, sym, subst, if◌then◌else◌, None, Some, Pid, Place, MsgId, MessageKind, plain_kind, PlainMessage, PlainWhat, Boot, manager, Step, Line, Sender}
+use Rattle.dm_movelaws.proofs.Names.{◌≡◌, ℕ, Bool, true, List, [], ◌∷◌, ◌++◌, refl, ap, ◌∙◌, sym, subst, if◌then◌else◌, None, Some, Pid, Place, MsgId, MessageKind, plain_kind, PlainMessage, Boot, manager, Step, Line, Sender}
 use Rattle.dm_movelaws.proofs.Names.{is_told_back, Part, Says, Again, Owns, Spelled, lines_of, spelled, Point, View, Told, About, Forward, own_id, handled, receiver_of, actor, view_after, fits, fits_put, fits_packet, pair_same, put_at}
 use Rattle.dm_movelaws.proofs.Names.{fits_as, PairsFit, Sane, part_sane, Steps, begun, begun_sane, said_by, again_rides, again_same, own_fresh, front, Run, Tells, ForwardsTell, RequestsTell, update_of, IsUnderWay, run_always, last_point}
-use Rattle.dm_movelaws.proofs.Names.{first_none, forwarded_own, GroupIs, group_is, by_parts, Addresses, forwards_on, sends_on, migrates, IsNetLine, IsNet, by_migrates, Loose, loose_round, loose_handles, by_forwards, by_net, by_outcome}
+use Rattle.dm_movelaws.proofs.Names.{first_none, forwarded_own, GroupIs, group_is, by_parts, Addresses, forwards_on, sends_on, IsNetLine, by_migrates, Loose, loose_round, loose_handles, by_forwards, by_net, by_outcome}
 use Rattle.dm_movelaws.proofs.Names.{by_hears, nat_tests, arith}
-use Rattle.dm_movelaws.proofs.Leading.{next_of, puts_lead, lines_are}
-use Rattle.dm_movelaws.proofs.Promise.Spots.{Stands, put_this, packet_stands}
 use Rattle.dm_rule.specs.View as view
 use Rattle.dm_rule.specs.Rule as rule
+use Rattle.dm_movelaws.proofs.Leading.{next_of, puts_lead, lines_are}
+use Rattle.dm_movelaws.proofs.Promise.Spots.{Stands, put_this, packet_stands}
 
 -- a message that is sent on, and the machine that it goes to
 abbrev pub Onward : Type 0
@@ -37,12 +37,6 @@ sends_none to (i ∷ is) ps = sends_none to is ps
 -- the other directives
 net_none : (l : Line) (fs : List Onward) → IsNetLine l → with_forward l fs ≡ fs
 net_none l fs h = grind (arith, nat_tests)
-
-nets_none : (ps : List Part) → IsNet ps → forwards_of ps ≡ []
-nets_none = by_net (λ ps. forwards_of ps ≡ []) refl (λ l ps net h. net_none l (forwards_of ps) net ∙ h) (λ a b l ps h. h)
-
-migrates_none : (o : Point) (p : Pid) → forwards_of (migrates o p) ≡ []
-migrates_none o p = by_migrates (λ (ps : List Part). forwards_of ps ≡ []) o p refl refl (λ n off is. refl)
 
 -- a message goes on, and its sender may be told
 pub goes_on : (a : Addresses) (id : MsgId) (k : MessageKind) (sender : Pid) (to : ℕ) → forwards_of (forwards_on a id k sender to) ≡ (id, to) ∷ []
@@ -106,9 +100,9 @@ outcome_form b o d ps = by_outcome (Form o) b o d ps (record {
   round = λ m xs box e. round_form b o m xs e;
   handles = λ m i is msg xs box there e. handles_form b o m i is msg xs box there e;
   hears = λ m i is xs box none e. hears_form b o m i xs none e;
-  ticks = λ m xs net. Nothing (nets_none xs net);
-  delivers = λ a c k xs net. Nothing (nets_none xs net);
-  asks = λ p m. Nothing (migrates_none o p);
+  ticks = λ m xs net. Nothing ((by_net (λ ps. forwards_of ps ≡ []) refl (λ l ps net h. net_none l (forwards_of ps) net ∙ h) (λ a b l ps h. h)) xs net);
+  delivers = λ a c k xs net. Nothing ((by_net (λ ps. forwards_of ps ≡ []) refl (λ l ps net h. net_none l (forwards_of ps) net ∙ h) (λ a b l ps h. h)) xs net);
+  asks = λ p m. Nothing (by_migrates (λ (ps : List Part). forwards_of ps ≡ []) o p refl refl (λ n off is. refl));
 })
 
 -- the messages that lines send on
@@ -172,22 +166,15 @@ record SentOwn (b : Boot) (o : Point) (d : Step) (w : Spelled) (id : MsgId) (to 
   id_is : goes.id ≡ id
   to_is : goes.to ≡ to
 
-no_request : (w : PlainWhat) → plain_kind w ≡ MessageKind.Migrate → ⊥
-no_request w e = grind (arith, nat_tests)
-
 own_by : (b : Boot) (o : Point) (d : Step) (w : Spelled) (g : GroupIs b o d w) (id : MsgId) (t : Told) (to : ℕ) (xs ys : List Line) → Sane o → o.view.told id ≡ Some t → t.kind ≡ MessageKind.Migrate → w.lines ≡ xs ++ Line.Forwarded id to ∷ ys → Form o d g.parts → SentOwn b o d w id to
 own_by b o d w g id t to xs ys sane told request says (Nothing none) = absurd (none_there (sent_on xs) (sent_on ys) (id, to) (there_in b o d w g id to xs ys says ∙ none))
 own_by b o d w g id t to xs ys sane told request says (Plain h) =
     let same = one_there (sent_on xs) (sent_on ys) (id, to) (h.id, h.to) (there_in b o d w g id to xs ys says ∙ ap forwards_of h.are ∙ goes_on o.addresses h.id (plain_kind h.message.what) h.message.sender h.to) in
     let was : o.view.told h.id ≡ Some t = sym (ap o.view.told (same_id (id, to) (h.id, h.to) same)) ∙ told in
-    absurd (no_request h.message.what (sym (sane.tells.kind h.id h.message t h.there was) ∙ request))
+    absurd (grind (arith, nat_tests, (sym (sane.tells.kind h.id h.message t h.there was) ∙ request)))
 own_by b o d w g id t to xs ys sane told request says (Own h) =
     let same = one_there (sent_on xs) (sent_on ys) (id, to) (h.id, h.to) (there_in b o d w g id to xs ys says ∙ ap forwards_of h.are ∙ goes_on o.addresses h.id h.told.kind manager h.to) in
     record { group = g; goes = h; id_is = sym (same_id (id, to) (h.id, h.to) same); to_is = sym (same_to (id, to) (h.id, h.to) same) }
-
--- what the update is about
-topic_at : (v : View) (i : MsgId) (m : ℕ) (t : Told) (p : Pid) (to moves : ℕ) → v.told i ≡ Some t → t.receiver ≡ p → v.known v.acting p ≡ Forward to moves → (view_after v (Line.Forwarded i m)).topic ≡ view.Place p to moves
-topic_at v i m t p to moves told receiver known = search
 
 -- between the parts of such a group: what its own message will be about, and its name
 record Ready (v : View) (a : About) (pt : Point) : Type 0 where
@@ -204,7 +191,7 @@ forwarded_ready pt next id t q to moves sane fit told receiver known s =
     record {
       sane = part_sane pt next (Says l) s.lines refl s.are s.leads sane;
       fit = subst (λ (x : Point). PairsFit x.view) k.is (fits_as pt.view (view_after pt.view l) (pair_same pt.view l refl) fit);
-      topic = sym (ap (λ (x : Point). x.view.topic) k.is) ∙ topic_at pt.view id to t q to moves told receiver known;
+      topic = sym (ap (λ (x : Point). x.view.topic) k.is) ∙ (let e_ : (view_after pt.view (Line.Forwarded id to)).topic ≡ view.Place q to moves = search in e_);
       own = sym (ap (λ (x : Point). own_id x.view) k.is) ∙ forwarded_own (handled pt.view id) (receiver_of (pt.view.told id));
     }
 

@@ -41,12 +41,8 @@ AllSay s = (i : MsgId) (m : PlainMessage) (q : Pid) → s.bag i ≡ Some m → o
 unawaited_says : (st : PlainStatus) (n : ℕ) (q : Pid) (w : PlainWhat) → (pending_of st ≡ Some n → ⊥) → StatusSays st n q w
 unawaited_says st n q w f = grind (arith, nat_tests)
 
-set_says : (s : OneKernel) (p : Pid) (l : Life) → ((i : MsgId) (m : PlainMessage) (q : Pid) → s.bag i ≡ Some m → i.from ≡ p → Says (s.processes p) i.n q m.what → Says (Some l) i.n q m.what) → AllSay s → AllSay (with_process s p l)
+pub set_says : (s : OneKernel) (p : Pid) (l : Life) → ((i : MsgId) (m : PlainMessage) (q : Pid) → s.bag i ≡ Some m → i.from ≡ p → Says (s.processes p) i.n q m.what → Says (Some l) i.n q m.what) → AllSay s → AllSay (with_process s p l)
 set_says s p l f h i m q there e = set_if (λ (o : Option Life). Says o i.n q m.what) s p i.from l (λ same. f i m q there same) (h i m q there e)
-
--- a process goes on waiting for the same
-pub same_says : (s : OneKernel) (p : Pid) (x y : PlainProcess) → s.processes p ≡ Some (Alive x) → y.status ≡ x.status → AllSay s → AllSay (with_process s p (Alive y))
-same_says s p x y is status h = grind (arith, nat_tests, set_says)
 
 -- it waits for nothing
 pub still_says : (s : OneKernel) (p : Pid) (y : PlainProcess) → pending_of y.status ≡ None → AllSay s → AllSay (with_process s p (Alive y))
@@ -77,17 +73,13 @@ put_says u x f h i m q there e = grind (arith, nat_tests, came)
 pub other_says : (u : OneKernel) (x : PlainMessage) → other_end x x.what ≡ None → AllSay u → AllSay (with_sent u (Some x))
 other_says u x none h = put_says u x (λ q e. absurd (let f : None ≡ Some q = sym none ∙ e in cc)) h
 
--- an answer says what its request said
-turns : (o : Option Life) (n : ℕ) (q : Pid) (v w : PlainWhat) → ((base left : ℕ) → Begins base left w) → Says o n q v → Says o n q w
-turns o n q v w f h = grind (arith, nat_tests)
-
 pub answer_says : (u : OneKernel) (id : MsgId) (m : PlainMessage) (w : PlainWhat) → m.id ≡ id → Says (u.processes id.from) id.n m.to m.what → other_end (answer_to m w) w ≡ Some m.to → ((base left : ℕ) → Begins base left w) → AllSay u → AllSay (with_sent u (Some (answer_to m w)))
 answer_says u id m w name says end f h =
     put_says u (answer_to m w)
     (λ q e.
     let same : Some m.to ≡ Some q = sym end ∙ e in
     let to : m.to ≡ q = cc in
-    let k : Says (u.processes id.from) id.n m.to w = turns (u.processes id.from) id.n m.to m.what w f says in
+    let k : Says (u.processes id.from) id.n m.to w = grind (arith, nat_tests) in
     subst (λ (j : MsgId). Says (u.processes j.from) j.n q w) (sym name) (subst (λ (v : Pid). Says (u.processes id.from) id.n v w) to k)) h
 
 -- a process that has sent the request for a piece
@@ -101,9 +93,6 @@ pub record Requests (p : Pid) (m : PlainMessage) (y : PlainProcess) : Type 0 whe
   pub message : (pieces.requests p before dir owner base own left).message ≡ m
   pub process : (pieces.requests p before dir owner base own left).process ≡ y
 
-piece_size : (own left size : ℕ) → nat_le (own + left) size ≡ true → own + piece_of left ≤ size
-piece_size own left size e = grind (arith, nat_tests)
-
 -- the request of a process whose move lies within both memories says it
 abbrev Asked : Lives → PlainMessage → PlainProcess → Type 0
 Asked ps m y = move_fits ps y y.status ≡ true → (q : Pid) → other_end m m.what ≡ Some q → Says (Some (Alive y)) m.id.n q m.what
@@ -112,7 +101,7 @@ asked : (ps : Lives) (p : Pid) (z : PlainProcess) (dir : Direction) (owner : Pid
 asked ps p z Direction.FromArea owner base own left fits q e = λ n. let f : q ≡ owner = cc in (f, refl)
 asked ps p z Direction.IntoArea owner base own left fits q e = λ n.
     let f : q ≡ owner = cc in
-    let within = piece_size own left (length z.memory) (both (has_bytes (base + left) (ps owner)) (nat_le (own + left) (length z.memory)) fits).1 in
+    let within : own + piece_of left ≤ (length z.memory) = grind (arith, nat_tests, (both (has_bytes (base + left) (ps owner)) (nat_le (own + left) (length z.memory)) fits).1) in
     let a = length-take (piece_of left) (drop own z.memory) in
     let b = length-drop own z.memory in
     let size : length (take (piece_of left) (drop own z.memory)) ≡ piece_of left = omega (arith, a, b, within) in

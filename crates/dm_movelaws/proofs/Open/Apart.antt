@@ -2,32 +2,25 @@
 use Rattle.dm_movelaws.proofs.Names.{◌≡◌, ◌≢◌, ℕ, ◌+◌, ◌==◌, Bool, true, false, List, [], ◌∷◌, ◌++◌, refl, ap, ◌∙◌, sym, subst, ⊤, Option, Some, false≢true, Pid, pid_of, MsgId, MessageKind, PlainMessage, Boot, Label, Why, first_number}
 use Rattle.dm_movelaws.proofs.Names.{OneKernel, bind, bind-is, Step, Line, Spares, migrates, Part, Spelled, lines_of, spelled, Moves, knows, IsIn, Point, label_of, kernel_after, moved, after_line, after, group_of, Here, SparesPart}
 use Rattle.dm_movelaws.proofs.Names.{FirstApart, ApartOf, apart_first, turns_apart, net_apart, migrates_apart, arrives_net, resends_net, Rooted, nowhere_known, moves_away, is_fixed, IsAnothersIf, moves_known, by_parts, by_group, is_some}
-use Rattle.dm_movelaws.proofs.Names.{IsValid, start, replay, ended_stays, Phase, is_between, is_restart, is_early, kind_comes, first_point, labels, Known, moving_stays_always, is_server, agrees, LeadsBy, after_replay, Run, run_always}
+use Rattle.dm_movelaws.proofs.Names.{IsValid, start, replay, ended_stays, Phase, is_between, is_restart, kind_comes, first_point, labels, moving_stays_always, is_server, agrees, LeadsBy, after_replay, Run, run_always}
 use Rattle.dm_movelaws.proofs.Names.{mark_while, IsSpared, OpenSpares, apart_is, destination_knows, server_leaves, why_ended-is, kind_leaves, nat_tests, arith}
 use Rattle.dm_onekernel.specs.Kernel.{Ended}
+pub use Rattle.dm_rule.proofs.Apart.Groups.{kernel_same}
+pub use Rattle.dm_rulelaws.proofs.Goes.Own.{source_knows}
+use Rattle.dm_onekernel.specs.Step as kernel
+use Rattle.dm_rule.specs.Rule as rule
 use Rattle.dm_movelaws.proofs.Leading.{lines_are}
 use Rattle.dm_movelaws.proofs.After.{after-append, group_after}
 use Rattle.dm_movelaws.proofs.Open.Moves.{leads_of, run_after, open_moves}
 use Rattle.dm_movelaws.proofs.Stages.Spares.{restart_late}
-use Rattle.dm_onekernel.specs.Step as kernel
-use Rattle.dm_rule.specs.Rule as rule
-pub use Rattle.dm_rule.proofs.Apart.Groups.{kernel_same}
-pub use Rattle.dm_rulelaws.proofs.Goes.Own.{source_knows}
 use Rattle.dm_movelaws.proofs.Open.Fine.{AnswersIf}
-
--- what moves hasn't ended
-leaving_not : (k : MessageKind) (d : ℕ) (n : Known) (y : Why) → kind_leaves k d n ≡ true → is_restart k ≡ false → agrees n (Some (Ended y)) ≡ true → ⊥
-leaving_not k d n y e r a = grind (arith, nat_tests)
-
-coming_not : (k : MessageKind) (s : ℕ) (n : Known) (y : Why) → kind_comes k s n ≡ true → is_early k ≡ false → agrees n (Some (Ended y)) ≡ true → ⊥
-coming_not k s n y e r a = grind (arith, nat_tests)
 
 by_server : (c r : Bool) (b : Boot) (pt : Point) (p : Pid) (k : MessageKind) (s d : ℕ) (y : Why) → is_server p ≡ c → is_restart k ≡ r → Run b pt → kind_leaves k d (pt.view.known s p) ≡ true → kind_comes k s (pt.view.known d p) ≡ true → pt.kernel.processes p ≡ Some (Ended y) → ⊥
 by_server true r b pt p k s d y server restart run leave come over = false≢true (sym (server_leaves k d (s == 0)) ∙ sym (ap (kind_leaves k d) (run.based.known.server s p server)) ∙ leave)
 by_server false true b pt p k s d y server restart run leave come over =
-    coming_not k s (pt.view.known d p) y come (restart_late k restart) (sym (ap (agrees (pt.view.known d p)) over) ∙ run.based.known.agree d p server)
+    grind (arith, nat_tests, (restart_late k restart), (sym (ap (agrees (pt.view.known d p)) over) ∙ run.based.known.agree d p server))
 by_server false false b pt p k s d y server restart run leave come over =
-    leaving_not k d (pt.view.known s p) y leave restart (sym (ap (agrees (pt.view.known s p)) over) ∙ run.based.known.agree s p server)
+    grind (arith, nat_tests, (sym (ap (agrees (pt.view.known s p)) over) ∙ run.based.known.agree s p server))
 
 pub moving_lives : (b : Boot) (pt : Point) (p : Pid) (k : MessageKind) (s d : ℕ) (id : Option MsgId) (y : Why) → Run b pt → IsIn pt.view p (Moves k s d id) → pt.kernel.processes p ≡ Some (Ended y) → ⊥
 moving_lives b pt p k s d id y run phase over =
@@ -96,14 +89,10 @@ parts_alone y qs p w h is = by_parts (λ ps pt v. FirstApart pt.kernel y ps → 
     alone_append y ls z.lines pt (part_alone y pt x ls h.0 lines) (λ mid e. let g : next ≡ mid = (let k : Some next ≡ Some mid = sym leads ∙ e in cc) in subst (λ (q : Point). AllAlone y q z.lines) g others)
     )) qs p w is h
 
--- a group
-apart_some : (z : OneKernel) (y : Pid) (o : Option (List Part)) (ps : List Part) → o ≡ Some ps → ApartOf z y o → FirstApart z y ps
-apart_some z y o ps e h = subst (ApartOf z y) e h
-
 group_alone : (b : Boot) (pt : Point) (d : Step) (w : Spelled) (y : Pid) → ApartOf pt.kernel y (rule.outcome b pt d) → group_of b pt d ≡ Some w → AllAlone y pt w.lines
 group_alone b pt d w y h = by_group (λ v. AllAlone y pt v.lines) b pt d w (λ ps rest is said. (
     let begun = moved pt (Line.Head d) pt.kernel in
-    let k : AllAlone y begun rest.lines = parts_alone y ps begun rest (apart_some pt.kernel y (rule.outcome b pt d) ps is h) said in
+    let k : AllAlone y begun rest.lines = parts_alone y ps begun rest (subst (ApartOf pt.kernel y) is h) said in
     (tt, λ next n. let m : begun ≡ next = cc in subst (λ (q : Point). AllAlone y q rest.lines) m k)
     ))
 

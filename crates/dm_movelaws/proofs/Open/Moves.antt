@@ -2,11 +2,9 @@
 use Rattle.dm_movelaws.proofs.Names.{◌≡◌, List, [], ◌∷◌, refl, ap, ◌∙◌, sym, subst, Option, None, Some, Pid, Boot, Step, Line, Leads, Phase, Point, first_point, after, first_view, Phased, phased_start, phased_group, LeadsBy, Mark, marks}
 use Rattle.dm_movelaws.proofs.Names.{left_open, open_mark, mark_while, OpenMoves, nat_tests, arith}
 use Rattle.dm_movelaws.proofs.After.{after-append, group_after}
-use Rattle.dm_movelaws.proofs.Stages.Marks.{open_after, open-append, marks-append}
-use Rattle.dm_movelaws.proofs.Stages.Spares.{mark_in}
+use Rattle.dm_movelaws.proofs.Stages.Spares.{mark_in, open_after, open-append, marks-append}
 use Rattle.dm_movelaws.proofs.Stages.Always.{group_marked}
 pub use Rattle.dm_movelaws.proofs.Stages.Always.{not_due as none_due}
-pub use Rattle.dm_movelaws.proofs.Stages.Always.{start_mark}
 
 -- the lines of a run lead where the run leads
 pub leads_of : (b : Boot) (es : List Step) (ls : List Line) (pt end : Point) → LeadsBy b pt es ls end → Leads b pt es end
@@ -53,7 +51,7 @@ run_open b (d ∷ ds) ls pt end p (w, rest, fit, is, split, more) h =
 pub open_moves : OpenMoves
 open_moves b es ls pt p valid leads =
     let h = phased_start b valid in
-    let none = start_mark b p (h.phases.of p) (h.phases.each p) (none_due (first_view b) h.phases p) in
+    let none : mark_in (h.phases.of p) ≡ None = grind (arith, nat_tests, (h.phases.each p), (none_due (first_view b) h.phases p)) in
     let o = run_open b es ls (first_point b) pt p leads h in
     let phase = o.phased.phases.of p in (
       phase,

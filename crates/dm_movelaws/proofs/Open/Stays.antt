@@ -1,15 +1,14 @@
 -- Each line between a process's step 1 and its step 8 or `stays` is another's, and leaves its plain value.
 use Rattle.dm_movelaws.proofs.Names.{◌≡◌, ℕ, true, false, List, [], ◌∷◌, ◌++◌, is_some, refl, ap, ◌∙◌, sym, subst, Option, None, Some, Pid, MsgId, MessageKind, Boot, Label, IsValid, OneKernel, bind, bind-is, Step, Line, Spelled, Phase}
-use Rattle.dm_movelaws.proofs.Names.{Moves, IsIn, Point, label_of, kernel_after, moved, after_line, after, first_point, group_of, View, Known, first_view, rooted, is_fixed, LeadsBy, KnownIs, Both, both_start, both_group, after_replay, Run}
-use Rattle.dm_movelaws.proofs.Names.{run_start, run_group, IsAnothersIf, OpenStays, Mark, marks, kind_leaves, append_assoc, start, replay, with_label, labels, labels-append, replay-append, AllOpen, OpenKeeps, nat_tests, arith}
+use Rattle.dm_movelaws.proofs.Names.{Moves, IsIn, Point, label_of, kernel_after, moved, after_line, after, first_point, group_of, first_view, rooted, is_fixed, LeadsBy, Both, both_start, both_group, after_replay, Run}
+use Rattle.dm_movelaws.proofs.Names.{run_start, run_group, IsAnothersIf, OpenStays, Mark, marks, append_assoc, start, replay, with_label, labels, labels-append, replay-append, AllOpen, OpenKeeps, nat_tests, arith}
 use Rattle.dm_movelaws.proofs.After.{after-append, group_after}
 use Rattle.dm_movelaws.proofs.Open.Apart.{AllAlone, moving_off, moving_alone, kernel_same, alone_rest, anothers_if, source_knows, moving_lives}
-use Rattle.dm_movelaws.proofs.Open.Moves.{open_is, none_due, start_mark}
-use Rattle.dm_movelaws.proofs.Open.Quiet.{Shut, group_shut, shut_at}
+use Rattle.dm_movelaws.proofs.Open.Moves.{open_is, none_due}
 use Rattle.dm_movelaws.proofs.Stages.Always.{group_marked}
-use Rattle.dm_movelaws.proofs.Stages.Marks.{open_after, open-append, marks-append}
-use Rattle.dm_movelaws.proofs.Stages.Spares.{mark_in}
-use Rattle.dm_movelaws.proofs.Open.Fine.{Fine, group_fine, fine_at}
+use Rattle.dm_movelaws.proofs.Stages.Spares.{mark_in, open_after, open-append, marks-append}
+use Rattle.dm_movelaws.proofs.Open.Fine.{Fine, group_fine, fine_at, Shut, group_shut, shut_at}
+use Rattle.dm_movelaws.proofs.Names.{Known, KnownIs, View, kind_leaves}
 
 -- a line behind others, from some point on
 record At (pt : Point) (earlier : List Line) (l : Line) (p : Pid) : Type 0 where
@@ -59,10 +58,6 @@ moving_at b pt d w p k s t id earlier g l run phase e split begun =
       same = kernel_same m.mid.kernel m.next p (label_of l) rest.rest.0 m.goes;
     }
 
--- a group in which a migration begins
-kernel_none : (s t : OneKernel) (o : Option Label) (p : Pid) → o ≡ None → kernel_after s o ≡ Some t → t.processes p ≡ s.processes p
-kernel_none s t o p none e = grind (arith, nat_tests)
-
 resting_at : (b : Boot) (pt : Point) (d : Step) (w : Spelled) (p : Pid) (earlier g : List Line) (l : Line) → group_of b pt d ≡ Some w → w.lines ≡ earlier ++ l ∷ g → is_some (open_after None (marks p earlier)) ≡ true → At pt earlier l p
 resting_at b pt d w p earlier g l e split begun =
     let m = meets earlier g l pt w.point (ap (after pt) (sym split) ∙ group_after b pt d w e) in
@@ -73,7 +68,7 @@ resting_at b pt d w p earlier g l e split begun =
       next = m.next;
       goes = m.goes;
       anothers = subst (IsAnothersIf m.mid.kernel p) (sym none) tt;
-      same = kernel_none m.mid.kernel m.next (label_of l) p none m.goes;
+      same = grind (arith, nat_tests, m.goes);
     }
 
 group_at : (b : Boot) (pt : Point) (d : Step) (w : Spelled) (p : Pid) (phase : Phase) (earlier g : List Line) (l : Line) → Run b pt → IsIn pt.view p phase → group_of b pt d ≡ Some w → w.lines ≡ earlier ++ l ∷ g → is_some (open_after (mark_in phase) (marks p earlier)) ≡ true → At pt earlier l p
@@ -133,16 +128,13 @@ pub open_stays : OpenStays
 open_stays b es ls earlier later l pt p valid leads split begun =
     let h = both_start run_start b valid in
     let phases = h.run.based.phased.phases in
-    let none = start_mark b p (phases.of p) (phases.each p) (none_due (first_view b) phases p) in
+    let none : mark_in (phases.of p) ≡ None = grind (arith, nat_tests, (phases.each p), (none_due (first_view b) phases p)) in
     let at = run_at b es ls earlier later l (first_point b) pt p valid leads h split (ap (λ (o : Option Mark). is_some (open_after o (marks p earlier))) none ∙ ap is_some (sym (open_is None (marks p earlier))) ∙ begun) in
     record { before = at.mid.kernel; comes = after_replay earlier (first_point b) at.mid at.comes; behind = at.next; goes = at.goes; anothers = at.anothers; same = at.same }
 
 -- one line
 rest_of : (o : Option Label) (ls : List Label) (s u t : OneKernel) → kernel_after s o ≡ Some u → replay s (with_label o ls) ≡ Some t → replay u ls ≡ Some t
 rest_of o ls s u t e f = grind (arith, nat_tests, bind-is)
-
-one_label : (o : Option Label) (s u : OneKernel) → kernel_after s o ≡ Some u → replay s (with_label o []) ≡ Some u
-one_label o s u e = grind (arith, nat_tests)
 
 keeps : (b : Boot) (es : List Step) (ls earlier between later : List Line) (pt : Point) (p : Pid) (s t : OneKernel) → IsValid b → LeadsBy b (first_point b) es ls pt → ls ≡ earlier ++ (between ++ later) → AllOpen p earlier between → replay (start b) (labels earlier) ≡ Some s
     → replay s (labels between) ≡ Some t → t.processes p ≡ s.processes p
@@ -152,7 +144,7 @@ keeps b es ls earlier (l ∷ between) later pt p s t valid leads split on e f =
     let at : a.before ≡ s = (let k : Some a.before ≡ Some s = sym a.comes ∙ e in cc) in
     let goes : kernel_after s (label_of l) ≡ Some a.behind = ap (λ (k : OneKernel). kernel_after k (label_of l)) (sym at) ∙ a.goes in
     let here : replay (start b) (labels (earlier ++ l ∷ [])) ≡ Some a.behind =
-    ap (replay (start b)) (labels-append earlier (l ∷ [])) ∙ replay-append (labels earlier) (labels (l ∷ [])) (start b) s a.behind e (one_label (label_of l) s a.behind goes) in
+    ap (replay (start b)) (labels-append earlier (l ∷ [])) ∙ replay-append (labels earlier) (labels (l ∷ [])) (start b) s a.behind e (grind (arith, nat_tests)) in
     let more : ls ≡ (earlier ++ l ∷ []) ++ (between ++ later) = split ∙ sym (append_assoc earlier (l ∷ []) (between ++ later)) in
     keeps b es ls (earlier ++ l ∷ []) between later pt p a.behind t valid leads more on.1 here (rest_of (label_of l) (labels between) s a.behind t goes f) ∙ a.same ∙ ap (λ (k : OneKernel). k.processes p) at
 

@@ -1,30 +1,94 @@
--- Wherever the rule leads, each pending request of the manager's has one message under its number.
+-- Each step of a process or of its kernel keeps one message under each pending request's number.
 use Rattle.dm_movelaws.proofs.Names.{◌≡◌, ◌⊎◌, ℕ, ◌+◌, ◌<◌, ◌≤◌, ◌==◌, Bool, true, false, List, [], ◌∷◌, ◌++◌, length, is_some, refl, ap, ◌∙◌, subst, inl, inr, arith, if◌then◌else◌, Option, None, Some, cases_Bool, false≢true, nat_tests}
 use Rattle.dm_movelaws.proofs.Names.{Pid, PlainLink, MsgId, id_of, plain_kind, PlainMessage, PlainWhat, switchboard, manager, Boot, Label, Manager, Pending, OneKernel, with_sent, without_message, replay, entry, reception, after_step}
 use Rattle.dm_movelaws.proofs.Names.{ServerSends, board_takes_lem, manager_takes_lem, Sound, bind-is, Step, ascends, Point, View, still_pending, WhatFits, KernelFits, based_always, fits_step, group_replay, Based, is_pending, HasOne}
-use Rattle.dm_movelaws.proofs.Names.{IsOfPending, PendingHasOne, Spelled, group_of, PendingAscends, requests, Outcome, in_bag, answer_id, sym, nat_lt, PendingKind, IsPending, kind_eq, asked_by, answered_by, sort_of}
-use Rattle.dm_movelaws.proofs.Pending.Pairs.{is_request, Neither, neither, Pair, answer_of, Ones, off_both, out_ones, put_ones, from_other, took_pair, asked_pair}
-use Rattle.dm_movelaws.proofs.Pending.Steps.{label_ones}
-use Rattle.dm_movelaws.proofs.Promise.Before.{step_pending}
-use Rattle.dm_movelaws.proofs.After.{keeps_always}
+use Rattle.dm_movelaws.proofs.Names.{IsOfPending, PendingHasOne, Spelled, group_of, PendingAscends, requests, Outcome, answer_id, sym, nat_lt, PendingKind, IsPending, kind_eq, asked_by, answered_by, sort_of, take, drop, pid_eq}
+use Rattle.dm_movelaws.proofs.Names.{bind, PlainProcess, Alive, answer_to, lands-is, not_server, by_step, is_served, MoveNote, Follows, note-is}
+use Rattle.dm_rulelaws.specs.Fits.{is_for}
+use Rattle.dm_laws.proofs.Entered.{asks}
 use Rattle.dm_onekernel.specs.Manager as manage
 use Rattle.dm_onekernel.specs.Service as service
 use Rattle.dm_onekernel.specs.Step as kernel
 use Rattle.dm_onekernel.specs.Switchboard as board
-use Rattle.dm_rulelaws.specs.Fits.{is_for}
-use Rattle.dm_movelaws.proofs.Pending.Pairs.{PairAt, is_answer}
-use Rattle.dm_laws.proofs.Entered.{asks}
+use Rattle.dm_onekernel.specs.Pieces as pieces
+use Rattle.dm_onekernel.specs.Receiving as receiving
+use Rattle.dm_movelaws.proofs.Pending.Pairs.{is_request, Neither, neither, answer_of, Ones, off_both, out_ones, put_ones, from_other, took_pair, asked_pair, PairAt, is_answer, answered_ones, made_ones, Off, noted_ones, unnoted_ones}
+use Rattle.dm_movelaws.proofs.After.{keeps_always}
+use Rattle.dm_movelaws.proofs.Promise.Slots.{step_pending}
 
--- the switchboard takes user messages
-board_neither : (b : _) (m : PlainMessage) (w : PlainWhat) (k : board.BoardTook) → m.what ≡ w → board.board_takes b m w ≡ Some k → Neither m.what
-board_neither b m w k e is = grind (arith, nat_tests, neither)
+-- a request is answered where its receiver has ended: for a piece, or to move
+gone_ones : (r e : MsgId → ℕ) (s : OneKernel) (id : MsgId) (m : PlainMessage) (v w : PlainWhat) → m.what ≡ v → service.gone_what v ≡ Some w → s.bag id ≡ Some m → Sound r e s → Ones s
+    → Ones (with_sent (without_message s id) (Some (answer_to m w)))
+gone_ones r e s id m (PlainWhat.Read base len) w is f there h ones =
+    answered_ones r e s (without_message s id) (with_sent (without_message s id) (Some (answer_to m w))) id m w refl (λ n p. p) there (ap asks is) (ap is_request is) h ones (out_ones s id m there (neither m.what (PlainWhat.Read base len) is refl refl) ones)
+gone_ones r e s id m (PlainWhat.Write base bytes) w is f there h ones =
+    answered_ones r e s (without_message s id) (with_sent (without_message s id) (Some (answer_to m w))) id m w refl (λ n p. p) there (ap asks is) (ap is_request is) h ones (out_ones s id m there (neither m.what (PlainWhat.Write base bytes) is refl refl) ones)
+gone_ones r e s id m (PlainWhat.Move machine) w is f there h ones =
+    let g : PlainWhat.Moved Outcome.Ended ≡ w = cc in
+    made_ones r e s (without_message s id) (with_sent (without_message s id) (Some (answer_to m w))) id m w refl (λ j. refl) (λ j. refl) (λ n p. p) there (ap asks is) (sym (ap is_answer g)) h ones
+gone_ones r e s id m _ w is f there h ones = cc
+
+-- what the kernel of a living process serves
+served_neither : (v w : PlainWhat) → v ≡ w → is_served w ≡ true → Neither v
+served_neither v w e s = grind (arith, nat_tests, neither)
+
+-- a name of a process's own
+own_off : (r e : MsgId → ℕ) (s : OneKernel) (p : Pid) (x : PlainProcess) (i : MsgId) (k : ℕ) → Sound r e s → s.processes p ≡ Some (Alive x) → i ≡ id_of p k → (n : ℕ) → Off i n
+own_off r e s p x i k sound alive is n = from_other i n (ap (λ (j : MsgId). pid_eq j.from manager) is ∙ (not_server s p x alive sound.made).1)
+
+-- every label but what a server takes
+pub record Takes (s : OneKernel) : Type 0 where
+  pub board : (id : MsgId) (m : PlainMessage) (k : board.BoardTook) → s.bag id ≡ Some m → board.board_takes s.switchboard m m.what ≡ Some k → Ones (service.switchboard_took s id k)
+  pub manager : (id : MsgId) (m : PlainMessage) (k : manage.ManagerTook) → s.bag id ≡ Some m → manage.manager_takes s.manager s.machines (length s.images) m m.what ≡ Some k → Ones (service.manager_took s id k)
+
+pub label_ones : (r e : MsgId → ℕ) (s t : OneKernel) (l : Label) → Sound r e s → ((p : Pid) (n : MoveNote) → s.notes p ≡ Some n → n.id.answer ≡ false) → Ones s → Takes s → kernel.step s l ≡ Some t → Ones t
+label_ones r e s t l sound requests h takes =
+    let unanswered : (id : MsgId) (o : Outcome) (p : Pid) (n : MoveNote) → Follows s id o p n → id.answer ≡ false = λ id o p n f. ap (λ (i : MsgId). i.answer) (sym (note-is e s id p n f.noted f.notes sound.notes)) ∙ requests p n f.notes in
+    by_step Ones s t l (record {
+      ran = λ p k x m is w. h;
+      replies = λ p n k c d y is w. h;
+      sends = λ p id k m y is same w. (let (z, sent, pending, counted) = w.so.counts in put_ones (kernel.goes_on s p y) m (λ n q. own_off r e s p w.so.x m.id z.sent sound w.so.is.alive counted.id n) h);
+      waits = λ p k y is w. h;
+      outputs = λ p w k v y is n. h;
+      ends = λ p y next is w. h;
+      receives = λ p id y is w c.
+          (let (x, hand, more) = bind-is (kernel.at_hand s p) (λ v. bind (s.bag id) (receiving.completes_with p v)) (receiving.Receives y) c in
+          let (m, there, last) = bind-is (s.bag id) (receiving.completes_with p x) (receiving.Receives y) more in
+          out_ones s id m there (grind (arith, nat_tests)) h);
+      refuses = λ p id c d y is w f. h;
+      dropped = λ id m y is w f. out_ones s id m w.there (grind (arith, nat_tests, neither)) h;
+      gone = λ id m y is w v f. gone_ones r e s id m m.what v refl f w.there sound h;
+      asked = λ id m x machine is w f. noted_ones r e s id m m.to (record { id = id; asker = m.sender }) w.there refl (ap asks f) sound h;
+      answered = λ id o p n is f. unnoted_ones s id p (record { id = answer_id id; to = n.asker; sender = p; what = PlainWhat.Moved o }) f.noted (unanswered id o p n f) refl refl h;
+      stops = λ id m x b is w f. out_ones s id m w.there (served_neither m.what m.what refl f.served) h;
+      kills = λ id m x is w f. out_ones s id m w.there (neither m.what PlainWhat.Kill f refl refl) h;
+      reads = λ id m x base len is w f.
+          (let block = PlainWhat.Block (take len (drop base x.memory)) in
+          answered_ones r e s (service.changed s id m x) (with_sent (service.changed s id m x) (Some (answer_to m block))) id m block refl (λ n p. p) w.there (ap asks f) (ap is_request f) sound h
+          (out_ones s id m w.there (neither m.what (PlainWhat.Read base len) f refl refl) h));
+      writes = λ id m x base bytes is w f.
+          (let u = service.changed s id m (record x { memory = pieces.written_at x.memory base bytes }) in
+          answered_ones r e s u (with_sent u (Some (answer_to m PlainWhat.Written))) id m PlainWhat.Written refl (λ n p. p) w.there (ap asks f) (ap is_request f) sound h (out_ones s id m w.there (neither m.what (PlainWhat.Write base bytes) f refl refl) h));
+      lands = λ id m x q y is w f c.
+          put_ones (service.changed s id m y) q (λ n p. own_off r e s m.to x q.id x.sent sound w.alive (lands-is m.to x m x.status (pieces.Next q y) c).0.id n) (out_ones s id m w.there (served_neither m.what m.what refl f.served) h);
+      done = λ id m x c y is w f g. out_ones s id m w.there (served_neither m.what m.what refl f.served) h;
+      board = λ id m k is there c took. takes.board id m k there took;
+      manager = λ id m k is there c took. takes.manager id m k there took;
+      creates = λ id child m image links i is w found name.
+          (let u = service.with_created (without_message s id) child i links in
+          made_ones r e s u (with_sent u (Some (answer_to m (PlainWhat.Created child)))) id m (PlainWhat.Created child) refl (λ j. refl) (λ j. refl) (λ n p. p) w.there (ap asks w.what) refl sound h);
+      no_room = λ id a b m image links is w.
+          made_ones r e s (without_message s id) (with_sent (without_message s id) (Some (answer_to m PlainWhat.NoRoom))) id m PlainWhat.NoRoom refl (λ j. refl) (λ j. refl) (λ n p. p) w.there (ap asks w.what) refl sound h;
+    })
+
+-- Wherever the rule leads, each pending request of the manager's has one message under its number.
 
 board_put : (u : OneKernel) (o : Option PlainMessage) (n after : ℕ) → ServerSends switchboard n o after → Ones u → Ones (with_sent u o)
 board_put u o n after sends h = grind (arith, nat_tests, put_ones, from_other)
 
 board_ones : (s : OneKernel) (id : MsgId) (m : PlainMessage) (k : board.BoardTook) → s.bag id ≡ Some m → board.board_takes s.switchboard m m.what ≡ Some k → Ones s → Ones (service.switchboard_took s id k)
 board_ones s id m k there is h =
-    board_put (record (without_message s id) { switchboard = k.switchboard }) k.answer s.switchboard.sent k.switchboard.sent (board_takes_lem s.switchboard m m.what k is).2 (out_ones s id m there (board_neither s.switchboard m m.what k refl is) h)
+    board_put (record (without_message s id) { switchboard = k.switchboard }) k.answer s.switchboard.sent k.switchboard.sent (board_takes_lem s.switchboard m m.what k is).2 (out_ones s id m there (grind (arith, nat_tests, neither)) h)
 
 -- the manager takes a user message: its requests stay, or there is one more, which it sends
 record Asked (g : Manager) (k : manage.ManagerTook) : Type 0 where
@@ -51,33 +115,22 @@ wants_took g machines images machine image links = grind (arith, nat_tests, bad_
 requests_took : (g : Manager) (machines images : ℕ) (body : List ℕ) (links : List PlainLink) → UserTook g (manage.requests_child g machines images body links)
 requests_took g machines images body links = grind (arith, nat_tests, if_took, wants_took, bad_took)
 
-told_took : (g : Manager) (child : Pid) (o : Option PlainWhat) (links : List PlainLink) → UserTook g (manage.tells_child g child o links)
-told_took g child o links = grind (arith, nat_tests, bad_took)
-
 moves_took : (g : Manager) (machines : ℕ) (child : Pid) (machine : ℕ) (links : List PlainLink) → UserTook g (manage.moves_child g machines child machine links)
 moves_took g machines child machine links =
     if_took g (nat_lt machine machines) (manage.sends_request g PendingKind.Move child (PlainWhat.Move machine) (manage.first_link links)) (manage.bad_request g links)
     (inr (record { link = manage.first_link links; kind = PendingKind.Move; request = record { id = id_of manager g.sent; to = child; sender = manager; what = PlainWhat.Move machine }; pending = refl; sends = refl; name = refl; creates = refl })) (bad_took g links)
 
 controls_took : (g : Manager) (machines : ℕ) (child : Option Pid) (body : List ℕ) (links : List PlainLink) → UserTook g (manage.controls g machines child body links)
-controls_took g machines (Some child) (operation ∷ []) links = told_took g child (manage.control_of operation) links
+controls_took g machines (Some child) (operation ∷ []) links = grind (arith, nat_tests, bad_took)
 controls_took g machines (Some child) (operation ∷ machine ∷ []) links =
     if_took g (operation == 5) (manage.moves_child g machines child machine links) (manage.bad_request g links) (moves_took g machines child machine links) (bad_took g links)
 controls_took g machines None body links = bad_took g links
 controls_took g machines (Some child) [] links = bad_took g links
 controls_took g machines (Some child) (a ∷ b ∷ c ∷ body) links = bad_took g links
 
-user_took : (g : Manager) (machines images code : ℕ) (body : List ℕ) (links : List PlainLink) → UserTook g (manage.takes_user g machines images code body links)
-user_took g machines images code body links = search (if_took, requests_took, controls_took)
-
--- one more request
-last_if : (n : ℕ) (x r : Pending) (xs : List Pending) (c : Bool) → ((is_some (manage.pending_numbered n (xs ++ r ∷ [])) ≡ true) → (is_some (manage.pending_numbered n xs) ≡ true) ⊎ (r.n ≡ n)) → is_some (if c then Some x else manage.pending_numbered n (xs ++ r ∷ [])) ≡ true
-    → (is_some (if c then Some x else manage.pending_numbered n xs) ≡ true) ⊎ (r.n ≡ n)
-last_if n x r xs c more e = grind (arith, nat_tests)
-
 pending_split : (n : ℕ) (xs : List Pending) (r : Pending) → is_some (manage.pending_numbered n (xs ++ r ∷ [])) ≡ true → (is_some (manage.pending_numbered n xs) ≡ true) ⊎ (r.n ≡ n)
 pending_split n [] r e = grind (arith, nat_tests)
-pending_split n (x ∷ xs) r e = last_if n x r xs (x.n == n) (pending_split n xs r) e
+pending_split n (x ∷ xs) r e = grind (arith, nat_tests, (pending_split n xs r))
 
 -- one less: the one whose number it is
 gone_after : (n from to : ℕ) (xs : List Pending) → ascends from xs to ≡ true → n < from → manage.pending_numbered n xs ≡ None
@@ -107,12 +160,8 @@ still_some n k s o is p up = grind (arith, nat_tests, still_pending)
 other_than : (n k : ℕ) (s : OneKernel) → is_some (manage.pending_numbered k (manage.without_pending n s.manager.pending)) ≡ true → ascends 0 s.manager.pending s.manager.sent ≡ true → (n == k) ≡ false
 other_than n k s p up = grind (arith, nat_tests, without_gone)
 
--- what is pending once the manager has taken a message
-pending_by : (s : OneKernel) (id : MsgId) (k : manage.ManagerTook) (n : ℕ) (o : Option PlainMessage) → is_pending (with_sent (record (without_message s id) { manager = k.manager }) o) n ≡ true → is_some (manage.pending_numbered n k.manager.pending) ≡ true
-pending_by s id k n o p = grind (arith, nat_tests)
-
 pending_in : (s : OneKernel) (id : MsgId) (k : manage.ManagerTook) (n : ℕ) → is_pending (service.manager_took s id k) n ≡ true → is_some (manage.pending_numbered n k.manager.pending) ≡ true
-pending_in s id k n p = pending_by s id k n k.message p
+pending_in s id k n p = grind (arith, nat_tests)
 
 -- an answer to a request
 answered_took : (s : OneKernel) (id : MsgId) (m : PlainMessage) (k : manage.ManagerTook) → m.id ≡ id → id.answer ≡ true → k.manager.pending ≡ manage.without_pending m.id.n s.manager.pending → ServerSends manager s.manager.sent k.message k.manager.sent → ascends 0 s.manager.pending s.manager.sent ≡ true → Ones s
@@ -125,26 +174,17 @@ user_ones : (r e : MsgId → ℕ) (s : OneKernel) (id : MsgId) (m : PlainMessage
 user_ones r e s id m k there w (inl same) sends up sound h n p = grind (arith, nat_tests, pending_in, took_pair, off_both)
 user_ones r e s id m k there w (inr asked) sends up sound h n p = grind (arith, nat_tests, pending_split, pending_in, took_pair, off_both, asked_pair)
 
-created_pending : (g : Manager) (n : ℕ) (child : Pid) (o : Option Pending) (k : manage.ManagerTook) → manage.takes_created g n child o ≡ Some k → k.manager.pending ≡ manage.without_pending n g.pending
-created_pending g n child o k e = grind (arith, nat_tests)
-
-moved_pending : (g : Manager) (n : ℕ) (outcome : Outcome) (o : Option Pending) (k : manage.ManagerTook) → manage.takes_moved g n outcome o ≡ Some k → k.manager.pending ≡ manage.without_pending n g.pending
-moved_pending g n outcome o k e = grind (arith, nat_tests)
-
-no_room_pending : (g : Manager) (n : ℕ) (o : Option Pending) (k : manage.ManagerTook) → manage.takes_no_room g n o ≡ Some k → k.manager.pending ≡ manage.without_pending n g.pending
-no_room_pending g n o k e = grind (arith, nat_tests)
-
 manager_kind : (r e : MsgId → ℕ) (s : OneKernel) (id : MsgId) (m : PlainMessage) (k : manage.ManagerTook) (w : PlainWhat) → m.what ≡ w → manage.manager_takes s.manager s.machines (length s.images) m w ≡ Some k → s.bag id ≡ Some m → WhatFits s id m w → ServerSends manager s.manager.sent k.message k.manager.sent
     → ascends 0 s.manager.pending s.manager.sent ≡ true → Sound r e s → Ones s → Ones (service.manager_took s id k)
 manager_kind r e s id m k (PlainWhat.User code channel body links) w is there fits sends up sound h =
     let f : manage.takes_user s.manager s.machines (length s.images) code body links ≡ k = cc in
-    user_ones r e s id m k there (neither m.what (PlainWhat.User code channel body links) w refl refl) (subst (UserTook s.manager) f (user_took s.manager s.machines (length s.images) code body links)) sends up sound h
+    user_ones r e s id m k there (neither m.what (PlainWhat.User code channel body links) w refl refl) (subst (UserTook s.manager) f (search (if_took, requests_took, controls_took))) sends up sound h
 manager_kind r e s id m k (PlainWhat.Created child) w is there fits sends up sound h =
-    answered_took s id m k (sound.entered.named id m there) fits.1 (created_pending s.manager m.id.n child (manage.pending_numbered m.id.n s.manager.pending) k is) sends up h
+    answered_took s id m k (sound.entered.named id m there) fits.1 (grind (arith, nat_tests)) sends up h
 manager_kind r e s id m k PlainWhat.NoRoom w is there fits sends up sound h =
-    answered_took s id m k (sound.entered.named id m there) fits.1 (no_room_pending s.manager m.id.n (manage.pending_numbered m.id.n s.manager.pending) k is) sends up h
+    answered_took s id m k (sound.entered.named id m there) fits.1 (grind (arith, nat_tests)) sends up h
 manager_kind r e s id m k (PlainWhat.Moved outcome) w is there fits sends up sound h =
-    answered_took s id m k (sound.entered.named id m there) fits.1 (moved_pending s.manager m.id.n outcome (manage.pending_numbered m.id.n s.manager.pending) k is) sends up h
+    answered_took s id m k (sound.entered.named id m there) fits.1 (grind (arith, nat_tests)) sends up h
 manager_kind r e s id m k v w is there fits sends up sound h = cc
 
 step_ones : (r e : MsgId → ℕ) (s t : OneKernel) (l : Label) → kernel.step s l ≡ Some t → KernelFits s → ascends 0 s.manager.pending s.manager.sent ≡ true → Sound r e s → Ones s → Ones t
@@ -164,16 +204,6 @@ replay_ones (l ∷ ls) r e s t v is fits up sound h =
 
 ones_on : (b : Boot) (pt : Point) (d : Step) (w : Spelled) → group_of b pt d ≡ Some w → Based b pt → Ones pt.kernel → Ones w.point.kernel
 ones_on b pt d w is based h = search (replay_ones, group_replay)
-
--- what that comes to
-pair_one : (a b : Option PlainMessage) (c : Option Pid) → Pair a b c → in_bag a + in_bag b + in_bag c ≡ 1
-pair_one a b c h = grind (arith, nat_tests)
-
-pair_first : (a b : Option PlainMessage) (c : Option Pid) (m : PlainMessage) → Pair a b c → a ≡ Some m → is_request m.what ≡ true
-pair_first a b c m h e = grind (arith, nat_tests)
-
-pair_second : (a b : Option PlainMessage) (c : Option Pid) (m : PlainMessage) → Pair a b c → b ≡ Some m → is_answer m.what ≡ true
-pair_second a b c m h e = grind (arith, nat_tests)
 
 -- of which kind the request is
 kind_is : (k : PendingKind) (o : Option Pending) (r : Pending) → is_for k o ≡ true → o ≡ Some r → k ≡ r.kind
@@ -215,9 +245,9 @@ has_one r_ e s n r is fits sound h =
     let numbered : manage.pending_numbered r.n s.manager.pending ≡ Some r = ap (λ (k : ℕ). manage.pending_numbered k s.manager.pending) (sym at_) ∙ is in
     let i = id_of manager r.n in
     record {
-      one = pair_one (s.bag i) (s.bag (answer_of r.n)) (s.noted i) g;
-      request = λ m there. request_kind s i m r m.what (pair_first (s.bag i) (s.bag (answer_of r.n)) (s.noted i) m g there) (fits.messages i m there) numbered;
-      answer = λ m there. answer_kind s (answer_of r.n) m r m.what (pair_second (s.bag i) (s.bag (answer_of r.n)) (s.noted i) m g there) (fits.messages (answer_of r.n) m there) numbered;
+      one = grind (arith, nat_tests);
+      request = λ m there. request_kind s i m r m.what (grind (arith, nat_tests)) (fits.messages i m there) numbered;
+      answer = λ m there. answer_kind s (answer_of r.n) m r m.what (grind (arith, nat_tests)) (fits.messages (answer_of r.n) m there) numbered;
       followed = λ p noted.
           let (k, notes, name) = sound.notes.follows i p noted in
           let f = (fits.notes p k notes).pending.pending in

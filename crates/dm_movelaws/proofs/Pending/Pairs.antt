@@ -3,8 +3,8 @@ use Rattle.dm_movelaws.proofs.Names.{◌≡◌, ℕ, ◌<◌, ◌==◌, ◌&&◌
 use Rattle.dm_movelaws.proofs.Names.{bool_eq, PlainMessage, PlainWhat, manager, Pending, OneKernel, with_sent, answer_id, answer_to, without_message, id_eq-is, id_eq-same, ServerSends, Sound, not_counted, ascends, numbered_from, not_true}
 use Rattle.dm_movelaws.proofs.Names.{parts, is_pending, out_off, sent_off, manager_took, Pid, MoveNote, with_note, without_note, Notes-agree, ⊤, ◌≤◌, counts}
 use Rattle.dm_laws.proofs.Entered.{asks}
-use Rattle.dm_onekernel.specs.Manager as manage
 pub use Rattle.dm_rule.proofs.Trails.Spares.{and_no as and_false}
+use Rattle.dm_onekernel.specs.Manager as manage
 
 -- a request to make a process or to move one, and an answer to one
 abbrev pub is_request : PlainWhat → Bool
@@ -41,20 +41,13 @@ PairAt s n = Pair (s.bag (id_of manager n)) (s.bag (answer_of n)) (s.noted (id_o
 abbrev pub Ones : OneKernel → Type 0
 Ones s = (n : ℕ) → is_pending s n ≡ true → PairAt s n
 
--- a message of another kind is under another name
-no_request : (a b : Option PlainMessage) (c : Option Pid) (m : PlainMessage) → Pair a b c → a ≡ Some m → is_request m.what ≡ false → ⊥
-no_request a b c m h e off = grind (arith, nat_tests)
-
-no_answer : (a b : Option PlainMessage) (c : Option Pid) (m : PlainMessage) → Pair a b c → b ≡ Some m → is_answer m.what ≡ false → ⊥
-no_answer a b c m h e off = grind (arith, nat_tests)
-
 pub off_request : (s : OneKernel) (n : ℕ) (id : MsgId) (m : PlainMessage) → Ones s → is_pending s n ≡ true → s.bag id ≡ Some m → is_request m.what ≡ false → id_eq id (id_of manager n) ≡ false
 off_request s n id m h p there off =
-    not_true (id_eq id (id_of manager n)) (λ e. no_request (s.bag (id_of manager n)) (s.bag (answer_of n)) (s.noted (id_of manager n)) m (h n p) (sym (ap s.bag (id_eq-is id (id_of manager n) e)) ∙ there) off)
+    not_true (id_eq id (id_of manager n)) (λ e. (let e_ : ⊥ = grind (arith, nat_tests, (h n p), (sym (ap s.bag (id_eq-is id (id_of manager n) e)) ∙ there)) in e_))
 
 off_answer : (s : OneKernel) (n : ℕ) (id : MsgId) (m : PlainMessage) → Ones s → is_pending s n ≡ true → s.bag id ≡ Some m → is_answer m.what ≡ false → id_eq id (answer_of n) ≡ false
 off_answer s n id m h p there off =
-    not_true (id_eq id (answer_of n)) (λ e. no_answer (s.bag (id_of manager n)) (s.bag (answer_of n)) (s.noted (id_of manager n)) m (h n p) (sym (ap s.bag (id_eq-is id (answer_of n) e)) ∙ there) off)
+    not_true (id_eq id (answer_of n)) (λ e. (let e_ : ⊥ = grind (arith, nat_tests, (h n p), (sym (ap s.bag (id_eq-is id (answer_of n) e)) ∙ there)) in e_))
 
 -- under a number two kernels have the same
 pub record Same (s t : OneKernel) (n : ℕ) : Type 0 where
@@ -96,11 +89,6 @@ answered_ones r e s u t id m w is up there asked off h ones on =
     let name : (answer_to m w).id ≡ answer_id id = ap answer_id (h.entered.named id m there) in
     subst Ones is (put_ones u (answer_to m w) (λ n p. off_by (answer_to m w).id (answer_id id) n name (answer_off id n (h.entered.requests id m there asked) (off_request s n id m ones (up n p) there off))) on)
 
--- a request to make a process is answered
-made_pair : (id : MsgId) (n : ℕ) (s u : OneKernel) (x : PlainMessage) → ((i : MsgId) → u.bag i ≡ (without_message s id).bag i) → u.noted (id_of manager n) ≡ None → x.id ≡ answer_id id → is_answer x.what ≡ true
-    → id_eq id (id_of manager n) ≡ true → PairAt (with_sent u (Some x)) n
-made_pair id n s u x same free name answers here = grind (arith, nat_tests, sent_off, parts)
-
 -- what is in the bag is followed by nobody
 free_of : (s : OneKernel) (i : MsgId) (m : PlainMessage) (o : Option Pid) → s.noted i ≡ o → ((p : Pid) → s.noted i ≡ Some p → s.bag i ≡ None) → s.bag i ≡ Some m → o ≡ None
 free_of s i m None is taken there = refl
@@ -108,9 +96,6 @@ free_of s i m (Some p) is taken there = let f : None ≡ Some m = sym (taken p i
 
 pub unnoted_in : (r e : MsgId → ℕ) (s : OneKernel) (i : MsgId) (m : PlainMessage) → Sound r e s → s.bag i ≡ Some m → s.noted i ≡ None
 unnoted_in r e s i m h there = free_of s i m (s.noted i) refl (λ p is. ((Notes-agree r e s h.entered h.notes).taken i p is).0) there
-
-unnoted : (r e : MsgId → ℕ) (s : OneKernel) (id : MsgId) (n : ℕ) (m : PlainMessage) → Sound r e s → id_eq id (id_of manager n) ≡ true → s.bag id ≡ Some m → s.noted (id_of manager n) ≡ None
-unnoted r e s id n m h same there = ap s.noted (sym (id_eq-is id (id_of manager n) same)) ∙ unnoted_in r e s id m h there
 
 pub made_ones : (r e : MsgId → ℕ) (s u t : OneKernel) (id : MsgId) (m : PlainMessage) (w : PlainWhat) → with_sent u (Some (answer_to m w)) ≡ t → ((i : MsgId) → u.bag i ≡ (without_message s id).bag i)
     → ((i : MsgId) → u.noted i ≡ s.noted i) → ((n : ℕ) → is_pending u n ≡ true → is_pending s n ≡ true) → s.bag id ≡ Some m → asks m.what ≡ true → is_answer w ≡ true
@@ -121,7 +106,7 @@ made_ones r e s u t id m w is same noted up there asked answers h ones =
     let asking : id.answer ≡ false = h.entered.requests id m there asked in
     let of : (n : ℕ) → is_pending u n ≡ true → PairAt (with_sent u (Some x)) n = λ n p.
     elim (cases_Bool (id_eq id (id_of manager n))) [
-      | inl here ↦ made_pair id n s u x same (noted (id_of manager n) ∙ unnoted r e s id n m h here there) name answers here
+      | inl here ↦ grind (arith, nat_tests, sent_off, parts, (noted (id_of manager n) ∙ (ap s.noted (sym (id_eq-is id (id_of manager n) here)) ∙ unnoted_in r e s id m h there)))
       | inr apart ↦
           let off = off_by x.id (answer_id id) n name (answer_off id n asking apart) in
           let out : id_eq id (answer_of n) ≡ false = ap (λ (a : Bool). (pid_eq id.from manager && (id.n == n)) && bool_eq a true) asking ∙ and_false (pid_eq id.from manager && (id.n == n)) in

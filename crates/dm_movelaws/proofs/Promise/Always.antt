@@ -1,28 +1,18 @@
 -- Each update that is under way keeps its promise: where all is at rest, the links that its receiver hasn't filled since lead to
 -- where the process is that it is about.
 use Rattle.dm_movelaws.proofs.Names.{◌≡◌, ℕ, ◌+◌, ◌<◌, ◌≤◌, List, [], ◌∷◌, ◌++◌, length, refl, ap, ◌∙◌, sym, arith, slice_get, Some, slice_get_within, Pid, Place, MsgId, Boot, IsValid, pid_eq-same, Step, Line, Slot, leads_to, Leads, Point}
-use Rattle.dm_movelaws.proofs.Names.{first_point, Trails, based_group, based_always, Based, AtRest, AtRestAlways, update_of, Promised, PromisesAlways, Updated, UpdatesAlways, nat_tests}
+use Rattle.dm_movelaws.proofs.Names.{first_point, Trails, based_group, based_always, Based, AtRest, AtRestAlways, update_of, Promised, PromisesAlways, UpdatesAlways, nat_tests}
 use Rattle.dm_movelaws.proofs.At.RestAlways.{at_rest_always}
 use Rattle.dm_movelaws.proofs.Updates.Always.{updates_always}
-use Rattle.dm_movelaws.proofs.Promise.Trail.{OnTrail, TrailKnown}
 use Rattle.dm_movelaws.proofs.Trail.Known.{trail_known}
-use Rattle.dm_movelaws.proofs.Promise.Kept.{Grounds, lines_before, lines_told}
-use Rattle.dm_movelaws.proofs.Promise.Spots.{Stands}
-use Rattle.dm_movelaws.proofs.Promise.Groups.{update_own}
+use Rattle.dm_movelaws.proofs.Promise.Spots.{Stands, Grounds, lines_before, lines_told, OnTrail, TrailKnown}
 use Rattle.dm_movelaws.proofs.After.{group_after}
-use Rattle.dm_movelaws.proofs.Promise.Finds.{lines_by, leads_append, Handles, find_handled}
-
-same_place : (a b : Place) → a.at ≡ b.at → a.moves ≡ b.moves → a ≡ b
-same_place a b e f = λ i. record { at = e i; moves = f i }
+use Rattle.dm_movelaws.proofs.Promise.Finds.{lines_by, leads_append, Handles, find_handled, update_own}
 
 pub same_some : (m n : ℕ) → Some m ≡ Some n → m ≡ n
 same_some m n e = cc
 
 -- what the record of the update says is what was told
-
--- where the group that handles it leads, each link of its receiver's to the process knows as many moves
-raised_at : (at next : Point) (id : MsgId) (n : ℕ) (p q : Pid) (place : Place) (k : ℕ) → Updated at next id n → at.view.told id ≡ Some (update_of p q place) → leads_to next.kernel (Slot p k) ≡ Some q → place.moves ≤ (next.addresses (Slot p k)).moves
-raised_at at next id n p q place k u told leads = grind (arith, nat_tests, pid_eq-same)
 
 -- and where all is at rest, it names the place that the update told
 kept_place : (pt : Point) (t : Trails) (id : MsgId) (p q : Pid) (place : Place) (k : ℕ) → OnTrail pt t → AtRest pt → pt.view.told id ≡ Some (update_of p q place) → pt.view.moves q ≡ place.moves → leads_to pt.kernel (Slot p k) ≡ Some q → place.moves ≤ (pt.addresses (Slot p k)).moves
@@ -34,7 +24,7 @@ kept_place pt t id p q place k on rest told same leads least =
     let long : length (t q) ≡ pt.view.moves q + 1 = on.long q (λ m. rest.still m q) in
     let moves : a.moves ≡ place.moves = omega (arith, least, less, long, same) in
     let said : slice_get (t q) place.moves ≡ Some place.at = on.about id (update_of p q place) q place.at place.moves told refl in
-    same_place a place (same_some a.at place.at (sym there ∙ ap (slice_get (t q)) moves ∙ said)) moves
+    λ i. record { at = (same_some a.at place.at (sym there ∙ ap (slice_get (t q)) moves ∙ said)) i; moves = moves i }
 
 grounds_of : (b : Boot) (pt : Point) → Based b pt → Grounds pt.kernel
 grounds_of b pt h = record { r = h.phased.sane.r; e = h.phased.sane.e; sound = h.phased.sane.sound; pending = h.pending }
@@ -66,7 +56,7 @@ promised_by updates trail b before between told pt id p q place valid comes all 
       goes = late.goes;
       place_kept = λ k same unfilled leads.
           let was = lines_before late.lines h.group.point pt p q k (pt.addresses (Slot p k)).moves late.leads grounds unfilled (record { leads = leads; fewer = omega arith }) in
-          let least = raised_at h.handled h.group.point id h.count p q place k update told_handled was.leads in
+          let least : place.moves ≤ (h.group.point.addresses (Slot p k)).moves = grind (arith, nat_tests, pid_eq-same, was.leads) in
           let fewer = was.fewer in
           kept_place pt t id p q place k on rest told_end same leads (omega (arith, least, fewer));
     }

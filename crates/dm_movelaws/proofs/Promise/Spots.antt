@@ -2,12 +2,15 @@
 use Rattle.dm_movelaws.proofs.Names.{◌≡◌, ℕ, ◌+◌, ◌≤◌, ◌==◌, ◌&&◌, false, List, [], ◌∷◌, ◌++◌, refl, ap, ◌∙◌, sym, subst, inl, inr, arith, ⊤, cases_Bool, Pid, pid_eq, MsgId, id_eq, Label, pid_eq-is, Line, Stage, View, view_after, handled}
 use Rattle.dm_movelaws.proofs.Names.{handled_first, released, receiver_of, Spot, Queue, Held, Inbox, Untaken, times, ids_at, standing, at_machine_at, at_machine_off, at_record_off, eq_is, parts, times-append, first_off, home_again}
 use Rattle.dm_movelaws.proofs.Names.{home_off, proto_off, accepted_off, state_off, memory_off, lacks_off, left_off, restarted_off, handled_spots, queued_spots, held_spots, forwarded_spots, ◌⊎◌, Bool, true, not, filter, if◌then◌else◌}
-use Rattle.dm_movelaws.proofs.Names.{Option, None, Some, false≢true, MessageKind, OneKernel, id_eq-is, id_eq-same, Step, Load, Told, NothingElse, is_kernels, after_head, taken_id, held_for, Point, out_of, not_kernels, gone_in, at_record_at}
-use Rattle.dm_movelaws.proofs.Names.{not_true, one_of, PairsFit, served_keeps, serving_off, created_off, IsNetLine, early_off, acked_off, turn_off, tick_off, deliver_off, migrate_off, emptied, both_lists, both_times, dropped_spots}
-use Rattle.dm_movelaws.proofs.Names.{put_spots, taken_calm, put_spot, put_there, Sane, packet_off, received_spots, ended_off, nat_tests, About, Target, aim, about_off}
+use Rattle.dm_movelaws.proofs.Names.{Option, None, Some, false≢true, MessageKind, OneKernel, id_eq-is, id_eq-same, Step, Load, Told, NothingElse, is_kernels, taken_id, held_for, Point, out_of, not_kernels, gone_in, at_record_at}
+use Rattle.dm_movelaws.proofs.Names.{not_true, one_of, PairsFit, served_keeps, serving_off, created_off, IsNetLine, early_off, acked_off, emptied, both_lists, both_times, dropped_spots}
+use Rattle.dm_movelaws.proofs.Names.{put_spots, taken_calm, put_spot, put_there, Sane, packet_off, received_spots, ended_off, nat_tests, About, Target, aim, about_off, Place, entry, reception, after_step, Sound, bind-is, Addresses, Holder}
+use Rattle.dm_movelaws.proofs.Names.{Slot, Gets, given, gives, all_follow, first_gives, leads_to, updated, addresses_after, ascends, label_of, kernel_after, after_line, after, moved, hushed, put_at, put_told_off, gives_to, fills, Unfilled}
+use Rattle.dm_movelaws.proofs.Names.{first_kept, ◌≢◌, length, slice_get, Boot, IsValid, Leads, first_point, Trails, AddressesOn, Unknown, is_moving, IsThere}
 use Rattle.dm_rule.proofs.Moves.Sent.{sent_off}
 use Rattle.dm_onekernel.specs.Step as kernel
 use Rattle.dm_rule.specs.View as view
+use Rattle.dm_movelaws.proofs.Promise.Slots.{not_given, step_pending, led_before}
 
 pub record Stands (v : View) (j : MsgId) : Type 0 where
   pub spot : Spot
@@ -189,16 +192,13 @@ packet_stands v a b k l j h = stands_off v (view_after v (Line.Packet a b k l)) 
 either_list : (v : View) (p : Pid) (j : MsgId) → 1 ≤ standing v j (Queue v.acting p) + standing v j (Held v.acting p) → 1 ≤ times j (both_lists v p)
 either_list v p j e = let f = both_times v p j in omega (arith, e, f)
 
-list_at : (v : View) (f : ℕ → Pid → List MsgId) (p : Pid) (j : MsgId) (m : ℕ) (q : Pid) → ((v.acting == m) && pid_eq p q) ≡ true → 1 ≤ times j (f m q) → 1 ≤ times j (f v.acting p)
-list_at v f p j m q same e = grind (arith, nat_tests, parts, eq_is, pid_eq-is)
-
 emptied_at : (v : View) (p : Pid) (j : MsgId) (z : Spot) → 1 ≤ standing v j z → Stands (emptied v p) j ⊎ (1 ≤ times j (both_lists v p))
 emptied_at v p j (Queue m q) e = elim (cases_Bool ((v.acting == m) && pid_eq p q)) [
-  | inl same ↦ inr (let f = list_at v v.queue p j m q same e in either_list v p j (omega (arith, f)))
+  | inl same ↦ inr (let f : 1 ≤ times j (v.queue v.acting p) = grind (arith, nat_tests, parts, eq_is, pid_eq-is) in either_list v p j (omega (arith, f)))
   | inr off ↦ inl (record { spot = Queue m q; least = subst (λ (ids : List MsgId). 1 ≤ times j ids) (sym (at_record_off v.queue v.acting m p q [] off)) e })
 ]
 emptied_at v p j (Held m q) e = elim (cases_Bool ((v.acting == m) && pid_eq p q)) [
-  | inl same ↦ inr (let f = list_at v v.held p j m q same e in either_list v p j (omega (arith, f)))
+  | inl same ↦ inr (let f : 1 ≤ times j (v.held v.acting p) = grind (arith, nat_tests, parts, eq_is, pid_eq-is) in either_list v p j (omega (arith, f)))
   | inr off ↦ inl (record { spot = Held m q; least = subst (λ (ids : List MsgId). 1 ≤ times j ids) (sym (at_record_off v.held v.acting m p q [] off)) e })
 ]
 emptied_at v p j (Inbox m) e = inl (record { spot = Inbox m; least = e })
@@ -223,10 +223,6 @@ held_by v i (Some q) p e =
 
 pub held_this : (v : View) (i : MsgId) (t : Told) → v.told i ≡ Some t → Stands (view_after v (Line.Held i)) i
 held_this v i t e = held_by (handled v i) i (receiver_of (v.told i)) t.receiver (ap receiver_of e)
-
--- heads
-pub head_stands : (v : View) (d : Step) (j : MsgId) → Stands v j → Stands (after_head v d) j
-head_stands v d j h = grind (arith, nat_tests, stands_off, turn_off, tick_off, deliver_off, migrate_off)
 
 -- what a packet brings: where messages come to doesn't rest on what is told of them
 abbrev all_asks : View → View
@@ -254,3 +250,94 @@ net_stands v (Line.Acked a b n) j is h = stands_off v (view_after v (Line.Acked 
 net_stands v Line.Nothing j is h = h
 net_stands v (Line.Resent m n) j is h = h
 net_stands v _ j is h = absurd is
+
+-- As long as no line gives a slot an address, its address doesn't come to know fewer moves; and what was told stays.
+
+pub told_stays : (v : View) (l : Line) (j : MsgId) (t : Told) → v.told j ≡ Some t → (view_after v l).told j ≡ Some t
+told_stays v (Line.Put a b i k q) j t e = grind (arith, nat_tests, id_eq-is, put_at, first_kept, put_told_off)
+told_stays v (Line.Lacks r f c) j t e = ap (λ (f : MsgId → Option Told). f j) (hushed v (Line.Lacks r f c) refl).told ∙ e
+told_stays v any_ j t e = ap (λ (f : MsgId → Option Told). f j) (hushed v any_ refl).told ∙ e
+
+-- a slot's address
+same_address : (a : Addresses) (p : Pid) (k : ℕ) (gs : List Gets) → gives_to (Slot p k) gs ≡ false → (a (Slot p k)).moves ≤ (given a gs (Slot p k)).moves
+same_address a p k gs e = let f : (given a gs (Slot p k)).moves ≡ (a (Slot p k)).moves = ap (λ (x : Place). x.moves) (not_given a (Slot p k) gs e) in omega (arith, f)
+
+follow_spares : (v : View) (a : Addresses) (r : Pid) (ids : List MsgId) (p : Pid) (k : ℕ) → gives_to (Slot p k) (all_follow v a r ids) ≡ false
+follow_spares v a r [] p k = refl
+follow_spares v a r (i ∷ is) p k = follow_spares v a r is p k
+
+first_spares : (o : Option Told) (gs : List Gets) (p : Pid) (k : ℕ) → gives_to (Slot p k) gs ≡ false → gives_to (Slot p k) (first_gives o gs) ≡ false
+first_spares o gs p k e = grind (arith, nat_tests)
+
+told_grows : (s : OneKernel) (v : View) (a : Addresses) (o : Option Told) (h : Holder) → (a h).moves ≤ (updated s v a o h).moves
+told_grows s v a o h = grind (arith, nat_tests)
+
+moves_grow : (pt : Point) (l : Line) (p : Pid) (k : ℕ) → fills pt (Slot p k) l ≡ false → (pt.addresses (Slot p k)).moves ≤ (addresses_after pt.kernel pt.view pt.addresses l (Slot p k)).moves
+moves_grow pt l p k e = grind (arith, nat_tests, same_address, follow_spares, told_grows, first_spares)
+
+-- what each line needs of the kernel, and keeps
+pub record Grounds (s : OneKernel) : Type 0 where
+  pub r : MsgId → ℕ
+  pub e : MsgId → ℕ
+  pub sound : Sound r e s
+  pub pending : ascends 0 s.manager.pending s.manager.sent ≡ true
+
+-- where the slot led before, and how many moves its address knew
+pub record Before (pt : Point) (p q : Pid) (k moves : ℕ) : Type 0 where
+  pub leads : leads_to pt.kernel (Slot p k) ≡ Some q
+  pub fewer : (pt.addresses (Slot p k)).moves ≤ moves
+
+grounds_by : (s t : OneKernel) (v : View) (o : Option Label) → kernel_after s o ≡ Some t → Grounds s → Grounds t
+grounds_by s t v None is h = let f : s ≡ t = cc in subst Grounds f h
+grounds_by s t v (Some x) is h = record {
+  r = λ i. h.r i + reception i x;
+  e = λ i. h.e i + entry i s t;
+  sound = (after_step h.r h.e s t x is h.sound).sound;
+  pending = step_pending s t v x is h.sound.entered.named h.pending;
+}
+
+led_by : (pt : Point) (t : OneKernel) (l : Line) (o : Option Label) (p q : Pid) (k : ℕ) → label_of l ≡ o → kernel_after pt.kernel o ≡ Some t → Grounds pt.kernel → ((x : Label) → o ≡ Some x → gives_to (Slot p k) (gives pt.kernel pt.view pt.addresses x) ≡ false) → leads_to t (Slot p k) ≡ Some q
+    → leads_to pt.kernel (Slot p k) ≡ Some q
+led_by pt t l None p q k of is h spared leads = let f : pt.kernel ≡ t = cc in ap (λ (s : OneKernel). leads_to s (Slot p k)) f ∙ leads
+led_by pt t l (Some x) p q k of is h spared leads = led_before pt.kernel t pt.view pt.addresses x p q k is h.sound.entered.named h.pending (spared x refl) leads
+
+spared_by : (pt : Point) (l : Line) (p : Pid) (k : ℕ) (x : Label) → label_of l ≡ Some x → fills pt (Slot p k) l ≡ false → gives_to (Slot p k) (gives pt.kernel pt.view pt.addresses x) ≡ false
+spared_by pt l p k x of e = grind (arith, nat_tests)
+
+line_before : (pt next : Point) (l : Line) (p q : Pid) (k moves : ℕ) → after_line pt l ≡ Some next → Grounds pt.kernel → fills pt (Slot p k) l ≡ false → Before next p q k moves → Before pt p q k moves
+line_before pt next l p q k moves is h e before =
+    let (s, comes, last) = bind-is (kernel_after pt.kernel (label_of l)) (λ s. Some (moved pt l s)) next is in
+    let f : moved pt l s ≡ next = cc in
+    let was : Before (moved pt l s) p q k moves = subst (λ (x : Point). Before x p q k moves) (sym f) before in
+    let grows = moves_grow pt l p k e in
+    let fewer = was.fewer in
+    record { leads = led_by pt s l (label_of l) p q k refl comes h (λ x of. spared_by pt l p k x of e) was.leads; fewer = omega (arith, grows, fewer) }
+
+-- through lines none of which gives the slot an address
+pub lines_before : (ls : List Line) (pt end : Point) (p q : Pid) (k moves : ℕ) → after pt ls ≡ Some end → Grounds pt.kernel → Unfilled pt (Slot p k) ls → Before end p q k moves → Before pt p q k moves
+lines_before [] pt end p q k moves is h none before = let f : pt ≡ end = cc in subst (λ (x : Point). Before x p q k moves) (sym f) before
+lines_before (l ∷ ls) pt end p q k moves is h none before =
+    let (mid, first, rest) = bind-is (after_line pt l) (λ (next : Point). after next ls) end is in
+    line_before pt mid l p q k moves first h none.0 (lines_before ls mid end p q k moves rest (grind (arith, nat_tests, bind-is, grounds_by)) (none.1 mid first) before)
+
+-- what was told stays through lines
+pub lines_told : (ls : List Line) (pt end : Point) (j : MsgId) (t : Told) → after pt ls ≡ Some end → pt.view.told j ≡ Some t → end.view.told j ≡ Some t
+lines_told [] pt end j t is e = let f : pt ≡ end = cc in ap (λ (x : Point). x.view.told j) (sym f) ∙ e
+lines_told (l ∷ ls) pt end j t is e =
+    let (mid, first, rest) = bind-is (after_line pt l) (λ (next : Point). after next ls) end is in
+    let (s, comes, last) = bind-is (kernel_after pt.kernel (label_of l)) (λ s. Some (moved pt l s)) mid first in
+    let f : moved pt l s ≡ mid = cc in
+    lines_told ls mid end j t rest (ap (λ (x : Point). x.view.told j) (sym f) ∙ told_stays pt.view l j t e)
+
+-- What trails say of addresses and updates.
+
+-- addresses are on the trails of their processes, and so is what updates tell; where no machine waits for a process, its trail ends
+-- where it is, and so it is there, if some machine knows it
+pub record OnTrail (pt : Point) (t : Trails) : Type 0 where
+  pub addresses : AddressesOn pt.kernel pt.addresses t
+  pub about : (i : MsgId) (u : Told) (p : Pid) (m c : ℕ) → pt.view.told i ≡ Some u → u.about ≡ About.Place p m c → slice_get (t p) c ≡ Some m
+  pub long : (p : Pid) → ((m : ℕ) → is_moving (pt.view.known m p) ≡ false) → length (t p) ≡ pt.view.moves p + 1
+  pub there : (p : Pid) (n : ℕ) → ((m : ℕ) → is_moving (pt.view.known m p) ≡ false) → pt.view.known n p ≢ Unknown → (m : ℕ) × (slice_get (t p) (pt.view.moves p) ≡ Some m) × IsThere pt.view p m
+
+abbrev pub TrailKnown : Type 0
+TrailKnown = (b : Boot) (es : List Step) (pt : Point) → IsValid b → Leads b (first_point b) es pt → (t : Trails) × OnTrail pt t

@@ -1,22 +1,318 @@
--- Wherever the rule leads, whoever is named is a kernel of a machine that there is, a server, or a process that was made.
-use Rattle.dm_movelaws.proofs.Names.{◌≡◌, ◌≢◌, ℕ, ◌<◌, ◌≤◌, Bool, true, false, ◌∷◌, is_some, nat_lt, refl, ap, ◌∙◌, sym, subst, inl, inr, arith, if◌then◌else◌, Option, Some, cases_Bool, nat_tests, Pid, pid_eq, MsgId, Line, PlainMessage}
-use Rattle.dm_movelaws.proofs.Names.{PlainWhat, Boot, switchboard, manager, Life, OneKernel, is_counted, counts, Step, IsStep, Spelled, Point, first_point, group_of, Inbox, times, View, Told, Known, Unknown, Here, after_head, is_kernels}
-use Rattle.dm_movelaws.proofs.Names.{actor, group_is, outcome_sayable, line_within, is_server, WhatFits, agrees, begun, begun_sane, named_real, times_self, Run, IsReal, Kernel, Server, Made, IsAboutReal, RealAlways, or_cases, from_kernel}
-use Rattle.dm_movelaws.proofs.Names.{run_always}
-use Rattle.dm_movelaws.proofs.Ends.Lines.{told_by}
-use Rattle.dm_movelaws.proofs.NumbersAlways.{bag_counted, told_counted}
-use Rattle.dm_movelaws.proofs.Real.Lines.{HereReal, InboxTold, outcome_real, rises_same, Reals, Receivers, parts_reals}
-use Rattle.dm_movelaws.proofs.After.{keeps_always}
+-- Each line keeps that whoever is told of is somebody.
+use Rattle.dm_movelaws.proofs.Names.{if◌then◌else◌, ◌≡◌, ◌≢◌, ℕ, ◌<◌, ◌≤◌, true, false, ◌∷◌, is_some, refl, ap, ◌∙◌, sym, subst, inl, inr, arith, Option, Some, cases_Bool, nat_tests, Pid, MsgId, Line, PlainMessage}
+use Rattle.dm_movelaws.proofs.Names.{PlainWhat, Boot, manager, Life, OneKernel, Step, IsStep, Spelled, Point, group_of, Inbox, times, View, Told, Unknown, Here, after_head, is_kernels}
+use Rattle.dm_movelaws.proofs.Names.{actor, group_is, outcome_sayable, line_within, is_server, WhatFits, begun, begun_sane, named_real, times_self, Run, IsReal, Kernel, Server, Made, IsAboutReal, RealAlways, or_cases, from_kernel}
+use Rattle.dm_movelaws.proofs.Names.{run_always, ◌⊎◌, List, None, false≢true, MessageKind, plain_kind, Stage, Label, id_eq-is, LifeGrows, after_step, Sound, Receiver, Part, Says, Routes, Again, Owns, Transmits, spelled, label_of}
+use Rattle.dm_movelaws.proofs.Names.{kernel_after, moved, About, view_after, after_put, handled, receiver_of, own_id, not_kernels, grown_none, put_at, PacketsKeep, put_told_off, Sane, AllSayable, label_topic, Within}
+use Rattle.dm_movelaws.proofs.Names.{has_bytes, KernelFits, step_constant, fits_step, queued_topic, held_topic, taken_topic, told_kept, [], ◌++◌, ⊤, pid_eq-same, alive-is, to_kernel, sends_on, IsNetLine}
+use Rattle.dm_movelaws.proofs.Names.{by_migrates, by_outcome, by_forwards, by_hears, topic_by, machine_in, move_target, sets, InOrder, Loose, loose_handles}
 use Rattle.dm_rulelaws.proofs.Found.Core as core
+use Rattle.dm_rule.specs.View as view
+use Rattle.dm_rule.specs.Rule as rule
+use Rattle.dm_movelaws.proofs.After.{keeps_always}
+use Rattle.dm_movelaws.proofs.Ends.Parts.{told_by}
+use Rattle.dm_movelaws.proofs.Leading.{Behind, sane_lead, All, Saying, net_says}
+use Rattle.dm_movelaws.proofs.Stages.Rows.{MildLine, AllMild}
+use Rattle.dm_movelaws.proofs.Stages.Steps.{round_mild}
+use Rattle.dm_movelaws.proofs.Names.{Bool, HeadIn, counts, first_point, is_counted, is_put, nat_lt, pid_eq, switchboard}
+use Rattle.dm_movelaws.proofs.NumbersAlways.{bag_counted, told_counted}
 
--- whom a machine knows
-agrees_made : (k : Known) (l : Option Life) → k ≢ Unknown → agrees k l ≡ true → is_some l ≡ true
-agrees_made k l some e = grind (arith, nat_tests)
+-- a row a line, seen from where its group begins
+abbrev pub LineReal : Point → Line → Type 0
+LineReal o (Line.Migration s p) = IsReal o.kernel p
+LineReal o (Line.SentOn p n) = IsReal o.kernel p
+LineReal o (Line.Lacks p a b) = IsReal o.kernel p
+LineReal o (Line.Forwarded i m) = is_some (o.view.told i) ≡ true
+LineReal o (Line.Head d) = ⊥
+LineReal o (Line.Put a b i k q) = ⊥
+LineReal o _ = ⊤
+
+abbrev pub PartReal : Point → Part → Type 0
+PartReal o = Saying (LineReal o)
+
+abbrev pub AllReal : Point → List Part → Type 0
+AllReal o = All (PartReal o)
+
+-- parts that leave all migrations as they are; the message at the front was told of
+abbrev FrontTold : Point → Option MsgId → Type 0
+FrontTold o front = (i : MsgId) → front ≡ Some i → is_some (o.view.told i) ≡ true
+
+mild_line : (o : Point) (front : Option MsgId) (l : Line) → FrontTold o front → ((me : Pid) → MildLine me front l) → LineReal o l
+mild_line o front (Line.Migration Stage.Asked q) told h = absurd (false≢true (sym (h q) ∙ pid_eq-same q))
+mild_line o front (Line.Migration Stage.Left q) told h = absurd (false≢true (sym (h q) ∙ pid_eq-same q))
+mild_line o front (Line.Migration s q) told h = absurd (h q)
+mild_line o front (Line.SentOn q n) told h = absurd (h q)
+mild_line o front (Line.Lacks q a b) told h = absurd (h q)
+mild_line o front (Line.Forwarded i m) told h = told i (h manager)
+mild_line o front (Line.Head d) told h = absurd (h manager)
+mild_line o front (Line.Put a b i k q) told h = absurd (h manager)
+mild_line o front _ told h = tt
+
+mild_real : (o : Point) (front : Option MsgId) (ps : List Part) → FrontTold o front → ((me : Pid) → AllMild me front ps) → AllReal o ps
+mild_real o front [] told h = tt
+mild_real o front (Says l ∷ ps) told h = (mild_line o front l told (λ me. (h me).0), mild_real o front ps told (λ me. (h me).1))
+mild_real o front (p ∷ ps) told h = (tt, mild_real o front ps told (λ me. (h me).1))
+
+-- deliveries and repeats
+net_line : (o : Point) (l : Line) → IsNetLine l → LineReal o l
+net_line o (Line.Taken a b n) h = tt
+net_line o (Line.Old a b n) h = tt
+net_line o (Line.Early a b n) h = tt
+net_line o (Line.Acked a b n) h = tt
+net_line o (Line.Resent m n) h = tt
+net_line o Line.Nothing h = tt
+net_line o _ h = absurd h
+
+-- what kernels tell each other of a process
+sends_real : (o : Point) (to : ℕ) (ids : List MsgId) (ps : List Part) → AllReal o ps → AllReal o (sends_on to ids ++ ps)
+sends_real o to [] ps h = h
+sends_real o to (i ∷ is) ps h = (tt, sends_real o to is ps h)
+
+-- whom a machine has is somebody
+abbrev pub HereReal : Point → Type 0
+HereReal o = (m : ℕ) (q : Pid) → o.view.known m q ≡ Here → IsReal o.kernel q
+
+hears_real : (b : Boot) (o : Point) (m : ℕ) (i : MsgId) (q : Option Told) (ps : List Part) → FrontTold o (Some i) → HereReal o → rule.hears b o m i q ≡ Some ps → AllReal o ps
+hears_real b o m i q ps told here = by_hears (AllReal o) b o m i q ps (λ t is. record {
+  told = λ p x about alive. (
+      let h : IsReal o.kernel p = Made (ap is_some (alive-is (o.kernel.processes p) x alive)) in
+      record {
+        accepted = λ ask. (h, (tt, tt));
+        lacks = λ slots blocks. (h, (tt, tt));
+        stays = λ kind free. (tt, tt);
+        stays_asked = λ kind n noted. (tt, (tt, (tt, tt)));
+        restarted_asked = λ kind n noted. (h, (tt, (tt, tt)));
+        state = (tt, (tt, tt));
+        next_chunk = (tt, (tt, tt));
+        last_chunk = (h, (tt, tt));
+        memory = (tt, (tt, tt));
+        next_block = (tt, (tt, tt));
+        last_block = (h, (tt, tt));
+        left = λ ids to leaves. (h, sends_real o to ids (Says (Line.Migration Stage.Left p) ∷ to_kernel MessageKind.Restart i.from.home ∷ []) (h, (tt, tt)));
+        restarted = λ kind free. (h, tt);
+      }
+      );
+  updated = λ kind. (tt, tt);
+  updated_none = λ kind at_. (tt, tt);
+  no_move = λ at_. (tt, tt);
+  leaving = λ to at_. (tt, tt);
+  coming = λ from at_. (tt, tt);
+  forwarded = λ to moves at_. by_forwards (AllReal o) o.addresses i t.kind manager to (told i refl, (tt, tt)) (told i refl, (tt, (tt, tt)));
+  stays_here = λ at_. (tt, tt);
+  frozen = λ to at_. (let h = here m t.receiver at_.known in (h, (h, (tt, tt))));
+})
+
+-- what a turn says of a message of the bag
+real_loose : (o : Point) → Loose (AllReal o)
+real_loose o = record { none = tt; label = λ l ps h. (tt, h); routes = λ i ps h. (tt, h) }
+
+handles_real : (b : Boot) (o : Point) (m : ℕ) (i : MsgId) (msg : PlainMessage) (ps : List Part) → FrontTold o (Some i) → HereReal o → rule.handles b o m i msg ≡ Some ps → AllReal o ps
+handles_real b o m i msg ps told here e =
+    loose_handles (AllReal o) (AllReal o) (real_loose o) (λ qs h. h) b o m i msg ps (λ at_. (tt, tt)) (tt, tt) (λ to at_ what apart. (let h = here m msg.to at_.known in (tt, (h, (h, (tt, tt))))))
+    (λ to moves at_. by_forwards (AllReal o) o.addresses i (plain_kind msg.what) msg.sender to (told i refl, (tt, tt)) (told i refl, (tt, (tt, tt)))) e
+
+-- what stands in an inbox was told of
+abbrev pub InboxTold : Point → Type 0
+InboxTold o = (m : ℕ) (i : MsgId) (is : List MsgId) → o.view.inbox m ≡ i ∷ is → is_some (o.view.told i) ≡ true
+
+front_is : (o : Point) (m : ℕ) (i : MsgId) (is : List MsgId) → InboxTold o → o.view.inbox m ≡ i ∷ is → FrontTold o (Some i)
+front_is o m i is told at j e = let f : i ≡ j = cc in subst (λ (x : MsgId). is_some (o.view.told x) ≡ true) f (told m i is at)
+
+pub outcome_real : (b : Boot) (o : Point) (d : Step) (ps : List Part) → InboxTold o → HereReal o → rule.outcome b o d ≡ Some ps → AllReal o ps
+outcome_real b o d ps told here = by_outcome (λ x. AllReal o) b o d ps (record {
+  round = λ m xs box e. mild_real o None xs (λ i k. cc) (λ p. round_mild p None b o m (rule.first_runnable o.kernel (o.view.queue m) (o.view.ring m)) xs e);
+  handles = λ m i is msg xs box there e. handles_real b o m i msg xs (front_is o m i is told box) here e;
+  hears = λ m i is xs box none e. hears_real b o m i (o.view.told i) xs (front_is o m i is told box) here e;
+  ticks = λ m. net_says (LineReal o) (net_line o);
+  delivers = λ a c k. net_says (LineReal o) (net_line o);
+  asks = λ p m. by_migrates (AllReal o) o p (tt, tt) (tt, tt) (λ n off is. (tt, tt));
+})
+
+-- who was made stays so, and there are as many machines
+pub record Rises (s t : OneKernel) : Type 0 where
+  pub machines : t.machines ≡ s.machines
+  pub made : (q : Pid) → is_some (s.processes q) ≡ true → is_some (t.processes q) ≡ true
+
+pub rises_same : (s : OneKernel) → Rises s s
+rises_same s = record { machines = refl; made = λ q e. e }
+
+real_rises : (s t : OneKernel) (q : Pid) → Rises s t → IsReal s q → IsReal t q
+real_rises s t q h e = grind (arith, nat_tests)
+
+pub made_by : (a b : Option Life) → LifeGrows a b → is_some a ≡ true → is_some b ≡ true
+made_by a b g e = grind (arith, nat_tests, grown_none)
+
+step_rises : (r e : MsgId → ℕ) (s t : OneKernel) (o : Option Label) → kernel_after s o ≡ Some t → Sound r e s → InOrder s.manager → KernelFits s → Rises s t × InOrder t.manager × KernelFits t
+step_rises r e s t None is h order fits = let f : s ≡ t = cc in subst (λ (u : OneKernel). Rises s u × InOrder u.manager × KernelFits u) f (rises_same s, order, fits)
+step_rises r e s t (Some l) is h order fits =
+    (record { machines = (step_constant s t l is).machines; made = λ q some. made_by (s.processes q) (t.processes q) ((after_step r e s t l is h).grown.lives q) some }, (step_constant s t l is).pending order, fits_step r e s t l is h order fits)
+
+has_made : (s : OneKernel) (q : Pid) (n : ℕ) (l : Option Life) → s.processes q ≡ l → has_bytes n l ≡ true → IsReal s q
+has_made s q n l is e = grind (arith, nat_tests)
+
+pub receiver_real : (s : OneKernel) (i : MsgId) (m : PlainMessage) (w : PlainWhat) → WhatFits s i m w → IsReal s m.to
+receiver_real s i m (PlainWhat.User z1 z2 z3 z4) e = grind (arith, nat_tests, or_cases, has_made)
+receiver_real s i m (PlainWhat.Read base len) e = has_made s m.to _ (s.processes m.to) refl e.0
+receiver_real s i m (PlainWhat.Write base bytes) e = has_made s m.to _ (s.processes m.to) refl e.0
+receiver_real s i m (PlainWhat.Block bytes) e = subst (IsReal s) (sym e.0) (grind (arith, nat_tests, e.1))
+receiver_real s i m PlainWhat.Written e = subst (IsReal s) (sym e.0) (grind (arith, nat_tests, e.1))
+receiver_real s i m PlainWhat.Gone e = subst (IsReal s) (sym e.0) (grind (arith, nat_tests, e.1))
+receiver_real s i m (PlainWhat.Create image links) e = let num = e.0 in let home = e.1 in Kernel num (grind (arith, nat_tests))
+receiver_real s i m (PlainWhat.Created child) e = subst (IsReal s) (sym e.0) (Server refl)
+receiver_real s i m PlainWhat.NoRoom e = subst (IsReal s) (sym e.0) (Server refl)
+receiver_real s i m (PlainWhat.Move machine) e = has_made s m.to 0 (s.processes m.to) refl e.0
+receiver_real s i m (PlainWhat.Moved outcome) e = subst (IsReal s) (sym e.0) (Server refl)
+receiver_real s i m _ e = has_made s m.to 0 (s.processes m.to) refl e
+
+-- what stands between the lines of a group that begins at o
+pub record Reals (o pt : Point) : Type 0 where
+  pub within : Within pt.kernel.machines pt.view
+  pub fits : KernelFits pt.kernel
+  pub order : InOrder pt.kernel.manager
+  pub rises : Rises o.kernel pt.kernel
+  pub kept : (i : MsgId) (t : Told) → o.view.told i ≡ Some t → pt.view.told i ≡ Some t
+  pub own : (i : MsgId) (t : Told) → pt.view.told i ≡ Some t → is_kernels i ≡ true → i.from.home < pt.kernel.machines
+  pub receiver : (i : MsgId) (t : Told) → pt.view.told i ≡ Some t → is_kernels i ≡ false → IsReal pt.kernel t.receiver
+  pub about : (i : MsgId) (t : Told) → pt.view.told i ≡ Some t → IsAboutReal pt.kernel t.about
+  pub topic : IsAboutReal pt.kernel pt.view.topic
+
+-- and of what was told before
+abbrev pub Receivers : Point → Type 0
+Receivers o = (i : MsgId) (t : Told) → o.view.told i ≡ Some t → IsReal o.kernel t.receiver
+
+forwarded_real : (s : OneKernel) (v : View) (q : Option Told) → ((t : Told) → q ≡ Some t → IsReal s t.receiver) → IsAboutReal s v.topic → IsAboutReal s (view.forwarded_for v (receiver_of q)).topic
+forwarded_real s v None h e = e
+forwarded_real s v (Some t) h e = grind (arith, nat_tests, (h t refl))
+
+proto_real : (s : OneKernel) (v : View) (q : Option Told) → ((t : Told) → q ≡ Some t → IsAboutReal s t.about) → IsAboutReal s (view.after_proto v q).topic
+proto_real s v q h = grind (arith, nat_tests)
+
+line_topic : (o pt : Point) (l : Line) → Receivers o → LineReal o l → Reals o pt → IsAboutReal pt.kernel (view_after pt.view l).topic
+line_topic o pt (Line.Migration Stage.Frozen p) known need h = subst (IsAboutReal pt.kernel) (sym (sets pt.view p pt.view.topic).topic) (real_rises o.kernel pt.kernel p h.rises need)
+line_topic o pt (Line.Migration Stage.Accepted p) known need h = real_rises o.kernel pt.kernel p h.rises need
+line_topic o pt (Line.Migration Stage.StateTaken p) known need h = real_rises o.kernel pt.kernel p h.rises need
+line_topic o pt (Line.Migration Stage.MemoryTaken p) known need h = real_rises o.kernel pt.kernel p h.rises need
+line_topic o pt (Line.Migration Stage.Left p) known need h = real_rises o.kernel pt.kernel p h.rises need
+line_topic o pt (Line.SentOn p n) known need h = real_rises o.kernel pt.kernel p h.rises need
+line_topic o pt (Line.Lacks p a b) known need h = real_rises o.kernel pt.kernel p h.rises need
+line_topic o pt (Line.Forwarded i m) known need h =
+    forwarded_real pt.kernel (handled pt.view i) (pt.view.told i) (λ t e. real_rises o.kernel pt.kernel t.receiver h.rises (known i t (grind (arith, nat_tests)))) h.topic
+line_topic o pt (Line.Proto i) known need h = proto_real pt.kernel (handled pt.view i) (pt.view.told i) (λ t e. h.about i t e)
+line_topic o pt (Line.Label l) known need h = subst (IsAboutReal pt.kernel) (sym (label_topic pt.view l)) h.topic
+line_topic o pt (Line.Queued i) known need h = subst (IsAboutReal pt.kernel) (sym (queued_topic (handled pt.view i) i (receiver_of (pt.view.told i)))) h.topic
+line_topic o pt (Line.Held i) known need h = subst (IsAboutReal pt.kernel) (sym (held_topic (handled pt.view i) i (receiver_of (pt.view.told i)))) h.topic
+line_topic o pt (Line.Taken a b n) known need h = subst (IsAboutReal pt.kernel) (sym (taken_topic (view.with_pair pt.view a b _) b (view.oldest (pt.view.pair a b)))) h.topic
+line_topic o pt (Line.Head d) known need h = absurd need
+line_topic o pt (Line.Put a b i k q) known need h = absurd need
+line_topic o pt _ known need h = h.topic
+
+-- where a process is asked to move, the group is about a machine
+machine_real : (s : OneKernel) (w : PlainWhat) → IsAboutReal s (move_target w)
+machine_real s (PlainWhat.Move machine) = tt
+machine_real s _ = tt
+
+asked_real : (s : OneKernel) (o : Option PlainMessage) → IsAboutReal s (machine_in o)
+asked_real s None = tt
+asked_real s (Some m) = machine_real s m.what
+
+topic_real : (s : OneKernel) (a : About) (o : Option Label) → IsAboutReal s a → IsAboutReal s (topic_by s a o)
+topic_real s a None h = h
+topic_real s a (Some (Label.Asked i)) h = asked_real s (s.bag i)
+topic_real s a (Some _) h = h
+
+no_put : (o : Point) (l : Line) → LineReal o l → is_put l ≡ false
+no_put o l h = grind (arith, nat_tests)
+
+no_head : (o : Point) (n : ℕ) (l : Line) → LineReal o l → HeadIn n l
+no_head o n l h = grind (arith, nat_tests)
+
+rises_on : (s t u : OneKernel) → Rises s t → Rises t u → Rises s u
+rises_on s t u h k = record { machines = k.machines ∙ h.machines; made = λ q e. k.made q (h.made q e) }
+
+about_rises : (s t : OneKernel) (a : About) → Rises s t → IsAboutReal s a → IsAboutReal t a
+about_rises s t a h e = grind (arith, nat_tests, real_rises)
+
+line_reals : (o pt : Point) (t : OneKernel) (l : Line) → Receivers o → LineReal o l → kernel_after pt.kernel (label_of l) ≡ Some t → Sane pt → Reals o pt → Reals o (moved pt l t)
+line_reals o pt t l known need is sane h =
+    let s = pt.kernel in
+    let w = view_after pt.view l in
+    let same : (i : MsgId) → w.told i ≡ pt.view.told i = told_by pt.view l (no_put o l need) in
+    let (rises, order, fits) = step_rises sane.r sane.e s t (label_of l) is sane.sound h.order h.fits in
+    let within = line_within s.machines pt.view l (no_head o s.machines l need) h.within in
+    record {
+      within = subst (λ (k : ℕ). Within k (moved pt l t).view) (sym rises.machines) (record { known = within.known; acting = within.acting });
+      fits = fits;
+      order = order;
+      rises = rises_on o.kernel s t h.rises rises;
+      kept = λ i u e. same i ∙ h.kept i u e;
+      own = λ i u e mine. subst (λ (k : ℕ). i.from.home < k) (sym rises.machines) (h.own i u (sym (same i) ∙ e) mine);
+      receiver = λ i u e other. real_rises s t u.receiver rises (h.receiver i u (sym (same i) ∙ e) other);
+      about = λ i u e. about_rises s t u.about rises (h.about i u (sym (same i) ∙ e));
+      topic = about_rises s t (moved pt l t).view.topic rises (topic_real s w.topic (label_of l) (line_topic o pt l known need h));
+    }
+
+-- a put
+abbrev put_of : View → MessageKind → Pid → Told
+put_of v k q = record { kind = k; receiver = q; about = v.topic }
+
+put_or : (v : View) (a b : ℕ) (i : MsgId) (k : MessageKind) (q : Pid) (j : MsgId) (t : Told) → (after_put v a b i k q).told j ≡ Some t → (v.told j ≡ Some t) ⊎ ((i ≡ j) × (v.told i ≡ None) × (put_of v k q ≡ t))
+put_or v a b i k q j t e = grind (arith, nat_tests, id_eq-is, put_at, put_told_off)
+
+-- what is put for the first time is a kernel's own, or for somebody
+record Puts (pt : Point) (i : MsgId) (q : Pid) : Type 0 where
+  mine : pt.view.told i ≡ None → is_kernels i ≡ true → i.from.home < pt.kernel.machines
+  other : pt.view.told i ≡ None → is_kernels i ≡ false → IsReal pt.kernel q
+
+put_reals : (o pt : Point) (b : ℕ) (i : MsgId) (k : MessageKind) (q : Pid) → Puts pt i q → Reals o pt → Reals o (moved pt (Line.Put pt.view.acting b i k q) pt.kernel)
+put_reals o pt b i k q new h =
+    let v = pt.view in
+    let s = pt.kernel in
+    record {
+      within = line_within s.machines v (Line.Put v.acting b i k q) tt h.within;
+      fits = h.fits;
+      order = h.order;
+      rises = h.rises;
+      kept = λ j t e. told_kept v v.acting b i k q j t (h.kept j t e);
+      own = λ j t e mine. elim (put_or v v.acting b i k q j t e) [
+        | inl old ↦ h.own j t old mine
+        | inr put ↦ subst (λ (x : MsgId). x.from.home < s.machines) put.0 (new.mine put.1 (ap is_kernels put.0 ∙ mine))
+      ];
+      receiver = λ j t e other. elim (put_or v v.acting b i k q j t e) [
+        | inl old ↦ h.receiver j t old other
+        | inr put ↦ subst (λ (u : Told). IsReal s u.receiver) put.2 (new.other put.1 (ap is_kernels put.0 ∙ other))
+      ];
+      about = λ j t e. elim (put_or v v.acting b i k q j t e) [
+        | inl old ↦ h.about j t old
+        | inr put ↦ subst (λ (u : Told). IsAboutReal s u.about) put.2 h.topic
+      ];
+      topic = h.topic;
+    }
+
+packet_reals : (o : Point) → PacketsKeep (Reals o)
+packet_reals o pt a b k l h = search line_within
+
+-- a part
+reals_behind : (o pt : Point) (p : Part) → Receivers o → PartReal o p → Sane pt → Reals o pt → Behind (Reals o) pt p
+reals_behind o pt (Says l) known need sane h = λ s step. line_reals o pt s l known need step sane h
+reals_behind o pt (Routes i) known need sane h = λ m there.
+    put_reals o pt (pt.addresses (Receiver i)).at i (plain_kind m.what) m.to
+    (record {
+      mine = λ none own. absurd (false≢true (sym (not_kernels sane.r sane.e pt.kernel i m there sane.sound) ∙ own));
+      other = λ none other. receiver_real pt.kernel i m m.what (h.fits.messages i m there);
+    }) h
+reals_behind o pt (Again i b) known need sane h = λ t there. put_reals o pt b i t.kind t.receiver (record { mine = λ none own. cc; other = λ none other. cc }) h
+reals_behind o pt (Owns k q b) known need sane h = put_reals o pt b (own_id pt.view) k q (record { mine = λ none own. h.within.acting; other = λ none other. absurd (false≢true (sym other)) }) h
+reals_behind o pt (Transmits a b l) known need sane h = h
+
+pub parts_reals : (o : Point) (ps : List Part) (pt : Point) (w : Spelled) → Receivers o → AllReal o ps → AllSayable ps → Sane pt → spelled pt ps ≡ Some w → Reals o pt → Reals o w.point
+parts_reals o qs q w known need ok sane is h = sane_lead (Reals o) (packet_reals o) (PartReal o) (λ pt p so say fine. reals_behind o pt p known so fine) qs q w need ok sane is h
+
+-- Wherever the rule leads, whoever is named is a kernel of a machine that there is, a server, or a process that was made.
 
 known_real : (b : Boot) (pt : Point) (n : ℕ) (p : Pid) → Run b pt → pt.view.known n p ≢ Unknown → IsReal pt.kernel p
 known_real b pt n p run some = elim (cases_Bool (is_server p)) [
   | inl server ↦ Server server
-  | inr other ↦ Made (agrees_made (pt.view.known n p) (pt.kernel.processes p) some (run.based.known.agree n p other))
+  | inr other ↦ Made (grind (arith, nat_tests, (run.based.known.agree n p other)))
 ]
 
 core_real : (b : Boot) (pt : Point) (q : Pid) → Run b pt → core.IsReal pt.kernel.machines pt.view q → IsReal pt.kernel q
@@ -24,13 +320,6 @@ core_real b pt q run h = elim h [
   | inl fixed ↦ grind (arith, nat_tests, or_cases)
   | inr some ↦ known_real b pt q.home q run some
 ]
-
--- whose number a sender counts
-counted_by : (s : OneKernel) (i : MsgId) (c d : Bool) → pid_eq i.from switchboard ≡ c → pid_eq i.from manager ≡ d → (if c then nat_lt i.n s.switchboard.sent else if d then nat_lt i.n s.manager.sent else is_counted i.n (s.processes i.from)) ≡ true → IsReal s i.from
-counted_by s i c d x y e = grind (arith, nat_tests)
-
-counted_real : (s : OneKernel) (i : MsgId) → counts s i ≡ true → IsReal s i.from
-counted_real s i e = counted_by s i (pid_eq i.from switchboard) (pid_eq i.from manager) refl refl e
 
 -- what stands between groups
 record RealAt (pt : Point) : Type 0 where
@@ -55,9 +344,6 @@ inbox_told b pt run m i is at =
 pub head_less : (n : ℕ) (d : Step) → IsStep n d → actor d < n
 head_less n d h = grind (arith, nat_tests)
 
-head_topic : (s : OneKernel) (v : View) (d : Step) → IsAboutReal s (after_head v d).topic
-head_topic s v d = grind (arith, nat_tests)
-
 begins_real : (b : Boot) (pt : Point) (d : Step) → IsStep pt.kernel.machines d → Run b pt → RealAt pt → Reals pt (begun pt d)
 begins_real b pt d fit run h =
     let same : (i : MsgId) → (after_head pt.view d).told i ≡ pt.view.told i = told_by pt.view (Line.Head d) refl in
@@ -70,7 +356,7 @@ begins_real b pt d fit run h =
       own = λ i t e mine. h.own i t (sym (same i) ∙ e) mine;
       receiver = λ i t e other. h.receiver i t (sym (same i) ∙ e) other;
       about = λ i t e. h.about i t (sym (same i) ∙ e);
-      topic = head_topic pt.kernel pt.view d;
+      topic = grind (arith, nat_tests);
     }
 
 real_group : (b : Boot) (pt : Point) (d : Step) (w : Spelled) → IsStep pt.kernel.machines d → group_of b pt d ≡ Some w → Run b pt → RealAt pt → RealAt w.point
@@ -82,6 +368,13 @@ real_group b pt d w fit e run h =
 -- a run
 start_real : (b : Boot) → RealAt (first_point b)
 start_real b = grind (arith, nat_tests)
+
+-- whose number a sender counts
+counted_by : (s : OneKernel) (i : MsgId) (c d : Bool) → pid_eq i.from switchboard ≡ c → pid_eq i.from manager ≡ d → (if c then nat_lt i.n s.switchboard.sent else if d then nat_lt i.n s.manager.sent else is_counted i.n (s.processes i.from)) ≡ true → IsReal s i.from
+counted_by s i c d x y e = grind (arith, nat_tests)
+
+counted_real : (s : OneKernel) (i : MsgId) → counts s i ≡ true → IsReal s i.from
+counted_real s i e = counted_by s i (pid_eq i.from switchboard) (pid_eq i.from manager) refl refl e
 
 -- a child that is named was made
 child_made : (s : OneKernel) (i : MsgId) (m : PlainMessage) (w : PlainWhat) (p : Pid) → w ≡ PlainWhat.Created p → WhatFits s i m w → IsReal s p

@@ -1,18 +1,15 @@
 -- Each group keeps the marks of each process in order, and so they are wherever the rule leads.
 use Rattle.dm_movelaws.proofs.Names.{◌≡◌, ℕ, ◌==◌, Bool, true, false, List, [], ◌∷◌, refl, ap, ◌∙◌, sym, subst, length, ◌/◌, if◌then◌else◌, Option, None, Some, Pid, pid_eq, MsgId, PlainMessage, Boot, switchboard, manager, Step, Line, View}
-use Rattle.dm_movelaws.proofs.Names.{Told, About, Of, Known, first_view, target_of, is_between, Phase, is_due, IsIn, Point, first_point, Part, Spelled, spelled, kernel_told, server_told, process_told, migrates, group_of, bind-is, IsNet}
-use Rattle.dm_movelaws.proofs.Names.{not_true, front_way, Phased, phased_start, phased_group, due, Calm, calm_same, calm_in, told_some, head_calm, net_parts, migrates_quiet, Tame, plain_in_bag, parts_settle, InPhases, State, PairsFit, Sane}
+use Rattle.dm_movelaws.proofs.Names.{Told, About, Of, Known, first_view, target_of, is_between, is_due, Point, first_point, Part, Spelled, spelled, kernel_told, server_told, process_told, migrates, group_of, bind-is, IsNet}
+use Rattle.dm_movelaws.proofs.Names.{not_true, front_way, Phased, phased_start, phased_group, Calm, calm_same, calm_in, told_some, head_calm, net_parts, migrates_quiet, Tame, plain_in_bag, parts_settle, InPhases, State, PairsFit, Sane}
 use Rattle.dm_movelaws.proofs.Names.{LeadsBy, begun, begun_sane, Mark, marks, in_order, StepsInOrder, plain_by, by_migrates, by_outcome, nat_tests, arith, NothingElse, Label, Says, said_by, moved, calm_about, view_after, line_calm}
 use Rattle.dm_movelaws.proofs.Names.{part_sane, machine_in, move_target, Target, Here}
-use Rattle.dm_movelaws.proofs.Stages.Marks.{order-append, marks-append, marks_of, group_says}
-use Rattle.dm_movelaws.proofs.Stages.Spares.{mark_in, spares_same, spares_calm, Marked, none_marked}
-use Rattle.dm_movelaws.proofs.Stages.Lines.{AllMild, mild_marks, net_marks, TameAt, parts_spare}
-use Rattle.dm_movelaws.proofs.Stages.Hears.{round_mild, handles_mild, Hears, Calms, Freezes, Handled, Spared, SetsOff, freezes, server_mild, process_hears}
-use Rattle.dm_movelaws.proofs.Stages.Rows.{about_others, plain_others, row_marked}
-use Rattle.dm_movelaws.proofs.Stages.Steps.{freezes_row, setting_row, told_marked}
 use Rattle.dm_onekernel.specs.Step as kernel
 use Rattle.dm_rule.specs.Rule as rule
 use Rattle.dm_rule.proofs.Groups as groups
+use Rattle.dm_movelaws.proofs.Stages.Spares.{mark_in, spares_same, spares_calm, Marked, none_marked, order-append, marks-append, marks_of, group_says}
+use Rattle.dm_movelaws.proofs.Stages.Rows.{about_others, plain_others, row_marked, AllMild, mild_marks, net_marks, TameAt, parts_spare}
+use Rattle.dm_movelaws.proofs.Stages.Steps.{freezes_row, setting_row, told_marked, round_mild, handles_mild, Hears, Calms, Freezes, Handled, Spared, SetsOff, freezes, server_mild, process_hears}
 use Rattle.dm_movelaws.proofs.Leading.{next_of, line_fits}
 
 -- where the parts of a turn begin
@@ -75,10 +72,6 @@ front_tame pt i is msg sane state front there =
     let (t, told) = told_some (pt.view.told i) q (state.stands.told i q way) in
     record { what = t; told = told; plain = plain_in_bag pt i msg sane there t told }
 
--- a message of the bag
-head_marked : (u v w : View) (p : Pid) (ms : List Mark) → Calm u v → Marked v w p ms → Marked u w p ms
-head_marked u v w p ms c m a b h k da db = m a b (calm_in u v p a c h) k da db
-
 handled_marked : (o pt : Point) (m : ℕ) (i : MsgId) (is : List MsgId) (msg : PlainMessage) (ps : List Part) (w : Spelled) → Turning o pt m → pt.view.inbox pt.view.acting ≡ i ∷ is → pt.kernel.bag i ≡ Some msg → Handled o m i msg ps
     → spelled pt ps ≡ Some w → MarkedBy pt w ps
 handled_marked o pt m i is msg ps w h box there (Spared mild) e p = mild_marked pt (Some i) ps w h.sane h.fits (tame_front pt.view i (front_tame pt i is msg h.sane h.state box there)) mild e p
@@ -93,7 +86,7 @@ handled_marked o pt m i is msg ps w h box there (SetsOff to here what are) e p =
     let topic : n.next.view.topic ≡ Target to = sym (ap (λ (x : Point). x.view.topic) k.is) ∙ ap machine_in there ∙ ap move_target what in
     let known : n.next.view.known n.next.view.acting q ≡ Here = sym (ap (λ (x : Point). x.view.known x.view.acting q) k.is) ∙ h.same q ∙ here in
     let row = row_marked n.next.view n.rest.point.view q (λ r. marks_of r (freezes q to)) (setting_row n.next q to n.rest sane fits topic known n.more) p in
-    subst (λ (xs : List Part). Marked pt.view w.point.view p (marks_of p xs)) (sym are) (subst (λ (x : Point). Marked pt.view x.view p (marks_of p (freezes q to))) n.point (head_marked pt.view n.next.view n.rest.point.view p (marks_of p (freezes q to)) calm row))
+    subst (λ (xs : List Part). Marked pt.view w.point.view p (marks_of p xs)) (sym are) (subst (λ (x : Point). Marked pt.view x.view p (marks_of p (freezes q to))) n.point (λ a b h k da db. row a b (calm_in pt.view n.next.view p a calm h) k da db))
 
 turning : (o : Point) (m : ℕ) → Phased o → Turning o (begun o (Step.Turn m)) m
 turning o m h = grind (arith, nat_tests, groups.fits, begun_sane, groups.begun, groups.turn_off, head_calm)
@@ -128,6 +121,10 @@ outcome_marked b pt d ps w h is = by_outcome (λ x xs. (u : Spelled) → spelled
       );
 }) is w
 
+-- a message of the bag
+head_marked : (u v w : View) (p : Pid) (ms : List Mark) → Calm u v → Marked v w p ms → Marked u w p ms
+head_marked u v w p ms c m a b h k da db = m a b (calm_in u v p a c h) k da db
+
 -- a group
 pub group_marked : (b : Boot) (pt : Point) (d : Step) (w : Spelled) → group_of b pt d ≡ Some w → Phased pt → (p : Pid) → Marked pt.view w.point.view p (marks p w.lines)
 group_marked b pt d w e h p =
@@ -150,13 +147,9 @@ run_marked b (d ∷ ds) ls pt end p (w, rest, fit, is, split, more) h =
     ap (λ (xs : List Line). in_order o (marks p xs)) split ∙ ap (in_order o) (marks-append p w.lines rest)
     ∙ order-append o (marks p w.lines) (marks p rest) g.0 (ap (λ (x : Option Mark). in_order x (marks p rest)) g.1 ∙ later)
 
--- nothing is told of before the first line
-pub start_mark : (b : Boot) (p : Pid) (a : Phase) → IsIn (first_view b) p a → is_due a ≡ false → mark_in a ≡ None
-start_mark b p a h due = grind (arith, nat_tests)
-
 -- wherever the rule leads
 pub steps_in_order : StepsInOrder
 steps_in_order b es ls pt p valid leads =
     let h = phased_start b valid in
-    let none = start_mark b p (h.phases.of p) (h.phases.each p) (not_due (first_view b) h.phases p) in
+    let none : mark_in (h.phases.of p) ≡ None = grind (arith, nat_tests, (h.phases.each p), (not_due (first_view b) h.phases p)) in
     ap (λ (o : Option Mark). in_order o (marks p ls)) (sym none) ∙ run_marked b es ls (first_point b) pt p leads h

@@ -1,10 +1,74 @@
--- How far the marks of a process have come by its phase; and what leaves that as it is.
+-- The marks of lines: of one list after another, and of the lines that parts say.
 use Rattle.dm_movelaws.proofs.Names.{◌≡◌, ℕ, ◌≤◌, ◌==◌, ◌&&◌, Bool, true, false, not, List, [], refl, ap, ◌∙◌, sym, subst, inl, inr, if◌then◌else◌, Option, None, Some, cases_Bool, false≢true, Pid, MsgId, MessageKind, id_eq, View, Told, Of}
 use Rattle.dm_movelaws.proofs.Names.{Known, Unknown, Here, Frozen, Incoming, Forward, after_put, Spot, standing, is_between, is_restart, is_early, is_away, is_here, is_over, kind_comes, knows, Phase, Nowhere, Rests, Over, Moves, is_due}
 use Rattle.dm_movelaws.proofs.Names.{token_in, told_between, IsIn, id_eq-is, PairsFit, put_told_off, Calm, between_of, put_spots, put_at, put_there, put_spot, rests_here, Mark, Reached, Lacking, in_order, eq_self, not_false, right_true}
-use Rattle.dm_movelaws.proofs.Names.{first_kept, kind_leaves, nat_tests, arith, calm_about, calm_same, About}
-use Rattle.dm_movelaws.proofs.Stages.Marks.{open_after}
+use Rattle.dm_movelaws.proofs.Names.{first_kept, kind_leaves, nat_tests, arith, calm_about, calm_same, About, ◌∷◌, ◌++◌, pid_eq, Boot, pid_eq-same, Step, Line, Point, moved, Part, Says, Spelled, lines_of, spelled, sends_on, group_of}
+use Rattle.dm_movelaws.proofs.Names.{outcome, mark_for, with_mark, marks, left_open, left_true, both_true, by_parts, group_is}
 use Rattle.dm_rule.specs.View as view
+use Rattle.dm_movelaws.proofs.Leading.{lines_are}
+
+-- the mark that is last behind these marks, if its migration isn't over
+abbrev pub open_after : Option Mark → List Mark → Option Mark
+open_after last [] = last
+open_after last (m ∷ ms) = open_after (left_open m) ms
+
+pub order-append : (o : Option Mark) (xs ys : List Mark) → in_order o xs ≡ true → in_order (open_after o xs) ys ≡ true → in_order o (xs ++ ys) ≡ true
+order-append o [] ys e f = f
+order-append o (x ∷ xs) ys e f = search (both_true, left_true, right_true, order-append (left_open x) xs ys)
+
+pub open-append : (o : Option Mark) (xs ys : List Mark) → open_after o (xs ++ ys) ≡ open_after (open_after o xs) ys
+open-append o [] ys = refl
+open-append o (x ∷ xs) ys = open-append (left_open x) xs ys
+
+-- marks of lists
+with-append : (p : Pid) (l : Line) (xs ys : List Mark) → with_mark p l (xs ++ ys) ≡ with_mark p l xs ++ ys
+with-append p l xs ys = grind (arith, nat_tests)
+
+pub marks-append : (p : Pid) (xs ys : List Line) → marks p (xs ++ ys) ≡ marks p xs ++ marks p ys
+marks-append p [] ys = refl
+marks-append p (l ∷ xs) ys = ap (with_mark p l) (marks-append p xs ys) ∙ with-append p l (marks p xs) (marks p ys)
+
+-- the marks that parts say
+abbrev pub mark_part : Pid → Part → List Mark → List Mark
+mark_part p (Says l) ms = with_mark p l ms
+mark_part p _ ms = ms
+
+abbrev pub marks_of : Pid → List Part → List Mark
+marks_of p [] = []
+marks_of p (q ∷ ps) = mark_part p q (marks_of p ps)
+
+part_marks : (p : Pid) (pt : Point) (q : Part) (ls zs : List Line) → lines_of pt q ≡ Some ls → marks p (ls ++ zs) ≡ mark_part p q (marks p zs)
+part_marks p pt q ls zs is = grind (arith, nat_tests, lines_are)
+
+pub spelled_marks : (p : Pid) (ps : List Part) (pt : Point) (w : Spelled) → spelled pt ps ≡ Some w → marks p w.lines ≡ marks_of p ps
+spelled_marks p = by_parts (λ ps pt w. marks p w.lines ≡ marks_of p ps) (λ pt. refl) (λ q ps pt next ls z lines leads rest. part_marks p pt q ls z.lines lines ∙ ap (mark_part p q) rest)
+
+-- a group, its head and its parts
+pub record GroupSays (b : Boot) (pt : Point) (d : Step) (w : Spelled) : Type 0 where
+  pub parts : List Part
+  pub is : outcome b pt d ≡ Some parts
+  pub rest : Spelled
+  pub said : spelled (moved pt (Line.Head d) pt.kernel) parts ≡ Some rest
+  pub point : rest.point ≡ w.point
+  pub marked : (p : Pid) → marks p w.lines ≡ marks_of p parts
+
+pub group_says : (b : Boot) (pt : Point) (d : Step) (w : Spelled) → group_of b pt d ≡ Some w → GroupSays b pt d w
+group_says b pt d w e =
+    let g = group_is b pt d w e in
+    record { parts = g.parts; is = g.is; rest = g.rest; said = g.said; point = g.point; marked = λ p. ap (λ (x : Spelled). marks p x.lines) (sym g.whole) ∙ spelled_marks p g.parts (moved pt (Line.Head d) pt.kernel) g.rest g.said }
+
+-- a line about one process marks it, and no other
+pub mark_same : (p : Pid) (m : Mark) (ms : List Mark) → mark_for p p m ms ≡ m ∷ ms
+mark_same p m ms = ap (λ (c : Bool). if c then m ∷ ms else ms) (pid_eq-same p)
+
+pub mark_other : (p q : Pid) (m : Mark) (ms : List Mark) → pid_eq p q ≡ false → mark_for p q m ms ≡ ms
+mark_other p q m ms e = ap (λ (c : Bool). if c then m ∷ ms else ms) e
+
+pub marks_sent : (p : Pid) (to : ℕ) (ids : List MsgId) (ps : List Part) → marks_of p (sends_on to ids ++ ps) ≡ marks_of p ps
+marks_sent p to [] ps = refl
+marks_sent p to (i ∷ is) ps = marks_sent p to is ps
+
+-- How far the marks of a process have come by its phase; and what leaves that as it is.
 
 -- the last mark, by the message that is under way
 abbrev pub mark_of : MessageKind → Option Mark
@@ -95,9 +159,6 @@ source_settled k d (Forward at moves) h e = first_of (is_restart k) (d == at) h
     first_of false c e = absurd (false≢true e)
 source_settled k d _ h e = absurd (false≢true h)
 
-destination_settled : (k : MessageKind) (s : ℕ) (x : Known) → kind_comes k s x ≡ true → is_settled x ≡ true → is_early k ≡ true
-destination_settled k s x h e = grind (arith, nat_tests)
-
 moves_unsettled : (v : View) (p : Pid) (k : MessageKind) (s d : ℕ) (o : Option MsgId) → IsIn v p (Moves k s d o) → ((m : ℕ) → is_settled (v.known m p) ≡ true) → ⊥
 moves_unsettled v p k s d o h settled =
     let apart : (s == d) ≡ false = not_false (s == d) (right_true (is_between k) (not (s == d)) h.apart) in
@@ -107,7 +168,7 @@ moves_unsettled v p k s d o h settled =
     let come : kind_comes k s y ≡ true =
     sym (ap (λ (c : Bool). if c then kind_leaves k d y else if d == d then kind_comes k s y else is_away y) apart ∙ ap (λ (c : Bool). if c then kind_comes k s y else is_away y) (eq_self d)) ∙ h.known d in
     let late = restart_late k (source_settled k d x left (settled s)) in
-    let early = destination_settled k s y come (settled d) in
+    let early : is_early k ≡ true = grind (arith, nat_tests, (settled d)) in
     false≢true (sym late ∙ early)
 
 -- a message about a process's migration that stands somewhere

@@ -1,15 +1,46 @@
--- The rows of a migration that freeze a process, send on what waits for it, and bring it home.
+-- What a process or a server says of a kernel's own message leaves all migrations as they are, or freezes the process.
 use Rattle.dm_movelaws.proofs.Names.{◌≡◌, ℕ, ◌≤◌, true, false, List, [], ◌∷◌, ◌++◌, length, refl, ap, ◌∙◌, sym, subst, Option, None, Some, false≢true, Pid, pid_of, pid_eq, MsgId, MessageKind, Stage, Line, at_record, Told, Of, Known, Here}
 use Rattle.dm_movelaws.proofs.Names.{Frozen, view_after, handled_first, released, to_kernel, sends_on, is_between, Point, label_of, moved, Part, Says, Spelled, spelled, Spot, Queue, Held, Inbox, Untaken, times, ids_at, standing}
 use Rattle.dm_movelaws.proofs.Names.{pid_eq-swap, is_put, at_record_at, first_off, home_again, home_off, frozen_off, line_next, touches, handled_spots, record_off, InPhases, queued_plain, held_plain, Mark, Reached, mark_for, with_mark}
 use Rattle.dm_movelaws.proofs.Names.{in_order, released_on, nat_tests, arith, ◌==◌, Bool, PlainProcess, Incoming, handled, front_of, accepts, gives_piece, takes_chunk, takes_block, kernel_told, chunks_of, pieces_of, Owns, accepted_off}
-use Rattle.dm_movelaws.proofs.Names.{state_off, memory_off, lacks_off, proto_off, restarted_off, proto_known, Lacking, Staying, leaves, sets, MoveNote, Outcome, NothingElse, tells_asker, aim, PairsFit, Sane, Target, asked_off}
-use Rattle.dm_movelaws.proofs.Stages.Marks.{open_after, marks_of, mark_same, mark_other, marks_sent}
-use Rattle.dm_movelaws.proofs.Stages.Spares.{is_settled, Spares, spares_same, TokenOf, HasMark, token_mark, here_mark, some_marked, mark_of, Marked}
-use Rattle.dm_movelaws.proofs.Stages.Lines.{AllMild, spares_line, same_spot, Kept, parts_spare}
-use Rattle.dm_movelaws.proofs.Stages.Hears.{freezes}
-use Rattle.dm_movelaws.proofs.Stages.Rows.{Handling, first_spares, owns_token, line_sane, line_and_parts, Row, split, front_token, row_marked, answer}
+use Rattle.dm_movelaws.proofs.Names.{state_off, memory_off, lacks_off, proto_off, restarted_off, proto_known, Lacking, Staying, leaves, sets, MoveNote, Outcome, NothingElse, tells_asker, aim, PairsFit, Sane, Target, asked_off, target_of}
+use Rattle.dm_movelaws.proofs.Names.{forwards_on, process_told, server_told, plain_kind, PlainMessage, Boot, goes_round, handles, Addresses, loose_round, loose_handles, by_forwards, Label, PlainWhat}
+use Rattle.dm_rule.specs.Rule as rule
+use Rattle.dm_movelaws.proofs.Stages.Spares.{is_settled, Spares, spares_same, TokenOf, HasMark, token_mark, here_mark, some_marked, mark_of, Marked, open_after, marks_of, mark_same, mark_other, marks_sent}
+use Rattle.dm_movelaws.proofs.Stages.Rows.{Handling, first_spares, owns_token, line_sane, line_and_parts, Row, split, front_token, row_marked, answer, AllMild, spares_line, same_spot, Kept, parts_spare}
 use Rattle.dm_movelaws.proofs.Leading.{line_fits, asker_known}
+
+pub round_mild : (me : Pid) (front : Option MsgId) (b : Boot) (pt : Point) (m : ℕ) (o : Option Pid) (ps : List Part) → goes_round b pt m o ≡ Some ps → AllMild me front ps
+round_mild me front b pt m o ps e = loose_round (AllMild me front) (record { none = tt; label = λ l ps h. (tt, h); routes = λ i ps h. (tt, h) }) b pt m o ps (tt, tt) e
+
+pub forwards_mild : (me : Pid) (a : Addresses) (id : MsgId) (k : MessageKind) (sender : Pid) (to : ℕ) → AllMild me (Some id) (forwards_on a id k sender to)
+forwards_mild me a id k sender to = by_forwards (AllMild me (Some id)) a id k sender to (refl, (tt, tt)) (refl, (tt, (tt, tt)))
+
+-- the parts that freeze a process
+abbrev pub freezes : Pid → ℕ → List Part
+freezes p to = Says (Line.Migration Stage.Frozen p) ∷ Says (Line.Migration Stage.Asked p) ∷ to_kernel MessageKind.Ask to ∷ []
+
+-- a message of the bag leaves all migrations as they are, or asks a process to move, which sets off
+pub data Handled (o : Point) (m : ℕ) (id : MsgId) (msg : PlainMessage) (ps : List Part) : Type 0 where
+  Spared : ((me : Pid) → AllMild me (Some id) ps) → Handled o m id msg ps
+  SetsOff : (to : ℕ) → o.view.known m msg.to ≡ Here → msg.what ≡ PlainWhat.Move to → ps ≡ rule.says (Label.Asked id) ∷ freezes msg.to to → Handled o m id msg ps
+
+pub handles_mild : (b : Boot) (o : Point) (m : ℕ) (id : MsgId) (msg : PlainMessage) (ps : List Part) → handles b o m id msg ≡ Some ps → Handled o m id msg ps
+handles_mild b o m id msg ps e =
+    loose_handles (Handled o m id msg) (λ xs. (me : Pid) → AllMild me (Some id) xs) (record { none = λ me. tt; label = λ l qs h me. (tt, h me); routes = λ i qs h me. (tt, h me) }) (λ qs h. Spared h) b o m id msg ps (λ here. Spared (λ me. (refl, tt))) (Spared (λ me. (refl, tt)))
+    (λ to here what apart. SetsOff to here.known what refl) (λ to moves at_. Spared (λ me. forwards_mild me o.addresses id (plain_kind msg.what) msg.sender to)) e
+
+pub data Hears (k : Known) (id : MsgId) (t : Told) (ps : List Part) : Type 0 where
+  Calms : ((me : Pid) → AllMild me (Some id) ps) → Hears k id t ps
+  Freezes : k ≡ Here → ps ≡ freezes t.receiver (target_of (Some t)) → Hears k id t ps
+
+pub server_mild : (o : Point) (id : MsgId) (t : Told) (k : MessageKind) (ps : List Part) → server_told o id t k ≡ Some ps → (me : Pid) → AllMild me (Some id) ps
+server_mild o id t k ps e me = grind (arith, nat_tests)
+
+pub process_hears : (o : Point) (m : ℕ) (id : MsgId) (t : Told) (k : Known) (ps : List Part) → process_told o m id t k ≡ Some ps → Hears k id t ps
+process_hears o m id t k ps e = grind (arith, nat_tests, forwards_mild)
+
+-- The rows of a migration that freeze a process, send on what waits for it, and bring it home.
 
 -- a process is home again
 home_spares : (pt : Point) (i : MsgId) (is : List MsgId) (q p : Pid) (l : Line) → Handling pt i is q → pid_eq q p ≡ false → is_put l ≡ false → ((z : Spot) → ids_at (view_after pt.view l) z ≡ ids_at (released (home_again (handled_first pt.view) q) q) z)
@@ -105,9 +136,6 @@ departs q to ids from = Says (Line.SentOn q (length ids)) ∷ sends_on to ids ++
 departs_marks : (p q : Pid) (to : ℕ) (ids : List MsgId) (from : ℕ) → marks_of p (departs q to ids from) ≡ mark_for p q (Reached 6) (mark_for p q (Reached 7) [])
 departs_marks p q to ids from = ap (mark_for p q (Reached 6)) (marks_sent p to ids (Says (Line.Migration Stage.Left q) ∷ to_kernel MessageKind.Restart from ∷ []))
 
-departs_unmarked : (p q : Pid) (to : ℕ) (ids : List MsgId) (from : ℕ) → pid_eq q p ≡ false → marks_of p (departs q to ids from) ≡ []
-departs_unmarked p q to ids from e = grind (arith, nat_tests, pid_eq-swap, departs_marks, mark_other)
-
 departs_marked : (q : Pid) (to : ℕ) (ids : List MsgId) (from : ℕ) → marks_of q (departs q to ids from) ≡ Reached 6 ∷ Reached 7 ∷ []
 departs_marked q to ids from = departs_marks q q to ids from ∙ mark_same q (Reached 6) (mark_for q q (Reached 7) []) ∙ ap (λ (ms : List Mark). Reached 6 ∷ ms) (mark_same q (Reached 7) [])
 
@@ -147,7 +175,7 @@ departs_row pt i is q to ids from w h phases before e =
     (owns_token last MessageKind.Restart q (pid_of from 0) from o.rest (line_sane mid k refl refl kept.sane) (line_fits mid mid.kernel k refl kept.fits) refl refl o.more) in
     record {
       others = λ p apart. (
-        departs_unmarked p q to ids from apart,
+        (let e_ : marks_of p (departs q to ids from) ≡ [] = grind (arith, nat_tests, pid_eq-swap, departs_marks, mark_other) in e_),
         line_and_parts pt p l (sends_on to ids ++ end) w refl refl refl h.sane h.fits (spares_line v l p refl (λ j t z told b a st. sent_spot pt i is q p (length ids) j t z h phases apart told b a st) (λ m e. e)) (sent_mild p to ids end (apart, (tt, tt))) e,
       );
       mine = some_marked v w.point.view q (marks_of q (departs q to ids from)) (Reached 6 ∷ Reached 7 ∷ []) (Some (Reached 5)) (Some (Reached 7)) (departs_marked q to ids from) before (token_mark w.point.view q MessageKind.Restart token) refl refl;

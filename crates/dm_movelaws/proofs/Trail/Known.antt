@@ -2,14 +2,21 @@
 use Rattle.dm_movelaws.proofs.Names.{◌≡◌, ◌≢◌, ℕ, ◌+◌, ◌==◌, Bool, true, false, List, [], ◌∷◌, length, ap, ◌∙◌, sym, subst, inl, inr, arith, if◌then◌else◌, slice_get, Option, Some, Pid, MsgId, MessageKind, Boot, bind, Step, bind-is, Line}
 use Rattle.dm_movelaws.proofs.Names.{Leads, Phase, Nowhere, Rests, Over, Moves, IsIn, is_away, is_here, is_over, is_restart, kind_comes, Point, first_point, after, after_line, Trails, Trodden, first_trodden, along, trails_after, View}
 use Rattle.dm_movelaws.proofs.Names.{Known, Unknown, Ended, parts, along_treads, treads_start, Treads, is_moving, IsThere, eq_self, not_false, kind_leaves, nat_tests, IsValid, IsStep, Spelled, group_of, first_trails, TrailsAlways}
-use Rattle.dm_movelaws.proofs.Names.{first_view, eq_is, start_known, Carries, trails_always_by, Both, both_start, both_group, run_start, run_group}
-use Rattle.dm_movelaws.proofs.After.{group_after}
-use Rattle.dm_movelaws.proofs.Promise.Trail.{TrailKnown}
+use Rattle.dm_movelaws.proofs.Names.{first_view, eq_is, start_known, Carries, trails_always_by, Both, both_start, both_group, run_start, run_group, not, filter, is_some, refl, cases_Bool, false≢true, None, Place, Label, Life, OneKernel}
+use Rattle.dm_movelaws.proofs.Names.{after_step, Stage, kernel_after, at_record, Told, About, NothingElse, Here, Frozen, Forward, view_after, handled, receiver_of, served_told, hushed, grown_none, Phased, queued_known, held_known}
+use Rattle.dm_movelaws.proofs.Names.{dropped_known, Sane, label_topic, is_server, KnownStands, group_keeps, Loud, keeps_by, set_all, killed_or, named_real, is_made, IsNamed, ByHolder, ByOwn, ByRequest, ByUpdate, ByForward, queued_topic}
+use Rattle.dm_movelaws.proofs.Names.{held_topic, taken_topic, or_first, run_always, sets, topic_by, seen, label_of}
+use Rattle.dm_rulelaws.proofs.Found.Core.{IsReal}
+use Rattle.dm_onekernel.specs.Step as kernel
+use Rattle.dm_rule.specs.View as view
+use Rattle.dm_movelaws.proofs.After.{group_after, keeps_always}
 use Rattle.dm_movelaws.proofs.Stages.Spares.{restart_late}
-use Rattle.dm_movelaws.proofs.Trail.Placed.{is_held, Placed, Places}
+use Rattle.dm_movelaws.proofs.Trail.Placed.{Placed, Places}
 use Rattle.dm_movelaws.proofs.At.RestAlways.{is_here_is as here_is, is_unknown_is as unknown_is}
 use Rattle.dm_movelaws.proofs.Trail.Loose.{AllGood, good_fit, good_places, along_after}
 use Rattle.dm_movelaws.proofs.Trail.Rows.{group_good}
+use Rattle.dm_movelaws.proofs.Promise.Spots.{TrailKnown}
+use Rattle.dm_movelaws.proofs.Names.{Of}
 
 places_start : (b : Boot) → Places (first_view b) first_trails
 places_start b p = grind (arith, nat_tests, eq_is, start_known)
@@ -69,13 +76,6 @@ trod_on b (e ∷ es) pt end (w, fit, is, rest) h =
       treads = along_treads w.lines x (trodden w.point u) comes (carries.fits b x e w fit is h.holds h.treads) h.treads;
     })
 
--- a process that doesn't move is where its trail ends
-here_held : (x : Known) → is_here x ≡ true → is_held x ≡ true
-here_held x e = grind (arith, nat_tests)
-
-over_held : (x : Known) → is_over x ≡ true → is_held x ≡ true
-over_held x e = grind (arith, nat_tests)
-
 -- one that moves is leaving, or its destination waits for it
 still_leaves : (k : MessageKind) (d : ℕ) (x : Known) → is_moving x ≡ false → kind_leaves k d x ≡ true → is_restart k ≡ true
 still_leaves k d x still e = grind (arith, nat_tests, parts)
@@ -90,13 +90,9 @@ never_moves v p k s d o h still =
 
 long_in : (v : View) (t : Trails) (p : Pid) (phase : Phase) → IsIn v p phase → Placed v t p → ((m : ℕ) → is_moving (v.known m p) ≡ false) → length (t p) ≡ v.moves p + 1
 long_in v t p Nowhere h on still = let k = on.unmade (λ m. unknown_is (v.known m p) (h.known m)) in let none = k.0 in let one = k.1 in omega (arith, none, one)
-long_in v t p (Rests at) h on still = on.long at (here_held (v.known at p) (at_self at (is_here (v.known at p)) (is_away (v.known at p)) (h.known at)))
-long_in v t p (Over at) h on still = on.long at (over_held (v.known at p) (at_self at (is_over (v.known at p)) (is_away (v.known at p)) (h.known at)))
+long_in v t p (Rests at) h on still = on.long at (grind (arith, nat_tests, (at_self at (is_here (v.known at p)) (is_away (v.known at p)) (h.known at))))
+long_in v t p (Over at) h on still = on.long at (grind (arith, nat_tests, (at_self at (is_over (v.known at p)) (is_away (v.known at p)) (h.known at))))
 long_in v t p (Moves k s d o) h on still = absurd (never_moves v p k s d o h still)
-
--- and it is there
-pub over_is : (x : Known) → is_over x ≡ true → x ≡ Ended
-over_is x e = grind (arith, nat_tests)
 
 away_at : (x y c : Bool) → c ≡ false → (if c then x else y) ≡ true → y ≡ true
 away_at x y c off e = sym (ap (λ (d : Bool). if d then x else y) off) ∙ e
@@ -105,10 +101,10 @@ there_in : (v : View) (t : Trails) (p : Pid) (phase : Phase) (n : ℕ) → IsIn 
 there_in v t p Nowhere n h on still some = absurd (some (unknown_is (v.known n p) (h.known n)))
 there_in v t p (Rests at) n h on still some =
     let here = at_self at (is_here (v.known at p)) (is_away (v.known at p)) (h.known at) in
-    (at, on.now at (here_held (v.known at p) here), record { now = inl (here_is (v.known at p) here); away = λ m off. away_at (is_here (v.known m p)) (is_away (v.known m p)) (at == m) off (h.known m) })
+    (at, on.now at (grind (arith, nat_tests)), record { now = inl (here_is (v.known at p) here); away = λ m off. away_at (is_here (v.known m p)) (is_away (v.known m p)) (at == m) off (h.known m) })
 there_in v t p (Over at) n h on still some =
     let over = at_self at (is_over (v.known at p)) (is_away (v.known at p)) (h.known at) in
-    (at, on.now at (over_held (v.known at p) over), record { now = inr (over_is (v.known at p) over); away = λ m off. away_at (is_over (v.known m p)) (is_away (v.known m p)) (at == m) off (h.known m) })
+    (at, on.now at (grind (arith, nat_tests)), record { now = inr (grind (arith, nat_tests)); away = λ m off. away_at (is_over (v.known m p)) (is_away (v.known m p)) (at == m) off (h.known m) })
 there_in v t p (Moves k s d o) n h on still some = absurd (never_moves v p k s d o h still)
 
 -- wherever the rule leads
@@ -125,3 +121,165 @@ trail_known b es pt valid leads =
         there = λ p n still some. there_in pt.view h.trails p (phases.of p) n (phases.each p) (h.holds.places p) still some;
       },
     )
+
+-- Whom a place is named for is a kernel, a server or a process that was made.
+
+-- a process that leaves a machine, or has left it
+abbrev passes : Known → Bool
+passes (Frozen to) = true
+passes (Forward at_ moves) = true
+passes _ = false
+
+abbrev WasMade : OneKernel → Pid → Type 0
+WasMade s p = is_some (s.processes p) ≡ true
+
+-- only processes that were made leave machines, and only of these a place is told
+record Passing (s : OneKernel) (v : View) : Type 0 where
+  known : (m : ℕ) (p : Pid) → passes (v.known m p) ≡ true → WasMade s p
+  told : (i : MsgId) (u : Told) (p : Pid) (m c : ℕ) → v.told i ≡ Some u → u.about ≡ view.Place p m c → WasMade s p
+  topic : (p : Pid) (m c : ℕ) → v.topic ≡ view.Place p m c → WasMade s p
+
+-- what was made stays made
+abbrev Goes : OneKernel → OneKernel → Type 0
+Goes s t = (p : Pid) → WasMade s p → WasMade t p
+
+pub none_is : (o : Option Life) → is_some o ≡ false → o ≡ None
+none_is o e = grind (arith, nat_tests)
+
+goes_label : (pt : Point) (t : OneKernel) (l : Label) → Sane pt → kernel.step pt.kernel l ≡ Some t → Goes pt.kernel t
+goes_label pt t l h e p some = elim (cases_Bool (is_some (t.processes p))) [
+  | inl there ↦ there
+  | inr none ↦
+      let a = after_step h.r h.e pt.kernel t l e h.sound in
+      let before : pt.kernel.processes p ≡ None = grown_none (pt.kernel.processes p) (t.processes p) (a.grown.lives p) (none_is (t.processes p) none) in
+      absurd (false≢true (sym (ap is_some before) ∙ some))
+]
+
+goes_by : (pt : Point) (t : OneKernel) (o : Option Label) → Sane pt → kernel_after pt.kernel o ≡ Some t → Goes pt.kernel t
+goes_by pt t None h e p some = sym (ap (λ (k : OneKernel). is_some (k.processes p)) (let f : pt.kernel ≡ t = cc in f)) ∙ some
+goes_by pt t (Some l) h e p some = goes_label pt t l h e p some
+
+-- what a line is about
+no_place : (T : Type 0) (a : About) (p : Pid) (m c : ℕ) → a ≡ NothingElse → a ≡ view.Place p m c → T
+no_place T a p m c e f = absurd (let g : NothingElse ≡ view.Place p m c = sym e ∙ f in cc)
+
+forwarded_made : (s : OneKernel) (v : View) (o : Option Pid) (p : Pid) (m c : ℕ) → Passing s v → (view.forwarded_for v o).topic ≡ view.Place p m c → WasMade s p
+forwarded_made s v o p m c h e = grind (arith, nat_tests)
+
+stage_made : (s : OneKernel) (v : View) (q : Pid) (k : Stage) (p : Pid) (m c : ℕ) → Passing s v → (view.after_stage v q k).topic ≡ view.Place p m c → WasMade s p
+stage_made s v q Stage.Asked p m c h e = h.topic p m c e
+stage_made s v q Stage.Restarted p m c h e = h.topic p m c e
+stage_made s v q Stage.Frozen p m c h e = cc (sym (sets v q v.topic).topic ∙ e)
+stage_made s v q _ p m c h e = cc
+
+head_made : (s : OneKernel) (v : View) (d : Step) (p : Pid) (m c : ℕ) → (view.after_head v d).topic ≡ view.Place p m c → WasMade s p
+head_made s v d p m c e = grind (arith, nat_tests, no_place)
+
+proto_made : (s : OneKernel) (v : View) (i : MsgId) (o : Option Told) (p : Pid) (m c : ℕ) → v.told i ≡ o → Passing s v → (view.after_proto (handled v i) o).topic ≡ view.Place p m c → WasMade s p
+proto_made s v i o p m c is h e = grind (arith, nat_tests, no_place)
+
+no_of : (T : Type 0) (q p : Pid) (m c : ℕ) → Of q ≡ view.Place p m c → T
+no_of T q p m c e = cc
+
+line_made : (s : OneKernel) (v : View) (l : Line) → Passing s v → (p : Pid) (m c : ℕ) → (view_after v l).topic ≡ view.Place p m c → WasMade s p
+line_made s v (Line.Head d) h p m c e = head_made s v d p m c e
+line_made s v (Line.Label l) h p m c e = h.topic p m c (sym (label_topic v l) ∙ e)
+line_made s v (Line.Forwarded i n) h p m c e = search forwarded_made
+line_made s v (Line.Proto i) h p m c e = proto_made s v i (v.told i) p m c refl h e
+line_made s v (Line.Migration k q) h p m c e = stage_made s v q k p m c h e
+line_made s v (Line.SentOn q n) h p m c e = no_of (WasMade s p) q p m c e
+line_made s v (Line.Lacks q x y) h p m c e = no_of (WasMade s p) q p m c e
+line_made s v (Line.Queued i) h p m c e = h.topic p m c (sym (queued_topic (handled v i) i (receiver_of (v.told i))) ∙ e)
+line_made s v (Line.Held i) h p m c e = h.topic p m c (sym (held_topic (handled v i) i (receiver_of (v.told i))) ∙ e)
+line_made s v (Line.Taken a b n) h p m c e =
+    let x = v.pair a b in
+    let w = view.with_pair v a b (record x { taken = x.taken + 1; kept = filter (λ j. not (j == n)) x.kept }) in
+    h.topic p m c (sym (taken_topic w b (view.oldest x)) ∙ e)
+line_made s v _ h p m c e = h.topic p m c e
+
+-- a line after which the same leave
+line_passing : (pt : Point) (t : OneKernel) (l : Line) → Goes pt.kernel t → ((m : ℕ) (p : Pid) → passes ((view_after pt.view l).known m p) ≡ true → WasMade pt.kernel p) → (view_after pt.view l).told ≡ pt.view.told → Passing pt.kernel pt.view
+    → Passing t (view_after pt.view l)
+line_passing pt t l goes known told h = grind (arith, nat_tests, line_made)
+
+same_known : (s : OneKernel) (v w : View) → w.known ≡ v.known → Passing s v → (m : ℕ) (p : Pid) → passes (w.known m p) ≡ true → WasMade s p
+same_known s v w known h m p e = h.known m p (sym (ap (λ (f : ℕ → Pid → Known). passes (f m p)) known) ∙ e)
+
+point_known : (s : OneKernel) (v w : View) → ((m : ℕ) (p : Pid) → w.known m p ≡ v.known m p) → Passing s v → (m : ℕ) (p : Pid) → passes (w.known m p) ≡ true → WasMade s p
+point_known s v w known h m p e = h.known m p (sym (ap passes (known m p)) ∙ e)
+
+set_known : (s : OneKernel) (v w : View) (q : Pid) (k : Known) → w.known ≡ at_record v.known v.acting q k → (passes k ≡ true → WasMade s q) → Passing s v → (m : ℕ) (p : Pid) → passes (w.known m p) ≡ true → WasMade s p
+set_known s v w q k known new h m p e = grind (arith, nat_tests, set_all)
+
+served_known : (s : OneKernel) (v : View) (i : MsgId) (o : Option Told) → Passing s v → (m : ℕ) (p : Pid) → passes ((served_told (handled v i) o).known m p) ≡ true → WasMade s p
+served_known s v i o h m p e = grind (arith, nat_tests, killed_or, set_known)
+
+-- a put tells of what the group is about
+put_told : (v : View) (a b : ℕ) (i : MsgId) (k : MessageKind) (q : Pid) (s : OneKernel) (j : MsgId) (u : Told) (p : Pid) (m c : ℕ) → Passing s v → (view.after_put v a b i k q).told j ≡ Some u → u.about ≡ view.Place p m c → WasMade s p
+put_told v a b i k q s j u p m c h e f = grind (arith, nat_tests)
+
+topic_place : (s : OneKernel) (a : About) (o : Option Label) (p : Pid) (m c : ℕ) → topic_by s a o ≡ view.Place p m c → a ≡ view.Place p m c
+topic_place s a None p m c e = e
+topic_place s a (Some (Label.Asked id)) p m c e = absurd (grind (arith, nat_tests))
+topic_place s a (Some _) p m c e = e
+
+passing_seen : (s t : OneKernel) (v : View) (l : Line) → Passing t (view_after v l) → Passing t (seen s v l)
+passing_seen s t v l h = record { known = h.known; told = h.told; topic = λ p m c e. h.topic p m c (topic_place s (view_after v l).topic (label_of l) p m c e) }
+
+passing_loud : Loud (λ pt. Passing pt.kernel pt.view)
+passing_loud = record {
+  rides = grind (arith, nat_tests, put_told);
+  quiet = λ pt w t l e s told alike sane is h. passing_seen pt.kernel t pt.view l
+      (line_passing pt t l (goes_by pt t (label_of l) sane is) (same_known pt.kernel pt.view (view_after pt.view l) (ap (λ (x : View). x.known) e ∙ s.known) h) (ap (λ (x : View). x.told) e ∙ told) h);
+  ran = λ pt t p k here alike sane is h. line_passing pt t (Line.Label (Label.Ran p k)) (goes_label pt t (Label.Ran p k) sane is) h.known refl h;
+  receive = λ pt t p id here alike sane is h. line_passing pt t (Line.Label (Label.Receive p id)) (goes_label pt t (Label.Receive p id) sane is) h.known refl h;
+  refuse = λ pt t p id c here alike sane is h. line_passing pt t (Line.Label (Label.Refuse p id c)) (goes_label pt t (Label.Refuse p id c) sane is) h.known refl h;
+  end = λ pt t p y rests sane is h.
+      let l = Line.Label (Label.End p y) in
+      line_passing pt t l (goes_label pt t (Label.End p y) sane is) (set_known pt.kernel pt.view (view_after pt.view l) p Ended refl (λ f. absurd (false≢true f)) h) refl h;
+  dropped = λ pt t id alike sane is h.
+      let l = Line.Label (Label.Dropped id) in
+      line_passing pt t l (goes_label pt t (Label.Dropped id) sane is) (point_known pt.kernel pt.view (view_after pt.view l) (λ m q. dropped_known (handled pt.view id) id (receiver_of (pt.view.told id)) m q) h) (hushed pt.view l refl).told h;
+  served = λ pt t id serves sane is h.
+      let l = Line.Label (Label.Served id) in
+      line_passing pt t l (goes_label pt t (Label.Served id) sane is) (served_known pt.kernel pt.view id (pt.view.told id) h) (hushed pt.view l refl).told h;
+  created = λ pt t id p unborn sane is h.
+      let l = Line.Label (Label.Created id p) in
+      line_passing pt t l (goes_label pt t (Label.Created id p) sane is) (set_known pt.kernel pt.view (view_after pt.view l) p Here refl (λ f. absurd (false≢true f)) h) refl h;
+  queued = grind (arith, nat_tests, line_passing, point_known, queued_known, hushed);
+  held = grind (arith, nat_tests, line_passing, point_known, held_known, hushed);
+  frozen = grind (arith, nat_tests, line_passing, set_known);
+  accepted = grind (arith, nat_tests, line_passing, set_known);
+  left = grind (arith, nat_tests, line_passing, set_known);
+  restarted = grind (arith, nat_tests, line_passing, set_known);
+  stays_ = grind (arith, nat_tests, line_passing, set_known);
+  sent_on = λ pt p n h. line_passing pt pt.kernel (Line.SentOn p n) (λ q e. e) h.known refl h;
+}
+
+-- at the start no process leaves
+passing_start : (b : Boot) → Passing (first_point b).kernel (first_point b).view
+passing_start b = grind (arith, nat_tests, start_known, no_place)
+
+passing_group : (b : Boot) (pt : Point) (d : Step) (w : Spelled) → group_of b pt d ≡ Some w → Phased pt → KnownStands pt.kernel pt.view → Passing pt.kernel pt.view → Passing w.point.kernel w.point.view
+passing_group b pt d w is phased known h = group_keeps (λ q. Passing q.kernel q.view) (keeps_by (λ q. Passing q.kernel q.view) passing_loud) b pt d w is phased known h
+
+-- wherever the rule leads
+pub record Passed (b : Boot) (pt : Point) : Type 0 where
+  both : Both b pt
+  passing : Passing pt.kernel pt.view
+
+pub passed_always : (b : Boot) (es : List Step) (pt : Point) → IsValid b → Leads b (first_point b) es pt → Passed b pt
+passed_always b es pt valid way = record {
+  both = run_always b es pt valid way;
+  passing = keeps_always b (λ q. Passing q.kernel q.view) (λ q d w fit is run h. passing_group b q d w is run.based.phased run.based.known h) valid (passing_start b) es pt way;
+}
+
+real_made : (s : OneKernel) (v : View) (n : ℕ) (q : Pid) → KnownStands s v → (q.num == 0) ≡ false → IsReal n v q → is_made s q ≡ true
+real_made s v n q h other real = grind (arith, nat_tests)
+
+pub made_by : (b : Boot) (pt : Point) (q : Pid) (place : Place) → Passed b pt → (q.num == 0) ≡ false → IsNamed pt q place → is_made pt.kernel q ≡ true
+made_by b pt q place h other (ByHolder g is at_) = real_made pt.kernel pt.view pt.kernel.machines q h.both.run.based.known other (named_real pt pt.kernel.machines g q h.both.run.kept is)
+made_by b pt q place h other (ByOwn i u own told to at_) = grind (arith, nat_tests, real_made)
+made_by b pt q place h other (ByRequest i u own told asks to at_) = subst (λ (p : Pid). is_made pt.kernel p ≡ true) to refl
+made_by b pt q place h other (ByUpdate i u told about) = or_first (is_server q) (is_some (pt.kernel.processes q)) (h.passing.told i u q place.at place.moves told about)
+made_by b pt q place h other (ByForward m e) = or_first (is_server q) (is_some (pt.kernel.processes q)) (h.passing.known m q (ap passes e))

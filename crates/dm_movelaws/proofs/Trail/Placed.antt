@@ -124,13 +124,9 @@ places_held v w t p x known moves held had h =
     places_set v w t t p x known (λ q apart. same q) (λ q apart. refl) (λ q apart. h q)
     (λ learnt. placed_held v w t p x learnt (same p) held ((h p).now v.acting had) ((h p).long v.acting had) (h p))
 
--- what the phase of a process that moves says
-held_by : (k : MessageKind) (s d m : ℕ) (x : Known) (b c : Bool) → (s == m) ≡ b → (if b then kind_leaves k d x else if c then kind_comes k s x else is_away x) ≡ true → is_held x ≡ true → (s ≡ m) × (is_restart k ≡ false)
-held_by k s d m x b c is e h = grind (arith, nat_tests, eq_is)
-
 -- its source has it, until the message is under way that restarts it
 pub moves_held : (v : View) (p : Pid) (k : MessageKind) (s d m : ℕ) (o : Option MsgId) → IsIn v p (Moves k s d o) → is_held (v.known m p) ≡ true → (s ≡ m) × (is_restart k ≡ false)
-moves_held v p k s d m o h held = held_by k s d m (v.known m p) (s == m) (d == m) refl (h.known m) held
+moves_held v p k s d m o h held = grind (arith, nat_tests, eq_is, (h.known m))
 
 incoming_by : (k : MessageKind) (s d m from : ℕ) (b c : Bool) → (d == m) ≡ c → (if b then kind_leaves k d (Incoming from) else if c then kind_comes k s (Incoming from) else is_away (Incoming from)) ≡ true → m ≡ d
 incoming_by k s d m from b c is e = grind (arith, nat_tests, eq_is)

@@ -1,12 +1,12 @@
 -- The trails that printed lines lay stand, and from each place that is named for a process the forwarding addresses lead to it.
 use Rattle.dm_movelaws.proofs.Names.{◌≡◌, ◌≢◌, ℕ, suc, ◌-◌, ◌<◌, ◌==◌, true, false, List, [], ◌∷◌, ◌++◌, length, refl, ap, ◌∙◌, sym, subst, inl, inr, arith, cases_Bool, slice_get_within, slice_get, Option, None, Some, Pid, Place, Boot}
 use Rattle.dm_movelaws.proofs.Names.{IsValid, OneKernel, bind, Step, bind-is, Line, unmoved, Leads, Point, first_point, after, after_line, Trails, Trail, IsOn, Trodden, first_trodden, along, trails_after, View, Known, Unknown, Here}
-use Rattle.dm_movelaws.proofs.Names.{Forward, along_treads, treads_start, trail_leads, Treads, Within, trail_within, is_server, is_fixed, KnownStands, agrees, LeadsBy, made_free, server_fixed, is_made, has_it, ends_walk, IsNamed, Reaches}
+use Rattle.dm_movelaws.proofs.Names.{Forward, along_treads, treads_start, trail_leads, Treads, Within, trail_within, is_server, is_fixed, KnownStands, agrees, LeadsBy, made_free, server_fixed, is_made, ends_walk, IsNamed, Reaches}
 use Rattle.dm_movelaws.proofs.Names.{IsLast, TrailStands, TrailsStand, IsLed, AddressesLead, nat_tests}
 use Rattle.dm_movelaws.proofs.After.{group_after}
-use Rattle.dm_movelaws.proofs.Trail.Known.{Holds, carries}
+use Rattle.dm_movelaws.proofs.Trail.Known.{Holds, carries, none_is, made_by, passed_always}
 use Rattle.dm_movelaws.proofs.Trail.Placed.{is_held}
-use Rattle.dm_movelaws.proofs.Trail.Real.{named_made, none_is}
+use Rattle.dm_movelaws.proofs.Names.{has_it}
 
 abbrev trodden : Point → Trails → Trodden
 trodden pt t = record { point = pt; trails = t }
@@ -67,16 +67,9 @@ place_is place m moves at = λ i. record { at = at i; moves = moves i }
 agrees_none : (k : Known) → agrees k None ≡ true → k ≡ Unknown
 agrees_none k e = grind (arith, nat_tests)
 
-held_it : (k : Known) → has_it k ≡ true → is_held k ≡ true
-held_it k e = grind (arith, nat_tests)
-
 -- the last machine of a trail doesn't forward
 walk_ends : (k : Known) → k ≢ Unknown → ((m c : ℕ) → k ≡ Forward m c → ⊥) → ends_walk k ≡ true
 walk_ends k some off = grind (arith, nat_tests)
-
--- what was never made has only been at home
-never_made : (b : Boot) (pt : Point) (t : Trails) (p : Pid) → Holds b (trodden pt t) → is_fixed p ≡ true → pt.kernel.processes p ≡ None
-never_made b pt t p h fixed = grind (arith, nat_tests, made_free, none_is)
 
 alone_long : (b : Boot) (pt : Point) (t : Trails) (p : Pid) → Holds b (trodden pt t) → pt.kernel.processes p ≡ None → length (t p) ≡ 1
 alone_long b pt t p h none = elim (cases_Bool (is_server p)) [
@@ -88,16 +81,9 @@ alone_long b pt t p h none = elim (cases_Bool (is_server p)) [
   | inr process ↦ ((h.places p).unmade (λ m. agrees_none (pt.view.known m p) (sym (ap (agrees (pt.view.known m p)) none) ∙ h.both.run.based.known.agree m p process))).1
 ]
 
-alone : (b : Boot) (pt : Point) (t : Trails) (p : Pid) → Holds b (trodden pt t) → Treads pt t → pt.kernel.processes p ≡ None → t p ≡ p.home ∷ []
-alone b pt t p h on none = one_place (t p) p.home (alone_long b pt t p h none) (on.trail p).begins
-
 -- what was made is known at home
 at_home : (s : OneKernel) (v : View) (p : Pid) → KnownStands s v → is_made s p ≡ true → v.known p.home p ≢ Unknown
 at_home s v p h made = grind (arith, nat_tests, server_fixed)
-
--- each place that is named is on the trail
-named_on : (pt : Point) (t : Trails) (q : Pid) (place : Place) → Treads pt t → IsNamed pt q place → IsOn t q place
-named_on pt t q place on e = grind (arith, nat_tests)
 
 -- a forward leads further along the trail
 no_further : (v : View) (t : Trails) (p : Pid) (place : Place) (m c : ℕ) → Trail v t p → IsLast t p place → v.known place.at p ≡ Forward m c → ⊥
@@ -116,6 +102,20 @@ reaches b pt t p place h on made is =
     let all : Within pt.kernel.machines pt.view = carries.within b (trodden pt t) h in
     let within : Within (suc n) pt.view = subst (λ (k : ℕ). Within k pt.view) (some_machines pt.kernel.machines pt.view.acting all.acting) all in
     trail_leads pt.view t p n p.home place (on.trail p) known (trail_within (suc n) pt.view t p p.home within (on.trail p) known) is
+
+alone : (b : Boot) (pt : Point) (t : Trails) (p : Pid) → Holds b (trodden pt t) → Treads pt t → pt.kernel.processes p ≡ None → t p ≡ p.home ∷ []
+alone b pt t p h on none = one_place (t p) p.home (alone_long b pt t p h none) (on.trail p).begins
+
+-- what was never made has only been at home
+never_made : (b : Boot) (pt : Point) (t : Trails) (p : Pid) → Holds b (trodden pt t) → is_fixed p ≡ true → pt.kernel.processes p ≡ None
+never_made b pt t p h fixed = grind (arith, nat_tests, made_free, none_is)
+
+-- each place that is named is on the trail
+named_on : (pt : Point) (t : Trails) (q : Pid) (place : Place) → Treads pt t → IsNamed pt q place → IsOn t q place
+named_on pt t q place on e = grind (arith, nat_tests)
+
+held_it : (k : Known) → has_it k ≡ true → is_held k ≡ true
+held_it k e = grind (arith, nat_tests)
 
 -- what holds of the trails so far
 stand_at : (b : Boot) (pt : Point) (t : Trails) → Holds b (trodden pt t) → Treads pt t → TrailStands pt t
@@ -147,6 +147,9 @@ led_by pt t q place s named made = record {
   home = λ fixed. home_only pt t q place s named fixed;
   made = made;
 }
+
+pub named_made : (b : Boot) (es : List Step) (pt : Point) (q : Pid) (place : Place) → IsValid b → Leads b (first_point b) es pt → (q.num == 0) ≡ false → IsNamed pt q place → is_made pt.kernel q ≡ true
+named_made b es pt q place valid way other named = made_by b pt q place (passed_always b es pt valid way) other named
 
 pub addresses_lead : AddressesLead
 addresses_lead b es pt q place valid way named =

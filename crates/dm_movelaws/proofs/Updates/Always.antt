@@ -1,14 +1,160 @@
--- What an update does wherever the rule leads.
-use Rattle.dm_movelaws.proofs.Names.{◌≡◌, ◌⊎◌, ℕ, ◌<◌, ◌≤◌, ◌==◌, ◌&&◌, Bool, true, false, not, [], ◌++◌, refl, ap, ◌∙◌, sym, inl, inr, nat_lt, arith, if◌then◌else◌, cases_Bool, false≢true, nat_tests, Option, None, Some, Pid, Place, pid_eq}
+-- A group that says that an update was handled says nothing else, and where it leads.
+use Rattle.dm_movelaws.proofs.Names.{◌&&◌, ◌≡◌, ◌⊎◌, ℕ, ◌<◌, ◌≤◌, ◌==◌, Bool, true, false, not, [], ◌++◌, refl, ap, ◌∙◌, sym, inl, inr, nat_lt, arith, if◌then◌else◌, cases_Bool, false≢true, nat_tests, Option, None, Some, Pid, Place, pid_eq}
 use Rattle.dm_movelaws.proofs.Names.{MsgId, Boot, switchboard, manager, OneKernel, pid_eq-same, Step, Addresses, Holder, belongs_to, leads_to, is_pid, is_behind, place_told, updated, holders_of, behind_among, behind_count, holders_numbered}
 use Rattle.dm_movelaws.proofs.Names.{answers_in, slot_holders, Spelled, Point, View, Told, About, Ended, after_head, is_server, KnownStands, Updated, UpdatesAlways, front_own, Both, is_place, own_sort, run_always, pid_there, second, zero}
 use Rattle.dm_movelaws.proofs.Names.{suc, ◌+◌, List, ◌∷◌, length, slice_get, slice_get_cases, PlainLink, link_at, NamedLink, Pending, PlainProcess, pid_eq-is, not_server, alive-is, Slot, Owner, Child, Name, Answer, holder_eq, link_target}
-use Rattle.dm_movelaws.proofs.Names.{slot_of, name_link, ascends, slots_from, listings, is_owner}
-use Rattle.dm_movelaws.proofs.Updates.Groups.{Handled, handled_by}
+use Rattle.dm_movelaws.proofs.Names.{slot_of, name_link, ascends, slots_from, listings, is_owner, group_is, ◌||◌, MessageKind, plain_kind, Line, Part, Says, lines_of, spelled, moved, GroupIs, by_parts, sends_on, IsNetLine}
+use Rattle.dm_movelaws.proofs.Names.{by_migrates, by_hears, by_net, by_outcome, ⊤, PlainMessage, forwards_on, Loose, loose_round, loose_handles, by_forwards}
 use Rattle.dm_laws.proofs.Entered.{Made}
 use Rattle.dm_onekernel.specs.Step as kernel
 use Rattle.dm_rule.specs.View as view
 use Rattle.dm_onekernel.specs.Manager as manage
+use Rattle.dm_rule.specs.Rule as rule
+use Rattle.dm_movelaws.proofs.Leading.{lines_are}
+
+-- the update is at the front of an inbox and not in the bag: its receiver is a server or here and the line counts the addresses
+-- that are behind, or its receiver has ended
+pub record Handles (o : Point) (m : ℕ) (id : MsgId) (n : ℕ) : Type 0 where
+  pub told : Told
+  pub is : o.view.told id ≡ Some told
+  pub update : told.kind ≡ MessageKind.Update
+  pub counts : (n ≡ behind_count o.kernel o.addresses told.receiver (place_told told.about)) ⊎ ((n ≡ 0) × (is_server told.receiver ≡ false) × (o.view.known m told.receiver ≡ Ended))
+  pub rest : List MsgId
+  pub box : o.view.inbox m ≡ id ∷ rest
+  pub none : o.kernel.bag id ≡ None
+
+-- no update is handled
+abbrev pub is_updated : Line → Bool
+is_updated (Line.Updated id n) = true
+is_updated l = false
+
+abbrev pub PartQuiet : Part → Type 0
+PartQuiet (Says l) = is_updated l ≡ false
+PartQuiet _ = ⊤
+
+abbrev pub AllQuiet : List Part → Type 0
+AllQuiet [] = ⊤
+AllQuiet (p ∷ ps) = PartQuiet p × AllQuiet ps
+
+-- the parts of a group: none of them says so, or the only one
+pub data Shape (o : Point) (ps : List Part) : Type 0 where
+  Quiet : AllQuiet ps → Shape o ps
+  Updates : (m : ℕ) → (id : MsgId) → (n : ℕ) → ps ≡ Says (Line.Updated id n) ∷ [] → Handles o m id n → Shape o ps
+
+quiet_loose : Loose AllQuiet
+quiet_loose = record { none = tt; label = λ l ps h. (refl, h); routes = λ i ps h. (tt, h) }
+
+-- a message of the bag
+pub forwards_shape : (o : Point) (c : Addresses) (id : MsgId) (k : MessageKind) (sender : Pid) (to : ℕ) → Shape o (forwards_on c id k sender to)
+forwards_shape o c id k sender to = by_forwards (Shape o) c id k sender to (Quiet (refl, (tt, tt))) (Quiet (refl, (tt, (tt, tt))))
+
+pub handles_shape : (b : Boot) (o : Point) (m : ℕ) (id : MsgId) (msg : PlainMessage) (ps : List Part) → rule.handles b o m id msg ≡ Some ps → Shape o ps
+handles_shape b o m id msg ps e =
+    loose_handles (Shape o) AllQuiet quiet_loose (λ xs. Quiet) b o m id msg ps (λ here. Quiet (refl, tt)) (Quiet (refl, tt)) (λ to here what apart. Quiet (refl, (refl, (refl, (tt, tt))))) (λ to moves at_. forwards_shape o o.addresses id (plain_kind msg.what) msg.sender to) e
+
+-- a kernel's own message
+sends_quiet : (to : ℕ) (ids : List MsgId) (ps : List Part) → AllQuiet ps → AllQuiet (sends_on to ids ++ ps)
+sends_quiet to [] ps h = h
+sends_quiet to (i ∷ is) ps h = (tt, sends_quiet to is ps h)
+
+-- a kernel's own message at the front of an inbox
+pub record Front (o : Point) (m : ℕ) (id : MsgId) (t : Told) : Type 0 where
+  pub is : o.view.told id ≡ Some t
+  pub rest : List MsgId
+  pub box : o.view.inbox m ≡ id ∷ rest
+  pub none : o.kernel.bag id ≡ None
+
+counted : (o : Point) (m : ℕ) (id : MsgId) (t : Told) → Front o m id t → t.kind ≡ MessageKind.Update → Handles o m id (behind_count o.kernel o.addresses t.receiver (place_told t.about))
+counted o m id t f k = record { told = t; is = f.is; update = k; counts = inl refl; rest = f.rest; box = f.box; none = f.none }
+
+hears_shape : (b : Boot) (o : Point) (m : ℕ) (id : MsgId) (is : List MsgId) (q : Option Told) (ps : List Part) → o.view.told id ≡ q → o.view.inbox m ≡ id ∷ is → o.kernel.bag id ≡ None → rule.hears b o m id q ≡ Some ps → Shape o ps
+hears_shape b o m id is q ps told box none = by_hears (Shape o) b o m id q ps (λ t there. (
+    let f : Front o m id t = record { is = told ∙ there; rest = is; box = box; none = none } in
+    record {
+      told = λ p x about alive. grind (arith, nat_tests, sends_quiet);
+      updated = λ kind. Updates m id (behind_count o.kernel o.addresses t.receiver (place_told t.about)) refl (counted o m id t f kind);
+      updated_none = λ kind at_. Updates m id 0 refl (record { told = t; is = f.is; update = kind; counts = inr (refl, at_.server, at_.known); rest = f.rest; box = f.box; none = f.none });
+      no_move = λ at_. Quiet (refl, tt);
+      leaving = λ to at_. Quiet (refl, tt);
+      coming = λ from at_. Quiet (refl, tt);
+      forwarded = λ to moves at_. forwards_shape o o.addresses id t.kind manager to;
+      stays_here = λ at_. Quiet (refl, tt);
+      frozen = λ to at_. Quiet (refl, (refl, (tt, tt)));
+    }
+    ))
+
+-- the other directives
+net_line : (l : Line) → IsNetLine l → is_updated l ≡ false
+net_line l h = grind (arith, nat_tests)
+
+pub outcome_shape : (b : Boot) (o : Point) (d : Step) (ps : List Part) → rule.outcome b o d ≡ Some ps → Shape o ps
+outcome_shape b o d ps = by_outcome (λ x. Shape o) b o d ps (record {
+  round = λ m xs box e. Quiet (loose_round AllQuiet quiet_loose b o m (rule.first_runnable o.kernel (o.view.queue m) (o.view.ring m)) xs (refl, tt) e);
+  handles = λ m i is msg xs box there e. handles_shape b o m i msg xs e;
+  hears = λ m i is xs box none e. hears_shape b o m i is (o.view.told i) xs refl box none e;
+  ticks = λ m xs net. Quiet ((by_net AllQuiet tt (λ l ps net h. (net_line l net, h)) (λ a b l ps h. (tt, h))) xs net);
+  delivers = λ a c k xs net. Quiet ((by_net AllQuiet tt (λ l ps net h. (net_line l net, h)) (λ a b l ps h. (tt, h))) xs net);
+  asks = λ p m. Quiet (by_migrates AllQuiet o p (refl, tt) (refl, tt) (λ n off is. (tt, tt)));
+})
+
+abbrev begun : Point → Step → Point
+begun pt d = moved pt (Line.Head d) pt.kernel
+
+-- whether one of the lines says so
+abbrev has : List Line → Bool
+has [] = false
+has (l ∷ ls) = is_updated l || has ls
+
+has_in : (xs ys : List Line) (id : MsgId) (n : ℕ) → has (xs ++ Line.Updated id n ∷ ys) ≡ true
+has_in [] ys id n = refl
+has_in (x ∷ xs) ys id n = ap (λ (c : Bool). is_updated x || c) (has_in xs ys id n) ∙ (let e_ : ((is_updated x) || true) ≡ true = grind (arith, nat_tests) in e_)
+
+neither_if : (c : Bool) (xs ys zs : List Line) → (has xs ≡ false → has zs ≡ false) → (c || has xs) ≡ false → (c || has zs) ≡ false
+neither_if c xs ys zs rest e = grind (arith, nat_tests)
+
+neither : (xs ys : List Line) → has xs ≡ false → has ys ≡ false → has (xs ++ ys) ≡ false
+neither [] ys e f = f
+neither (x ∷ xs) ys e f = neither_if (is_updated x) xs ys (xs ++ ys) (λ g. neither xs ys g f) e
+
+part_has : (pt : Point) (p : Part) (ls : List Line) → PartQuiet p → lines_of pt p ≡ Some ls → has ls ≡ false
+part_has pt p ls quiet is = grind (arith, nat_tests, lines_are)
+
+parts_have : (ps : List Part) (pt : Point) (w : Spelled) → AllQuiet ps → spelled pt ps ≡ Some w → has w.lines ≡ false
+parts_have ps pt w quiet is = by_parts (λ qs q v. AllQuiet qs → has v.lines ≡ false) (λ q h. refl) (λ x qs q next ls z lines leads rest h. neither ls z.lines (part_has q x ls h.0 lines) (rest h.1)) ps pt w is quiet
+
+-- what was handled, and where it leads
+pub record Handled (b : Boot) (pt : Point) (d : Step) (w : Spelled) (id : MsgId) (n : ℕ) : Type 0 where
+  pub machine : ℕ
+  pub handles : Handles pt machine id n
+  pub lines : w.lines ≡ Line.Head d ∷ Line.Updated id n ∷ []
+  pub point : moved (begun pt d) (Line.Updated id n) pt.kernel ≡ w.point
+
+-- the only line of two that says so is the second
+same_line : (d : Step) (xs ys : List Line) (id i : MsgId) (n k : ℕ) → xs ++ Line.Updated id n ∷ ys ≡ Line.Head d ∷ Line.Updated i k ∷ [] → Line.Updated i k ≡ Line.Updated id n
+same_line d [] ys id i n k e = absurd (false≢true (sym (ap first_is e)))
+  where
+    first_is : List Line → Bool
+    first_is [] = false
+    first_is (l ∷ ls) = is_updated l
+same_line d (x ∷ []) ys id i n k e = let f : Line.Updated id n ∷ ys ≡ Line.Updated i k ∷ [] = cc in cc
+same_line d (x ∷ y ∷ zs) ys id i n k e =
+    let f : zs ++ Line.Updated id n ∷ ys ≡ [] = cc in
+    absurd (false≢true (sym (ap has f) ∙ has_in zs ys id n))
+
+abbrev spelled_or : Spelled → Option Spelled → Spelled
+spelled_or z None = z
+spelled_or z (Some w) = w
+
+pub by_shape : (b : Boot) (pt : Point) (d : Step) (w : Spelled) (id : MsgId) (n : ℕ) (xs ys : List Line) (g : GroupIs b pt d w) → w.lines ≡ xs ++ Line.Updated id n ∷ ys → Shape pt g.parts → Handled b pt d w id n
+by_shape b pt d w id n xs ys g there (Quiet quiet) =
+    absurd (false≢true (sym (parts_have g.parts (begun pt d) g.rest quiet g.said) ∙ ap (λ (x : Spelled). has x.lines) g.whole ∙ ap has there ∙ has_in xs ys id n))
+by_shape b pt d w id n xs ys g there (Updates m i k form handles) =
+    let rest : record { lines = Line.Updated i k ∷ []; point = moved (begun pt d) (Line.Updated i k) pt.kernel } ≡ g.rest = ap (spelled_or g.rest) (ap (spelled (begun pt d)) (sym form) ∙ g.said) in
+    let all : Line.Head d ∷ Line.Updated i k ∷ [] ≡ w.lines = ap (λ (x : Spelled). Line.Head d ∷ x.lines) rest ∙ ap (λ (x : Spelled). x.lines) g.whole in
+    let point : moved (begun pt d) (Line.Updated i k) pt.kernel ≡ w.point = ap (λ (x : Spelled). x.point) rest ∙ ap (λ (x : Spelled). x.point) g.whole in
+    grind (arith, nat_tests, (sym all), (same_line d xs ys id i n k (sym there ∙ sym all)))
+
+-- What an update does wherever the rule leads.
 
 -- where a list has something
 got : {X : Type 0} (xs : List X) (k : ℕ) (x : X) → slice_get xs k ≡ Some x → k < length xs
@@ -137,10 +283,6 @@ tells : (a : About) → is_place a ≡ true → Tells a
 tells (view.Place p m c) e = record { process = p; place = record { at = m; moves = c }; is = refl }
 tells _ e = absurd (false≢true e)
 
--- the head changes nothing that it reads
-head_told : (v : View) (d : Step) → (after_head v d).told ≡ v.told
-head_told v d = grind (arith, nat_tests)
-
 record Kept (v w : View) : Type 0 where
   known : w.known ≡ v.known
   queue : w.queue ≡ v.queue
@@ -154,10 +296,6 @@ address : (s : OneKernel) (v w : View) (a : Addresses) (id : MsgId) (t : Told) (
     → updated s w a (w.told id) h ≡ (if is_behind s a t.receiver p at_.moves h then at_ else a h)
 address s v w a id t p at_ h same told about = search
 
--- whether an address is behind
-three : (a b c : Bool) → (a && (b && c)) ≡ true → (a ≡ true) × (b ≡ true) × (c ≡ true)
-three a b c e = grind (arith, nat_tests)
-
 behind_is : (s : OneKernel) (a : Addresses) (q p : Pid) (c : ℕ) (h : Holder) (x : Bool) → belongs_to q h ≡ true → leads_to s h ≡ Some p → nat_lt (a h).moves c ≡ x → is_behind s a q p c h ≡ x
 behind_is s a q p c h x mine leads e = grind (arith, nat_tests)
 
@@ -166,6 +304,14 @@ count_is : (s : OneKernel) (v : View) (a : Addresses) (t : Told) (p : Pid) (at_ 
     → (n ≡ behind_count s a t.receiver (place_told t.about)) ⊎ ((n ≡ 0) × (is_server t.receiver ≡ false) × (v.known m t.receiver ≡ Ended))
     → behind_among (is_behind s a t.receiver p at_.moves) (holders_of s t.receiver) ≡ n
 count_is s v a t p at_ m n about known counts = grind (arith, nat_tests)
+
+-- the head changes nothing that it reads
+head_told : (v : View) (d : Step) → (after_head v d).told ≡ v.told
+head_told v d = grind (arith, nat_tests)
+
+-- whether an address is behind
+three : (a b c : Bool) → (a && (b && c)) ≡ true → (a ≡ true) × (b ≡ true) × (c ≡ true)
+three a b c e = grind (arith, nat_tests)
 
 updated_by : (b : Boot) (pt : Point) (d : Step) (w : Spelled) (id : MsgId) (n : ℕ) → Both b pt → Handled b pt d w id n → Updated pt w.point id n
 updated_by b pt d w id n both h =
@@ -214,5 +360,5 @@ updated_by b pt d w id n both h =
 
 pub updates_always : UpdatesAlways
 updates_always b es pt d w id n earlier later valid leads is there =
-    let h = handled_by b pt d w id n earlier later is there in
+    let h = let g = group_is b pt d w is in by_shape b pt d w id n earlier later g there (outcome_shape b pt d g.parts g.is) in
     (h.lines, updated_by b pt d w id n (run_always b es pt valid leads) h)
