@@ -1,16 +1,16 @@
 -- The groups of the rule: each begins with its head, and none routes a message between two machines that count as many as they
 -- may.
-use Rattle.dm_check.proofs.Names.{◌≡◌, ◌≤◌, ℕ, List, [], ◌∷◌, ◌++◌, length, refl, ap, sym, ◌∙◌, subst, arith, Some, None, Option, Boot, bind, bind-is, Step, Line, Todo, Two, IsKept, IsRun, Part, Spelled, Point, after_line, group_of, headed}
+use Rattle.dm_check.proofs.Names.{◌≡◌, ◌≤◌, ℕ, List, [], ◌∷◌, ◌++◌, length, refl, ap, sym, ◌∙◌, subst, arith, Some, None, Option, Boot, bind, bind-is, Step, Line, Todo, Two, IsKept, IsRun, Part, Spelled, Point, after_line, group_of, behind}
 use Rattle.dm_check.proofs.Names.{outcome, worn_in, group_over, spelled}
 use Rattle.dm_line.specs.declared.line.Line.TheVariants as line
 
 -- a group begins with its head
 pub group_head : (b : Boot) (pt : Point) (e : Step) (w : Spelled) → group_of b pt e ≡ Some w → (rest : List Line) × (w.lines ≡ line.Head e ∷ rest)
 group_head b pt e w is =
-    let (parts, out, more) = bind-is (outcome b pt e) (λ (parts : List Part). bind (after_line pt (line.Head e)) (λ (begun : Point). bind (spelled begun parts) (λ (w : Spelled). Some (headed (line.Head e) w)))) w is in
-    let (start, head, last) = bind-is (after_line pt (line.Head e)) (λ (begun : Point). bind (spelled begun parts) (λ (w : Spelled). Some (headed (line.Head e) w))) w more in
-    let (rest, told, end) = bind-is (spelled start parts) (λ (w : Spelled). Some (headed (line.Head e) w)) w last in
-    let f : headed (line.Head e) rest ≡ w = cc in
+    let (parts, out, more) = bind-is (outcome b pt e) (λ (parts : List Part). bind (after_line pt (line.Head e)) (λ (begun : Point). bind (spelled begun parts) (λ (w : Spelled). Some (behind (line.Head e ∷ []) w)))) w is in
+    let (start, head, last) = bind-is (after_line pt (line.Head e)) (λ (begun : Point). bind (spelled begun parts) (λ (w : Spelled). Some (behind (line.Head e ∷ []) w))) w more in
+    let (rest, told, end) = bind-is (spelled start parts) (λ (w : Spelled). Some (behind (line.Head e ∷ []) w)) w last in
+    let f : behind (line.Head e ∷ []) rest ≡ w = cc in
     (rest.lines, sym (ap (λ (v : Spelled). v.lines) f))
 
 -- no pair counts more than it may behind a group that was printed

@@ -6,7 +6,7 @@ pub mod Goes
 pub mod Outs
 use Rattle.dm_mirror.proofs.Names.{◌≡◌, ◌≢◌, ℕ, ◌+◌, ◌^◌, ◌<◌, ◌≤◌, ◌⊎◌, ◌==◌, nat_le, nat_lt, Bool, true, false, List, [], ◌∷◌, length, refl, ap, ◌∙◌, sym, subst, inl, inr, arith, if◌then◌else◌, slice_get, option_map, Ok, All, Option}
 use Rattle.dm_mirror.proofs.Names.{None, Some, cases_Bool, eqb_tells, nat_tests, All-drop, Message, IsLawfulMessage, Packet, Step, Line, packet_of, spelling, Data, Ack, load_at, MayCome-stands, bytes_at, after_mark, Boot, IsValid, bind}
-use Rattle.dm_mirror.proofs.Names.{Spelled, spelled, Point, moved, headed, kept_from, more, Run, Placed, MayAct, WorldState, acted, arrives, delivers, reads, world_step, MayDeliver, MayRead, CountsStand, History, StandsWith, line_of}
+use Rattle.dm_mirror.proofs.Names.{Spelled, spelled, Point, moved, behind, kept_from, more, Run, Placed, MayAct, WorldState, acted, arrives, delivers, reads, world_step, MayDeliver, MayRead, CountsStand, History, StandsWith, line_of}
 use Rattle.dm_mirror.proofs.Names.{load_of, GoesOn, IsNet, arrives_net}
 use Rattle.dm_rule.proofs.Names.{Part}
 use Rattle.dm_stream.specs.Packets.{Load}
@@ -28,7 +28,7 @@ module _ (b : Boot) (w : WorldState) (pt : Point) (l : Placed) (h : History) (a 
   Does carried ps = Comes b w pt l h a c k s a_in c_in apart carried ps
 
   -- a message comes, by its number
-  data_comes : (n : ℕ) (m x : Message) → load_at (h.packets a c) k ≡ Some (Data n m) → (((w.nodes c).receivers a).count ≤ n → x ≡ m) → Does (Data n x) (group.data_comes a c (pt.view.pair a c) n)
+  data_comes : (n : ℕ) (m x : Message) → load_at (h.packets a c) k ≡ Some (Data n m) → (((w.nodes c).receivers a).count ≤ n → x ≡ m) → Does (Data n x) (group.comes a c (pt.view.pair a c) (pt.view.pair c a) (load.Data n))
   data_comes n m x e same =
       let taken : ℕ = (pt.view.pair a c).taken in
       let old : List Part = Part.Says (Line.Old a c n) ∷ Part.Transmits c a (load.Ack taken) ∷ [] in
@@ -53,7 +53,7 @@ module _ (b : Boot) (w : WorldState) (pt : Point) (l : Placed) (h : History) (a 
       ]
 
   -- the directive's group, from what its parts say
-  due_by : (ps : List Part) (z : Spelled) → group.arrives a c (pt.view.pair a c) (pt.view.pair c a) (slice_get (pt.view.pair a c).wire k) ≡ ps → spelled (begun pt a c k) ps ≡ Some z → group.group_of b pt (Step.Deliver a c k) ≡ Some (headed (Line.Head (Step.Deliver a c k)) z)
+  due_by : (ps : List Part) (z : Spelled) → group.arrives a c (pt.view.pair a c) (pt.view.pair c a) (slice_get (pt.view.pair a c).wire k) ≡ ps → spelled (begun pt a c k) ps ≡ Some z → group.group_of b pt (Step.Deliver a c k) ≡ Some (behind (Line.Head (Step.Deliver a c k) ∷ []) z)
   due_by ps z e f = grind (arith, nat_tests)
 
   same_of : (ps : List Part) (z : Spelled) → group.arrives a c (pt.view.pair a c) (pt.view.pair c a) (slice_get (pt.view.pair a c).wire k) ≡ ps → spelled (begun pt a c k) ps ≡ Some z → Same pt z.point
@@ -67,7 +67,7 @@ module _ (b : Boot) (w : WorldState) (pt : Point) (l : Placed) (h : History) (a 
   goes_by carried ps happens parts f = record {
     said = acted (record w { wires = after_mark w.wires a c k }) (Step.Deliver a c k) c (node.arrives (w.nodes c) a carried);
     happens = happens;
-    group = headed (Line.Head (Step.Deliver a c k)) f.end;
+    group = behind (Line.Head (Step.Deliver a c k) ∷ []) f.end;
     due = due_by ps f.end parts f.spells;
     lines = λ i. Line.Head (Step.Deliver a c k) ∷ f.lines i;
     stands = ((l, f.history, f.stands), counts_on w (acted (record w { wires = after_mark w.wires a c k }) (Step.Deliver a c k) c (node.arrives (w.nodes c) a carried)).state pt f.end.point c (node.arrives (w.nodes c) a carried).state refl (arrives_sent (w.nodes c) a carried) (same_of ps f.end parts f.spells) counted);
@@ -93,7 +93,7 @@ module _ (b : Boot) (w : WorldState) (pt : Point) (l : Placed) (h : History) (a 
   goes_with p (Data n m) low_a low_c is loads readable =
       let e : load_at (h.packets a c) k ≡ Some (Data n m) = load_is (h.packets a c) k (Some p) is ∙ ap Some loads in
       let x : IsReadAs w a c n m = readable n m e in
-      goes_by (Data n x.message) (group.data_comes a c (pt.view.pair a c) n) (read_is p (Data n m) (Packet.Data a c n x.message) is loads x.read) (ap (group.arrives a c (pt.view.pair a c) (pt.view.pair c a)) (said_is p is) ∙ ap (λ (z : Load Message). group.comes a c (pt.view.pair a c) (pt.view.pair c a) (load_of z)) loads) (data_comes n m x.message e x.same)
+      goes_by (Data n x.message) (group.comes a c (pt.view.pair a c) (pt.view.pair c a) (load.Data n)) (read_is p (Data n m) (Packet.Data a c n x.message) is loads x.read) (ap (group.arrives a c (pt.view.pair a c) (pt.view.pair c a)) (said_is p is) ∙ ap (λ (z : Load Message). group.comes a c (pt.view.pair a c) (pt.view.pair c a) (load_of z)) loads) (data_comes n m x.message e x.same)
   goes_with p (Ack n) low_a low_c is loads readable =
       let e : load_at (h.packets a c) k ≡ Some (Ack n) = load_is (h.packets a c) k (Some p) is ∙ ap Some loads in
       goes_by (Ack n) (Part.Says (Line.Acked a c n) ∷ group.repeats c a (group.let_go (pt.view.pair c a) (more n (pt.view.pair c a).acked))) (read_is p (Ack n) (Packet.Ack a c n) is loads (reads_ack a c n low_a low_c apart (small_ack n e))) (ap (group.arrives a c (pt.view.pair a c) (pt.view.pair c a)) (said_is p is) ∙ ap (λ (z : Load Message). group.comes a c (pt.view.pair a c) (pt.view.pair c a) (load_of z)) loads) (acked_comes b w pt l h a c k s a_in c_in apart n e)
@@ -107,7 +107,7 @@ module _ (b : Boot) (w : WorldState) (pt : Point) (l : Placed) (h : History) (a 
       record {
         said = record { state = record w { groups = w.groups + 1 }; lines = Line.Head (Step.Deliver a c k) ∷ Line.Nothing ∷ [] };
         happens = ap (delivers w (Step.Deliver a c k) a c k) no_bytes;
-        group = headed (Line.Head (Step.Deliver a c k)) z;
+        group = behind (Line.Head (Step.Deliver a c k) ∷ []) z;
         due = due_by (Part.Says Line.Nothing ∷ []) z (ap (group.arrives a c (pt.view.pair a c) (pt.view.pair c a)) none) refl;
         lines = refl;
         stands = ((l, h, nothing_stands b w pt l h a c s a_in c_in apart k none), counted);

@@ -2,8 +2,8 @@
 use Rattle.dm_mirror.proofs.Names.{◌≡◌, ◌≢◌, ℕ, ◌+◌, ◌-◌, ◌<◌, ◌≤◌, ◌==◌, ◌&&◌, nat_lt, Bool, true, false, List, [], ◌∷◌, ◌++◌, length, refl, ap, ◌∙◌, sym, subst, arith, inl, inr, if◌then◌else◌, slice_get, Option, None, Some, eqb-true}
 use Rattle.dm_mirror.proofs.Names.{nat_tests, Message, kind_of, IsLawfulMessage, Sending, due, given_count, numbered, with_given, Boot, NodeState, here, Out, Sends, Acts, Goes, Worn, gives, is_worn, none_waits, put_line, routes}
 use Rattle.dm_mirror.proofs.Names.{routes_away, routes_home, sends_due, Line, or, after_put, view_after, goes_out, Point, moved, at_machine, PairsFit, Sane, is_full, worn_in, Placed, WorldState, History, PairStands, StandsWith, AllRecords}
-use Rattle.dm_mirror.proofs.Names.{map, OneKernel, bind, bind-is, Two, Spelled, spelled, label_of, kernel_after, after_line, after, View, full_pair, is_put, AllSayable, sane_line, Sent, acts, says, spoken, packet_of_load, Part, MsgId}
-use Rattle.dm_mirror.proofs.Names.{nat_le, routed_on, Act, act_of, seen, full_route}
+use Rattle.dm_mirror.proofs.Names.{map, OneKernel, bind, bind-is, Two, Spelled, spelled, label_of, kernel_after, after_line, after, View, full_route, is_put, AllSayable, sane_line, Sent, acts, says, spoken, packet_of_load, Part, MsgId}
+use Rattle.dm_mirror.proofs.Names.{nat_le, routed_on, Act, act_of, seen}
 use Rattle.dm_node.proofs.Names.{behind}
 use Rattle.dm_stream.specs.Packets.{Load}
 use Rattle.dm_node.specs.declared.out.Out.TheVariants.{Says}
@@ -265,7 +265,7 @@ spoken_says wires [] outs = refl
 spoken_says wires (l ∷ ls) outs = ap (says l) (spoken_says wires ls outs)
 
 -- a line that is no put wears nothing out
-pub no_put : (numbers : ℕ) (v : View) (l : Line) → is_put l ≡ false → full_pair numbers v l ≡ None
+pub no_put : (numbers : ℕ) (v : View) (l : Line) → is_put l ≡ false → full_route numbers v (act_of l) ≡ None
 no_put numbers v l e = grind (arith, nat_tests)
 
 -- which pair is worn out depends on how many messages the pairs have, and on nothing else

@@ -1,8 +1,8 @@
 -- A tick: what is out and not acknowledged goes out again, by the machine and by the rule.
 use Rattle.dm_mirror.proofs.Names.{◌≡◌, ◌≢◌, ℕ, zero, suc, ◌+◌, ◌-◌, ◌<◌, ◌≤◌, ◌==◌, nat_lt, Bool, true, false, List, [], ◌∷◌, ◌++◌, length, refl, ap, ◌∙◌, sym, subst, arith, if◌then◌else◌, slice_get, Option, None, Some, nat_tests}
 use Rattle.dm_mirror.proofs.Names.{append-nil, length-drop, map-append, Message, Data, outstanding, numbered, Stream, Boot, bind, Step, Load, NodeState, here, Out, Sends, again, all_out, count_out, counts_out, first_out, sends, tick}
-use Rattle.dm_mirror.proofs.Names.{spoken, Line, View, NothingElse, after_packet, begins, Transmits, Spelled, spelled, Point, headed, numbers_from, repeats, resends, Placed, WorldState, acted, at_machine, CountsStand, History, PairStands}
-use Rattle.dm_mirror.proofs.Names.{StandsWith, stream_of, GoesOn, packet_of_load, behind}
+use Rattle.dm_mirror.proofs.Names.{spoken, Line, View, NothingElse, after_packet, begins, Transmits, Spelled, spelled, Point, behind, numbers_from, repeats, resends, Placed, WorldState, acted, at_machine, CountsStand, History, PairStands}
+use Rattle.dm_mirror.proofs.Names.{StandsWith, stream_of, GoesOn, packet_of_load}
 use Rattle.dm_rule.proofs.Names.{Part}
 use Rattle.std.proofs.lemmas.List.{append_assoc}
 use Rattle.dm_stream.specs.Order as order
@@ -159,8 +159,8 @@ tick_goes b w pt l h m st sent small =
     record {
       said = acted w (Step.Tick m) m (tick n);
       happens = refl;
-      group = headed (Line.Head (Step.Tick m)) (behind (said ∷ []) rest);
-      due = ap (λ (o : Option Spelled). bind o (λ v. Some (headed (Line.Head (Step.Tick m)) v))) (spelled_on begun begun (rule.Says said) (said ∷ []) (resends pt.view m pt.kernel.machines) rest refl refl ends);
+      group = behind (Line.Head (Step.Tick m) ∷ []) (behind (said ∷ []) rest);
+      due = ap (λ (o : Option Spelled). bind o (λ v. Some (behind (Line.Head (Step.Tick m) ∷ []) v))) (spelled_on begun begun (rule.Says said) (said ∷ []) (resends pt.view m pt.kernel.machines) rest refl refl ends);
       lines = λ i. Line.Head (Step.Tick m) ∷ Line.Resent ((st.nodes m small).kernel.here i) (count i) ∷ (a.said ∙ sym (append-nil a.lines)) i;
       stands = ((l, a.history, subst (λ (f : ℕ → NodeState). StandsWith b (record { nodes = f; wires = (spoken w.wires (all_out n n.machines)).wires; groups = w.groups + 1 }) a.next l a.history) (sym (at_same w.nodes m)) a.stands), λ d few. tick_sent w m d a.next.view.count (a.counts) (sent d (subst (λ (k : ℕ). d < k) a.machines few)));
     }

@@ -1,9 +1,8 @@
 -- A turn, or a directive to move a process: the machine says and routes what the rule spells, or stops worn.
 use Rattle.dm_mirror.proofs.Names.{◌≡◌, ℕ, ◌+◌, ◌<◌, ◌≤◌, ◌==◌, List, [], ◌∷◌, ◌++◌, length, map, refl, ap, ◌∙◌, sym, subst, inl, inr, All, Option, Some, cases_Bool, eqb-true, All-head, All-tail, Boot, OneKernel, bind, bind-is, Step, Line}
-use Rattle.dm_mirror.proofs.Names.{Stage, Out, Spelled, spelled, Point, after_line, moved, group_of, headed, outcome, at_machine, standing, About, Pair, begins, worn_in, PairsFit, AllSayable, Sane, outcome_sayable, sane_line, machine_of}
+use Rattle.dm_mirror.proofs.Names.{Stage, Out, Spelled, spelled, Point, after_line, moved, group_of, outcome, at_machine, standing, About, Pair, begins, worn_in, PairsFit, AllSayable, Sane, outcome_sayable, sane_line, machine_of}
 use Rattle.dm_mirror.proofs.Names.{Run, Placed, Mirrors, lines_keep, IsLawfulPart, IsLawfulTurned, NodeState, Acts, Goes, Worn, acts, Spoken, spoken, WorldState, acted, world_step, GoesOn, StopsWorn, Steps, CountsStand, History, StandsWith}
 use Rattle.dm_mirror.proofs.Names.{Pid, IsMachine, IsValid, NothingElse, Target, goes_on, RunGoes, OwnTold, asks_move, MayTurn, turn, asked_lawful, turn_lawful, Part}
-use Rattle.dm_node.proofs.Names.{behind}
 use Rattle.std.proofs.lemmas.List.{append_assoc}
 use Rattle.dm_rule.proofs.Groups.{fits}
 use Rattle.dm_world.specs.World.{turned}
@@ -18,6 +17,7 @@ use Rattle.dm_mirror.proofs.Join.{turned_here, turned_records, turned_stands, wi
 use Rattle.dm_mirror.proofs.Route.Puts.{late_pair}
 use Rattle.dm_mirror.proofs.Streams.{at_again, at_here, at_other}
 use Rattle.dm_mirror.proofs.Routing.{acts_say, says_rest, says_sane, spoken_says, worn_behind}
+use Rattle.dm_node.proofs.Names.{behind}
 
 -- what is routed is lawful
 said_lawful : (ls : List Line) (ps : List Part) → All IsLawfulPart (map Part.Says ls ++ ps) → All IsLawfulPart ps
@@ -74,15 +74,15 @@ module _ (b : Boot) (w : WorldState) (pt : Point) (l : Placed) (h : History) (m 
   parts_are : (map Part.Says t.says ++ map part_of t.routes) ++ late_parts t.late ≡ map Part.Says t.says ++ sends
   parts_are = append_assoc (map Part.Says t.says) (map part_of t.routes) (late_parts t.late)
 
-  spells : (v : Spelled) × (spelled t.next rest ≡ Some v) × (headed head (rule.behind t.says v) ≡ group)
+  spells : (v : Spelled) × (spelled t.next rest ≡ Some v) × (rule.behind (head ∷ []) (rule.behind t.says v) ≡ group)
   spells =
-      let f : bind (spelled start (map rule.Says t.says ++ rest)) (λ (y : Spelled). Some (headed head y)) ≡ Some group =
-      sym (ap (λ (p : Option (List rule.Part)). bind p (λ (ps : List rule.Part). bind (after_line pt head) (λ (n : Point). bind (spelled n ps) (λ (y : Spelled). Some (headed head y))))) outcome_is
-      ∙ ap (λ (p : Option Point). bind p (λ (n : Point). bind (spelled n (map rule.Says t.says ++ rest)) (λ (y : Spelled). Some (headed head y)))) e.head) ∙ due in
-      let (y, is, last) = bind-is (spelled start (map rule.Says t.says ++ rest)) (λ (y : Spelled). Some (headed head y)) group f in
-      let g : headed head y ≡ group = cc in
+      let f : bind (spelled start (map rule.Says t.says ++ rest)) (λ (y : Spelled). Some (rule.behind (head ∷ []) y)) ≡ Some group =
+      sym (ap (λ (p : Option (List rule.Part)). bind p (λ (ps : List rule.Part). bind (after_line pt head) (λ (n : Point). bind (spelled n ps) (λ (y : Spelled). Some (rule.behind (head ∷ []) y))))) outcome_is
+      ∙ ap (λ (p : Option Point). bind p (λ (n : Point). bind (spelled n (map rule.Says t.says ++ rest)) (λ (y : Spelled). Some (rule.behind (head ∷ []) y)))) e.head) ∙ due in
+      let (y, is, last) = bind-is (spelled start (map rule.Says t.says ++ rest)) (λ (y : Spelled). Some (rule.behind (head ∷ []) y)) group f in
+      let g : rule.behind (head ∷ []) y ≡ group = cc in
       let (v, on, whole) = says_rest t.says start t.next rest y is t.after in
-      (v, on, ap (headed head) whole ∙ g)
+      (v, on, ap (rule.behind (head ∷ [])) whole ∙ g)
 
   abbrev v : Spelled
   v = spells.0

@@ -1,8 +1,9 @@
 -- What a turn says before the messages that it sends are routed.
 use Rattle.dm_mirror.proofs.Names.{◌≡◌, ◌≢◌, ℕ, ◌+◌, ◌≤◌, Bool, true, false, not, ◌==◌, ◌&&◌, List, [], ◌∷◌, ◌++◌, map, is_some, ⊤, Option, None, Some, Pid, place_of, kernel_at, Message, MsgId, MessageKind, Stage, kind_of, plain_message}
-use Rattle.dm_mirror.proofs.Names.{Process, incoming_of, Boot, manager, Step, Line, Receiver, Sender, given, own_gives, is_between, Point, after, moved, outcome, at_machine, Spot, Queue, Held, Inbox, Untaken, standing, Known, Here, Frozen}
+use Rattle.dm_mirror.proofs.Names.{Process, incoming_of, Boot, manager, Step, Line, Receiver, Sender, given, own_given, is_between, Point, after, moved, outcome, at_machine, Spot, Queue, Held, Inbox, Untaken, standing, Known, Here, Frozen}
 use Rattle.dm_mirror.proofs.Names.{Incoming, Ended, Of, Told, own_id, Placed, Mirrors, enclosed, KernelState, Turned, turn, AllOwnStand, about_of, told_of, KernelStands, AllRecords, Carries, TokensStand, destination_of, Part}
 use Rattle.dm_rule.specs.Parts as rule
+use Rattle.dm_message.specs.Sorts.{sort_of}
 
 -- behind the head of a turn
 abbrev pub begun : Point → ℕ → Point
@@ -82,8 +83,8 @@ pub record MayOwn (pt : Point) (placed : Placed) (records : AllRecords) (x : Mes
   pub encloses : enclosed x.what ≡ []
   pub bag : placed.bag x.id ≡ None
   pub untold : pt.view.told x.id ≡ None
-  pub receiver : given pt.addresses (own_gives pt.kernel pt.view pt.addresses x.id x.to.pid (kind_of x.what)) (Receiver x.id) ≡ place_of x.to
-  pub sender : given pt.addresses (own_gives pt.kernel pt.view pt.addresses x.id x.to.pid (kind_of x.what)) (Sender x.id) ≡ place_of x.sender
+  pub receiver : given pt.addresses (own_given pt.kernel pt.view pt.addresses x.id x.to.pid (sort_of (kind_of x.what))) (Receiver x.id) ≡ place_of x.to
+  pub sender : given pt.addresses (own_given pt.kernel pt.view pt.addresses x.id x.to.pid (sort_of (kind_of x.what))) (Sender x.id) ≡ place_of x.sender
   pub about : pt.view.topic ≡ about_of x.what
   -- a request to move a process is the manager's
   pub asker : kind_of x.what ≡ MessageKind.Migrate → x.sender.pid ≡ manager

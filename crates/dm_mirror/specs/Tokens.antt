@@ -17,10 +17,11 @@ use Rattle.dm_migrate.specs.Arrival.{Arrival}
 use Rattle.dm_migrate.specs.Departure.{ask_of}
 use Rattle.dm_migrate.specs.Pieces.{HasBlock, HasChunk, block_of, chunk_of, state_of}
 use Rattle.dm_kernel.specs.State as machine
-use Rattle.dm_rule.specs.Phases.{is_between, is_of_source}
+use Rattle.dm_rule.specs.Phases.{is_between, tells_onward}
 use Rattle.dm_rule.specs.Spots.{Spot, standing}
 use Rattle.dm_rule.specs.View.{Of, Told, View}
 use Rattle.dm_places.specs.Placed.{Placed}
+use Rattle.dm_message.specs.Sorts.{sort_of}
 
 -- the chunks of a process's state
 abbrev pub chunks : Process → ℕ
@@ -51,7 +52,7 @@ Carries p x k n a w = ⊥
 
 -- the machine that the process comes to: the source's messages go there, and the others come from there
 abbrev pub destination_of : MsgId → Told → ℕ
-destination_of i t = if is_of_source t.kind then t.receiver.home else i.from.home
+destination_of i t = if tells_onward (sort_of t.kind) then t.receiver.home else i.from.home
 
 -- what each machine knows of each process
 abbrev pub AllRecords : Type 0

@@ -1,11 +1,12 @@
 -- The count of an address that a process or a server has doesn't fall until a step gives it a new one.
 use Rattle.dm_movelaws.proofs.Names.{◌≡◌, ℕ, ◌≤◌, ◌||◌, Bool, true, false, List, [], ◌∷◌, refl, ap, ◌∙◌, sym, subst, arith, nat_tests, Option, Some, Pid, Place, MsgId, MessageKind, OneKernel, bind-is, Line, Addresses, Holder, Receiver}
-use Rattle.dm_movelaws.proofs.Names.{Gets, holder_eq, given, gives, belongs_to, leads_to, forwards, all_follow, own_gives, first_gives, addresses_after, Point, label_of, kernel_after, moved, after_line, after, View, Told, is_owned}
+use Rattle.dm_movelaws.proofs.Names.{Gets, holder_eq, given, gives, belongs_to, leads_to, forwards, all_follow, own_given, first_gives, addresses_after, Point, label_of, kernel_after, moved, after_line, after, View, Told, is_owned}
 use Rattle.dm_movelaws.proofs.Names.{gives_to, is_filled, in_next, refilled, CountsStay, CountsKept, Updated}
 use Rattle.dm_rule.specs.View as view
 use Rattle.dm_movelaws.proofs.After.{group_after}
 use Rattle.dm_movelaws.proofs.Updates.Always.{updates_always}
 use Rattle.dm_movelaws.proofs.Promise.Slots.{neither as either, not_given}
+use Rattle.dm_message.specs.Sorts.{sort_of}
 
 abbrev count_of : Addresses → Holder → ℕ
 count_of a h = (a h).moves
@@ -24,7 +25,7 @@ follows_none : (v : View) (a : Addresses) (p : Pid) (h : Holder) (is : List MsgI
 follows_none v a p h [] e = refl
 follows_none v a p h (i ∷ is) e = ap (λ (c : Bool). c || gives_to h (all_follow v a p is)) (no_receiver i h e) ∙ follows_none v a p h is e
 
-own_none : (s : OneKernel) (v : View) (a : Addresses) (id : MsgId) (r : Pid) (h : Holder) (x : MessageKind) → is_owned h ≡ true → gives_to h (own_gives s v a id r x) ≡ false
+own_none : (s : OneKernel) (v : View) (a : Addresses) (id : MsgId) (r : Pid) (h : Holder) (x : MessageKind) → is_owned h ≡ true → gives_to h (own_given s v a id r (sort_of x)) ≡ false
 own_none s v a id r h x e = grind (arith, nat_tests)
 
 first_none : (h : Holder) (o : Option Told) (gs : List Gets) → gives_to h gs ≡ false → gives_to h (first_gives o gs) ≡ false

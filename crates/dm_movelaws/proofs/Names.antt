@@ -40,13 +40,13 @@ pub use Rattle.dm_rule.proofs.Names.{About, Addresses, AddressesOn, Again, Answe
 pub use Rattle.dm_rule.proofs.Names.{Load, MessageKind, Moves, Name, NamedLink, NothingElse, Nowhere, Of, Over, Owner, Owns, Pair, Part, Phase, Place, Point, Queue, Receiver, Rests, Routes, Says, Sender, ServerSends, Slot, Sort, Sound}
 pub use Rattle.dm_rule.proofs.Names.{Spares, Spelled, Spot, Stage, StandsOutside, StandsRight, Step, StoodOnTrail, Target, Told, Trail, Trails, TrailsAlways, Transmits, Trodden, Unknown, Untaken, View, accepts, actor, addresses_after}
 pub use Rattle.dm_rule.proofs.Names.{after, after_head, after_line, after_proto, after_put, after_step, alive-is, all_follow, along, answers_move, ascends, at_machine, at_pair, at_record, behind, behind_count, belongs_to, bind-is}
-pub use Rattle.dm_rule.proofs.Names.{board_takes_lem, both_true, child_links, chunks_of, counts, counts_process, destination, enclosed_from, encloses, ended_told, ends_move-is, filter, first_gives, first_point, first_trails, first_trodden}
-pub use Rattle.dm_rule.proofs.Names.{first_view, forwarded_for, forwards, forwards_on, front_of, given, gives, gives_piece, goes_out, goes_round, gone_to, group_of, handled, handled_first, hears, held_for, here_told, holder_eq, id_eq-is}
-pub use Rattle.dm_rule.proofs.Names.{id_eq-same, ids_at, is_away, is_behind, is_between, is_counted, is_dropped, is_due, is_early, is_here, is_kernels, is_over, is_pid, is_restart, is_told_back, kernel_after, kernel_hears, kernel_told}
-pub use Rattle.dm_rule.proofs.Names.{kills, kind_comes, kind_leaves, knowing, knows, label_of, lands-is, leads_to, leaves, leaves_for, left_true, length-append, lines_of, link_target, machine_in, manager_gets, manager_sends}
-pub use Rattle.dm_rule.proofs.Names.{manager_takes_lem, manager_tells, migrates, move_target, moved, name_link, not_server, outcome, own_given, own_gives, own_id, packet_line, pending_of, pid_eq-is, pid_eq-same, pieces_of, place_told}
-pub use Rattle.dm_rule.proofs.Names.{plain_kind, process_told, puts, receiver_in, receiver_of, receives_links, receives_what, released, right_true, seen, sender_in, sender_of, sends_on, sends_what, sent_at, sent_off, served_told}
-pub use Rattle.dm_rule.proofs.Names.{server_told, slice_get_cases, slice_get_within, slot_after, slot_of, sort_of, spelled, standing, start-sound, stayed, taken_id, takes_block, takes_chunk, target_of, tells_asker, times, to_kernel, to_of}
+pub use Rattle.dm_rule.proofs.Names.{board_takes_lem, both_true, child_links, chunks_of, counts, counts_process, destination, enclosed_from, encloses, told_ended, ends_move-is, filter, first_gives, first_point, first_trails, first_trodden}
+pub use Rattle.dm_rule.proofs.Names.{first_view, forwarded_for, forwards, forwards_on, front_of, given, gives, gives_piece, goes_out, goes_round, gone_to, group_of, handled, handled_first, hears, held_for, told_here, holder_eq, id_eq-is}
+pub use Rattle.dm_rule.proofs.Names.{id_eq-same, ids_at, is_away, is_behind, is_between, is_counted, is_dropped, is_due, is_early, is_here, is_kernels, is_over, is_pid, is_restart, is_told_back, kernel_after, kernel_hears, told_step}
+pub use Rattle.dm_rule.proofs.Names.{ends_by, kind_comes, kind_leaves, knowing, knows, label_of, lands-is, leads_to, leaves, leaves_for, left_true, length-append, lines_of, link_target, machine_in, manager_takes_burden, manager_sends}
+pub use Rattle.dm_rule.proofs.Names.{manager_takes_lem, manager_tells_burden, migrates, move_target, moved, name_link, not_server, outcome, own_given, own_id, packet_line, pending_of, pid_eq-is, pid_eq-same, pieces_of, place_told}
+pub use Rattle.dm_rule.proofs.Names.{plain_kind, process_told, puts, receiver_in, receiver_of, receives_links, receives_burden, released, right_true, seen, sender_in, sender_of, sends_on, sends_burden, sent_at, sent_off, served_told}
+pub use Rattle.dm_rule.proofs.Names.{told_server, slice_get_cases, slice_get_within, slot_after, slot_of, sort_of, spelled, standing, start-sound, stayed, taken_id, takes_block, takes_chunk, target_of, tells_asker, times, to_kernel, to_of}
 pub use Rattle.dm_rule.proofs.Names.{token_in, told_between, topic_by, trails_after, unmoved, untaken, updated, updates, view_after, why_ended-is, with_pair, with_ring, without_front, without_id, ◌||◌}
 pub use Rattle.dm_rule.proofs.Once.{one_of-same}
 pub use Rattle.dm_rule.proofs.Pairs.Lines.{AllFit, line_view, onward, pair_same, taken_pair, touches}
@@ -82,10 +82,10 @@ pub use Rattle.dm_rule.proofs.Trails.Treads.{KnownFits, LabelFits, LineFits, Put
 pub use Rattle.dm_rule.proofs.Trails.Within.{HeadIn, Within, forwarded_acting, held_acting, line_within, queued_acting, trail_within}
 pub use Rattle.dm_rule.proofs.Turns.{created_off, ended_off, serving_off}
 pub use Rattle.dm_rule.specs.Acts.{act_of}
-pub use Rattle.dm_rule.specs.Addresses.{creates_what}
+pub use Rattle.dm_rule.specs.Addresses.{creates_burden}
 pub use Rattle.dm_rule.specs.Ends.{Stood, alive_lines, child_lines, doing_of, each_process, end_lines, first_with, holding_lines, homes_with, inbox_lines, link_lines, name_lines, pending_lines, process_lines, queue_at, queue_lines}
 pub use Rattle.dm_rule.specs.Ends.{server_lines, slot_line, standing_of, state_lines, stood, stood_at, stream_lines}
-pub use Rattle.dm_rule.specs.Migrating.{answers_in, behind_among, holders_numbered, holders_of, slot_holders, slots_from}
+pub use Rattle.dm_rule.specs.Migrating.{answers_in, behind_among, holders_numbered, holders_of, slot_holders}
 pub use Rattle.dm_rule.specs.Phases.{is_unknown}
 pub use Rattle.dm_rule.specs.Rule.{handles, landing_parts}
 pub use Rattle.dm_rulelaws.proofs.Based.Always.{based_always, based_group}

@@ -1,8 +1,11 @@
 -- Lines that are no steps leave the kernel with places as it is, and a line that is one leads on.
 use Rattle.dm_places.proofs.Names.{◌≡◌, ℕ, List, refl, ap, ◌∙◌, sym, subst, Option, None, Some, Pid, MsgId, plain_kind, Stage, PlainMessage, MessageKind, Label, OneKernel, Step, Line, About, View, Told, after_head, after_label, handled}
-use Rattle.dm_places.proofs.Names.{view_after, Addresses, Gets, first_gives, given, own_gives, Point, Placed, Mirrors, KeepsPlaces, LinesKeep, own_none, first_none}
+use Rattle.dm_places.proofs.Names.{view_after, Addresses, Gets, first_gives, given, own_given, Point, Placed, Mirrors, KeepsPlaces, LinesKeep, own_none, first_none}
+use Rattle.std.specs.Prelude.{◌+◌, ◌==◌, not, filter}
+use Rattle.dm_rule.specs.View.{Pair}
 use Rattle.dm_rule.specs.View as view
 use Rattle.dm_places.proofs.Names.{seen}
+use Rattle.dm_message.specs.Sorts.{sort_of}
 
 -- another view, in which as many moves are counted
 pub mirrors_view : (s : OneKernel) (v w : View) (a : Addresses) (l : Placed) → w.moves ≡ v.moves → Mirrors s v a l → Mirrors s w a l
@@ -20,7 +23,7 @@ mirrors_view s v w a l e h =
       };
     }
 
-moves_kills : (v : View) (k : MessageKind) (o : Option Pid) → (view.kills k v o).moves ≡ v.moves
+moves_kills : (v : View) (k : MessageKind) (o : Option Pid) → (view.ends_by (sort_of k) v o).moves ≡ v.moves
 moves_kills v MessageKind.Kill (Some p) = refl
 moves_kills v k o = refl
 
@@ -49,7 +52,7 @@ moves_on v _ = refl
 
 moves_proto : (v : View) (o : Option Told) → (view.after_proto v o).moves ≡ v.moves
 moves_proto v None = refl
-moves_proto v (Some t) = elim t.kind as (λ k. (view.follows_up v t.about k).moves ≡ v.moves)
+moves_proto v (Some t) = elim t.kind as (λ k. (view.follows_by v t.about (sort_of k)).moves ≡ v.moves)
     [ MessageKind.State ↦ moves_on v t.about | MessageKind.Memory ↦ moves_on v t.about | _ ↦ refl ]
 
 moves_sets : (v : View) (p : Pid) (a : About) → (view.sets_off v p a).moves ≡ v.moves
@@ -63,21 +66,21 @@ says pt pt' l x e h f = subst (λ (q : Point). Mirrors q.kernel q.view q.address
 
 -- a message that was put before, and one of the kernel's, get no addresses when they are put
 pub told_keeps : (pt : Point) (from to : ℕ) (id : MsgId) (k : MessageKind) (q : Pid) (t : Told) → pt.view.told id ≡ Some t → KeepsPlaces pt (Line.Put from to id k q)
-told_keeps pt from to id k q t told = ap (λ (o : Option Told). first_gives o (own_gives pt.kernel pt.view pt.addresses id q k)) told
+told_keeps pt from to id k q t told = ap (λ (o : Option Told). first_gives o (own_given pt.kernel pt.view pt.addresses id q (sort_of k))) told
 
 pub routed_keeps : (pt : Point) (from to : ℕ) (id : MsgId) (m : PlainMessage) → KeepsPlaces pt (Line.Put from to id (plain_kind m.what) m.to)
 routed_keeps pt from to id m =
-    first_none (pt.view.told id) (own_gives pt.kernel pt.view pt.addresses id m.to (plain_kind m.what)) (own_none pt.kernel pt.view pt.addresses id m.to m.what)
+    first_none (pt.view.told id) (own_given pt.kernel pt.view pt.addresses id m.to (sort_of (plain_kind m.what))) (own_none pt.kernel pt.view pt.addresses id m.to m.what)
 
 pub lines_keep : LinesKeep
 lines_keep pt pt' l (Line.Head d) keeps h e = says pt pt' l (Line.Head d) (elim d as (λ d_. (after_head pt.view d_).moves ≡ pt.view.moves)
     [ Step.Turn m ↦ refl | _ ↦ refl ]) h (cc)
 lines_keep pt pt' l (Line.Label x) keeps h e = absurd keeps
 lines_keep pt pt' l (Line.Put from to id k q) keeps h e =
-    let gives = first_gives (pt.view.told id) (own_gives pt.kernel pt.view pt.addresses id q k) in
+    let gives = first_gives (pt.view.told id) (own_given pt.kernel pt.view pt.addresses id q (sort_of k)) in
     let v = view_after pt.view (Line.Put from to id k q) in
     says pt pt' l (Line.Put from to id k q) refl h (ap (λ (g : List Gets). record { kernel = pt.kernel; view = v; addresses = given pt.addresses g }) (sym keeps) ∙ (cc))
-lines_keep pt pt' l (Line.Taken from to n) keeps h e = says pt pt' l (Line.Taken from to n) (moves_taken _ to (view.oldest (pt.view.pair from to))) h (cc)
+lines_keep pt pt' l (Line.Taken from to n) keeps h e = says pt pt' l (Line.Taken from to n) (let p : Pair = pt.view.pair from to in let w = view.with_pair pt.view from to (record p { taken = p.taken + 1; kept = filter (λ k. not (k == n)) p.kept }) in moves_taken w to (view.oldest p)) h (cc)
 lines_keep pt pt' l (Line.Queued id) keeps h e = says pt pt' l (Line.Queued id) (moves_queued (handled pt.view id) id (view.receiver_of (pt.view.told id))) h (cc)
 lines_keep pt pt' l (Line.Held id) keeps h e = says pt pt' l (Line.Held id) (moves_held (handled pt.view id) id (view.receiver_of (pt.view.told id))) h (cc)
 lines_keep pt pt' l (Line.Forwarded id m) keeps h e = absurd keeps

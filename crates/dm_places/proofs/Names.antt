@@ -49,17 +49,17 @@ pub use Rattle.dm_rule.proofs.Homes.Steps.{OnlySlots, gives_same, made_is, only_
 pub use Rattle.dm_rule.proofs.Letters.{not_kernels}
 pub use Rattle.dm_rule.proofs.Names.{About, Addresses, Again, Answer, Child, Enclosed, Fault, Forward, Frozen, Gets, Here, Holder, Inbox, IsStep, Known, Leads, Line, Load, MessageKind, Name, NamedLink, Of, One, Owner, Owns, Pair, Part}
 pub use Rattle.dm_rule.proofs.Names.{Place, Point, Receiver, Routes, Says, Sender, SentLoad, Slot, Sort, Sound, Spelled, Spot, Stage, Step, TellsRight, Told, Transmits, Unknown, View, acting_place, addresses_after, after, after_head}
-pub use Rattle.dm_rule.proofs.Names.{after_label, after_line, after_step, all_follow, answer_gets, answer_link, ascends, at_machine, at_pid, behind, behind_count, belongs_to, bind-is, board_finds, board_gets, board_keeps, boot_home}
+pub use Rattle.dm_rule.proofs.Names.{after_label, after_line, after_step, all_follow, answer_gets, answer_link, ascends, at_machine, at_pid, behind, behind_count, belongs_to, bind-is, board_finds, board_takes_burden, board_keeps}
 pub use Rattle.dm_rule.proofs.Names.{call_gets, child_from, child_links, child_number, enclosed_from, encloses, fills, fills_by, filter_map, first_addresses, first_gives, first_point, first_view, forwarded_for, forwards, gets, given, gives}
-pub use Rattle.dm_rule.proofs.Names.{goes_out, group_of, handled, headed, id_eq-is, id_eq-same, id_eq-swap, is_kernels, is_pid, is_told_back, kernel_after, label_of, leads_to, lines_of, link_target, links_at, manager_answers, manager_gets}
-pub use Rattle.dm_rule.proofs.Names.{manager_sends, moved, name_link, nth_child, outcome, own_given, own_gives, own_id, owner_in, owner_of, packet_line, pair_window, pid_eq-is, pid_eq-same, place_in, place_known, place_named, place_of}
-pub use Rattle.dm_rule.proofs.Names.{place_of_child, place_told, plain_kind, puts, receiver_of, receives_links, receives_what, reply_eq, sends_what, serves_what, slot_after, slot_of, slots_of, slots_with, sort_of, spelled, standing}
+pub use Rattle.dm_rule.proofs.Names.{goes_out, group_of, handled, id_eq-is, id_eq-same, id_eq-swap, is_kernels, is_pid, is_told_back, kernel_after, label_of, leads_to, lines_of, link_target, links_at, manager_answers, manager_takes_burden}
+pub use Rattle.dm_rule.proofs.Names.{manager_sends, moved, name_link, nth_child, outcome, own_given, own_id, owner_in, owner_of, packet_line, pair_window, pid_eq-is, pid_eq-same, place_known, place_named, place_of}
+pub use Rattle.dm_rule.proofs.Names.{place_told, plain_kind, puts, receiver_of, receives_links, receives_burden, reply_eq, sends_burden, serves_burden, slot_after, slot_of, slots_of, slots_with, sort_of, spelled, standing}
 pub use Rattle.dm_rule.proofs.Names.{start-sound, target_of, times, told_back_gets, unmoved, updated, updated_to, view_after, when-is, why_eq}
 pub use Rattle.dm_rule.proofs.Pairs.Moves.{or_first, or_first as or_second}
 pub use Rattle.dm_rule.proofs.Requests.{by_migrates}
 pub use Rattle.dm_rule.proofs.Worked.{hi}
 pub use Rattle.dm_rule.specs.Addresses.{board_asks}
-pub use Rattle.dm_rule.specs.Migrating.{answers_in, behind_among, holders_numbered, holders_of, slot_holders, slots_from}
+pub use Rattle.dm_rule.specs.Migrating.{answers_in, behind_among, holders_numbered, holders_of, slot_holders}
 pub use Rattle.dm_rule.specs.View.{first_told, is_own}
 pub use Rattle.dm_places.specs.Changes.{Changes, StepsChangeLittle, changed, is_named, receiver_in, taken, taken_out}
 pub use Rattle.dm_places.specs.Following.{GroupNeeds, LineNeeds, MirrorsPoint, ServersApart, is_among, sent_all}

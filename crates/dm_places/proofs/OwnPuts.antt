@@ -1,18 +1,19 @@
 -- A message that a machine's kernel sends itself, where it is put for the first time.
 use Rattle.dm_places.proofs.Names.{◌≡◌, ℕ, zero, suc, ◌+◌, Bool, false, List, [], ◌∷◌, map, refl, ap, ◌∙◌, sym, subst, ◌⊎◌, inl, inr, arith, if◌then◌else◌, cond, slice_get, Option, None, Some, cases_Bool, Pid, Addr, Link, Place, pid_eq, nat_tests}
 use Rattle.dm_places.proofs.Names.{pid_of, place_of, MsgId, Message, What, Line, MessageKind, id_eq, id_of, plain_message, plain_child, child_named, manager, Manager, OneKernel, pid_eq-swap, at_machine, Told, View, is_own, own_id}
-use Rattle.dm_places.proofs.Names.{view_after, Addresses, Child, Gets, Receiver, Sender, child_from, child_number, first_gives, given, own_gives, place_of_child, unmoved, Point, moved, SameMessage, SameProcess, SameServers, two, two_off}
-use Rattle.dm_places.proofs.Names.{two_process, two_servers, Placed, Mirrors, MirrorsMessage, enclosed, MirrorsPoint, with_message, KeepsPlaces, Sort, sort_of, own_given}
+use Rattle.dm_places.proofs.Names.{view_after, Addresses, Child, Gets, Receiver, Sender, child_from, child_number, first_gives, given, own_given, unmoved, Point, moved, SameMessage, SameProcess, SameServers, two, two_off}
+use Rattle.dm_places.proofs.Names.{two_process, two_servers, Placed, Mirrors, MirrorsMessage, enclosed, MirrorsPoint, with_message, KeepsPlaces, Sort, sort_of}
 use Rattle.dm_places.proofs.Keeps.{stays_message, stays_process, stays_servers}
 use Rattle.dm_places.proofs.Following.Changed.{free_mirrors, kernel_again, places_message, this_message}
 use Rattle.dm_places.proofs.Lines.{mirrors_view}
+use Rattle.std.specs.Option.{option_map_or}
 
 -- it gets nothing then, or a receiver's and a sender's place
 abbrev OwnGives : OneKernel → View → Addresses → MsgId → Pid → Sort → Type 0
 OwnGives s v a id q w = (own_given s v a id q w ≡ []) ⊎ ((to : Place) × (from : Place) × (own_given s v a id q w ≡ two id to from))
 
 own_are_by : (s : OneKernel) (v : View) (a : Addresses) (id : MsgId) (q : Pid) (w : Sort) → OwnGives s v a id q w
-own_are_by s v a id q Sort.Request = inr (place_of_child a (child_number s q), unmoved v.acting, refl)
+own_are_by s v a id q Sort.Request = inr (option_map_or (λ c. a (Child c)) (child_number s q) (unmoved 0), unmoved v.acting, refl)
 own_are_by s v a id q (Sort.Between passage) = inr (unmoved q.home, unmoved v.acting, refl)
 own_are_by s v a id q Sort.Unsent = inr (unmoved q.home, unmoved v.acting, refl)
 own_are_by s v a id q _ = inl refl
@@ -26,7 +27,7 @@ record OnlyFor (a b : Addresses) (id : MsgId) : Type 0 where
 only_two : (a : Addresses) (id : MsgId) (to from : Place) → OnlyFor a (given a (two id to from)) id
 only_two a id to from = record { processes = two_process a id to from; others = two_off a id to from; servers = two_servers a id to from }
 
-only_own : (s : OneKernel) (v : View) (a : Addresses) (id : MsgId) (q : Pid) (k : MessageKind) → OnlyFor a (given a (own_gives s v a id q k)) id
+only_own : (s : OneKernel) (v : View) (a : Addresses) (id : MsgId) (q : Pid) (k : MessageKind) → OnlyFor a (given a (own_given s v a id q (sort_of k))) id
 only_own s v a id q k = elim (own_are_by s v a id q (sort_of k)) [
   | inl e ↦ subst (λ (g : List Gets). OnlyFor a (given a g) id) (sym e) (record { processes = stays_process a; others = λ i e. stays_message a i; servers = stays_servers a })
   | inr e ↦ subst (λ (g : List Gets). OnlyFor a (given a g) id) (sym e.2) (only_two a id e.0 e.1)
@@ -34,13 +35,13 @@ only_own s v a id q k = elim (own_are_by s v a id q (sort_of k)) [
 
 -- a message without links that has its places by then
 pub own_put_mirrors : (pt : Point) (l : Placed) (from to : ℕ) (k : MessageKind) (q : Pid) (y : Message) → MirrorsPoint pt l → plain_message y ≡ None → enclosed y.what ≡ [] → pt.kernel.bag y.id ≡ None → pt.view.told y.id ≡ None
-    → given pt.addresses (own_gives pt.kernel pt.view pt.addresses y.id q k) (Receiver y.id) ≡ place_of y.to → given pt.addresses (own_gives pt.kernel pt.view pt.addresses y.id q k) (Sender y.id) ≡ place_of y.sender
+    → given pt.addresses (own_given pt.kernel pt.view pt.addresses y.id q (sort_of k)) (Receiver y.id) ≡ place_of y.to → given pt.addresses (own_given pt.kernel pt.view pt.addresses y.id q (sort_of k)) (Sender y.id) ≡ place_of y.sender
     → MirrorsPoint (moved pt (Line.Put from to y.id k q) pt.kernel) (with_message l y.id (Some y))
 own_put_mirrors pt l from to k q y h plain none out told receiver sender =
     let v = pt.view in
     let a = pt.addresses in
     let s = pt.kernel in
-    let gs = own_gives s v a y.id q k in
+    let gs = own_given s v a y.id q (sort_of k) in
     let b = given a gs in
     let l' = with_message l y.id (Some y) in
     let w = view_after v (Line.Put from to y.id k q) in
@@ -64,7 +65,7 @@ absent_put_mirrors pt l from to id k q h none =
     let a = pt.addresses in
     let s = pt.kernel in
     let w = view_after v (Line.Put from to id k q) in
-    let gs = own_gives s v a id q k in
+    let gs = own_given s v a id q (sort_of k) in
     let b = given a (first_gives (v.told id) gs) in
     let now : Mirrors s v b l = elim (elim (v.told id) as (λ o. (first_gives o gs ≡ []) ⊎ (first_gives o gs ≡ gs)) [ None ↦ inr refl | Some t ↦ inl refl ]) [
       | inl e ↦ subst (λ (g : List Gets). Mirrors s v (given a g) l) (sym e) h

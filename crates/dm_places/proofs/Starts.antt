@@ -1,10 +1,11 @@
 -- Where a run begins, the boot file's processes with their links mirror the first point.
 use Rattle.dm_places.proofs.Names.{◌≡◌, ℕ, zero, suc, ◌-◌, Bool, true, false, List, [], ◌∷◌, length, refl, ap, ◌∙◌, sym, subst, inl, inr, if◌then◌else◌, map, option_map, slice_get, Option, None, Some, cases_Bool, Pid, Addr, Link, pid_eq}
 use Rattle.dm_places.proofs.Names.{place_of, plain_link, Process, begun_process, BootImage, BootProcess, Boot, slots_of, Alive, Life, plain_process, memory_of, slots_with, child_at_home, plain_child, child_address, pid_eq-is, first_view}
-use Rattle.dm_places.proofs.Names.{first_addresses, boot_home, links_at, nth_child, place_in, unmoved, MirrorsProcess, started, started_at, StartMirrors}
+use Rattle.dm_places.proofs.Names.{first_addresses, links_at, nth_child, unmoved, MirrorsProcess, started, started_at, StartMirrors}
 use Rattle.dm_onekernel.specs.Start as one
 use Rattle.dm_onekernel.specs.Step as kernel
 use Rattle.dm_places.proofs.Labels.Creates.{begun_link, begun_plainly}
+use Rattle.std.specs.Option.{option_map_or}
 
 -- without places
 started_plainly_of : (b : Boot) (p : BootProcess) (o : Option BootImage)
@@ -37,7 +38,7 @@ begun_kept b p q x (Some image) name at e =
       pid = name;
       moves = refl;
       slots = λ k w there.
-          ap (λ (ls : List Link). place_in (slice_get ls k)) at ∙ ap place_in (begun_link p.links (slots_of b.format - length p.links) k w there);
+          ap (λ (ls : List Link). option_map_or (λ z. place_of z.addr) (slice_get ls k) (unmoved 0)) at ∙ ap (λ (o : Option Link). option_map_or (λ z. place_of z.addr) o (unmoved 0)) (begun_link p.links (slots_of b.format - length p.links) k w there);
       owner = λ o moving. absurd (let g : None ≡ Some o = moving in cc);
     })
 
@@ -51,7 +52,7 @@ started_kept b (p ∷ ps) q x at e = elim (cases_Bool (pid_eq p.pid q)) [
       started_kept b ps q x (at ∙ ap (λ (c : Bool). if c then p.links else links_at ps q) apart) (sym (ap (λ (c : Bool). if c then started b p else started_at b ps q) apart) ∙ e)
 ]
 
-child_kept_of : (ps : List BootProcess) (n : ℕ) (c : Addr) → slice_get (map child_at_home ps) n ≡ Some c → unmoved (boot_home (slice_get ps n)) ≡ place_of c
+child_kept_of : (ps : List BootProcess) (n : ℕ) (c : Addr) → slice_get (map child_at_home ps) n ≡ Some c → unmoved (option_map_or (λ (p : BootProcess). p.pid.home) (slice_get ps n) 0) ≡ place_of c
 child_kept_of [] n c e = cc
 child_kept_of (p ∷ ps) zero c e = let f : child_at_home p ≡ c = cc in ap place_of f
 child_kept_of (p ∷ ps) (suc n) c e = child_kept_of ps n c e
@@ -72,7 +73,7 @@ start_mirrors b = record {
     process = λ q x e. started_kept b b.processes q x refl e;
     message = λ i m e. absurd (let f : None ≡ Some m = e in cc);
     name = λ n k e. absurd (let f : None ≡ Some k = e in cc);
-    child = λ n c e. (elim n as (λ n_. child_address (map child_at_home b.processes) n_ ≡ Some c → unmoved (boot_home (nth_child b.processes n_)) ≡ place_of c)
+    child = λ n c e. (elim n as (λ n_. child_address (map child_at_home b.processes) n_ ≡ Some c → unmoved (option_map_or (λ (p : BootProcess). p.pid.home) (nth_child b.processes n_) 0) ≡ place_of c)
         [ zero ↦ λ e_. cc | suc f ↦ λ e_. child_kept_of b.processes f c e_ ]) e;
     answer = λ n r e. absurd (let f : None ≡ Some r = e in cc);
     asker = λ p k e. absurd (let f : None ≡ Some k = e in cc);

@@ -18,12 +18,13 @@ use Rattle.dm_line.specs.declared.line.Line.{Line}
 use Rattle.dm_line.specs.declared.line.Line.TheVariants as line
 use Rattle.dm_line.specs.declared.line.Stage.TheVariants as stage
 use Rattle.dm_rule.specs.View.{View}
-use Rattle.dm_rule.specs.Addresses.{Addresses, addresses_after, first_gives, own_gives}
+use Rattle.dm_rule.specs.Addresses.{Addresses, addresses_after, first_gives, own_given}
 use Rattle.dm_rule.specs.Homes.{ascends}
 use Rattle.dm_rule.specs.Point.{Point, after_line, first_point}
 use Rattle.dm_places.specs.Placed.{Placed, Mirrors}
 use Rattle.dm_places.specs.PlacedStart.{placed_start}
 use Rattle.dm_places.specs.PlacedStep.{placed_step}
+use Rattle.dm_message.specs.Sorts.{sort_of}
 
 -- what a label needs beside a mirror: the servers act on machine 0, and the manager's requests have ascending numbers; a
 -- process that is made now hasn't moved yet; a request to move has the name of one of the manager's messages, and
@@ -59,7 +60,7 @@ abbrev pub KeepsPlaces : Point → Line → Type 0
 KeepsPlaces pt (line.Head d) = ⊤
 KeepsPlaces pt (line.Idle m) = ⊤
 KeepsPlaces pt (line.Label e) = ⊥
-KeepsPlaces pt (line.Put from to id k q) = first_gives (pt.view.told id) (own_gives pt.kernel pt.view pt.addresses id q k) ≡ []
+KeepsPlaces pt (line.Put from to id k q) = first_gives (pt.view.told id) (own_given pt.kernel pt.view pt.addresses id q (sort_of k)) ≡ []
 KeepsPlaces pt (line.Packet from to k l) = ⊤
 KeepsPlaces pt (line.Taken from to n) = ⊤
 KeepsPlaces pt (line.Old from to n) = ⊤

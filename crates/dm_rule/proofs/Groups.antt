@@ -136,15 +136,15 @@ pub record GroupIs (b : Boot) (pt : Point) (d : Step) (w : Spelled) : Type 0 whe
   pub rest : Spelled
   pub said : spelled (moved pt (Line.Head d) pt.kernel) parts ≡ Some rest
   pub point : rest.point ≡ w.point
-  pub whole : rule.headed (Line.Head d) rest ≡ w
+  pub whole : rule.behind (Line.Head d ∷ []) rest ≡ w
 
 pub group_is : (b : Boot) (pt : Point) (d : Step) (w : Spelled) → group_of b pt d ≡ Some w → GroupIs b pt d w
 group_is b pt d w e =
-    let (parts, is, more) = bind-is (rule.outcome b pt d) (λ parts. bind (after_line pt (Line.Head d)) (λ begun. bind (spelled begun parts) (λ w. Some (rule.headed (Line.Head d) w)))) w e in
-    let (start, head, last) = bind-is (after_line pt (Line.Head d)) (λ begun. bind (spelled begun parts) (λ w. Some (rule.headed (Line.Head d) w))) w more in
-    let (rest, told, end) = bind-is (spelled start parts) (λ w. Some (rule.headed (Line.Head d) w)) w last in
+    let (parts, is, more) = bind-is (rule.outcome b pt d) (λ parts. bind (after_line pt (Line.Head d)) (λ begun. bind (spelled begun parts) (λ w. Some (rule.behind (Line.Head d ∷ []) w)))) w e in
+    let (start, head, last) = bind-is (after_line pt (Line.Head d)) (λ begun. bind (spelled begun parts) (λ w. Some (rule.behind (Line.Head d ∷ []) w))) w more in
+    let (rest, told, end) = bind-is (spelled start parts) (λ w. Some (rule.behind (Line.Head d ∷ []) w)) w last in
     let f : moved pt (Line.Head d) pt.kernel ≡ start = cc in
-    let g : rule.headed (Line.Head d) rest ≡ w = cc in
+    let g : rule.behind (Line.Head d ∷ []) rest ≡ w = cc in
     record { parts = parts; is = is; rest = rest; said = ap (λ p. spelled p parts) f ∙ told; point = ap (λ (x : Spelled). x.point) g; whole = g }
 
 -- every group keeps that each message stands once

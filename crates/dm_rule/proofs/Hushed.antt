@@ -1,6 +1,7 @@
 -- Only a put tells of a message, and counts a kernel's own.
 use Rattle.dm_rule.proofs.Names.{◌≡◌, ℕ, ◌+◌, ◌==◌, not, filter, Bool, true, false, refl, Option, None, Some, Pid, MsgId, MessageKind, Label, Step, Line, Stage, View, Told, About, Of, Target, sets_off, view_after, after_head, after_label}
-use Rattle.dm_rule.proofs.Names.{after_stage, after_proto, follows_up, asks_on, queued_for, held_for, dropped_for, forwarded_for, served_told, kills, receiver_of, taken_id, oldest, with_pair, handled}
+use Rattle.dm_rule.proofs.Names.{after_stage, after_proto, follows_by, asks_on, queued_for, held_for, dropped_for, forwarded_for, served_told, ends_by, receiver_of, taken_id, oldest, with_pair, handled}
+use Rattle.dm_message.specs.Sorts.{sort_of}
 
 -- nothing is told or counted
 pub record Hushed (v w : View) : Type 0 where
@@ -20,7 +21,7 @@ taken_hush v b (Some id) = record { count = refl; told = refl }
 
 served_hush : (v : View) (o : Option Told) → Hushed v (served_told v o)
 served_hush v None = hush v
-served_hush v (Some t) = elim t.kind as (λ k. Hushed v (kills k v (Some t.receiver))) [ MessageKind.Kill ↦ record { count = refl; told = refl } | _ ↦ hush v ]
+served_hush v (Some t) = elim t.kind as (λ k. Hushed v (ends_by (sort_of k) v (Some t.receiver))) [ MessageKind.Kill ↦ record { count = refl; told = refl } | _ ↦ hush v ]
 
 asks_hush : (v : View) (a : About) → Hushed v (asks_on v a)
 asks_hush v (Of p) = record { count = refl; told = refl }
@@ -28,7 +29,7 @@ asks_hush v _ = hush v
 
 proto_hush : (v : View) (o : Option Told) → Hushed v (after_proto v o)
 proto_hush v None = record { count = refl; told = refl }
-proto_hush v (Some t) = let h = elim t.kind as (λ k. Hushed v (follows_up v t.about k))
+proto_hush v (Some t) = let h = elim t.kind as (λ k. Hushed v (follows_by v t.about (sort_of k)))
     [ MessageKind.State ↦ asks_hush v t.about | MessageKind.Memory ↦ asks_hush v t.about | _ ↦ hush v ] in record { count = h.count; told = h.told }
 
 label_hush : (v : View) (l : Label) → Hushed v (after_label v l)

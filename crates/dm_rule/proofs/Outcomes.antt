@@ -54,6 +54,6 @@ by_parts P none more (p ∷ ps) pt w e =
     let f : behind ls z ≡ w = cc in subst (P (p ∷ ps) pt) f (more p ps pt next ls z lines leads (by_parts P none more ps next z is))
 
 -- a group is its head and what is spelled behind it
-pub by_group : (P : Spelled → Type 0) (b : Boot) (pt : Point) (d : Step) (w : Spelled) → ((ps : List Part) (rest : Spelled) → rule.outcome b pt d ≡ Some ps → spelled (moved pt (Line.Head d) pt.kernel) ps ≡ Some rest → P (rule.headed (Line.Head d) rest))
+pub by_group : (P : Spelled → Type 0) (b : Boot) (pt : Point) (d : Step) (w : Spelled) → ((ps : List Part) (rest : Spelled) → rule.outcome b pt d ≡ Some ps → spelled (moved pt (Line.Head d) pt.kernel) ps ≡ Some rest → P (rule.behind (Line.Head d ∷ []) rest))
     → group_of b pt d ≡ Some w → P w
 by_group P b pt d w h e = let g = group_is b pt d w e in subst P g.whole (h g.parts g.rest g.is g.said)

@@ -6,7 +6,7 @@ pub mod Migrating
 pub mod Turns
 pub mod Comes
 use Rattle.dm_rule.proofs.Names.{◌≡◌, ℕ, ◌≤◌, ◌==◌, ◌&&◌, Bool, true, false, List, [], ◌∷◌, refl, ap, ◌∙◌, sym, subst, arith, ◌≢◌, slice_get, Some, false≢true, nat_tests, Boot, bind, Step, Line, at_pair, View, Pair, first_view, marked}
-use Rattle.dm_rule.proofs.Names.{Point, after_line, first_point, Part, Says, Spelled, spelled, outstanding_count, resends, arrives, outcome, headed, group_of, PairStands, HomeStands, IsStep, Leads, PairsStandAlways, migrates, Pid}
+use Rattle.dm_rule.proofs.Names.{Point, after_line, first_point, Part, Says, Spelled, spelled, outstanding_count, resends, arrives, outcome, behind, group_of, PairStands, HomeStands, IsStep, Leads, PairsStandAlways, migrates, Pid}
 use Rattle.dm_rule.proofs.Pairs.Stand.{LoadStands, WireStands-at, set_same, set_other}
 use Rattle.dm_rule.proofs.Pairs.Moves.{Paired, marked_goes}
 use Rattle.dm_rule.proofs.Pairs.Lines.{bind-is, line_view, AllFit, keeps}
@@ -47,10 +47,10 @@ record Group (b : Boot) (pt : Point) (e : Step) (w : Spelled) : Type 0 where
 
 group : (b : Boot) (pt : Point) (e : Step) (w : Spelled) → group_of b pt e ≡ Some w → Group b pt e w
 group b pt e w is =
-    let (parts, follows, more) = bind-is (outcome b pt e) (λ parts. bind (after_line pt (Line.Head e)) (λ begun. bind (spelled begun parts) (λ w. Some (headed (Line.Head e) w)))) w is in
-    let (begun, begins, last) = bind-is (after_line pt (Line.Head e)) (λ begun. bind (spelled begun parts) (λ w. Some (headed (Line.Head e) w))) w more in
-    let (rest, on, all) = bind-is (spelled begun parts) (λ w. Some (headed (Line.Head e) w)) w last in
-    let f : headed (Line.Head e) rest ≡ w = cc in
+    let (parts, follows, more) = bind-is (outcome b pt e) (λ parts. bind (after_line pt (Line.Head e)) (λ begun. bind (spelled begun parts) (λ w. Some (behind (Line.Head e ∷ []) w)))) w is in
+    let (begun, begins, last) = bind-is (after_line pt (Line.Head e)) (λ begun. bind (spelled begun parts) (λ w. Some (behind (Line.Head e ∷ []) w))) w more in
+    let (rest, on, all) = bind-is (spelled begun parts) (λ w. Some (behind (Line.Head e ∷ []) w)) w last in
+    let f : behind (Line.Head e ∷ []) rest ≡ w = cc in
     record { parts = parts; follows = follows; begun = begun; begins = begins; rest = rest; on = on; end = ap (λ (x : Spelled). x.point) f }
 
 turn_keeps : (b : Boot) (pt : Point) (m : ℕ) (w : Spelled) → Group b pt (Step.Turn m) w → Pairs pt.view → Pairs w.point.view

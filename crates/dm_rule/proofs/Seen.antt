@@ -1,8 +1,10 @@
 -- The view behind a line is what the line changes; only where a process is asked to move the topic is another.
 use Rattle.dm_rule.proofs.Names.{◌≡◌, Bool, refl, ap, subst, Option, None, Some, Pid, Label, OneKernel, Line, View, About, NothingElse, Target, view_after, label_of, seen, topic_by, after_stage, frozen_for, handled_first, target_of}
-use Rattle.dm_rule.proofs.Names.{front_told, sets_off, Stage, ℕ, Spot, Queue, ids_at, Of, Frozen, at_machine, at_record, without, IsUnasked}
+use Rattle.dm_rule.proofs.Names.{sets_off, Stage, ℕ, Spot, Queue, ids_at, Of, Frozen, at_machine, at_record, without, IsUnasked}
 use Rattle.dm_rule.specs.View as view
 use Rattle.dm_rule.proofs.Lines.{Bag, Stands, Stands-stays}
+use Rattle.std.specs.Prelude.{option_and_then}
+use Rattle.std.specs.Prelude.{slice_get}
 
 topic_is : (s : OneKernel) (a : About) (o : Option Label) → IsUnasked o → topic_by s a o ≡ a
 topic_is s a None h = refl
@@ -27,7 +29,7 @@ Stands-about bag v a h = Stands-stays bag v (view.about v a) (λ z. about_off v 
 -- where it goes, behind either
 abbrev pub aim : View → About → ℕ
 aim v (Target m) = m
-aim v a = target_of (front_told v (v.inbox v.acting))
+aim v a = target_of (option_and_then v.told (slice_get (v.inbox v.acting) 0))
 
 -- what step 1 changes, whatever was said before it, but for the inbox
 pub record SetsOff (v w : View) (p : Pid) (to : ℕ) : Type 0 where

@@ -12,13 +12,14 @@ use Rattle.dm_rule.proofs.Once.{one_of}
 use Rattle.dm_rule.proofs.Bags.{bag_dropped}
 use Rattle.dm_rule.proofs.States.{State, says_next, said, State-at, by_label}
 use Rattle.dm_rule.proofs.Homes.Servers.{and-both}
+use Rattle.dm_message.specs.Sorts.{sort_of}
 
 pub ended_off : (v : View) (p : Pid) (z : Spot) → ids_at (view.ended v p) z ≡ ids_at v z
 ended_off v p (Queue m q) = refl
 ended_off v p _ = refl
 
 -- what a label line leaves as it is
-kills_keeps : (k : MessageKind) (v : View) (p : Pid) → ((z : Spot) → ids_at (view.kills k v (Some p)) z ≡ ids_at v z) × ((i : MsgId) → (view.kills k v (Some p)).told i ≡ v.told i) × ((view.kills k v (Some p)).pair ≡ v.pair) × ((view.kills k v (Some p)).acting ≡ v.acting) × ((view.kills k v (Some p)).queue ≡ v.queue)
+kills_keeps : (k : MessageKind) (v : View) (p : Pid) → ((z : Spot) → ids_at (view.ends_by (sort_of k) v (Some p)) z ≡ ids_at v z) × ((i : MsgId) → (view.ends_by (sort_of k) v (Some p)).told i ≡ v.told i) × ((view.ends_by (sort_of k) v (Some p)).pair ≡ v.pair) × ((view.ends_by (sort_of k) v (Some p)).acting ≡ v.acting) × ((view.ends_by (sort_of k) v (Some p)).queue ≡ v.queue)
 kills_keeps MessageKind.Kill v p = (λ z. ended_off v p z, λ i. refl, refl, refl, refl)
 kills_keeps _ v p = (λ z. refl, λ i. refl, refl, refl, refl)
 

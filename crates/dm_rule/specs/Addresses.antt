@@ -1,5 +1,6 @@
 -- Addresses: the place that each link and each message names, folded from the lines beside the kernel without machines.
-use Rattle.std.specs.Prelude.{ℕ, zero, suc, ◌+◌, Bool, true, false, ◌&&◌, nat_lt, if◌then◌else◌, List, [], ◌∷◌, ◌++◌, slice_get}
+use Rattle.std.specs.Prelude.{ℕ, zero, suc, ◌+◌, Bool, true, false, ◌&&◌, nat_lt, if◌then◌else◌, is_none, option_map, option_and_then, List, [], ◌∷◌, ◌++◌, map, slice_get}
+use Rattle.std.specs.Option.{option_map_or}
 use Rattle.std.specs.declared.option.Option.{Option}
 use Rattle.std.specs.declared.option.Option.TheVariants.{None, Some}
 use Rattle.dm_link.specs.declared.Pid.{Pid}
@@ -15,7 +16,7 @@ pub use Rattle.dm_message.specs.Told.{is_told_back}
 use Rattle.dm_onekernel.specs.declared.boot.BootProcess.{BootProcess}
 use Rattle.dm_onekernel.specs.declared.boot.Boot.{Boot}
 use Rattle.dm_onekernel.specs.Boot.{switchboard, manager}
-use Rattle.dm_onekernel.specs.PlainProcess.{PlainProcess, PlainStatus, Ready, Waiting, Moving}
+use Rattle.dm_onekernel.specs.PlainProcess.{PlainProcess, PlainStatus, Moving}
 use Rattle.dm_onekernel.specs.Kernel.{NamedLink, Pending, OneKernel}
 use Rattle.dm_onekernel.specs.Manager as manage
 use Rattle.dm_onekernel.specs.Step as kernel
@@ -24,8 +25,8 @@ use Rattle.dm_rule.specs.Acts.{Act, act_of}
 use Rattle.dm_rule.specs.Acts as act
 use Rattle.dm_rule.specs.View.{View, Told, About, Known, Frozen, Forward}
 use Rattle.dm_rule.specs.View as view
-pub use Rattle.dm_rule.specs.Holders.{Holder, Slot, Owner, Receiver, Sender, Enclosed, Child, Name, Answer, AskedBy, Addresses, is_asked_by, is_slot, is_owner, is_receiver, is_sender, is_enclosed, is_child, is_name_holder, is_answer_holder, holder_eq, Gets, gets, given, acting_place, unmoved}
-pub use Rattle.dm_rule.specs.Given.{encloses, enclosed_from, request_gets, sends_what, sends_next, send_gets, fills, fills_by, call_gets, slot_after, receives_links, receives_what, reception_gets, answer_gets, landing_gets, serves_what, serves_alive, service_gets, child_links, creates_what, creation_gets, place_named, board_finds, board_keeps, board_asks, board_gets, manager_controls, manager_tells, manager_sends, manager_answers, manager_gets, taking_gets, gives}
+pub use Rattle.dm_rule.specs.Holders.{Holder, Slot, Owner, Receiver, Sender, Enclosed, Child, Name, Answer, AskedBy, Addresses, holder_eq, Gets, gets, given, acting_place, unmoved}
+pub use Rattle.dm_rule.specs.Given.{encloses, enclosed_from, burden_of, sends_burden, sends_next, send_gets, fills, fills_by, call_gets, slot_after, receives_links, receives_burden, reception_gets, answer_gets, landing_gets, serves_burden, service_gets, child_links, creates_burden, creation_gets, place_named, board_finds, board_keeps, board_asks, board_takes_burden, manager_controls, manager_tells_burden, manager_sends, manager_answers, manager_takes_burden, taking_gets, gives}
 
 -- a message that goes on, or that step 6 of a migration sends on, follows its receiver
 abbrev pub place_known : Known → ℕ → Place → Place
@@ -34,24 +35,20 @@ place_known (Forward at count) moves p = record { at = at; moves = count }
 place_known k moves p = p
 
 -- one message goes where the acting machine knows its receiver to be
-abbrev pub follows : View → Addresses → MsgId → Option Pid → List Gets
-follows v a id None = []
-follows v a id (Some p) = gets (Receiver id) (place_known (v.known v.acting p) (v.moves p) (a (Receiver id))) ∷ []
+abbrev pub follows : View → Addresses → Pid → MsgId → Gets
+follows v a p id = gets (Receiver id) (place_known (v.known v.acting p) (v.moves p) (a (Receiver id)))
 
 -- all these messages for a process go on
 abbrev pub all_follow : View → Addresses → Pid → List MsgId → List Gets
-all_follow v a p [] = []
-all_follow v a p (i ∷ is) = follows v a i (Some p) ++ all_follow v a p is
+all_follow v a p ids = map (follows v a p) ids
 
 -- that update goes to where the message came from, as the next message of the acting machine's kernel
 abbrev pub told_back_gets : View → Addresses → MsgId → Bool → List Gets
-told_back_gets v a id true = gets (Receiver (view.own_id v)) (a (Sender id)) ∷ gets (Sender (view.own_id v)) (unmoved v.acting) ∷ []
-told_back_gets v a id false = []
+told_back_gets v a id back = if back then gets (Receiver (view.own_id v)) (a (Sender id)) ∷ gets (Sender (view.own_id v)) (unmoved v.acting) ∷ [] else []
 
 -- a message goes on: it follows its receiver, and its sender may be told
 abbrev pub forwards : View → Addresses → MsgId → Option Told → List Gets
-forwards v a id None = []
-forwards v a id (Some t) = follows v a id (Some t.receiver) ++ told_back_gets v a id (is_told_back t.kind)
+forwards v a id told = option_map_or (λ t. follows v a t.receiver id ∷ told_back_gets v a id (is_told_back t.kind)) told []
 
 -- the number of a child of the manager, counted from n
 abbrev pub child_from : ℕ → Pid → List Pid → Option ℕ
@@ -62,92 +59,71 @@ child_from n p (q ∷ qs) = if pid_eq p q then Some n else child_from (n + 1) p 
 abbrev pub child_number : OneKernel → Pid → Option ℕ
 child_number s p = child_from 1 p s.manager.children
 
--- the manager's link to a child
-abbrev pub place_of_child : Addresses → Option ℕ → Place
-place_of_child a None = unmoved 0
-place_of_child a (Some n) = a (Child n)
-
 -- from the acting machine's kernel to another, at home
 abbrev pub goes_between : View → MsgId → Pid → List Gets
 goes_between v id q = gets (Receiver id) (unmoved q.home) ∷ gets (Sender id) (unmoved v.acting) ∷ []
 
--- a kernel's own message, when it is first put: a request to move a process goes to where the manager knows it, in the
--- manager's name; an update has its places from the forward; the others go from kernel to kernel
+-- a kernel's own message, when it is first put: a request to move a process goes to where the manager knows it by its link to it, in
+-- the manager's name; an update has its places from the forward; the others go from kernel to kernel
 abbrev pub own_given : OneKernel → View → Addresses → MsgId → Pid → Sort → List Gets
-own_given s v a id q sort.Request = gets (Receiver id) (place_of_child a (child_number s q)) ∷ gets (Sender id) (unmoved v.acting) ∷ []
+own_given s v a id q sort.Request = gets (Receiver id) (option_map_or (λ n. a (Child n)) (child_number s q) (unmoved 0)) ∷ gets (Sender id) (unmoved v.acting) ∷ []
 own_given s v a id q (sort.Between passage) = goes_between v id q
 own_given s v a id q sort.Unsent = goes_between v id q
 own_given s v a id q w = []
 
-abbrev pub own_gives : OneKernel → View → Addresses → MsgId → Pid → MessageKind → List Gets
-own_gives s v a id q k = own_given s v a id q (sort_of k)
-
 -- only a message's first put gives addresses
 abbrev pub first_gives : Option Told → List Gets → List Gets
-first_gives None g = g
-first_gives (Some t) g = []
+first_gives told g = if is_none told then g else []
 
 -- what an update is about: where a process is
 abbrev pub place_told : About → Option (Pid × Place)
 place_told (view.Place p at moves) = Some (p, record { at = at; moves = moves })
 place_told a = None
 
--- whose address it is that a holder has: a process's or a server's own, or a message's, as is that of who asked a process to move
+-- whose address it is that a holder has: a process's or a server's own. No other's are: those of a message, as is that of who asked a
+-- process to move
 abbrev pub belongs_to : Pid → Holder → Bool
 belongs_to q (Slot p k) = pid_eq p q
 belongs_to q (Owner p) = pid_eq p q
-belongs_to q (Receiver id) = false
-belongs_to q (Sender id) = false
-belongs_to q (Enclosed id k) = false
 belongs_to q (Child n) = pid_eq q manager
 belongs_to q (Name n) = pid_eq q switchboard
 belongs_to q (Answer n) = pid_eq q manager
-belongs_to q (AskedBy p) = false
+belongs_to q h = false
 
 -- whom a link leads to, if there is one
 abbrev pub link_target : Option PlainLink → Option Pid
-link_target None = None
-link_target (Some l) = Some l.to
+link_target link = option_map (λ l. l.to) link
 
 -- the link in a slot of a process
 abbrev pub slot_of : Option PlainProcess → ℕ → Option PlainLink
-slot_of None k = None
-slot_of (Some x) k = link_at x.links k
+slot_of process k = option_and_then (λ x. link_at x.links k) process
 
 -- whose area a process moves data to or from
 abbrev pub owner_in : PlainStatus → Option Pid
-owner_in Ready = None
-owner_in (Waiting mask base cap_) = None
 owner_in (Moving dir owner base own left pending) = Some owner
+owner_in status = None
 
 abbrev pub owner_of : Option PlainProcess → Option Pid
-owner_of None = None
-owner_of (Some x) = owner_in x.status
+owner_of process = option_and_then (λ x. owner_in x.status) process
 
 abbrev pub name_link : Option NamedLink → Option PlainLink
-name_link None = None
-name_link (Some k) = Some k.link
+name_link name = option_map (λ k. k.link) name
 
 abbrev pub answer_link : Option Pending → Option PlainLink
-answer_link None = None
-answer_link (Some r) = r.answer
+answer_link request = option_and_then (λ r. r.answer) request
 
 -- the process that a holder's address leads to, a row a holder; a message's addresses are updated on its way, not here, nor is
--- where the answer to a request to move goes
+-- where the answer to a request to move goes: these have none
 abbrev pub leads_to : OneKernel → Holder → Option Pid
 leads_to s (Slot p k) = link_target (slot_of (kernel.alive (s.processes p)) k)
 leads_to s (Owner p) = owner_of (kernel.alive (s.processes p))
-leads_to s (Receiver id) = None
-leads_to s (Sender id) = None
-leads_to s (Enclosed id k) = None
 leads_to s (Child n) = manage.child_numbered s.manager.children n
 leads_to s (Name n) = link_target (name_link (slice_get s.switchboard.names n))
 leads_to s (Answer n) = link_target (answer_link (manage.pending_numbered n s.manager.pending))
-leads_to s (AskedBy p) = None
+leads_to s h = None
 
 abbrev pub is_pid : Pid → Option Pid → Bool
-is_pid p None = false
-is_pid p (Some q) = pid_eq p q
+is_pid p other = option_map_or (pid_eq p) other false
 
 -- an address of q's that leads to p and knows fewer moves of it
 abbrev pub is_behind : OneKernel → Addresses → Pid → Pid → ℕ → Holder → Bool
@@ -155,19 +131,16 @@ is_behind s a q p moves h = belongs_to q h && (is_pid p (leads_to s h) && nat_lt
 
 -- an update at q: each address of q's that is behind names the place told
 abbrev pub updated_to : OneKernel → Addresses → Option Pid → Option (Pid × Place) → Addresses
-updated_to s a None t h = a h
-updated_to s a (Some q) None h = a h
-updated_to s a (Some q) (Some t) h = if is_behind s a q t.0 t.1.moves h then t.1 else a h
+updated_to s a to told h = option_map_or (λ q. option_map_or (λ t. if is_behind s a q t.0 t.1.moves h then t.1 else a h) told (a h)) to (a h)
 
 -- by what was told of the update when it was first put
 abbrev pub updated : OneKernel → View → Addresses → Option Told → Addresses
-updated s v a None h = a h
-updated s v a (Some t) h = updated_to s a (Some t.receiver) (place_told t.about) h
+updated s v a told h = option_map_or (λ t. updated_to s a (Some t.receiver) (place_told t.about) h) told (a h)
 
 -- by the sort of a line
 abbrev pub addresses_by : OneKernel → View → Addresses → Act → Addresses
 addresses_by s v a (act.Steps l) = given a (gives s v a l)
-addresses_by s v a (act.Routes from to id k q) = given a (first_gives (v.told id) (own_gives s v a id q k))
+addresses_by s v a (act.Routes from to id k q) = given a (first_gives (v.told id) (own_given s v a id q (sort_of k)))
 addresses_by s v a (act.GoesOn id) = given a (forwards v a id (v.told id))
 addresses_by s v a (act.AllGoOn p) = given a (all_follow v a p (v.queue v.acting p ++ v.held v.acting p))
 addresses_by s v a (act.Updates id) = updated s v a (v.told id)
@@ -176,18 +149,9 @@ addresses_by s v a x = a
 abbrev pub addresses_after : OneKernel → View → Addresses → Line → Addresses
 addresses_after s v a l = addresses_by s v a (act_of l)
 
--- the place of a boot file's link, where there is one
-abbrev pub place_in : Option Link → Place
-place_in None = unmoved 0
-place_in (Some l) = place_of l.addr
-
 abbrev pub links_at : List BootProcess → Pid → List Link
 links_at [] q = []
 links_at (p ∷ ps) q = if pid_eq p.pid q then p.links else links_at ps q
-
-abbrev pub boot_home : Option BootProcess → ℕ
-boot_home None = 0
-boot_home (Some p) = p.pid.home
 
 abbrev pub nth_child : List BootProcess → ℕ → Option BootProcess
 nth_child ps zero = None
@@ -195,12 +159,12 @@ nth_child ps (suc n) = slice_get ps n
 
 -- the boot file gives the first
 abbrev pub first_addresses : Boot → Addresses
-first_addresses b (Slot p k) = place_in (slice_get (links_at b.processes p) k)
+first_addresses b (Slot p k) = option_map_or (λ l. place_of l.addr) (slice_get (links_at b.processes p) k) (unmoved 0)
 first_addresses b (Owner p) = unmoved 0
 first_addresses b (Receiver id) = unmoved 0
 first_addresses b (Sender id) = unmoved 0
 first_addresses b (Enclosed id k) = unmoved 0
-first_addresses b (Child n) = unmoved (boot_home (nth_child b.processes n))
+first_addresses b (Child n) = unmoved (option_map_or (λ p. p.pid.home) (nth_child b.processes n) 0)
 first_addresses b (Name n) = unmoved 0
 first_addresses b (Answer n) = unmoved 0
 first_addresses b (AskedBy p) = unmoved 0

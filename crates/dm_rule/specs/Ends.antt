@@ -1,5 +1,7 @@
 -- The lines at the end of a run: where everything stands then, by the kernel without machines, the view and the addresses.
-use Rattle.std.specs.Prelude.{ℕ, zero, suc, ◌+◌, ◌/◌, List, [], ◌∷◌, ◌++◌, length}
+use Rattle.std.specs.Prelude.{ℕ, zero, suc, ◌+◌, ◌/◌, option_map, List, [], ◌∷◌, ◌++◌, length, map}
+use Rattle.std.specs.Option.{option_map_or}
+use Rattle.std.specs.List.{enumerate_from, flat_map}
 use Rattle.std.specs.declared.option.Option.{Option}
 use Rattle.std.specs.declared.option.Option.TheVariants.{None, Some}
 use Rattle.dm_link.specs.declared.Link.{Link}
@@ -45,8 +47,7 @@ awaits (Incoming from) = Some standing.Arriving
 awaits k = None
 
 abbrev pub stood_at : ℕ → Option Standing → Option Stood
-stood_at m None = None
-stood_at m (Some s) = Some (record { at = m; standing = s })
+stood_at m found = option_map (λ s. record { at = m; standing = s }) found
 
 -- the first of n machines that has it like this
 abbrev pub first_with : (Known → Option Standing) → View → Pid → ℕ → Option Stood
@@ -65,20 +66,18 @@ doing_of (Moving dir owner base own left pending) = doing.Moving dir owner base 
 
 -- the links of the slots from k on
 abbrev pub slot_line : Addresses → Pid → ℕ → Option PlainLink → List EndLine
-slot_line a p k None = []
-slot_line a p k (Some l) = end.Link p k (leading l (a (Slot p k))) ∷ []
+slot_line a p k slot = option_map_or (λ l. end.Link p k (leading l (a (Slot p k))) ∷ []) slot []
 
 abbrev pub link_lines : Addresses → Pid → ℕ → List (Option PlainLink) → List EndLine
-link_lines a p k [] = []
-link_lines a p k (l ∷ ls) = slot_line a p k l ++ link_lines a p (k + 1) ls
+link_lines a p k ls = flat_map (λ e. slot_line a p e.0 e.1) (enumerate_from k ls)
 
 abbrev pub state_lines : Addresses → Pid → PlainProcess → List EndLine
 state_lines a p x =
     end.Registers p x.regs.r x.regs.pc ∷ memory_lines p x.memory (length x.memory / 256) ++ link_lines a p 0 x.links
 
 abbrev pub alive_lines : Addresses → Pid → PlainProcess → Option Stood → List EndLine
-alive_lines a p x None = []
-alive_lines a p x (Some s) = end.Process p s.at s.standing (doing_of x.status) x.stopped x.sent ∷ state_lines a p x
+alive_lines a p x found =
+    option_map_or (λ s. end.Process p s.at s.standing (doing_of x.status) x.stopped x.sent ∷ state_lines a p x) found []
 
 abbrev pub process_lines : Point → Pid → Option Life → List EndLine
 process_lines pt p None = []
@@ -87,8 +86,7 @@ process_lines pt p (Some (kernel.Ended because)) = end.Ended p because ∷ []
 
 -- all of the first homes
 abbrev pub homes_with : Point → (Pid → List EndLine) → ℕ → List EndLine
-homes_with pt f zero = []
-homes_with pt f (suc home) = homes_with pt f home ++ home_with f home (pt.kernel.made home)
+homes_with pt f n = each_machine (λ home. home_with f home (pt.kernel.made home)) n
 
 -- for each process that was ever made, by home and by number
 abbrev pub each_process : Point → (Pid → List EndLine) → List EndLine
@@ -96,22 +94,18 @@ each_process pt f = homes_with pt f pt.kernel.machines
 
 -- the switchboard's names from place n on, in order
 abbrev pub name_lines : Addresses → ℕ → List NamedLink → List EndLine
-name_lines a n [] = []
-name_lines a n (k ∷ ks) = end.Name (record { items = k.name }) (leading k.link (a (Name n))) ∷ name_lines a (n + 1) ks
+name_lines a n ks = map (λ e. end.Name (record { items = e.1.name }) (leading e.1.link (a (Name e.0)))) (enumerate_from n ks)
 
 -- the manager's children from number n on
 abbrev pub child_lines : Addresses → ℕ → List Pid → List EndLine
-child_lines a n [] = []
-child_lines a n (p ∷ ps) = end.Child n p (a (Child n)).at ∷ child_lines a (n + 1) ps
+child_lines a n ps = map (λ e. end.Child e.0 e.1 (a (Child e.0)).at) (enumerate_from n ps)
 
 abbrev pub pending_lines : List Pending → List EndLine
-pending_lines [] = []
-pending_lines (r ∷ rs) = end.Pending (id_of manager r.n) ∷ pending_lines rs
+pending_lines rs = map (λ r. end.Pending (id_of manager r.n)) rs
 
 -- the queue of a process, on the machine where it is
 abbrev pub queue_at : View → Pid → Option Stood → List EndLine
-queue_at v p None = []
-queue_at v p (Some s) = list_line (end.Queue p) (v.queue s.at p)
+queue_at v p found = option_map_or (λ s. list_line (end.Queue p) (v.queue s.at p)) found []
 
 abbrev pub queue_lines : Point → List EndLine
 queue_lines pt = each_process pt (λ p. queue_at pt.view p (first_with standing_of pt.view p pt.kernel.machines))

@@ -1,5 +1,7 @@
 -- The addresses that each step of the kernel without machines gives, a row a label.
 use Rattle.std.specs.Prelude.{ℕ, ◌+◌, if◌then◌else◌, List, [], ◌∷◌, ◌++◌, length, map, slice_set}
+use Rattle.std.specs.Option.{option_map_or}
+use Rattle.std.specs.List.{enumerate_from}
 use Rattle.std.specs.declared.option.Option.{Option}
 use Rattle.std.specs.declared.option.Option.TheVariants.{None, Some}
 use Rattle.dm_link.specs.declared.Pid.{Pid}
@@ -56,43 +58,32 @@ burden_of (what.Moved outcome) = Nothing
 
 -- the links of a message, in order, from places that are given
 abbrev pub encloses : MsgId → ℕ → List Place → List Gets
-encloses id k [] = []
-encloses id k (p ∷ ps) = gets (Enclosed id k) p ∷ encloses id (k + 1) ps
+encloses id k ps = map (λ e. gets (Enclosed id e.0) e.1) (enumerate_from k ps)
 
 -- the places of a message's links from place k on
 abbrev pub enclosed_from : Addresses → MsgId → ℕ → List PlainLink → List Place
-enclosed_from a id k [] = []
-enclosed_from a id k (l ∷ ls) = a (Enclosed id k) ∷ enclosed_from a id (k + 1) ls
-
--- a process asks for the first piece of a data move: over its link in slot r1, whose place is then the owner's too
-abbrev pub request_gets : View → Addresses → Pid → PlainProcess → MsgId → List Gets
-request_gets v a p x id =
-    gets (Receiver id) (a (Slot p (reg x.regs 1))) ∷ gets (Sender id) (acting_place v p) ∷ gets (Owner p) (a (Slot p (reg x.regs 1))) ∷ []
+enclosed_from a id k ls = map (λ e. a (Enclosed id e.0)) (enumerate_from k ls)
 
 -- a process sends: over its link in slot r1, from where it is; the links that it encloses keep their places; what isn't a user
--- message begins a data move
+-- message asks for the first piece of a data move, and the link's place is then the owner's too
 abbrev pub sends_burden : View → Addresses → Pid → PlainProcess → MsgId → Burden → List Gets
 sends_burden v a p x id (Letter code channel body links) =
     gets (Receiver id) (a (Slot p (reg x.regs 1))) ∷ gets (Sender id) (acting_place v p) ∷ encloses id 0 (map (λ k. a (Slot p k)) (calls.listed x))
-sends_burden v a p x id w = request_gets v a p x id
-
-abbrev pub sends_what : View → Addresses → Pid → PlainProcess → MsgId → PlainWhat → List Gets
-sends_what v a p x id w = sends_burden v a p x id (burden_of w)
+sends_burden v a p x id w =
+    gets (Receiver id) (a (Slot p (reg x.regs 1))) ∷ gets (Sender id) (acting_place v p) ∷ gets (Owner p) (a (Slot p (reg x.regs 1))) ∷ []
 
 -- only a call that sends gives addresses
 abbrev pub sends_next : View → Addresses → Pid → PlainProcess → MsgId → Option kernel.Trap → List Gets
-sends_next v a p x id (Some (kernel.Calls number (calls.Sends m y))) = sends_what v a p x id m.what
+sends_next v a p x id (Some (kernel.Calls number (calls.Sends m y))) = sends_burden v a p x id (burden_of m.what)
 sends_next v a p x id next = []
 
 -- the send of a process that executes
 abbrev pub send_gets : OneKernel → View → Addresses → Pid → MsgId → Option PlainProcess → List Gets
-send_gets s v a p id None = []
-send_gets s v a p id (Some x) = sends_next v a p x id (kernel.next_trap s p)
+send_gets s v a p id process = option_map_or (λ x. sends_next v a p x id (kernel.next_trap s p)) process []
 
 -- a link goes into a slot, where there is one, with this place
 abbrev pub fills : Pid → Option ℕ → Place → List Gets
-fills p None place = []
-fills p (Some slot) place = gets (Slot p slot) place ∷ []
+fills p slot place = option_map_or (λ k. gets (Slot p k) place ∷ []) slot []
 
 -- only the calls that make a link or copy one fill a slot; a row a call
 abbrev pub fills_by : View → Addresses → Pid → PlainProcess → calls.CallNumber → List Gets
@@ -113,8 +104,7 @@ call_gets v a p n c x = []
 
 -- the slots that so many links go into: the lowest empty ones, in order
 abbrev pub slot_after : List (Option PlainLink) → PlainLink → Option ℕ → List (Option PlainLink)
-slot_after slots l None = slots
-slot_after slots l (Some k) = slice_set slots k (Some l)
+slot_after slots l slot = option_map_or (λ k. slice_set slots k (Some l)) slot slots
 
 -- the links of a message go into them, and keep their places
 abbrev pub receives_links : Addresses → Pid → MsgId → ℕ → List (Option PlainLink) → List PlainLink → List Gets
@@ -127,14 +117,10 @@ abbrev pub receives_burden : Addresses → Pid → MsgId → PlainProcess → Bu
 receives_burden a p id x (Letter code channel body links) = receives_links a p id 0 x.links links
 receives_burden a p id x w = []
 
-abbrev pub receives_what : Addresses → Pid → MsgId → PlainProcess → PlainWhat → List Gets
-receives_what a p id x w = receives_burden a p id x (burden_of w)
-
 -- a living process takes a message of the bag
 abbrev pub reception_gets : Addresses → Pid → MsgId → Option PlainProcess → Option PlainMessage → List Gets
-reception_gets a p id None m = []
-reception_gets a p id (Some x) None = []
-reception_gets a p id (Some x) (Some m) = receives_what a p id x m.what
+reception_gets a p id process message =
+    option_map_or (λ x. option_map_or (λ m. receives_burden a p id x (burden_of m.what)) message []) process []
 
 -- an answer goes back to where its request came from
 abbrev pub answer_gets : Addresses → MsgId → Place → List Gets
@@ -152,36 +138,24 @@ serves_burden v a id m x Asking = answer_gets a id (acting_place v m.to)
 serves_burden v a id m x Landing = landing_gets v a m.to (pieces.lands m.to x m x.status)
 serves_burden v a id m x w = []
 
-abbrev pub serves_what : View → Addresses → MsgId → PlainMessage → PlainProcess → PlainWhat → List Gets
-serves_what v a id m x w = serves_burden v a id m x (burden_of w)
-
--- only at a living process
-abbrev pub serves_alive : View → Addresses → MsgId → PlainMessage → Option PlainProcess → List Gets
-serves_alive v a id m None = []
-serves_alive v a id m (Some x) = serves_what v a id m x m.what
-
--- a message of the bag is served
+-- a message of the bag is served, only at a living process
 abbrev pub service_gets : OneKernel → View → Addresses → MsgId → Option PlainMessage → List Gets
-service_gets s v a id None = []
-service_gets s v a id (Some m) = serves_alive v a id m (kernel.alive (s.processes m.to))
+service_gets s v a id message =
+    option_map_or (λ m. option_map_or (λ x. serves_burden v a id m x (burden_of m.what)) (kernel.alive (s.processes m.to)) []) message []
 
 -- a child begins with the links that its request brought
 abbrev pub child_links : Addresses → Pid → MsgId → ℕ → List PlainLink → List Gets
-child_links a child id k [] = []
-child_links a child id k (l ∷ ls) = gets (Slot child k) (a (Enclosed id k)) ∷ child_links a child id (k + 1) ls
+child_links a child id k ls = map (λ e. gets (Slot child e.0) (a (Enclosed id e.0))) (enumerate_from k ls)
 
 -- only a request to make a process brings links to it
 abbrev pub creates_burden : Addresses → MsgId → Pid → Burden → List Gets
 creates_burden a id child (Making links) = child_links a child id 0 links
 creates_burden a id child w = []
 
-abbrev pub creates_what : Addresses → MsgId → Pid → PlainWhat → List Gets
-creates_what a id child w = creates_burden a id child (burden_of w)
-
 -- a kernel makes a process, and answers
 abbrev pub creation_gets : View → Addresses → MsgId → Pid → Option PlainMessage → List Gets
-creation_gets v a id child None = []
-creation_gets v a id child (Some m) = answer_gets a id (unmoved v.acting) ++ creates_what a id child m.what
+creation_gets v a id child message =
+    option_map_or (λ m. answer_gets a id (unmoved v.acting) ++ creates_burden a id child (burden_of m.what)) message []
 
 -- the place of a name in the switchboard's list, counted from n
 abbrev pub place_named : List ℕ → List NamedLink → ℕ → ℕ
@@ -209,9 +183,6 @@ board_takes_burden s v a id (Letter code channel body (l ∷ ls)) =
     board_asks v a id (id_of switchboard s.switchboard.sent) s.switchboard.names body (board.asks s.switchboard.names body ls)
 board_takes_burden s v a id w = []
 
-abbrev pub board_gets : OneKernel → View → Addresses → MsgId → PlainWhat → List Gets
-board_gets s v a id w = board_takes_burden s v a id (burden_of w)
-
 -- the manager's message to a child goes over its link to it
 abbrev pub manager_controls : View → Addresses → ℕ → PlainMessage → List Gets
 manager_controls v a code sent = gets (Receiver sent.id) (a (Child code)) ∷ gets (Sender sent.id) (unmoved v.acting) ∷ []
@@ -225,18 +196,14 @@ manager_tells_burden v a id code sent (Letter c channel body links) = gets (Rece
 manager_tells_burden v a id code sent Going = gets (Answer sent.id.n) (a (Enclosed id 0)) ∷ manager_controls v a code sent
 manager_tells_burden v a id code sent w = manager_controls v a code sent
 
-abbrev pub manager_tells : View → Addresses → MsgId → ℕ → PlainMessage → PlainWhat → List Gets
-manager_tells v a id code sent w = manager_tells_burden v a id code sent (burden_of w)
-
 -- what the manager sends for a user message, if anything
 abbrev pub manager_sends : View → Addresses → MsgId → ℕ → Option PlainMessage → List Gets
-manager_sends v a id code None = []
-manager_sends v a id code (Some sent) = manager_tells v a id code sent sent.what
+manager_sends v a id code message = option_map_or (λ sent. manager_tells_burden v a id code sent (burden_of sent.what)) message []
 
 -- an answer is passed on to whoever asked that a process be made, or move: over the link that was kept with request n
 abbrev pub manager_answers : View → Addresses → ℕ → Option PlainMessage → List Gets
-manager_answers v a n None = []
-manager_answers v a n (Some sent) = gets (Receiver sent.id) (a (Answer n)) ∷ gets (Sender sent.id) (unmoved v.acting) ∷ gets (Enclosed sent.id 0) (unmoved v.acting) ∷ []
+manager_answers v a n message =
+    option_map_or (λ sent. gets (Receiver sent.id) (a (Answer n)) ∷ gets (Sender sent.id) (unmoved v.acting) ∷ gets (Enclosed sent.id 0) (unmoved v.acting) ∷ []) message []
 
 -- the manager takes a message: a user's, or the answer to a request of its own
 abbrev pub manager_takes_burden : OneKernel → View → Addresses → PlainMessage → Burden → Option manage.ManagerTook → List Gets
@@ -245,25 +212,19 @@ manager_takes_burden s v a m (Letter code channel body links) (Some t) = manager
 manager_takes_burden s v a m (Made child) (Some t) = gets (Child (length s.manager.children + 1)) (unmoved child.home) ∷ manager_answers v a m.id.n t.message
 manager_takes_burden s v a m w (Some t) = manager_answers v a m.id.n t.message
 
-abbrev pub manager_gets : OneKernel → View → Addresses → PlainMessage → PlainWhat → Option manage.ManagerTook → List Gets
-manager_gets s v a m w t = manager_takes_burden s v a m (burden_of w) t
-
 -- a server takes a message of the bag
 abbrev pub taking_gets : OneKernel → View → Addresses → MsgId → Option PlainMessage → List Gets
-taking_gets s v a id None = []
-taking_gets s v a id (Some m) =
-    if pid_eq m.to switchboard then board_gets s v a id m.what
-    else manager_gets s v a m m.what (manage.manager_takes s.manager s.machines (length s.images) m m.what)
+taking_gets s v a id message =
+    option_map_or (λ m. if pid_eq m.to switchboard then board_takes_burden s v a id (burden_of m.what)
+    else manager_takes_burden s v a m (burden_of m.what) (manage.manager_takes s.manager s.machines (length s.images) m m.what)) message []
 
 -- a process that follows a request to move knows who sent it
 abbrev pub given_to_follow : Addresses → MsgId → Option PlainMessage → List Gets
-given_to_follow a id None = []
-given_to_follow a id (Some m) = gets (AskedBy m.to) (a (Sender id)) ∷ []
+given_to_follow a id message = option_map_or (λ m. gets (AskedBy m.to) (a (Sender id)) ∷ []) message []
 
 -- and answers where it is then
 abbrev pub given_at_end : View → Addresses → MsgId → Option Pid → List Gets
-given_at_end v a id None = []
-given_at_end v a id (Some p) = gets (Receiver (answer_id id)) (a (AskedBy p)) ∷ gets (Sender (answer_id id)) (acting_place v p) ∷ []
+given_at_end v a id process = option_map_or (λ p. gets (Receiver (answer_id id)) (a (AskedBy p)) ∷ gets (Sender (answer_id id)) (acting_place v p) ∷ []) process []
 
 -- what each label gives, a row a label
 abbrev pub gives : OneKernel → View → Addresses → Label → List Gets

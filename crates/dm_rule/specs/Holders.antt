@@ -24,54 +24,18 @@ pub data Holder : Type 0 where
 abbrev pub Addresses : Type 0
 Addresses = Holder → Place
 
--- whether a holder is this one: a definition for each sort of holder, and no other sort is it
-abbrev pub is_slot : Pid → ℕ → Holder → Bool
-is_slot p k (Slot q l) = pid_eq p q && (k == l)
-is_slot p k h = false
-
-abbrev pub is_owner : Pid → Holder → Bool
-is_owner p (Owner q) = pid_eq p q
-is_owner p h = false
-
-abbrev pub is_receiver : MsgId → Holder → Bool
-is_receiver i (Receiver j) = id_eq i j
-is_receiver i h = false
-
-abbrev pub is_sender : MsgId → Holder → Bool
-is_sender i (Sender j) = id_eq i j
-is_sender i h = false
-
-abbrev pub is_enclosed : MsgId → ℕ → Holder → Bool
-is_enclosed i k (Enclosed j l) = id_eq i j && (k == l)
-is_enclosed i k h = false
-
-abbrev pub is_child : ℕ → Holder → Bool
-is_child m (Child n) = m == n
-is_child m h = false
-
-abbrev pub is_name_holder : ℕ → Holder → Bool
-is_name_holder m (Name n) = m == n
-is_name_holder m h = false
-
-abbrev pub is_answer_holder : ℕ → Holder → Bool
-is_answer_holder m (Answer n) = m == n
-is_answer_holder m h = false
-
-abbrev pub is_asked_by : Pid → Holder → Bool
-is_asked_by p (AskedBy q) = pid_eq p q
-is_asked_by p h = false
-
--- two holders are the same
+-- two holders are the same: of one sort, and of the same process, message, number or place
 abbrev pub holder_eq : Holder → Holder → Bool
-holder_eq (Slot p k) h = is_slot p k h
-holder_eq (Owner p) h = is_owner p h
-holder_eq (Receiver i) h = is_receiver i h
-holder_eq (Sender i) h = is_sender i h
-holder_eq (Enclosed i k) h = is_enclosed i k h
-holder_eq (Child m) h = is_child m h
-holder_eq (Name m) h = is_name_holder m h
-holder_eq (Answer m) h = is_answer_holder m h
-holder_eq (AskedBy p) h = is_asked_by p h
+holder_eq (Slot p k) (Slot q l) = pid_eq p q && (k == l)
+holder_eq (Owner p) (Owner q) = pid_eq p q
+holder_eq (Receiver i) (Receiver j) = id_eq i j
+holder_eq (Sender i) (Sender j) = id_eq i j
+holder_eq (Enclosed i k) (Enclosed j l) = id_eq i j && (k == l)
+holder_eq (Child m) (Child n) = m == n
+holder_eq (Name m) (Name n) = m == n
+holder_eq (Answer m) (Answer n) = m == n
+holder_eq (AskedBy p) (AskedBy q) = pid_eq p q
+holder_eq g h = false
 
 -- a holder gets an address
 pub record Gets : Type 0 where

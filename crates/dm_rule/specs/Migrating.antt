@@ -1,5 +1,7 @@
 -- What migration adds to the rule: messages that are held or go on, a process that leaves and one that comes, and updates.
 use Rattle.std.specs.Prelude.{ℕ, ◌+◌, ◌/◌, Bool, ◌==◌, if◌then◌else◌, List, [], ◌∷◌, ◌++◌, length, map}
+use Rattle.std.specs.Option.{option_map_or}
+use Rattle.std.specs.List.{enumerate_from}
 use Rattle.std.specs.declared.option.Option.{Option}
 use Rattle.std.specs.declared.option.Option.TheVariants.{None, Some}
 use Rattle.dm_link.specs.declared.Pid.{Pid}
@@ -18,6 +20,7 @@ use Rattle.dm_onekernel.specs.Pieces.{answer_id}
 use Rattle.dm_onekernel.specs.PlainProcess.{PlainProcess, PlainStatus, Ready, Waiting, Moving}
 use Rattle.dm_onekernel.specs.Kernel.{MoveNote, OneKernel, Pending}
 use Rattle.dm_onekernel.specs.Step as kernel
+use Rattle.dm_line.specs.declared.line.Line.{Line}
 use Rattle.dm_line.specs.declared.line.Line.TheVariants as line
 use Rattle.dm_line.specs.declared.line.Stage.TheVariants as stage
 use Rattle.dm_rule.specs.View.{Told, Known, Unknown, Here, Frozen, Incoming, Forward, Ended, target_of}
@@ -31,20 +34,13 @@ status_size Ready = 0
 status_size (Waiting mask base cap_) = 12
 status_size (Moving dir owner base own left pending) = 27
 
-abbrev pub link_size : Option PlainLink → ℕ
-link_size None = 0
-link_size (Some l) = 24
-
 abbrev pub links_size : List (Option PlainLink) → ℕ
 links_size [] = 0
-links_size (l ∷ ls) = link_size l + links_size ls
-
-abbrev pub state_size : PlainProcess → ℕ
-state_size x = 102 + status_size x.status + links_size x.links
+links_size (l ∷ ls) = option_map_or (λ l. 24) l 0 + links_size ls
 
 -- the pieces that a process goes in: chunks of up to 512 bytes of its state, then blocks of 256 bytes of its memory
 abbrev pub chunks_of : PlainProcess → ℕ
-chunks_of x = (state_size x + 511) / 512
+chunks_of x = (102 + status_size x.status + links_size x.links + 511) / 512
 
 abbrev pub pieces_of : PlainProcess → ℕ
 pieces_of x = chunks_of x + length x.memory / 256
@@ -62,10 +58,6 @@ forwards_on a id k sender to =
 abbrev pub leaves_for : Pid → ℕ → List Part
 leaves_for p to = Says (line.Migration stage.Frozen p) ∷ Says (line.Migration stage.Asked p) ∷ to_kernel kind.Ask to ∷ []
 
--- a process is to move: to this very machine, or another
-abbrev pub moves_to : ℕ → MsgId → Pid → ℕ → List Part
-moves_to m id p to = if m == to then Says (line.Here id) ∷ [] else leaves_for p to
-
 -- a request to move is answered
 abbrev pub answers_move : MsgId → Outcome → List Part
 answers_move id o = Says (line.Label (label.Answered id o)) ∷ Routes (answer_id id) ∷ []
@@ -77,8 +69,7 @@ asked_to_move m id p to =
 
 -- a move has ended so: the request that the process followed is answered, if it followed one
 abbrev pub tells_asker : Option MoveNote → Outcome → List Part
-tells_asker None o = []
-tells_asker (Some n) o = answers_move n.id o
+tells_asker note o = option_map_or (λ n. answers_move n.id o) note []
 
 -- a machine takes a process, or says what is free
 abbrev pub accepts : ℕ → Pid → Bool → ℕ → ℕ → List Part
@@ -86,20 +77,19 @@ accepts from p has_room slots blocks =
     if has_room then Says (line.Migration stage.Accepted p) ∷ to_kernel kind.PullState from ∷ []
     else Says (line.Lacks p slots blocks) ∷ to_kernel kind.Refuse from ∷ []
 
+-- a line, and a message to the kernel that sent this one: so a piece goes out, or the next is asked for
+abbrev pub replies : MsgId → Line → MessageKind → List Part
+replies id l k = Says l ∷ to_kernel k id.from.home ∷ []
+
+abbrev pub gives_piece : MsgId → MessageKind → List Part
+gives_piece id k = replies id (line.Proto id) k
+
 -- a piece has come: where it is the last chunk the first block is asked for, and where it is the last block all is taken
 abbrev pub takes_chunk : MsgId → Pid → Bool → List Part
-takes_chunk id p last =
-    if last then Says (line.Migration stage.StateTaken p) ∷ to_kernel kind.PullBlock id.from.home ∷ []
-    else Says (line.Proto id) ∷ to_kernel kind.PullState id.from.home ∷ []
+takes_chunk id p last = if last then replies id (line.Migration stage.StateTaken p) kind.PullBlock else gives_piece id kind.PullState
 
 abbrev pub takes_block : MsgId → Pid → Bool → List Part
-takes_block id p last =
-    if last then Says (line.Migration stage.MemoryTaken p) ∷ to_kernel kind.AllTaken id.from.home ∷ []
-    else Says (line.Proto id) ∷ to_kernel kind.PullBlock id.from.home ∷ []
-
--- a piece goes out
-abbrev pub gives_piece : MsgId → MessageKind → List Part
-gives_piece id k = Says (line.Proto id) ∷ to_kernel k id.from.home ∷ []
+takes_block id p last = if last then replies id (line.Migration stage.MemoryTaken p) kind.AllTaken else gives_piece id kind.PullBlock
 
 -- all is taken: the queue and then the held messages go on, and the other machine may restart the process
 abbrev pub sends_on : ℕ → List MsgId → List Part
@@ -122,21 +112,12 @@ told_step pt m id p fits x (sort.Between sort.AllTaken) = leaves id p (pt.view.q
 told_step pt m id p fits x (sort.Between sort.Restart) = Some (Says (line.Migration stage.Restarted p) ∷ tells_asker (pt.kernel.notes p) ends.Done)
 told_step pt m id p fits x s = None
 
-abbrev pub kernel_told : Point → ℕ → MsgId → Pid → (Bool × ℕ × ℕ) → PlainProcess → MessageKind → Option (List Part)
-kernel_told pt m id p fits x k = told_step pt m id p fits x (sort_of k)
-
 -- the holders that an update of a process or a server counts
-abbrev pub slots_from : Pid → ℕ → List (Option PlainLink) → List Holder
-slots_from q k [] = []
-slots_from q k (l ∷ ls) = Slot q k ∷ slots_from q (k + 1) ls
+abbrev pub holders_numbered : {X : Type 0} → (ℕ → Holder) → ℕ → List X → List Holder
+holders_numbered f n xs = map (λ e. f e.0) (enumerate_from n xs)
 
 abbrev pub slot_holders : Pid → Option PlainProcess → List Holder
-slot_holders q None = []
-slot_holders q (Some x) = slots_from q 0 x.links
-
-abbrev pub holders_numbered : {X : Type 0} → (ℕ → Holder) → ℕ → List X → List Holder
-holders_numbered f n [] = []
-holders_numbered f n (x ∷ xs) = f n ∷ holders_numbered f (n + 1) xs
+slot_holders q process = option_map_or (λ x. holders_numbered (Slot q) 0 x.links) process []
 
 abbrev pub answers_in : List Pending → List Holder
 answers_in rs = map (λ r. Answer r.n) rs
@@ -153,20 +134,16 @@ behind_among f [] = 0
 behind_among f (h ∷ hs) = (if f h then 1 else 0) + behind_among f hs
 
 abbrev pub behind_count : OneKernel → Addresses → Pid → Option (Pid × Place) → ℕ
-behind_count s a q None = 0
-behind_count s a q (Some t) = behind_among (is_behind s a q t.0 t.1.moves) (holders_of s q)
+behind_count s a q told = option_map_or (λ t. behind_among (is_behind s a q t.0 t.1.moves) (holders_of s q)) told 0
 
 abbrev pub updates : Point → MsgId → Told → List Part
 updates pt id t = Says (line.Updated id (behind_count pt.kernel pt.addresses t.receiver (place_told t.about))) ∷ []
 
--- a kernel's own message, at a process that is here: a request to move or a notice
+-- a kernel's own message, at a process that is here: a request to move, to this very machine or another, or a notice
 abbrev pub told_here : Point → ℕ → MsgId → Told → Sort → Option (List Part)
-told_here pt m id t sort.Request = Some (moves_to m id t.receiver (target_of (Some t)))
+told_here pt m id t sort.Request = Some (if m == target_of (Some t) then Says (line.Here id) ∷ [] else leaves_for t.receiver (target_of (Some t)))
 told_here pt m id t sort.Notice = Some (updates pt id t)
 told_here pt m id t s = None
-
-abbrev pub here_told : Point → ℕ → MsgId → Told → MessageKind → Option (List Part)
-here_told pt m id t k = told_here pt m id t (sort_of k)
 
 -- at a process that has ended
 abbrev pub told_ended : MsgId → Sort → Option (List Part)
@@ -174,31 +151,28 @@ told_ended id sort.Request = Some (Says (line.NoMove id) ∷ [])
 told_ended id sort.Notice = Some (Says (line.Updated id 0) ∷ [])
 told_ended id s = None
 
-abbrev pub ended_told : MsgId → MessageKind → Option (List Part)
-ended_told id k = told_ended id (sort_of k)
+-- by what the machine knows of a message's receiver: what is done where it is here and where it has ended; else the message is held,
+-- or goes on
+abbrev pub by_known : Point → MsgId → MessageKind → Pid → Option (List Part) → Option (List Part) → Known → Option (List Part)
+by_known pt id k sender here over Unknown = None
+by_known pt id k sender here over Here = here
+by_known pt id k sender here over (Frozen to) = Some (Says (line.Held id) ∷ [])
+by_known pt id k sender here over (Incoming from) = Some (Says (line.Held id) ∷ [])
+by_known pt id k sender here over (Forward at moves) = Some (forwards_on pt.addresses id k sender at)
+by_known pt id k sender here over Ended = over
 
--- by what the machine knows of the receiver; of these messages only a request to move is answered by an update, in the
--- manager's name
+-- of these messages only a request to move is answered by an update, in the manager's name
 abbrev pub process_told : Point → ℕ → MsgId → Told → Known → Option (List Part)
-process_told pt m id t Unknown = None
-process_told pt m id t Here = here_told pt m id t t.kind
-process_told pt m id t (Frozen to) = Some (Says (line.Held id) ∷ [])
-process_told pt m id t (Incoming from) = Some (Says (line.Held id) ∷ [])
-process_told pt m id t (Forward at moves) = Some (forwards_on pt.addresses id t.kind manager at)
-process_told pt m id t Ended = ended_told id t.kind
+process_told pt m id t known = by_known pt id t.kind manager (told_here pt m id t (sort_of t.kind)) (told_ended id (sort_of t.kind)) known
 
 -- at a server, which never moves
 abbrev pub told_server : Point → MsgId → Told → Sort → Option (List Part)
 told_server pt id t sort.Notice = Some (updates pt id t)
 told_server pt id t s = None
 
-abbrev pub server_told : Point → MsgId → Told → MessageKind → Option (List Part)
-server_told pt id t k = told_server pt id t (sort_of k)
-
 -- the manager is told to move a process: not a server, one of its children, along its link to it
 abbrev pub migrates_child : Addresses → Pid → Option ℕ → List Part
-migrates_child a p None = Says (line.NoChild p) ∷ []
-migrates_child a p (Some n) = Owns kind.Migrate p (a (Child n)).at ∷ []
+migrates_child a p number = option_map_or (λ n. Owns kind.Migrate p (a (Child n)).at ∷ []) number (Says (line.NoChild p) ∷ [])
 
 abbrev pub migrates : Point → Pid → List Part
 migrates pt p =

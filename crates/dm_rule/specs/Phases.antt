@@ -27,9 +27,6 @@ tells_onward (sort.Between sort.Memory) = true
 tells_onward (sort.Between sort.Restart) = true
 tells_onward s = false
 
-abbrev pub is_of_source : MessageKind → Bool
-is_of_source k = tells_onward (sort_of k)
-
 -- a process was never made, rests on a machine, has ended on one, or moves: the kind of the message that is under way, and its
 -- name once it was put
 pub data Phase : Type 0 where
@@ -98,10 +95,10 @@ knows (Moves kind s d id) m k = if s == m then kind_leaves kind d k else if d ==
 
 -- where the message goes from and to
 abbrev pub sender_in : MessageKind → ℕ → ℕ → ℕ
-sender_in k s d = if is_of_source k then s else d
+sender_in k s d = if tells_onward (sort_of k) then s else d
 
 abbrev pub receiver_in : MessageKind → ℕ → ℕ → ℕ
-receiver_in k s d = if is_of_source k then d else s
+receiver_in k s d = if tells_onward (sort_of k) then d else s
 
 -- the next message about the process isn't put yet: so only between the lines of a group
 abbrev pub is_due : Phase → Bool

@@ -1,5 +1,8 @@
 -- Where a run stands after its lines so far.
-use Rattle.std.specs.Prelude.{List, [], ◌∷◌}
+use Rattle.std.specs.Prelude.{List, [], ◌∷◌, filter_map}
+use Rattle.std.specs.Option.{option_map_or}
+-- a label, where there is one, before others
+pub use Rattle.std.specs.List.{cons_option as with_label}
 use Rattle.std.specs.declared.option.Option.{Option}
 use Rattle.std.specs.declared.option.Option.TheVariants.{None, Some}
 use Rattle.dm_onekernel.specs.declared.boot.Boot.{Boot}
@@ -36,25 +39,17 @@ step_in x = None
 abbrev pub label_of : Line → Option Label
 label_of l = step_in (act_of l)
 
--- a label, where there is one, before others
-abbrev pub with_label : Option Label → List Label → List Label
-with_label None ls = ls
-with_label (Some l) ls = l ∷ ls
-
 -- the labels among the lines
 abbrev pub labels : List Line → List Label
-labels [] = []
-labels (l ∷ ls) = with_label (label_of l) (labels ls)
+labels ls = filter_map label_of ls
 
 -- the kernel after a line: a label is a step, and the other lines change nothing
 abbrev pub kernel_after : OneKernel → Option Label → Option OneKernel
-kernel_after s None = Some s
-kernel_after s (Some l) = kernel.step s l
+kernel_after s label = option_map_or (kernel.step s) label (Some s)
 
 -- where a process goes that is asked to move, no line says: the kernel's message does
 abbrev pub machine_in : Option PlainMessage → About
-machine_in None = NothingElse
-machine_in (Some m) = move_target m.what
+machine_in message = option_map_or (λ m. move_target m.what) message NothingElse
 
 abbrev pub topic_by : OneKernel → About → Option Label → About
 topic_by s topic (Some (label.Asked id)) = machine_in (s.bag id)

@@ -1,11 +1,17 @@
 -- The group rule: what follows the head of a group, decided by where the run stands before it.
-use Rattle.std.specs.Prelude.{ℕ, zero, suc, ◌+◌, ◌-◌, ◌/◌, ◌||◌, Bool, true, false, not, ◌==◌, ◌&&◌, nat_lt, nat_le, if◌then◌else◌, is_some, List, [], ◌∷◌, ◌++◌, length, map, slice_get}
+use Rattle.std.specs.Prelude.{ℕ, zero, suc, ◌+◌, ◌-◌, ◌/◌, Bool, true, false, not, ◌==◌, ◌&&◌, nat_lt, nat_le, if◌then◌else◌, is_some, option_map, List, [], ◌∷◌, ◌++◌, length, map, slice_get, find}
+use Rattle.std.specs.Option.{option_map_or}
+use Rattle.std.specs.List.{list_any}
+-- the numbers from n on, so many
+pub use Rattle.std.specs.List.{range_with_len as numbers_from}
 use Rattle.std.specs.declared.option.Option.{Option}
 use Rattle.std.specs.declared.option.Option.TheVariants.{None, Some}
 use Rattle.dm_link.specs.declared.Pid.{Pid}
 use Rattle.dm_link.specs.Names.{pid_of, pid_eq}
 use Rattle.dm_message.specs.declared.MsgId.{MsgId}
 use Rattle.dm_message.specs.Kinds.{plain_kind}
+use Rattle.dm_message.specs.Sorts.{Sort, sort_of}
+use Rattle.dm_message.specs.Sorts as sort
 use Rattle.dm_message.specs.declared.kind.MessageKind.{MessageKind}
 use Rattle.dm_message.specs.Plain as what
 use Rattle.dm_message.specs.Plain.{PlainMessage, PlainWhat}
@@ -35,11 +41,13 @@ use Rattle.dm_line.specs.declared.line.Line.{Line}
 use Rattle.dm_line.specs.declared.line.Line.TheVariants as line
 use Rattle.dm_line.specs.declared.line.Load.{Load}
 use Rattle.dm_line.specs.declared.line.Load.TheVariants as load
+use Rattle.dm_line.specs.Each.{sum_below}
 use Rattle.dm_rule.specs.Given as given
-use Rattle.dm_rule.specs.View.{View, Pair, SentLoad, Told, About, Of, Known, Unknown, Here, Frozen, Incoming, Forward, Ended}
-use Rattle.dm_rule.specs.Point.{Point, after_line}
+use Rattle.dm_rule.specs.View.{View, Pair, SentLoad, Told, About, Of, Known, Here, Frozen, Incoming, target_in}
+use Rattle.dm_rule.specs.Point.{Point, after_line, move_target}
 use Rattle.dm_rule.specs.Parts.{Part, Says, Routes, Transmits, Spelled, spelled, pair_window}
-use Rattle.dm_rule.specs.Migrating.{asked_to_move, forwards_on, kernel_told, server_told, process_told, migrates}
+pub use Rattle.dm_rule.specs.Parts.{behind}
+use Rattle.dm_rule.specs.Migrating.{asked_to_move, by_known, told_step, told_server, process_told, migrates}
 
 abbrev pub says : Label → Part
 says l = Says (line.Label l)
@@ -49,17 +57,12 @@ abbrev pub burden_is_awaited : ℕ → given.Burden → Bool
 burden_is_awaited mask (given.Letter code channel body links) = on_mask mask channel
 burden_is_awaited mask w = false
 
-abbrev pub what_is_awaited : ℕ → PlainWhat → Bool
-what_is_awaited mask w = burden_is_awaited mask (given.burden_of w)
-
 abbrev pub is_awaited : ℕ → Option PlainMessage → Bool
-is_awaited mask None = false
-is_awaited mask (Some m) = what_is_awaited mask m.what
+is_awaited mask message = option_map_or (λ m. burden_is_awaited mask (given.burden_of m.what)) message false
 
 -- the first of the queued messages that a process with this mask may take
 abbrev pub first_awaited : OneKernel → ℕ → List MsgId → Option MsgId
-first_awaited s mask [] = None
-first_awaited s mask (i ∷ is) = if is_awaited mask (s.bag i) then Some i else first_awaited s mask is
+first_awaited s mask queue = find (λ i. is_awaited mask (s.bag i)) queue
 
 -- a process can be served: it isn't stopped, and it is ready, or a message that it waits for is queued
 abbrev pub status_can_go : OneKernel → List MsgId → PlainStatus → Bool
@@ -68,13 +71,11 @@ status_can_go s queue (Waiting mask base cap_) = is_some (first_awaited s mask q
 status_can_go s queue (Moving dir owner base own left pending) = false
 
 abbrev pub can_go : OneKernel → List MsgId → Option PlainProcess → Bool
-can_go s queue None = false
-can_go s queue (Some x) = not x.stopped && status_can_go s queue x.status
+can_go s queue process = option_map_or (λ x. not x.stopped && status_can_go s queue x.status) process false
 
 -- the first process of a ring that can be served
 abbrev pub first_runnable : OneKernel → (Pid → List MsgId) → List Pid → Option Pid
-first_runnable s queue [] = None
-first_runnable s queue (p ∷ ps) = if can_go s (queue p) (kernel.alive (s.processes p)) then Some p else first_runnable s queue ps
+first_runnable s queue ring = find (λ p. can_go s (queue p) (kernel.alive (s.processes p))) ring
 
 -- how far a process comes: at most so many plain instructions, up to the first that isn't one
 pub record Ran : Type 0 where
@@ -84,13 +85,9 @@ pub record Ran : Type 0 where
 abbrev pub ran_one_more : Ran → Ran
 ran_one_more r = record { count = r.count + 1; machine = r.machine }
 
-abbrev pub ran_further : Machine → Option Machine → (Machine → Ran) → Ran
-ran_further m None go = record { count = 0; machine = m }
-ran_further m (Some n) go = ran_one_more (go n)
-
 abbrev pub ran : ℕ → Machine → Ran
 ran zero m = record { count = 0; machine = m }
-ran (suc k) m = ran_further m (plain_row (instruction m.regs m.bytes)) (ran k)
+ran (suc k) m = option_map_or (λ n. ran_one_more (ran k n)) (plain_row (instruction m.regs m.bytes)) (record { count = 0; machine = m })
 
 -- the queue of a process that ends goes message by message
 abbrev pub drop_parts : List MsgId → List Part
@@ -120,8 +117,7 @@ completion_parts p id (receiving.Receives x) = says (label.Receive p id) ∷ []
 completion_parts p id (receiving.Refuses reply x) = says (label.Refuse p id reply) ∷ []
 
 abbrev pub reception_parts : OneKernel → Pid → PlainProcess → Option MsgId → Option (List Part)
-reception_parts s p x None = None
-reception_parts s p x (Some id) = bind (s.bag id) (λ m. bind (receiving.completes_with p x m) (λ c. Some (completion_parts p id c)))
+reception_parts s p x first = bind first (λ id. bind (s.bag id) (λ m. bind (receiving.completes_with p x m) (λ c. Some (completion_parts p id c))))
 
 abbrev pub serves_status : ℕ → OneKernel → Pid → List MsgId → PlainProcess → PlainStatus → Option (List Part)
 serves_status quantum s p queue x Ready = Some (executes quantum p queue x (ran quantum (machine_of x)))
@@ -130,9 +126,8 @@ serves_status quantum s p queue x (Moving dir owner base own left pending) = Non
 
 -- with an empty inbox the first process of the ring that can be served is served
 abbrev pub goes_round : Boot → Point → ℕ → Option Pid → Option (List Part)
-goes_round b pt m None = Some (Says (line.Idle m) ∷ [])
-goes_round b pt m (Some p) =
-    bind (kernel.alive (pt.kernel.processes p)) (λ x. serves_status b.quantum pt.kernel p (pt.view.queue m p) x x.status)
+goes_round b pt m first =
+    option_map_or (λ p. bind (kernel.alive (pt.kernel.processes p)) (λ x. serves_status b.quantum pt.kernel p (pt.view.queue m p) x x.status)) first (Some (Says (line.Idle m) ∷ []))
 
 -- a process that is here, leaves or comes takes a slot
 abbrev pub takes_room : Known → ℕ
@@ -142,8 +137,7 @@ takes_room (Incoming from) = 1
 takes_room k = 0
 
 abbrev pub blocks_of : Option PlainProcess → ℕ
-blocks_of None = 0
-blocks_of (Some x) = length x.memory / 256
+blocks_of process = option_map_or (λ x. length x.memory / 256) process 0
 
 -- slots for processes, and blocks of memory
 pub record Room : Type 0 where
@@ -172,8 +166,7 @@ taken_at pt m zero = record { slots = 0; blocks = 0 }
 taken_at pt m (suc home) = and (taken_at pt m home) (taken_of_home pt m home (pt.kernel.made home))
 
 abbrev pub free_of : Option BootMachine → Room → Room
-free_of None t = record { slots = 0; blocks = 0 }
-free_of (Some r) t = record { slots = r.slots - t.slots; blocks = r.blocks - t.blocks }
+free_of machine t = option_map_or (λ r. record { slots = r.slots - t.slots; blocks = r.blocks - t.blocks }) machine (record { slots = 0; blocks = 0 })
 
 -- what is free of a machine: what it has, less what its processes take that are here, leaving or coming
 abbrev pub free_room : Boot → Point → ℕ → Room
@@ -184,9 +177,8 @@ has_room r blocks = nat_le 1 r.slots && nat_le blocks r.blocks
 
 -- a kernel makes the process, or says what is free
 abbrev pub creation_parts : Point → ℕ → MsgId → Room → Option BootImage → Option (List Part)
-creation_parts pt m id r None = None
-creation_parts pt m id r (Some i) =
-    Some ((if has_room r i.blocks then says (label.Created id (pid_of m (first_number + pt.kernel.made m))) else says (label.NoSpace id r.slots r.blocks)) ∷ Routes (answer_id id) ∷ [])
+creation_parts pt m id r image =
+    option_map (λ i. (if has_room r i.blocks then says (label.Created id (pid_of m (first_number + pt.kernel.made m))) else says (label.NoSpace id r.slots r.blocks)) ∷ Routes (answer_id id) ∷ []) image
 
 abbrev pub kernel_handles : Boot → Point → ℕ → MsgId → PlainWhat → Option (List Part)
 kernel_handles b pt m id (what.Create image links) = creation_parts pt m id (free_room b pt m) (slice_get b.images image)
@@ -194,16 +186,13 @@ kernel_handles b pt m id w = None
 
 -- a message that a server sends
 abbrev pub routes : Option PlainMessage → List Part
-routes None = []
-routes (Some m) = Routes m.id ∷ []
+routes sent = option_map_or (λ m. Routes m.id ∷ []) sent []
 
 abbrev pub board_took : MsgId → Option board.BoardTook → Option (List Part)
-board_took id None = None
-board_took id (Some t) = Some (says (label.Took id) ∷ routes t.answer)
+board_took id took = option_map (λ t. says (label.Took id) ∷ routes t.answer) took
 
 abbrev pub manager_parts : MsgId → Option manage.ManagerTook → Option (List Part)
-manager_parts id None = None
-manager_parts id (Some t) = Some (says (label.Took id) ∷ routes t.message)
+manager_parts id took = option_map (λ t. says (label.Took id) ∷ routes t.message) took
 
 -- an answer comes to a data move: its next request goes out, or it is done
 abbrev pub landing_parts : MsgId → Option pieces.Landed → Option (List Part)
@@ -211,48 +200,37 @@ landing_parts id None = None
 landing_parts id (Some (pieces.Next request x)) = Some (says (label.Served id) ∷ Routes request.id ∷ [])
 landing_parts id (Some (pieces.Done reply x)) = Some (says (label.Served id) ∷ [])
 
--- what a process's kernel does with a message for it, a row a kind
-abbrev pub here_handles : Point → ℕ → MsgId → PlainMessage → PlainProcess → PlainWhat → Option (List Part)
-here_handles pt m id msg x (what.User code channel body links) = Some (Says (line.Queued id) ∷ [])
-here_handles pt m id msg x what.Stop = Some (says (label.Served id) ∷ [])
-here_handles pt m id msg x what.Resume = Some (says (label.Served id) ∷ [])
-here_handles pt m id msg x what.Kill = Some (says (label.Served id) ∷ drop_parts (pt.view.queue m msg.to))
-here_handles pt m id msg x (what.Read base len) = Some (says (label.Served id) ∷ Routes (answer_id id) ∷ [])
-here_handles pt m id msg x (what.Write base bytes) = Some (says (label.Served id) ∷ Routes (answer_id id) ∷ [])
-here_handles pt m id msg x (what.Block bytes) = landing_parts id (pieces.lands msg.to x msg x.status)
-here_handles pt m id msg x what.Written = landing_parts id (pieces.lands msg.to x msg x.status)
-here_handles pt m id msg x what.Gone = landing_parts id (pieces.lands msg.to x msg x.status)
-here_handles pt m id msg x (what.Create image links) = None
-here_handles pt m id msg x (what.Created pid) = None
-here_handles pt m id msg x what.NoRoom = None
-here_handles pt m id msg x (what.Move machine) = Some (asked_to_move m id msg.to machine)
-here_handles pt m id msg x (what.Moved outcome) = None
+-- what a process's kernel does with a message for it, a row a sort; to where it is to move says the target
+abbrev pub here_takes : Point → ℕ → MsgId → PlainMessage → PlainProcess → About → Sort → Option (List Part)
+here_takes pt m id msg x target sort.Letter = Some (Says (line.Queued id) ∷ [])
+here_takes pt m id msg x target sort.Holds = Some (says (label.Served id) ∷ [])
+here_takes pt m id msg x target sort.Kills = Some (says (label.Served id) ∷ drop_parts (pt.view.queue m msg.to))
+here_takes pt m id msg x target sort.PieceAsked = Some (says (label.Served id) ∷ Routes (answer_id id) ∷ [])
+here_takes pt m id msg x target sort.PieceAnswered = landing_parts id (pieces.lands msg.to x msg x.status)
+here_takes pt m id msg x target sort.MoveAsked = Some (asked_to_move m id msg.to (target_in target))
+here_takes pt m id msg x target s = None
 
--- a message whose receiver has ended
+abbrev pub here_handles : Point → ℕ → MsgId → PlainMessage → PlainProcess → PlainWhat → Option (List Part)
+here_handles pt m id msg x w = here_takes pt m id msg x (move_target w) (sort_of (plain_kind w))
+
+-- a message whose receiver has ended: a request that only a process can grant is answered, the others of these are dropped
+abbrev pub ended_takes : MsgId → Sort → Option (List Part)
+ended_takes id sort.PieceAsked = Some (says (label.Gone id) ∷ Routes (answer_id id) ∷ [])
+ended_takes id sort.MoveAsked = Some (says (label.Gone id) ∷ Routes (answer_id id) ∷ [])
+ended_takes id sort.Letter = Some (says (label.Dropped id) ∷ [])
+ended_takes id sort.Holds = Some (says (label.Dropped id) ∷ [])
+ended_takes id sort.Kills = Some (says (label.Dropped id) ∷ [])
+ended_takes id sort.PieceAnswered = Some (says (label.Dropped id) ∷ [])
+ended_takes id s = None
+
 abbrev pub ended_handles : MsgId → PlainWhat → Option (List Part)
-ended_handles id (what.Read base len) = Some (says (label.Gone id) ∷ Routes (answer_id id) ∷ [])
-ended_handles id (what.Write base bytes) = Some (says (label.Gone id) ∷ Routes (answer_id id) ∷ [])
-ended_handles id (what.User code channel body links) = Some (says (label.Dropped id) ∷ [])
-ended_handles id what.Stop = Some (says (label.Dropped id) ∷ [])
-ended_handles id what.Resume = Some (says (label.Dropped id) ∷ [])
-ended_handles id what.Kill = Some (says (label.Dropped id) ∷ [])
-ended_handles id (what.Block bytes) = Some (says (label.Dropped id) ∷ [])
-ended_handles id what.Written = Some (says (label.Dropped id) ∷ [])
-ended_handles id what.Gone = Some (says (label.Dropped id) ∷ [])
-ended_handles id (what.Create image links) = None
-ended_handles id (what.Created pid) = None
-ended_handles id what.NoRoom = None
-ended_handles id (what.Move machine) = Some (says (label.Gone id) ∷ Routes (answer_id id) ∷ [])
-ended_handles id (what.Moved outcome) = None
+ended_handles id w = ended_takes id (sort_of (plain_kind w))
 
 -- by what the machine knows of the receiver
 abbrev pub process_handles : Point → ℕ → MsgId → PlainMessage → Known → Option (List Part)
-process_handles pt m id msg Unknown = None
-process_handles pt m id msg Here = bind (kernel.alive (pt.kernel.processes msg.to)) (λ x. here_handles pt m id msg x msg.what)
-process_handles pt m id msg (Frozen to) = Some (Says (line.Held id) ∷ [])
-process_handles pt m id msg (Incoming from) = Some (Says (line.Held id) ∷ [])
-process_handles pt m id msg (Forward at moves) = Some (forwards_on pt.addresses id (plain_kind msg.what) msg.sender at)
-process_handles pt m id msg Ended = ended_handles id msg.what
+process_handles pt m id msg known =
+    let here = bind (kernel.alive (pt.kernel.processes msg.to)) (λ x. here_handles pt m id msg x msg.what) in
+    by_known pt id (plain_kind msg.what) msg.sender here (ended_handles id msg.what) known
 
 -- the receiver is a kernel, a server or a process
 abbrev pub handles : Boot → Point → ℕ → MsgId → PlainMessage → Option (List Part)
@@ -269,38 +247,30 @@ fits r blocks = (has_room r blocks, r.slots, r.blocks)
 -- what a kernel's own message says of a process to another kernel
 abbrev pub kernel_hears : Boot → Point → ℕ → MsgId → MessageKind → About → Option (List Part)
 kernel_hears b pt m id k (Of p) =
-    bind (kernel.alive (pt.kernel.processes p)) (λ x. kernel_told pt m id p (fits (free_room b pt m) (length x.memory / 256)) x k)
+    bind (kernel.alive (pt.kernel.processes p)) (λ x. told_step pt m id p (fits (free_room b pt m) (length x.memory / 256)) x (sort_of k))
 kernel_hears b pt m id k about = None
 
 -- a message that isn't in the bag is a kernel's own: what its first put told of it
 abbrev pub hears : Boot → Point → ℕ → MsgId → Option Told → Option (List Part)
-hears b pt m id None = None
-hears b pt m id (Some t) =
-    if t.receiver.num == 0 then kernel_hears b pt m id t.kind t.about
-    else if pid_eq t.receiver switchboard then server_told pt id t t.kind
-    else if pid_eq t.receiver manager then server_told pt id t t.kind
-    else process_told pt m id t (pt.view.known m t.receiver)
+hears b pt m id told =
+    bind told (λ t. if t.receiver.num == 0 then kernel_hears b pt m id t.kind t.about
+    else if pid_eq t.receiver switchboard then told_server pt id t (sort_of t.kind)
+    else if pid_eq t.receiver manager then told_server pt id t (sort_of t.kind)
+    else process_told pt m id t (pt.view.known m t.receiver))
 
 abbrev pub comes_to : Boot → Point → ℕ → MsgId → Option PlainMessage → Option (List Part)
-comes_to b pt m id None = hears b pt m id (pt.view.told id)
-comes_to b pt m id (Some msg) = handles b pt m id msg
+comes_to b pt m id message = option_map_or (handles b pt m id) message (hears b pt m id (pt.view.told id))
 
 abbrev pub turns : Boot → Point → ℕ → List MsgId → Option (List Part)
 turns b pt m [] = goes_round b pt m (first_runnable pt.kernel (pt.view.queue m) (pt.view.ring m))
 turns b pt m (i ∷ is) = comes_to b pt m i (pt.kernel.bag i)
-
--- the numbers from n on, so many
-abbrev pub numbers_from : ℕ → ℕ → List ℕ
-numbers_from n zero = []
-numbers_from n (suc k) = n ∷ numbers_from (n + 1) k
 
 abbrev pub repeats : ℕ → ℕ → List ℕ → List Part
 repeats a b ns = map (λ n. Transmits a b (load.Data n)) ns
 
 -- what is out and not acknowledged, on the pairs from a machine to the first n
 abbrev pub outstanding_count : View → ℕ → ℕ → ℕ
-outstanding_count v m zero = 0
-outstanding_count v m (suc b) = outstanding_count v m b + (if m == b then 0 else (v.pair m b).gone - (v.pair m b).acked)
+outstanding_count v m n = sum_below (λ b. if m == b then 0 else (v.pair m b).gone - (v.pair m b).acked) n
 
 abbrev pub resends : View → ℕ → ℕ → List Part
 resends v m zero = []
@@ -308,8 +278,7 @@ resends v m (suc b) = resends v m b ++ (if m == b then [] else repeats m b (numb
 
 -- the numbers that a delivery takes: the one that has come, and those behind it that came early
 abbrev pub has : ℕ → List ℕ → Bool
-has n [] = false
-has n (k ∷ ks) = (n == k) || has n ks
+has n ks = list_any (λ k. n == k) ks
 
 abbrev pub kept_from : List ℕ → ℕ → ℕ → List ℕ
 kept_from kept n zero = []
@@ -321,13 +290,6 @@ taking_parts a b ns = map (λ n. Says (line.Taken a b n)) ns
 abbrev pub takes_on : ℕ → ℕ → ℕ → List ℕ → List Part
 takes_on a b n others = taking_parts a b (n ∷ others) ++ Transmits b a (load.Ack (n + 1 + length others)) ∷ []
 
--- data number n comes: the acknowledgement says how many have been taken then
-abbrev pub data_comes : ℕ → ℕ → Pair → ℕ → List Part
-data_comes a b p n =
-    if nat_lt n p.taken then Says (line.Old a b n) ∷ Transmits b a (load.Ack p.taken) ∷ []
-    else if nat_lt p.taken n then Says (line.Early a b n) ∷ Transmits b a (load.Ack p.taken) ∷ []
-    else takes_on a b n (kept_from p.kept (n + 1) pair_window)
-
 abbrev pub less : ℕ → ℕ → ℕ
 less m n = if nat_le m n then m else n
 
@@ -338,13 +300,16 @@ more m n = if nat_le m n then n else m
 abbrev pub let_go : Pair → ℕ → List ℕ
 let_go p acked = numbers_from p.gone (less (length p.ids - p.gone) (acked + pair_window - p.gone))
 
+-- a packet comes: for data the acknowledgement says how many have been taken then
 abbrev pub comes : ℕ → ℕ → Pair → Pair → Load → List Part
-comes a b there back (load.Data n) = data_comes a b there n
+comes a b there back (load.Data n) =
+    if nat_lt n there.taken then Says (line.Old a b n) ∷ Transmits b a (load.Ack there.taken) ∷ []
+    else if nat_lt there.taken n then Says (line.Early a b n) ∷ Transmits b a (load.Ack there.taken) ∷ []
+    else takes_on a b n (kept_from there.kept (n + 1) pair_window)
 comes a b there back (load.Ack n) = Says (line.Acked a b n) ∷ repeats b a (let_go back (more n back.acked))
 
 abbrev pub arrives : ℕ → ℕ → Pair → Pair → Option SentLoad → List Part
-arrives a b there back None = Says line.Nothing ∷ []
-arrives a b there back (Some s) = comes a b there back s.load
+arrives a b there back sent = option_map_or (λ s. comes a b there back s.load) sent (Says line.Nothing ∷ [])
 
 -- what follows the head of each directive
 abbrev pub outcome : Boot → Point → Step → Option (List Part)
@@ -353,11 +318,7 @@ outcome b pt (step.Tick m) = Some (Says (line.Resent m (outstanding_count pt.vie
 outcome b pt (step.Deliver a c k) = Some (arrives a c (pt.view.pair a c) (pt.view.pair c a) (slice_get (pt.view.pair a c).wire k))
 outcome b pt (step.Migrate p m) = Some (migrates pt p)
 
--- lines behind a head
-abbrev pub headed : Line → Spelled → Spelled
-headed l w = record { lines = l ∷ w.lines; point = w.point }
-
 -- the group of a directive, and where it leads: its head, then what follows
 abbrev pub group_of : Boot → Point → Step → Option Spelled
 group_of b pt e =
-    bind (outcome b pt e) (λ parts. bind (after_line pt (line.Head e)) (λ begun. bind (spelled begun parts) (λ w. Some (headed (line.Head e) w))))
+    bind (outcome b pt e) (λ parts. bind (after_line pt (line.Head e)) (λ begun. bind (spelled begun parts) (λ w. Some (behind (line.Head e ∷ []) w))))

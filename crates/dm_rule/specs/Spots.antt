@@ -1,5 +1,5 @@
 -- Where a message stands, and that it stands in one place.
-use Rattle.std.specs.Prelude.{◌≡◌, ◌≢◌, ◌⊎◌, ℕ, ◌+◌, Bool, true, false, if◌then◌else◌, List, [], ◌∷◌, drop}
+use Rattle.std.specs.Prelude.{◌≡◌, ◌≢◌, ◌⊎◌, ℕ, ◌+◌, Bool, true, false, if◌then◌else◌, List, [], ◌∷◌, drop, MatchOption}
 use Rattle.std.specs.declared.option.Option.{Option}
 use Rattle.std.specs.declared.option.Option.TheVariants.{None, Some}
 use Rattle.dm_link.specs.declared.Pid.{Pid}
@@ -51,5 +51,4 @@ StandsOutside false f = StandsNowhere f
 
 -- a message of the bag stands in one place; one that isn't in the bag stands nowhere, but a kernel's own in at most one place
 abbrev pub StandsRight : {M : Type 0} → MsgId → Option M → (Spot → ℕ) → Type 0
-StandsRight id None f = StandsOutside (is_kernels id) f
-StandsRight id (Some m) f = StandsOnce f
+StandsRight id message f = MatchOption message (StandsOutside (is_kernels id) f) (λ m. StandsOnce f)

@@ -1,5 +1,8 @@
 -- The view: what the printed lines say of machines, pairs, inboxes, rings and queues, folded line by line.
-use Rattle.std.specs.Prelude.{ℕ, ◌+◌, Bool, true, false, not, ◌==◌, ◌&&◌, ◌||◌, nat_le, if◌then◌else◌, List, [], ◌∷◌, ◌++◌, filter, slice_get, slice_set}
+use Rattle.std.specs.Prelude.{ℕ, ◌+◌, Bool, true, false, not, ◌==◌, ◌&&◌, ◌||◌, nat_le, if◌then◌else◌, is_none, option_map, option_and_then, List, [], ◌∷◌, ◌++◌, drop, filter, slice_get, slice_set}
+use Rattle.std.specs.Option.{option_map_or}
+-- a message's first put says what it is
+pub use Rattle.std.specs.Option.{unwrap_or as first_told}
 use Rattle.std.specs.declared.option.Option.{Option}
 use Rattle.std.specs.declared.option.Option.TheVariants.{None, Some}
 use Rattle.dm_link.specs.declared.Pid.{Pid}
@@ -91,12 +94,8 @@ own_id v = id_of (pid_of v.acting 0) (v.count v.acting)
 abbrev pub handled : View → MsgId → View
 handled v id = record v { inbox = at_machine v.inbox v.acting (without_front id (v.inbox v.acting)) }
 
-abbrev pub without_first : List MsgId → List MsgId
-without_first [] = []
-without_first (i ∷ is) = is
-
 abbrev pub handled_first : View → View
-handled_first v = record v { inbox = at_machine v.inbox v.acting (without_first (v.inbox v.acting)) }
+handled_first v = record v { inbox = at_machine v.inbox v.acting (drop 1 (v.inbox v.acting)) }
 
 abbrev pub knowing : View → Pid → Known → View
 knowing v p k = record v { known = at_record v.known v.acting p k }
@@ -108,21 +107,17 @@ abbrev pub about : View → About → View
 about v a = record v { topic = a }
 
 abbrev pub receiver_of : Option Told → Option Pid
-receiver_of None = None
-receiver_of (Some t) = Some t.receiver
+receiver_of told = option_map (λ t. t.receiver) told
 
 -- a process that a message names, in the acting machine's queues or held lists
 abbrev pub queued_for : View → MsgId → Option Pid → View
-queued_for v id None = v
-queued_for v id (Some p) = record v { queue = at_record v.queue v.acting p (v.queue v.acting p ++ id ∷ []) }
+queued_for v id to = option_map_or (λ p. record v { queue = at_record v.queue v.acting p (v.queue v.acting p ++ id ∷ []) }) to v
 
 abbrev pub held_for : View → MsgId → Option Pid → View
-held_for v id None = v
-held_for v id (Some p) = record v { held = at_record v.held v.acting p (v.held v.acting p ++ id ∷ []) }
+held_for v id to = option_map_or (λ p. record v { held = at_record v.held v.acting p (v.held v.acting p ++ id ∷ []) }) to v
 
 abbrev pub dropped_for : View → MsgId → Option Pid → View
-dropped_for v id None = v
-dropped_for v id (Some p) = record v { queue = at_record v.queue v.acting p (without_front id (v.queue v.acting p)) }
+dropped_for v id to = option_map_or (λ p. record v { queue = at_record v.queue v.acting p (without_front id (v.queue v.acting p)) }) to v
 
 -- a process is served, and goes to the ring's back
 abbrev pub serving : View → Pid → View
@@ -136,12 +131,8 @@ abbrev pub ends_by : Sort → View → Option Pid → View
 ends_by sort.Kills v (Some p) = ended v p
 ends_by s v p = v
 
-abbrev pub kills : MessageKind → View → Option Pid → View
-kills k v p = ends_by (sort_of k) v p
-
 abbrev pub served_told : View → Option Told → View
-served_told v None = v
-served_told v (Some t) = kills t.kind v (Some t.receiver)
+served_told v told = option_map_or (λ t. ends_by (sort_of t.kind) v (Some t.receiver)) told v
 
 -- a row a label
 abbrev pub after_label : View → Label → View
@@ -170,26 +161,18 @@ abbrev pub routed_on : ℕ → ℕ → Pair → MsgId → Pair
 routed_on a b p id =
     record p { ids = p.ids ++ id ∷ []; taken = if a == b then p.taken + 1 else p.taken; gone = if a == b then p.gone + 1 else p.gone; acked = if a == b then p.acked + 1 else p.acked }
 
-abbrev pub comes_home : View → ℕ → ℕ → MsgId → View
-comes_home v a b id = record v { inbox = if a == b then at_machine v.inbox b (v.inbox b ++ id ∷ []) else v.inbox }
-
--- a message's first put says what it is
-abbrev pub first_told : Option Told → Told → Told
-first_told None t = t
-first_told (Some s) t = s
-
 -- a kernel's own message, and no answer
 abbrev pub is_kernels : MsgId → Bool
 is_kernels id = (id.from.num == 0) && not id.answer
 
 -- it is counted when it is first routed
 abbrev pub is_own : MsgId → Option Told → Bool
-is_own id None = is_kernels id
-is_own id (Some t) = false
+is_own id told = is_none told && is_kernels id
 
 abbrev pub after_put : View → ℕ → ℕ → MsgId → MessageKind → Pid → View
 after_put v a b id k q =
-    record (comes_home (with_pair v a b (routed_on a b (v.pair a b) id)) a b id) {
+    record (with_pair v a b (routed_on a b (v.pair a b) id)) {
+      inbox = if a == b then at_machine v.inbox b (v.inbox b ++ id ∷ []) else v.inbox;
       count = if is_own id (v.told id) then at_machine v.count id.from.home (v.count id.from.home + 1) else v.count;
       told = at_id v.told id (Some (first_told (v.told id) (record { kind = k; receiver = q; about = v.topic })));
     }
@@ -208,8 +191,7 @@ abbrev pub oldest : Pair → Option MsgId
 oldest p = slice_get p.ids p.taken
 
 abbrev pub taken_id : View → ℕ → Option MsgId → View
-taken_id v b None = v
-taken_id v b (Some id) = record v { inbox = at_machine v.inbox b (v.inbox b ++ id ∷ []) }
+taken_id v b first = option_map_or (λ id. record v { inbox = at_machine v.inbox b (v.inbox b ++ id ∷ []) }) first v
 
 abbrev pub after_taken : View → ℕ → ℕ → ℕ → View
 after_taken v a b n =
@@ -231,8 +213,7 @@ after_acked v a b n = with_pair v b a (record (v.pair b a) { acked = at_least (v
 
 -- the packet of a delivery is marked
 abbrev pub marked_at : List SentLoad → ℕ → Option SentLoad → List SentLoad
-marked_at wire k None = wire
-marked_at wire k (Some s) = slice_set wire k (record s { delivered = true })
+marked_at wire k sent = option_map_or (λ s. slice_set wire k (record s { delivered = true })) sent wire
 
 abbrev pub marked : Pair → ℕ → Pair
 marked p k = record p { wire = marked_at p.wire k (slice_get p.wire k) }
@@ -253,22 +234,15 @@ after_head v (step.Tick m) = begins v m NothingElse
 after_head v (step.Deliver a b k) = with_pair (begins v b NothingElse) a b (marked (v.pair a b) k)
 after_head v (step.Migrate p m) = begins v 0 (Target m)
 
--- what the message at the acting machine's front is about
-abbrev pub front_told : View → List MsgId → Option Told
-front_told v [] = None
-front_told v (i ∷ is) = v.told i
-
 abbrev pub target_in : About → ℕ
 target_in (Target m) = m
 target_in a = 0
 
 abbrev pub target_of : Option Told → ℕ
-target_of None = 0
-target_of (Some t) = target_in t.about
+target_of told = option_map_or (λ t. target_in t.about) told 0
 
 abbrev pub front_of : List MsgId → ℕ
-front_of [] = 0
-front_of (i ∷ is) = i.from.home
+front_of ids = option_map_or (λ i. i.from.home) (slice_get ids 0) 0
 
 -- where the acting machine sends what comes for a process on to
 abbrev pub forward_about : Pid → Known → About
@@ -276,8 +250,7 @@ forward_about p (Forward at moves) = Place p at moves
 forward_about p k = NothingElse
 
 abbrev pub forwarded_for : View → Option Pid → View
-forwarded_for v None = v
-forwarded_for v (Some p) = about v (forward_about p (v.known v.acting p))
+forwarded_for v to = option_map_or (λ p. about v (forward_about p (v.known v.acting p))) to v
 
 -- the held messages come to the front of the inbox
 abbrev pub released : View → Pid → View
@@ -306,12 +279,8 @@ follows_by v a (sort.Between sort.State) = asks_on v a
 follows_by v a (sort.Between sort.Memory) = asks_on v a
 follows_by v a s = v
 
-abbrev pub follows_up : View → About → MessageKind → View
-follows_up v a k = follows_by v a (sort_of k)
-
 abbrev pub after_proto : View → Option Told → View
-after_proto v None = about v NothingElse
-after_proto v (Some t) = about (follows_up v t.about t.kind) t.about
+after_proto v told = option_map_or (λ t. about (follows_by v t.about (sort_of t.kind)) t.about) told (about v NothingElse)
 
 -- a process is frozen that is to go to this machine
 abbrev pub frozen_for : View → Pid → ℕ → View
@@ -321,7 +290,7 @@ frozen_for v p m = about (with_ring (knowing v p (Frozen m)) (without p (v.ring 
 -- inbox; else the message at the front tells where
 abbrev pub sets_off : View → Pid → About → View
 sets_off v p (Target m) = frozen_for v p m
-sets_off v p a = frozen_for (handled_first v) p (target_of (front_told v (v.inbox v.acting)))
+sets_off v p a = frozen_for (handled_first v) p (target_of (option_and_then v.told (slice_get (v.inbox v.acting) 0)))
 
 -- steps of migrations: 1, 3, 4, 5 and 8 handle the message at the front, but for step 1 of a process that is asked to move
 abbrev pub after_stage : View → Pid → Stage → View
@@ -370,16 +339,13 @@ abbrev pub ring_at : List BootProcess → ℕ → List Pid
 ring_at [] m = []
 ring_at (p ∷ ps) m = if p.pid.home == m then p.pid ∷ ring_at ps m else ring_at ps m
 
-abbrev pub no_pair : Pair
-no_pair = record { ids = []; taken = 0; gone = 0; acked = 0; kept = []; wire = [] }
-
 -- the view before the first line
 abbrev pub first_view : Boot → View
 first_view b =
     record {
       acting = 0;
       groups = 0;
-      pair = λ m n. no_pair;
+      pair = λ m n. record { ids = []; taken = 0; gone = 0; acked = 0; kept = []; wire = [] };
       inbox = λ m. [];
       ring = ring_at b.processes;
       count = λ m. 0;

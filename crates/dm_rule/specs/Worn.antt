@@ -21,13 +21,10 @@ abbrev pub full_route : ℕ → View → Act → Option Two
 full_route numbers v (act.Routes a b id k q) = if is_full numbers v a b then Some (record { from = a; to = b }) else None
 full_route numbers v x = None
 
-abbrev pub full_pair : ℕ → View → Line → Option Two
-full_pair numbers v l = full_route numbers v (act_of l)
-
 -- the first put among these lines whose pair counts as many messages as it may before it
 abbrev pub worn_in : ℕ → View → List Line → Option Two
 worn_in numbers v [] = None
-worn_in numbers v (l ∷ ls) = or (full_pair numbers v l) (worn_in numbers (view_after v l) ls)
+worn_in numbers v (l ∷ ls) = or (full_route numbers v (act_of l)) (worn_in numbers (view_after v l) ls)
 
 -- the group of this directive would route a message between these two machines, which count as many as they may, and none
 -- before it

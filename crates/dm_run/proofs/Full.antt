@@ -1,8 +1,9 @@
 -- A group that routes a message between two machines that count as many as they may leaves them with one more.
 use Rattle.dm_run.proofs.Names.{◌≡◌, ◌≤◌, ◌<◌, ℕ, Bool, true, false, nat_le, if◌then◌else◌, List, [], ◌∷◌, length, refl, ap, ◌∙◌, subst, arith, nat_tests, Option, None, Some, Pid, MsgId, MessageKind, Boot, OneKernel, bind-is, Step, Line}
-use Rattle.dm_run.proofs.Names.{View, view_after, Point, label_of, kernel_after, after_line, after, moved, Spelled, group_of, Two, or, is_full, full_pair, worn_in, seen, group_after, worn_alike, ids_of, Grows, grows_on, grows_same}
+use Rattle.dm_run.proofs.Names.{View, view_after, Point, label_of, kernel_after, after_line, after, moved, Spelled, group_of, Two, or, is_full, full_route, worn_in, seen, group_after, worn_alike, ids_of, Grows, grows_on, grows_same}
 use Rattle.dm_run.proofs.Names.{seen_grows, put_adds}
 use Rattle.dm_line.specs.declared.line.Line.TheVariants as line
+use Rattle.dm_rule.specs.Acts.{act_of}
 
 -- more than so many
 abbrev pub IsOver : ℕ → View → Two → Type 0
@@ -21,7 +22,7 @@ put_over numbers v a b id k q p true e is =
     subst (IsOver numbers (view_after v (line.Put a b id k q))) f (let over : numbers < ids_of (view_after v (line.Put a b id k q)) a b = omega (arith, most, more) in over)
 put_over numbers v a b id k q p false e is = cc
 
-full_over : (numbers : ℕ) (v : View) (l : Line) (p : Two) → full_pair numbers v l ≡ Some p → IsOver numbers (view_after v l) p
+full_over : (numbers : ℕ) (v : View) (l : Line) (p : Two) → full_route numbers v (act_of l) ≡ Some p → IsOver numbers (view_after v l) p
 full_over numbers v (line.Put a b id k q) p e = put_over numbers v a b id k q p (is_full numbers v a b) refl e
 full_over numbers v l p e = cc
 
@@ -34,7 +35,7 @@ lines_grow (l ∷ ls) pt q e =
     grows_on pt.view mid.view q.view (subst (λ (x : Point). Grows pt.view x.view) f (seen_grows pt.kernel pt.view l)) (lines_grow ls mid q rest)
 
 -- the first line that wears the pair, or one behind it
-or_over : (numbers : ℕ) (pt q : Point) (l : Line) (ls : List Line) (p : Two) (o : Option Two) → full_pair numbers pt.view l ≡ o → Grows (seen pt.kernel pt.view l) q.view
+or_over : (numbers : ℕ) (pt q : Point) (l : Line) (ls : List Line) (p : Two) (o : Option Two) → full_route numbers pt.view (act_of l) ≡ o → Grows (seen pt.kernel pt.view l) q.view
     → (worn_in numbers (seen pt.kernel pt.view l) ls ≡ Some p → IsOver numbers q.view p) → or o (worn_in numbers (view_after pt.view l) ls) ≡ Some p → IsOver numbers q.view p
 or_over numbers pt q l ls p None e grows later is = later (worn_alike numbers ls (view_after pt.view l) (seen pt.kernel pt.view l) (λ a c. refl) ∙ is)
 or_over numbers pt q l ls p (Some r) e grows later is =
@@ -49,7 +50,7 @@ lines_over numbers (l ∷ ls) pt q p comes e =
     let (mid, first, rest) = bind-is (after_line pt l) (λ (next : Point). after next ls) q comes in
     let (s, step, last) = bind-is (kernel_after pt.kernel (label_of l)) (λ (s : OneKernel). Some (moved pt l s)) mid first in
     let f : mid ≡ moved pt l s = cc in
-    or_over numbers pt q l ls p (full_pair numbers pt.view l) refl
+    or_over numbers pt q l ls p (full_route numbers pt.view (act_of l)) refl
     (subst (λ (x : Point). Grows x.view q.view) f (lines_grow ls mid q rest))
     (subst (λ (x : Point). worn_in numbers x.view ls ≡ Some p → IsOver numbers q.view p) f (lines_over numbers ls mid q p rest))
     e

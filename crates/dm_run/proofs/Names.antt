@@ -51,7 +51,7 @@ pub use Rattle.dm_world.specs.declared.cursor.Cursor.TheVariants.{One, Passing}
 pub use Rattle.dm_world.specs.declared.cursor.Place.{Place}
 pub use Rattle.dm_world.specs.declared.cursor.Place.TheVariants.{End, Packets, Turns}
 pub use Rattle.dm_world.specs.declared.world.World.{World}
-pub use Rattle.dm_mirror.proofs.Names.{AreWhole, EndIsSaid, EndMay, GoesOn, IsDirective, NextIsSaid, Ran, RanBegins, RanGoesOn, RunBegins, RunGoesOn, RunIsRan, RunStands, Stands, first_world, full_pair, gave, is_full, joined, of_known}
+pub use Rattle.dm_mirror.proofs.Names.{AreWhole, EndIsSaid, EndMay, GoesOn, IsDirective, NextIsSaid, Ran, RanBegins, RanGoesOn, RunBegins, RunGoesOn, RunIsRan, RunStands, Stands, first_world, full_route, gave, is_full, joined, of_known}
 pub use Rattle.dm_mirror.proofs.Names.{worn_in}
 pub use Rattle.dm_mirror.proofs.Next.{machines_stay, next_fits, undelivered_said}
 pub use Rattle.dm_mirror.proofs.QuietSaid.{mail_is_said}

@@ -36,7 +36,7 @@ pub use Rattle.dm_mirror.proofs.Deliver.Outs.{bytes_marked}
 pub use Rattle.dm_mirror.proofs.Going.{leads_last}
 pub use Rattle.dm_mirror.proofs.Local.{acts_locally}
 pub use Rattle.dm_mirror.proofs.Machines.{machines_group, plainly_is, some_machine}
-pub use Rattle.dm_mirror.proofs.Names.{AreMessages, GoesOn, History, IsDirective, IsTodo, IsTwo, PairStands, PutsFrom, Stands, StandsWith, bytes_of, following, full_pair, is_full, joined, line_of, load_of, marked_by, message_id}
+pub use Rattle.dm_mirror.proofs.Names.{AreMessages, GoesOn, History, IsDirective, IsTodo, IsTwo, PairStands, PutsFrom, Stands, StandsWith, bytes_of, following, full_route, is_full, joined, line_of, load_of, marked_by, message_id}
 pub use Rattle.dm_mirror.proofs.Names.{packet_of_load, received_once, worn_in}
 pub use Rattle.dm_mirror.proofs.Next.{IsBelow, all_below, all_pairs, next_fits}
 pub use Rattle.dm_mirror.proofs.Routing.{worn_alike}

@@ -1,7 +1,8 @@
 -- What lines do to what was routed on a pair, and to its wire.
 use Rattle.dm_runlaws.proofs.Names.{◌≡◌, ◌⊎◌, ℕ, ◌+◌, ◌≤◌, ◌<◌, ◌==◌, ◌&&◌, Bool, true, false, not, filter, List, [], ◌∷◌, ◌++◌, length, refl, ap, ◌∙◌, sym, subst, inl, inr, arith, if◌then◌else◌, Option, None, Some, cases_Bool, nat_tests}
-use Rattle.dm_runlaws.proofs.Names.{Pid, MsgId, MessageKind, bind-is, Step, Line, at_pair, Two, or, Point, after, after_line, View, Pair, view_after, after_put, marked, routed_on, gone_after, at_least, oldest, with_pair, is_full, full_pair}
+use Rattle.dm_runlaws.proofs.Names.{Pid, MsgId, MessageKind, bind-is, Step, Line, at_pair, Two, or, Point, after, after_line, View, Pair, view_after, after_put, marked, routed_on, gone_after, at_least, oldest, with_pair, is_full, full_route}
 use Rattle.dm_runlaws.proofs.Names.{worn_in, is_put, pair_same, taken_pair, line_view, one_longer, worn_alike}
+use Rattle.dm_rule.specs.Acts.{act_of}
 
 -- a pair is set to one with the same value of something
 pub set_keeps : {X : Type 0} (f : Pair → X) (g : ℕ → ℕ → Pair) (a b : ℕ) (p : Pair) (c d : ℕ) → f p ≡ f (g a b) → f (at_pair g a b p c d) ≡ f (g c d)
@@ -92,7 +93,7 @@ put_counts numbers v a b i k q less h c d = elim (cases_Bool ((a == c) && (b == 
 quiet_counts : (numbers : ℕ) (v w : View) → ((c d : ℕ) → ids_on w c d ≡ ids_on v c d) → Counts numbers v → Counts numbers w
 quiet_counts numbers v w same h c d = let e : length (ids_on w c d) ≡ length (ids_on v c d) = ap length (same c d) in let was = h c d in omega (arith, e, was)
 
-line_counts : (numbers : ℕ) (v : View) (l : Line) → full_pair numbers v l ≡ None → Counts numbers v → Counts numbers (view_after v l)
+line_counts : (numbers : ℕ) (v : View) (l : Line) → full_route numbers v (act_of l) ≡ None → Counts numbers v → Counts numbers (view_after v l)
 line_counts numbers v (Line.Put a b i k q) none h = put_counts numbers v a b i k q (not_full numbers v a b (is_full numbers v a b) refl none) h
 line_counts numbers v l none h = quiet_counts numbers v (view_after v l) (λ c d. ids_same v l c d refl) h
 
@@ -106,7 +107,7 @@ lines_count numbers [] pt q e none h = let f : pt ≡ q = cc in subst (λ (x : P
 lines_count numbers (l ∷ ls) pt q e none h =
     let (next, first, rest) = bind-is (after_line pt l) (λ (x : Point). after x ls) q e in
     let view_is = line_view pt next l first in
-    let (here, later) = or_none (full_pair numbers pt.view l) (worn_in numbers (view_after pt.view l) ls) none in
+    let (here, later) = or_none (full_route numbers pt.view (act_of l)) (worn_in numbers (view_after pt.view l) ls) none in
     let same = worn_alike numbers ls (view_after pt.view l) next.view (λ c d. ap (λ (v : View). ids_on v c d) view_is) in
     lines_count numbers ls next q rest (same ∙ later) (subst (Counts numbers) (sym view_is) (line_counts numbers pt.view l here h))
 
@@ -125,7 +126,7 @@ put_wears numbers v a b i k q p (is, full) =
     let m = one_longer (ids_on v a b) i in
     subst (λ (x : Two). numbers < length (ids_on (after_put v a b i k q) x.from x.to)) is (omega (arith, e, m, full))
 
-line_wears : (numbers : ℕ) (v : View) (l : Line) (p : Two) → full_pair numbers v l ≡ Some p → numbers < length (ids_on (view_after v l) p.from p.to)
+line_wears : (numbers : ℕ) (v : View) (l : Line) (p : Two) → full_route numbers v (act_of l) ≡ Some p → numbers < length (ids_on (view_after v l) p.from p.to)
 line_wears numbers v (Line.Put a b i k q) p e = put_wears numbers v a b i k q p (full_is numbers v a b p (is_full numbers v a b) refl e)
 line_wears numbers v l p e = cc
 
@@ -136,7 +137,7 @@ lines_wear numbers (l ∷ ls) pt q p e worn =
     let (next, first, rest) = bind-is (after_line pt l) (λ (x : Point). after x ls) q e in
     let view_is = line_view pt next l first in
     let alike = worn_alike numbers ls (view_after pt.view l) next.view (λ c d. ap (λ (v : View). ids_on v c d) view_is) in
-    elim (or_some (full_pair numbers pt.view l) (worn_in numbers (view_after pt.view l) ls) p worn) [
+    elim (or_some (full_route numbers pt.view (act_of l)) (worn_in numbers (view_after pt.view l) ls) p worn) [
       | inl here ↦
           let full = line_wears numbers pt.view l p here in
           let same : length (ids_on next.view p.from p.to) ≡ length (ids_on (view_after pt.view l) p.from p.to) = ap (λ (v : View). length (ids_on v p.from p.to)) view_is in

@@ -1,9 +1,10 @@
 -- What each line does to inboxes, and to what was routed and not taken.
 use Rattle.dm_settlelaws.proofs.Names.{◌≡◌, ℕ, ◌+◌, ◌<◌, ◌≤◌, ◌==◌, ◌&&◌, Bool, true, false, not, filter, List, [], ◌∷◌, ◌++◌, drop, refl, ap, ◌∙◌, inl, inr, arith, ⊤, if◌then◌else◌, Option, None, Some, cases_Bool, eqb_tells, nat_tests}
-use Rattle.dm_settlelaws.proofs.Names.{Pid, MsgId, MessageKind, Label, Step, Line, Stage, sum_below, at_machine, at_pair, without_front, untaken, About, NothingElse, Target, Pair, Told, View, asks_on, dropped_for, follows_up, forwarded_for}
-use Rattle.dm_settlelaws.proofs.Names.{handled, held_for, kills, queued_for, receiver_of, served_told, view_after, without_first, pair_same, touches, weight, weight_of, weight_to, at_machine_at}
+use Rattle.dm_settlelaws.proofs.Names.{Pid, MsgId, MessageKind, Label, Step, Line, Stage, sum_below, at_machine, at_pair, without_front, untaken, About, NothingElse, Target, Pair, Told, View, asks_on, dropped_for, follows_by, forwarded_for}
+use Rattle.dm_settlelaws.proofs.Names.{handled, held_for, ends_by, queued_for, receiver_of, served_told, view_after, pair_same, touches, weight, weight_of, weight_to, at_machine_at}
 use Rattle.dm_rule.specs.View as view
 use Rattle.dm_settlelaws.proofs.Weights.{first_weight, front_taken, front_weight, spike, spike_here, spike_off, sum_le, sum_moves, weight-append}
+use Rattle.dm_message.specs.Sorts.{sort_of}
 
 -- what a line does to the acting machine's inbox: nothing, its front goes, if it is this message, or whatever it is, or whatever it
 -- is unless it has gone already, or it goes and what was held for a process comes before the others
@@ -53,7 +54,7 @@ comes_in (Line.Taken a b n) = true
 comes_in l = false
 
 abbrev first_gone : View → ℕ → List MsgId
-first_gone v = at_machine v.inbox v.acting (without_first (v.inbox v.acting))
+first_gone v = at_machine v.inbox v.acting (drop 1 (v.inbox v.acting))
 
 -- where the group has said already that a process is asked to move, the front has gone
 abbrev pub sets_inbox : View → About → ℕ → List MsgId
@@ -83,7 +84,7 @@ forwarded_inbox : (v : View) (o : Option Pid) → (forwarded_for v o).inbox ≡ 
 forwarded_inbox v None = refl
 forwarded_inbox v (Some p) = refl
 
-kills_inbox : (k : MessageKind) (v : View) (o : Option Pid) → (kills k v o).inbox ≡ v.inbox
+kills_inbox : (k : MessageKind) (v : View) (o : Option Pid) → (ends_by (sort_of k) v o).inbox ≡ v.inbox
 kills_inbox MessageKind.Kill v None = refl
 kills_inbox MessageKind.Kill v (Some p) = refl
 kills_inbox k v o = refl
@@ -96,7 +97,7 @@ asks_inbox : (v : View) (a : About) → (asks_on v a).inbox ≡ v.inbox
 asks_inbox v NothingElse = refl
 asks_inbox v _ = refl
 
-follows_inbox : (v : View) (a : About) (k : MessageKind) → (follows_up v a k).inbox ≡ v.inbox
+follows_inbox : (v : View) (a : About) (k : MessageKind) → (follows_by v a (sort_of k)).inbox ≡ v.inbox
 follows_inbox v a MessageKind.State = asks_inbox v a
 follows_inbox v a MessageKind.Memory = asks_inbox v a
 follows_inbox v a k = refl
@@ -162,7 +163,7 @@ set_weight f inbox a ys x y m h = elim (eqb_tells a m) [
 
 first_less : (f : MsgId → ℕ) (v : View) (m : ℕ) → weight f (first_gone v m) ≤ weight f (v.inbox m) + spike v.acting 0 m
 first_less f v m =
-    let h = set_weight f v.inbox v.acting (without_first (v.inbox v.acting)) 0 0 m (let g = first_weight f (v.inbox v.acting) in omega (arith, g)) in omega (arith, h)
+    let h = set_weight f v.inbox v.acting (drop 1 (v.inbox v.acting)) 0 0 m (let g = first_weight f (v.inbox v.acting) in omega (arith, g)) in omega (arith, h)
 
 sets_less : (f : MsgId → ℕ) (v : View) (a : About) (m : ℕ) → weight f (sets_inbox v a m) ≤ weight f (v.inbox m) + spike v.acting 0 m
 sets_less f v (Target k) m = omega arith
@@ -178,7 +179,7 @@ effect_weight f v Sets m = sets_less f v v.topic m
 effect_weight f v (Returns p) m =
     let ys = v.held v.acting p in
     let first = first_gone v in
-    let there : first v.acting ≡ without_first (v.inbox v.acting) = at_machine_at v.inbox v.acting (without_first (v.inbox v.acting)) in
+    let there : first v.acting ≡ drop 1 (v.inbox v.acting) = at_machine_at v.inbox v.acting (drop 1 (v.inbox v.acting)) in
     let a = first_less f v m in
     let all = weight-append f ys (first v.acting) in
     let b = set_weight f first v.acting (ys ++ first v.acting) 0 (weight f ys) m (omega (arith, all)) in
@@ -188,8 +189,8 @@ first_loses : (f : MsgId → ℕ) (v : View) (i : MsgId) (is : List MsgId) (m : 
     → weight f (first_gone v m) + spike v.acting (f i) m ≤ weight f (v.inbox m) + spike v.acting 0 m
 first_loses f v i is m front =
     let all : weight f (v.inbox v.acting) ≡ weight f (i ∷ is) = ap (weight f) front in
-    let less : weight f (without_first (v.inbox v.acting)) ≡ weight f is = ap (λ (xs : List MsgId). weight f (without_first xs)) front in
-    set_weight f v.inbox v.acting (without_first (v.inbox v.acting)) (f i) 0 m (omega (arith, all, less))
+    let less : weight f (drop 1 (v.inbox v.acting)) ≡ weight f is = ap (λ (xs : List MsgId). weight f (drop 1 xs)) front in
+    set_weight f v.inbox v.acting (drop 1 (v.inbox v.acting)) (f i) 0 m (omega (arith, all, less))
 
 -- and where the front goes it loses that
 pub effect_takes : (f : MsgId → ℕ) (v : View) (e : Effect) (i : MsgId) (is : List MsgId) (m : ℕ) → v.inbox v.acting ≡ i ∷ is → v.topic ≡ NothingElse → takes_front i e

@@ -203,12 +203,12 @@ parts_count (p ∷ ps) pt w e =
 -- so the routes of a group are those of its parts
 pub group_count : (b : Boot) (pt : Point) (d : Step) (w : Spelled) (ps : List Part) → group_of b pt d ≡ Some w → rule.outcome b pt d ≡ Some ps → count says_put w.lines ≡ all_routes ps
 group_count b pt d w ps e out =
-    let (parts, is, more) = bind-is (rule.outcome b pt d) (λ (parts : List Part). bind (after_line pt (Line.Head d)) (λ (begun : Point). bind (spelled begun parts) (λ (w : Spelled). Some (rule.headed (Line.Head d) w)))) w e in
-    let (start, head, last) = bind-is (after_line pt (Line.Head d)) (λ (begun : Point). bind (spelled begun parts) (λ (w : Spelled). Some (rule.headed (Line.Head d) w))) w more in
-    let (rest, said, end) = bind-is (spelled start parts) (λ (w : Spelled). Some (rule.headed (Line.Head d) w)) w last in
-    let f : rule.headed (Line.Head d) rest ≡ w = cc in
+    let (parts, is, more) = bind-is (rule.outcome b pt d) (λ (parts : List Part). bind (after_line pt (Line.Head d)) (λ (begun : Point). bind (spelled begun parts) (λ (w : Spelled). Some (rule.behind (Line.Head d ∷ []) w)))) w e in
+    let (start, head, last) = bind-is (after_line pt (Line.Head d)) (λ (begun : Point). bind (spelled begun parts) (λ (w : Spelled). Some (rule.behind (Line.Head d ∷ []) w))) w more in
+    let (rest, said, end) = bind-is (spelled start parts) (λ (w : Spelled). Some (rule.behind (Line.Head d ∷ []) w)) w last in
+    let f : rule.behind (Line.Head d ∷ []) rest ≡ w = cc in
     let same : parts ≡ ps = cc in
-    let all : count says_put (rule.headed (Line.Head d) rest).lines ≡ count says_put w.lines = ap (λ (x : Spelled). count says_put x.lines) f in
+    let all : count says_put (rule.behind (Line.Head d ∷ []) rest).lines ≡ count says_put w.lines = ap (λ (x : Spelled). count says_put x.lines) f in
     let these = parts_count parts start rest said in
     let routes = ap all_routes same in
     omega (arith, all, these, routes)

@@ -1,7 +1,8 @@
 -- Weights of lists of messages, and sums over machines.
 use Rattle.dm_settlelaws.proofs.Names.{◌≡◌, ◌≢◌, ℕ, zero, suc, ◌+◌, ◌*◌, ◌<◌, ◌≤◌, ◌==◌, Bool, true, false, List, [], ◌∷◌, ◌++◌, length, refl, ap, subst, inl, inr, arith, suc-mul, if◌then◌else◌, eqb_tells, leb_tells, MsgId, id_eq}
-use Rattle.dm_settlelaws.proofs.Names.{id_eq-same, sum_below, without_front, times, without_first, one_each, weight, more_front}
+use Rattle.dm_settlelaws.proofs.Names.{id_eq-same, sum_below, without_front, times, one_each, weight, more_front}
 pub use Rattle.dm_rule.proofs.Phases.Leaves.{first_of as first_times}
+use Rattle.std.specs.Prelude.{drop}
 
 pub weight-append : (f : MsgId → ℕ) (xs ys : List MsgId) → weight f (xs ++ ys) ≡ weight f xs + weight f ys
 weight-append f [] ys = omega arith
@@ -35,7 +36,7 @@ front_weight f i (j ∷ js) = by (id_eq i j)
 pub front_taken : (f : MsgId → ℕ) (i : MsgId) (is : List MsgId) → weight f (without_front i (i ∷ is)) + f i ≤ weight f (i ∷ is)
 front_taken f i is = let e : weight f (without_front i (i ∷ is)) ≡ weight f is = ap (λ (c : Bool). weight f (if c then is else i ∷ is)) (id_eq-same i) in omega (arith, e)
 
-pub first_weight : (f : MsgId → ℕ) (xs : List MsgId) → weight f (without_first xs) ≤ weight f xs
+pub first_weight : (f : MsgId → ℕ) (xs : List MsgId) → weight f (drop 1 xs) ≤ weight f xs
 first_weight f [] = omega arith
 first_weight f (x ∷ xs) = omega arith
 

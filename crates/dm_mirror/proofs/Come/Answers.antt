@@ -1,9 +1,9 @@
 -- A machine is asked to take a process: there is room for it, or what is free is said.
 use Rattle.dm_mirror.proofs.Names.{◌≡◌, ◌≢◌, ℕ, ◌+◌, ◌/◌, ◌<◌, ◌==◌, ◌&&◌, Bool, true, false, nat_le, List, [], length, map, refl, ap, ◌∙◌, sym, subst, arith, if◌then◌else◌, slice_get, Option, Some, false≢true, All-nil, Pid, pid_eq}
 use Rattle.dm_mirror.proofs.Names.{Message, MsgId, What, Record, Line, Stage, MessageKind, kind_of, IsLawfulMessage, Process, Taken, free_blocks, free_slots, with_reserved, incoming_of, Chunk, expected, CanMove, HasChunk, state_of, coming}
-use Rattle.dm_mirror.proofs.Names.{Boot, slots_of, plain_process, PlainProcess, pid_eq-same, kernel_told, Moves, kind_comes, knows, kind_leaves, Point, Room, fits, free_room, taken_at, taken_by, at_pid, at_record, Known, Unknown, Frozen}
-use Rattle.dm_mirror.proofs.Names.{Incoming, Forward, front_of, without_first, is_server, has_nothing_held, Placed, room_of, accepts, with_expected, kernel_handles, KernelState, KnownStands, KernelStands, RoomStands, AllRecords, Carries}
-use Rattle.dm_mirror.proofs.Names.{source_knows, and_false, is_of_source, nat_tests}
+use Rattle.dm_mirror.proofs.Names.{Boot, slots_of, plain_process, PlainProcess, pid_eq-same, told_step, Moves, kind_comes, knows, kind_leaves, Point, Room, fits, free_room, taken_at, taken_by, at_pid, at_record, Known, Unknown, Frozen}
+use Rattle.dm_mirror.proofs.Names.{Incoming, Forward, front_of, is_server, has_nothing_held, Placed, room_of, accepts, with_expected, kernel_handles, KernelState, KnownStands, KernelStands, RoomStands, AllRecords, Carries}
+use Rattle.dm_mirror.proofs.Names.{source_knows, and_false, tells_onward, nat_tests}
 use Rattle.dm_room.specs.Room as room_
 use Rattle.dm_onekernel.specs.Step as kernel
 use Rattle.dm_rule.specs.Migrating as rule_moves
@@ -17,6 +17,8 @@ use Rattle.dm_mirror.proofs.Turning.{TurnsAt}
 use Rattle.dm_mirror.proofs.Handle.Taking.{pid_apart as pid_off, some_same}
 use Rattle.dm_mirror.proofs.Come.Restarts.{turns_restart}
 use Rattle.dm_mirror.proofs.Handle.Kills.{free_of as free_as}
+use Rattle.dm_message.specs.Sorts.{sort_of}
+use Rattle.std.specs.Prelude.{drop}
 
 room_as : (t : Taken) (r : Room) (n : ℕ) → (free_slots t ≡ r.slots) × (free_blocks t ≡ r.blocks) → room_.has_room t n ≡ rule.has_room r n
 room_as t r n h = λ i. nat_le 1 (h.0 i) && nat_le n (h.1 i)
@@ -78,11 +80,11 @@ lacks_row b m pt l records k y p c a is handles none =
     let v = pt.view in
     let r = free_room b pt m in
     let free = free_as k.room (slice_get b.machines m) (taken_at pt m pt.kernel.machines) c.stands.room in
-    let box = without_first (v.inbox m) in
+    let box = drop 1 (v.inbox m) in
     let next = come_point pt (come_view v m p box v.known v.asked) in
     turns_answer b m pt l records k y p c a (search (
       turn_kernel b m pt l records k y p c a (accepts b s y p (length a.process.memory / 256) a.process.moves (length (state_of a.process)) (l.notes p) false) handles,
-      outcome_kernel b m pt l records k y p c a _ (ap (kernel_told pt m y.id p (fits r (length a.process.memory / 256)) (plain_process a.process)) is ∙ ap (λ (d : Bool). Some (rule_moves.accepts y.id.from.home p d r.slots r.blocks)) none ∙ (λ i. Some (rule_moves.accepts y.id.from.home p false (sym free.0 i) (sym free.1 i)))),
+      outcome_kernel b m pt l records k y p c a _ (ap (λ (k : MessageKind). told_step pt m y.id p (fits r (length a.process.memory / 256)) (plain_process a.process) (sort_of k)) is ∙ ap (λ (d : Bool). Some (rule_moves.accepts y.id.from.home p d r.slots r.blocks)) none ∙ (λ i. Some (rule_moves.accepts y.id.from.home p false (sym free.0 i) (sym free.1 i)))),
       after_lacks pt m p (free_slots k.room) (free_blocks k.room),
       first_gone y.id c.ids (v.inbox m) c.box,
       room_kept b pt m p box v.asked l records k y c,
@@ -137,7 +139,7 @@ accepts_row b m pt l records k y p c a is handles some_ whole table =
     let x = a.process in
     let r = free_room b pt m in
     let none = absent a.source (v.known m p) (ap (λ (j : MessageKind). kind_comes j a.source (v.known m p)) (sym is) ∙ comes_known b m pt l k y p a) in
-    let box = without_first (v.inbox m) in
+    let box = drop 1 (v.inbox m) in
     let from = front_of (v.inbox m) in
     let now = at_record v.known m p (Incoming from) in
     let asked = at_pid v.asked p 1 in
@@ -158,7 +160,7 @@ accepts_row b m pt l records k y p c a is handles some_ whole table =
       known = now;
       asked = asked;
       turn = turn_kernel b m pt l records k y p c a (accepts b s y p (length x.memory / 256) x.moves (length (state_of x)) (l.notes p) true) handles;
-      outcome = outcome_kernel b m pt l records k y p c a _ (ap (kernel_told pt m y.id p (fits r (length x.memory / 256)) (plain_process x)) is
+      outcome = outcome_kernel b m pt l records k y p c a _ (ap (λ (k : MessageKind). told_step pt m y.id p (fits r (length x.memory / 256)) (plain_process x) (sort_of k)) is
           ∙ ap (λ (d : Bool). Some (rule_moves.accepts y.id.from.home p d r.slots r.blocks)) some_);
       after = refl;
       is_box = first_gone y.id c.ids (v.inbox m) c.box;
@@ -215,7 +217,7 @@ pub record Around (b : Boot) (pt : Point) (l : Placed) : Type 0 where
   pub nodes : (n : ℕ) → n < pt.kernel.machines → (z : KernelState) × KernelStands b pt l n z
   pub tables : (p : Pid) (x : Process) → l.processes p ≡ Some x → length x.table ≡ slots_of b.format
 
-by_what : (b : Boot) (m : ℕ) (pt : Point) (l : Placed) (records : AllRecords) (k : KernelState) (y : Message) (p : Pid) (w : What) → y.what ≡ w → is_of_source (kind_of w) ≡ true → Comes b m pt l records k y p → Around b pt l → TurnsAt b m pt l records k
+by_what : (b : Boot) (m : ℕ) (pt : Point) (l : Placed) (records : AllRecords) (k : KernelState) (y : Message) (p : Pid) (w : What) → y.what ≡ w → tells_onward (sort_of (kind_of w)) ≡ true → Comes b m pt l records k y p → Around b pt l → TurnsAt b m pt l records k
 by_what b m pt l records k y p (What.Ask q blocks moves size asker) e is c r = turns_ask b m pt l records k y p q blocks moves size asker c e r.nodes (r.tables p)
 by_what b m pt l records k y p (What.State q chunk last bytes) e is c r = turns_state b m pt l records k y p q chunk last bytes c e
 by_what b m pt l records k y p (What.Memory q block bytes) e is c r = turns_memory b m pt l records k y p q block bytes c e

@@ -1,14 +1,16 @@
 -- A message about a process that comes to a machine, at the front of its inbox: what is known then.
 use Rattle.dm_mirror.proofs.Names.{◌≡◌, ℕ, ◌+◌, ◌≤◌, Bool, true, false, List, ◌∷◌, refl, ap, ◌∙◌, sym, subst, inl, inr, is_some, arith, if◌then◌else◌, option_map, Option, None, Some, false≢true, nat_tests, Pid, pid_of, kernel_at, Message}
-use Rattle.dm_mirror.proofs.Names.{MsgId, MessageKind, kind_of, PlainMessage, plain_message, Process, incoming_of, Boot, OneKernel, bind, plain_process, Made, id_eq-same, is_between, is_of_source, Moves, IsIn, receiver_in, sender_in}
+use Rattle.dm_mirror.proofs.Names.{MsgId, MessageKind, kind_of, PlainMessage, plain_message, Process, incoming_of, Boot, OneKernel, bind, plain_process, Made, id_eq-same, is_between, tells_onward, Moves, IsIn, receiver_in, sender_in}
 use Rattle.dm_mirror.proofs.Names.{told_between, Point, Spot, Inbox, StandsOnce, StandsOutside, standing, times, Of, Told, is_kernels, stands_right, not_kernels, token_is, token_at, is_server, Run, Placed, Mirrors, KernelState, MadeStands}
 use Rattle.dm_mirror.proofs.Names.{AllOwnStand, OwnStands, about_of, told_of, AreMessages, KernelStands, AllRecords, Carries, TokensStand, destination_of, inbox_is, about_same, ◌*◌, ◌/◌, ◌<◌, ◌==◌, not, [], length, map, nat_lt, nat_le}
 use Rattle.dm_mirror.proofs.Names.{flat_map, length-append, flat_map-cons, Link, plain_link, Status, Shell, registers, shell_of, spell_status, spell_slot, numbers_size, Chunk, Block, Nothing, after_block, after_chunk, is_last, state_of}
-use Rattle.dm_mirror.proofs.Names.{HasPiece, plain_status, chunks_of, link_size, links_size, pieces_of, status_size, IsAsked, chunks, shell_spelling}
+use Rattle.dm_mirror.proofs.Names.{HasPiece, plain_status, chunks_of, links_size, pieces_of, status_size, IsAsked, chunks, shell_spelling}
 use Rattle.dm_rule.proofs.QuietTests.{eq_is}
 use Rattle.dm_onekernel.specs.Step as kernel
 use Rattle.dm_mirror.proofs.Leave.Goes.{life_some as alive_made}
 use Rattle.dm_mirror.proofs.Handle.Taking.{some_same}
+use Rattle.dm_message.specs.Sorts.{sort_of}
+use Rattle.std.specs.Option.{option_map_or}
 
 -- machine m, with kernel k, has at its inbox's front message y, which the machine that process p leaves sends
 pub record Comes (b : Boot) (m : ℕ) (pt : Point) (l : Placed) (records : AllRecords) (k : KernelState) (y : Message) (p : Pid) : Type 0 where
@@ -23,7 +25,7 @@ pub record Comes (b : Boot) (m : ℕ) (pt : Point) (l : Placed) (records : AllRe
   pub there : l.bag y.id ≡ Some y
   pub plain : plain_message y ≡ None
   pub between : is_between (kind_of y.what) ≡ true
-  pub of_source : is_of_source (kind_of y.what) ≡ true
+  pub of_source : tells_onward (sort_of (kind_of y.what)) ≡ true
   pub about : about_of y.what ≡ Of p
   -- the messages behind it
   pub ids : List MsgId
@@ -89,7 +91,7 @@ record Token (pt : Point) (m : ℕ) (y : Message) (p : Pid) : Type 0 where
   to : y.to.pid ≡ pid_of m 0
   from : y.id.from ≡ pid_of source 0
 
-token_of : (b : Boot) (m : ℕ) (pt : Point) (y : Message) (p : Pid) → Run b pt → is_between (kind_of y.what) ≡ true → is_of_source (kind_of y.what) ≡ true → about_of y.what ≡ Of p → pt.view.told y.id ≡ Some (told_of y) → 1 ≤ standing pt.view y.id (Inbox m)
+token_of : (b : Boot) (m : ℕ) (pt : Point) (y : Message) (p : Pid) → Run b pt → is_between (kind_of y.what) ≡ true → tells_onward (sort_of (kind_of y.what)) ≡ true → about_of y.what ≡ Of p → pt.view.told y.id ≡ Some (told_of y) → 1 ≤ standing pt.view y.id (Inbox m)
     → Token pt m y p
 token_of b m pt y p run between of_source about told first =
     let v = pt.view in
@@ -99,7 +101,7 @@ token_of b m pt y p run between of_source about told first =
     let t : told_between q j s d ≡ told_of y = some_same (told_between q j s d) (told_of y) (sym token.told ∙ told) in
     let kind_is : j ≡ kind_of y.what = ap (λ (z : Told). z.kind) t in
     let same : q ≡ p = about_same q p (sym of_q ∙ about) in
-    let source : is_of_source j ≡ true = ap is_of_source kind_is ∙ of_source in
+    let source : tells_onward (sort_of j) ≡ true = ap (λ (k : MessageKind). tells_onward (sort_of k)) kind_is ∙ of_source in
     let here : m ≡ d = inbox_is m (sender_in j s d) (receiver_in j s d) (token.ways (Inbox m) first) ∙ ap (λ (c : Bool). if c then d else s) source in
     record {
       source = s;
@@ -108,7 +110,7 @@ token_of b m pt y p run between of_source about told first =
       from = token.from ∙ ap (λ (n : ℕ). pid_of n 0) (ap (λ (c : Bool). if c then s else d) source);
     }
 
-destination_is : (m : ℕ) (y : Message) → is_of_source (kind_of y.what) ≡ true → y.to.pid ≡ pid_of m 0 → destination_of y.id (told_of y) ≡ m
+destination_is : (m : ℕ) (y : Message) → tells_onward (sort_of (kind_of y.what)) ≡ true → y.to.pid ≡ pid_of m 0 → destination_of y.id (told_of y) ≡ m
 destination_is m y of_source to = ap (λ (c : Bool). if c then y.to.pid.home else y.id.from.home) of_source ∙ ap (λ (q : Pid). q.home) to
 
 pub arrives : (b : Boot) (m : ℕ) (pt : Point) (l : Placed) (records : AllRecords) (k : KernelState) (y : Message) (p : Pid) → Comes b m pt l records k y p → Arrives b m pt l k y p
@@ -136,7 +138,7 @@ slots_length : (xs : List (Option Link)) → length (flat_map spell_slot xs) ≡
 slots_length [] = omega arith
 slots_length (x ∷ xs) =
     let one : length (flat_map spell_slot (x ∷ xs)) ≡ length (spell_slot x) + length (flat_map spell_slot xs) = ap length (flat_map-cons spell_slot x xs) ∙ length-append (spell_slot x) (flat_map spell_slot xs) in
-    let slot_length : length (spell_slot x) ≡ link_size (option_map plain_link x) = grind (arith, nat_tests) in
+    let slot_length : length (spell_slot x) ≡ option_map_or (λ _. 24) (option_map plain_link x) 0 = grind (arith, nat_tests) in
     omega (arith, one, slot_length, slots_length xs)
 
 registers_length : (xs : List ℕ) → length xs ≡ 16 → length (registers.spell xs) ≡ 64

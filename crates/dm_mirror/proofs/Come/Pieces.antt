@@ -1,8 +1,8 @@
 -- What a machine and the rule do with a message about a process that comes, and where the lines of it lead.
 use Rattle.dm_mirror.proofs.Names.{◌≡◌, ℕ, ◌/◌, Bool, true, false, List, [], ◌∷◌, length, refl, ap, ◌∙◌, sym, subst, if◌then◌else◌, slice_get, Option, None, Some, Pid, pid_eq, Message, MsgId, kind_of, plain_what, Process, Record}
-use Rattle.dm_mirror.proofs.Names.{incoming_of, Wanted, Chunk, Nothing, Arrival, pull, with_piece, CanMove, coming, Boot, OneKernel, bind, plain_process, pid_eq-same, Line, Addresses, goes_between, own_gives, kernel_told, to_kernel}
-use Rattle.dm_mirror.proofs.Names.{is_between, is_early, is_of_source, Point, after, fits, free_room, taken_at, Incoming, Known, Of, View, Placed, enclosed, room_of, piece_line, takes_piece, took_piece, kernel_handles, KernelState}
-use Rattle.dm_mirror.proofs.Names.{about_of, ComesStand, KnownStands, RoomStands, AllRecords, Carries, IsAsked, ◌+◌, ◌==◌, MessageKind, Step, Stage, arith, nat_tests, kind_comes, outcome, at_pid, without_front, About, without_first, Turned}
+use Rattle.dm_mirror.proofs.Names.{incoming_of, Wanted, Chunk, Nothing, Arrival, pull, with_piece, CanMove, coming, Boot, OneKernel, bind, plain_process, pid_eq-same, Line, Addresses, goes_between, own_given, told_step, to_kernel}
+use Rattle.dm_mirror.proofs.Names.{is_between, is_early, tells_onward, Point, after, fits, free_room, taken_at, Incoming, Known, Of, View, Placed, enclosed, room_of, piece_line, takes_piece, took_piece, kernel_handles, KernelState}
+use Rattle.dm_mirror.proofs.Names.{about_of, ComesStand, KnownStands, RoomStands, AllRecords, Carries, IsAsked, ◌+◌, ◌==◌, MessageKind, Step, Stage, arith, nat_tests, kind_comes, outcome, at_pid, without_front, About, Turned}
 use Rattle.dm_mirror.proofs.Names.{turn, apart_is, expects_is, not, nat_lt, What, Block, after_chunk, block_of, chunk_of, is_last, state_of, ComesByPieces, by_pieces, chunks_of, pieces_of, takes_block, takes_chunk, Wants, Asker}
 use Rattle.dm_rule.proofs.Names.{Part}
 use Rattle.dm_kernel.specs.declared.part.Part.TheVariants as part
@@ -14,12 +14,14 @@ use Rattle.dm_mirror.proofs.Turning.{TurnsAt, begun}
 use Rattle.dm_mirror.proofs.Kernel.Sets.{on_if as if_true}
 use Rattle.dm_mirror.proofs.Follow.Fronts.{front_gone, set_self}
 use Rattle.dm_mirror.proofs.Handle.Taking.{some_same}
+use Rattle.dm_message.specs.Sorts.{sort_of}
+use Rattle.std.specs.Prelude.{drop}
 
 pub turn_kernel : (b : Boot) (m : ℕ) (pt : Point) (l : Placed) (records : AllRecords) (k : KernelState) (y : Message) (p : Pid) (c : Comes b m pt l records k y p) (a : Arrives b m pt l k y p) (o : Option Turned) → kernel_handles b (record k { inbox = c.rest }) y y.what ≡ o → turn b k ≡ o
 turn_kernel b m pt l records k y p c a o e = grind (arith, nat_tests, if_true)
 
 pub outcome_kernel : (b : Boot) (m : ℕ) (pt : Point) (l : Placed) (records : AllRecords) (k : KernelState) (y : Message) (p : Pid) (c : Comes b m pt l records k y p) (a : Arrives b m pt l k y p) (o : Option (List Part))
-    → kernel_told pt m y.id p (fits (free_room b pt m) (length a.process.memory / 256)) (plain_process a.process) (kind_of y.what) ≡ o → outcome b pt (Step.Turn m) ≡ o
+    → told_step pt m y.id p (fits (free_room b pt m) (length a.process.memory / 256)) (plain_process a.process) (sort_of (kind_of y.what)) ≡ o → outcome b pt (Step.Turn m) ≡ o
 outcome_kernel b m pt l records k y p c a o e = search if_true
 
 pub comes_known : (b : Boot) (m : ℕ) (pt : Point) (l : Placed) (k : KernelState) (y : Message) (p : Pid) (a : Arrives b m pt l k y p) → kind_comes (kind_of y.what) a.source (pt.view.known m p) ≡ true
@@ -43,17 +45,17 @@ expects b m pt l records k y p c a late =
     expects_by pt l p (pt.view.queue m p) (pt.view.held m p) a.source (k.records p)
     (subst (λ (n : Known). KnownStands pt l p (pt.view.queue m p) (pt.view.held m p) n (k.records p)) (known_incoming b m pt l k y p a late) (c.stands.known p a.server))
 
-pub first_gone : (i : MsgId) (is xs : List MsgId) → xs ≡ i ∷ is → without_first xs ≡ is
-first_gone i is xs e = ap without_first e
+pub first_gone : (i : MsgId) (is xs : List MsgId) → xs ≡ i ∷ is → drop 1 xs ≡ is
+first_gone i is xs e = ap (drop 1) e
 
 -- where the lines lead
-pub after_state_taken : (pt : Point) (m : ℕ) (p : Pid) → after (begun pt m) (Line.Migration Stage.StateTaken p ∷ []) ≡ Some (come_point pt (come_view pt.view m p (without_first (pt.view.inbox m)) pt.view.known (at_pid pt.view.asked p (pt.view.asked p + 1))))
+pub after_state_taken : (pt : Point) (m : ℕ) (p : Pid) → after (begun pt m) (Line.Migration Stage.StateTaken p ∷ []) ≡ Some (come_point pt (come_view pt.view m p (drop 1 (pt.view.inbox m)) pt.view.known (at_pid pt.view.asked p (pt.view.asked p + 1))))
 after_state_taken pt m p = refl
 
-pub after_memory_taken : (pt : Point) (m : ℕ) (p : Pid) → after (begun pt m) (Line.Migration Stage.MemoryTaken p ∷ []) ≡ Some (come_point pt (come_view pt.view m p (without_first (pt.view.inbox m)) pt.view.known pt.view.asked))
+pub after_memory_taken : (pt : Point) (m : ℕ) (p : Pid) → after (begun pt m) (Line.Migration Stage.MemoryTaken p ∷ []) ≡ Some (come_point pt (come_view pt.view m p (drop 1 (pt.view.inbox m)) pt.view.known pt.view.asked))
 after_memory_taken pt m p = refl
 
-pub after_lacks : (pt : Point) (m : ℕ) (p : Pid) (slots blocks : ℕ) → after (begun pt m) (Line.Lacks p slots blocks ∷ []) ≡ Some (come_point pt (come_view pt.view m p (without_first (pt.view.inbox m)) pt.view.known pt.view.asked))
+pub after_lacks : (pt : Point) (m : ℕ) (p : Pid) (slots blocks : ℕ) → after (begun pt m) (Line.Lacks p slots blocks ∷ []) ≡ Some (come_point pt (come_view pt.view m p (drop 1 (pt.view.inbox m)) pt.view.known pt.view.asked))
 after_lacks pt m p slots blocks = refl
 
 -- a piece that isn't the last
@@ -100,7 +102,7 @@ pub record Piece (b : Boot) (m : ℕ) (pt : Point) (l : Placed) (records : AllRe
   pub takes : kernel_handles b (record k { inbox = c.rest }) y y.what ≡ bind (incoming_of (k.records p)) (takes_piece (record k { inbox = c.rest }) y p)
   pub took : with_piece arrival y.what ≡ Some (coming a.process (l.notes p) arrival.held wanted)
   pub says : piece_line y.id p wanted ≡ line
-  pub told : kernel_told pt m y.id p (fits (free_room b pt m) (length a.process.memory / 256)) (plain_process a.process) (kind_of y.what) ≡ Some (Part.Says line ∷ to_kernel (kind_of (pull a.process.pid wanted)) y.id.from.home ∷ [])
+  pub told : told_step pt m y.id p (fits (free_room b pt m) (length a.process.memory / 256)) (plain_process a.process) (sort_of (kind_of y.what)) ≡ Some (Part.Says line ∷ to_kernel (kind_of (pull a.process.pid wanted)) y.id.from.home ∷ [])
   pub after : after (begun pt m) (line ∷ []) ≡ Some (come_point pt (come_view pt.view m p box pt.view.known asked))
   pub is_box : box ≡ c.ids
   pub asked_off : (q : Pid) → pid_eq p q ≡ false → asked q ≡ pt.view.asked q
@@ -181,7 +183,7 @@ state_by b m pt l records k y p c a chunk h true is takes took asked test =
     turns_piece b m pt l records k y p c a (search (
       ap is_early is,
       at_pid v.asked p (v.asked p + 1),
-      ap (kernel_told pt m y.id p (fits (free_room b pt m) (length a.process.memory / 256)) (plain_process a.process)) is ∙ ap (λ (e : Bool). Some (takes_chunk y.id p e)) test,
+      ap (λ (k : MessageKind). told_step pt m y.id p (fits (free_room b pt m) (length a.process.memory / 256)) (plain_process a.process) (sort_of k)) is ∙ ap (λ (e : Bool). Some (takes_chunk y.id p e)) test,
       after_state_taken pt m p,
       first_gone y.id c.ids (v.inbox m) c.box,
       asked_others,
@@ -192,7 +194,7 @@ state_by b m pt l records k y p c a chunk h false is takes took asked test =
     turns_piece b m pt l records k y p c a (search (
       ap is_early is,
       at_pid v.asked p (v.asked p + 1),
-      ap (kernel_told pt m y.id p (fits (free_room b pt m) (length a.process.memory / 256)) (plain_process a.process)) is ∙ ap (λ (e : Bool). Some (takes_chunk y.id p e)) test,
+      ap (λ (k : MessageKind). told_step pt m y.id p (fits (free_room b pt m) (length a.process.memory / 256)) (plain_process a.process) (sort_of k)) is ∙ ap (λ (e : Bool). Some (takes_chunk y.id p e)) test,
       after_piece pt m p y.to.pid y.id (kind_of y.what) is (told_about b m pt l records k y p c a),
       front_gone y.id c.ids (v.inbox m) c.box,
       asked_others,
@@ -227,7 +229,7 @@ memory_by b m pt l records k y p c a block h true is takes took asked test later
       ap is_early is,
       at_pid v.asked p (v.asked p + 1),
       ap (λ (e : Bool). if e then Line.Migration Stage.StateTaken p else Line.Proto y.id) later,
-      ap (kernel_told pt m y.id p (fits (free_room b pt m) (length a.process.memory / 256)) (plain_process a.process)) is ∙ ap (λ (e : Bool). Some (takes_block y.id p e)) test,
+      ap (λ (k : MessageKind). told_step pt m y.id p (fits (free_room b pt m) (length a.process.memory / 256)) (plain_process a.process) (sort_of k)) is ∙ ap (λ (e : Bool). Some (takes_block y.id p e)) test,
       after_block pt m p y.to.pid y.id (kind_of y.what) is (told_about b m pt l records k y p c a),
       front_gone y.id c.ids (v.inbox m) c.box,
       asked_others,
@@ -237,7 +239,7 @@ memory_by b m pt l records k y p c a block h true is takes took asked test later
 memory_by b m pt l records k y p c a block h false is takes took asked test later =
     turns_piece b m pt l records k y p c a (search (
       ap is_early is,
-      ap (kernel_told pt m y.id p (fits (free_room b pt m) (length a.process.memory / 256)) (plain_process a.process)) is ∙ ap (λ (e : Bool). Some (takes_block y.id p e)) test,
+      ap (λ (k : MessageKind). told_step pt m y.id p (fits (free_room b pt m) (length a.process.memory / 256)) (plain_process a.process) (sort_of k)) is ∙ ap (λ (e : Bool). Some (takes_block y.id p e)) test,
       after_memory_taken pt m p,
       first_gone y.id c.ids (pt.view.inbox m) c.box,
     ))

@@ -1,8 +1,8 @@
 -- A process that has come goes on: it is here, at the ring's back, and what was held for it comes before the inbox.
 use Rattle.dm_mirror.proofs.Names.{◌≡◌, ◌≢◌, ℕ, ◌+◌, ◌/◌, ◌≤◌, ◌==◌, Bool, true, false, List, [], ◌∷◌, ◌++◌, length, map, refl, ap, ◌∙◌, sym, subst, inl, inr, arith, if◌then◌else◌, slice_get, Option, None, Some, cases_Bool, nat_tests}
 use Rattle.dm_mirror.proofs.Names.{false≢true, Pid, pid_eq, Message, MsgId, What, Record, Line, Stage, MessageKind, kind_of, Process, incoming_of, with_record, Nothing, restarted, ComesByPieces, by_pieces, Boot, bind, plain_process}
-use Rattle.dm_mirror.proofs.Names.{pid_eq-is, pid_eq-same, kernel_told, Moves, is_away, is_early, knows, kind_leaves, Point, moved, Room, fits, free_room, taken_at, taken_by, at_machine, at_record, Spot, Held, Inbox, standing, times, Known}
-use Rattle.dm_mirror.proofs.Names.{Unknown, Here, Frozen, Incoming, Forward, Ended, Of, View, without_first, once_at, times-append, is_server, has_no_queue, Placed, restarted_mirrors, mirrors_view, room_of, restarts, restarts_as}
+use Rattle.dm_mirror.proofs.Names.{pid_eq-is, pid_eq-same, told_step, Moves, is_away, is_early, knows, kind_leaves, Point, moved, Room, fits, free_room, taken_at, taken_by, at_machine, at_record, Spot, Held, Inbox, standing, times, Known}
+use Rattle.dm_mirror.proofs.Names.{Unknown, Here, Frozen, Incoming, Forward, Ended, Of, View, once_at, times-append, is_server, has_no_queue, Placed, restarted_mirrors, mirrors_view, room_of, restarts, restarts_as}
 use Rattle.dm_mirror.proofs.Names.{kernel_handles, KernelState, AreMessages, KnownStands, RoomStands, AllRecords, Carries, TokensStand, destination_of, and_false, least_of, at_record_at, Asker, Outcome, Arrival, coming, tells_asker, Told}
 use Rattle.dm_mirror.proofs.Names.{is_between}
 use Rattle.dm_rule.proofs.Names.{Part}
@@ -21,6 +21,8 @@ use Rattle.dm_mirror.proofs.Turning.{TurnsAt, begun, has_process}
 use Rattle.dm_mirror.proofs.Leave.Stays.{messages_append as are_both}
 use Rattle.dm_mirror.proofs.Come.Pieces.{first_gone, known_incoming, outcome_kernel, turn_kernel, before}
 use Rattle.dm_mirror.proofs.Handle.Taking.{machine_off, record_off as record_away}
+use Rattle.dm_message.specs.Sorts.{sort_of}
+use Rattle.std.specs.Prelude.{drop}
 
 abbrev pub back_point : Point → ℕ → Pid → Point
 back_point pt m p = moved (begun pt m) (Line.Migration Stage.Restarted p) pt.kernel
@@ -68,18 +70,18 @@ not_elsewhere : (b : Boot) (m : ℕ) (pt : Point) (l : Placed) (k : KernelState)
 not_elsewhere b m pt l k y p a n is apart = grind (arith, nat_tests, elsewhere_by, eq_off)
 
 -- where messages stand then
-back_box : (v : View) (m : ℕ) (p : Pid) (i : MsgId) (is : List MsgId) → v.inbox m ≡ i ∷ is → v.held m p ++ at_machine v.inbox m (without_first (v.inbox m)) m ≡ v.held m p ++ is
-back_box v m p i is box = ap (λ (xs : List MsgId). v.held m p ++ xs) (machine_self v.inbox m (without_first (v.inbox m)) ∙ first_gone i is (v.inbox m) box)
+back_box : (v : View) (m : ℕ) (p : Pid) (i : MsgId) (is : List MsgId) → v.inbox m ≡ i ∷ is → v.held m p ++ at_machine v.inbox m (drop 1 (v.inbox m)) m ≡ v.held m p ++ is
+back_box v m p i is box = ap (λ (xs : List MsgId). v.held m p ++ xs) (machine_self v.inbox m (drop 1 (v.inbox m)) ∙ first_gone i is (v.inbox m) box)
 
 held_fewer : (v : View) (m n : ℕ) (p q : Pid) (j : MsgId) (d : Bool) → times j (if d then [] else v.held n q) ≤ times j (v.held n q)
 held_fewer v m n p q j d = grind (arith, nat_tests)
 
 inbox_back : (v : View) (m n : ℕ) (p : Pid) (j : MsgId) (d : Bool) → (m == n) ≡ d
-    → times j (if d then v.held m p ++ at_machine v.inbox m (without_first (v.inbox m)) m else at_machine v.inbox m (without_first (v.inbox m)) n) ≤ times j (at_machine v.inbox m (without_first (v.inbox m)) n) + times j (v.held m p)
+    → times j (if d then v.held m p ++ at_machine v.inbox m (drop 1 (v.inbox m)) m else at_machine v.inbox m (drop 1 (v.inbox m)) n) ≤ times j (at_machine v.inbox m (drop 1 (v.inbox m)) n) + times j (v.held m p)
 inbox_back v m n p j d e = grind (arith, nat_tests, times-append, machine_self)
 
 back_standing : (pt : Point) (m : ℕ) (p : Pid) (j : MsgId) (z : Spot)
-    → standing (back_point pt m p).view j z ≤ standing (come_view pt.view m p (without_first (pt.view.inbox m)) pt.view.known pt.view.asked) j z + standing pt.view j (Held m p)
+    → standing (back_point pt m p).view j z ≤ standing (come_view pt.view m p (drop 1 (pt.view.inbox m)) pt.view.known pt.view.asked) j z + standing pt.view j (Held m p)
 back_standing pt m p j z = grind (arith, nat_tests, held_fewer, inbox_back)
 
 -- what stands then stood before, and no message of its migration stands
@@ -87,7 +89,7 @@ back_stood : (b : Boot) (m : ℕ) (pt : Point) (l : Placed) (records : AllRecord
     → 1 ≤ standing (back_point pt m p).view i z → (x : Spot) × (1 ≤ standing pt.view i x)
 back_stood b m pt l records k y p c i z st =
     let v = pt.view in
-    let box = without_first (v.inbox m) in
+    let box = drop 1 (v.inbox m) in
     elim (least_of (standing (come_view v m p box v.known v.asked) i z) (standing v i (Held m p)) (omega (arith, back_standing pt m p i z, st))) [
       | inl e ↦ (z, (let f = fewer v m p c.ids box v.known v.asked y.id i z c.box (first_gone y.id c.ids (v.inbox m) c.box) in omega (arith, e, f)))
       | inr e ↦ (Held m p, e)
@@ -97,7 +99,7 @@ none_back : (b : Boot) (m : ℕ) (pt : Point) (l : Placed) (records : AllRecords
     → pt.view.told i ≡ Some t → is_between t.kind ≡ true → t.about ≡ Of p → 1 ≤ standing (back_point pt m p).view i z → ⊥
 none_back b m pt l records k y p c a i t z told between about st =
     let v = pt.view in
-    let box = without_first (v.inbox m) in
+    let box = drop 1 (v.inbox m) in
     let (where_, least) = back_stood b m pt l records k y p c i z st in
     let mine : Some y.id ≡ Some i = a.phase.alone i t where_ told between about least in
     let is : y.id ≡ i = cc in
@@ -176,11 +178,11 @@ turns_restart b m pt l records k y p q c e =
     let state : KernelState = record s { records = with_record k.records p (Record.Here (way.moved x)); ring = k.ring ++ p ∷ []; inbox = h.arrival.held ++ c.rest } in
     let next = back_point pt m p in
     let placed = with_process l p (Some (way.moved x)) in
-    let front = at_machine v.inbox m (without_first (v.inbox m)) in
+    let front = at_machine v.inbox m (drop 1 (v.inbox m)) in
     let stands = c.stands in
     let there : state.records p ≡ Some (Record.Here (way.moved x)) = set_self k.records p (Some (Record.Here (way.moved x))) in
     let others : (r : Pid) → pid_eq p r ≡ false → state.records r ≡ k.records r = λ r off. set_off k.records p r (Some (Record.Here (way.moved x))) off in
-    let boxes : (n : ℕ) → n ≢ m → at_machine front m (v.held m p ++ front m) n ≡ v.inbox n = λ n off. machine_off front m n (v.held m p ++ front m) off ∙ machine_off v.inbox m n (without_first (v.inbox m)) off in
+    let boxes : (n : ℕ) → n ≢ m → at_machine front m (v.held m p ++ front m) n ≡ v.inbox n = λ n off. machine_off front m n (v.held m p ++ front m) off ∙ machine_off v.inbox m n (drop 1 (v.inbox m)) off in
     let processes : (n : ℕ) (r : Pid) → n ≢ m → has_process (v.known n r) ≡ true → placed.processes r ≡ l.processes r = λ n r off has. elim (cases_Bool (pid_eq p r)) [
       | inl same ↦ absurd (false≢true (sym (not_elsewhere b m pt l k y p a n is off) ∙ ap (λ (z : Pid). has_process (v.known n z)) (pid_eq-is p r same) ∙ has))
       | inr apart ↦ set_off l.processes p r (Some (way.moved x)) apart
@@ -222,4 +224,4 @@ turns_restart b m pt l records k y p q c e =
     ∙ ap (restarts_as s p h.arrival) (ap restarted h.pieces ∙ pieces.whole)
     ∙ (λ i. Some (record { state = state; parts = part.Says line ∷ tells_asker (stands.here i) (way.moved x) Outcome.Done (asker i) }))))
     (outcome_kernel b m pt l records k y p c a (Some (Part.Says line ∷ migrating.tells_asker (pt.kernel.notes p) Outcome.Done))
-    (ap (kernel_told pt m y.id p (fits (free_room b pt m) (length x.memory / 256)) (plain_process x)) is))
+    (ap (λ (k : MessageKind). told_step pt m y.id p (fits (free_room b pt m) (length x.memory / 256)) (plain_process x) (sort_of k)) is))

@@ -1,7 +1,7 @@
 -- A turn that handles such a message says a line and answers, or says a line alone; what it leaves as it was.
 use Rattle.dm_mirror.proofs.Names.{◌≡◌, ◌≢◌, ℕ, ◌+◌, ◌≤◌, ◌==◌, Bool, true, false, List, [], ◌∷◌, map, refl, ap, ◌∙◌, sym, subst, inl, inr, arith, if◌then◌else◌, slice_get, Option, None, Some, cases_Bool, false≢true, nat_tests, Addr, Pid}
 use Rattle.dm_mirror.proofs.Names.{pid_eq, pid_of, place_of, kernel_at, Message, MsgId, What, id_of, kind_of, plain_what, with_what, Record, Step, incoming_of, Boot, id_eq-same, pid_eq-is, Line, Addresses, Gets, Receiver, Sender, given}
-use Rattle.dm_mirror.proofs.Names.{goes_between, own_gives, unmoved, to_kernel, is_between, is_of_source, Point, after, outcome, taken_at, at_machine, Spot, Inbox, standing, times, Known, Unknown, Here, Frozen, Incoming, Forward, Ended, Of}
+use Rattle.dm_mirror.proofs.Names.{goes_between, own_given, unmoved, to_kernel, is_between, tells_onward, Point, after, outcome, taken_at, at_machine, Spot, Inbox, standing, times, Known, Unknown, Here, Frozen, Incoming, Forward, Ended, Of}
 use Rattle.dm_mirror.proofs.Names.{View, once_at, is_server, Placed, enclosed, mirrors_view, room_of, KernelState, own, turn, about_of, told_of, KnownStands, RoomStands, AllRecords, Carries, TokensStand, destination_of, eq_is}
 use Rattle.dm_rule.proofs.Names.{Part}
 pub use Rattle.dm_rule.proofs.Lines.{eq_self, at_machine_at as machine_self}
@@ -12,6 +12,7 @@ use Rattle.dm_mirror.proofs.Turning.{IsCarried, MayOwn, Nothing, Own, TurnsAt, b
 pub use Rattle.dm_mirror.proofs.End.Servers.{off as eq_off}
 use Rattle.dm_mirror.proofs.Handle.Taking.{machine_off, stands_set}
 use Rattle.dm_mirror.proofs.Leave.Fronts.{untold_next as next_untold}
+use Rattle.dm_message.specs.Sorts.{sort_of}
 
 -- the view behind the line: the message is handled, and what is known of p here and asked for of it may be new
 abbrev pub come_view : View → ℕ → Pid → List MsgId → (ℕ → Pid → Known) → (Pid → ℕ) → View
@@ -82,11 +83,11 @@ pub record Answer (b : Boot) (m : ℕ) (pt : Point) (l : Placed) (records : AllR
   pub mine : KnownStands (come_point pt (come_view pt.view m p box known asked)) l p (pt.view.queue m p) (pt.view.held m p) (known m p) (state.records p)
   -- the answer
   pub between : is_between (kind_of what) ≡ true
-  pub is_reply : is_of_source (kind_of what) ≡ false
+  pub is_reply : tells_onward (sort_of (kind_of what)) ≡ false
   pub about : about_of what ≡ Of p
   pub plain : plain_what what ≡ None
   pub encloses : enclosed what ≡ []
-  pub gives : (v : View) (id : MsgId) (q : Pid) → own_gives pt.kernel v pt.addresses id q (kind_of what) ≡ goes_between v id q
+  pub gives : (v : View) (id : MsgId) (q : Pid) → own_given pt.kernel v pt.addresses id q (sort_of (kind_of what)) ≡ goes_between v id q
   pub carries : Carries p a.process (l.notes p) (asked p) (incoming_of (state.records p)) what
 
 -- the records of all machines then

@@ -13,6 +13,7 @@ use Rattle.dm_rule.specs.Rule as rule
 use Rattle.dm_rule.specs.View as view
 use Rattle.dm_mirror.proofs.Totals.{ids_of, Grows, line_grows, put_adds, total, total_adds, total_grows}
 pub use Rattle.dm_mirror.proofs.Puts.{ids_if as set_ids}
+use Rattle.dm_message.specs.Sorts.{sort_of}
 
 -- a process comes, has gone on or moves again by these alone
 abbrev pub is_free : Line → Bool
@@ -89,7 +90,7 @@ asks_same : (v : View) (a : About) → Same v (view.asks_on v a)
 asks_same v (view.Place p at_ moves) = record { moves = refl; known = refl }
 asks_same v _ = record { moves = refl; known = refl }
 
-follows_same : (v : View) (a : About) (k : MessageKind) → Same v (view.follows_up v a k)
+follows_same : (v : View) (a : About) (k : MessageKind) → Same v (view.follows_by v a (sort_of k))
 follows_same v a MessageKind.State = asks_same v a
 follows_same v a MessageKind.Memory = asks_same v a
 follows_same v a _ = record { moves = refl; known = refl }
@@ -98,7 +99,7 @@ proto_same : (v : View) (o : Option Told) → Same v (view.after_proto v o)
 proto_same v None = record { moves = refl; known = refl }
 proto_same v (Some t) = let h = follows_same v t.about t.kind in record { moves = h.moves; known = h.known }
 
-kills_still : (v : View) (p : Pid) (k : MessageKind) → Still v (view.kills k v (Some p))
+kills_still : (v : View) (p : Pid) (k : MessageKind) → Still v (view.ends_by (sort_of k) v (Some p))
 kills_still v p MessageKind.Kill = still_set v (view.ended v p) v.acting p view.Ended refl refl refl
 kills_still v p _ = still_same v v (record { moves = refl; known = refl })
 

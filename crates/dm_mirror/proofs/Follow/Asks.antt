@@ -1,7 +1,7 @@
 -- A directive to move a process: the manager's message goes to its child, or a line says why none does.
-use Rattle.dm_mirror.proofs.Names.{◌≡◌, ℕ, ◌+◌, ◌≤◌, ◌==◌, ◌||◌, Bool, true, false, List, [], ◌∷◌, refl, ap, ◌∙◌, sym, subst, inl, inr, arith, if◌then◌else◌, cond, Option, None, Some, Err, cases_Bool, false≢true, nat_tests, Addr, Pid}
+use Rattle.dm_mirror.proofs.Names.{Child, ◌≡◌, ℕ, ◌+◌, ◌≤◌, ◌==◌, ◌||◌, Bool, true, false, List, [], ◌∷◌, refl, ap, ◌∙◌, sym, subst, inl, inr, arith, if◌then◌else◌, cond, Option, None, Some, Err, cases_Bool, false≢true, nat_tests, Addr, Pid}
 use Rattle.dm_mirror.proofs.Names.{pid_eq, pid_of, place_of, Message, MsgId, What, MessageKind, MoveError, Step, id_of, incoming_of, Boot, manager, switchboard, address_at, child_named, moves_child, tells_to_move, asks_manager, asks_move}
-use Rattle.dm_mirror.proofs.Names.{told_to_move, KernelState, id_eq-same, pid_eq-is, Line, Receiver, Sender, child_number, place_of_child, unmoved, migrates, migrates_child, Point, after, moved, at_machine, Spot, standing, Run, Placed}
+use Rattle.dm_mirror.proofs.Names.{told_to_move, KernelState, id_eq-same, pid_eq-is, Line, Receiver, Sender, child_number, unmoved, migrates, migrates_child, Point, after, moved, at_machine, Spot, standing, Run, Placed}
 use Rattle.dm_mirror.proofs.Names.{Mirrors, mirrors_view, child_place, no_child, AllOwnStand, KernelStands, AllRecords, TokensStand, Wants, destination_of, ◌≢◌, ◌&&◌, not, kind_of, plain_what, Inbox, Known, Unknown, Here, Frozen, Incoming}
 use Rattle.dm_mirror.proofs.Names.{Forward, Ended, is_server, is_fixed, is_place, is_target, own_sort, Part}
 use Rattle.dm_kernel.specs.State.{with_sent}
@@ -11,6 +11,7 @@ use Rattle.dm_mirror.proofs.Follow.Forwards.{next_free, next_untold, forwards_tu
 use Rattle.dm_mirror.proofs.Turning.{MayOwn, Nothing, Own, Turns, TurnsAt}
 use Rattle.dm_mirror.proofs.Follow.Updates.{updated_board_turn, updated_here_turn, updated_manager_turn, no_move_turn, updated_ended_turn}
 use Rattle.dm_mirror.proofs.Follow.Fronts.{Fronts, at_front, carries_on}
+use Rattle.std.specs.Option.{option_map_or}
 
 -- behind the head of the directive
 abbrev pub asked_point : Point → Pid → ℕ → Point
@@ -97,14 +98,14 @@ move_may b pt l records all k c p to child found =
     let (n, number, place) = child_place pt.kernel pt.view pt.addresses l p child c.mirrors found in
     let is : child.pid ≡ p = named_is l.manager.children p child found in
     let i = machine.own_id k in
-    let to_child : place_of_child pt.addresses (child_number pt.kernel child.pid) ≡ place_of child = ap (λ (q : Pid). place_of_child pt.addresses (child_number pt.kernel q)) is ∙ ap (place_of_child pt.addresses) number ∙ place in
+    let to_child : option_map_or (λ c. pt.addresses (Child c)) (child_number pt.kernel child.pid) (unmoved 0) ≡ place_of child = ap (λ (q : Pid). option_map_or (λ c. pt.addresses (Child c)) (child_number pt.kernel q) (unmoved 0)) is ∙ ap (λ (o : Option ℕ). option_map_or (λ c. pt.addresses (Child c)) o (unmoved 0)) number ∙ place in
     record {
       id = named;
       plain = refl;
       encloses = refl;
       bag = ap l.bag named ∙ next_free b 0 pt l c.run c.mirrors c.own;
       untold = ap pt.view.told named ∙ next_untold b 0 pt c.run;
-      receiver = ap (λ (t : Bool). if t then place_of_child pt.addresses (child_number pt.kernel child.pid) else pt.addresses (Receiver i)) (id_eq-same i) ∙ to_child;
+      receiver = ap (λ (t : Bool). if t then option_map_or (λ c. pt.addresses (Child c)) (child_number pt.kernel child.pid) (unmoved 0) else pt.addresses (Receiver i)) (id_eq-same i) ∙ to_child;
       sender = ap (λ (t : Bool). if t then unmoved 0 else pt.addresses (Sender i)) (id_eq-same i);
       about = refl;
       asker = λ e. refl;

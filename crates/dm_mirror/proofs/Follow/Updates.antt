@@ -1,9 +1,9 @@
 -- A message of a kernel that changes no process of its machine: what it leads to.
 use Rattle.dm_mirror.proofs.Names.{◌≡◌, ◌≢◌, ℕ, ◌+◌, ◌≤◌, ◌==◌, Bool, true, false, List, [], ◌∷◌, refl, ap, ◌∙◌, sym, subst, nat_le, arith, if◌then◌else◌, count_by, option_map, Option, None, Some, false≢true, Addr, Pid, pid_eq, nat_tests}
 use Rattle.dm_mirror.proofs.Names.{slot_is_behind, applied, Message, MsgId, What, Record, Line, kind_of, plain_message, plain_what, with_what, Process, incoming_of, named_is_behind, pending_is_behind, Boot, switchboard, manager, Life}
-use Rattle.dm_mirror.proofs.Names.{Servers, handles, KernelState, with_here, pid_eq-same, place_told, behind_count, here_told, server_told, updates, Phase, Rests, is_away, is_between, is_here, knows, token_in, Point, moved, comes_to, hears}
+use Rattle.dm_mirror.proofs.Names.{Servers, handles, KernelState, with_here, pid_eq-same, place_told, behind_count, told_here, told_server, updates, Phase, Rests, is_away, is_between, is_here, knows, token_in, Point, moved, comes_to, hears}
 use Rattle.dm_mirror.proofs.Names.{Inbox, Spot, standing, Known, Here, Of, Told, rests_here, is_fixed, Run, Placed, Mirrors, mirrors_view, board_told, manager_told, updated_board_mirrors, updated_manager_mirrors, updated_mirrors}
-use Rattle.dm_mirror.proofs.Names.{updated_board_count, updated_count, updated_manager_count, about_of, told_of, HereStands, KnownStands, servers_at, AllRecords, Wants, MessageKind, PlainMessage, Why, Managing, Board, Addresses, ended_told}
+use Rattle.dm_mirror.proofs.Names.{updated_board_count, updated_count, updated_manager_count, about_of, told_of, HereStands, KnownStands, servers_at, AllRecords, Wants, MessageKind, PlainMessage, Why, Managing, Board, Addresses, told_ended}
 use Rattle.dm_mirror.proofs.Names.{after_line, Ended, updated_ended_mirrors, no_process, Wanted, is_server, Part}
 use Rattle.dm_places.specs.PlacedStep.{with_process}
 use Rattle.dm_link.specs.Places as places
@@ -14,6 +14,7 @@ use Rattle.dm_rule.specs.Parts as rule
 use Rattle.dm_mirror.proofs.Follow.Fronts.{front_still, is_process_of, plain_there, Fronts, at_front, eq_off, known_on, machine_process, rule_process, set_other, set_self, handled_point, turns_follow, handled_view}
 use Rattle.dm_mirror.proofs.Turning.{TurnsAt, begun, has_process}
 use Rattle.dm_mirror.proofs.Kernel.Sets.{away_process as away_not}
+use Rattle.dm_message.specs.Sorts.{sort_of}
 
 -- the servers may change, and addresses
 abbrev pub with_servers : Placed → Board → Managing → Placed
@@ -84,7 +85,7 @@ gone_of pt l p queue held_ r mirrors h = absurd h
 
 -- at a process that has ended
 pub ended_quiet : (b : Boot) (m : ℕ) (pt : Point) (l : Placed) (records : AllRecords) (k : KernelState) (y : Message) (c : Fronts b m pt l records k y) (said : Line) (a : Addresses) → is_fixed y.to.pid ≡ false → pt.view.known m y.to.pid ≡ Ended → plain_what y.what ≡ None
-    → machine_handle.ended_handles (record k { inbox = c.rest }) y y.what ≡ Some (record { state = record k { inbox = c.rest }; parts = Part.Says said ∷ [] }) → ended_told y.id (kind_of y.what) ≡ Some (rule.Says said ∷ [])
+    → machine_handle.ended_handles (record k { inbox = c.rest }) y y.what ≡ Some (record { state = record k { inbox = c.rest }; parts = Part.Says said ∷ [] }) → told_ended y.id (sort_of (kind_of y.what)) ≡ Some (rule.Says said ∷ [])
     → after_line (begun pt m) said ≡ Some (handled_point pt m y.id pt.view.held (begun pt m).view.topic a) → (l.processes y.to.pid ≡ None → Mirrors pt.kernel (handled_view pt m y.id pt.view.held (begun pt m).view.topic) a l) → TurnsAt b m pt l records k
 ended_quiet b m pt l records k y c said a fixed knows none turn told after mirrors =
     let p = y.to.pid in
@@ -98,7 +99,7 @@ ended_quiet b m pt l records k y c said a fixed knows none turn told after mirro
       manager = l.manager;
       servers = k.servers;
       turn = machine_process b s y (Some (Record.Ended gone.because)) (Some (record { state = s; parts = Part.Says said ∷ [] })) is gone.is turn;
-      outcome = rule_process b m pt l records k y c Ended (Some (rule.Says said ∷ [])) (plain_message y) is knows refl (λ x e. absurd (no_plain y x none e)) (λ e. ap (λ (t : MessageKind). ended_told y.id t) c.kind ∙ told);
+      outcome = rule_process b m pt l records k y c Ended (Some (rule.Says said ∷ [])) (plain_message y) is knows refl (λ x e. absurd (no_plain y x none e)) (λ e. ap (λ (t : MessageKind). told_ended y.id (sort_of t)) c.kind ∙ told);
       after = after;
       mirrors = mirrors gone.none;
       board_stays = λ off. refl;
@@ -110,7 +111,7 @@ ended_quiet b m pt l records k y c said a fixed knows none turn told after mirro
 -- a request to move a process that has ended
 pub no_move_turn : (b : Boot) (m : ℕ) (pt : Point) (l : Placed) (records : AllRecords) (k : KernelState) (y : Message) (c : Fronts b m pt l records k y) (to : ℕ) → is_fixed y.to.pid ≡ false → pt.view.known m y.to.pid ≡ Ended → y.what ≡ What.Migrate to → TurnsAt b m pt l records k
 no_move_turn b m pt l records k y c to fixed knows e =
-    ended_quiet b m pt l records k y c (Line.NoMove y.id) pt.addresses fixed knows (ap plain_what e) (ap (machine_handle.ended_handles (record k { inbox = c.rest }) y) e) (ap (λ (w : What). ended_told y.id (kind_of w)) e) refl
+    ended_quiet b m pt l records k y c (Line.NoMove y.id) pt.addresses fixed knows (ap plain_what e) (ap (machine_handle.ended_handles (record k { inbox = c.rest }) y) e) (ap (λ (w : What). told_ended y.id (sort_of (kind_of w))) e) refl
     (λ none. mirrors_view pt.kernel pt.view (handled_view pt m y.id pt.view.held (begun pt m).view.topic) pt.addresses l refl c.mirrors)
 
 -- an update of one that has ended
@@ -119,7 +120,7 @@ updated_ended_turn b m pt l records k y c about fixed knows e =
     let is = is_process_of y.to.pid fixed in
     let told = (c.own y.id y c.there (ap (λ (w : What). with_what y (plain_what w)) e)).told in
     let start = mirrors_view pt.kernel pt.view (begun pt m).view pt.addresses l refl c.mirrors in
-    ended_quiet b m pt l records k y c (Line.Updated y.id 0) (moved (begun pt m) (Line.Updated y.id 0) pt.kernel).addresses fixed knows (ap plain_what e) (ap (machine_handle.ended_handles (record k { inbox = c.rest }) y) e) (ap (λ (w : What). ended_told y.id (kind_of w)) e) refl
+    ended_quiet b m pt l records k y c (Line.Updated y.id 0) (moved (begun pt m) (Line.Updated y.id 0) pt.kernel).addresses fixed knows (ap plain_what e) (ap (machine_handle.ended_handles (record k { inbox = c.rest }) y) e) (ap (λ (w : What). told_ended y.id (sort_of (kind_of w))) e) refl
     (λ none. updated_ended_mirrors (begun pt m) l y.id 0 (told_of y) about.pid about.at about.moves start told (ap about_of e) is.board is.manager_ none)
 
 -- An update makes the links of a process or of a server follow another process.
@@ -194,7 +195,7 @@ updated_here_turn b m pt l records k y c about fixed knows e =
       process = p;
       turn = machine_process b s y (Some (Record.Here x)) (Some (record { state = state; parts = Part.Says (Line.Updated y.id n) ∷ [] })) is here.is (ap (machine_handle.here_handles s y x) e);
       outcome = rule_process b m pt l records k y c Here (Some parts_) (plain_message y) is knows refl (λ w f. absurd (no_plain y w (ap plain_what e) f))
-          (λ f. ap (here_told pt m y.id c.told) (c.kind ∙ ap kind_of e) ∙ ap Some (counted_line pt y c.told n was count));
+          (λ f. ap (λ (k : MessageKind). told_here pt m y.id c.told (sort_of k)) (c.kind ∙ ap kind_of e) ∙ ap Some (counted_line pt y c.told n was count));
       after = refl;
       mirrors = updated_mirrors (begun pt m) l y.id n (told_of y) r about.at about.moves z start told (ap about_of e) is.board is.manager_ there;
       own_front = λ w f plain. c.own y.id w f plain;
@@ -219,10 +220,10 @@ pub first_servers : (l : Placed) (m : ℕ) → m ≡ 0 → servers_at l m ≡ So
 first_servers l m e = ap (servers_at l) e
 
 -- the rule at a server
-server_board : (b : Boot) (pt : Point) (m : ℕ) (id : MsgId) (t : Told) (o : Option (List rule.Part)) → t.receiver ≡ switchboard → server_told pt id t t.kind ≡ o → hears b pt m id (Some t) ≡ o
+server_board : (b : Boot) (pt : Point) (m : ℕ) (id : MsgId) (t : Told) (o : Option (List rule.Part)) → t.receiver ≡ switchboard → told_server pt id t (sort_of t.kind) ≡ o → hears b pt m id (Some t) ≡ o
 server_board b pt m id t o e h = grind (arith, nat_tests)
 
-server_manager : (b : Boot) (pt : Point) (m : ℕ) (id : MsgId) (t : Told) (o : Option (List rule.Part)) → t.receiver ≡ manager → server_told pt id t t.kind ≡ o → hears b pt m id (Some t) ≡ o
+server_manager : (b : Boot) (pt : Point) (m : ℕ) (id : MsgId) (t : Told) (o : Option (List rule.Part)) → t.receiver ≡ manager → told_server pt id t (sort_of t.kind) ≡ o → hears b pt m id (Some t) ≡ o
 server_manager b pt m id t o e h = grind (arith, nat_tests)
 
 -- the switchboard's links follow
@@ -249,7 +250,7 @@ updated_board_turn b m pt l records k y c about to e =
       servers = Some (record v { board = placed.board });
       turn = grind (arith, nat_tests);
       outcome = ap (comes_to b pt m y.id) plain ∙ ap (hears b pt m y.id) c.told_is
-          ∙ server_board b pt m y.id c.told (Some (rule.Says (Line.Updated y.id n) ∷ [])) (c.receiver ∙ to) (ap (server_told pt y.id c.told) (c.kind ∙ ap kind_of e) ∙ ap Some (counted_line pt y c.told n was count));
+          ∙ server_board b pt m y.id c.told (Some (rule.Says (Line.Updated y.id n) ∷ [])) (c.receiver ∙ to) (ap (λ (k : MessageKind). told_server pt y.id c.told (sort_of k)) (c.kind ∙ ap kind_of e) ∙ ap Some (counted_line pt y c.told n was count));
       after = refl;
       mirrors = updated_board_mirrors (begun pt m) l y.id n (told_of y) r about.at about.moves start told (ap about_of e) to none;
       board_stays = λ off. absurd (off home);
@@ -282,7 +283,7 @@ updated_manager_turn b m pt l records k y c about to e =
       servers = Some (record v { manager = placed.manager });
       turn = grind (arith, nat_tests);
       outcome = ap (comes_to b pt m y.id) plain ∙ ap (hears b pt m y.id) c.told_is
-          ∙ server_manager b pt m y.id c.told (Some (rule.Says (Line.Updated y.id n) ∷ [])) (c.receiver ∙ to) (ap (server_told pt y.id c.told) (c.kind ∙ ap kind_of e) ∙ ap Some (counted_line pt y c.told n was count));
+          ∙ server_manager b pt m y.id c.told (Some (rule.Says (Line.Updated y.id n) ∷ [])) (c.receiver ∙ to) (ap (λ (k : MessageKind). told_server pt y.id c.told (sort_of k)) (c.kind ∙ ap kind_of e) ∙ ap Some (counted_line pt y c.told n was count));
       after = refl;
       mirrors = updated_manager_mirrors (begun pt m) l y.id n (told_of y) r about.at about.moves start told (ap about_of e) to none;
       board_stays = λ off. refl;

@@ -20,6 +20,7 @@ use Rattle.dm_mirror.proofs.Handle.Rows.{IsLeft, turns_row, handled_point, here_
 use Rattle.dm_mirror.proofs.Handle.Taking.{Taking, sane_of, known_on, map_same, IsProcess, no_kernel, not_server, to_process, rule_to_process}
 use Rattle.dm_mirror.proofs.Turning.{Row, routed, rule_routed}
 use Rattle.dm_mirror.proofs.Handle.Servers.{sent_processes, sent_made, sent_machines, placed_processes, placed_bag, placed_notes, placed_servers}
+use Rattle.dm_message.specs.Sorts.{sort_of}
 
 -- what the machine knows of a process that has ended here
 pub record IsEnded (b : Boot) (m : ℕ) (pt : Point) (l : Placed) (k : KernelState) (p : Pid) : Type 0 where
@@ -49,7 +50,8 @@ ended_outcome : (b : Boot) (m : ℕ) (pt : Point) (l : Placed) (k : KernelState)
 ended_outcome b m pt l k y w o h e = rule_to_process b pt m y.id (plainly y w) h.process ∙ ap (rule.process_handles pt m y.id (plainly y w)) h.known ∙ e
 
 dropped_view : (v : View) (i : MsgId) (o : Option Pid) → ((n : ℕ) (p : Pid) → times i (v.queue n p) ≡ 0) → view.dropped_for (handled v i) i o ≡ handled v i
-dropped_view v i o none = grind (arith, nat_tests, queue_same, front_none)
+dropped_view v i None none = refl
+dropped_view v i (Some p) none = grind (arith, nat_tests, queue_same, front_none)
 
 drop_row : (b : Boot) (m : ℕ) (pt : Point) (l : Placed) (k : KernelState) (y : Message) (w : PlainWhat) (c : Taking b m pt l k y w) → IsEnded b m pt l k y.to.pid → is_dropped w ≡ true → ended_handles (record k { inbox = c.rest }) y y.what ≡ machine.is_dropped (record k { inbox = c.rest }) y
     → rule.ended_handles y.id w ≡ Some (rule.says (Label.Dropped y.id) ∷ []) → Row b m pt l k
@@ -203,7 +205,7 @@ pub record Served (b : Boot) (m : ℕ) (pt : Point) (l : Placed) (k : KernelStat
   pub memory : length pz.memory ≡ length h.x.memory
   pub fresh : (a : Message) → o ≡ Some a → pt.kernel.bag a.id ≡ None
   pub plain : (a : Message) → o ≡ Some a → is_some (plain_message a) ≡ true
-  pub quiet : (v : View) (p : Pid) → view.kills (plain_kind w) v (Some p) ≡ v
+  pub quiet : (v : View) (p : Pid) → view.ends_by (sort_of (plain_kind w)) v (Some p) ≡ v
 
 pub here_known : (next : Point) (on : Placed) (p : Pid) (queue held : List MsgId) (z : Process) (q : List Message) (r : Option state.KernelKnown) (n : Known) → r ≡ Some (Record.Here z) → n ≡ view.Here → on.processes p ≡ Some (with_queue z q) → AreMessages on.bag queue z.queue → KnownStands next on p queue held n r
 here_known next on p queue held z q r n is here there waits =

@@ -17,6 +17,7 @@ use Rattle.dm_onekernel.specs.Step as kernel
 use Rattle.dm_mirror.proofs.Handle.Taking.{Taking, sane_of}
 use Rattle.dm_mirror.proofs.Turning.{Row}
 use Rattle.dm_mirror.proofs.Handle.Ended.{IsHere, served_row, served_step}
+use Rattle.dm_message.specs.Sorts.{sort_of}
 
 -- a landing with places, and what it comes to without: the process keeps its queue and the length of its memory
 record Lands (p : Pid) (x : Process) (o : Option Landing) (c : pieces.Landed) : Type 0 where
@@ -102,7 +103,7 @@ landed_row : (b : Boot) (m : ℕ) (pt : Point) (l : Placed) (k : KernelState) (y
     → Lands_as w → placed.serves m (placed.without_message l y.id) y (with_queue h.x h.queue) y.what ≡ placed.lands m (placed.without_message l y.id) y (with_queue h.x h.queue)
     → here_handles (record k { inbox = c.rest }) y h.x y.what ≡ machine.lands (record k { inbox = c.rest }) y (landing.landing k.here h.x y.what h.x.status)
     → rule.here_handles pt m y.id (plainly y w) (plain_process h.x) w ≡ rule.landing_parts y.id (pieces.lands y.to.pid (plain_process h.x) (plainly y w) (plain_process h.x).status)
-    → ((v : View) (p : Pid) → view.kills (plain_kind w) v (Some p) ≡ v) → landing.landing m h.x y.what h.x.status ≡ Some d → pieces.lands y.to.pid (plain_process h.x) (plainly y w) (plain_process h.x).status ≡ Some f
+    → ((v : View) (p : Pid) → view.ends_by (sort_of (plain_kind w)) v (Some p) ≡ v) → landing.landing m h.x y.what h.x.status ≡ Some d → pieces.lands y.to.pid (plain_process h.x) (plainly y w) (plain_process h.x).status ≡ Some f
     → plain_landed d.landed d.process ≡ Some f → d.process.queue ≡ h.x.queue → length d.process.memory ≡ length h.x.memory → Row b m pt l k
 landed_row b m pt l k y w c h f d (Landed.Done r) e serves_as placed_as turn_as outcome_as quiet lands plain_lands plain queue memory =
     let s = pt.kernel in
@@ -162,7 +163,7 @@ land_row : (b : Boot) (m : ℕ) (pt : Point) (l : Placed) (k : KernelState) (y :
     → placed.serves m (placed.without_message l y.id) y (with_queue h.x h.queue) y.what ≡ placed.lands m (placed.without_message l y.id) y (with_queue h.x h.queue)
     → here_handles (record k { inbox = c.rest }) y h.x y.what ≡ machine.lands (record k { inbox = c.rest }) y (landing.landing k.here h.x y.what h.x.status)
     → rule.here_handles pt m y.id (plainly y w) (plain_process h.x) w ≡ rule.landing_parts y.id (pieces.lands y.to.pid (plain_process h.x) (plainly y w) (plain_process h.x).status)
-    → ((v : View) (p : Pid) → view.kills (plain_kind w) v (Some p) ≡ v) → rule.here_handles pt m y.id (plainly y w) (plain_process h.x) w ≡ Some ps → Row b m pt l k
+    → ((v : View) (p : Pid) → view.ends_by (sort_of (plain_kind w)) v (Some p) ≡ v) → rule.here_handles pt m y.id (plainly y w) (plain_process h.x) w ≡ Some ps → Row b m pt l k
 land_row b m pt l k y w ps c h serves_as placed_as turn_as outcome_as quiet goes =
     let px = plain_process h.x in
     let (f, is) = lands_some y.id (pieces.lands y.to.pid px (plainly y w) px.status) ps (sym outcome_as ∙ goes) in

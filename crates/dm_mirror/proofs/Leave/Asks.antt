@@ -1,10 +1,10 @@
 -- A process is told to move: to where it is, or it is frozen, and the other machine is asked.
 use Rattle.dm_mirror.proofs.Names.{◌≡◌, ◌≢◌, ℕ, ◌+◌, ◌≤◌, ◌==◌, ◌&&◌, Bool, true, false, not, List, [], ◌∷◌, map, refl, ap, ◌∙◌, sym, subst, inl, inr, arith, if◌then◌else◌, None, Some, eqb_tells, Pid, pid_eq, kernel_at, Message, nat_tests}
 use Rattle.dm_mirror.proofs.Names.{MsgId, What, MessageKind, Record, Line, Stage, Process, CanMove, ask_of, frozen, Taken, Boot, manager, switchboard, FreezesReceiverWhole, KnownIsWhole, freezes, with_frozen, KernelState, own, turned}
-use Rattle.dm_mirror.proofs.Names.{pid_eq-is, pid_eq-same, to_kernel, Point, moved, Room, taken_by, takes_room, at_machine, at_record, without, without_front, times, Here, Frozen, Known, Of, front_told, own_id, target_of, without_first}
+use Rattle.dm_mirror.proofs.Names.{pid_eq-is, pid_eq-same, to_kernel, Point, moved, Room, taken_by, takes_room, at_machine, at_record, without, without_front, times, Here, Frozen, Known, Of, own_id, target_of}
 use Rattle.dm_mirror.proofs.Names.{is_server, has_nothing_held, is_fixed, Placed, mirrors_view, told_of, KnownStands, LeavesStand, RoomStands, AllRecords, eq_not, or-right, ◌/◌, length, option_map, Option, Addr, pid_of, kind_of, plain_what}
-use Rattle.dm_mirror.proofs.Names.{with_what, frozen_of, incoming_of, Departure, block_of, chunk_of, state_of, OneKernel, bind, plain_process, gives_piece, kernel_handles, Addresses, Receiver, Sender, gets, own_gives, unmoved, kernel_told}
-use Rattle.dm_mirror.proofs.Names.{is_between, is_of_source, fits, free_room, kernel_hears, Inbox, standing, Told, Unknown, View, after_proto, handled, Run, enclosed, about_of, Carries, destination_of, false≢true, ◌++◌, turn, outcome}
+use Rattle.dm_mirror.proofs.Names.{with_what, frozen_of, incoming_of, Departure, block_of, chunk_of, state_of, OneKernel, bind, plain_process, gives_piece, kernel_handles, Addresses, Receiver, Sender, gets, own_given, unmoved, told_step}
+use Rattle.dm_mirror.proofs.Names.{is_between, tells_onward, fits, free_room, kernel_hears, Inbox, standing, Told, Unknown, View, after_proto, handled, Run, enclosed, about_of, Carries, destination_of, false≢true, ◌++◌, turn, outcome}
 use Rattle.dm_mirror.proofs.Names.{after, Step, plain_message, HereStands, Mirrors, AllOwnStand, KernelStands, TokensStand, AreMessages, Spot, Queue, Held, spot_cases, Asker, plain_note, leaves_for, here_free, Part}
 use Rattle.dm_kernel.specs.State.{with_sent}
 use Rattle.dm_onekernel.specs.Step as kernel
@@ -20,6 +20,10 @@ use Rattle.dm_mirror.proofs.Handle.Taking.{eq_self, machine_self, machine_off, r
 use Rattle.dm_mirror.proofs.Handle.Rows.{Elsewhere, here_left, standing_begun}
 use Rattle.dm_mirror.proofs.Follow.Fronts.{front_gone as front_off, elsewhere_apart}
 use Rattle.dm_mirror.proofs.Leave.Fronts as owns
+use Rattle.dm_message.specs.Sorts.{sort_of}
+use Rattle.std.specs.Prelude.{drop}
+use Rattle.std.specs.Prelude.{slice_get}
+use Rattle.std.specs.Prelude.{option_and_then}
 
 -- the room is the same where machine m has the same of each process
 pub room_stays : (room given : Taken) (r s : Room) → s ≡ r → RoomStands room given r → RoomStands room given s
@@ -264,11 +268,11 @@ asks_other b m pt l records k y machine h at_m apart whole =
     let here =
     here_is pt l p (v.queue m p) (v.held m p) (k.records p) (subst (λ (n : Known). KnownStands pt l p (v.queue m p) (v.held m p) n (k.records p)) at_m (h.stands.known p server)) in
     let x = here.process in
-    let to : ℕ = target_of (front_told v (v.inbox m)) in
+    let to : ℕ = target_of (option_and_then v.told (slice_get (v.inbox m) 0)) in
     let next : Point = moved (moved (begun pt m) (Line.Migration Stage.Frozen p) pt.kernel) (Line.Migration Stage.Asked p) pt.kernel in
     let off_here : (machine == k.here) ≡ false = ap (λ (n : ℕ). machine == n) h.stands.here ∙ eq_not machine m (λ e. apart (sym e)) in
     let off_rule : (m == machine) ≡ false = eq_not m machine apart in
-    sets_off b m pt l records k p machine None (Line.Migration Stage.Frozen p ∷ Line.Migration Stage.Asked p ∷ []) pt.kernel pt.addresses (without_first (v.inbox m)) to l (record {
+    sets_off b m pt l records k p machine None (Line.Migration Stage.Frozen p ∷ Line.Migration Stage.Asked p ∷ []) pt.kernel pt.addresses (drop 1 (v.inbox m)) to l (record {
       run = h.run;
       mirrors = h.mirrors;
       stands = h.stands;
@@ -282,11 +286,11 @@ asks_other b m pt l records k y machine h at_m apart whole =
       whole = whole x here.is;
       at_m = at_m;
       server = server;
-      to_is = ap (λ (ids : List MsgId). target_of (front_told v ids)) h.box ∙ ap target_of h.told;
+      to_is = ap (λ (ids : List MsgId). target_of (option_and_then v.told (slice_get ids 0))) h.box ∙ ap target_of h.told;
       front = y.id;
       ids = h.ids;
       first = h.box;
-      gone = ap without_first h.box;
+      gone = ap (drop 1) h.box;
       rest = h.rest;
       others = h.others;
       turn = turn_hears b m pt l records k z h (freezes s p x machine)
@@ -369,8 +373,8 @@ pub record IsPiece (p : Pid) (w : What) : Type 0 where
   pub about : about_of w ≡ Of p
   pub plain : plain_what w ≡ None
   pub encloses : enclosed w ≡ []
-  pub gives : (s : OneKernel) (v : View) (a : Addresses) (i : MsgId) (q : Pid) → own_gives s v a i q (kind_of w) ≡ gets (Receiver i) (unmoved q.home) ∷ gets (Sender i) (unmoved v.acting) ∷ []
-  pub of_source : is_of_source (kind_of w) ≡ true
+  pub gives : (s : OneKernel) (v : View) (a : Addresses) (i : MsgId) (q : Pid) → own_given s v a i q (sort_of (kind_of w)) ≡ gets (Receiver i) (unmoved q.home) ∷ gets (Sender i) (unmoved v.acting) ∷ []
+  pub of_source : tells_onward (sort_of (kind_of w)) ≡ true
 
 gives : (b : Boot) (m : ℕ) (pt : Point) (l : Placed) (records : AllRecords) (k : KernelState) (y : Message) (p : Pid) (w : What) (h : Hearing b m pt l records k y) → Leaving m pt y p → IsPiece p w → Carried pt l records p y
     → kernel_handles b (record k { inbox = h.rest }) y y.what ≡ gives_piece (record k { inbox = h.rest }) y w
@@ -445,7 +449,7 @@ gives b m pt l records k y p w h g piece c turn hears proto x there carries =
 
 -- while it leaves a process is alive
 pub leaves_alive : (b : Boot) (m : ℕ) (pt : Point) (l : Placed) (p : Pid) (x : Process) (i : MsgId) (k : MessageKind) (o : Option (List rule.Part)) → l.processes p ≡ Some x → kernel.alive (pt.kernel.processes p) ≡ option_map plain_process (l.processes p)
-    → kernel_told pt m i p (fits (free_room b pt m) (length x.memory / 256)) (plain_process x) k ≡ o → kernel_hears b pt m i k (Of p) ≡ o
+    → told_step pt m i p (fits (free_room b pt m) (length x.memory / 256)) (plain_process x) (sort_of k) ≡ o → kernel_hears b pt m i k (Of p) ≡ o
 leaves_alive b m pt l p x i k o there plain told = grind (arith, nat_tests, option_map)
 
 gives_chunk : (b : Boot) (m : ℕ) (pt : Point) (l : Placed) (records : AllRecords) (k : KernelState) (y : Message) (p : Pid) (chunk : ℕ) → Hearing b m pt l records k (record y { what = What.PullState p chunk }) → TurnsAt b m pt l records k

@@ -1,10 +1,10 @@
 -- A machine hears a kernel's own message at its inbox's front: what holds then, and what stands where once the message is handled.
 use Rattle.dm_mirror.proofs.Names.{◌≡◌, ◌≢◌, ◌⊎◌, ℕ, ◌+◌, ◌≤◌, ◌==◌, ◌&&◌, Bool, true, false, not, List, ◌∷◌, ap, ◌∙◌, sym, subst, inl, inr, arith, if◌then◌else◌, Option, None, Some, eqb_tells, Pid, pid_of, Message, MsgId, kind_of}
-use Rattle.dm_mirror.proofs.Names.{plain_message, bind, Boot, Step, handles, KernelState, Turned, turn, turns, id_eq-same, is_apart, is_between, is_of_source, is_restart, knows, Moves, Phase, Rests, receiver_in, sender_in, told_between}
+use Rattle.dm_mirror.proofs.Names.{plain_message, bind, Boot, Step, handles, KernelState, Turned, turn, turns, id_eq-same, is_apart, is_between, tells_onward, is_restart, knows, Moves, Phase, Rests, receiver_in, sender_in, told_between}
 use Rattle.dm_mirror.proofs.Names.{token_in, Point, comes_to, hears, outcome, Spot, Queue, Held, Inbox, Untaken, standing, times, Here, Frozen, Of, Told, View, is_kernels, letters, rests_here, token_at, token_is, StandsAsBag-one}
 use Rattle.dm_mirror.proofs.Names.{StandsAsBag-elsewhere, spot_cases, OwnTold, Run, Placed, Mirrors, AllOwnStand, about_of, told_of, AreMessages, KernelStands, AllRecords, TokensStand, eq_self, source_knows, inbox_is, of_same, more_front}
 use Rattle.dm_mirror.proofs.Names.{holds_is, ◌||◌, [], refl, Addr, pid_eq, place_of, nat_tests, kernel_at, id_of, What, MessageKind, Arrival, PlainMessage, Process, incoming_of, process_handles, Gets, Receiver, Sender, gets, given}
-use Rattle.dm_mirror.proofs.Names.{own_gives, unmoved, process_told, kernel_hears, at_machine, Known, own_id, not_kernels, is_fixed, enclosed, Carries, destination_of, about_same, cases_Bool, Record, Departure, pid_eq-is, HereStands}
+use Rattle.dm_mirror.proofs.Names.{own_given, unmoved, process_told, kernel_hears, at_machine, Known, own_id, not_kernels, is_fixed, enclosed, Carries, destination_of, about_same, cases_Bool, Record, Departure, pid_eq-is, HereStands}
 use Rattle.dm_mirror.proofs.Names.{KnownStands, LeavesStand, Asker}
 use Rattle.dm_rule.specs.Parts as rule
 use Rattle.dm_rule.specs.Rule as ruled
@@ -12,6 +12,7 @@ use Rattle.dm_kernel.specs.State as machine
 use Rattle.dm_mirror.proofs.Handle.Taking.{front_of, times_self, machine_self, machine_off, some_same}
 use Rattle.dm_mirror.proofs.Turning.{IsCarried, MayOwn}
 pub use Rattle.dm_mirror.proofs.Handle.Taking.{to_kernel}
+use Rattle.dm_message.specs.Sorts.{sort_of}
 
 -- machine m hears message y, which is no message of the kernel without machines
 pub record Hearing (b : Boot) (m : ℕ) (pt : Point) (l : Placed) (records : AllRecords) (k : KernelState) (y : Message) : Type 0 where
@@ -135,7 +136,7 @@ pub record Leaving (m : ℕ) (pt : Point) (y : Message) (p : Pid) : Type 0 where
   pub receiver : y.to.pid ≡ pid_of m 0
   pub phase : (n : ℕ) → knows (Moves (kind_of y.what) m to (Some y.id)) n (pt.view.known n p) ≡ true
 
-pub leaving : (b : Boot) (m : ℕ) (pt : Point) (l : Placed) (records : AllRecords) (k : KernelState) (y : Message) (p : Pid) → Hearing b m pt l records k y → is_between (kind_of y.what) ≡ true → is_of_source (kind_of y.what) ≡ false → is_restart (kind_of y.what) ≡ false → about_of y.what ≡ Of p
+pub leaving : (b : Boot) (m : ℕ) (pt : Point) (l : Placed) (records : AllRecords) (k : KernelState) (y : Message) (p : Pid) → Hearing b m pt l records k y → is_between (kind_of y.what) ≡ true → tells_onward (sort_of (kind_of y.what)) ≡ false → is_restart (kind_of y.what) ≡ false → about_of y.what ≡ Of p
     → Leaving m pt y p
 leaving b m pt l records k y p h between source restart about =
     let v = pt.view in
@@ -144,7 +145,7 @@ leaving b m pt l records k y p h between source restart about =
     let token = token_at v q (phases.of q) j s d y.id moves (phases.each q) in
     let told : told_between q j s d ≡ told_of y = some_same (told_between q j s d) (told_of y) (sym token.told ∙ h.told) in
     let kind : j ≡ kind_of y.what = ap (λ (t : Told). t.kind) told in
-    let of_source : is_of_source j ≡ false = ap is_of_source kind ∙ source in
+    let of_source : tells_onward (sort_of j) ≡ false = ap (λ (k : MessageKind). tells_onward (sort_of k)) kind ∙ source in
     let to_m : m ≡ receiver_in j s d = inbox_is m (sender_in j s d) (receiver_in j s d) (token.ways (Inbox m) (stands_first b m pt l records k y h)) in
     let here : m ≡ s = to_m ∙ (ap (λ (c : Bool). if c then d else s) of_source) in
     let phase : phases.of p ≡ Moves j s d (Some y.id) = ap phases.of (sym (of_same q p (sym of_q ∙ about))) ∙ moves in
@@ -186,7 +187,7 @@ pub record Between (pt : Point) (placed : Placed) (records : AllRecords) (m c : 
   pub id : x.id ≡ own_id pt.view
   pub plain : plain_message x ≡ None
   pub encloses : enclosed x.what ≡ []
-  pub gives : own_gives pt.kernel pt.view pt.addresses x.id x.to.pid (kind_of x.what) ≡ gets (Receiver x.id) (unmoved x.to.pid.home) ∷ gets (Sender x.id) (unmoved pt.view.acting) ∷ []
+  pub gives : own_given pt.kernel pt.view pt.addresses x.id x.to.pid (sort_of (kind_of x.what)) ≡ gets (Receiver x.id) (unmoved x.to.pid.home) ∷ gets (Sender x.id) (unmoved pt.view.acting) ∷ []
   pub to : x.to ≡ kernel_at c
   pub sender : x.sender ≡ kernel_at m
   pub bag : placed.bag x.id ≡ None

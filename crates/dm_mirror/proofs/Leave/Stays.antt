@@ -1,6 +1,6 @@
 -- A process that was to leave stays: it is served again, and what was held comes before the inbox.
 use Rattle.dm_mirror.proofs.Names.{◌≡◌, ◌≢◌, ◌⊎◌, ℕ, ◌≤◌, Bool, true, false, List, [], ◌∷◌, ◌++◌, map, nat_le, refl, ap, ◌∙◌, sym, subst, inl, inr, arith, if◌then◌else◌, Option, Some, nat_tests, Pid, pid_eq, Message, MsgId, What}
-use Rattle.dm_mirror.proofs.Names.{MessageKind, Record, Line, frozen_of, with_record, Boot, bind, stays, KernelState, pid_eq-same, Point, moved, takes_room, at_machine, standing, times, Here, Known, without_first, times-append, Placed}
+use Rattle.dm_mirror.proofs.Names.{MessageKind, Record, Line, frozen_of, with_record, Boot, bind, stays, KernelState, pid_eq-same, Point, moved, takes_room, at_machine, standing, times, Here, Known, times-append, Placed}
 use Rattle.dm_mirror.proofs.Names.{mirrors_view, told_of, AreMessages, KnownStands, AllRecords, is_server, false≢true, ◌==◌, Moves, Spot, Told, is_away, is_between, kind_comes, knows, Of, turned, Outcome, tells_asker}
 use Rattle.dm_kernel.specs.declared.part.Part as part
 use Rattle.dm_kernel.specs.State as machine
@@ -12,6 +12,7 @@ use Rattle.dm_mirror.proofs.Leave.Fronts.{FrontGone, Hearing, front_nowhere, lea
 use Rattle.dm_mirror.proofs.Leave.Asks.{room_stays, taken_at_record, departing, kernel_number, leaves_alive, leaves_no_server}
 use Rattle.dm_mirror.proofs.Turning.{TurnsAt, begun, has_process}
 use Rattle.dm_mirror.proofs.Handle.Taking.{eq_off, machine_self, machine_off, record_self, record_off, record_others, stands_set}
+use Rattle.std.specs.Prelude.{drop}
 
 -- messages of two lists, one after the other
 pub messages_append : (bag : MsgId → Option Message) (is js : List MsgId) (ms ns : List Message) → AreMessages bag is ms → AreMessages bag js ns → AreMessages bag (is ++ js) (ms ++ ns)
@@ -53,10 +54,10 @@ refuses b m pt l records k y p slots blocks h =
     let state : KernelState = record s { records = with_record s.records p (Record.Here x); ring = s.ring ++ p ∷ []; inbox = d.departure.held ++ s.inbox } in
     let next : Point = moved (begun pt m) (Line.Stays p) pt.kernel in
     let after_records : AllRecords = at_machine records m state.records in
-    let first : List MsgId = at_machine v.inbox m (without_first (v.inbox m)) m in
-    let first_is : first ≡ h.ids = machine_self v.inbox m (without_first (v.inbox m)) ∙ ap without_first h.box in
-    let box : next.view.inbox m ≡ v.held m p ++ h.ids = machine_self (at_machine v.inbox m (without_first (v.inbox m))) m (v.held m p ++ first) ∙ ap (λ (is : List MsgId). v.held m p ++ is) first_is in
-    let box_off : (n : ℕ) → n ≢ m → next.view.inbox n ≡ v.inbox n = λ n off. machine_off (at_machine v.inbox m (without_first (v.inbox m))) m n (v.held m p ++ first) off ∙ machine_off v.inbox m n (without_first (v.inbox m)) off in
+    let first : List MsgId = at_machine v.inbox m (drop 1 (v.inbox m)) m in
+    let first_is : first ≡ h.ids = machine_self v.inbox m (drop 1 (v.inbox m)) ∙ ap (drop 1) h.box in
+    let box : next.view.inbox m ≡ v.held m p ++ h.ids = machine_self (at_machine v.inbox m (drop 1 (v.inbox m))) m (v.held m p ++ first) ∙ ap (λ (is : List MsgId). v.held m p ++ is) first_is in
+    let box_off : (n : ℕ) → n ≢ m → next.view.inbox n ≡ v.inbox n = λ n off. machine_off (at_machine v.inbox m (drop 1 (v.inbox m))) m n (v.held m p ++ first) off ∙ machine_off v.inbox m n (drop 1 (v.inbox m)) off in
     let gone : FrontGone m h.ids v next.view = record {
       inbox = λ j least. elim (in_one j (v.held m p) h.ids (subst (λ (ids : List MsgId). 1 ≤ times j ids) box least)) [
         | inl more ↦ inl more

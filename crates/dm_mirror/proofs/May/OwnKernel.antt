@@ -2,7 +2,7 @@
 -- coming, and the message carries what is asked for.
 use Rattle.dm_mirror.proofs.Names.{◌≡◌, ℕ, ◌*◌, ◌/◌, ◌≤◌, ◌==◌, ◌&&◌, not, Bool, true, false, length, refl, ap, ◌∙◌, sym, subst, arith, if◌then◌else◌, length-map, Option, None, Some, false≢true, All-nil, Pid, Message, MsgId, What}
 use Rattle.dm_mirror.proofs.Names.{MessageKind, Record, kind_of, IsLawfulMessage, Process, IsLawfulProcess, frozen_of, incoming_of, IsAskOfProcess, Arrival, CanMove, Departure, ask_of, HasBlock, HasChunk, state_of, Boot, Phase, Moves}
-use Rattle.dm_mirror.proofs.Names.{kind_comes, is_apart, is_away, is_between, is_early, is_of_source, is_restart, knows, kind_leaves, receiver_in, sender_in, told_between, Point, Inbox, standing, View, Known, Unknown, Here, Frozen}
+use Rattle.dm_mirror.proofs.Names.{kind_comes, is_apart, is_away, is_between, is_early, tells_onward, is_restart, knows, kind_leaves, receiver_in, sender_in, told_between, Point, Inbox, standing, View, Known, Unknown, Here, Frozen}
 use Rattle.dm_mirror.proofs.Names.{Incoming, Of, Told, token_at, token_is, is_server, Run, Placed, IsSuch, KernelState, about_of, ComesStand, KernelStands, KnownStands, LeavesStand, Carries, TokensStand, Wants, destination_of, eq_self}
 use Rattle.dm_mirror.proofs.Names.{apart_is, inbox_is, about_same, ◌<◌, ◌||◌, [], IsSome, Chunk, Block, Nothing, IsNextPiece, restarted, block_of, chunk_of, coming, by_pieces, takes_room, own_sort, Mirrors, FitsKernel, MayLeave, MayRestart}
 use Rattle.dm_mirror.proofs.Names.{MadeStands, nat_tests, Asker}
@@ -12,6 +12,7 @@ use Rattle.dm_mirror.proofs.May.Own.{OwnFront, has_taken, life_is}
 use Rattle.dm_mirror.proofs.Turning.{is_moving}
 use Rattle.dm_mirror.proofs.Leave.Asks.{process_same as same_process}
 use Rattle.dm_mirror.proofs.Counts.Pairs.{CountsFew}
+use Rattle.dm_message.specs.Sorts.{sort_of}
 
 -- what source and destination know of a process whose message comes here
 pub record IsMoved (pt : Point) (m : ℕ) (p : Pid) (k : MessageKind) : Type 0 where
@@ -125,14 +126,14 @@ pub incoming_is : (k : KernelState) (p : Pid) (a : Arrival) (P : Arrival → Typ
 incoming_is k p a P is h = subst (IsSuch P) (sym (ap incoming_of is)) h
 
 -- where the process is held back
-pub source_leaves : (b : Boot) (pt : Point) (l : Placed) (m : ℕ) (k : KernelState) (p : Pid) (c : MessageKind) → Run b pt → KernelStands b pt l m k → (h : IsMoved pt m p c) → is_of_source c ≡ false → is_restart c ≡ false → Leaves pt l m k p
+pub source_leaves : (b : Boot) (pt : Point) (l : Placed) (m : ℕ) (k : KernelState) (p : Pid) (c : MessageKind) → Run b pt → KernelStands b pt l m k → (h : IsMoved pt m p c) → tells_onward (sort_of c) ≡ false → is_restart c ≡ false → Leaves pt l m k p
 source_leaves b pt l m k p c run stands h side early =
     let here : m ≡ h.s = h.here ∙ ap (λ (d : Bool). if d then h.d else h.s) side in
     let (to, known) = frozen_at c h.d (pt.view.known h.s p) h.source early in
     leaves_at b pt l m k p to run stands (ap (λ (n : ℕ). pt.view.known n p) here ∙ known)
 
 -- where it comes
-pub destination_comes : (b : Boot) (pt : Point) (l : Placed) (m : ℕ) (k : KernelState) (p : Pid) (c : MessageKind) → Run b pt → KernelStands b pt l m k → (h : IsMoved pt m p c) → is_of_source c ≡ true → is_early c ≡ false → Comes pt l m k p
+pub destination_comes : (b : Boot) (pt : Point) (l : Placed) (m : ℕ) (k : KernelState) (p : Pid) (c : MessageKind) → Run b pt → KernelStands b pt l m k → (h : IsMoved pt m p c) → tells_onward (sort_of c) ≡ true → is_early c ≡ false → Comes pt l m k p
 destination_comes b pt l m k p c run stands h side early =
     let here : m ≡ h.d = h.here ∙ ap (λ (d : Bool). if d then h.d else h.s) side in
     let (from, known) = incoming_at c h.s (pt.view.known h.d p) h.destination early in
@@ -215,8 +216,8 @@ asks_to_come b pt l ks m i x w p h t is asked =
     let same = same_process (l.processes p) t.process (record d.departure.process { queue = d.stands.here.0.0 }) t.there d.stands.here.0.1 in
     subst IsAskOfProcess (sym (asked ∙ ap (λ (v : Process). ask_of v (l.notes p)) same)) (whole_asks d.departure.process (l.notes p) d.stands.whole)
 
-sort_of : (b : Boot) (pt : Point) (l : Placed) (ks : ℕ → KernelState) (m : ℕ) (i : MsgId) (x : Message) (w : What) → x.what ≡ w → Around b pt l ks m i x → own_sort (kind_of w) x.to.pid (about_of w) ≡ true
-sort_of b pt l ks m i x w e h = ap (λ (v : What). own_sort (kind_of v) x.to.pid (about_of v)) (sym e) ∙ h.front.sort
+sorted_of : (b : Boot) (pt : Point) (l : Placed) (ks : ℕ → KernelState) (m : ℕ) (i : MsgId) (x : Message) (w : What) → x.what ≡ w → Around b pt l ks m i x → own_sort (kind_of w) x.to.pid (about_of w) ≡ true
+sorted_of b pt l ks m i x w e h = ap (λ (v : What). own_sort (kind_of v) x.to.pid (about_of v)) (sym e) ∙ h.front.sort
 
 kernel_row : (b : Boot) (pt : Point) (l : Placed) (ks : ℕ → KernelState) (m : ℕ) (i : MsgId) (x : Message) (w : What) → x.what ≡ w → Around b pt l ks m i x → (x.to.pid.num == 0) ≡ true → (ks m).sent < 4294967295 → FitsKernel b (ks m) w
 kernel_row b pt l ks m i x (What.Ask pid blocks moves size asker) e h num sent =
@@ -260,9 +261,9 @@ kernel_row b pt l ks m i x (What.Restart pid) e h num sent =
     let c = destination_comes b pt l m (ks m) pid MessageKind.Restart h.run (h.nodes m h.within) t.moved refl refl in
     let wanted = subst (λ (v : Option Arrival). Wants v Nothing) (ap (λ (n : ℕ). incoming_of ((ks n).records pid)) (home_is b pt l ks m i x h num) ∙ ap incoming_of c.is) t.carries.1 in
     incoming_is (ks m) pid c.arrival MayRestart c.is (all_come c.stands.process (l.notes pid) c.arrival c.stands.whole c.stands.pieces wanted)
-kernel_row b pt l ks m i x (What.Migrate machine_) e h num sent = absurd (false≢true (sym (ap (λ (c : Bool). not (c || is_server x.to.pid) && true) num) ∙ sort_of b pt l ks m i x (What.Migrate machine_) e h))
-kernel_row b pt l ks m i x (What.Update about) e h num sent = absurd (false≢true (sym (ap (λ (c : Bool). not c && true) num) ∙ sort_of b pt l ks m i x (What.Update about) e h))
-kernel_row b pt l ks m i x any_ e h num sent = absurd (false≢true (sort_of b pt l ks m i x any_ e h))
+kernel_row b pt l ks m i x (What.Migrate machine_) e h num sent = absurd (false≢true (sym (ap (λ (c : Bool). not (c || is_server x.to.pid) && true) num) ∙ sorted_of b pt l ks m i x (What.Migrate machine_) e h))
+kernel_row b pt l ks m i x (What.Update about) e h num sent = absurd (false≢true (sym (ap (λ (c : Bool). not c && true) num) ∙ sorted_of b pt l ks m i x (What.Update about) e h))
+kernel_row b pt l ks m i x any_ e h num sent = absurd (false≢true (sorted_of b pt l ks m i x any_ e h))
 
 pub own_kernel : (b : Boot) (pt : Point) (l : Placed) (ks : ℕ → KernelState) (m : ℕ) (i : MsgId) (x : Message) → Around b pt l ks m i x → (x.to.pid.num == 0) ≡ true → (ks m).sent < 4294967295 → FitsKernel b (ks m) x.what
 own_kernel b pt l ks m i x h num sent = kernel_row b pt l ks m i x x.what refl h num sent

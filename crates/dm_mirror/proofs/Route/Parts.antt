@@ -1,7 +1,7 @@
 -- What stands somewhere stands there behind messages that are put.
 use Rattle.dm_mirror.proofs.Names.{◌≡◌, ℕ, ◌+◌, ◌≤◌, ◌==◌, Bool, true, false, List, [], ◌∷◌, ◌++◌, length, map, refl, ap, ◌∙◌, sym, subst, arith, if◌then◌else◌, Option, None, Some, Pid, MsgId, MessageKind, kind_of, plain_kind, PlainMessage}
 use Rattle.dm_mirror.proofs.Names.{nat_tests, bind, bind-is, Line, Load, Stage, Receiver, Spelled, goes_out, puts, spelled, Point, after, moved, at_machine, Spot, standing, Told, View, is_own, own_id, fits_packet, fits_put, PairsFit, Sane}
-use Rattle.dm_mirror.proofs.Names.{Placed, Mirrors, AllRecords, pid_of, Message, id_eq, id_of, id_eq-is, Gets, Sender, first_gives, given, own_gives, is_kernels, not_kernels, put_told_off, not_first, zero, suc, ◌&&◌, drop, eqb-true}
+use Rattle.dm_mirror.proofs.Names.{Placed, Mirrors, AllRecords, pid_of, Message, id_eq, id_of, id_eq-is, Gets, Sender, first_gives, given, own_given, is_kernels, not_kernels, put_told_off, not_first, zero, suc, ◌&&◌, drop, eqb-true}
 use Rattle.dm_mirror.proofs.Names.{drop-append-le, Inbox, Untaken, times, untaken, Pair, after_packet, after_put, routed_on, two_of, put_spot, put_there, times-append, home_full, behind}
 use Rattle.dm_rule.specs.Parts as rule
 use Rattle.dm_mirror.proofs.Turning.{Route, First, On, Own, Late, Nothing, Leaves, MayPut, late_rule_parts, message_of, rule_part_of, MayOwn, AllMayPut, LateMay, late_owns, owns}
@@ -9,6 +9,7 @@ use Rattle.dm_mirror.proofs.Puts.{put_standing}
 use Rattle.dm_mirror.proofs.Route.Puts.{after_route, route_keeps, route_more, told_stays, own_gives_same}
 use Rattle.dm_mirror.proofs.Join.{put_end, plain_of, put_point}
 use Rattle.dm_mirror.proofs.Turning as turning
+use Rattle.dm_message.specs.Sorts.{sort_of}
 
 more_times : (j : MsgId) (xs ys : List MsgId) → 1 ≤ times j xs → 1 ≤ times j (xs ++ ys)
 more_times j xs ys h = let a = times-append j xs ys in omega (arith, a, h)
@@ -66,8 +67,14 @@ same_end q m c x true out = record { kernel = refl; addresses = refl; acting = r
 same_end q m c x false false = record { kernel = refl; addresses = refl; acting = refl; count = refl; told = refl; topic = refl; asked = refl; groups = refl }
 same_end q m c x false true = record { kernel = refl; addresses = refl; acting = refl; count = refl; told = refl; topic = refl; asked = refl; groups = refl }
 
+not_own : (i : MsgId) (o : Option Told) → is_kernels i ≡ false → is_own i o ≡ false
+not_own i None e = e
+not_own i (Some t) e = refl
+
 pub first_not_own : (pt : Point) (l : Placed) (records : AllRecords) (x : Message) → Sane pt → Mirrors pt.kernel pt.view pt.addresses l → MayPut pt l records (First x) → is_own x.id (pt.view.told x.id) ≡ false
-first_not_own pt l records x sane mirrors may = grind (arith, nat_tests, plain_of, not_kernels)
+first_not_own pt l records x sane mirrors may =
+    let there = plain_of pt l x mirrors may.0 may.1 in
+    not_own x.id (pt.view.told x.id) (not_kernels sane.r sane.e pt.kernel x.id there.m there.there sane.sound)
 
 pub on_not_own : (pt : Point) (l : Placed) (records : AllRecords) (x : Message) → MayPut pt l records (On x) → is_own x.id (pt.view.told x.id) ≡ false
 on_not_own pt l records x may = not_first x.id (pt.view.told x.id) may.1.0 may.1.1
@@ -84,8 +91,8 @@ record Keeps (pt end : Point) (i : MsgId) : Type 0 where
 
 own_stays : (pt end : Point) (l : Placed) (records : AllRecords) (x : Message) → Keeps pt end x.id → MayOwn pt l records x → MayOwn end l records x
 own_stays pt end l records x k may =
-    let gives : own_gives end.kernel end.view end.addresses x.id x.to.pid (kind_of x.what) ≡ own_gives pt.kernel pt.view pt.addresses x.id x.to.pid (kind_of x.what) =
-    (λ i. own_gives (k.kernel i) end.view (k.addresses i) x.id x.to.pid (kind_of x.what)) ∙ own_gives_same pt.kernel pt.view end.view pt.addresses x.id x.to.pid (kind_of x.what) k.acting in
+    let gives : own_given end.kernel end.view end.addresses x.id x.to.pid (sort_of (kind_of x.what)) ≡ own_given pt.kernel pt.view pt.addresses x.id x.to.pid (sort_of (kind_of x.what)) =
+    (λ i. own_given (k.kernel i) end.view (k.addresses i) x.id x.to.pid (sort_of (kind_of x.what))) ∙ own_gives_same pt.kernel pt.view end.view pt.addresses x.id x.to.pid (kind_of x.what) k.acting in
     record {
       id = may.id ∙ sym k.own;
       plain = may.plain;
@@ -103,7 +110,7 @@ apart_bag : (l : Placed) (x y : Message) → l.bag x.id ≡ Some x → l.bag y.i
 apart_bag l x y there none = grind (arith, nat_tests, id_eq-is)
 
 -- a put of a message that isn't the kernel's own keeps it
-keeps_own : (pt : Point) (l : Placed) (m c : ℕ) (x y : Message) (home out : Bool) → is_own x.id (pt.view.told x.id) ≡ false → first_gives (pt.view.told x.id) (own_gives pt.kernel pt.view pt.addresses x.id x.to.pid (kind_of x.what)) ≡ [] → id_eq x.id y.id ≡ false
+keeps_own : (pt : Point) (l : Placed) (m c : ℕ) (x y : Message) (home out : Bool) → is_own x.id (pt.view.told x.id) ≡ false → first_gives (pt.view.told x.id) (own_given pt.kernel pt.view pt.addresses x.id x.to.pid (sort_of (kind_of x.what))) ≡ [] → id_eq x.id y.id ≡ false
     → Keeps pt (put_end pt m c x home out) y.id
 keeps_own pt l m c x y home out other gives apart =
     let s = same_end pt m c x home out in

@@ -1,10 +1,10 @@
 -- The world stands for a point but for what the kernel with places mirrors and the kernels' own messages carry; and so it does
 -- with more messages and other addresses.
 use Rattle.dm_mirror.proofs.Names.{◌≡◌, ℕ, ◌≤◌, Bool, true, false, [], refl, ap, ◌∙◌, sym, subst, inl, inr, arith, if◌then◌else◌, Option, None, Some, cases_Bool, false≢true, Pid, Message, MsgId, MessageKind, id_eq, kind_of, plain_kind}
-use Rattle.dm_mirror.proofs.Names.{nat_tests, plain_message, incoming_of, Boot, bind, id_eq-is, id_eq-same, first_gives, own_gives, is_between, Point, Spot, standing, Of, Told, View, after_put, first_told, is_kernels, put_at, put_spots}
+use Rattle.dm_mirror.proofs.Names.{nat_tests, plain_message, incoming_of, Boot, bind, id_eq-is, id_eq-same, first_gives, own_given, is_between, Point, Spot, standing, Of, Told, View, after_put, first_told, is_kernels, put_at, put_spots}
 use Rattle.dm_mirror.proofs.Names.{PairsFit, put_told_off, Sane, plain_not, Placed, Mirrors, KeepsPlaces, lines_keep, routed_keeps, told_keeps, own_put_mirrors, WorldState, AllOwnStand, OwnStands, told_of, History, StandsWith, AllRecords}
 use Rattle.dm_mirror.proofs.Names.{Carries, TokenStands, TokensStand, destination_of, first_none, length, ◌⊎◌, at_machine, is_full, routes, Acted, Goes, Worn, spoken, Line, Load, Stage, OneKernel, Addresses, given, moved, at_id, About}
-use Rattle.dm_mirror.proofs.Names.{Sort, sort_of, own_given, ◌≢◌, zero, suc, ◌+◌, ◌<◌, ◌==◌, List, ◌∷◌, map, drop, slice_get, pid_of, Record, Process, Departure, Arrival, first_number, KernelState, room_of, NodeState, and, taken_at}
+use Rattle.dm_mirror.proofs.Names.{Sort, sort_of, ◌≢◌, zero, suc, ◌+◌, ◌<◌, ◌==◌, List, ◌∷◌, map, drop, slice_get, pid_of, Record, Process, Departure, Arrival, first_number, KernelState, room_of, NodeState, and, taken_at}
 use Rattle.dm_mirror.proofs.Names.{taken_by, taken_of_home, Known, Unknown, Here, Frozen, Incoming, Forward, Ended, AreMessages, ComesStand, HereStands, KernelStands, KnownStands, LeavesStand, NodeStands, PairStands, RoomStands, servers_at}
 use Rattle.dm_mirror.proofs.Names.{Asker, coming}
 use Rattle.dm_places.specs.PlacedStep.{with_message}
@@ -127,7 +127,7 @@ route_there pt l records r may = grind (arith, nat_tests, bag_here)
 pub route_keeps : (pt : Point) (l : Placed) (records : AllRecords) (m : ℕ) (r : Route) → turning.is_own r ≡ 0 → MayPut pt l records r → Mirrors pt.kernel pt.view pt.addresses l → KeepsPlaces pt (line_put m (message_of r).to.at (message_of r))
 route_keeps pt l records m (First x) none may h =
     let p : IsPlain (pt.kernel.bag x.id) x = plain_of pt l x h may.0 may.1 in
-    subst (λ (k : MessageKind). first_gives (pt.view.told x.id) (own_gives pt.kernel pt.view pt.addresses x.id x.to.pid k) ≡ []) p.kind (subst (λ (q : Pid). first_gives (pt.view.told x.id) (own_gives pt.kernel pt.view pt.addresses x.id q (plain_kind p.m.what)) ≡ []) p.to (routed_keeps pt m x.to.at x.id p.m))
+    subst (λ (k : MessageKind). first_gives (pt.view.told x.id) (own_given pt.kernel pt.view pt.addresses x.id x.to.pid (sort_of k)) ≡ []) p.kind (subst (λ (q : Pid). first_gives (pt.view.told x.id) (own_given pt.kernel pt.view pt.addresses x.id q (sort_of (plain_kind p.m.what))) ≡ []) p.to (routed_keeps pt m x.to.at x.id p.m))
 route_keeps pt l records m (On x) none may h = told_keeps pt m x.to.at x.id (kind_of x.what) x.to.pid may.1.0 may.1.1
 route_keeps pt l records m (Own x) none may h = absurd (omega (arith, none))
 
@@ -282,7 +282,7 @@ late_lines q late m c x home out = grind (arith, nat_tests)
 pub late_pair : (q : Point) (late : Late) → (late_point q late).view.pair ≡ q.view.pair
 late_pair q late = grind (arith, nat_tests)
 
-pub own_gives_same : (s : OneKernel) (v u : View) (a : Addresses) (id : MsgId) (q : Pid) (k : MessageKind) → u.acting ≡ v.acting → own_gives s u a id q k ≡ own_gives s v a id q k
+pub own_gives_same : (s : OneKernel) (v u : View) (a : Addresses) (id : MsgId) (q : Pid) (k : MessageKind) → u.acting ≡ v.acting → own_given s u a id q (sort_of k) ≡ own_given s v a id q (sort_of k)
 own_gives_same s v u a id q k e = grind (arith, nat_tests)
 
 -- a put, where the message is told to be about this
@@ -293,7 +293,7 @@ put_about q m c x a places = record {
   addresses = places;
 }
 
-left_gives : (q : Point) (p : Pid) (x : Message) → own_gives q.kernel (moved q (Line.Migration Stage.Left p) q.kernel).view q.addresses x.id x.to.pid (kind_of x.what) ≡ own_gives q.kernel q.view q.addresses x.id x.to.pid (kind_of x.what)
+left_gives : (q : Point) (p : Pid) (x : Message) → own_given q.kernel (moved q (Line.Migration Stage.Left p) q.kernel).view q.addresses x.id x.to.pid (sort_of (kind_of x.what)) ≡ own_given q.kernel q.view q.addresses x.id x.to.pid (sort_of (kind_of x.what))
 left_gives q p x = own_gives_same q.kernel q.view (moved q (Line.Migration Stage.Left p) q.kernel).view q.addresses x.id x.to.pid (kind_of x.what) refl
 
 left_put : (q : Point) (p : Pid) (m c : ℕ) (x : Message) → q.view.topic ≡ Of p → put_point (moved q (Line.Migration Stage.Left p) q.kernel) m c x ≡ moved (put_point q m c x) (Line.Migration Stage.Left p) q.kernel

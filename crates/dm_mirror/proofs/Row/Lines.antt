@@ -11,6 +11,7 @@ use Rattle.dm_rulelaws.proofs.Based.Rows.{turned}
 use Rattle.dm_rule.specs.View as view
 use Rattle.dm_rule.specs.Rule as rule
 use Rattle.dm_mirror.proofs.Turning.{is_still, are_still, rule_routed}
+use Rattle.dm_message.specs.Sorts.{sort_of}
 
 -- a list without a message has no message more often
 fewer_if : (j : MsgId) (x : MsgId) (xs ys : List MsgId) (c : Bool) → times j ys ≤ times j xs → times j (if c then xs else x ∷ ys) ≤ times j (x ∷ xs)
@@ -54,7 +55,7 @@ ended_fewer v p j _ = omega arith
 same_fewer : (v : View) → Fewer v v
 same_fewer v j z = omega arith
 
-kills_fewer : (v : View) (k : MessageKind) (p : Pid) → Fewer v (view.kills k v (Some p))
+kills_fewer : (v : View) (k : MessageKind) (p : Pid) → Fewer v (view.ends_by (sort_of k) v (Some p))
 kills_fewer v MessageKind.Kill p = ended_fewer v p
 kills_fewer v k p = same_fewer v
 
@@ -81,7 +82,7 @@ label_fewer v (Label.Asked id) = handled_fewer v id
 label_fewer v _ = same_fewer v
 
 -- the pieces that were asked for
-kills_asked : (v : View) (k : MessageKind) (o : Option Pid) → (view.kills k v o).asked ≡ v.asked
+kills_asked : (v : View) (k : MessageKind) (o : Option Pid) → (view.ends_by (sort_of k) v o).asked ≡ v.asked
 kills_asked v k o = grind (arith, nat_tests)
 
 told_asked : (v : View) (o : Option Told) → (view.served_told v o).asked ≡ v.asked

@@ -1,6 +1,6 @@
 -- What the one message of a migration under way carries stays, where a row is no migration's.
 use Rattle.dm_mirror.proofs.Names.{◌≡◌, ℕ, ◌≤◌, ◌==◌, ◌&&◌, Bool, true, false, not, refl, ap, ◌∙◌, sym, subst, if◌then◌else◌, Option, None, Some, false≢true, Pid, pid_of, Message, MsgId, What, MessageKind, kind_of, plain_message}
-use Rattle.dm_mirror.proofs.Names.{plain_what, with_what, Process, incoming_of, Arrival, Phase, Moves, kind_comes, is_apart, is_away, is_between, is_early, is_of_source, is_restart, knows, kind_leaves, receiver_in, sender_in, told_between}
+use Rattle.dm_mirror.proofs.Names.{plain_what, with_what, Process, incoming_of, Arrival, Phase, Moves, kind_comes, is_apart, is_away, is_between, is_early, tells_onward, is_restart, knows, kind_leaves, receiver_in, sender_in, told_between}
 use Rattle.dm_mirror.proofs.Names.{Point, Spot, standing, View, Known, Of, Told, is_kernels, InPhases, token_is, token_at, Placed, AllOwnStand, told_of, AllRecords, Carries, TokenStands, TokensStand, destination_of, left_true, right_true}
 use Rattle.dm_mirror.proofs.Names.{List, [], ◌∷◌, ◌++◌, map, inl, inr, arith, eqb_tells, Boot, at_machine, Run, KernelState, nat_tests, Part, Asker}
 use Rattle.dm_kernel.specs.State as machine
@@ -10,6 +10,7 @@ use Rattle.dm_mirror.proofs.Kernel.Sets.{eq_self, not_is, off_if, on_if, eq_apar
 use Rattle.dm_mirror.proofs.Row.Lines.{StillKeeps, still_keeps, row_walks}
 use Rattle.dm_mirror.proofs.Serve.Stops.{nothing_more}
 use Rattle.dm_mirror.proofs.Serve.Receives.{Ready, serve_row}
+use Rattle.dm_message.specs.Sorts.{sort_of}
 
 -- what a message of a migration carries has no plain meaning
 pub carries_plain : (p : Pid) (x : Process) (k : Option Asker) (n : ℕ) (a : Option Arrival) (w : What) → Carries p x k n a w → plain_what w ≡ None
@@ -38,7 +39,7 @@ destination_if : (c : Bool) (s d : ℕ) → (if c then (if c then d else s) else
 destination_if c s d = grind (arith, nat_tests)
 
 destination_is : (i : MsgId) (p : Pid) (k : MessageKind) (s d : ℕ) → i.from ≡ pid_of (sender_in k s d) 0 → destination_of i (told_between p k s d) ≡ d
-destination_is i p k s d from = ap (λ (q : Pid). if is_of_source k then (receiver_in k s d) else q.home) from ∙ destination_if (is_of_source k) s d
+destination_is i p k s d from = ap (λ (q : Pid). if tells_onward (sort_of k) then (receiver_in k s d) else q.home) from ∙ destination_if (tells_onward (sort_of k)) s d
 
 -- a process that moves leaves a machine or comes to one
 pub record Moving (v : View) (p : Pid) (i : MsgId) (t : Told) : Type 0 where

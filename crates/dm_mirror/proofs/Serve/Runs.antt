@@ -18,6 +18,8 @@ use Rattle.dm_rule.specs.Parts as rule_part
 use Rattle.dm_mirror.proofs.Kernel.Sets.{times_self, times_more, ViewLeaves, Leaves, view_leaves_on, leaves_on, view_same, view_queue, view_not_handled, kernel_same, kernel_out, placed_same, placed_out, not_own_there, label_mirrors}
 use Rattle.dm_mirror.proofs.Kernel.Sets.{after_label}
 use Rattle.dm_mirror.proofs.Turning.{are_still}
+use Rattle.std.specs.Option.{option_map_or}
+use Rattle.std.specs.Prelude.{drop}
 
 -- a message is awaited without its places where it is on the mask with them
 awaited_what : (mask : ℕ) (m : Message) (w : What) → rule.is_awaited mask (with_what m (plain_what w)) ≡ what_is_on mask w
@@ -180,7 +182,7 @@ comes_on k u r (Whole all is) = Whole (omega (arith, all)) (ap serve.one_more is
 comes_on k u r (Called n regs less stops is) = Called n regs (omega (arith, less)) stops (ap serve.one_more is)
 comes_on k u r (Faulted f less stops is) = Faulted f (omega (arith, less)) stops (ap serve.one_more is)
 
-comes_row : (k : ℕ) (m : Machine) (w : Row) → instruction m.regs m.bytes ≡ w → ((n : Machine) → Comes k (rule.ran k n) (serve.ran k n)) → Comes (suc k) (rule.ran_further m (kernel.plain_row w) (rule.ran k)) (serve.after_row m w (serve.ran k))
+comes_row : (k : ℕ) (m : Machine) (w : Row) → instruction m.regs m.bytes ≡ w → ((n : Machine) → Comes k (rule.ran k n) (serve.ran k n)) → Comes (suc k) (option_map_or (λ (n : Machine). rule.ran_one_more (rule.ran k n)) (kernel.plain_row w) (record { count = 0; machine = m })) (serve.after_row m w (serve.ran k))
 comes_row k m (Row.Plain regs bytes) e h = let n : Machine = record { regs = regs; bytes = bytes } in comes_on k (rule.ran k n) (serve.ran k n) (h n)
 comes_row k m (Row.Calls n regs) e h = Called n regs (omega arith) e refl
 comes_row k m (Row.Faults f) e h = Faulted f (omega arith) e refl

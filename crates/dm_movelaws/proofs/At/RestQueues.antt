@@ -9,6 +9,7 @@ use Rattle.dm_rule.proofs.Lines as lines
 use Rattle.dm_movelaws.proofs.At.RestOnly.{AllStay, LineEnds, LastEnds, Ends, Once, Runs, turns_ends, Only, only_as, parts_only, migrates_stay, is_ending, net_stays, Knows, buried_group}
 use Rattle.dm_movelaws.proofs.After.{keeps_always}
 use Rattle.dm_movelaws.proofs.Leading.{net_says}
+use Rattle.dm_message.specs.Sorts.{sort_of}
 
 -- what is left of the queue of a process that has ended
 record Left (a : ℕ) (p : Pid) (known : Knows) (v : View) (ids : List MsgId) : Type 0 where
@@ -56,10 +57,10 @@ stays_cleared : (o : Point) (a : ℕ) (ps : List Part) (pt : Point) (w : Spelled
 stays_cleared o a ps pt w h stays is = cleared_only o.view.known w.point.view (parts_only o.view.known ps pt w stays is (begins_only o a pt.view h))
 
 -- a message kills its receiver, or doesn't
-kills_is : (k : MessageKind) (v : View) (p : Pid) → is_kill k ≡ true → view.kills k v (Some p) ≡ view.ended v p
+kills_is : (k : MessageKind) (v : View) (p : Pid) → is_kill k ≡ true → view.ends_by (sort_of k) v (Some p) ≡ view.ended v p
 kills_is k v p on = killed_or (λ w. w ≡ view.ended v p) k v p (λ e. refl) (λ e. absurd (false≢true (sym e ∙ on)))
 
-kills_not : (k : MessageKind) (v : View) (p : Pid) → is_kill k ≡ false → view.kills k v (Some p) ≡ v
+kills_not : (k : MessageKind) (v : View) (p : Pid) → is_kill k ≡ false → view.ends_by (sort_of k) v (Some p) ≡ v
 kills_not k v p off = killed_or (λ w. w ≡ v) k v p (λ e. absurd (false≢true (sym off ∙ e))) (λ e. refl)
 
 served_cleared : (o : Point) (a : ℕ) (id : MsgId) (ps : List Part) (pt mid : Point) (rest : Spelled) (x : Option Told) → Starts o a pt.view → pt.view.told id ≡ x → mid.view ≡ view.served_told (handled pt.view id) x → LineEnds o a (Line.Label (Label.Served id)) ps → spelled mid ps ≡ Some rest → Cleared o.view.known rest.point.view

@@ -355,7 +355,7 @@ pub record GroupBalance (p : Pid) (w : Spelled) (ids : List MsgId) (before behin
   pub sum : (f : MsgId → Option Told) → Extends w.point.view.told f → count (asks p) w.lines + (length ids + before) ≡ own_ends f p w.lines + (length left + behind)
 
 whole_balance : (p : Pid) (d : Step) (parts : List Part) (ids : List MsgId) (before behind : ℕ) (start : Point) (rest : Spelled) → spelled start parts ≡ Some rest → OwnBalance p rest.point.view ids (asked_by p d) before behind parts
-    → GroupBalance p (rule.headed (Line.Head d) rest) ids before behind
+    → GroupBalance p (rule.behind (Line.Head d ∷ []) rest) ids before behind
 whole_balance p d parts ids before behind start rest e h = record {
   left = h.left;
   opens = h.opens;

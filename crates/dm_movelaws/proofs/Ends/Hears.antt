@@ -1,6 +1,6 @@
 -- A turn that handles a kernel's own message: a request to move ends where it finds its process, and else goes on.
 use Rattle.dm_movelaws.proofs.Names.{◌≡◌, ℕ, ◌==◌, ◌&&◌, Bool, true, false, List, [], ◌∷◌, length, refl, ap, ◌∙◌, sym, subst, inl, inr, arith, if◌then◌else◌, Option, None, Some, cases_Bool, Pid, pid_eq, MsgId, MessageKind, Stage, Boot}
-use Rattle.dm_movelaws.proofs.Names.{manager, bind, pid_eq-is, Line, Addresses, Sender, is_told_back, to_kernel, forwards_on, kernel_told, here_told, ended_told, process_told, server_told, View, Told, About, Of, Known, Unknown, Here}
+use Rattle.dm_movelaws.proofs.Names.{manager, bind, pid_eq-is, Line, Addresses, Sender, is_told_back, to_kernel, forwards_on, told_step, told_here, told_ended, process_told, told_server, View, Told, About, Of, Known, Unknown, Here}
 use Rattle.dm_movelaws.proofs.Names.{Frozen, Forward, Ended, view_after, handled, handled_first, receiver_of, target_of, Point, moved, Part, Says, Again, Owns, Spelled, spelled, kernel_hears, Spot, Inbox, ids_at, first_off}
 use Rattle.dm_movelaws.proofs.Names.{line_next, fits_put, pair_same, handled_spots, held_known, forwarded_spots, forwarded_known, put_spots, put_there, put_spot, InPhases, fits_as, PairsFit, sane_line, part_sane, AllLoose, loose_walks}
 use Rattle.dm_movelaws.proofs.Names.{turned, is_moving, is_for, frozen_off, ◌+◌, ◌++◌, ⊤, pid_of, PlainProcess, accepts, takes_chunk, takes_block, sends_on, chunks_of, pieces_of, Incoming, rejoins, front_of, gone_to, is_between, parts}
@@ -13,6 +13,7 @@ use Rattle.dm_movelaws.proofs.Ends.Open.{IsOpen, level_balance, close_opens, smo
 use Rattle.dm_movelaws.proofs.Ends.Open.{line_then, and_off, other_still, set_here, level_row, level_still, quiet_row, end_row, Comes, between_plain, due_moves, about_same}
 use Rattle.dm_movelaws.proofs.Leading.{next_of, part_leads, asker_known}
 use Rattle.dm_movelaws.proofs.Ends.Sources.{smooth_moves, held_smooth, again_told, all_sent, sent_smooth, sends_count, sent_begins, handled_smooth, rejoins_smooth}
+use Rattle.dm_message.specs.Sorts.{sort_of}
 
 abbrev pub ComesOf : Pid → (pt : Point) → InPhases pt.view → Option (List Part) → Type 0
 ComesOf p pt h None = ⊤
@@ -166,7 +167,7 @@ leaves_comes p pt i is t q (Frozen to) h all about = left_comes p pt i is t q to
 leaves_comes p pt i is t q _ h all about = tt
 
 -- by the kind of the message
-pub told_comes : (p : Pid) (o : Point) (m : ℕ) (i : MsgId) (is : List MsgId) (t : Told) (q : Pid) (room : Bool × ℕ × ℕ) (x : PlainProcess) (k : MessageKind) (h : Turn (turned o m) i is t) → t.kind ≡ k → t.about ≡ Of q → ComesOf p (turned o m) h.phases (kernel_told o m i q room x k)
+pub told_comes : (p : Pid) (o : Point) (m : ℕ) (i : MsgId) (is : List MsgId) (t : Told) (q : Pid) (room : Bool × ℕ × ℕ) (x : PlainProcess) (k : MessageKind) (h : Turn (turned o m) i is t) → t.kind ≡ k → t.about ≡ Of q → ComesOf p (turned o m) h.phases (told_step o m i q room x (sort_of k))
 told_comes p o m i is t q room x MessageKind.Ask h e about = accepts_comes p (turned o m) i is t q room.0 room.1 room.2 i.from.home h (ap is_between e) about
 told_comes p o m i is t q room x MessageKind.Refuse h e about = stays_comes p (turned o m) i is t q (o.kernel.notes q) h (ap is_between e) about
 told_comes p o m i is t q room x MessageKind.PullState h e about = piece_comes p (turned o m) i is t MessageKind.State i.from.home h (ap is_between e) refl
@@ -293,17 +294,17 @@ moves_comes p pt i is t to true h k here = arrived_comes p pt i is t h k
 moves_comes p pt i is t to false h k here = frozen_comes p pt i is t to h k here
 
 -- at a process, at a server, and at a kernel
-here_comes : (p : Pid) (o : Point) (m : ℕ) (i : MsgId) (is : List MsgId) (t : Told) (k : MessageKind) (h : Turn (turned o m) i is t) → t.kind ≡ k → o.view.known m t.receiver ≡ Here → ComesOf p (turned o m) h.phases (here_told o m i t k)
+here_comes : (p : Pid) (o : Point) (m : ℕ) (i : MsgId) (is : List MsgId) (t : Told) (k : MessageKind) (h : Turn (turned o m) i is t) → t.kind ≡ k → o.view.known m t.receiver ≡ Here → ComesOf p (turned o m) h.phases (told_here o m i t (sort_of k))
 here_comes p o m i is t MessageKind.Migrate h e here = moves_comes p (turned o m) i is t (target_of (Some t)) (m == target_of (Some t)) h e here
 here_comes p o m i is t MessageKind.Update h e here = updated_comes p (turned o m) i is t _ h e
 here_comes p o m i is t k h e here = tt
 
-over_comes : (p : Pid) (pt : Point) (i : MsgId) (is : List MsgId) (t : Told) (k : MessageKind) (h : Turn pt i is t) → t.kind ≡ k → ComesOf p pt h.phases (ended_told i k)
+over_comes : (p : Pid) (pt : Point) (i : MsgId) (is : List MsgId) (t : Told) (k : MessageKind) (h : Turn pt i is t) → t.kind ≡ k → ComesOf p pt h.phases (told_ended i (sort_of k))
 over_comes p pt i is t MessageKind.Migrate h e = ended_comes p pt i is t h e
 over_comes p pt i is t MessageKind.Update h e = updated_comes p pt i is t 0 h e
 over_comes p pt i is t k h e = tt
 
-pub server_comes : (p : Pid) (o pt : Point) (i : MsgId) (is : List MsgId) (t : Told) (k : MessageKind) (h : Turn pt i is t) → t.kind ≡ k → ComesOf p pt h.phases (server_told o i t k)
+pub server_comes : (p : Pid) (o pt : Point) (i : MsgId) (is : List MsgId) (t : Told) (k : MessageKind) (h : Turn pt i is t) → t.kind ≡ k → ComesOf p pt h.phases (told_server o i t (sort_of k))
 server_comes p o pt i is t MessageKind.Update h e = updated_comes p pt i is t _ h e
 server_comes p o pt i is t k h e = tt
 

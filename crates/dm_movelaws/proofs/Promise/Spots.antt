@@ -318,7 +318,10 @@ pub lines_before : (ls : List Line) (pt end : Point) (p q : Pid) (k moves : ℕ)
 lines_before [] pt end p q k moves is h none before = let f : pt ≡ end = cc in subst (λ (x : Point). Before x p q k moves) (sym f) before
 lines_before (l ∷ ls) pt end p q k moves is h none before =
     let (mid, first, rest) = bind-is (after_line pt l) (λ (next : Point). after next ls) end is in
-    line_before pt mid l p q k moves first h none.0 (lines_before ls mid end p q k moves rest (grind (arith, nat_tests, bind-is, grounds_by)) (none.1 mid first) before)
+    let (s, comes, last) = bind-is (kernel_after pt.kernel (label_of l)) (λ s. Some (moved pt l s)) mid first in
+    let f : moved pt l s ≡ mid = cc in
+    let grounds = subst (λ (x : Point). Grounds x.kernel) f (grounds_by pt.kernel s pt.view (label_of l) comes h) in
+    line_before pt mid l p q k moves first h none.0 (lines_before ls mid end p q k moves rest grounds (none.1 mid first) before)
 
 -- what was told stays through lines
 pub lines_told : (ls : List Line) (pt end : Point) (j : MsgId) (t : Told) → after pt ls ≡ Some end → pt.view.told j ≡ Some t → end.view.told j ≡ Some t

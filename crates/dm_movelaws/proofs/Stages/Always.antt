@@ -1,6 +1,6 @@
 -- Each group keeps the marks of each process in order, and so they are wherever the rule leads.
 use Rattle.dm_movelaws.proofs.Names.{◌≡◌, ℕ, ◌==◌, Bool, true, false, List, [], ◌∷◌, refl, ap, ◌∙◌, sym, subst, length, ◌/◌, if◌then◌else◌, Option, None, Some, Pid, pid_eq, MsgId, PlainMessage, Boot, switchboard, manager, Step, Line, View}
-use Rattle.dm_movelaws.proofs.Names.{Told, About, Of, Known, first_view, target_of, is_between, is_due, Point, first_point, Part, Spelled, spelled, kernel_told, server_told, process_told, migrates, group_of, bind-is, IsNet}
+use Rattle.dm_movelaws.proofs.Names.{Told, About, Of, Known, first_view, target_of, is_between, is_due, Point, first_point, Part, Spelled, spelled, told_step, told_server, process_told, migrates, group_of, bind-is, IsNet}
 use Rattle.dm_movelaws.proofs.Names.{not_true, front_way, Phased, phased_start, phased_group, Calm, calm_same, calm_in, told_some, head_calm, net_parts, migrates_quiet, Tame, plain_in_bag, parts_settle, InPhases, State, PairsFit, Sane}
 use Rattle.dm_movelaws.proofs.Names.{LeadsBy, begun, begun_sane, Mark, marks, in_order, StepsInOrder, plain_by, by_migrates, by_outcome, nat_tests, arith, NothingElse, Label, Says, said_by, moved, calm_about, view_after, line_calm}
 use Rattle.dm_movelaws.proofs.Names.{part_sane, machine_in, move_target, Target, Here}
@@ -11,6 +11,7 @@ use Rattle.dm_movelaws.proofs.Stages.Spares.{mark_in, spares_same, spares_calm, 
 use Rattle.dm_movelaws.proofs.Stages.Rows.{about_others, plain_others, row_marked, AllMild, mild_marks, net_marks, TameAt, parts_spare}
 use Rattle.dm_movelaws.proofs.Stages.Steps.{freezes_row, setting_row, told_marked, round_mild, handles_mild, Hears, Calms, Freezes, Handled, Spared, SetsOff, freezes, server_mild, process_hears}
 use Rattle.dm_movelaws.proofs.Leading.{next_of, line_fits}
+use Rattle.dm_message.specs.Sorts.{sort_of}
 
 -- where the parts of a turn begin
 pub record Turning (o pt : Point) (m : ℕ) : Type 0 where
@@ -34,7 +35,7 @@ tame_front v i tame j e = let f : i ≡ j = cc in subst (Tame v) f tame
 
 kernel_marked : (b : Boot) (o pt : Point) (m : ℕ) (i : MsgId) (is : List MsgId) (t : Told) (a : About) (ps : List Part) (w : Spelled) → Turning o pt m → pt.view.inbox pt.view.acting ≡ i ∷ is → pt.view.told i ≡ Some t → t.about ≡ a → rule.kernel_hears b o m i t.kind a ≡ Some ps → spelled pt ps ≡ Some w → MarkedBy pt w ps
 kernel_marked b o pt m i is t (Of q) ps w h front told about e n =
-    let (x, there, last) = bind-is (kernel.alive (o.kernel.processes q)) (λ x. kernel_told o m i q (rule.fits (rule.free_room b o m) (length x.memory / 256)) x t.kind) ps e in
+    let (x, there, last) = bind-is (kernel.alive (o.kernel.processes q)) (λ x. told_step o m i q (rule.fits (rule.free_room b o m) (length x.memory / 256)) x (sort_of t.kind)) ps e in
     told_marked o pt m i is t q (rule.fits (rule.free_room b o m) (length x.memory / 256)) x t.kind ps w
     (record { at = record { sane = h.sane; fits = h.fits; front = front; others = about_others pt.view i t q told about }; phases = h.phases; told = told; about = about }) refl last n
 kernel_marked b o pt m i is t _ ps w h front told about e n = cc
@@ -51,7 +52,7 @@ process_marked o pt m i is t k ps w h front told plain known (Freezes here are) 
     (freezes_row pt i is q to w (record { sane = h.sane; fits = h.fits; front = front; others = plain_others pt.view i t q told plain }) h.topic here_ (ap (spelled pt) (sym are) ∙ n)))
 
 hears_by : (b : Boot) (o pt : Point) (m : ℕ) (i : MsgId) (is : List MsgId) (t : Told) (c d g : Bool) (ps : List Part) (w : Spelled) → Turning o pt m → (t.receiver.num == 0) ≡ c → pt.view.inbox pt.view.acting ≡ i ∷ is → pt.view.told i ≡ Some t
-    → (if c then rule.kernel_hears b o m i t.kind t.about else if d then server_told o i t t.kind else if g then server_told o i t t.kind else process_told o m i t (o.view.known m t.receiver)) ≡ Some ps → spelled pt ps ≡ Some w → MarkedBy pt w ps
+    → (if c then rule.kernel_hears b o m i t.kind t.about else if d then told_server o i t (sort_of t.kind) else if g then told_server o i t (sort_of t.kind) else process_told o m i t (o.view.known m t.receiver)) ≡ Some ps → spelled pt ps ≡ Some w → MarkedBy pt w ps
 hears_by b o pt m i is t true d g ps w h c front told e n = kernel_marked b o pt m i is t t.about ps w h front told refl e n
 hears_by b o pt m i is t false true g ps w h c front told e n =
     let plain = plain_by pt i is t h.phases (is_between t.kind) refl front told c in

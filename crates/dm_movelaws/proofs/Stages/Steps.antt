@@ -2,13 +2,14 @@
 use Rattle.dm_movelaws.proofs.Names.{◌≡◌, ℕ, ◌≤◌, true, false, List, [], ◌∷◌, ◌++◌, length, refl, ap, ◌∙◌, sym, subst, Option, None, Some, false≢true, Pid, pid_of, pid_eq, MsgId, MessageKind, Stage, Line, at_record, Told, Of, Known, Here}
 use Rattle.dm_movelaws.proofs.Names.{Frozen, view_after, handled_first, released, to_kernel, sends_on, is_between, Point, label_of, moved, Part, Says, Spelled, spelled, Spot, Queue, Held, Inbox, Untaken, times, ids_at, standing}
 use Rattle.dm_movelaws.proofs.Names.{pid_eq-swap, is_put, at_record_at, first_off, home_again, home_off, frozen_off, line_next, touches, handled_spots, record_off, InPhases, queued_plain, held_plain, Mark, Reached, mark_for, with_mark}
-use Rattle.dm_movelaws.proofs.Names.{in_order, released_on, nat_tests, arith, ◌==◌, Bool, PlainProcess, Incoming, handled, front_of, accepts, gives_piece, takes_chunk, takes_block, kernel_told, chunks_of, pieces_of, Owns, accepted_off}
+use Rattle.dm_movelaws.proofs.Names.{in_order, released_on, nat_tests, arith, ◌==◌, Bool, PlainProcess, Incoming, handled, front_of, accepts, gives_piece, takes_chunk, takes_block, told_step, chunks_of, pieces_of, Owns, accepted_off}
 use Rattle.dm_movelaws.proofs.Names.{state_off, memory_off, lacks_off, proto_off, restarted_off, proto_known, Lacking, Staying, leaves, sets, MoveNote, Outcome, NothingElse, tells_asker, aim, PairsFit, Sane, Target, asked_off, target_of}
-use Rattle.dm_movelaws.proofs.Names.{forwards_on, process_told, server_told, plain_kind, PlainMessage, Boot, goes_round, handles, Addresses, loose_round, loose_handles, by_forwards, Label, PlainWhat}
+use Rattle.dm_movelaws.proofs.Names.{forwards_on, process_told, told_server, plain_kind, PlainMessage, Boot, goes_round, handles, Addresses, loose_round, loose_handles, by_forwards, Label, PlainWhat}
 use Rattle.dm_rule.specs.Rule as rule
 use Rattle.dm_movelaws.proofs.Stages.Spares.{is_settled, Spares, spares_same, TokenOf, HasMark, token_mark, here_mark, some_marked, mark_of, Marked, open_after, marks_of, mark_same, mark_other, marks_sent}
 use Rattle.dm_movelaws.proofs.Stages.Rows.{Handling, first_spares, owns_token, line_sane, line_and_parts, Row, split, front_token, row_marked, answer, AllMild, spares_line, same_spot, Kept, parts_spare}
 use Rattle.dm_movelaws.proofs.Leading.{line_fits, asker_known}
+use Rattle.dm_message.specs.Sorts.{sort_of}
 
 pub round_mild : (me : Pid) (front : Option MsgId) (b : Boot) (pt : Point) (m : ℕ) (o : Option Pid) (ps : List Part) → goes_round b pt m o ≡ Some ps → AllMild me front ps
 round_mild me front b pt m o ps e = loose_round (AllMild me front) (record { none = tt; label = λ l ps h. (tt, h); routes = λ i ps h. (tt, h) }) b pt m o ps (tt, tt) e
@@ -34,7 +35,7 @@ pub data Hears (k : Known) (id : MsgId) (t : Told) (ps : List Part) : Type 0 whe
   Calms : ((me : Pid) → AllMild me (Some id) ps) → Hears k id t ps
   Freezes : k ≡ Here → ps ≡ freezes t.receiver (target_of (Some t)) → Hears k id t ps
 
-pub server_mild : (o : Point) (id : MsgId) (t : Told) (k : MessageKind) (ps : List Part) → server_told o id t k ≡ Some ps → (me : Pid) → AllMild me (Some id) ps
+pub server_mild : (o : Point) (id : MsgId) (t : Told) (k : MessageKind) (ps : List Part) → told_server o id t (sort_of k) ≡ Some ps → (me : Pid) → AllMild me (Some id) ps
 server_mild o id t k ps e me = grind (arith, nat_tests)
 
 pub process_hears : (o : Point) (m : ℕ) (id : MsgId) (t : Told) (k : Known) (ps : List Part) → process_told o m id t k ≡ Some ps → Hears k id t ps
@@ -261,7 +262,7 @@ leaves_row pt i is t q ids (Frozen to) parts w h e f n =
 leaves_row pt i is t q ids _ parts w h e f n = cc
 
 -- by its kind
-pub told_marked : (o pt : Point) (m : ℕ) (i : MsgId) (is : List MsgId) (t : Told) (q : Pid) (room : Bool × ℕ × ℕ) (x : PlainProcess) (k : MessageKind) (parts : List Part) (w : Spelled) → Heard pt i is t q → t.kind ≡ k → kernel_told o m i q room x k ≡ Some parts → spelled pt parts ≡ Some w
+pub told_marked : (o pt : Point) (m : ℕ) (i : MsgId) (is : List MsgId) (t : Told) (q : Pid) (room : Bool × ℕ × ℕ) (x : PlainProcess) (k : MessageKind) (parts : List Part) (w : Spelled) → Heard pt i is t q → t.kind ≡ k → told_step o m i q room x (sort_of k) ≡ Some parts → spelled pt parts ≡ Some w
     → (p : Pid) → Marked pt.view w.point.view p (marks_of p parts)
 told_marked o pt m i is t q room x MessageKind.Ask parts w h e g n = given pt w (accepts i.from.home q room.0 room.1 room.2) parts g (λ s. asked_row pt i is t q room.0 room.1 room.2 w h e s) n
 told_marked o pt m i is t q room x MessageKind.Refuse parts w h e g n = given pt w (Says (Line.Stays q) ∷ tells_asker (o.kernel.notes q) Outcome.Stayed) parts g (λ s. stays_row pt i is t q (o.kernel.notes q) w h e s) n

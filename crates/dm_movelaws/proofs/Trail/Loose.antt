@@ -1,9 +1,9 @@
 -- Lines, puts and packets that fit the trails anywhere, and leave each process where it is.
 use Rattle.dm_movelaws.proofs.Names.{◌≡◌, ℕ, ◌+◌, ◌==◌, Bool, true, false, List, [], ◌∷◌, length, refl, ap, ◌∙◌, sym, subst, if◌then◌else◌, Option, None, Some, Pid, pid_of, MsgId, MessageKind, Stage, plain_kind, Label, OneKernel, entry}
-use Rattle.dm_movelaws.proofs.Names.{reception, id_eq-same, after_step, bind-is, Line, Load, View, Told, own_id, view_after, handled, receiver_of, Receiver, goes_between, own_gives, Point, moved, after, Part, Says, Routes}
+use Rattle.dm_movelaws.proofs.Names.{reception, id_eq-same, after_step, bind-is, Line, Load, View, Told, own_id, view_after, handled, receiver_of, Receiver, goes_between, own_given, Point, moved, after, Part, Says, Routes}
 use Rattle.dm_movelaws.proofs.Names.{Owns, Transmits, puts, goes_out, packet_line, to_kernel, Trails, IsOn, trails_after, IsNet, IsNetLine, SaidOn, not_kernels, queued_known, held_known, dropped_known, proto_known, Sane, Outside, Treads}
 use Rattle.dm_movelaws.proofs.Names.{LineFits, LabelFits, KnownFits, PutFits, Rides, Steps, said_by, own_outside, own_fresh, queued_moves, held_moves, dropped_moves, nat_tests, arith, ◌++◌, ⊤, PlainMessage, bind, after_line, Again, Spelled}
-use Rattle.dm_movelaws.proofs.Names.{lines_of, spelled, Trodden, along, AllSayable, part_sane, line_treads, Said, plain_own, by_parts, Addresses, Sort, own_given, is_between, sort_of, false≢true, tells_between, seen, ◌≢◌, ◌≤◌}
+use Rattle.dm_movelaws.proofs.Names.{lines_of, spelled, Trodden, along, AllSayable, part_sane, line_treads, Said, plain_own, by_parts, Addresses, Sort, is_between, sort_of, false≢true, tells_between, seen, ◌≢◌, ◌≤◌}
 use Rattle.dm_movelaws.proofs.Names.{length-append, slice_get, pid_eq, Known, Frozen, Incoming, Forward, forwarded_for, gone_to, Sender, is_told_back, forwards_on, sends_on, Moves, IsIn, times, destination, both_lists, forwarded_known}
 use Rattle.dm_movelaws.proofs.Names.{get_at_end, forwarded_back, Named, source_holds, two_apart, sent_on_at, again_rides, named_for, again_same, eq_self, forwarded_own, other_id, leaves}
 use Rattle.dm_rule.proofs.Trails.Along.{AllFit}
@@ -136,7 +136,7 @@ pub owns_leave : (k : MessageKind) (q : Pid) (b : ℕ) (pt next : Point) (t : Tr
 owns_leave k q b pt next t = part_rides (Owns k q b) pt next t (λ l is. cc)
 
 -- a message to a kernel
-between_loose : (k : MessageKind) (m : ℕ) → ((pt : Point) → own_gives pt.kernel pt.view pt.addresses (own_id pt.view) (pid_of m 0) k ≡ goes_between pt.view (own_id pt.view) (pid_of m 0)) → (k ≡ MessageKind.Migrate → ⊥) → Loose (Owns k (pid_of m 0) m)
+between_loose : (k : MessageKind) (m : ℕ) → ((pt : Point) → own_given pt.kernel pt.view pt.addresses (own_id pt.view) (pid_of m 0) (sort_of k) ≡ goes_between pt.view (own_id pt.view) (pid_of m 0)) → (k ≡ MessageKind.Migrate → ⊥) → Loose (Owns k (pid_of m 0) m)
 between_loose k m gives none = record {
   fits = λ pt t sane on. grind (arith, nat_tests, own_outside, own_fresh, id_eq-same);
   leaves = λ pt next t s h. owns_leave k (pid_of m 0) m pt next t s h;

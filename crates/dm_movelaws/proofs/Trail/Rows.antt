@@ -1,6 +1,6 @@
 -- What a turn says of a kernel's own message fits the trails.
 use Rattle.dm_movelaws.proofs.Names.{◌≡◌, ℕ, ◌+◌, Bool, true, false, List, [], ◌∷◌, refl, ap, ◌∙◌, sym, subst, arith, ◌||◌, if◌then◌else◌, slice_get, Option, None, Some, Pid, pid_of, MsgId, MessageKind, Label, Line, plain_kind}
-use Rattle.dm_movelaws.proofs.Names.{PlainMessage, Boot, Why, first_number, View, Told, Unknown, Here, Forward, Ended, handled, kills, served_told, view_after, Receiver, Point, moved, Part, Says, Routes, Nowhere, forwards_on, Trails, Trail}
+use Rattle.dm_movelaws.proofs.Names.{PlainMessage, Boot, Why, first_number, View, Told, Unknown, Here, Forward, Ended, handled, ends_by, served_told, view_after, Receiver, Point, moved, Part, Says, Routes, Nowhere, forwards_on, Trails, Trail}
 use Rattle.dm_movelaws.proofs.Names.{ReceivedAt, ended_on, is_fixed, Unborn, said_by, Stops, by_round, by_handles, StoodOnTrail, nat_tests, ◌≤◌, inl, inr, PutFits, manager, Step, Of, is_kernels, own_id, after_head, front_of, Child, Sender}
 use Rattle.dm_movelaws.proofs.Names.{to_of, sender_of, Spelled, IsIn, is_between, group_of, Inbox, Queue, Held, times, standing, both_lists, both_times, front_kernels, Phased, due, outcome_sayable, Named, Links, child_is, migrate_to}
 use Rattle.dm_movelaws.proofs.Names.{migrate_from, Treads, line_treads, KnownStands, Begins, begins, begun, begun_sane, turned, unborn, FoundBy, KnowsAt, moves_back, own_outside, own_fresh, told_there, about_same, stands_first, queued_for}
@@ -14,6 +14,7 @@ use Rattle.dm_movelaws.proofs.Trail.Placed.{is_held, Placed, Places, Learnt, pla
 use Rattle.dm_movelaws.proofs.Trail.Loose.{Walks, AllLoose, loose_walks, places_same, label_fits, label_walks, routes_loose, idle_loose, queued_loose, held_loose, dropped_loose, drops_loose, AllGood, parts_good, owns_leave, no_child_loose}
 use Rattle.dm_movelaws.proofs.Trail.Loose.{pinned_loose, net_loose, first_walks, updated_loose, lacks_loose, proto_loose, to_between, asked_loose, state_loose, memory_loose, Loose, quiet, forwards_walks}
 use Rattle.dm_movelaws.proofs.Trail.Loose.{leaves_walks}
+use Rattle.dm_message.specs.Sorts.{sort_of}
 
 pub at_end : (pt : Point) (t : Trails) (p : Pid) → pt.view.known pt.view.acting p ≡ Here → Places pt.view t → slice_get (t p) (pt.view.moves p) ≡ Some pt.view.acting
 at_end pt t p here h = (h p).now pt.view.acting (ap is_held here)
@@ -129,7 +130,10 @@ hears_walks pt b o t m id u ps same notes known kernels forwards h =
             left = λ ids to leaves.
                 (let k = at MessageKind.AllTaken leaves.kind refl in
                 subst (λ (js : List MsgId). Walks pt t (left_parts id p js to)) (same p ∙ sym leaves.lists) (leaves_walks pt t id p (Frozen to) k.s k.d k.o k.phase k.acts h k.for_it));
-            restarted = λ kind free. grind (arith, nat_tests, first_walks, restarted_places, (at MessageKind.Restart kind refl));
+            restarted = λ kind free.
+                (let k = at MessageKind.Restart kind refl in
+                first_walks (Line.Migration Stage.Restarted p) [] pt t
+                (λ sane on. (record { k = MessageKind.Restart; s = k.s; d = k.d; o = k.o; phase = k.phase; off = refl }, λ next s. subst (λ (z : Point). Places z.view t) s.is (restarted_places pt t p k h))) tt);
           }
           );
       updated = λ kind. one (Line.Updated id (behind_count o.kernel o.addresses u.receiver (place_told u.about))) (updated_loose id (behind_count o.kernel o.addresses u.receiver (place_told u.about)));
@@ -192,8 +196,8 @@ gone_walks pt t id k f =
     label_walks pt t (Label.Gone id) (Routes (pieces.answer_id id) ∷ []) (λ on. (ended_on pt.kernel pt.view pt.addresses t id f.at on.links, tt, places_same pt.view (handled pt.view id) t (λ m q. refl) (λ q. refl) f.places)) (routes_loose (pieces.answer_id id), tt)
 
 -- a message that is served may kill
-kills_places : (v : View) (t : Trails) (k : MessageKind) (p : Pid) → (k ≡ MessageKind.Kill → v.known v.acting p ≡ Here) → Places v t → Places (kills k v (Some p)) t
-kills_places v t MessageKind.Kill p here h = places_held v (kills MessageKind.Kill v (Some p)) t p Ended refl refl refl (ap is_held (here refl)) h
+kills_places : (v : View) (t : Trails) (k : MessageKind) (p : Pid) → (k ≡ MessageKind.Kill → v.known v.acting p ≡ Here) → Places v t → Places (ends_by (sort_of k) v (Some p)) t
+kills_places v t MessageKind.Kill p here h = places_held v (ends_by (sort_of MessageKind.Kill) v (Some p)) t p Ended refl refl refl (ap is_held (here refl)) h
 kills_places v t _ p here h = h
 
 served_places : (v : View) (t : Trails) (o : Option Told) → ((u : Told) → o ≡ Some u → u.kind ≡ MessageKind.Kill → v.known v.acting u.receiver ≡ Here) → Places v t → Places (served_told v o) t

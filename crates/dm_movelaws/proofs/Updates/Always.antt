@@ -3,7 +3,7 @@ use Rattle.dm_movelaws.proofs.Names.{◌&&◌, ◌≡◌, ◌⊎◌, ℕ, ◌<�
 use Rattle.dm_movelaws.proofs.Names.{MsgId, Boot, switchboard, manager, OneKernel, pid_eq-same, Step, Addresses, Holder, belongs_to, leads_to, is_pid, is_behind, place_told, updated, holders_of, behind_among, behind_count, holders_numbered}
 use Rattle.dm_movelaws.proofs.Names.{answers_in, slot_holders, Spelled, Point, View, Told, About, Ended, after_head, is_server, KnownStands, Updated, UpdatesAlways, front_own, Both, is_place, own_sort, run_always, pid_there, second, zero}
 use Rattle.dm_movelaws.proofs.Names.{suc, ◌+◌, List, ◌∷◌, length, slice_get, slice_get_cases, PlainLink, link_at, NamedLink, Pending, PlainProcess, pid_eq-is, not_server, alive-is, Slot, Owner, Child, Name, Answer, holder_eq, link_target}
-use Rattle.dm_movelaws.proofs.Names.{slot_of, name_link, ascends, slots_from, listings, is_owner, group_is, ◌||◌, MessageKind, plain_kind, Line, Part, Says, lines_of, spelled, moved, GroupIs, by_parts, sends_on, IsNetLine}
+use Rattle.dm_movelaws.proofs.Names.{slot_of, name_link, ascends, listings, is_owner, group_is, ◌||◌, MessageKind, plain_kind, Line, Part, Says, lines_of, spelled, moved, GroupIs, by_parts, sends_on, IsNetLine}
 use Rattle.dm_movelaws.proofs.Names.{by_migrates, by_hears, by_net, by_outcome, ⊤, PlainMessage, forwards_on, Loose, loose_round, loose_handles, by_forwards}
 use Rattle.dm_laws.proofs.Entered.{Made}
 use Rattle.dm_onekernel.specs.Step as kernel
@@ -164,11 +164,11 @@ got xs k x e = elim (slice_get_cases xs k).1 [
 ]
 
 -- slots
-slots_below : (p q : Pid) (k n : ℕ) (ls : List (Option PlainLink)) → k < n → listings (Slot p k) (slots_from q n ls) ≡ 0
+slots_below : (p q : Pid) (k n : ℕ) (ls : List (Option PlainLink)) → k < n → listings (Slot p k) (holders_numbered (Slot q) n ls) ≡ 0
 slots_below p q k n [] le = refl
 slots_below p q k n (l ∷ ls) le = grind (arith, nat_tests, slots_below p q k (n + 1) ls)
 
-slots_once : (p q : Pid) (k n : ℕ) (ls : List (Option PlainLink)) → pid_eq q p ≡ true → n ≤ k → k < n + length ls → listings (Slot p k) (slots_from q n ls) ≡ 1
+slots_once : (p q : Pid) (k n : ℕ) (ls : List (Option PlainLink)) → pid_eq q p ≡ true → n ≤ k → k < n + length ls → listings (Slot p k) (holders_numbered (Slot q) n ls) ≡ 1
 slots_once p q k n [] same least most = absurd (omega (arith, least, most))
 slots_once p q k n (l ∷ ls) same least most = grind (arith, nat_tests, slots_below, slots_once p q k (n + 1) ls same)
 

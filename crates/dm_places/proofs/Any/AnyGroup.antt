@@ -1,7 +1,7 @@
 -- Behind each group there is a kernel with places, where there was one before.
 use Rattle.dm_places.proofs.Names.{◌≡◌, ℕ, ◌+◌, ◌<◌, ◌==◌, ◌||◌, Bool, true, false, List, [], ◌∷◌, length, refl, ap, ◌∙◌, subst, is_some, inl, inr, arith, ⊤, if◌then◌else◌, nat_lt, slice_get, Option, None, Some, nat_tests, Pid, pid_eq}
 use Rattle.dm_places.proofs.Names.{pid_of, MsgId, Label, Line, PlainMessage, PlainWhat, Boot, BootImage, first_number, manager, switchboard, Life, OneKernel, bind, Step, bind-is, View, after_head, Part, Routes, Spelled, spelled, Point}
-use Rattle.dm_places.proofs.Names.{after_line, moved, group_of, headed, outcome, Placed, GroupNeeds, MirrorsPoint, or_second}
+use Rattle.dm_places.proofs.Names.{after_line, moved, group_of, behind, outcome, Placed, GroupNeeds, MirrorsPoint, or_second}
 use Rattle.dm_onekernel.specs.Manager as manage
 use Rattle.dm_onekernel.specs.Pieces as pieces
 use Rattle.dm_onekernel.specs.Switchboard as board
@@ -87,9 +87,9 @@ outcome_fits b pt (Step.Migrate p m) h needs = easy_fits pt.kernel (after_head p
 group_behind : (b : Boot) (pt : Point) (l : Placed) (d : Step) (w : Spelled) → SoundAt pt.kernel → GroupNeeds pt → group_of b pt d ≡ Some w → MirrorsPoint pt l → Behind w.point
 group_behind b pt l d w sound needs is h =
     let begun = moved pt (Line.Head d) pt.kernel in
-    let (ps, comes, rest) = bind-is (outcome b pt d) (λ (xs : List Part). bind (after_line pt (Line.Head d)) (λ (q : Point). bind (spelled q xs) (λ (z : Spelled). Some (headed (Line.Head d) z)))) w is in
-    let (z, more, end) = bind-is (spelled begun ps) (λ (y : Spelled). Some (headed (Line.Head d) y)) w rest in
-    let f : headed (Line.Head d) z ≡ w = cc in
+    let (ps, comes, rest) = bind-is (outcome b pt d) (λ (xs : List Part). bind (after_line pt (Line.Head d)) (λ (q : Point). bind (spelled q xs) (λ (z : Spelled). Some (behind (Line.Head d ∷ []) z)))) w is in
+    let (z, more, end) = bind-is (spelled begun ps) (λ (y : Spelled). Some (behind (Line.Head d ∷ []) y)) w rest in
+    let f : behind (Line.Head d ∷ []) z ≡ w = cc in
     subst (λ (x : Spelled). Behind x.point) f
     (parts_follow ps begun z l (subst (Fits pt.kernel (after_head pt.view d)) comes (outcome_fits b pt d sound needs)) sound (lines_keep pt begun l (Line.Head d) tt h refl) more)
 

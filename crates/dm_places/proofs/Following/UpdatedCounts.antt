@@ -2,7 +2,7 @@
 use Rattle.dm_places.proofs.Names.{◌≡◌, ℕ, zero, suc, ◌+◌, ◌≤◌, ◌==◌, ◌&&◌, Bool, true, false, List, [], ◌∷◌, ◌++◌, map, cond, count_by, refl, ap, ◌∙◌, sym, subst, arith, if◌then◌else◌, nat_le, nat_lt, slice_get, Option, None, Some}
 use Rattle.dm_places.proofs.Names.{nat_tests, sum_by-cons, Pid, Link, pid_eq, PlainLink, link_at, plain_slot, slot_is_behind, Process, manager, switchboard, Manager, OneKernel, Switchboard, named_is_behind, plain_named, Pending}
 use Rattle.dm_places.proofs.Names.{pending_is_behind, plain_child, plain_pending, pending_request, pid_eq-same, About, View, Addresses, Answer, Child, Holder, Name, Slot, is_pid, place_told, ascends, answers_in, behind_among, behind_count}
-use Rattle.dm_places.proofs.Names.{holders_of, holders_numbered, slots_from, slot_holders, and-both, Placed, Mirrors}
+use Rattle.dm_places.proofs.Names.{holders_of, holders_numbered, slot_holders, and-both, Placed, Mirrors}
 use Rattle.dm_link.specs.Places as places
 use Rattle.dm_onekernel.specs.Kernel as one
 use Rattle.dm_onekernel.specs.Step as kernel
@@ -37,7 +37,7 @@ among_both f (h ∷ hs) gs =
     ap (λ (n : ℕ). c + n) (among_both f hs gs) ∙ e
 
 -- a process's links
-slots_numbered : (q : Pid) (n : ℕ) (ls : List (Option PlainLink)) → slots_from q n ls ≡ holders_numbered (Slot q) n ls
+slots_numbered : (q : Pid) (n : ℕ) (ls : List (Option PlainLink)) → holders_numbered (Slot q) n ls ≡ holders_numbered (Slot q) n ls
 slots_numbered q n [] = refl
 slots_numbered q n (l ∷ ls) = ap (λ (hs : List Holder). Slot q n ∷ hs) (slots_numbered q (n + 1) ls)
 

@@ -2,10 +2,11 @@
 use Rattle.dm_places.proofs.Names.{◌≡◌, ℕ, zero, suc, ◌==◌, ◌&&◌, ◌||◌, Bool, true, false, List, [], ◌∷◌, refl, ap, ◌∙◌, sym, subst, inl, inr, arith, nat_lt, ⊤, if◌then◌else◌, map, slice_get, slice_set, filter_map, cons_option, is_none}
 use Rattle.dm_places.proofs.Names.{Option, None, Some, nat_tests, Pid, Link, Place, place_of, pid_eq, plain_link, first_empty, link_at, plain_slot, MsgId, Message, id_eq, PlainMessage, User, Read, Write, plain_message, Process, Direction}
 use Rattle.dm_places.proofs.Names.{Status, direction_numbered, Regs, past, Reply, plain_process, reg, CallNumber, first_failed, piece_of, address_of, moving, request, Called, Done, emptied, links_in, first_of, slot_at, pid_eq-same}
-use Rattle.dm_places.proofs.Names.{id_eq-same, View, Addresses, Gets, gets, given, Slot, Owner, Receiver, Sender, acting_place, encloses, fills, fills_by, sends_what, set_link, emptied_link, SameProcess, SameMessage, SameServers}
+use Rattle.dm_places.proofs.Names.{id_eq-same, View, Addresses, Gets, gets, given, Slot, Owner, Receiver, Sender, acting_place, encloses, fills, fills_by, sends_burden, set_link, emptied_link, SameProcess, SameMessage, SameServers}
 use Rattle.dm_places.proofs.Names.{encloses_servers, encloses_process, encloses_message, encloses_at, gives_by, no_gives, or-left, or-right, MirrorsProcess, MirrorsMessage, enclosed, owner_at}
 use Rattle.dm_onekernel.specs.Calls as one
 use Rattle.dm_syscall.specs.Calls as calls
+use Rattle.dm_rule.specs.Given.{burden_of}
 
 -- the process behind its call
 abbrev pub behind : Process → Process
@@ -20,7 +21,7 @@ pub record MirrorsSent (v : View) (a b : Addresses) (p : Pid) (m : Message) (y :
   pub servers : SameServers a b
 
 abbrev pub SentPlainly : View → Addresses → Pid → Process → Message → Process → Type 0
-SentPlainly v a p x m y = (k : PlainMessage) → plain_message m ≡ Some k → MirrorsSent v a (given a (sends_what v a p (plain_process x) k.id k.what)) p m y
+SentPlainly v a p x m y = (k : PlainMessage) → plain_message m ≡ Some k → MirrorsSent v a (given a (sends_burden v a p (plain_process x) k.id (burden_of k.what))) p m y
 
 abbrev pub MirrorsCalled : View → Addresses → Pid → Process → CallNumber → Called → Process → Type 0
 MirrorsCalled v a p x n (Called.Replied c) y = MirrorsProcess v (given a (gives_by v a p (plain_process x) n c)) p y
@@ -130,7 +131,7 @@ user_sent v a p x w over some h k e =
     let to = a (Slot p (reg x.regs 1)) in
     let z : PlainMessage = record { id = m.id; to = m.to.pid; sender = m.sender.pid; what = User w.code w.channel (one.memory_at (plain_process x) (reg x.regs 2) (reg x.regs 3)) (map plain_link (links_in x.table (calls.listed x))) } in
     let f : z ≡ k = cc in
-    subst (λ (u : PlainMessage). MirrorsSent v a (given a (sends_what v a p (plain_process x) u.id u.what)) p m (calls.after_send (behind x))) f
+    subst (λ (u : PlainMessage). MirrorsSent v a (given a (sends_burden v a p (plain_process x) u.id (burden_of u.what))) p m (calls.after_send (behind x))) f
     (record {
       process = record {
         pid = h.pid;
@@ -205,14 +206,14 @@ begins_kept v a p x w Direction.FromArea over h k e =
     let m = request v.acting (behind x) r in
     let z : PlainMessage = record { id = m.id; to = m.to.pid; sender = m.sender.pid; what = Read r.base (piece_of r.left) } in
     let f : z ≡ k = cc in
-    subst (λ (u : PlainMessage). MirrorsSent v a (given a (sends_what v a p (plain_process x) u.id u.what)) p m (moving (behind x) r)) f
+    subst (λ (u : PlainMessage). MirrorsSent v a (given a (sends_burden v a p (plain_process x) u.id (burden_of u.what))) p m (moving (behind x) r)) f
     (move_sent v a p m x (moving (behind x) r) (a (Slot p (reg x.regs 1))) (h.slots (reg x.regs 1) w over) (stands_here v a p x h) refl refl refl refl refl h)
 begins_kept v a p x w Direction.IntoArea over h k e =
     let r = calls.whole (behind x) w Direction.IntoArea in
     let m = request v.acting (behind x) r in
     let z : PlainMessage = record { id = m.id; to = m.to.pid; sender = m.sender.pid; what = Write r.base (one.memory_at (plain_process x) r.own (piece_of r.left)) } in
     let f : z ≡ k = cc in
-    subst (λ (u : PlainMessage). MirrorsSent v a (given a (sends_what v a p (plain_process x) u.id u.what)) p m (moving (behind x) r)) f
+    subst (λ (u : PlainMessage). MirrorsSent v a (given a (sends_burden v a p (plain_process x) u.id (burden_of u.what))) p m (moving (behind x) r)) f
     (move_sent v a p m x (moving (behind x) r) (a (Slot p (reg x.regs 1))) (h.slots (reg x.regs 1) w over) (stands_here v a p x h) refl refl refl refl refl h)
 
 moves_over_kept : (v : View) (a : Addresses) (p : Pid) (x : Process) (w : Link) (o : Option Direction) → link_at x.table (reg x.regs 1) ≡ Some w → MirrorsProcess v a p x

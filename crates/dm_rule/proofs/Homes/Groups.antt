@@ -1,7 +1,7 @@
 -- A group keeps all of it where its first part is said where it belongs.
 use Rattle.dm_rule.proofs.Names.{◌≡◌, ℕ, zero, suc, ◌+◌, ◌==◌, Bool, true, false, List, [], ◌∷◌, ◌++◌, length, refl, ap, ◌∙◌, sym, subst, ◌⊎◌, inl, inr, ⊤, if◌then◌else◌, Option, None, Some, Pid, MsgId, Boot, Label, OneKernel, bind}
 use Rattle.dm_rule.proofs.Names.{bind-is, Line, Load, View, Pair, queued_for, handled, Point, after, after_line, moved, Part, Says, Transmits, Spelled, behind, spelled, lines_of, slice_get, ◌-◌, nat_lt, pair_window, Step, actor, begins}
-use Rattle.dm_rule.proofs.Names.{marked, SentLoad, NothingElse, group_of, outcome, headed, IsStill, AskNone}
+use Rattle.dm_rule.proofs.Names.{marked, SentLoad, NothingElse, group_of, outcome, IsStill, AskNone}
 use Rattle.dm_rule.specs.View as view
 use Rattle.dm_rule.proofs.Homes.Labels.{SaidAt, RingsHome, rings_same}
 use Rattle.dm_rule.proofs.Homes.Lists.{stands, queue_lists}
@@ -79,23 +79,23 @@ pub begun_home : (r e : MsgId → ℕ) (pt : Point) (m : ℕ) → Home r e pt �
 begun_home r e pt m h = record { sound = h.sound; at = h.at; rings = record { moves = h.rings.moves; ring = h.rings.ring; known = h.rings.known }; lists = record { inbox = h.lists.inbox; queue = h.lists.queue; untaken = h.lists.untaken } }
 
 spells : NoneReplaced → (r e : MsgId → ℕ) (m : ℕ) (begun : Point) (ps : List Part) (d : Step) (w : Spelled) → begun.view.acting ≡ m → PartsGood begun.kernel e m ps → Home r e begun
-    → bind (spelled begun ps) (λ (z : Spelled). Some (headed (Line.Head d) z)) ≡ Some w → AskNone w.lines → Kept m w.point
+    → bind (spelled begun ps) (λ (z : Spelled). Some (behind (Line.Head d ∷ []) z)) ≡ Some w → AskNone w.lines → Kept m w.point
 spells none r e m begun ps d w acting good h is ask =
-    let (z, more, end) = bind-is (spelled begun ps) (λ (y : Spelled). Some (headed (Line.Head d) y)) w is in
-    let f : headed (Line.Head d) z ≡ w = cc in
+    let (z, more, end) = bind-is (spelled begun ps) (λ (y : Spelled). Some (behind (Line.Head d ∷ []) y)) w is in
+    let f : behind (Line.Head d ∷ []) z ≡ w = cc in
     subst (λ (x : Spelled). Kept m x.point) f (good_keep none ps r e m begun z acting good h more (subst (λ (x : Spelled). AskNone x.lines) (sym f) ask).1)
 
 -- a group whose parts are good where the run stands
 pub group_keeps : NoneReplaced → (b : Boot) (r e : MsgId → ℕ) (pt : Point) (d : Step) (w : Spelled) → IsStill d → group_of b pt d ≡ Some w → AskNone w.lines → Home r e pt
     → ((ps : List Part) → outcome b pt d ≡ Some ps → PartsGood pt.kernel e (actor d) ps) → Kept (actor d) w.point
 group_keeps none b r e pt (Step.Turn m) w still is ask h good =
-    let (ps, comes, rest) = bind-is (outcome b pt (Step.Turn m)) (λ (xs : List Part). bind (after_line pt (Line.Head (Step.Turn m))) (λ (q : Point). bind (spelled q xs) (λ (z : Spelled). Some (headed (Line.Head (Step.Turn m)) z)))) w is in
+    let (ps, comes, rest) = bind-is (outcome b pt (Step.Turn m)) (λ (xs : List Part). bind (after_line pt (Line.Head (Step.Turn m))) (λ (q : Point). bind (spelled q xs) (λ (z : Spelled). Some (behind (Line.Head (Step.Turn m) ∷ []) z)))) w is in
     spells none r e m (moved pt (Line.Head (Step.Turn m)) pt.kernel) ps (Step.Turn m) w refl (good ps comes) (begun_home r e pt m h) rest ask
 group_keeps none b r e pt (Step.Tick m) w still is ask h good =
-    let (ps, comes, rest) = bind-is (outcome b pt (Step.Tick m)) (λ (xs : List Part). bind (after_line pt (Line.Head (Step.Tick m))) (λ (q : Point). bind (spelled q xs) (λ (z : Spelled). Some (headed (Line.Head (Step.Tick m)) z)))) w is in
+    let (ps, comes, rest) = bind-is (outcome b pt (Step.Tick m)) (λ (xs : List Part). bind (after_line pt (Line.Head (Step.Tick m))) (λ (q : Point). bind (spelled q xs) (λ (z : Spelled). Some (behind (Line.Head (Step.Tick m) ∷ []) z)))) w is in
     spells none r e m (moved pt (Line.Head (Step.Tick m)) pt.kernel) ps (Step.Tick m) w refl (good ps comes) (begun_home r e pt m h) rest ask
 group_keeps none b r e pt (Step.Deliver a c k) w still is ask h good =
-    let (ps, comes, rest) = bind-is (outcome b pt (Step.Deliver a c k)) (λ (xs : List Part). bind (after_line pt (Line.Head (Step.Deliver a c k))) (λ (q : Point). bind (spelled q xs) (λ (z : Spelled). Some (headed (Line.Head (Step.Deliver a c k)) z)))) w is in
+    let (ps, comes, rest) = bind-is (outcome b pt (Step.Deliver a c k)) (λ (xs : List Part). bind (after_line pt (Line.Head (Step.Deliver a c k))) (λ (q : Point). bind (spelled q xs) (λ (z : Spelled). Some (behind (Line.Head (Step.Deliver a c k) ∷ []) z)))) w is in
     let v = begins pt.view c NothingElse in
     let begun = begun_home r e pt c h in
     let p = marked (pt.view.pair a c) k in

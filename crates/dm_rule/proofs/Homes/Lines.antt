@@ -1,7 +1,7 @@
 -- Each line that is said where it belongs keeps all of it: addresses, rings and lists; so do the parts of a group.
 use Rattle.dm_rule.proofs.Names.{◌≡◌, ℕ, ◌+◌, ◌≤◌, ◌==◌, ◌&&◌, Bool, true, false, List, [], ◌∷◌, ◌++◌, length, drop, refl, ap, ◌∙◌, sym, subst, is_some, arith, nat_le, if◌then◌else◌, Option, None, Some, nat_tests, Pid, Place, MsgId}
 use Rattle.dm_rule.proofs.Names.{MessageKind, plain_kind, PlainMessage, Boot, Label, IsValid, OneKernel, entry, in_bag, reception, Sound, bind-is, after_step, start-sound, Line, Load, untaken, View, Pair, Told, after_label, after_put}
-use Rattle.dm_rule.proofs.Names.{handled, ◌||◌, pid_eq, PlainWhat, BootProcess, switchboard, manager, Known, Unknown, Here, known_at, Addresses, Receiver, Gets, given, own_gives, first_gives, addresses_after, Point, first_point, after}
+use Rattle.dm_rule.proofs.Names.{handled, ◌||◌, pid_eq, PlainWhat, BootProcess, switchboard, manager, Known, Unknown, Here, known_at, Addresses, Receiver, Gets, given, own_given, first_gives, addresses_after, Point, first_point, after}
 use Rattle.dm_rule.proofs.Names.{after_line, moved, Routes, lines_of, puts, packet_line, goes_out, Homes, is_for_home, gives, topic_by, About}
 use Rattle.std.proofs.Common.{is_none}
 use Rattle.dm_onekernel.specs.Step as kernel
@@ -10,6 +10,7 @@ use Rattle.dm_rule.proofs.Homes.{IsHome, AtHome, homes_are}
 use Rattle.dm_rule.proofs.Homes.Start.{start_at_home, Homes-start}
 use Rattle.dm_rule.proofs.Homes.Labels.{SaidAt, label_home, RingsHome, is_still, rings_same, label_rings}
 use Rattle.dm_rule.proofs.Homes.Lists.{stands, all_stand, ListsHome, Old, lists_on, label_lists, put_lists, pair_set, are_for}
+use Rattle.dm_message.specs.Sorts.{sort_of}
 
 -- a step leaves a message of the bag as it is, or takes it out
 abbrev pub NoneReplaced : Type 0
@@ -84,7 +85,7 @@ label_line none r e pt l t is at h =
       lists = lists_on pt.kernel t e (λ i. e i + entry i pt.kernel t) (after_label pt.view l) old (λ i. omega arith) (label_lists pt.kernel e pt.view l h.lists);
     })
 
-acting_kills : (v : View) (k : MessageKind) (o : Option Pid) → (view.kills k v o).acting ≡ v.acting
+acting_kills : (v : View) (k : MessageKind) (o : Option Pid) → (view.ends_by (sort_of k) v o).acting ≡ v.acting
 acting_kills v MessageKind.Kill (Some p) = refl
 acting_kills v MessageKind.Kill None = refl
 acting_kills v _ o = refl
@@ -114,7 +115,7 @@ packet_line_home r e pt a b k l h =
     record { sound = h.sound; at = h.at; rings = rings_same pt.view (view.with_pair pt.view a b q) refl refl refl h.rings; lists = same_lists pt.kernel e pt.view a b q refl refl h.lists }
 
 -- a message of the bag has its places from the label that sent it
-pub own_none : (s : OneKernel) (v : View) (a : Addresses) (id : MsgId) (q : Pid) (w : PlainWhat) → own_gives s v a id q (plain_kind w) ≡ []
+pub own_none : (s : OneKernel) (v : View) (a : Addresses) (id : MsgId) (q : Pid) (w : PlainWhat) → own_given s v a id q (sort_of (plain_kind w)) ≡ []
 own_none s v a id q (PlainWhat.User x1 x2 x3 x4) = refl
 own_none s v a id q _ = refl
 
@@ -123,7 +124,7 @@ first_none None gs e = e
 first_none (Some t) gs e = refl
 
 put_at_home : (s : OneKernel) (v : View) (a : Addresses) (from b : ℕ) (id : MsgId) (w : PlainWhat) (q : Pid) → AtHome IsHome s a → AtHome IsHome s (addresses_after s v a (Line.Put from b id (plain_kind w) q))
-put_at_home s v a from b id w q h = subst (AtHome IsHome s) (sym (ap (given a) (first_none (v.told id) (own_gives s v a id q (plain_kind w)) (own_none s v a id q w)))) h
+put_at_home s v a from b id w q h = subst (AtHome IsHome s) (sym (ap (given a) (first_none (v.told id) (own_given s v a id q (sort_of (plain_kind w))) (own_none s v a id q w)))) h
 
 -- a routed message
 routed_home : (r e : MsgId → ℕ) (pt : Point) (id : MsgId) (m : PlainMessage) (b : ℕ) → pt.kernel.bag id ≡ Some m → b ≡ m.to.home → Home r e pt → Home r e (moved pt (Line.Put pt.view.acting b id (plain_kind m.what) m.to) pt.kernel)

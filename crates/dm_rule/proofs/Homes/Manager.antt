@@ -1,7 +1,7 @@
 -- What the process manager does keeps addresses where they may be.
 use Rattle.dm_rule.proofs.Names.{◌≡◌, ℕ, zero, suc, ◌+◌, ◌==◌, ◌&&◌, Bool, true, false, List, [], ◌∷◌, ◌++◌, refl, ap, ◌∙◌, sym, subst, inl, inr, arith, nat_lt, length, if◌then◌else◌, slice_get, Option, None, Some, nat_tests, Pid, Place}
 use Rattle.dm_rule.proofs.Names.{pid_eq, PlainLink, MsgId, id_eq, id_of, Label, PlainMessage, PlainWhat, bind, OneKernel, without_message, id_eq-same, bind-is, View, Addresses, Gets, gets, given, gives, Receiver, Sender, Enclosed, unmoved}
-use Rattle.dm_rule.proofs.Names.{pid_of, ◌*◌, Pending, Manager, switchboard, manager, Child, Name, Answer, encloses, enclosed_from, board_gets, manager_sends, manager_answers, manager_gets, links_in, ascends, AskedBy, Outcome}
+use Rattle.dm_rule.proofs.Names.{pid_of, ◌*◌, Pending, Manager, switchboard, manager, Child, Name, Answer, encloses, enclosed_from, board_takes_burden, manager_sends, manager_answers, manager_takes_burden, links_in, ascends, AskedBy, Outcome}
 use Rattle.dm_rule.proofs.Names.{code_of_outcome, PendingKind}
 use Rattle.dm_onekernel.specs.Step as kernel
 use Rattle.dm_rule.specs.Addresses as addresses
@@ -13,6 +13,7 @@ use Rattle.dm_rule.proofs.Homes.Rows.{SameProcess, SameMessage, sent_home, at_ho
 use Rattle.dm_rule.proofs.Homes.Serves.{two, two_sends, Named, ReceivedAt}
 use Rattle.dm_rule.proofs.Homes.Servers.{get_last, ascends_more, ascends_last, ascends_without, numbered_from, pending_last, still_pending, board_row}
 use Rattle.dm_rule.proofs.Requests.{by_test}
+use Rattle.dm_rule.specs.Given.{burden_of}
 
 abbrev TookAt : (Pid → Place → Type 0) → OneKernel → View → Addresses → MsgId → MsgId → ℕ → manage.ManagerTook → Type 0
 TookAt P s v a id mid code k = AtHome P (service.manager_took s id k) (given a (manager_sends v a mid code k.message))
@@ -301,7 +302,7 @@ moved_by P s v a id n outcome (Some r) k is e at h =
 
 manager_row : (P : Pid → Place → Type 0) (s t : OneKernel) (v : View) (a : Addresses) (id : MsgId) (m : PlainMessage) (w : PlainWhat) → m.what ≡ w → m.id ≡ id → s.bag id ≡ Some m → v.acting ≡ 0 → AtHome P s a
     → bind (manage.manager_takes s.manager s.machines (length s.images) m w) (λ (k : manage.ManagerTook). Some (service.manager_took s id k)) ≡ Some t
-    → AtHome P t (given a (manager_gets s v a m w (manage.manager_takes s.manager s.machines (length s.images) m w)))
+    → AtHome P t (given a (manager_takes_burden s v a m (burden_of w) (manage.manager_takes s.manager s.machines (length s.images) m w)))
 manager_row P s t v a id m (PlainWhat.User code channel body links) is name there at h e =
     let k = manage.takes_user s.manager s.machines (length s.images) code body links in
     let f : service.manager_took s id k ≡ t = cc in
@@ -312,20 +313,20 @@ manager_row P s t v a id m (PlainWhat.Created child) is name there at h e =
     let o = manage.takes_created s.manager m.id.n child (manage.pending_numbered m.id.n s.manager.pending) in
     let (k, took, last) = bind-is o (λ (x : manage.ManagerTook). Some (service.manager_took s id x)) t e in
     let f : service.manager_took s id k ≡ t = cc in
-    subst (λ (u : OneKernel). AtHome P u (given a (manager_gets s v a m (PlainWhat.Created child) o))) f
-    (subst (λ (p : Option manage.ManagerTook). AtHome P (service.manager_took s id k) (given a (manager_gets s v a m (PlainWhat.Created child) p))) (sym took) (created_by P s v a id m child (manage.pending_numbered m.id.n s.manager.pending) k refl took at h))
+    subst (λ (u : OneKernel). AtHome P u (given a (manager_takes_burden s v a m (burden_of (PlainWhat.Created child)) o))) f
+    (subst (λ (p : Option manage.ManagerTook). AtHome P (service.manager_took s id k) (given a (manager_takes_burden s v a m (burden_of (PlainWhat.Created child)) p))) (sym took) (created_by P s v a id m child (manage.pending_numbered m.id.n s.manager.pending) k refl took at h))
 manager_row P s t v a id m PlainWhat.NoRoom is name there at h e =
     let o = manage.takes_no_room s.manager m.id.n (manage.pending_numbered m.id.n s.manager.pending) in
     let (k, took, last) = bind-is o (λ (x : manage.ManagerTook). Some (service.manager_took s id x)) t e in
     let f : service.manager_took s id k ≡ t = cc in
-    subst (λ (u : OneKernel). AtHome P u (given a (manager_gets s v a m PlainWhat.NoRoom o))) f
-    (subst (λ (p : Option manage.ManagerTook). AtHome P (service.manager_took s id k) (given a (manager_gets s v a m PlainWhat.NoRoom p))) (sym took) (no_room_by P s v a id m.id.n (manage.pending_numbered m.id.n s.manager.pending) k refl took at h))
+    subst (λ (u : OneKernel). AtHome P u (given a (manager_takes_burden s v a m (burden_of PlainWhat.NoRoom) o))) f
+    (subst (λ (p : Option manage.ManagerTook). AtHome P (service.manager_took s id k) (given a (manager_takes_burden s v a m (burden_of PlainWhat.NoRoom) p))) (sym took) (no_room_by P s v a id m.id.n (manage.pending_numbered m.id.n s.manager.pending) k refl took at h))
 manager_row P s t v a id m (PlainWhat.Moved outcome) is name there at h e =
     let o = manage.takes_moved s.manager m.id.n outcome (manage.pending_numbered m.id.n s.manager.pending) in
     let (k, took, last) = bind-is o (λ (x : manage.ManagerTook). Some (service.manager_took s id x)) t e in
     let f : service.manager_took s id k ≡ t = cc in
-    subst (λ (u : OneKernel). AtHome P u (given a (manager_gets s v a m (PlainWhat.Moved outcome) o))) f
-    (subst (λ (p : Option manage.ManagerTook). AtHome P (service.manager_took s id k) (given a (manager_gets s v a m (PlainWhat.Moved outcome) p))) (sym took)
+    subst (λ (u : OneKernel). AtHome P u (given a (manager_takes_burden s v a m (burden_of (PlainWhat.Moved outcome)) o))) f
+    (subst (λ (p : Option manage.ManagerTook). AtHome P (service.manager_took s id k) (given a (manager_takes_burden s v a m (burden_of (PlainWhat.Moved outcome)) p))) (sym took)
     (moved_by P s v a id m.id.n outcome (manage.pending_numbered m.id.n s.manager.pending) k refl took at h))
 manager_row P s t v a id m _ is name there at h e = cc
 
@@ -333,7 +334,7 @@ takes_by : (P : Pid → Place → Type 0) (s t : OneKernel) (v : View) (a : Addr
     → (if b then bind (board.board_takes s.switchboard m m.what) (λ (k : board.BoardTook). Some (service.switchboard_took s id k))
     else if c then bind (manage.manager_takes s.manager s.machines (length s.images) m m.what) (λ (k : manage.ManagerTook). Some (service.manager_took s id k))
     else None) ≡ Some t
-    → AtHome P t (given a (if b then board_gets s v a id m.what else manager_gets s v a m m.what (manage.manager_takes s.manager s.machines (length s.images) m m.what)))
+    → AtHome P t (given a (if b then board_takes_burden s v a id (burden_of m.what) else manager_takes_burden s v a m (burden_of m.what) (manage.manager_takes s.manager s.machines (length s.images) m m.what)))
 takes_by P s t v a id m true c is as_ name there at h e = board_row P s t v a id m m.what refl there (let f : v.acting ≡ 0 = grind (arith, nat_tests) in f) h e
 takes_by P s t v a id m false true is as_ name there at h e = manager_row P s t v a id m m.what refl name there (let f : v.acting ≡ 0 = grind (arith, nat_tests) in f) h e
 takes_by P s t v a id m false false is as_ name there at h e = cc

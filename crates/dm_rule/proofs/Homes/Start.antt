@@ -1,12 +1,13 @@
 -- Where a run begins, each address names the home of its process.
 use Rattle.dm_rule.proofs.Names.{◌≡◌, ℕ, zero, suc, ◌+◌, ◌-◌, ◌==◌, ◌&&◌, ◌||◌, Bool, true, false, List, [], ◌∷◌, ◌++◌, length, refl, ap, ◌∙◌, sym, arith, nat_lt, nat_le, inl, inr, if◌then◌else◌, map, option_map, slice_get, replicate}
 use Rattle.dm_rule.proofs.Names.{Option, None, Some, cases_Bool, nat_tests, Pid, Link, place_of, pid_eq, PlainLink, plain_link, link_at, BootProcess, BootImage, Boot, IsValid, switchboard, manager, processes_are_valid, starting_at}
-use Rattle.dm_rule.proofs.Names.{slots_of, PlainProcess, start, life_at, first_life, begun, slots_with, Alive, pid_eq-is, ring_at, first_point, unmoved, place_in, links_at, boot_home, nth_child, first_addresses, owner_in, Homes, are_home}
+use Rattle.dm_rule.proofs.Names.{slots_of, PlainProcess, start, life_at, first_life, begun, slots_with, Alive, pid_eq-is, ring_at, first_point, unmoved, links_at, nth_child, first_addresses, owner_in, Homes, are_home}
 use Rattle.dm_rule.proofs.Names.{left_true, right_true}
 use Rattle.dm_onekernel.specs.Boot as boot
 use Rattle.dm_onekernel.specs.Manager as manage
 use Rattle.dm_onekernel.specs.Step as kernel
 use Rattle.dm_rule.proofs.Homes.{IsHome, HomeProcess, AtHome, homes_are}
+use Rattle.std.specs.Option.{option_map_or}
 
 -- a link of the boot file leads to a home
 named_is : (q : Pid) (ps : List BootProcess) (p : BootProcess) → boot.process_named q ps ≡ Some p → p.pid ≡ q
@@ -44,7 +45,7 @@ empty_slot zero k l e = cc
 empty_slot (suc n) zero l e = cc
 empty_slot (suc n) (suc k) l e = empty_slot n k l e
 
-first_link : (b : Boot) (ls : List Link) (n k : ℕ) (l : PlainLink) → boot.links_are_valid b ls ≡ true → link_at (map Some (map plain_link ls) ++ replicate n None) k ≡ Some l → place_in (slice_get ls k) ≡ unmoved l.to.home
+first_link : (b : Boot) (ls : List Link) (n k : ℕ) (l : PlainLink) → boot.links_are_valid b ls ≡ true → link_at (map Some (map plain_link ls) ++ replicate n None) k ≡ Some l → option_map_or (λ w. place_of w.addr) (slice_get ls k) (unmoved 0) ≡ unmoved l.to.home
 first_link b [] n k l valid e = absurd (empty_slot n k l e)
 first_link b (x ∷ xs) n zero l valid e =
     let f : plain_link x ≡ l = cc in
@@ -59,7 +60,7 @@ begun_home_of b p q x (Some i) valid at e =
     let f : begun b.format i (map plain_link p.links) ≡ x = cc in
     let links : slots_with (slots_of b.format) (map plain_link p.links) ≡ x.links = ap (λ (v : PlainProcess). v.links) f in
     record {
-      slots = λ k l there. ap (λ (v : List Link). place_in (slice_get v k)) at ∙ first_link b p.links (slots_of b.format - length (map plain_link p.links)) k l valid (ap (λ (v : List (Option PlainLink)). link_at v k) links ∙ there);
+      slots = λ k l there. ap (λ (v : List Link). option_map_or (λ w. place_of w.addr) (slice_get v k) (unmoved 0)) at ∙ first_link b p.links (slots_of b.format - length (map plain_link p.links)) k l valid (ap (λ (v : List (Option PlainLink)). link_at v k) links ∙ there);
       owner = λ w moving. absurd (let g : None ≡ Some w = ap (λ (v : PlainProcess). owner_in v.status) f ∙ moving in cc);
     }
 
@@ -85,12 +86,12 @@ begun_home b earlier (p ∷ ps) q x valid at e =
           (sym (ap (λ (c : Bool). kernel.alive (if c then first_life b p else life_at b ps q)) apart) ∙ e)
     ]
 
-child_home_of : (ps : List BootProcess) (n : ℕ) (q : Pid) → slice_get (map (λ (p : BootProcess). p.pid) ps) n ≡ Some q → unmoved (boot_home (slice_get ps n)) ≡ unmoved q.home
+child_home_of : (ps : List BootProcess) (n : ℕ) (q : Pid) → slice_get (map (λ (p : BootProcess). p.pid) ps) n ≡ Some q → unmoved (option_map_or (λ (p : BootProcess). p.pid.home) (slice_get ps n) 0) ≡ unmoved q.home
 child_home_of [] n q e = cc
 child_home_of (p ∷ ps) zero q e = let f : p.pid ≡ q = cc in ap (λ (v : Pid). unmoved v.home) f
 child_home_of (p ∷ ps) (suc n) q e = child_home_of ps n q e
 
-child_home : (ps : List BootProcess) (n : ℕ) (q : Pid) → manage.child_numbered (map (λ (p : BootProcess). p.pid) ps) n ≡ Some q → unmoved (boot_home (nth_child ps n)) ≡ unmoved q.home
+child_home : (ps : List BootProcess) (n : ℕ) (q : Pid) → manage.child_numbered (map (λ (p : BootProcess). p.pid) ps) n ≡ Some q → unmoved (option_map_or (λ (p : BootProcess). p.pid.home) (nth_child ps n) 0) ≡ unmoved q.home
 child_home ps zero q e = cc
 child_home ps (suc n) q e = child_home_of ps n q e
 

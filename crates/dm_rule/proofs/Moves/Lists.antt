@@ -1,10 +1,11 @@
 -- Messages that are held, come back from a held list, or leave a queue and a held list together.
 use Rattle.dm_rule.proofs.Names.{◌≡◌, ◌≢◌, ℕ, zero, suc, ◌+◌, ◌≤◌, ◌==◌, ◌&&◌, Bool, true, false, List, [], ◌∷◌, ◌++◌, refl, ap, ◌∙◌, sym, subst, arith, ◌⊎◌, inl, inr, if◌then◌else◌, Option, None, Some, cases_Bool, false≢true, Pid, pid_eq}
-use Rattle.dm_rule.proofs.Names.{MsgId, id_eq, at_machine, at_record, View, handled, handled_first, without_first, receiver_of, held_for, released, Spot, Queue, Held, Inbox, times, ids_at, standing, StandsOnce, StandsNowhere, StandsAsBag}
+use Rattle.dm_rule.proofs.Names.{MsgId, id_eq, at_machine, at_record, View, handled, handled_first, receiver_of, held_for, released, Spot, Queue, Held, Inbox, times, ids_at, standing, StandsOnce, StandsNowhere, StandsAsBag}
 use Rattle.dm_rule.proofs.Names.{pid_eq-is, id_eq-is, id_eq-same, id_eq-swap}
 use Rattle.dm_rule.proofs.Standing.{times-append, spot_cases, StandsAsBag-same, StandsAsBag-one, StandsAsBag-elsewhere}
 use Rattle.dm_rule.proofs.Once.{Kept, one_of, once_moves, one_of-off}
 use Rattle.dm_rule.proofs.Lines.{Bag, Stands, Stands-stays, at_machine_at, at_machine_off, at_record_off, at_record_at, eq_is, not_true, inbox_apart, parts, front_goes, handled_off, handled_at, one_more, queue_apart}
+use Rattle.std.specs.Prelude.{drop}
 
 abbrev is_held : Spot → Bool
 is_held (Held m p) = true
@@ -223,5 +224,5 @@ under_way None f x least h = absurd (let k : f x ≡ 0 = h x in omega (arith, le
 under_way (Some q) f x least h = (q, refl)
 
 pub first_off : (v : View) (i : MsgId) (is : List MsgId) → v.inbox v.acting ≡ i ∷ is → (z : Spot) → ids_at (handled_first v) z ≡ ids_at (handled v i) z
-first_off v i is e (Inbox m) = ap (λ x. at_machine v.inbox v.acting x m) (ap without_first e ∙ sym (front_goes v i is e))
+first_off v i is e (Inbox m) = ap (λ x. at_machine v.inbox v.acting x m) (ap (drop 1) e ∙ sym (front_goes v i is e))
 first_off v i is e _ = refl

@@ -1,9 +1,9 @@
 -- The rows of migration keep that each message stands once.
 use Rattle.dm_rule.proofs.Names.{◌≡◌, ℕ, ◌==◌, Bool, true, false, List, [], ◌∷◌, ◌++◌, refl, ap, ◌∙◌, sym, subst, length, ◌/◌, if◌then◌else◌, Option, None, Some, Pid, pid_of, pid_eq, MsgId, MessageKind, Stage, Boot, switchboard, manager}
 use Rattle.dm_rule.proofs.Names.{PlainProcess, Line, View, Told, About, NothingElse, Of, Known, Unknown, Here, Frozen, Forward, Ended, view_after, handled, handled_first, receiver_of, is_kernels, target_of, with_ring, knowing, released}
-use Rattle.dm_rule.proofs.Names.{after_proto, follows_up, asks_on, held_for, Addresses, Sender, Child, is_told_back, Point, moved, seen, Part, Says, Again, Owns, Spelled, spelled, to_kernel, forwards_on, moves_to, accepts, takes_chunk}
-use Rattle.dm_rule.proofs.Names.{takes_block, gives_piece, sends_on, leaves, kernel_told, chunks_of, pieces_of, here_told, ended_told, process_told, server_told, migrates, fits, free_room, kernel_hears, hears, Spot, Queue, Held, Inbox}
-use Rattle.dm_rule.proofs.Names.{Untaken, ids_at, bind-is, label_of, Label, MoveNote, Outcome, Target, Routes, answer_id, answers_move, frozen_for, front_told, leaves_for, tells_asker, sets_off}
+use Rattle.dm_rule.proofs.Names.{after_proto, follows_by, asks_on, held_for, Addresses, Sender, Child, is_told_back, Point, moved, seen, Part, Says, Again, Owns, Spelled, spelled, to_kernel, forwards_on, accepts, takes_chunk}
+use Rattle.dm_rule.proofs.Names.{takes_block, gives_piece, sends_on, leaves, told_step, chunks_of, pieces_of, told_here, told_ended, process_told, told_server, migrates, fits, free_room, kernel_hears, hears, Spot, Queue, Held, Inbox}
+use Rattle.dm_rule.proofs.Names.{Untaken, ids_at, bind-is, label_of, Label, MoveNote, Outcome, Target, Routes, answer_id, answers_move, frozen_for, leaves_for, tells_asker, sets_off}
 use Rattle.dm_onekernel.specs.Step as kernel
 use Rattle.dm_rule.specs.View as view
 use Rattle.dm_rule.proofs.Lines.{hidden, Stands-stays}
@@ -19,6 +19,9 @@ use Rattle.dm_rule.proofs.Requests.{by_migrates}
 use Rattle.dm_rule.proofs.Seen.{about_off}
 use Rattle.dm_rule.proofs.Bags.{bag_answered}
 use Rattle.dm_rule.proofs.Turns.{quiet_label}
+use Rattle.dm_message.specs.Sorts.{sort_of}
+use Rattle.std.specs.Prelude.{option_and_then}
+use Rattle.std.specs.Prelude.{slice_get}
 
 -- what the rule saw before the head is what stands behind it
 pub record SeesSame (o pt : Point) (m : ℕ) : Type 0 where
@@ -67,7 +70,7 @@ asks_off v _ z = refl
 
 pub proto_off : (v : View) (o : Option Told) (z : Spot) → ids_at (after_proto v o) z ≡ ids_at v z
 proto_off v None z = about_off v NothingElse z
-proto_off v (Some t) z = about_off (follows_up v t.about t.kind) t.about z ∙ (elim t.kind as (λ k. ids_at (follows_up v t.about k) z ≡ ids_at v z)
+proto_off v (Some t) z = about_off (follows_by v t.about (sort_of t.kind)) t.about z ∙ (elim t.kind as (λ k. ids_at (follows_by v t.about (sort_of k)) z ≡ ids_at v z)
     [ MessageKind.State ↦ asks_off v t.about z | MessageKind.Memory ↦ asks_off v t.about z | _ ↦ refl ])
 
 for_off : (v : View) (p : Pid) (to : ℕ) (z : Spot) → ids_at (frozen_for v p to) z ≡ ids_at v z
@@ -75,7 +78,7 @@ for_off v p to (Queue m q) = refl
 for_off v p to _ = refl
 
 pub frozen_off : (v : View) (p : Pid) → v.topic ≡ NothingElse → (z : Spot) → ids_at (view_after v (Line.Migration Stage.Frozen p)) z ≡ ids_at (handled_first v) z
-frozen_off v p quiet z = ap (λ (w : View). ids_at w z) (ap (sets_off v p) quiet) ∙ for_off (handled_first v) p (target_of (front_told v (v.inbox v.acting))) z
+frozen_off v p quiet z = ap (λ (w : View). ids_at w z) (ap (sets_off v p) quiet) ∙ for_off (handled_first v) p (target_of (option_and_then v.told (slice_get (v.inbox v.acting) 0))) z
 
 pub asked_off : (v : View) (p : Pid) (to : ℕ) → v.topic ≡ Target to → (z : Spot) → ids_at (view_after v (Line.Migration Stage.Frozen p)) z ≡ ids_at v z
 asked_off v p to asked z = ap (λ (w : View). ids_at w z) (ap (sets_off v p) asked) ∙ for_off v p to z
@@ -204,7 +207,7 @@ pub both_same : (o pt : Point) (m : ℕ) (p : Pid) → SeesSame o pt m → both_
 both_same o pt m p sees = sym (ap (λ (q : List MsgId). q ++ o.view.held m p) (sees.queue p) ∙ ap (λ (q : List MsgId). pt.view.queue pt.view.acting p ++ q) (sees.held p))
 
 told_row : (o pt : Point) (m : ℕ) (i : MsgId) (is : List MsgId) (p : Pid) (room : Bool × ℕ × ℕ) (x : PlainProcess) (k : MessageKind) (parts : List Part) (w : Spelled) → State None pt → PairsFit pt.view → pt.view.inbox pt.view.acting ≡ i ∷ is → is_kernels i ≡ true → SeesSame o pt m
-    → kernel_told o m i p room x k ≡ Some parts → spelled pt parts ≡ Some w → State None w.point
+    → told_step o m i p room x (sort_of k) ≡ Some parts → spelled pt parts ≡ Some w → State None w.point
 told_row o pt m i is p room x MessageKind.Ask parts w h fit front mine sees e n = accepts_row pt i is p i.from.home room.0 room.1 room.2 w h fit front mine (given pt (accepts i.from.home p room.0 room.1 room.2) parts w e n)
 told_row o pt m i is p room x MessageKind.Refuse parts w h fit front mine sees e n =
     let q = o.kernel.notes p in
@@ -225,17 +228,17 @@ updated_row o pt i is n parts w h front mine e k = line_ends pt (Line.Updated i 
 
 here_row : (o pt : Point) (m : ℕ) (i : MsgId) (is : List MsgId) (t : Told) (k : MessageKind) (parts : List Part) (w : Spelled) → State None pt → PairsFit pt.view → pt.view.topic ≡ NothingElse → pt.view.inbox pt.view.acting ≡ i ∷ is
     → is_kernels i ≡ true
-    → here_told o m i t k ≡ Some parts → spelled pt parts ≡ Some w → State None w.point
-here_row o pt m i is t MessageKind.Migrate parts w h fit topic front mine e n = moves_row pt i is t.receiver (target_of (Some t)) (m == target_of (Some t)) w h fit topic front mine (given pt (moves_to m i t.receiver (target_of (Some t))) parts w e n)
+    → told_here o m i t (sort_of k) ≡ Some parts → spelled pt parts ≡ Some w → State None w.point
+here_row o pt m i is t MessageKind.Migrate parts w h fit topic front mine e n = moves_row pt i is t.receiver (target_of (Some t)) (m == target_of (Some t)) w h fit topic front mine (given pt (if m == (target_of (Some t)) then Says (Line.Here i) ∷ [] else leaves_for t.receiver (target_of (Some t))) parts w e n)
 here_row o pt m i is t MessageKind.Update parts w h fit topic front mine e n = updated_row o pt i is _ parts w h front mine e n
 here_row o pt m i is t _ parts w h fit topic front mine e n = cc
 
-ended_row : (pt : Point) (i : MsgId) (is : List MsgId) (k : MessageKind) (parts : List Part) (w : Spelled) → State None pt → pt.view.inbox pt.view.acting ≡ i ∷ is → is_kernels i ≡ true → ended_told i k ≡ Some parts → spelled pt parts ≡ Some w → State None w.point
+ended_row : (pt : Point) (i : MsgId) (is : List MsgId) (k : MessageKind) (parts : List Part) (w : Spelled) → State None pt → pt.view.inbox pt.view.acting ≡ i ∷ is → is_kernels i ≡ true → told_ended i (sort_of k) ≡ Some parts → spelled pt parts ≡ Some w → State None w.point
 ended_row pt i is MessageKind.Migrate parts w h front mine e n = line_ends pt (Line.NoMove i) w refl (goes_front pt (Line.NoMove i) i is refl h front mine (λ z. refl)) (given pt (Says (Line.NoMove i) ∷ []) parts w e n)
 ended_row pt i is MessageKind.Update parts w h front mine e n = updated_row pt pt i is 0 parts w h front mine e n
 ended_row pt i is _ parts w h front mine e n = cc
 
-server_row : (o pt : Point) (i : MsgId) (is : List MsgId) (t : Told) (k : MessageKind) (parts : List Part) (w : Spelled) → State None pt → pt.view.inbox pt.view.acting ≡ i ∷ is → is_kernels i ≡ true → server_told o i t k ≡ Some parts → spelled pt parts ≡ Some w → State None w.point
+server_row : (o pt : Point) (i : MsgId) (is : List MsgId) (t : Told) (k : MessageKind) (parts : List Part) (w : Spelled) → State None pt → pt.view.inbox pt.view.acting ≡ i ∷ is → is_kernels i ≡ true → told_server o i t (sort_of k) ≡ Some parts → spelled pt parts ≡ Some w → State None w.point
 server_row o pt i is t MessageKind.Update parts w h front mine e n = updated_row o pt i is _ parts w h front mine e n
 server_row o pt i is t _ parts w h front mine e n = cc
 
@@ -251,13 +254,13 @@ process_row o pt m i is t _ parts w h fit topic front mine e n = held_row pt i i
 kernel_row : (b : Boot) (o pt : Point) (m : ℕ) (i : MsgId) (is : List MsgId) (k : MessageKind) (a : About) (parts : List Part) (w : Spelled) → State None pt → PairsFit pt.view → pt.view.inbox pt.view.acting ≡ i ∷ is → is_kernels i ≡ true → SeesSame o pt m
     → kernel_hears b o m i k a ≡ Some parts → spelled pt parts ≡ Some w → State None w.point
 kernel_row b o pt m i is k (Of p) parts w h fit front mine sees e n =
-    let (x, there, last) = bind-is (kernel.alive (o.kernel.processes p)) (λ x. kernel_told o m i p (fits (free_room b o m) (length x.memory / 256)) x k) parts e in
+    let (x, there, last) = bind-is (kernel.alive (o.kernel.processes p)) (λ x. told_step o m i p (fits (free_room b o m) (length x.memory / 256)) x (sort_of k)) parts e in
     told_row o pt m i is p (fits (free_room b o m) (length x.memory / 256)) x k parts w h fit front mine sees last n
 kernel_row b o pt m i is k _ parts w h fit front mine sees e n = cc
 
 hears_by : (b : Boot) (o pt : Point) (m : ℕ) (i : MsgId) (is : List MsgId) (t : Told) (c d g : Bool) (parts : List Part) (w : Spelled) → State None pt → PairsFit pt.view → pt.view.topic ≡ NothingElse → pt.view.inbox pt.view.acting ≡ i ∷ is
     → is_kernels i ≡ true → SeesSame o pt m
-    → (if c then kernel_hears b o m i t.kind t.about else if d then server_told o i t t.kind else if g then server_told o i t t.kind else process_told o m i t (o.view.known m t.receiver)) ≡ Some parts → spelled pt parts ≡ Some w → State None w.point
+    → (if c then kernel_hears b o m i t.kind t.about else if d then told_server o i t (sort_of t.kind) else if g then told_server o i t (sort_of t.kind) else process_told o m i t (o.view.known m t.receiver)) ≡ Some parts → spelled pt parts ≡ Some w → State None w.point
 hears_by b o pt m i is t true d g parts w h fit topic front mine sees e n = kernel_row b o pt m i is t.kind t.about parts w h fit front mine sees e n
 hears_by b o pt m i is t false true g parts w h fit topic front mine sees e n = server_row o pt i is t t.kind parts w h front mine e n
 hears_by b o pt m i is t false false true parts w h fit topic front mine sees e n = server_row o pt i is t t.kind parts w h front mine e n

@@ -1,7 +1,7 @@
 -- A kernel's own message is handled: each process stays in a phase.
 use Rattle.dm_rule.proofs.Names.{◌≡◌, ℕ, ◌==◌, Bool, true, false, List, [], ◌∷◌, ◌++◌, refl, ap, ◌∙◌, sym, subst, length, arith, ◌/◌, if◌then◌else◌, Option, None, Some, false≢true, nat_tests, Pid, pid_eq, MsgId, MessageKind, Line, Stage}
 use Rattle.dm_rule.proofs.Names.{Boot, switchboard, manager, PlainProcess, View, Told, About, Of, Known, Unknown, Here, Forward, Ended, is_kernels, target_of, Addresses, Sender, is_told_back, Point, Part, Says, Owns, Spelled, spelled}
-use Rattle.dm_rule.proofs.Names.{to_kernel, forwards_on, moves_to, accepts, takes_chunk, takes_block, gives_piece, kernel_told, chunks_of, pieces_of, updates, here_told, ended_told, process_told, server_told, fits, free_room, kernel_hears}
+use Rattle.dm_rule.proofs.Names.{to_kernel, forwards_on, accepts, takes_chunk, takes_block, gives_piece, told_step, chunks_of, pieces_of, updates, told_here, told_ended, process_told, told_server, fits, free_room, kernel_hears}
 use Rattle.dm_rule.proofs.Names.{hears, is_between, bind-is, Label, MoveNote, NothingElse, Outcome, bind, kernel_after, label_of, leaves_for, moved, tells_asker}
 use Rattle.dm_onekernel.specs.Step as kernel
 use Rattle.dm_rule.proofs.Hushed.{is_put}
@@ -17,6 +17,7 @@ use Rattle.dm_rule.proofs.Phases.Answers.{Whole, due, about_same}
 use Rattle.dm_rule.proofs.Phases.Pieces.{ask_row, pull_state_row, pull_block_row, chunk_row, block_row}
 use Rattle.dm_rule.proofs.Phases.Rests.{stays_whole, restart_whole, frozen_row}
 use Rattle.dm_rule.proofs.Phases.Leaves.{leaves_row}
+use Rattle.dm_message.specs.Sorts.{sort_of}
 
 -- what the rule saw before the head is what stands behind it
 pub record SeesAll (o pt : Point) (m : ℕ) : Type 0 where
@@ -50,55 +51,55 @@ ends_row pt l q r w none quiet h sane state e =
 -- a message of the protocol, by its kind
 told_row : (o pt : Point) (m : ℕ) (i : MsgId) (is : List MsgId) (t : Told) (p : Pid) (room : Bool × ℕ × ℕ) (x : PlainProcess) (k : MessageKind) (parts : List Part) (w : Spelled) (h : Whole pt) → Sane pt → State None w.point
     → pt.view.inbox pt.view.acting ≡ i ∷ is → pt.view.told i ≡ Some t → is_kernels i ≡ true → SeesAll o pt m
-    → t.kind ≡ k → t.about ≡ Of p → kernel_told o m i p room x k ≡ Some parts → spelled pt parts ≡ Some w → Whole w.point
+    → t.kind ≡ k → t.about ≡ Of p → told_step o m i p room x (sort_of k) ≡ Some parts → spelled pt parts ≡ Some w → Whole w.point
 told_row o pt m i is t p room x MessageKind.Ask parts w h sane state front told mine sees e about g n =
     let u = due pt i is t h.phases front told (ap is_between e) in
     let pu : u.p ≡ p = about_same u.p p (sym (ap (λ (y : Told). y.about) u.told) ∙ about) in
     let ku : u.k ≡ MessageKind.Ask = sym (ap (λ (y : Told). y.kind) u.told) ∙ e in
-    let mine_ : kernel_told o m i u.p room x MessageKind.Ask ≡ Some parts = subst (λ (q : Pid). kernel_told o m i q room x MessageKind.Ask ≡ Some parts) (sym pu) g in
+    let mine_ : told_step o m i u.p room x (sort_of MessageKind.Ask) ≡ Some parts = subst (λ (q : Pid). told_step o m i q room x (sort_of MessageKind.Ask) ≡ Some parts) (sym pu) g in
     ask_row pt i is t room.0 room.1 room.2 w h u ku front told mine (given pt (accepts i.from.home u.p room.0 room.1 room.2) parts w mine_ n)
 told_row o pt m i is t p room x MessageKind.Refuse parts w h sane state front told mine sees e about g n =
     let u = due pt i is t h.phases front told (ap is_between e) in
     let pu : u.p ≡ p = about_same u.p p (sym (ap (λ (y : Told). y.about) u.told) ∙ about) in
     let ku : u.k ≡ MessageKind.Refuse = sym (ap (λ (y : Told). y.kind) u.told) ∙ e in
-    let mine_ : kernel_told o m i u.p room x MessageKind.Refuse ≡ Some parts = subst (λ (q : Pid). kernel_told o m i q room x MessageKind.Refuse ≡ Some parts) (sym pu) g in
+    let mine_ : told_step o m i u.p room x (sort_of MessageKind.Refuse) ≡ Some parts = subst (λ (q : Pid). told_step o m i q room x (sort_of MessageKind.Refuse) ≡ Some parts) (sym pu) g in
     let q = o.kernel.notes u.p in
     ends_row pt (Line.Stays u.p) q Outcome.Stayed w refl refl (stays_whole pt i is t h u ku front told mine) sane state (given pt (Says (Line.Stays u.p) ∷ tells_asker q Outcome.Stayed) parts w mine_ n)
 told_row o pt m i is t p room x MessageKind.PullState parts w h sane state front told mine sees e about g n =
     let u = due pt i is t h.phases front told (ap is_between e) in
     let pu : u.p ≡ p = about_same u.p p (sym (ap (λ (y : Told). y.about) u.told) ∙ about) in
     let ku : u.k ≡ MessageKind.PullState = sym (ap (λ (y : Told). y.kind) u.told) ∙ e in
-    let mine_ : kernel_told o m i u.p room x MessageKind.PullState ≡ Some parts = subst (λ (q : Pid). kernel_told o m i q room x MessageKind.PullState ≡ Some parts) (sym pu) g in
+    let mine_ : told_step o m i u.p room x (sort_of MessageKind.PullState) ≡ Some parts = subst (λ (q : Pid). told_step o m i q room x (sort_of MessageKind.PullState) ≡ Some parts) (sym pu) g in
     pull_state_row pt i is t w h u ku front told mine (given pt (gives_piece i MessageKind.State) parts w mine_ n)
 told_row o pt m i is t p room x MessageKind.State parts w h sane state front told mine sees e about g n =
     let u = due pt i is t h.phases front told (ap is_between e) in
     let pu : u.p ≡ p = about_same u.p p (sym (ap (λ (y : Told). y.about) u.told) ∙ about) in
     let ku : u.k ≡ MessageKind.State = sym (ap (λ (y : Told). y.kind) u.told) ∙ e in
-    let mine_ : kernel_told o m i u.p room x MessageKind.State ≡ Some parts = subst (λ (q : Pid). kernel_told o m i q room x MessageKind.State ≡ Some parts) (sym pu) g in
+    let mine_ : told_step o m i u.p room x (sort_of MessageKind.State) ≡ Some parts = subst (λ (q : Pid). told_step o m i q room x (sort_of MessageKind.State) ≡ Some parts) (sym pu) g in
     chunk_row pt i is t (o.view.asked u.p == chunks_of x) w h u ku front told mine (given pt (takes_chunk i u.p (o.view.asked u.p == chunks_of x)) parts w mine_ n)
 told_row o pt m i is t p room x MessageKind.PullBlock parts w h sane state front told mine sees e about g n =
     let u = due pt i is t h.phases front told (ap is_between e) in
     let pu : u.p ≡ p = about_same u.p p (sym (ap (λ (y : Told). y.about) u.told) ∙ about) in
     let ku : u.k ≡ MessageKind.PullBlock = sym (ap (λ (y : Told). y.kind) u.told) ∙ e in
-    let mine_ : kernel_told o m i u.p room x MessageKind.PullBlock ≡ Some parts = subst (λ (q : Pid). kernel_told o m i q room x MessageKind.PullBlock ≡ Some parts) (sym pu) g in
+    let mine_ : told_step o m i u.p room x (sort_of MessageKind.PullBlock) ≡ Some parts = subst (λ (q : Pid). told_step o m i q room x (sort_of MessageKind.PullBlock) ≡ Some parts) (sym pu) g in
     pull_block_row pt i is t w h u ku front told mine (given pt (gives_piece i MessageKind.Memory) parts w mine_ n)
 told_row o pt m i is t p room x MessageKind.Memory parts w h sane state front told mine sees e about g n =
     let u = due pt i is t h.phases front told (ap is_between e) in
     let pu : u.p ≡ p = about_same u.p p (sym (ap (λ (y : Told). y.about) u.told) ∙ about) in
     let ku : u.k ≡ MessageKind.Memory = sym (ap (λ (y : Told). y.kind) u.told) ∙ e in
-    let mine_ : kernel_told o m i u.p room x MessageKind.Memory ≡ Some parts = subst (λ (q : Pid). kernel_told o m i q room x MessageKind.Memory ≡ Some parts) (sym pu) g in
+    let mine_ : told_step o m i u.p room x (sort_of MessageKind.Memory) ≡ Some parts = subst (λ (q : Pid). told_step o m i q room x (sort_of MessageKind.Memory) ≡ Some parts) (sym pu) g in
     block_row pt i is t (o.view.asked u.p == pieces_of x) w h u ku front told mine (given pt (takes_block i u.p (o.view.asked u.p == pieces_of x)) parts w mine_ n)
 told_row o pt m i is t p room x MessageKind.AllTaken parts w h sane state front told mine sees e about g n =
     let u = due pt i is t h.phases front told (ap is_between e) in
     let pu : u.p ≡ p = about_same u.p p (sym (ap (λ (y : Told). y.about) u.told) ∙ about) in
     let ku : u.k ≡ MessageKind.AllTaken = sym (ap (λ (y : Told). y.kind) u.told) ∙ e in
-    let mine_ : kernel_told o m i u.p room x MessageKind.AllTaken ≡ Some parts = subst (λ (q : Pid). kernel_told o m i q room x MessageKind.AllTaken ≡ Some parts) (sym pu) g in
+    let mine_ : told_step o m i u.p room x (sort_of MessageKind.AllTaken) ≡ Some parts = subst (λ (q : Pid). told_step o m i q room x (sort_of MessageKind.AllTaken) ≡ Some parts) (sym pu) g in
     leaves_row pt i is t (o.view.queue m u.p ++ o.view.held m u.p) (o.view.known m u.p) parts w h u ku front told mine (both_same o pt m u.p sees.same) mine_ n
 told_row o pt m i is t p room x MessageKind.Restart parts w h sane state front told mine sees e about g n =
     let u = due pt i is t h.phases front told (ap is_between e) in
     let pu : u.p ≡ p = about_same u.p p (sym (ap (λ (y : Told). y.about) u.told) ∙ about) in
     let ku : u.k ≡ MessageKind.Restart = sym (ap (λ (y : Told). y.kind) u.told) ∙ e in
-    let mine_ : kernel_told o m i u.p room x MessageKind.Restart ≡ Some parts = subst (λ (q : Pid). kernel_told o m i q room x MessageKind.Restart ≡ Some parts) (sym pu) g in
+    let mine_ : told_step o m i u.p room x (sort_of MessageKind.Restart) ≡ Some parts = subst (λ (q : Pid). told_step o m i q room x (sort_of MessageKind.Restart) ≡ Some parts) (sym pu) g in
     let q = o.kernel.notes u.p in
     let l = Line.Migration Stage.Restarted u.p in
     ends_row pt l q Outcome.Done w refl refl (restart_whole pt i is t h u ku front told mine) sane state (given pt (Says l ∷ tells_asker q Outcome.Done) parts w mine_ n)
@@ -119,17 +120,17 @@ moves_row o pt m i is t false w h sane state plain front told mine sees here e n
     frozen_row pt i is t t.receiver (target_of (Some t)) w h sees.topic plain front told mine here refl (ap (λ (a : ℕ). a == target_of (Some t)) sees.acting ∙ e) n
 
 here_row : (o pt : Point) (m : ℕ) (i : MsgId) (is : List MsgId) (t : Told) (k : MessageKind) (parts : List Part) (w : Spelled) (h : Whole pt) → Sane pt → State None w.point → is_between t.kind ≡ false → pt.view.inbox pt.view.acting ≡ i ∷ is → pt.view.told i ≡ Some t → is_kernels i ≡ true → SeesAll o pt m
-    → pt.view.known pt.view.acting t.receiver ≡ Here → here_told o m i t k ≡ Some parts → spelled pt parts ≡ Some w → Whole w.point
-here_row o pt m i is t MessageKind.Migrate parts w h sane state plain front told mine sees here g n = moves_row o pt m i is t (m == target_of (Some t)) w h sane state plain front told mine sees here refl (given pt (moves_to m i t.receiver (target_of (Some t))) parts w g n)
+    → pt.view.known pt.view.acting t.receiver ≡ Here → told_here o m i t (sort_of k) ≡ Some parts → spelled pt parts ≡ Some w → Whole w.point
+here_row o pt m i is t MessageKind.Migrate parts w h sane state plain front told mine sees here g n = moves_row o pt m i is t (m == target_of (Some t)) w h sane state plain front told mine sees here refl (given pt (if m == (target_of (Some t)) then Says (Line.Here i) ∷ [] else leaves_for t.receiver (target_of (Some t))) parts w g n)
 here_row o pt m i is t MessageKind.Update parts w h sane state plain front told mine sees here g n = one_quiet pt (updates o i t) parts w h sane state (tame_of pt.view i t told plain, tt) g n
 here_row o pt m i is t _ parts w h sane state plain front told mine sees here g n = cc
 
-ended_row : (pt : Point) (i : MsgId) (t : Told) (k : MessageKind) (parts : List Part) (w : Spelled) (h : Whole pt) → Sane pt → State None w.point → Tame pt.view i → ended_told i k ≡ Some parts → spelled pt parts ≡ Some w → Whole w.point
+ended_row : (pt : Point) (i : MsgId) (t : Told) (k : MessageKind) (parts : List Part) (w : Spelled) (h : Whole pt) → Sane pt → State None w.point → Tame pt.view i → told_ended i (sort_of k) ≡ Some parts → spelled pt parts ≡ Some w → Whole w.point
 ended_row pt i t MessageKind.Migrate parts w h sane state tame g n = one_quiet pt (Says (Line.NoMove i) ∷ []) parts w h sane state (tame, tt) g n
 ended_row pt i t MessageKind.Update parts w h sane state tame g n = one_quiet pt (Says (Line.Updated i 0) ∷ []) parts w h sane state (tame, tt) g n
 ended_row pt i t _ parts w h sane state tame g n = cc
 
-server_row : (o pt : Point) (i : MsgId) (t : Told) (k : MessageKind) (parts : List Part) (w : Spelled) (h : Whole pt) → Sane pt → State None w.point → Tame pt.view i → server_told o i t k ≡ Some parts → spelled pt parts ≡ Some w → Whole w.point
+server_row : (o pt : Point) (i : MsgId) (t : Told) (k : MessageKind) (parts : List Part) (w : Spelled) (h : Whole pt) → Sane pt → State None w.point → Tame pt.view i → told_server o i t (sort_of k) ≡ Some parts → spelled pt parts ≡ Some w → Whole w.point
 server_row o pt i t MessageKind.Update parts w h sane state tame g n = one_quiet pt (updates o i t) parts w h sane state (tame, tt) g n
 server_row o pt i t _ parts w h sane state tame g n = cc
 
@@ -146,7 +147,7 @@ kernel_row : (b : Boot) (o pt : Point) (m : ℕ) (i : MsgId) (is : List MsgId) (
     → pt.view.told i ≡ Some t → is_kernels i ≡ true → SeesAll o pt m
     → t.about ≡ a → kernel_hears b o m i t.kind a ≡ Some parts → spelled pt parts ≡ Some w → Whole w.point
 kernel_row b o pt m i is t (Of p) parts w h sane state front told mine sees about g n =
-    let (x, there, last) = bind-is (kernel.alive (o.kernel.processes p)) (λ x. kernel_told o m i p (fits (free_room b o m) (length x.memory / 256)) x t.kind) parts g in
+    let (x, there, last) = bind-is (kernel.alive (o.kernel.processes p)) (λ x. told_step o m i p (fits (free_room b o m) (length x.memory / 256)) x (sort_of t.kind)) parts g in
     told_row o pt m i is t p (fits (free_room b o m) (length x.memory / 256)) x t.kind parts w h sane state front told mine sees refl about last n
 kernel_row b o pt m i is t _ parts w h sane state front told mine sees about g n = cc
 
@@ -161,7 +162,7 @@ plain_by pt i is t h true e front told off =
 plain_by pt i is t h false e front told off = refl
 
 hears_by : (b : Boot) (o pt : Point) (m : ℕ) (i : MsgId) (is : List MsgId) (t : Told) (c d g : Bool) (parts : List Part) (w : Spelled) (h : Whole pt) → Sane pt → State None w.point → (t.receiver.num == 0) ≡ c → pt.view.inbox pt.view.acting ≡ i ∷ is → pt.view.told i ≡ Some t → is_kernels i ≡ true → SeesAll o pt m
-    → (if c then kernel_hears b o m i t.kind t.about else if d then server_told o i t t.kind else if g then server_told o i t t.kind else process_told o m i t (o.view.known m t.receiver)) ≡ Some parts → spelled pt parts ≡ Some w → Whole w.point
+    → (if c then kernel_hears b o m i t.kind t.about else if d then told_server o i t (sort_of t.kind) else if g then told_server o i t (sort_of t.kind) else process_told o m i t (o.view.known m t.receiver)) ≡ Some parts → spelled pt parts ≡ Some w → Whole w.point
 hears_by b o pt m i is t true d g parts w h sane state c front told mine sees e n = kernel_row b o pt m i is t t.about parts w h sane state front told mine sees refl e n
 hears_by b o pt m i is t false true g parts w h sane state c front told mine sees e n = server_row o pt i t t.kind parts w h sane state (tame_of pt.view i t told (plain_by pt i is t h.phases (is_between t.kind) refl front told c)) e n
 hears_by b o pt m i is t false false true parts w h sane state c front told mine sees e n = server_row o pt i t t.kind parts w h sane state (tame_of pt.view i t told (plain_by pt i is t h.phases (is_between t.kind) refl front told c)) e n

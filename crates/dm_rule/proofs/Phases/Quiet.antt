@@ -1,6 +1,6 @@
 -- Parts that leave the migrations of all processes as they are.
 use Rattle.dm_rule.proofs.Names.{◌≡◌, ℕ, ◌==◌, Bool, true, false, List, [], ◌∷◌, length, refl, ap, ◌∙◌, sym, subst, arith, ⊤, if◌then◌else◌, Option, None, Some, false≢true, Pid, MsgId, MessageKind, Load, Stage, id_eq, plain_kind}
-use Rattle.dm_rule.proofs.Names.{PlainMessage, Label, OneKernel, bind, Line, at_record, without_id, View, Told, own_id, view_after, handled, receiver_of, kills, served_told, Receiver, Point, label_of, kernel_after, moved, seen, after_line}
+use Rattle.dm_rule.proofs.Names.{PlainMessage, Label, OneKernel, bind, Line, at_record, without_id, View, Told, own_id, view_after, handled, receiver_of, ends_by, served_told, Receiver, Point, label_of, kernel_after, moved, seen, after_line}
 use Rattle.dm_rule.proofs.Names.{after, Part, Says, Routes, Again, Owns, Transmits, Spelled, lines_of, puts, goes_out, packet_line, behind, spelled, Spot, Queue, times, ids_at, standing, is_between, bind-is}
 use Rattle.dm_onekernel.specs.Step as kernel
 use Rattle.dm_rule.specs.View as view
@@ -16,6 +16,7 @@ use Rattle.dm_rule.proofs.Telling.{Sane, plain_not, Sayable, part_sane}
 use Rattle.dm_rule.proofs.Phases.Calm.{Calm, Plain, calm_about, calm_same, calm_trans, calm_others, calm_still}
 use Rattle.dm_rule.proofs.Phases.Lines.{handled_spots, queued_spots, held_spots, dropped_spots, forwarded_spots, queued_known, held_known, dropped_known, forwarded_known, record_times, without_times, put_calm, packet_calm}
 pub use Rattle.dm_rule.proofs.Serving.{is_kill}
+use Rattle.dm_message.specs.Sorts.{sort_of}
 
 -- a message that was told of, and is none of the protocol
 pub record Tame (v : View) (i : MsgId) : Type 0 where
@@ -126,7 +127,7 @@ received_spots v p i j e _ = refl
 
 served_known : (v : View) (o : Option Told) (t : Told) → o ≡ Some t → is_kill t.kind ≡ false → (m : ℕ) (q : Pid) → (served_told v o).known m q ≡ v.known m q
 served_known v None t e spares m q = refl
-served_known v (Some s) t e spares m q = let f : s ≡ t = cc in (elim s.kind as (λ k. is_kill k ≡ false → (kills k v (Some s.receiver)).known m q ≡ v.known m q)
+served_known v (Some s) t e spares m q = let f : s ≡ t = cc in (elim s.kind as (λ k. is_kill k ≡ false → (ends_by (sort_of k) v (Some s.receiver)).known m q ≡ v.known m q)
     [ MessageKind.Kill ↦ λ e. absurd (false≢true (sym e)) | _ ↦ λ e. refl ]) (ap (λ (u : Told). is_kill u.kind) f ∙ spares)
 
 gone_plain : (pt : Point) (s : OneKernel) (l : Label) (i : MsgId) → Sane pt → kernel.step pt.kernel l ≡ Some s → out_of l ≡ Some i → Plain pt.view i

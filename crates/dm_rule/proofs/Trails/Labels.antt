@@ -1,5 +1,5 @@
 -- Each label keeps each address on its trail.
-use Rattle.dm_rule.proofs.Names.{◌≡◌, true, refl, ap, ◌∙◌, sym, subst, Option, None, Some, Pid, Place, MsgId, MessageKind, Line, manager, Label, OneKernel, View, Told, is_kernels, after_label, served_told, kills, handled, dropped_for}
+use Rattle.dm_rule.proofs.Names.{◌≡◌, true, refl, ap, ◌∙◌, sym, subst, Option, None, Some, Pid, Place, MsgId, MessageKind, Line, manager, Label, OneKernel, View, Told, is_kernels, after_label, served_told, ends_by, handled, dropped_for}
 use Rattle.dm_rule.proofs.Names.{receiver_of, Addresses, Receiver, Sender, given, gives, ascends, to_of, Trails, Trail, IsOn, AddressesOn, OwnOn}
 use Rattle.dm_onekernel.specs.Step as kernel
 use Rattle.dm_rule.proofs.Hushed.{hushed}
@@ -7,6 +7,7 @@ use Rattle.dm_rule.proofs.Homes.{homes_are, at_home}
 use Rattle.dm_rule.proofs.Homes.Serves.{Named, EndedAt}
 use Rattle.dm_rule.proofs.Homes.Labels.{SaidOn, label_on}
 use Rattle.dm_rule.proofs.Trails.Spares.{Outside, gives_spares, spared_receiver, spared_sender}
+use Rattle.dm_message.specs.Sorts.{sort_of}
 
 -- where a message's receiver has ended, the message's own address says where
 pub ended_on : (s : OneKernel) (v : View) (a : Addresses) (t : Trails) (id : MsgId) → (a (Receiver id)).at ≡ v.acting → AddressesOn s a t → EndedAt (IsOn t) s v a id
@@ -23,7 +24,7 @@ pub label_pending : (s t : OneKernel) (v : View) (a : Addresses) (tr : Trails) (
 label_pending s t v a tr l is named said trail pending links = (label_on (IsOn tr) s t v a l is named said (at_home (IsOn tr) s a (λ q. (trail q).begins) links pending)).pending
 
 -- a label tells nothing of messages, and isn't about a place
-kills_topic : (v : View) (k : MessageKind) (o : Option Pid) → (kills k v o).topic ≡ v.topic
+kills_topic : (v : View) (k : MessageKind) (o : Option Pid) → (ends_by (sort_of k) v o).topic ≡ v.topic
 kills_topic v MessageKind.Kill (Some p) = refl
 kills_topic v MessageKind.Kill None = refl
 kills_topic v _ o = refl

@@ -1,12 +1,13 @@
 -- Puts keep each address on its trail.
 use Rattle.dm_rule.proofs.Names.{◌≡◌, ◌⊎◌, ℕ, suc, ◌+◌, Bool, true, false, List, [], ◌∷◌, refl, ap, ◌∙◌, sym, subst, inl, inr, arith, if◌then◌else◌, slice_get, Option, None, Some, cases_Bool, false≢true, Pid, Place, pid_eq, MsgId, id_eq}
 use Rattle.dm_rule.proofs.Names.{MessageKind, manager, OneKernel, pid_eq-is, id_eq-is, id_eq-same, View, Told, is_kernels, after_put, Addresses, Holder, Receiver, Sender, Child, Gets, gets, given, unmoved, child_from, child_number}
-use Rattle.dm_rule.proofs.Names.{place_of_child, own_gives, first_gives, names, Trails, Trail, IsOn, Sort, sort_of, own_given}
+use Rattle.dm_rule.proofs.Names.{own_given, first_gives, names, Trails, Trail, IsOn, Sort, sort_of}
 use Rattle.dm_rule.specs.View as view
 use Rattle.dm_rule.proofs.States.{put_told_off}
 use Rattle.dm_rule.proofs.Phases.Lines.{put_at}
 use Rattle.dm_rule.proofs.Trails.Places.{Goes, Comes, Named, Links, Owns, AllAre, AllGet, given_on}
 use Rattle.dm_rule.proofs.Trails.Lines.{unnamed_receiver, unnamed_sender}
+use Rattle.std.specs.Option.{option_map_or}
 
 -- the first put of a kernel's own message
 pub put_named : (s : OneKernel) (v : View) (x y : ℕ) (id : MsgId) (k : MessageKind) (q : Pid) (h : Holder) (r : Pid) → v.told id ≡ None → Named s (after_put v x y id k q) h r
@@ -35,15 +36,15 @@ own_gets_by s v a t id q (Sort.Between passage) bag told = ((λ q e. absurd (unn
 own_gets_by s v a t id q Sort.Unsent bag told = ((λ q e. absurd (unnamed_receiver s v id q bag told e)), ((λ q e. absurd (unnamed_sender s v id q bag told e)), tt))
 own_gets_by s v a t id q _ bag told = tt
 
-pub put_all : (s : OneKernel) (v : View) (a : Addresses) (t : Trails) (x y : ℕ) (id : MsgId) (k : MessageKind) (q : Pid) → s.bag id ≡ None → v.told id ≡ None → IsOn t q (given a (own_gives s v a id q k) (Receiver id))
-    → (k ≡ MessageKind.Migrate → IsOn t manager (given a (own_gives s v a id q k) (Sender id))) → AllAre s v a t → AllAre s (after_put v x y id k q) (given a (first_gives (v.told id) (own_gives s v a id q k))) t
+pub put_all : (s : OneKernel) (v : View) (a : Addresses) (t : Trails) (x y : ℕ) (id : MsgId) (k : MessageKind) (q : Pid) → s.bag id ≡ None → v.told id ≡ None → IsOn t q (given a (own_given s v a id q (sort_of k)) (Receiver id))
+    → (k ≡ MessageKind.Migrate → IsOn t manager (given a (own_given s v a id q (sort_of k)) (Sender id))) → AllAre s v a t → AllAre s (after_put v x y id k q) (given a (first_gives (v.told id) (own_given s v a id q (sort_of k)))) t
 put_all s v a t x y id k q bag none to from h g r e =
-    subst (λ (o : Option Told). IsOn t r (given a (first_gives o (own_gives s v a id q k)) g)) (sym none)
+    subst (λ (o : Option Told). IsOn t r (given a (first_gives o (own_given s v a id q (sort_of k))) g)) (sym none)
     (elim (put_named s v x y id k q g r none e) [
-      | inl old ↦ given_on s v a t (own_gives s v a id q k) h (own_gets_by s v a t id q (sort_of k) bag none) g r old
+      | inl old ↦ given_on s v a t (own_given s v a id q (sort_of k)) h (own_gets_by s v a t id q (sort_of k) bag none) g r old
       | inr new ↦ elim new [
-        | inl way ↦ subst (λ (i : Holder). IsOn t r (given a (own_gives s v a id q k) i)) (sym way.0) (subst (λ (p : Pid). IsOn t p (given a (own_gives s v a id q k) (Receiver id))) way.1 to)
-        | inr way ↦ subst (λ (i : Holder). IsOn t r (given a (own_gives s v a id q k) i)) (sym way.0) (subst (λ (p : Pid). IsOn t p (given a (own_gives s v a id q k) (Sender id))) way.2 (from way.1))
+        | inl way ↦ subst (λ (i : Holder). IsOn t r (given a (own_given s v a id q (sort_of k)) i)) (sym way.0) (subst (λ (p : Pid). IsOn t p (given a (own_given s v a id q (sort_of k)) (Receiver id))) way.1 to)
+        | inr way ↦ subst (λ (i : Holder). IsOn t r (given a (own_given s v a id q (sort_of k)) i)) (sym way.0) (subst (λ (p : Pid). IsOn t p (given a (own_given s v a id q (sort_of k)) (Sender id))) way.2 (from way.1))
       ]
     ])
 
@@ -94,7 +95,7 @@ plain_given s v a id q (Sort.Between passage) e = absurd (let f : true ≡ false
 plain_given s v a id q Sort.Unsent e = absurd (let f : true ≡ false = e in cc)
 plain_given s v a id q _ e = refl
 
-pub plain_gives : (s : OneKernel) (v : View) (a : Addresses) (id : MsgId) (q : Pid) (k : MessageKind) → is_own k ≡ false → own_gives s v a id q k ≡ []
+pub plain_gives : (s : OneKernel) (v : View) (a : Addresses) (id : MsgId) (q : Pid) (k : MessageKind) → is_own k ≡ false → own_given s v a id q (sort_of k) ≡ []
 plain_gives s v a id q k e = plain_given s v a id q (sort_of k) e
 
 pub not_own : (k : MessageKind) → is_own k ≡ false → k ≡ MessageKind.Migrate → ⊥
@@ -112,9 +113,9 @@ routed_named s v x y id k q h r other plain none (Owns (Comes i u is mine told m
 ]
 
 pub put_routed : (s : OneKernel) (v : View) (a : Addresses) (t : Trails) (x y : ℕ) (id : MsgId) (k : MessageKind) (q : Pid) → is_kernels id ≡ false → is_own k ≡ false → v.told id ≡ None → AllAre s v a t
-    → AllAre s (after_put v x y id k q) (given a (first_gives (v.told id) (own_gives s v a id q k))) t
+    → AllAre s (after_put v x y id k q) (given a (first_gives (v.told id) (own_given s v a id q (sort_of k)))) t
 put_routed s v a t x y id k q other plain none h g r e =
-    subst (λ (gs : List Gets). IsOn t r (given a gs g)) (sym (ap (λ (o : Option Told). first_gives o (own_gives s v a id q k)) none ∙ plain_gives s v a id q k plain)) (h g r (routed_named s v x y id k q g r other plain none e))
+    subst (λ (gs : List Gets). IsOn t r (given a gs g)) (sym (ap (λ (o : Option Told). first_gives o (own_given s v a id q (sort_of k))) none ∙ plain_gives s v a id q k plain)) (h g r (routed_named s v x y id k q g r other plain none e))
 
 -- what is told of places, with a put
 about_by : (t : Trails) (o : Option Told) (w u : Told) (p : Pid) (m c : ℕ) → Some (view.first_told o w) ≡ Some u → u.about ≡ view.Place p m c → (o ≡ Some u → slice_get (t p) c ≡ Some m) → (w.about ≡ view.Place p m c → slice_get (t p) c ≡ Some m) → slice_get (t p) c ≡ Some m
@@ -131,8 +132,8 @@ about_put v t x y id k q about topic i u p m c told e = elim (cases_Bool (id_eq 
 ]
 
 -- the places of a request to move a child
-pub migrate_to : (s : OneKernel) (v : View) (a : Addresses) (t : Trails) (id : MsgId) (q : Pid) (n : ℕ) → child_number s q ≡ Some n → IsOn t q (a (Child n)) → IsOn t q (given a (own_gives s v a id q MessageKind.Migrate) (Receiver id))
-migrate_to s v a t id q n child on = subst (IsOn t q) (sym (ap (λ (c : Bool). if c then place_of_child a (child_number s q) else a (Receiver id)) (id_eq-same id) ∙ ap (place_of_child a) child)) on
+pub migrate_to : (s : OneKernel) (v : View) (a : Addresses) (t : Trails) (id : MsgId) (q : Pid) (n : ℕ) → child_number s q ≡ Some n → IsOn t q (a (Child n)) → IsOn t q (given a (own_given s v a id q (sort_of MessageKind.Migrate)) (Receiver id))
+migrate_to s v a t id q n child on = subst (IsOn t q) (sym (ap (λ (c : Bool). if c then option_map_or (λ c. a (Child c)) (child_number s q) (unmoved 0) else a (Receiver id)) (id_eq-same id) ∙ ap (λ (o : Option ℕ). option_map_or (λ c. a (Child c)) o (unmoved 0)) child)) on
 
-pub migrate_from : (s : OneKernel) (v : View) (a : Addresses) (t : Trails) (id : MsgId) (q : Pid) → v.acting ≡ 0 → Trail v t manager → IsOn t manager (given a (own_gives s v a id q MessageKind.Migrate) (Sender id))
+pub migrate_from : (s : OneKernel) (v : View) (a : Addresses) (t : Trails) (id : MsgId) (q : Pid) → v.acting ≡ 0 → Trail v t manager → IsOn t manager (given a (own_given s v a id q (sort_of MessageKind.Migrate)) (Sender id))
 migrate_from s v a t id q first trail = subst (IsOn t manager) (sym (ap (λ (c : Bool). if c then unmoved v.acting else a (Sender id)) (id_eq-same id) ∙ ap unmoved first)) trail.begins

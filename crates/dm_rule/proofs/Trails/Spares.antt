@@ -1,8 +1,8 @@
 -- No label gives an address to a kernel's own message.
 use Rattle.dm_rule.proofs.Names.{◌≡◌, ℕ, ◌+◌, ◌==◌, ◌&&◌, Bool, true, false, not, List, [], ◌∷◌, ◌++◌, length, map, refl, ap, ◌∙◌, sym, subst, if◌then◌else◌, Option, None, Some, false≢true, Pid, Place, pid_eq, PlainLink, first_empty, MsgId}
 use Rattle.dm_rule.proofs.Names.{id_eq, id_of, PlainMessage, PlainWhat, Label, Reply, switchboard, manager, bind, PlainProcess, reg, NamedLink, OneKernel, with_sent, answer_id, id_eq-is, id_eq-same, sent_at, bind-is, when-is, View}
-use Rattle.dm_rule.proofs.Names.{is_kernels, Addresses, Holder, Slot, Owner, Receiver, Sender, Enclosed, Answer, Gets, gets, given, gives, holder_eq, unmoved, encloses, enclosed_from, sends_what, fills, fills_by, call_gets, receives_links}
-use Rattle.dm_rule.proofs.Names.{receives_what, slot_after, landing_gets, serves_what, child_links, board_finds, board_keeps, board_gets, manager_tells, manager_sends, manager_answers, manager_gets, both_true, at_hand-is}
+use Rattle.dm_rule.proofs.Names.{is_kernels, Addresses, Holder, Slot, Owner, Receiver, Sender, Enclosed, Answer, Gets, gets, given, gives, holder_eq, unmoved, encloses, enclosed_from, sends_burden, fills, fills_by, call_gets, receives_links}
+use Rattle.dm_rule.proofs.Names.{receives_burden, slot_after, landing_gets, serves_burden, child_links, board_finds, board_keeps, board_takes_burden, manager_tells_burden, manager_sends, manager_answers, manager_takes_burden, both_true, at_hand-is}
 use Rattle.dm_onekernel.specs.Calls as calls
 use Rattle.dm_onekernel.specs.Pieces as pieces
 use Rattle.dm_onekernel.specs.Switchboard as board
@@ -12,6 +12,8 @@ use Rattle.dm_onekernel.specs.Step as kernel
 use Rattle.dm_rule.specs.Addresses as addresses
 use Rattle.dm_rule.specs.Given as request
 use Rattle.dm_rule.proofs.Lines.{not_true}
+use Rattle.dm_rule.specs.Given.{burden_of}
+use Rattle.std.specs.Option.{option_map_or}
 
 -- these are none of a message's receiver and sender
 abbrev pub spares_one : MsgId → Holder → Bool
@@ -82,7 +84,7 @@ made_spares v a p n Reply.Done None i = refl
 made_spares v a p n _ o i = refl
 
 -- sendings
-pub sends_what_spares : (v : View) (a : Addresses) (p : Pid) (x : PlainProcess) (id : MsgId) (w : PlainWhat) (i : MsgId) → id_eq id i ≡ false → spares i (sends_what v a p x id w) ≡ true
+pub sends_what_spares : (v : View) (a : Addresses) (p : Pid) (x : PlainProcess) (id : MsgId) (w : PlainWhat) (i : MsgId) → id_eq id i ≡ false → spares i (sends_burden v a p x id (burden_of w)) ≡ true
 sends_what_spares v a p x id (PlainWhat.User b1 b2 b3 b4) i e = two_more i id (encloses id 0 (map (λ (n : ℕ). a (Slot p n)) (calls.listed x))) e (encloses_spares i id 0 (map (λ (n : ℕ). a (Slot p n)) (calls.listed x)))
 sends_what_spares v a p x id _ i e = two_more i id (gets (Owner p) (a (Slot p (reg x.regs 1))) ∷ []) e refl
 
@@ -117,7 +119,7 @@ receives_links_spares a p id n slots (l ∷ ls) i =
 pub receives_spares : (a : Addresses) (p : Pid) (id : MsgId) (o : Option PlainProcess) (m : Option PlainMessage) (i : MsgId) → spares i (addresses.reception_gets a p id o m) ≡ true
 receives_spares a p id None m i = refl
 receives_spares a p id (Some x) None i = refl
-receives_spares a p id (Some x) (Some m) i = elim m.what as (λ w. spares i (receives_what a p id x w) ≡ true)
+receives_spares a p id (Some x) (Some m) i = elim m.what as (λ w. spares i (receives_burden a p id x (burden_of w)) ≡ true)
     [ PlainWhat.User b1 b2 b3 b4 ↦ receives_links_spares a p id 0 x.links b4 i | _ ↦ refl ]
 
 -- served
@@ -132,7 +134,7 @@ lands_spares s t v a id m x i out own e =
     let k : service.landed s id m c ≡ t = cc in
     subst (λ (o : Option pieces.Landed). spares i (landing_gets v a m.to o) ≡ true) (sym is) (landed_spares s t v a id m c i out own k)
 
-serve_spares : (s t : OneKernel) (v : View) (a : Addresses) (id : MsgId) (m : PlainMessage) (x : PlainProcess) (w : PlainWhat) (i : MsgId) → Outside t → is_kernels i ≡ true → service.serves s id m x w ≡ Some t → spares i (serves_what v a id m x w) ≡ true
+serve_spares : (s t : OneKernel) (v : View) (a : Addresses) (id : MsgId) (m : PlainMessage) (x : PlainProcess) (w : PlainWhat) (i : MsgId) → Outside t → is_kernels i ≡ true → service.serves s id m x w ≡ Some t → spares i (serves_burden v a id m x (burden_of w)) ≡ true
 serve_spares s t v a id m x (PlainWhat.Read b1 b2) i new own is = two_more i (answer_id id) [] (answers_apart i id own) refl
 serve_spares s t v a id m x (PlainWhat.Write b1 b2) i new own is = two_more i (answer_id id) [] (answers_apart i id own) refl
 serve_spares s t v a id m x (PlainWhat.Block b1) i new own is = lands_spares s t v a id m x i new own is
@@ -140,7 +142,7 @@ serve_spares s t v a id m x PlainWhat.Written i new own is = lands_spares s t v 
 serve_spares s t v a id m x _ i new own is = refl
 
 -- created
-pub creates_what_spares : (a : Addresses) (id : MsgId) (child : Pid) (w : PlainWhat) (i : MsgId) → spares i (addresses.creates_what a id child w) ≡ true
+pub creates_what_spares : (a : Addresses) (id : MsgId) (child : Pid) (w : PlainWhat) (i : MsgId) → spares i (addresses.creates_burden a id child (burden_of w)) ≡ true
 creates_what_spares a id child (PlainWhat.Create b1 b2) i = child_links_spares a child id 0 b2 i
 creates_what_spares a id child _ i = refl
 
@@ -154,7 +156,7 @@ pub keeps_spares : (a : Addresses) (id : MsgId) (names : List NamedLink) (k : bo
 keeps_spares a id names board.Registered i = refl
 keeps_spares a id names _ i = refl
 
-board_links_spares : (s : OneKernel) (v : View) (a : Addresses) (id : MsgId) (code channel : ℕ) (body : List ℕ) (links : List PlainLink) (i : MsgId) → is_kernels i ≡ true → spares i (board_gets s v a id (PlainWhat.User code channel body links)) ≡ true
+board_links_spares : (s : OneKernel) (v : View) (a : Addresses) (id : MsgId) (code channel : ℕ) (body : List ℕ) (links : List PlainLink) (i : MsgId) → is_kernels i ≡ true → spares i (board_takes_burden s v a id (burden_of (PlainWhat.User code channel body links))) ≡ true
 board_links_spares s v a id code channel body [] i own = refl
 board_links_spares s v a id code channel body (l ∷ ls) i own =
     let sent = id_of switchboard s.switchboard.sent in
@@ -163,7 +165,7 @@ board_links_spares s v a id code channel body (l ∷ ls) i own =
     (spares_both i (board_finds a sent s.switchboard.names body asked.answer) (board_keeps a id s.switchboard.names asked.answer) (finds_spares a sent s.switchboard.names body asked.answer i) (keeps_spares a id s.switchboard.names asked.answer i))
 
 -- the manager
-pub tells_spares : (v : View) (a : Addresses) (id : MsgId) (code : ℕ) (sent : PlainMessage) (w : PlainWhat) (i : MsgId) → id_eq sent.id i ≡ false → spares i (manager_tells v a id code sent w) ≡ true
+pub tells_spares : (v : View) (a : Addresses) (id : MsgId) (code : ℕ) (sent : PlainMessage) (w : PlainWhat) (i : MsgId) → id_eq sent.id i ≡ false → spares i (manager_tells_burden v a id code sent (burden_of w)) ≡ true
 tells_spares v a id code sent (PlainWhat.Create b1 b2) i e = two_more i sent.id (gets (Answer sent.id.n) (a (Enclosed id 0)) ∷ encloses sent.id 0 (enclosed_from a id 1 b2)) e (encloses_spares i sent.id 0 (enclosed_from a id 1 b2))
 tells_spares v a id code sent _ i e = two_more i sent.id [] e refl
 
@@ -175,7 +177,7 @@ pub manager_answers_spares : (v : View) (a : Addresses) (n : ℕ) (o : Option Pl
 manager_answers_spares v a n None i e = refl
 manager_answers_spares v a n (Some sent) i e = two_more i sent.id (gets (Enclosed sent.id 0) (unmoved v.acting) ∷ []) (e sent refl) refl
 
-pub manager_takes_spares : (s : OneKernel) (v : View) (a : Addresses) (m : PlainMessage) (w : PlainWhat) (o : Option manage.ManagerTook) (i : MsgId) → ((k : manage.ManagerTook) → o ≡ Some k → (x : PlainMessage) → k.message ≡ Some x → id_eq x.id i ≡ false) → spares i (manager_gets s v a m w o) ≡ true
+pub manager_takes_spares : (s : OneKernel) (v : View) (a : Addresses) (m : PlainMessage) (w : PlainWhat) (o : Option manage.ManagerTook) (i : MsgId) → ((k : manage.ManagerTook) → o ≡ Some k → (x : PlainMessage) → k.message ≡ Some x → id_eq x.id i ≡ false) → spares i (manager_takes_burden s v a m (burden_of w) o) ≡ true
 manager_takes_spares s v a m (PlainWhat.User b1 b2 b3 b4) None i e = refl
 manager_takes_spares s v a m (PlainWhat.User b1 b2 b3 b4) (Some k) i e = manager_sends_spares v a m.id b1 k.message i (e k refl)
 manager_takes_spares s v a m _ None i e = refl
@@ -192,8 +194,8 @@ takes_spares : (s t : OneKernel) (v : View) (a : Addresses) (id : MsgId) (m : Pl
     → (if b then bind (board.board_takes s.switchboard m m.what) (λ (k : board.BoardTook). Some (service.switchboard_took s id k))
     else if c then bind (manage.manager_takes s.manager s.machines (length s.images) m m.what) (λ (k : manage.ManagerTook). Some (service.manager_took s id k))
     else None) ≡ Some t
-    → spares i (if b then board_gets s v a id m.what else manager_gets s v a m m.what (manage.manager_takes s.manager s.machines (length s.images) m m.what)) ≡ true
-takes_spares s t v a id m true c i out own e = elim m.what as (λ w. spares i (board_gets s v a id w) ≡ true)
+    → spares i (if b then board_takes_burden s v a id (burden_of m.what) else manager_takes_burden s v a m (burden_of m.what) (manage.manager_takes s.manager s.machines (length s.images) m m.what)) ≡ true
+takes_spares s t v a id m true c i out own e = elim m.what as (λ w. spares i (board_takes_burden s v a id (burden_of w)) ≡ true)
     [ PlainWhat.User b1 b2 b3 b4 ↦ board_links_spares s v a id b1 b2 b3 b4 i own | _ ↦ refl ]
 takes_spares s t v a id m false true i out own e =
     let o = manage.manager_takes s.manager s.machines (length s.images) m m.what in
@@ -213,14 +215,14 @@ gives_spares s t v a (Label.Served id) i is out own =
     let (m, there, rest) = bind-is (s.bag id) (λ (w : PlainMessage). bind (kernel.at_hand s w.to) (λ (p : PlainProcess). service.serves s id w p w.what)) t is in
     let (x, hand, last) = bind-is (kernel.at_hand s m.to) (λ (p : PlainProcess). service.serves s id m p m.what) t rest in
     let alive : kernel.alive (s.processes m.to) ≡ Some x = ap kernel.alive (at_hand-is s m.to x hand).1 in
-    let gs_is : serves_what v a id m x m.what ≡ gives s v a (Label.Served id) = ap (addresses.serves_alive v a id m) (sym alive) ∙ ap (addresses.service_gets s v a id) (sym there) in
+    let gs_is : serves_burden v a id m x (burden_of m.what) ≡ gives s v a (Label.Served id) = ap (λ (o : Option PlainProcess). option_map_or (λ y. serves_burden v a id m y (burden_of m.what)) o []) (sym alive) ∙ ap (addresses.service_gets s v a id) (sym there) in
     subst (λ (gs : List Gets). spares i gs ≡ true) gs_is (serve_spares s t v a id m x m.what i out own last)
 gives_spares s t v a (Label.Gone id) i is out own = two_more i (answer_id id) [] (answers_apart i id own) refl
 gives_spares s t v a (Label.Took id) i is out own =
     let (m, there, rest) = bind-is (s.bag id) (service.takes s id) t is in
     subst (λ (gs : List Gets). spares i gs ≡ true) (ap (addresses.taking_gets s v a id) (sym there)) (takes_spares s t v a id m (pid_eq m.to switchboard) (pid_eq m.to manager) i out own rest)
 gives_spares s t v a (Label.Created id child) i is out own = elim (s.bag id) as (λ o. spares i (addresses.creation_gets v a id child o) ≡ true)
-    [ None ↦ refl | Some m ↦ two_more i (answer_id id) (addresses.creates_what a id child m.what) (answers_apart i id own) (creates_what_spares a id child m.what i) ]
+    [ None ↦ refl | Some m ↦ two_more i (answer_id id) (addresses.creates_burden a id child (burden_of m.what)) (answers_apart i id own) (creates_what_spares a id child m.what i) ]
 gives_spares s t v a (Label.NoSpace id f b) i is out own = two_more i (answer_id id) [] (answers_apart i id own) refl
 gives_spares s t v a (Label.Asked id) i is out own = elim (s.bag id) as (λ o. spares i (request.given_to_follow a id o) ≡ true) [ None ↦ refl | Some m ↦ refl ]
 gives_spares s t v a (Label.Answered id o) i is out own = elim (s.noted id) as (λ o. spares i (request.given_at_end v a id o) ≡ true)

@@ -1,7 +1,7 @@
 -- Each line keeps the trails, what machines know, and all addresses in agreement, where it fits.
 use Rattle.dm_rule.proofs.Names.{◌≡◌, ◌≢◌, ℕ, ◌+◌, ◌≤◌, Bool, true, false, List, ◌++◌, length, refl, ap, ◌∙◌, sym, subst, ⊤, ◌==◌, not, filter, slice_get, Option, None, Some, Pid, MsgId, MessageKind, manager, Label, OneKernel, Step}
 use Rattle.dm_rule.proofs.Names.{bind-is, Line, Stage, View, Told, Known, Unknown, Here, Frozen, Forward, is_kernels, own_id, view_after, after_label, after_head, after_put, after_proto, handled, taken_id, queued_for, held_for}
-use Rattle.dm_rule.proofs.Names.{forwarded_for, forward_about, served_told, kills, receiver_of, Addresses, Receiver, Sender, given, forwards, all_follow, own_gives, first_gives, addresses_after, ascends, Nowhere, Moves, IsIn, is_restart}
+use Rattle.dm_rule.proofs.Names.{forwarded_for, forward_about, served_told, ends_by, receiver_of, Addresses, Receiver, Sender, given, forwards, all_follow, own_given, first_gives, addresses_after, ascends, Nowhere, Moves, IsIn, is_restart}
 use Rattle.dm_rule.proofs.Names.{is_early, Point, moved, after_line, times, Trails, Trail, StoodOnTrail, IsOn, AddressesOn, OwnOn, trails_after, PlainMessage, PlainWhat, gives, machine_in, seen, move_target}
 use Rattle.dm_onekernel.specs.Step as kernel
 use Rattle.dm_rule.specs.View as view
@@ -18,6 +18,7 @@ use Rattle.dm_rule.proofs.Trails.Puts.{is_own, put_all, put_routed, told_again, 
 use Rattle.dm_rule.proofs.Trails.Steps.{frozen_trail, accepted_trail, restarted_trail, stays_trail, ended_trail, born_trail, sent_on_at, sent_on_grows, sent_on_trail, left_line_trail, source_holds}
 use Rattle.dm_rule.proofs.Trails.Spares.{Outside}
 use Rattle.dm_rule.proofs.Trails.Labels.{label_links, label_pending, label_own}
+use Rattle.dm_message.specs.Sorts.{sort_of}
 
 -- what each line keeps
 pub record Treads (pt : Point) (t : Trails) : Type 0 where
@@ -79,8 +80,8 @@ pub record MovesFits (pt : Point) (p : Pid) (test : MessageKind → Bool) : Type
 -- a message that was put before, a kernel's own, or one of the bag
 pub data PutFits (pt : Point) (t : Trails) (id : MsgId) (k : MessageKind) (q : Pid) : Type 0 where
   Again : (u : Told) → pt.view.told id ≡ Some u → PutFits pt t id k q
-  Own : pt.kernel.bag id ≡ None → pt.view.told id ≡ None → IsOn t q (given pt.addresses (own_gives pt.kernel pt.view pt.addresses id q k) (Receiver id))
-      → (k ≡ MessageKind.Migrate → IsOn t manager (given pt.addresses (own_gives pt.kernel pt.view pt.addresses id q k) (Sender id))) → PutFits pt t id k q
+  Own : pt.kernel.bag id ≡ None → pt.view.told id ≡ None → IsOn t q (given pt.addresses (own_given pt.kernel pt.view pt.addresses id q (sort_of k)) (Receiver id))
+      → (k ≡ MessageKind.Migrate → IsOn t manager (given pt.addresses (own_given pt.kernel pt.view pt.addresses id q (sort_of k)) (Sender id))) → PutFits pt t id k q
   Routed : is_kernels id ≡ false → is_own k ≡ false → pt.view.told id ≡ None → PutFits pt t id k q
 
 abbrev pub StageFits : Point → Trails → Pid → Stage → Type 0
@@ -155,8 +156,8 @@ proto_place v w a t id (Some u) told h p m c e = h.about id u p m c told e
 
 served_trail : (v : View) (t : Trails) (q : Pid) (o : Option Told) → ((u : Told) → o ≡ Some u → u.kind ≡ MessageKind.Kill → v.known v.acting u.receiver ≡ Here) → Trail v t q → Trail (served_told v o) t q
 served_trail v t q None here h = h
-served_trail v t q (Some u) here h = (elim u.kind as (λ k. ((k ≡ MessageKind.Kill → v.known v.acting u.receiver ≡ Here)) → Trail (kills k v (Some u.receiver)) t q)
-    [ MessageKind.Kill ↦ λ here_. ended_trail v (kills MessageKind.Kill v (Some u.receiver)) t u.receiver q refl (here_ refl) h | _ ↦ λ here_. h ]) (here u refl)
+served_trail v t q (Some u) here h = (elim u.kind as (λ k. ((k ≡ MessageKind.Kill → v.known v.acting u.receiver ≡ Here)) → Trail (ends_by (sort_of k) v (Some u.receiver)) t q)
+    [ MessageKind.Kill ↦ λ here_. ended_trail v (ends_by (sort_of MessageKind.Kill) v (Some u.receiver)) t u.receiver q refl (here_ refl) h | _ ↦ λ here_. h ]) (here u refl)
 
 handled_trail : (v : View) (t : Trails) (id : MsgId) (q : Pid) → Trail v t q → Trail (handled v id) t q
 handled_trail v t id q h = trail_same v (handled v id) t t q (λ m. refl) refl h
@@ -248,9 +249,9 @@ updated_treads pt t id n h =
 
 -- a put
 put_are : (pt : Point) (t : Trails) (x y : ℕ) (id : MsgId) (k : MessageKind) (q : Pid) → PutFits pt t id k q → AllAre pt.kernel pt.view pt.addresses t
-    → AllAre pt.kernel (after_put pt.view x y id k q) (given pt.addresses (first_gives (pt.view.told id) (own_gives pt.kernel pt.view pt.addresses id q k))) t
+    → AllAre pt.kernel (after_put pt.view x y id k q) (given pt.addresses (first_gives (pt.view.told id) (own_given pt.kernel pt.view pt.addresses id q (sort_of k)))) t
 put_are pt t x y id k q (Again u told) h =
-    subst (λ (o : Option Told). AllAre pt.kernel (after_put pt.view x y id k q) (given pt.addresses (first_gives o (own_gives pt.kernel pt.view pt.addresses id q k))) t) (sym told)
+    subst (λ (o : Option Told). AllAre pt.kernel (after_put pt.view x y id k q) (given pt.addresses (first_gives o (own_given pt.kernel pt.view pt.addresses id q (sort_of k)))) t) (sym told)
     (all_as pt.kernel pt.view (after_put pt.view x y id k q) pt.addresses t (told_again pt.view x y id k q u told) h)
 put_are pt t x y id k q (Own bag none to from) h = put_all pt.kernel pt.view pt.addresses t x y id k q bag none to from h
 put_are pt t x y id k q (Routed other plain none) h = put_routed pt.kernel pt.view pt.addresses t x y id k q other plain none h
@@ -259,7 +260,7 @@ put_treads : (pt : Point) (t : Trails) (x y : ℕ) (id : MsgId) (k : MessageKind
 put_treads pt t x y id k q fits h =
     let v = pt.view in
     let w = after_put v x y id k q in
-    let b = given pt.addresses (first_gives (v.told id) (own_gives pt.kernel v pt.addresses id q k)) in
+    let b = given pt.addresses (first_gives (v.told id) (own_given pt.kernel v pt.addresses id q (sort_of k))) in
     let all = put_are pt t x y id k q fits (all_are pt.kernel v pt.addresses t h.links h.own) in
     record {
       trail = λ r. trail_same v w t t r (λ m. refl) refl (h.trail r);

@@ -1,13 +1,14 @@
 -- Only machines that act know processes, and so all machines of a trail are among those of the boot file.
 use Rattle.dm_rule.proofs.Names.{◌≡◌, ◌≢◌, ℕ, ◌+◌, ◌<◌, ◌==◌, ◌&&◌, Bool, refl, ap, ◌∙◌, sym, subst, inl, inr, ⊤, not, filter, if◌then◌else◌, slice_get, Option, None, Some, cases_Bool, Pid, pid_eq, MsgId, MessageKind, Label, Step, Line}
-use Rattle.dm_rule.proofs.Names.{Stage, at_record, View, Told, Known, Unknown, Here, Frozen, Incoming, Ended, actor, view_after, after_label, after_head, handled, taken_id, queued_for, held_for, forwarded_for, served_told, kills}
-use Rattle.dm_rule.proofs.Names.{receiver_of, front_of, front_told, target_of, gone_to, Trails, Trail}
+use Rattle.dm_rule.proofs.Names.{Stage, at_record, View, Told, Known, Unknown, Here, Frozen, Incoming, Ended, actor, view_after, after_label, after_head, handled, taken_id, queued_for, held_for, forwarded_for, served_told, ends_by}
+use Rattle.dm_rule.proofs.Names.{receiver_of, front_of, target_of, gone_to, Trails, Trail}
 use Rattle.dm_rule.specs.View as view
 use Rattle.dm_rule.proofs.Lines.{eq_is, parts}
 use Rattle.dm_rule.proofs.Seen.{aim, sets}
 use Rattle.dm_rule.proofs.Homes.Lines.{acting_label}
 use Rattle.dm_rule.proofs.Phases.Lines.{queued_known, held_known, dropped_known, forwarded_known}
 use Rattle.dm_rule.proofs.Phases.Pieces.{proto_known, proto_acting}
+use Rattle.dm_message.specs.Sorts.{sort_of}
 
 pub record Within (n : ℕ) (v : View) : Type 0 where
   pub known : (m : ℕ) (q : Pid) → v.known m q ≢ Unknown → m < n
@@ -48,8 +49,8 @@ taken_within n v b (Some i) h = record { known = h.known; acting = h.acting }
 
 served_within : (n : ℕ) (v : View) (o : Option Told) → Within n v → Within n (served_told v o)
 served_within n v None h = h
-served_within n v (Some u) h = elim u.kind as (λ k. Within n (kills k v (Some u.receiver)))
-    [ MessageKind.Kill ↦ within_set n v (kills MessageKind.Kill v (Some u.receiver)) u.receiver Ended refl refl h | _ ↦ h ]
+served_within n v (Some u) h = elim u.kind as (λ k. Within n (ends_by (sort_of k) v (Some u.receiver)))
+    [ MessageKind.Kill ↦ within_set n v (ends_by (sort_of MessageKind.Kill) v (Some u.receiver)) u.receiver Ended refl refl h | _ ↦ h ]
 
 label_within : (n : ℕ) (v : View) (l : Label) → Within n v → Within n (after_label v l)
 label_within n v (Label.End p y) h = within_set n v (after_label v (Label.End p y)) p Ended refl refl h

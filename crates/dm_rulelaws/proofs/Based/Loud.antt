@@ -9,6 +9,7 @@ use Rattle.dm_onekernel.specs.Kernel as kernels
 use Rattle.dm_onekernel.specs.Pieces as pieces
 use Rattle.dm_onekernel.specs.Service as service
 use Rattle.dm_rulelaws.proofs.Based.Needs.{Resting, Serves, Unborn, Living, Queues, Leaving, Needs, Rides, Keeps}
+use Rattle.dm_message.specs.Sorts.{sort_of}
 
 -- nobody was made, alive or ended
 abbrev pub life_sort : Option Life → Option Bool
@@ -172,7 +173,7 @@ asks_stays : (v : View) (a : About) → Stays v (view.asks_on v a)
 asks_stays v (Of p) = record { known = refl; ring = refl; queue = refl; held = refl; moves = refl }
 asks_stays v _ = stays v
 
-follows_stays : (v : View) (a : About) (k : MessageKind) → Stays v (view.follows_up v a k)
+follows_stays : (v : View) (a : About) (k : MessageKind) → Stays v (view.follows_by v a (sort_of k))
 follows_stays v a MessageKind.State = asks_stays v a
 follows_stays v a MessageKind.Memory = asks_stays v a
 follows_stays v a _ = stays v

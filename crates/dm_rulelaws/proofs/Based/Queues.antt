@@ -88,7 +88,13 @@ emptied v p n q i h = set_all (λ m r xs. (j : MsgId) → 1 ≤ times j xs → I
 
 waits_loud : Loud (λ pt. Waits pt.view)
 waits_loud = record {
-  rides = (search (arith, users_on, told_kept, for_on));
+  rides = record {
+    put = λ pt a b i k q h. record {
+      queue = λ n p j least. users_on pt.view.told (view.after_put pt.view a b i k q).told p j (λ t e. told_kept pt.view a b i k q j t e) (h.queue n p j least);
+      held = λ n p j least. for_on pt.view.told (view.after_put pt.view a b i k q).told p j (λ t e. told_kept pt.view a b i k q j t e) (h.held n p j least);
+    };
+    packet = λ pt a b k l h. record { queue = h.queue; held = h.held };
+  };
   quiet = λ pt w t l e s told alike sane is h. subst Waits (sym e) (waits_as pt.view w s.queue s.held told h);
   ran = λ pt t p k here alike sane is h. record { queue = h.queue; held = h.held };
   receive = λ pt t p id here alike sane is h.

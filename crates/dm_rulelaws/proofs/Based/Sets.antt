@@ -1,7 +1,8 @@
 -- A value set for one process on one machine, lists with messages taken out, how often a process stands in a ring, and what a kill may do.
 use Rattle.dm_rulelaws.proofs.Names.{◌≡◌, ℕ, ◌≤◌, ◌==◌, ◌&&◌, Bool, true, false, List, [], ◌∷◌, ◌++◌, refl, arith, if◌then◌else◌, Some, Pid, pid_eq, MsgId, MessageKind, id_eq-is, pid_eq-is, at_record, without_id, without_front}
-use Rattle.dm_rulelaws.proofs.Names.{times, View, kills, ended, parts, eq_is, is_kill, times-append, ◌+◌, not, ap, ◌∙◌, sym, pid_eq-same, pid_eq-swap, at_machine, without, moved_back, rings}
+use Rattle.dm_rulelaws.proofs.Names.{times, View, ends_by, ended, parts, eq_is, is_kill, times-append, ◌+◌, not, ap, ◌∙◌, sym, pid_eq-same, pid_eq-swap, at_machine, without, moved_back, rings}
 use Rattle.dm_rulelaws.proofs.Names.{id_eq}
+use Rattle.dm_message.specs.Sorts.{sort_of}
 
 -- one value set: there, and elsewhere
 pub set_all : {X : Type 0} (T : ℕ → Pid → X → Type 0) (f : ℕ → Pid → X) (a : ℕ) (p : Pid) (x : X) → T a p x → ((n : ℕ) (q : Pid) → ((a == n) && pid_eq p q) ≡ false → T n q (f n q)) → (n : ℕ) (q : Pid) → T n q (at_record f a p x n q)
@@ -24,7 +25,7 @@ pub last_of : (T : Type 0) (i id : MsgId) (xs : List MsgId) → 1 ≤ times i (x
 last_of T i id xs least old new = search (arith, id_eq-is, times-append)
 
 -- a message kills its receiver, or leaves what is known
-pub killed_or : (P : View → Type 0) (k : MessageKind) (v : View) (p : Pid) → (is_kill k ≡ true → P (ended v p)) → (is_kill k ≡ false → P v) → P (kills k v (Some p))
+pub killed_or : (P : View → Type 0) (k : MessageKind) (v : View) (p : Pid) → (is_kill k ≡ true → P (ended v p)) → (is_kill k ≡ false → P v) → P (ends_by (sort_of k) v (Some p))
 killed_or P MessageKind.Kill v p h g = h refl
 killed_or P _ v p h g = g refl
 

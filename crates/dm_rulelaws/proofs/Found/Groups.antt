@@ -1,7 +1,7 @@
 -- Each group keeps where addresses lead, what machines know, and where messages stand.
 use Rattle.dm_rulelaws.proofs.Names.{◌≡◌, ℕ, ◌<◌, ◌≤◌, ◌==◌, Bool, true, false, is_some, List, [], ◌∷◌, refl, ap, ◌∙◌, sym, subst, inl, inr, arith, if◌then◌else◌, Option, None, Some, Pid, MsgId, plain_kind, PlainMessage, MessageKind, Boot}
-use Rattle.dm_rulelaws.proofs.Names.{manager, Step, id_eq-same, alive-is, Line, View, Told, About, Target, Of, Known, Unknown, Here, Frozen, Incoming, Forward, is_kernels, own_id, receiver_of, target_in, target_of, front_told, front_of}
-use Rattle.dm_rulelaws.proofs.Names.{Child, Receiver, Sender, child_number, names, sender_of, IsStep, forwards_on, migrates, Part, Says, Owns, Spelled, Moves, is_between, is_restart, is_early, knows, receiver_in, is_of_source, Point, moved}
+use Rattle.dm_rulelaws.proofs.Names.{manager, Step, id_eq-same, alive-is, Line, View, Told, About, Target, Of, Known, Unknown, Here, Frozen, Incoming, Forward, is_kernels, own_id, receiver_of, target_in, target_of, front_of}
+use Rattle.dm_rulelaws.proofs.Names.{Child, Receiver, Sender, child_number, names, sender_of, IsStep, forwards_on, migrates, Part, Says, Owns, Spelled, Moves, is_between, is_restart, is_early, knows, receiver_in, tells_onward, Point, moved}
 use Rattle.dm_rulelaws.proofs.Names.{group_of, Inbox, Queue, Held, times, standing, group_is, turn_off, letters, eq_is, parts, both_lists, both_times, under_way, front_kernels, Phased, due, head_calm, InPhases}
 use Rattle.dm_rulelaws.proofs.Names.{calm_phases, rooted, State, Sane, sane_line, outcome_sayable, Comes, Named, Links, child_is, source_holds, destination_expects, is_fixed, eq_self, about_same, front_one, least_of, by_migrates, by_net}
 use Rattle.dm_rulelaws.proofs.Names.{by_outcome, PlainWhat, WhatFits, nat_tests}
@@ -15,6 +15,9 @@ use Rattle.dm_rulelaws.proofs.Found.Forward.{forwards_need, moves_back, leaves_n
 use Rattle.dm_rulelaws.proofs.Found.Parts.{AllNeed, NeedOf, AllLoose, loose_need, first_need, parts_core, Heard, told_by_need, round_need, handles_need}
 use Rattle.dm_rulelaws.proofs.Found.Real.{made_free, child_real, sends_real, has_some}
 use Rattle.dm_rulelaws.proofs.Found.Parts.{Moves as MovesTo}
+use Rattle.dm_message.specs.Sorts.{sort_of}
+use Rattle.std.specs.Prelude.{slice_get}
+use Rattle.std.specs.Prelude.{option_and_then}
 
 -- behind the head of a group
 abbrev headed : Point → Step → Point
@@ -97,7 +100,7 @@ heard n pt m i is t p h holds sane state in_ front told own about between =
     let isin : phases.IsIn v u.p (Moves u.k u.s u.d (Some i)) = subst (phases.IsIn v u.p) u.phase (in_.each u.p) in
     let within = moves_within n v u.p u.k u.s u.d (Some i) (isin.known u.s) h.known in
     let free : is_fixed p ≡ false = ap is_fixed pq ∙ within.2 in
-    let from : i.from.home < n = subst (λ (x : ℕ). x < n) (sym (ap (λ (x : Pid). x.home) u.from)) (sender_within n u.s u.d (is_of_source u.k) within.0 within.1) in (
+    let from : i.from.home < n = subst (λ (x : ℕ). x < n) (sym (ap (λ (x : Pid). x.home) u.from)) (sender_within n u.s u.d (tells_onward (sort_of u.k)) within.0 within.1) in (
       from,
       (subst (λ (x : ℕ). x < n) (sym (ap front_of front)) from, free),
       (λ z e. sane.sound.notes.noted p z e),
@@ -153,7 +156,7 @@ own_need n b pt m i is ps h holds sane state in_ front there e =
     let own : is_kernels i ≡ true = front_kernels start i is state front there in
     let some : 0 < n = let le = h.acting in omega (arith, le) in
     let le : target_of (Some t) < n = target_within n start.view t.about some (h.tells i t told) in
-    let front_is : front_told start.view (start.view.inbox m) ≡ Some t = ap (front_told start.view) front ∙ told in
+    let front_is : option_and_then start.view.told (slice_get (start.view.inbox m) 0) ≡ Some t = ap (λ (ids : List MsgId). option_and_then start.view.told (slice_get ids 0)) front ∙ told in
     subst (NeedOf n start) (ap (rule.hears b pt m i) (sym told) ∙ e)
     (told_by_need n start b pt m i t at le (subst (λ (x : Option Told). target_of x < n) (sym front_is) le)
     (λ p about between. heard n pt m i is t p h holds sane state in_ front told own about between)

@@ -1,10 +1,10 @@
 -- Each label keeps where addresses lead, what machines know, and where messages stand.
 use Rattle.dm_rulelaws.proofs.Names.{◌≡◌, ◌≢◌, ℕ, ◌+◌, ◌<◌, ◌≤◌, true, false, is_some, refl, ap, ◌∙◌, sym, subst, inl, inr, arith, ⊤, Option, None, Some, cases_Bool, false≢true, Pid, Place, MsgId, PlainMessage, MessageKind, Line, Label}
-use Rattle.dm_rulelaws.proofs.Names.{Life, OneKernel, entry, reception, Grown, after_step, View, Told, Unknown, Here, is_kernels, after_label, handled, kills, served_told, receiver_of, Holder, Receiver, Sender, given, gives, to_of, Point}
+use Rattle.dm_rulelaws.proofs.Names.{Life, OneKernel, entry, reception, Grown, after_step, View, Told, Unknown, Here, is_kernels, after_label, handled, ends_by, served_told, receiver_of, Holder, Receiver, Sender, given, gives, to_of, Point}
 use Rattle.dm_rulelaws.proofs.Names.{moved, at_record_at, grown_none, not_kernels, AtHome, homes_are, at_home, SaidOn, label_on, ReceivedAt, dropped_known, Sane, Goes, Comes, Links, Outside, gives_spares, spared_receiver, spared_sender}
 use Rattle.dm_rulelaws.proofs.Names.{label_told, label_topic, is_fixed, zero_cases, acting_dropped, ◌⊎◌, ◌&&◌, Bool, slice_get, pid_of, pid_eq, plain_kind, PlainWhat, Alive, PlainProcess, pid_eq-is, first_number, bind-is, when-is}
 use Rattle.dm_rulelaws.proofs.Names.{with_sent, answer_to, without_message, is_kill, nat_lt, List, [], length, if◌then◌else◌, id_eq, id_of, switchboard, manager, bind, answer_id, id_eq-is, Addresses, Gets, landing_gets}
-use Rattle.dm_rulelaws.proofs.Names.{serves_what, board_gets, manager_gets, not_true, nat_tests, unentered, Sound, id_in, landed_id, served_id, board_id, manager_id, took_id, bag_sends, bag_served, bag_gone, bag_no_space, bag_created}
+use Rattle.dm_rulelaws.proofs.Names.{serves_burden, board_takes_burden, manager_takes_burden, not_true, nat_tests, unentered, Sound, id_in, landed_id, served_id, board_id, manager_id, took_id, bag_sends, bag_served, bag_gone, bag_no_space, bag_created}
 use Rattle.dm_rulelaws.proofs.Names.{bag_took, spares, spares_both, two_more, made_spares, sends_spares, receives_spares, creates_what_spares, finds_spares, keeps_spares, manager_takes_spares, WhatFits, KernelFits, topic_by, machine_in}
 use Rattle.dm_rulelaws.proofs.Names.{bag_answered, aim, sets, not, filter, ◌==◌, Step, Load, Stage, About, Known, Frozen, Incoming, view_after, after_head, after_stage, after_proto, queued_for, held_for, taken_id, oldest, gone_to, front_of}
 use Rattle.dm_rulelaws.proofs.Names.{label_of, kernel_after, is_put, hushed, queued_known, held_known, proto_known, proto_acting}
@@ -25,6 +25,9 @@ use Rattle.dm_rulelaws.proofs.Found.Core.{AboutIs, KnowsAt, Knows, IsAt, KnownIs
 use Rattle.dm_rulelaws.proofs.Found.Core.{forwarded_core, sent_core, updated_core}
 use Rattle.dm_rulelaws.proofs.Based.Loud.{SetLife, some_alike, step_alike, step_ends, step_serves, step_creates}
 use Rattle.dm_rulelaws.proofs.Fits.Rises.{both}
+use Rattle.dm_rule.specs.Given.{burden_of}
+use Rattle.dm_message.specs.Sorts.{sort_of}
+use Rattle.std.specs.Option.{option_map_or}
 
 -- what enters is none that was told of
 apart_from : (e : MsgId → ℕ) (i j : MsgId) → 1 ≤ e i → e j ≡ 0 → id_eq j i ≡ false
@@ -35,14 +38,14 @@ lands_spares : (v : View) (a : Addresses) (p : Pid) (o : Option pieces.Landed) (
 lands_spares v a p (Some (pieces.Next n y)) i new = two_more i n.id [] (new n.id refl) refl
 lands_spares v a p _ i new = refl
 
-serve_spares : (v : View) (a : Addresses) (id : MsgId) (m : PlainMessage) (x : PlainProcess) (w : PlainWhat) (i : MsgId) → ((j : MsgId) → served_id id m x w ≡ Some j → id_eq j i ≡ false) → spares i (serves_what v a id m x w) ≡ true
+serve_spares : (v : View) (a : Addresses) (id : MsgId) (m : PlainMessage) (x : PlainProcess) (w : PlainWhat) (i : MsgId) → ((j : MsgId) → served_id id m x w ≡ Some j → id_eq j i ≡ false) → spares i (serves_burden v a id m x (burden_of w)) ≡ true
 serve_spares v a id m x w i h1 = search (arith, two_more, lands_spares, m.to, x.status)
 
 creates_spares : (v : View) (a : Addresses) (id : MsgId) (child : Pid) (o : Option PlainMessage) (i : MsgId) → id_eq (answer_id id) i ≡ false → spares i (addresses.creation_gets v a id child o) ≡ true
 creates_spares v a id child None i e = refl
-creates_spares v a id child (Some m) i e = two_more i (answer_id id) (addresses.creates_what a id child m.what) e (creates_what_spares a id child m.what i)
+creates_spares v a id child (Some m) i e = two_more i (answer_id id) (addresses.creates_burden a id child (burden_of m.what)) e (creates_what_spares a id child m.what i)
 
-board_takes_spares : (s : OneKernel) (v : View) (a : Addresses) (id : MsgId) (w : PlainWhat) (i : MsgId) → id_eq (id_of switchboard s.switchboard.sent) i ≡ false → spares i (board_gets s v a id w) ≡ true
+board_takes_spares : (s : OneKernel) (v : View) (a : Addresses) (id : MsgId) (w : PlainWhat) (i : MsgId) → id_eq (id_of switchboard s.switchboard.sent) i ≡ false → spares i (board_takes_burden s v a id (burden_of w)) ≡ true
 board_takes_spares s v a id (PlainWhat.User b1 b2 b3 b4) i e = search (arith, s.switchboard.sent, s.switchboard.names, two_more, spares_both, finds_spares, keeps_spares)
 board_takes_spares s v a id _ i e = refl
 
@@ -54,7 +57,7 @@ takes_spares : (s t : OneKernel) (v : View) (a : Addresses) (id : MsgId) (m : Pl
     → (if b then bind (board.board_takes s.switchboard m m.what) (λ (k : board.BoardTook). Some (service.switchboard_took s id k))
     else if c then bind (manage.manager_takes s.manager s.machines (length s.images) m m.what) (λ (k : manage.ManagerTook). Some (service.manager_took s id k))
     else None) ≡ Some t
-    → spares i (if b then board_gets s v a id m.what else manager_gets s v a m m.what (manage.manager_takes s.manager s.machines (length s.images) m m.what)) ≡ true
+    → spares i (if b then board_takes_burden s v a id (burden_of m.what) else manager_takes_burden s v a m (burden_of m.what) (manage.manager_takes s.manager s.machines (length s.images) m m.what)) ≡ true
 takes_spares s t v a id m b c i h1 h2 h3 = search (arith, board_takes_spares, m.what, s.manager, s.machines, s.images, manager_takes_spares, message_in)
 
 took_spares : (r e : MsgId → ℕ) (s t : OneKernel) (v : View) (a : Addresses) (id : MsgId) (m : PlainMessage) (i : MsgId) → s.bag id ≡ Some m → service.takes s id m ≡ Some t → ((j : MsgId) → took_id s m ≡ Some j → e j ≡ 0) → Sound r e s → 1 ≤ e i
@@ -80,7 +83,7 @@ told_spares r e s t v a (Label.Send p id) i is h least = sends_spares s v a p id
 told_spares r e s t v a (Label.Receive p id) i is h least = receives_spares a p id (kernel.alive (s.processes p)) (s.bag id) i
 told_spares r e s t v a (Label.Served id) i is h least =
     let q = bag_served r e s t id is h in
-    let gs_is : serves_what v a id q.m q.x q.m.what ≡ gives s v a (Label.Served id) = ap (addresses.serves_alive v a id q.m) (sym (ap kernel.alive q.alive)) ∙ ap (addresses.service_gets s v a id) (sym q.there) in
+    let gs_is : serves_burden v a id q.m q.x (burden_of q.m.what) ≡ gives s v a (Label.Served id) = ap (λ (o : Option PlainProcess). option_map_or (λ y. serves_burden v a id q.m y (burden_of q.m.what)) o []) (sym (ap kernel.alive q.alive)) ∙ ap (addresses.service_gets s v a id) (sym q.there) in
     subst (λ (gs : List Gets). spares i gs ≡ true) gs_is (serve_spares v a id q.m q.x q.m.what i (λ j f. apart_from e i j least (q.is.fresh j f)))
 told_spares r e s t v a (Label.Gone id) i is h least = two_more i (answer_id id) [] (apart_from e i (answer_id id) least ((bag_gone r e s t id is h).fresh (answer_id id) refl)) refl
 told_spares r e s t v a (Label.Took id) i is h least =
@@ -149,8 +152,8 @@ step_made s t l other is = (λ q some. sym (some_alike (t.processes q) (s.proces
 -- Each label keeps where addresses lead, what machines know, and where messages stand.
 
 -- what the acting machine knows behind a label
-kills_learn : (n : ℕ) (v : View) (k : MessageKind) (p : Pid) → v.acting < n → ((m : ℕ) (q : Pid) → KnownIs n v m q (v.known m q)) → Learns n v (kills k v (Some p))
-kills_learn n v MessageKind.Kill p le h = learns n v (kills MessageKind.Kill v (Some p)) p Ended refl refl (λ e. absurd (let f : Ended ≡ Unknown = e in cc)) le h
+kills_learn : (n : ℕ) (v : View) (k : MessageKind) (p : Pid) → v.acting < n → ((m : ℕ) (q : Pid) → KnownIs n v m q (v.known m q)) → Learns n v (ends_by (sort_of k) v (Some p))
+kills_learn n v MessageKind.Kill p le h = learns n v (ends_by (sort_of MessageKind.Kill) v (Some p)) p Ended refl refl (λ e. absurd (let f : Ended ≡ Unknown = e in cc)) le h
 kills_learn n v _ p le h = learns_nothing n v v refl (λ m q. refl) h
 
 served_learns : (n : ℕ) (v : View) (o : Option Told) → v.acting < n → ((m : ℕ) (q : Pid) → KnownIs n v m q (v.known m q)) → Learns n v (served_told v o)

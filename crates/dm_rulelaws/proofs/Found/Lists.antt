@@ -1,9 +1,9 @@
 -- Each line leaves messages where they stood, moves them within a machine, or brings one.
 use Rattle.dm_rulelaws.proofs.Names.{◌≡◌, ◌⊎◌, ℕ, zero, suc, ◌+◌, ◌≤◌, ◌==◌, Bool, true, false, not, filter, List, [], ◌∷◌, ◌++◌, refl, sym, subst, inl, inr, arith, ⊤, if◌then◌else◌, drop, Option, None, Some, Pid, MsgId, MessageKind, Label}
 use Rattle.dm_rulelaws.proofs.Names.{Step, id_eq-is, id_eq-same, Line, Stage, at_machine, at_pair, at_record, without_id, without_front, View, Pair, Told, About, Of, view_after, after_head, after_label, after_put, after_taken, after_stage}
-use Rattle.dm_rulelaws.proofs.Names.{after_proto, follows_up, asks_on, handled, handled_first, queued_for, held_for, dropped_for, forwarded_for, rejoins, served_told, kills, receiver_of, taken_id, oldest, routed_on, Spot, Queue, Held}
+use Rattle.dm_rulelaws.proofs.Names.{after_proto, follows_by, asks_on, handled, handled_first, queued_for, held_for, dropped_for, forwarded_for, rejoins, served_told, ends_by, receiver_of, taken_id, oldest, routed_on, Spot, Queue, Held}
 use Rattle.dm_rulelaws.proofs.Names.{Inbox, Untaken, times, untaken, standing, eq_is, parts, at_place, pair_keeps, times-append, machine_of, Target, ap, ◌∙◌, cases_Bool, false≢true, Place, id_eq, manager, OneKernel, NothingElse, is_kernels}
-use Rattle.dm_rulelaws.proofs.Names.{own_id, Addresses, Holder, Receiver, Sender, Gets, gets, given, holder_eq, place_known, all_follow, is_told_back, told_back_gets, forwards, place_told, is_behind, updated_to, updated, own_gives}
+use Rattle.dm_rulelaws.proofs.Names.{own_id, Addresses, Holder, Receiver, Sender, Gets, gets, given, holder_eq, place_known, all_follow, is_told_back, told_back_gets, forwards, place_told, is_behind, updated_to, updated, own_given}
 use Rattle.dm_rulelaws.proofs.Names.{first_gives, one_of, put_told_off, put_at, Goes, Comes, Named, Links, holder_is, unnamed_receiver, unnamed_sender, put_named, told_again, is_own, leads_where, behind_where, plain_gives, not_own}
 use Rattle.dm_rulelaws.proofs.Names.{◌<◌, is_some, nat_tests, PlainMessage, is_fixed, by_step, MoveNote}
 use Rattle.dm_rule.proofs.Trails.Places.{Owns}
@@ -13,6 +13,7 @@ use Rattle.dm_onekernel.specs.Step as kernel
 use Rattle.dm_rulelaws.proofs.Based.Sets.{set_all, without_fewer, front_fewer, last_of}
 use Rattle.dm_rulelaws.proofs.Fits.Constants.{step_constant}
 use Rattle.dm_rulelaws.proofs.Own.Told.{Origin, brings}
+use Rattle.dm_message.specs.Sorts.{sort_of}
 
 -- of each message that stands somewhere, with the machine
 abbrev pub Places : (MsgId → ℕ → Type 0) → View → Type 0
@@ -38,7 +39,7 @@ set_pair G f a b x here rest c d i e = search (arith, eq_is, parts)
 pub more_front : (i j : MsgId) (xs : List MsgId) → 1 ≤ times i xs → 1 ≤ times i (j ∷ xs)
 more_front i j xs e = omega (arith, e)
 
-first_fewer : (i : MsgId) (xs : List MsgId) → 1 ≤ times i (view.without_first xs) → 1 ≤ times i xs
+first_fewer : (i : MsgId) (xs : List MsgId) → 1 ≤ times i (drop 1 xs) → 1 ≤ times i xs
 first_fewer i [] e = e
 first_fewer i (x ∷ xs) e = more_front i x xs e
 
@@ -87,7 +88,7 @@ pub places_handled : (G : MsgId → ℕ → Type 0) (v : View) (id : MsgId) → 
 places_handled G v id h = places_inbox G v (handled v id) v.acting (without_front id (v.inbox v.acting)) refl refl refl (λ a b. refl) (λ i e. h i (Inbox v.acting) (front_fewer i id (v.inbox v.acting) e)) h
 
 places_first : (G : MsgId → ℕ → Type 0) (v : View) → Places G v → Places G (handled_first v)
-places_first G v h = places_inbox G v (handled_first v) v.acting (view.without_first (v.inbox v.acting)) refl refl refl (λ a b. refl) (λ i e. h i (Inbox v.acting) (first_fewer i (v.inbox v.acting) e)) h
+places_first G v h = places_inbox G v (handled_first v) v.acting (drop 1 (v.inbox v.acting)) refl refl refl (λ a b. refl) (λ i e. h i (Inbox v.acting) (first_fewer i (v.inbox v.acting) e)) h
 
 places_queued : (G : MsgId → ℕ → Type 0) (v : View) (id : MsgId) (o : Option Pid) → G id v.acting → Places G v → Places G (queued_for v id o)
 places_queued G v id None new h = h
@@ -148,8 +149,8 @@ places_put G v a b id k q new h =
     (λ c d i e. set_pair G v.pair a b (routed_on a b (v.pair a b) id) (routed_untaken (λ (j : MsgId). G j b) a b (v.pair a b) id new (λ j f. h j (Untaken a b) f)) (λ x y j f. h j (Untaken x y) f) c d i e)
 
 -- labels
-places_kills : (G : MsgId → ℕ → Type 0) (v : View) (k : MessageKind) (p : Pid) → Places G v → Places G (kills k v (Some p))
-places_kills G v MessageKind.Kill p h = places_as G v (kills MessageKind.Kill v (Some p)) refl refl refl (λ a b. refl) h
+places_kills : (G : MsgId → ℕ → Type 0) (v : View) (k : MessageKind) (p : Pid) → Places G v → Places G (ends_by (sort_of k) v (Some p))
+places_kills G v MessageKind.Kill p h = places_as G v (ends_by (sort_of MessageKind.Kill) v (Some p)) refl refl refl (λ a b. refl) h
 places_kills G v _ p h = h
 
 places_served : (G : MsgId → ℕ → Type 0) (v : View) (o : Option Told) → Places G v → Places G (served_told v o)
@@ -192,7 +193,7 @@ places_asks G v _ h = h
 
 places_proto : (G : MsgId → ℕ → Type 0) (v : View) (o : Option Told) → Places G v → Places G (after_proto v o)
 places_proto G v None h = places_as G v (after_proto v None) refl refl refl (λ a b. refl) h
-places_proto G v (Some t) h = places_as G (follows_up v t.about t.kind) (after_proto v (Some t)) refl refl refl (λ a b. refl) (search (arith, places_asks))
+places_proto G v (Some t) h = places_as G (follows_by v t.about (sort_of t.kind)) (after_proto v (Some t)) refl refl refl (λ a b. refl) (search (arith, places_asks))
 
 pub places_forwarded : (G : MsgId → ℕ → Type 0) (v : View) (o : Option Pid) → Places G v → Places G (forwarded_for v o)
 places_forwarded G v None h = h
@@ -316,19 +317,19 @@ updated_leaves s v a (Some u) i = update_leaves s a u.receiver u.about i
 two_get : (P : Pid → Place → Type 0) (s : OneKernel) (v : View) (id : MsgId) (to from : Place) → s.bag id ≡ None → v.told id ≡ None → AllGet P s v (gets (Receiver id) to ∷ gets (Sender id) from ∷ [])
 two_get P s v id to from bag told = ((λ q e. absurd (unnamed_receiver s v id q bag told e)), ((λ q e. absurd (unnamed_sender s v id q bag told e)), tt))
 
-pub put_all : (P : Pid → Place → Type 0) (s : OneKernel) (v : View) (a : Addresses) (x y : ℕ) (id : MsgId) (k : MessageKind) (q : Pid) → s.bag id ≡ None → v.told id ≡ None → P q (given a (own_gives s v a id q k) (Receiver id))
-    → (k ≡ MessageKind.Migrate → P manager (given a (own_gives s v a id q k) (Sender id))) → AllAre P s v a → AllAre P s (after_put v x y id k q) (given a (first_gives (v.told id) (own_gives s v a id q k)))
+pub put_all : (P : Pid → Place → Type 0) (s : OneKernel) (v : View) (a : Addresses) (x y : ℕ) (id : MsgId) (k : MessageKind) (q : Pid) → s.bag id ≡ None → v.told id ≡ None → P q (given a (own_given s v a id q (sort_of k)) (Receiver id))
+    → (k ≡ MessageKind.Migrate → P manager (given a (own_given s v a id q (sort_of k)) (Sender id))) → AllAre P s v a → AllAre P s (after_put v x y id k q) (given a (first_gives (v.told id) (own_given s v a id q (sort_of k))))
 put_all P s v a x y id k q bag none to from h g r e =
-    subst (λ (o : Option Told). P r (given a (first_gives o (own_gives s v a id q k)) g)) (sym none)
+    subst (λ (o : Option Told). P r (given a (first_gives o (own_given s v a id q (sort_of k))) g)) (sym none)
     (elim (put_named s v x y id k q g r none e) [
-      | inl old ↦ given_are P s v a (own_gives s v a id q k) h (search (arith, two_get)) g r old
+      | inl old ↦ given_are P s v a (own_given s v a id q (sort_of k)) h (search (arith, two_get)) g r old
       | inr new ↦ elim new [
-        | inl way ↦ subst (λ (i : Holder). P r (given a (own_gives s v a id q k) i)) (sym way.0) (subst (λ (p : Pid). P p (given a (own_gives s v a id q k) (Receiver id))) way.1 to)
-        | inr way ↦ subst (λ (i : Holder). P r (given a (own_gives s v a id q k) i)) (sym way.0) (subst (λ (p : Pid). P p (given a (own_gives s v a id q k) (Sender id))) way.2 (from way.1))
+        | inl way ↦ subst (λ (i : Holder). P r (given a (own_given s v a id q (sort_of k)) i)) (sym way.0) (subst (λ (p : Pid). P p (given a (own_given s v a id q (sort_of k)) (Receiver id))) way.1 to)
+        | inr way ↦ subst (λ (i : Holder). P r (given a (own_given s v a id q (sort_of k)) i)) (sym way.0) (subst (λ (p : Pid). P p (given a (own_given s v a id q (sort_of k)) (Sender id))) way.2 (from way.1))
       ]
     ])
 
-pub routed_gives : (s : OneKernel) (v : View) (a : Addresses) (id : MsgId) (k : MessageKind) (q : Pid) → is_own k ≡ false → (o : Option Told) (h : Holder) → given a (first_gives o (own_gives s v a id q k)) h ≡ a h
+pub routed_gives : (s : OneKernel) (v : View) (a : Addresses) (id : MsgId) (k : MessageKind) (q : Pid) → is_own k ≡ false → (o : Option Told) (h : Holder) → given a (first_gives o (own_given s v a id q (sort_of k))) h ≡ a h
 routed_gives s v a id k q plain None h = ap (λ (gs : List Gets). given a gs h) (plain_gives s v a id q k plain)
 routed_gives s v a id k q plain (Some u) h = refl
 
@@ -347,13 +348,13 @@ routed_named s v x y id k q h r other plain none (Owns (Comes i u is mine told m
 ]
 
 pub put_routed : (P : Pid → Place → Type 0) (s : OneKernel) (v : View) (a : Addresses) (x y : ℕ) (id : MsgId) (k : MessageKind) (q : Pid) → is_kernels id ≡ false → is_own k ≡ false → v.told id ≡ None → AllAre P s v a
-    → AllAre P s (after_put v x y id k q) (given a (first_gives (v.told id) (own_gives s v a id q k)))
+    → AllAre P s (after_put v x y id k q) (given a (first_gives (v.told id) (own_given s v a id q (sort_of k))))
 put_routed P s v a x y id k q other plain none h g r e = subst (P r) (sym (routed_gives s v a id k q plain (v.told id) g)) (h g r (routed_named s v x y id k q g r other plain none e))
 
 -- a message that was put before
-pub put_again : (P : Pid → Place → Type 0) (s : OneKernel) (v : View) (a : Addresses) (x y : ℕ) (id : MsgId) (k : MessageKind) (q : Pid) (u : Told) → v.told id ≡ Some u → AllAre P s v a → AllAre P s (after_put v x y id k q) (given a (first_gives (v.told id) (own_gives s v a id q k)))
+pub put_again : (P : Pid → Place → Type 0) (s : OneKernel) (v : View) (a : Addresses) (x y : ℕ) (id : MsgId) (k : MessageKind) (q : Pid) (u : Told) → v.told id ≡ Some u → AllAre P s v a → AllAre P s (after_put v x y id k q) (given a (first_gives (v.told id) (own_given s v a id q (sort_of k))))
 put_again P s v a x y id k q u told h g r e =
-    subst (λ (o : Option Told). P r (given a (first_gives o (own_gives s v a id q k)) g)) (sym told) (h g r (again_back s v x y id k q u told g r e))
+    subst (λ (o : Option Told). P r (given a (first_gives o (own_given s v a id q (sort_of k))) g)) (sym told) (h g r (again_back s v x y id k q u told g r e))
   where
     again_back : (s : OneKernel) (v : View) (x y : ℕ) (id : MsgId) (k : MessageKind) (q : Pid) (u : Told) → v.told id ≡ Some u → (h : Holder) (r : Pid) → Named s (after_put v x y id k q) h r → Named s v h r
     again_back s v x y id k q u told h r (Links e) = Links e

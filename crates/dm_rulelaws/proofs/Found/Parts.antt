@@ -1,11 +1,11 @@
 -- The parts of a group keep where messages stand, where each has what it needs.
 use Rattle.dm_rulelaws.proofs.Names.{◌≡◌, ℕ, ◌<◌, true, false, List, [], ◌∷◌, refl, ◌∙◌, sym, arith, ⊤, Option, None, Some, false≢true, Pid, pid_of, MsgId, MessageKind, plain_kind, PlainMessage, PlainWhat, manager, id_eq-same, bind-is}
-use Rattle.dm_rulelaws.proofs.Names.{Line, Told, is_kernels, own_id, Holder, Receiver, Sender, given, goes_between, own_gives, Point, moved, after, Part, Says, Routes, Again, Owns, Transmits, Spelled, lines_of, puts, spelled}
+use Rattle.dm_rulelaws.proofs.Names.{Line, Told, is_kernels, own_id, Holder, Receiver, Sender, given, goes_between, own_given, Point, moved, after, Part, Says, Routes, Again, Owns, Transmits, Spelled, lines_of, puts, spelled}
 use Rattle.dm_rulelaws.proofs.Names.{not_kernels, not_first, Sane, AllSayable, part_sane, is_own, by_parts, ◌+◌, ap, subst, Label, Boot, first_number, PlainProcess, Forward, forwards_on, Stops, by_round, by_handles, ◌/◌, ◌==◌, Bool, ◌++◌}
 use Rattle.dm_rulelaws.proofs.Names.{length, ◌||◌, if◌then◌else◌, pid_eq, Stage, switchboard, bind, About, Of, Known, Unknown, Here, target_of, front_of, to_kernel, accepts, takes_chunk, takes_block, leaves, chunks_of, pieces_of}
-use Rattle.dm_rulelaws.proofs.Names.{kernel_told, here_told, ended_told, process_told, server_told, is_between, is_fixed, Outcome, MoveNote, OneKernel, machine_in, Target, answers_move, leaves_for, aim, label_of, kernel_after, at_record}
+use Rattle.dm_rulelaws.proofs.Names.{told_step, told_here, told_ended, process_told, told_server, is_between, is_fixed, Outcome, MoveNote, OneKernel, machine_in, Target, answers_move, leaves_for, aim, label_of, kernel_after, at_record}
 use Rattle.dm_rulelaws.proofs.Names.{at_record_at, tells_asker, inr, View}
-use Rattle.dm_rule.specs.Point.{move_target}
+use Rattle.dm_rule.specs.Point.{after_line, move_target}
 use Rattle.dm_rule.specs.View.{Ended}
 use Rattle.dm_onekernel.specs.Pieces as pieces
 use Rattle.dm_onekernel.specs.Step as kernel
@@ -15,17 +15,18 @@ use Rattle.dm_rulelaws.proofs.Based.Needs.{by_puts, said_by}
 use Rattle.dm_rulelaws.proofs.Fits.Serves.{asked_noted}
 use Rattle.dm_rulelaws.proofs.Found.Labels.{NeedsLine, line_core, packet_core}
 use Rattle.dm_rulelaws.proofs.Names.{packet_line}
+use Rattle.dm_message.specs.Sorts.{sort_of}
 
 -- the next message of the acting machine's kernel
 pub record NeedsOwn (n : ℕ) (pt : Point) (k : MessageKind) (q : Pid) (b : ℕ) : Type 0 where
-  pub knows : Knows pt.view q (given pt.addresses (own_gives pt.kernel pt.view pt.addresses (own_id pt.view) q k) (Receiver (own_id pt.view)))
-  pub from : k ≡ MessageKind.Migrate → Knows pt.view manager (given pt.addresses (own_gives pt.kernel pt.view pt.addresses (own_id pt.view) q k) (Sender (own_id pt.view)))
-  pub at : (given pt.addresses (own_gives pt.kernel pt.view pt.addresses (own_id pt.view) q k) (Receiver (own_id pt.view))).at ≡ b
+  pub knows : Knows pt.view q (given pt.addresses (own_given pt.kernel pt.view pt.addresses (own_id pt.view) q (sort_of k)) (Receiver (own_id pt.view)))
+  pub from : k ≡ MessageKind.Migrate → Knows pt.view manager (given pt.addresses (own_given pt.kernel pt.view pt.addresses (own_id pt.view) q (sort_of k)) (Sender (own_id pt.view)))
+  pub at : (given pt.addresses (own_given pt.kernel pt.view pt.addresses (own_id pt.view) q (sort_of k)) (Receiver (own_id pt.view))).at ≡ b
   pub real : IsReal n pt.view q
   pub own : is_own k ≡ true
 
 -- from kernel to kernel
-pub between_own : (n : ℕ) (pt : Point) (k : MessageKind) (m : ℕ) → own_gives pt.kernel pt.view pt.addresses (own_id pt.view) (pid_of m 0) k ≡ goes_between pt.view (own_id pt.view) (pid_of m 0) → (k ≡ MessageKind.Migrate → ⊥) → is_own k ≡ true → m < n → NeedsOwn n pt k (pid_of m 0) m
+pub between_own : (n : ℕ) (pt : Point) (k : MessageKind) (m : ℕ) → own_given pt.kernel pt.view pt.addresses (own_id pt.view) (pid_of m 0) (sort_of k) ≡ goes_between pt.view (own_id pt.view) (pid_of m 0) → (k ≡ MessageKind.Migrate → ⊥) → is_own k ≡ true → m < n → NeedsOwn n pt k (pid_of m 0) m
 between_own n pt k m gives none own le = search (arith, pt.view, pt.addresses, pt.kernel, id_eq-same)
 
 -- what a part needs
@@ -59,7 +60,13 @@ pub own_fresh : (pt : Point) → Sane pt → pt.view.told (own_id pt.view) ≡ N
 own_fresh pt sane = sane.numbered pt.view.acting (pt.view.count pt.view.acting) (omega arith)
 
 one_line : (n : ℕ) (pt next : Point) (l : Line) (ls : List Line) → NeedsLine n pt l → Sane pt → Some (l ∷ []) ≡ Some ls → after pt ls ≡ Some next → LineCore n pt → LineCore n next
-one_line n pt next l ls need sane is leads h = search (arith, bind-is, pt.kernel, line_core)
+one_line n pt next l ls need sane is leads h =
+    let f : l ∷ [] ≡ ls = cc in
+    let (mid, first, last) = bind-is (after_line pt l) (λ q. after q []) next (ap (after pt) f ∙ leads) in
+    let (s, step_, then_) = bind-is (kernel_after pt.kernel (label_of l)) (λ s. Some (moved pt l s)) mid first in
+    let g : moved pt l s ≡ mid = cc in
+    let e : mid ≡ next = cc in
+    subst (LineCore n) (g ∙ e) (line_core n pt s l need sane step_ h)
 
 pub part_core : (n : ℕ) (pt next : Point) (p : Part) (ls : List Line) → NeedsPart n pt p → Sane pt → lines_of pt p ≡ Some ls → after pt ls ≡ Some next → LineCore n pt → LineCore n next
 part_core n pt next (Says l) ls need sane is leads h = one_line n pt next l ls need sane is leads h
@@ -153,7 +160,7 @@ routes_loose n None = tt
 routes_loose n (Some k) = (λ q. tt, tt)
 
 -- a message from kernel to kernel, to a machine that there is
-pub to_one : (n : ℕ) (k : MessageKind) (m : ℕ) → ((pt : Point) → own_gives pt.kernel pt.view pt.addresses (own_id pt.view) (pid_of m 0) k ≡ goes_between pt.view (own_id pt.view) (pid_of m 0)) → (k ≡ MessageKind.Migrate → ⊥) → is_own k ≡ true → m < n → AllLoose n (to_kernel k m ∷ [])
+pub to_one : (n : ℕ) (k : MessageKind) (m : ℕ) → ((pt : Point) → own_given pt.kernel pt.view pt.addresses (own_id pt.view) (pid_of m 0) (sort_of k) ≡ goes_between pt.view (own_id pt.view) (pid_of m 0)) → (k ≡ MessageKind.Migrate → ⊥) → is_own k ≡ true → m < n → AllLoose n (to_kernel k m ∷ [])
 to_one n k m gives none own le = ((λ pt. between_own n pt k m (gives pt) none own le), tt)
 
 -- the answer to a request to move goes
@@ -241,7 +248,7 @@ noted_same s t z p q e f g =
     let k : Some p ≡ Some q = sym f ∙ ap (λ (u : OneKernel). u.noted z.id) same ∙ g in
     cc
 
-told_need : (n : ℕ) (pt o : Point) (m : ℕ) (id : MsgId) (p : Pid) (room : Bool × ℕ × ℕ) (x : PlainProcess) (k : MessageKind) → (is_between k ≡ true → Heard n pt o m id p k) → NeedOf n pt (kernel_told o m id p room x k)
+told_need : (n : ℕ) (pt o : Point) (m : ℕ) (id : MsgId) (p : Pid) (room : Bool × ℕ × ℕ) (x : PlainProcess) (k : MessageKind) → (is_between k ≡ true → Heard n pt o m id p k) → NeedOf n pt (told_step o m id p room x (sort_of k))
 told_need n pt o m id p room x MessageKind.Ask h = accepts_need n pt id.from.home p room.0 room.1 room.2 (h refl).0 (h refl).1
 told_need n pt o m id p room x MessageKind.Refuse h =
     asker_need n pt (Line.Stays p) (o.kernel.notes p) Outcome.Stayed tt (λ z e s step q noted. comes_here pt.view (moved pt (Line.Stays p) s).view p q refl refl (h refl).1.1 (noted_same pt.kernel s z p q step ((h refl).2 z e) noted))
@@ -261,7 +268,7 @@ bind_need n pt (Some x) f h = h x refl
 kernel_hears_need : (n : ℕ) (pt : Point) (b : Boot) (o : Point) (m : ℕ) (id : MsgId) (k : MessageKind) (a : About) → ((p : Pid) → a ≡ Of p → is_between k ≡ true → Heard n pt o m id p k)
     → NeedOf n pt (rule.kernel_hears b o m id k a)
 kernel_hears_need n pt b o m id k (Of p) h =
-    bind_need n pt (kernel.alive (o.kernel.processes p)) (λ x. kernel_told o m id p (rule.fits (rule.free_room b o m) (length x.memory / 256)) x k)
+    bind_need n pt (kernel.alive (o.kernel.processes p)) (λ x. told_step o m id p (rule.fits (rule.free_room b o m) (length x.memory / 256)) x (sort_of k))
     (λ x alive. told_need n pt o m id p (rule.fits (rule.free_room b o m) (length x.memory / 256)) x k (h p refl))
 kernel_hears_need n pt b o m id k _ h = tt
 
@@ -270,17 +277,17 @@ moves_need : (n : ℕ) (pt : Point) (id : MsgId) (p : Pid) (to : ℕ) (c : Bool)
 moves_need n pt id p to true le front = first_need n pt (Says (Line.Here id)) [] tt tt
 moves_need n pt id p to false le front = first_need n pt (Says (Line.Migration Stage.Frozen p)) (Says (Line.Migration Stage.Asked p) ∷ to_kernel MessageKind.Ask to ∷ []) front (λ q. tt, to_one n MessageKind.Ask to (λ q. refl) (λ e. cc) refl le)
 
-here_told_need : (n : ℕ) (pt o : Point) (m : ℕ) (id : MsgId) (t : Told) (k : MessageKind) → target_of (Some t) < n → (aim pt.view pt.view.topic < n) × (is_fixed t.receiver ≡ false) → NeedOf n pt (here_told o m id t k)
+here_told_need : (n : ℕ) (pt o : Point) (m : ℕ) (id : MsgId) (t : Told) (k : MessageKind) → target_of (Some t) < n → (aim pt.view pt.view.topic < n) × (is_fixed t.receiver ≡ false) → NeedOf n pt (told_here o m id t (sort_of k))
 here_told_need n pt o m id t MessageKind.Migrate le front = moves_need n pt id t.receiver (target_of (Some t)) (m == target_of (Some t)) le front
 here_told_need n pt o m id t MessageKind.Update le front = (tt, λ ls next is leads. tt)
 here_told_need n pt o m id t _ le front = tt
 
-ended_told_need : (n : ℕ) (pt : Point) (id : MsgId) (k : MessageKind) → NeedOf n pt (ended_told id k)
+ended_told_need : (n : ℕ) (pt : Point) (id : MsgId) (k : MessageKind) → NeedOf n pt (told_ended id (sort_of k))
 ended_told_need n pt id MessageKind.Migrate = (tt, λ ls next is leads. tt)
 ended_told_need n pt id MessageKind.Update = (tt, λ ls next is leads. tt)
 ended_told_need n pt id _ = tt
 
-server_told_need : (n : ℕ) (pt o : Point) (id : MsgId) (t : Told) (k : MessageKind) → NeedOf n pt (server_told o id t k)
+server_told_need : (n : ℕ) (pt o : Point) (id : MsgId) (t : Told) (k : MessageKind) → NeedOf n pt (told_server o id t (sort_of k))
 server_told_need n pt o id t MessageKind.Update = (tt, λ ls next is leads. tt)
 server_told_need n pt o id t _ = tt
 
@@ -304,7 +311,7 @@ pub told_by_need : (n : ℕ) (pt : Point) (b : Boot) (o : Point) (m : ℕ) (id :
     → ((p : Pid) → t.about ≡ Of p → is_between t.kind ≡ true → Heard n pt o m id p t.kind)
     → ((to c : ℕ) → o.view.known m t.receiver ≡ Forward to c → AllNeed n pt (forwards_on o.addresses id t.kind manager to)) → NeedOf n pt (rule.hears b o m id (Some t))
 told_by_need n pt b o m id t at le front kernels forwards =
-    let to_server = server_told o id t t.kind in
+    let to_server = told_server o id t (sort_of t.kind) in
     let to_process = process_told o m id t (o.view.known m t.receiver) in
     by_receiver n pt t.receiver (t.receiver.num == 0) (pid_eq t.receiver switchboard) (pid_eq t.receiver manager) (rule.kernel_hears b o m id t.kind t.about) to_server to_server to_process refl refl refl (kernel_hears_need n pt b o m id t.kind t.about kernels)
     (server_told_need n pt o id t t.kind) (server_told_need n pt o id t t.kind) (λ free. process_told_need n pt o m id t (o.view.known m t.receiver) at le (front, free) forwards)

@@ -12,6 +12,7 @@ use Rattle.dm_rulelaws.proofs.Runs.{Run}
 use Rattle.dm_rulelaws.proofs.Goes.Turns.{Droppable}
 use Rattle.dm_rulelaws.proofs.Found.Real.{has_some, waits_some}
 use Rattle.dm_rulelaws.proofs.Order.Lines.{Last}
+use Rattle.dm_message.specs.Sorts.{sort_of}
 
 -- behind the head of a turn
 abbrev pub begun : Point → ℕ → Point
@@ -62,9 +63,9 @@ home_of b m o i x fixed f =
     sym (ap (λ (q : Pid). q.home) to) ∙ sym (f.run.found.fixed i (Inbox m) f.told f.first f.told_is (ap is_fixed to ∙ fixed))
 
 -- what the view does with a served message of this kind
-pub served_is : (b : Boot) (m : ℕ) (o : Point) (i : MsgId) (x : PlainMessage) (v : View) (w : PlainWhat) → x.what ≡ w → Front b m o i x → view.served_told v (o.view.told i) ≡ view.kills (plain_kind w) v (Some x.to)
+pub served_is : (b : Boot) (m : ℕ) (o : Point) (i : MsgId) (x : PlainMessage) (v : View) (w : PlainWhat) → x.what ≡ w → Front b m o i x → view.served_told v (o.view.told i) ≡ view.ends_by (sort_of (plain_kind w)) v (Some x.to)
 served_is b m o i x v w is f =
-    ap (view.served_told v) f.told_is ∙ ap (λ c. view.kills c v (Some f.told.receiver)) (told_kind b m o i x f ∙ ap plain_kind is) ∙ ap (λ p. view.kills (plain_kind w) v (Some p)) (told_receiver b m o i x f)
+    ap (view.served_told v) f.told_is ∙ ap (λ c. view.ends_by (sort_of c) v (Some f.told.receiver)) (told_kind b m o i x f ∙ ap plain_kind is) ∙ ap (λ p. view.ends_by (sort_of (plain_kind w)) v (Some p)) (told_receiver b m o i x f)
 
 -- processes are numbered from 3
 record IsProcess (s : OneKernel) (p : Pid) : Type 0 where

@@ -1,7 +1,7 @@
 -- A kernel's own message at the front of the inbox can be handled.
 use Rattle.dm_rulelaws.proofs.Names.{◌≡◌, ◌≢◌, ℕ, ◌/◌, ◌≤◌, ◌==◌, ◌&&◌, ◌||◌, Bool, true, false, not, List, [], ◌∷◌, ◌++◌, length, refl, ap, ◌∙◌, sym, subst, is_some, arith, if◌then◌else◌, Option, None, Some, false≢true, nat_tests, Pid}
 use Rattle.dm_rulelaws.proofs.Names.{pid_eq, MsgId, MessageKind, Line, Stage, Boot, switchboard, manager, bind, PlainProcess, Life, Alive, View, Told, Of, Known, Unknown, Here, Frozen, Forward, is_kernels, target_of, to_kernel, forwards_on}
-use Rattle.dm_rulelaws.proofs.Names.{moves_to, accepts, takes_chunk, takes_block, gives_piece, kernel_told, chunks_of, pieces_of, updates, here_told, ended_told, process_told, server_told, sends_on, fits, free_room, kernel_hears, hears}
+use Rattle.dm_rulelaws.proofs.Names.{accepts, takes_chunk, takes_block, gives_piece, told_step, chunks_of, pieces_of, updates, told_here, told_ended, process_told, told_server, sends_on, fits, free_room, kernel_hears, hears}
 use Rattle.dm_rulelaws.proofs.Names.{is_between, is_restart, kind_comes, knows, is_away, Moves, sender_in, receiver_in, told_between, IsIn, Point, Part, Says, Spot, Queue, Held, Inbox, times, standing, token_is, token_at, is_server}
 use Rattle.dm_rulelaws.proofs.Names.{is_fixed, first_of, eq_self, inbox_is, about_same, kind_leaves, Label, MoveNote, Outcome, label_of, with_label, is_put, moved, answers_move, tells_asker}
 use Rattle.dm_onekernel.specs.Service as service
@@ -14,6 +14,8 @@ use Rattle.dm_rulelaws.proofs.Goes.Parts.{ArePlain, Can, can_as, can_plain, does
 use Rattle.dm_rulelaws.proofs.Goes.Front.{begun, Calm, CanTurn, does_answers}
 use Rattle.dm_rulelaws.proofs.Goes.Process.{forwards_plain}
 use Rattle.dm_rulelaws.proofs.Names.{agrees}
+use Rattle.dm_message.specs.Sorts.{sort_of}
+use Rattle.dm_rule.specs.Migrating.{leaves_for}
 
 -- it was told of
 pub record FrontOwn (b : Boot) (m : ℕ) (o : Point) (i : MsgId) : Type 0 where
@@ -24,8 +26,8 @@ pub record FrontOwn (b : Boot) (m : ℕ) (o : Point) (i : MsgId) : Type 0 where
   pub run : Run b o
   pub own : OwnTold o
 
-pub sort_of : (b : Boot) (m : ℕ) (o : Point) (i : MsgId) (f : FrontOwn b m o i) → own_sort f.told.kind f.told.receiver f.told.about ≡ true
-sort_of b m o i f = f.own.own i f.told f.told_is f.mine
+pub own_sorted : (b : Boot) (m : ℕ) (o : Point) (i : MsgId) (f : FrontOwn b m o i) → own_sort f.told.kind f.told.receiver f.told.about ≡ true
+own_sorted b m o i f = f.own.own i f.told f.told_is f.mine
 
 -- while a process moves it is alive
 abbrev IsAlive : Option Life → Type 0
@@ -139,7 +141,7 @@ can_asker C never b m o l p (Some n) r notes none quiet ends run =
       owns = NoOwns (tt, (tt, (tt, tt)));
     }
 
-can_told : (C : Type 0) (never : C → ⊥) (b : Boot) (m : ℕ) (o : Point) (i : MsgId) (p : Pid) (room : Bool × ℕ × ℕ) (x : PlainProcess) (k : MessageKind) (t : Told) → o.view.told i ≡ Some t → t.about ≡ Of p → is_between k ≡ true → Coming b m o p k → Run b o → Can C m (begun o m) (kernel_told o m i p room x k)
+can_told : (C : Type 0) (never : C → ⊥) (b : Boot) (m : ℕ) (o : Point) (i : MsgId) (p : Pid) (room : Bool × ℕ × ℕ) (x : PlainProcess) (k : MessageKind) (t : Told) → o.view.told i ≡ Some t → t.about ≡ Of p → is_between k ≡ true → Coming b m o p k → Run b o → Can C m (begun o m) (told_step o m i p room x (sort_of k))
 can_told C never b m o i p room x MessageKind.Ask t told about e c run = can_plain C m (begun o m) (accepts i.from.home p room.0 room.1 room.2) never (accepts_plain (begun o m).view i.from.home p room.0 room.1 room.2) (accepts_own (begun o m).view i.from.home p room.0 room.1 room.2)
 can_told C never b m o i p room x MessageKind.Refuse t told about e c run = can_asker C never b m o (Line.Stays p) p (o.kernel.notes p) Outcome.Stayed refl refl refl (λ n. refl) run
 can_told C never b m o i p room x MessageKind.PullState t told about e c run = can_plain C m (begun o m) (gives_piece i MessageKind.State) never (refl, (tt, tt)) (piece_own (begun o m).view i MessageKind.State t p told about (λ a e. e))
@@ -153,44 +155,44 @@ can_told C never b m o i p room x _ t told about e c run = absurd (false≢true 
 can_hear_of : (C : Type 0) (never : C → ⊥) (b : Boot) (m : ℕ) (o : Point) (i : MsgId) (t : Told) (p : Pid) → o.view.told i ≡ Some t → t.about ≡ Of p → is_between t.kind ≡ true → Coming b m o p t.kind → Run b o → Can C m (begun o m) (kernel_hears b o m i t.kind t.about)
 can_hear_of C never b m o i t p told about between c run =
     let (y, alive) = moving_alive b m o p t.kind run c in
-    can_as C m (begun o m) (kernel_hears b o m i t.kind t.about) (kernel_told o m i p (fits (free_room b o m) (length y.memory / 256)) y t.kind)
-    (ap (kernel_hears b o m i t.kind) about ∙ ap (λ (l : Option Life). bind (kernel.alive l) (λ (x : PlainProcess). kernel_told o m i p (fits (free_room b o m) (length x.memory / 256)) x t.kind)) alive)
+    can_as C m (begun o m) (kernel_hears b o m i t.kind t.about) (told_step o m i p (fits (free_room b o m) (length y.memory / 256)) y (sort_of t.kind))
+    (ap (kernel_hears b o m i t.kind) about ∙ ap (λ (l : Option Life). bind (kernel.alive l) (λ (x : PlainProcess). told_step o m i p (fits (free_room b o m) (length x.memory / 256)) x (sort_of t.kind))) alive)
     (can_told C never b m o i p (fits (free_room b o m) (length y.memory / 256)) y t.kind t told about between c run)
 
 can_kernel : (C : Type 0) (never : C → ⊥) (b : Boot) (m : ℕ) (o : Point) (i : MsgId) (f : FrontOwn b m o i) → (f.told.receiver.num == 0) ≡ true → Can C m (begun o m) (kernel_hears b o m i f.told.kind f.told.about)
 can_kernel C never b m o i f num =
-    let (between, p, about) = own_between f.told.kind f.told.receiver f.told.about (sort_of b m o i f) num in
+    let (between, p, about) = own_between f.told.kind f.told.receiver f.told.about (own_sorted b m o i f) num in
     can_hear_of C never b m o i f.told p f.told_is about between (coming b m o i p f between about) f.run
 
 -- a server
-can_server : (C : Type 0) (never : C → ⊥) (m : ℕ) (o : Point) (i : MsgId) (t : Told) (k : MessageKind) → k ≡ MessageKind.Update → Can C m (begun o m) (server_told o i t k)
-can_server C never m o i t k e = can_as C m (begun o m) (server_told o i t k) (Some (updates o i t)) (ap (server_told o i t) e) (can_plain C m (begun o m) (updates o i t) never (refl, tt) (NoOwns (tt, tt)))
+can_server : (C : Type 0) (never : C → ⊥) (m : ℕ) (o : Point) (i : MsgId) (t : Told) (k : MessageKind) → k ≡ MessageKind.Update → Can C m (begun o m) (told_server o i t (sort_of k))
+can_server C never m o i t k e = can_as C m (begun o m) (told_server o i t (sort_of k)) (Some (updates o i t)) (ap (λ (k : MessageKind). told_server o i t (sort_of k)) e) (can_plain C m (begun o m) (updates o i t) never (refl, tt) (NoOwns (tt, tt)))
 
 -- a process
-can_here : (C : Type 0) (never : C → ⊥) (m : ℕ) (o : Point) (i : MsgId) (t : Told) (k : MessageKind) → own_sort k t.receiver t.about ≡ true → (t.receiver.num == 0) ≡ false → Can C m (begun o m) (here_told o m i t k)
-can_here C never m o i t MessageKind.Migrate e num = can_plain C m (begun o m) (moves_to m i t.receiver (target_of (Some t))) never (moves_plain (begun o m).view m i t.receiver (target_of (Some t)) (m == target_of (Some t))) (moves_own (begun o m).view i t.receiver (target_of (Some t)) (m == target_of (Some t)))
+can_here : (C : Type 0) (never : C → ⊥) (m : ℕ) (o : Point) (i : MsgId) (t : Told) (k : MessageKind) → own_sort k t.receiver t.about ≡ true → (t.receiver.num == 0) ≡ false → Can C m (begun o m) (told_here o m i t (sort_of k))
+can_here C never m o i t MessageKind.Migrate e num = can_plain C m (begun o m) (if m == (target_of (Some t)) then Says (Line.Here i) ∷ [] else leaves_for t.receiver (target_of (Some t))) never (moves_plain (begun o m).view m i t.receiver (target_of (Some t)) (m == target_of (Some t))) (moves_own (begun o m).view i t.receiver (target_of (Some t)) (m == target_of (Some t)))
 can_here C never m o i t MessageKind.Update e num = can_plain C m (begun o m) (updates o i t) never (refl, tt) (NoOwns (tt, tt))
 can_here C never m o i t _ e num = absurd (grind (arith, nat_tests))
 
-can_over : (C : Type 0) (never : C → ⊥) (m : ℕ) (o : Point) (i : MsgId) (t : Told) (k : MessageKind) → own_sort k t.receiver t.about ≡ true → (t.receiver.num == 0) ≡ false → Can C m (begun o m) (ended_told i k)
+can_over : (C : Type 0) (never : C → ⊥) (m : ℕ) (o : Point) (i : MsgId) (t : Told) (k : MessageKind) → own_sort k t.receiver t.about ≡ true → (t.receiver.num == 0) ≡ false → Can C m (begun o m) (told_ended i (sort_of k))
 can_over C never m o i t MessageKind.Migrate e num = can_plain C m (begun o m) (Says (Line.NoMove i) ∷ []) never (refl, tt) (NoOwns (tt, tt))
 can_over C never m o i t MessageKind.Update e num = can_plain C m (begun o m) (Says (Line.Updated i 0) ∷ []) never (refl, tt) (NoOwns (tt, tt))
 can_over C never m o i t _ e num = absurd (grind (arith, nat_tests))
 
 can_known : (C : Type 0) (never : C → ⊥) (b : Boot) (m : ℕ) (o : Point) (i : MsgId) (f : FrontOwn b m o i) (n : Known) → o.view.known m f.told.receiver ≡ n → n ≢ Unknown → (f.told.receiver.num == 0) ≡ false → Can C m (begun o m) (process_told o m i f.told n)
 can_known C never b m o i f Unknown is there num = absurd (there refl)
-can_known C never b m o i f Here is there num = can_here C never m o i f.told f.told.kind (sort_of b m o i f) num
+can_known C never b m o i f Here is there num = can_here C never m o i f.told f.told.kind (own_sorted b m o i f) num
 can_known C never b m o i f (Forward at_ moves) is there num = can_plain C m (begun o m) (forwards_on o.addresses i f.told.kind manager at_) never (forwards_plain (begun o m).view o.addresses i f.told.kind manager at_ (ap is_some f.told_is))
     (forwards_own (begun o m).view o.addresses i f.told.kind manager at_ (forwarded_place (begun o m).view i at_ f.told at_ moves f.told_is is) (λ e. refl))
-can_known C never b m o i f Known.Ended is there num = can_over C never m o i f.told f.told.kind (sort_of b m o i f) num
+can_known C never b m o i f Known.Ended is there num = can_over C never m o i f.told f.told.kind (own_sorted b m o i f) num
 can_known C never b m o i f _ is there num = can_plain C m (begun o m) (Says (Line.Held i) ∷ []) never (refl, tt) (NoOwns (tt, tt))
 
 can_by : (C : Type 0) (never : C → ⊥) (b : Boot) (m : ℕ) (o : Point) (i : MsgId) (f : FrontOwn b m o i) (c d e : Bool) → (f.told.receiver.num == 0) ≡ c → pid_eq f.told.receiver switchboard ≡ d → pid_eq f.told.receiver manager ≡ e
-    → Can C m (begun o m) (if c then kernel_hears b o m i f.told.kind f.told.about else if d then server_told o i f.told f.told.kind else if e then server_told o i f.told f.told.kind else process_told o m i f.told (o.view.known m f.told.receiver))
+    → Can C m (begun o m) (if c then kernel_hears b o m i f.told.kind f.told.about else if d then told_server o i f.told (sort_of f.told.kind) else if e then told_server o i f.told (sort_of f.told.kind) else process_told o m i f.told (o.view.known m f.told.receiver))
 can_by C never b m o i f true d e num one two = can_kernel C never b m o i f num
-can_by C never b m o i f false true e num one two = can_server C never m o i f.told f.told.kind (own_server f.told.kind f.told.receiver f.told.about (sort_of b m o i f) num (ap (λ (c : Bool). c || pid_eq f.told.receiver manager) one))
+can_by C never b m o i f false true e num one two = can_server C never m o i f.told f.told.kind (own_server f.told.kind f.told.receiver f.told.about (own_sorted b m o i f) num (ap (λ (c : Bool). c || pid_eq f.told.receiver manager) one))
 can_by C never b m o i f false false true num one two =
-    can_server C never m o i f.told f.told.kind (own_server f.told.kind f.told.receiver f.told.about (sort_of b m o i f) num (ap (λ (c : Bool). c || pid_eq f.told.receiver manager) one ∙ two))
+    can_server C never m o i f.told f.told.kind (own_server f.told.kind f.told.receiver f.told.about (own_sorted b m o i f) num (ap (λ (c : Bool). c || pid_eq f.told.receiver manager) one ∙ two))
 can_by C never b m o i f false false false num one two =
     let server : is_server f.told.receiver ≡ false = ap (λ (c : Bool). c || pid_eq f.told.receiver manager) one ∙ two in
     let loose : is_fixed f.told.receiver ≡ false = ap (λ (c : Bool). c || is_server f.told.receiver) num ∙ server in

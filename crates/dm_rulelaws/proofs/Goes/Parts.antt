@@ -1,5 +1,5 @@
 -- Parts that can be said: labels are steps of the kernel, and other lines change nothing of it.
-use Rattle.dm_rulelaws.proofs.Names.{after_line, headed, ◌≡◌, ℕ, ◌==◌, not, filter, arith, Bool, true, false, List, [], ◌∷◌, ◌++◌, length, refl, ap, ◌∙◌, sym, subst, is_some, ⊤, if◌then◌else◌, Option, None, Some, Pid, MsgId, MessageKind}
+use Rattle.dm_rulelaws.proofs.Names.{after_line, ◌≡◌, ℕ, ◌==◌, not, filter, arith, Bool, true, false, List, [], ◌∷◌, ◌++◌, length, refl, ap, ◌∙◌, sym, subst, is_some, ⊤, if◌then◌else◌, Option, None, Some, Pid, MsgId, MessageKind}
 use Rattle.dm_rulelaws.proofs.Names.{id_eq, plain_kind, PlainMessage, Boot, Label, OneKernel, bind, Step, Line, Load, View, Told, view_after, own_id, Receiver, Point, labels, with_label, label_of, kernel_after, after, moved, Part, Says}
 use Rattle.dm_rulelaws.proofs.Names.{Routes, Again, Owns, Transmits, Spelled, lines_of, puts, packet_line, behind, spelled, group_of, outcome, Pair, counts, IsNetLine, IsNet, is_put, hushed, Sane, sane_line, part_sane, IsUnasked, AskNone}
 use Rattle.dm_rulelaws.proofs.Names.{seen, topic_by, seen_none}
@@ -310,9 +310,9 @@ pub record Goes (C : Type 0) (b : Boot) (pt : Point) (d : Step) : Type 0 where
 
 abbrev pub goes : (C : Type 0) (b : Boot) (pt : Point) (d : Step) (ps : List Part) → outcome b pt d ≡ Some ps → Does C (moved pt (Line.Head d) pt.kernel) ps → Goes C b pt d
 goes C b pt d ps is does = record {
-  w = headed (Line.Head d) does.w;
-  is = ap (λ (o : Option (List Part)). bind o (λ (xs : List Part). bind (after_line pt (Line.Head d)) (λ (begun : Point). bind (spelled begun xs) (λ (w : Spelled). Some (headed (Line.Head d) w))))) is
-      ∙ ap (λ (o : Option Spelled). bind o (λ (w : Spelled). Some (headed (Line.Head d) w))) does.is;
+  w = behind (Line.Head d ∷ []) does.w;
+  is = ap (λ (o : Option (List Part)). bind o (λ (xs : List Part). bind (after_line pt (Line.Head d)) (λ (begun : Point). bind (spelled begun xs) (λ (w : Spelled). Some (behind (Line.Head d ∷ []) w))))) is
+      ∙ ap (λ (o : Option Spelled). bind o (λ (w : Spelled). Some (behind (Line.Head d ∷ []) w))) does.is;
   parts = ps;
   outcome_is = is;
   behind_head = does.w;

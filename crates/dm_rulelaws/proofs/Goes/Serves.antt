@@ -12,6 +12,8 @@ use Rattle.dm_rulelaws.proofs.Goes.Parts.{said, no_receive, Shape, Quiet, Takes,
 use Rattle.dm_rulelaws.proofs.Own.Told.{HaveNoOwn, NoOwns}
 use Rattle.dm_rulelaws.proofs.Goes.Turns.{times_self, times_more, Droppable, droppable_on, does_drops, drops_quiet, drops_own, at_hand_of}
 use Rattle.dm_rulelaws.proofs.Order.Lines.{Last}
+use Rattle.dm_rule.specs.Given.{burden_of}
+use Rattle.std.specs.Option.{option_map_or}
 
 -- a process that executes
 pub running_of : (s : OneKernel) (p : Pid) (x : PlainProcess) → s.processes p ≡ Some (Alive x) → s.notes p ≡ None → x.stopped ≡ false → x.status ≡ Ready → kernel.running s p ≡ Some x
@@ -25,7 +27,7 @@ steps_front (suc c) m n z e f =
     ap (λ (o : Option kernel.Machine). bind o kernel.plain_step) (steps_front c m n mid e before) ∙ last
 
 pub ran_goes : (k : ℕ) (m : kernel.Machine) (o : Option kernel.Machine) → kernel.plain_row (instruction m.regs m.bytes) ≡ o → ((n : kernel.Machine) → kernel.plain_steps (rule.ran k n).count n ≡ Some (rule.ran k n).machine)
-    → kernel.plain_steps (rule.ran_further m o (rule.ran k)).count m ≡ Some (rule.ran_further m o (rule.ran k)).machine
+    → (let r : rule.Ran = option_map_or (λ (n : kernel.Machine). rule.ran_one_more (rule.ran k n)) o (record { count = 0; machine = m }) in kernel.plain_steps r.count m ≡ Some r.machine)
 ran_goes k m o h1 h2 = search (arith, steps_front)
 
 pub ran_steps : (k : ℕ) (m : kernel.Machine) → kernel.plain_steps (rule.ran k m).count m ≡ Some (rule.ran k m).machine
@@ -109,7 +111,7 @@ does_executes C b pt p queue x is free going ready drops home h =
 pub record Awaited (s : OneKernel) (mask : ℕ) (ids : List MsgId) (i : MsgId) : Type 0 where
   pub x : PlainMessage
   pub there : s.bag i ≡ Some x
-  pub what : rule.what_is_awaited mask x.what ≡ true
+  pub what : rule.burden_is_awaited mask (burden_of x.what) ≡ true
   pub stands : 1 ≤ times i ids
 
 awaited_of : (s : OneKernel) (mask : ℕ) (ids : List MsgId) (i : MsgId) (o : Option PlainMessage) → s.bag i ≡ o → rule.is_awaited mask o ≡ true → 1 ≤ times i ids → Awaited s mask ids i
@@ -148,7 +150,7 @@ rest_quiet : (c : Bool) (ps : List Part) → no_receive (said ps) ≡ true → n
 rest_quiet true ps h = refl
 rest_quiet false ps h = h
 
-completes_what : (p : Pid) (x : PlainProcess) (k : PlainMessage) (mask base size : ℕ) (w : PlainWhat) → rule.what_is_awaited mask w ≡ true → k.to ≡ p → (c : receiving.Completed) × (receiving.completes_what p x k mask base size w ≡ Some c)
+completes_what : (p : Pid) (x : PlainProcess) (k : PlainMessage) (mask base size : ℕ) (w : PlainWhat) → rule.burden_is_awaited mask (burden_of w) ≡ true → k.to ≡ p → (c : receiving.Completed) × (receiving.completes_what p x k mask base size w ≡ Some c)
 completes_what p x k mask base size (PlainWhat.User code channel body links) e to =
     let c = receiving.completes x base size code channel body links in
     (c, ap (λ (d : Bool). if d && on_mask mask channel then Some c else None) (ap (λ v. pid_eq v p) to ∙ pid_eq-same p) ∙ ap (λ (d : Bool). if d then Some c else None) e)

@@ -1,5 +1,5 @@
 -- Messages of one sender to one process on one channel stand in the order in which they were sent: each line keeps it.
-use Rattle.dm_rulelaws.proofs.Names.{◌≡◌, ℕ, suc, ◌+◌, ◌≤◌, ◌<◌, ◌==◌, ◌&&◌, Bool, true, false, not, List, [], ◌∷◌, ◌++◌, refl, ap, ◌∙◌, sym, subst, is_some, nat_lt, arith, if◌then◌else◌, Option, None, Some, false≢true, Pid, pid_eq, MsgId}
+use Rattle.dm_rulelaws.proofs.Names.{Inbox, ◌≡◌, ℕ, suc, ◌+◌, ◌≤◌, ◌<◌, ◌==◌, ◌&&◌, Bool, true, false, not, List, [], ◌∷◌, ◌++◌, refl, ap, ◌∙◌, sym, subst, is_some, nat_lt, arith, if◌then◌else◌, Option, None, Some, false≢true, Pid, pid_eq, MsgId}
 use Rattle.dm_rulelaws.proofs.Names.{id_of, PlainMessage, PlainWhat, Label, switchboard, manager, Life, OneKernel, counts, is_counted, Grown, LifeGrows, after_step, at_machine, at_record, without_front, untaken, View, after_label}
 use Rattle.dm_rulelaws.proofs.Names.{handled, Point, served_keeps, Each, not_kernels, Sane, pid_eq-is, entry, reception, came_from, zero, drop, nat_le, ◌⊎◌, inl, inr, cases_Bool, nat_tests, without_id, at_pair, Pair, not_false}
 use Rattle.dm_onekernel.specs.Step as kernel
@@ -224,7 +224,10 @@ thin_label q v (Label.End p y) = thin_same q v (after_label v (Label.End p y)) r
 thin_label q v (Label.Receive p id) = search (arith, queue_thin, v.queue, v.acting, q.to.home, q.to, thins_without, box_same)
 thin_label q v (Label.Refuse p id c) = thin_same q v (after_label v (Label.Refuse p id c)) refl (box_same v q.to.home) (λ a. refl) (λ j. refl)
 thin_label q v (Label.Dropped id) = dropped_thin q v id (view.receiver_of (v.told id))
-thin_label q v (Label.Served id) = search (arith, v.told, served_keeps, q.to.home, thin_same, q.to, v.inbox, handled_thin)
+thin_label q v (Label.Served id) =
+    let (spots, told, pair, acting, queue) = served_keeps (handled v id) (v.told id) in
+    let box = subst (λ (xs : List MsgId). Thins xs (v.inbox q.to.home)) (sym (spots (Inbox q.to.home))) (handled_thin v id q.to.home) in
+    thin_same q v (view.served_told (handled v id) (v.told id)) (ap (λ f. f q.to.home q.to) queue) box (λ a. ap (λ f. untaken (f a q.to.home)) pair) told
 thin_label q v (Label.Gone id) = thin_handled q v id
 thin_label q v (Label.Took id) = thin_handled q v id
 thin_label q v (Label.Created id p) = thin_same q v (after_label v (Label.Created id p)) refl (handled_thin v id q.to.home) (λ a. refl) (λ j. refl)

@@ -1,7 +1,7 @@
 -- A turn of a machine that has mail: its first line takes the message at the front, and the others bring nothing back.
 use Rattle.dm_settlelaws.proofs.Names.{◌≡◌, ℕ, ◌+◌, ◌/◌, ◌==◌, Bool, true, false, List, [], ◌∷◌, ◌++◌, length, refl, ap, ◌∙◌, sym, ⊤, if◌then◌else◌, slice_get, Option, None, Some, false≢true, Pid, pid_of, pid_eq, MsgId, MessageKind, Label}
-use Rattle.dm_settlelaws.proofs.Names.{Stage, plain_kind, PlainMessage, PlainWhat, Boot, BootImage, first_number, switchboard, manager, PlainProcess, answer_id, bind-is, Line, Sender, is_told_back, accepts, chunks_of, ended_told}
-use Rattle.dm_settlelaws.proofs.Names.{forwards_on, here_told, kernel_told, leaves, pieces_of, process_told, sends_on, server_told, takes_block, takes_chunk, to_kernel, Part, Says, Routes, Again, Owns, Transmits, Point, Room, board_took}
+use Rattle.dm_settlelaws.proofs.Names.{Stage, plain_kind, PlainMessage, PlainWhat, Boot, BootImage, first_number, switchboard, manager, PlainProcess, answer_id, bind-is, Line, Sender, is_told_back, accepts, chunks_of, told_ended}
+use Rattle.dm_settlelaws.proofs.Names.{forwards_on, told_here, told_step, leaves, pieces_of, process_told, sends_on, told_server, takes_block, takes_chunk, to_kernel, Part, Says, Routes, Again, Owns, Transmits, Point, Room, board_took}
 use Rattle.dm_settlelaws.proofs.Names.{comes_to, creation_parts, drop_parts, ended_handles, fits, free_room, handles, has_room, hears, here_handles, kernel_handles, kernel_hears, landing_parts, manager_parts, process_handles, routes, says}
 use Rattle.dm_settlelaws.proofs.Names.{About, Known, Of, Told, target_of, touches, lets_go, told_lets_go, MoveNote, Outcome, answers_move, leaves_for, tells_asker}
 use Rattle.dm_onekernel.specs.Pieces as pieces
@@ -9,6 +9,7 @@ use Rattle.dm_onekernel.specs.Switchboard as board
 use Rattle.dm_onekernel.specs.Manager as manage
 use Rattle.dm_onekernel.specs.Step as kernel
 use Rattle.dm_settlelaws.proofs.Effects.{Effect, Returns, effect, takes_front}
+use Rattle.dm_message.specs.Sorts.{sort_of}
 
 -- a line that changes no pair and brings nothing back; a route is no such line
 abbrev pub is_back : Effect → Bool
@@ -172,7 +173,7 @@ leaves_row i told p ids (Known.Frozen to) ps e =
     quiet_row i told (Line.SentOn p (length ids)) (sends_on to ids ++ tail) ps tt refl refl (both_calm (sends_on to ids) tail (sends_calm to ids) ((refl, refl), (tt, tt))) e
 leaves_row i told p ids k ps e = cc
 
-kernel_told_row : (pt : Point) (m : ℕ) (i : MsgId) (t : Told) (p : Pid) (room : Bool × ℕ × ℕ) (x : PlainProcess) (k : MessageKind) → t.kind ≡ k → HandlesBy i (Some t) (kernel_told pt m i p room x k)
+kernel_told_row : (pt : Point) (m : ℕ) (i : MsgId) (t : Told) (p : Pid) (room : Bool × ℕ × ℕ) (x : PlainProcess) (k : MessageKind) → t.kind ≡ k → HandlesBy i (Some t) (told_step pt m i p room x (sort_of k))
 kernel_told_row pt m i t p room x MessageKind.Ask is ps e = accepts_row i (Some t) i.from.home p room.0 room.1 room.2 ps e
 kernel_told_row pt m i t p room x MessageKind.Refuse is ps e =
     back_row i (Some t) (Line.Stays p) (tells_asker (pt.kernel.notes p) Outcome.Stayed) ps tt refl (ap lets_go is) (asker_calm (pt.kernel.notes p) Outcome.Stayed) e
@@ -187,11 +188,11 @@ kernel_told_row pt m i t p room x k is ps e = cc
 
 kernel_hears_row : (b : Boot) (pt : Point) (m : ℕ) (i : MsgId) (t : Told) (a : About) → HandlesBy i (Some t) (kernel_hears b pt m i t.kind a)
 kernel_hears_row b pt m i t (Of p) ps e =
-    let (x, there, is) = bind-is (kernel.alive (pt.kernel.processes p)) (λ x. kernel_told pt m i p (fits (free_room b pt m) (length x.memory / 256)) x t.kind) ps e in
+    let (x, there, is) = bind-is (kernel.alive (pt.kernel.processes p)) (λ x. told_step pt m i p (fits (free_room b pt m) (length x.memory / 256)) x (sort_of t.kind)) ps e in
     kernel_told_row pt m i t p (fits (free_room b pt m) (length x.memory / 256)) x t.kind refl ps is
 kernel_hears_row b pt m i t a ps e = cc
 
-server_row : (pt : Point) (i : MsgId) (t : Told) (k : MessageKind) → HandlesBy i (Some t) (server_told pt i t k)
+server_row : (pt : Point) (i : MsgId) (t : Told) (k : MessageKind) → HandlesBy i (Some t) (told_server pt i t (sort_of k))
 server_row pt i t MessageKind.Update ps e = quiet_row i (Some t) (Line.Updated i _) [] ps refl refl refl tt e
 server_row pt i t k ps e = cc
 
@@ -199,12 +200,12 @@ moves_row : (m : ℕ) (i : MsgId) (told : Option Told) (p : Pid) (to : ℕ) (c :
 moves_row m i told p to true ps e = quiet_row i told (Line.Here i) [] ps refl refl refl tt e
 moves_row m i told p to false ps e = quiet_row i told (Line.Migration Stage.Frozen p) (Says (Line.Migration Stage.Asked p) ∷ to_kernel MessageKind.Ask to ∷ []) ps tt refl refl ((refl, refl), (tt, tt)) e
 
-here_told_row : (pt : Point) (m : ℕ) (i : MsgId) (t : Told) (k : MessageKind) → HandlesBy i (Some t) (here_told pt m i t k)
+here_told_row : (pt : Point) (m : ℕ) (i : MsgId) (t : Told) (k : MessageKind) → HandlesBy i (Some t) (told_here pt m i t (sort_of k))
 here_told_row pt m i t MessageKind.Migrate ps e = moves_row m i (Some t) t.receiver (target_of (Some t)) (m == target_of (Some t)) ps e
 here_told_row pt m i t MessageKind.Update ps e = quiet_row i (Some t) (Line.Updated i _) [] ps refl refl refl tt e
 here_told_row pt m i t k ps e = cc
 
-ended_told_row : (i : MsgId) (t : Told) (k : MessageKind) → HandlesBy i (Some t) (ended_told i k)
+ended_told_row : (i : MsgId) (t : Told) (k : MessageKind) → HandlesBy i (Some t) (told_ended i (sort_of k))
 ended_told_row i t MessageKind.Migrate ps e = quiet_row i (Some t) (Line.NoMove i) [] ps refl refl refl tt e
 ended_told_row i t MessageKind.Update ps e = quiet_row i (Some t) (Line.Updated i 0) [] ps refl refl refl tt e
 ended_told_row i t k ps e = cc
@@ -220,8 +221,8 @@ hears_row : (b : Boot) (pt : Point) (m : ℕ) (i : MsgId) (told : Option Told) �
 hears_row b pt m i None ps e = cc
 hears_row b pt m i (Some t) ps e =
     chosen i (Some t) (t.receiver.num == 0) (kernel_hears b pt m i t.kind t.about) _ (kernel_hears_row b pt m i t t.about)
-    (chosen i (Some t) (pid_eq t.receiver switchboard) (server_told pt i t t.kind) _ (server_row pt i t t.kind)
-    (chosen i (Some t) (pid_eq t.receiver manager) (server_told pt i t t.kind) _ (server_row pt i t t.kind) (process_told_row pt m i t (pt.view.known m t.receiver)))) ps e
+    (chosen i (Some t) (pid_eq t.receiver switchboard) (told_server pt i t (sort_of t.kind)) _ (server_row pt i t t.kind)
+    (chosen i (Some t) (pid_eq t.receiver manager) (told_server pt i t (sort_of t.kind)) _ (server_row pt i t t.kind) (process_told_row pt m i t (pt.view.known m t.receiver)))) ps e
 
 -- whatever stands at the front
 pub comes_row : (b : Boot) (pt : Point) (m : ℕ) (i : MsgId) (o : Option PlainMessage) → HandlesBy i (pt.view.told i) (comes_to b pt m i o)

@@ -1,12 +1,13 @@
 -- What a turn does with a user message for a process, or with an update, where no process moves.
 use Rattle.dm_settlelaws.proofs.Names.{◌≡◌, ℕ, ◌/◌, ◌==◌, ◌||◌, Bool, true, false, not, List, [], ◌∷◌, length, refl, ap, ◌∙◌, sym, if◌then◌else◌, Option, None, Some, false≢true, Pid, pid_eq, MsgId, MessageKind, Label, Step, plain_kind}
-use Rattle.dm_settlelaws.proofs.Names.{PlainMessage, PlainWhat, Boot, manager, switchboard, PlainProcess, bind-is, Line, Sender, is_told_back, behind_count, ended_told, forwards_on, here_told, kernel_told, process_told, server_told}
+use Rattle.dm_settlelaws.proofs.Names.{PlainMessage, PlainWhat, Boot, manager, switchboard, PlainProcess, bind-is, Line, Sender, is_told_back, behind_count, told_ended, forwards_on, told_here, told_step, process_told, told_server}
 use Rattle.dm_settlelaws.proofs.Names.{place_told, Part, Says, Again, Owns, Point, comes_to, ended_handles, fits, free_room, handles, hears, here_handles, kernel_hears, outcome, process_handles, turns, TellsRight, About, Known, Of, Told}
 use Rattle.dm_settlelaws.proofs.Names.{View, handled, receiver_of, view_after, touches, is_server, is_fixed, is_moving, is_light_kind, says_put, not_is, acting_dropped, or-left, queued_acting, dropped_known, forwarded_acting}
 use Rattle.dm_onekernel.specs.Step as kernel
 use Rattle.dm_rule.specs.View as view
 use Rattle.dm_settlelaws.proofs.Effects.{effect, takes_front}
 use Rattle.dm_settlelaws.proofs.Falls.Handles.{is_back}
+use Rattle.dm_message.specs.Sorts.{sort_of}
 
 -- a line with which such a message leaves the inbox: it routes nothing, and machines know what they knew
 pub record FrontLine (i : MsgId) (l : Line) : Type 0 where
@@ -108,15 +109,15 @@ bag_row b pt m i t msg ps light same to still e =
     process_row pt m i t msg (pt.view.known m msg.to) ps (ap (pt.view.known m) to) (still m msg.to) (sym same) user.0 (or-left (t.receiver.num == 0) (is_server t.receiver) user.1) (sym row ∙ e)
 
 -- one that isn't in the bag, by what was told of it
-here_told_row : (pt : Point) (m : ℕ) (i : MsgId) (t : Told) (k : MessageKind) (ps : List Part) → is_light_kind k t.receiver ≡ true → here_told pt m i t k ≡ Some ps → Shape pt.view m i t ps
+here_told_row : (pt : Point) (m : ℕ) (i : MsgId) (t : Told) (k : MessageKind) (ps : List Part) → is_light_kind k t.receiver ≡ true → told_here pt m i t (sort_of k) ≡ Some ps → Shape pt.view m i t ps
 here_told_row pt m i t MessageKind.Update ps light e = stops pt.view m i t (Line.Updated i (behind_count pt.kernel pt.addresses t.receiver (place_told t.about))) ps (updated i _) e
 here_told_row pt m i t k ps light e = cc
 
-ended_told_row : (pt : Point) (m : ℕ) (i : MsgId) (t : Told) (k : MessageKind) (ps : List Part) → is_light_kind k t.receiver ≡ true → ended_told i k ≡ Some ps → Shape pt.view m i t ps
+ended_told_row : (pt : Point) (m : ℕ) (i : MsgId) (t : Told) (k : MessageKind) (ps : List Part) → is_light_kind k t.receiver ≡ true → told_ended i (sort_of k) ≡ Some ps → Shape pt.view m i t ps
 ended_told_row pt m i t MessageKind.Update ps light e = stops pt.view m i t (Line.Updated i 0) ps (updated i 0) e
 ended_told_row pt m i t k ps light e = cc
 
-server_row : (pt : Point) (m : ℕ) (i : MsgId) (t : Told) (k : MessageKind) (ps : List Part) → server_told pt i t k ≡ Some ps → Shape pt.view m i t ps
+server_row : (pt : Point) (m : ℕ) (i : MsgId) (t : Told) (k : MessageKind) (ps : List Part) → told_server pt i t (sort_of k) ≡ Some ps → Shape pt.view m i t ps
 server_row pt m i t MessageKind.Update ps e = stops pt.view m i t (Line.Updated i (behind_count pt.kernel pt.addresses t.receiver (place_told t.about))) ps (updated i _) e
 server_row pt m i t k ps e = cc
 
@@ -131,7 +132,7 @@ told_row pt m i t _ ps known still light num e = absurd (false≢true (sym still
 -- no such message is for a kernel
 kernel_none : (b : Boot) (pt : Point) (m : ℕ) (i : MsgId) (a : About) (ps : List Part) → kernel_hears b pt m i MessageKind.Update a ≡ Some ps → ⊥
 kernel_none b pt m i (Of p) ps e =
-    let (x, there, is) = bind-is (kernel.alive (pt.kernel.processes p)) (λ x. kernel_told pt m i p (fits (free_room b pt m) (length x.memory / 256)) x MessageKind.Update) ps e in cc
+    let (x, there, is) = bind-is (kernel.alive (pt.kernel.processes p)) (λ x. told_step pt m i p (fits (free_room b pt m) (length x.memory / 256)) x (sort_of MessageKind.Update)) ps e in cc
 kernel_none b pt m i a ps e = cc
 
 kernel_row : (b : Boot) (pt : Point) (m : ℕ) (i : MsgId) (a : About) (q : Pid) (k : MessageKind) (ps : List Part) → is_light_kind k q ≡ true → (q.num == 0) ≡ true → kernel_hears b pt m i k a ≡ Some ps → ⊥
@@ -140,7 +141,7 @@ kernel_row b pt m i a q MessageKind.Update ps light num e = kernel_none b pt m i
 kernel_row b pt m i a q k ps light num e = cc
 
 hears_by : (b : Boot) (pt : Point) (m : ℕ) (i : MsgId) (t : Told) (x y z : Bool) (ps : List Part) → (t.receiver.num == 0) ≡ x → is_moving (pt.view.known m t.receiver) ≡ false → is_light_kind t.kind t.receiver ≡ true
-    → (if x then kernel_hears b pt m i t.kind t.about else if y then server_told pt i t t.kind else if z then server_told pt i t t.kind else process_told pt m i t (pt.view.known m t.receiver)) ≡ Some ps → Shape pt.view m i t ps
+    → (if x then kernel_hears b pt m i t.kind t.about else if y then told_server pt i t (sort_of t.kind) else if z then told_server pt i t (sort_of t.kind) else process_told pt m i t (pt.view.known m t.receiver)) ≡ Some ps → Shape pt.view m i t ps
 hears_by b pt m i t true y z ps num still light e = absurd (kernel_row b pt m i t.about t.receiver t.kind ps light num e)
 hears_by b pt m i t false true z ps num still light e = server_row pt m i t t.kind ps e
 hears_by b pt m i t false false true ps num still light e = server_row pt m i t t.kind ps e
