@@ -45,15 +45,15 @@ pub use Rattle.dm_rule.proofs.Names.{About, Addresses, Again, Answer, AreStill, 
 pub use Rattle.dm_rule.proofs.Names.{LifeGrows, Line, Load, Made, MessageKind, Moves, Name, NamedLink, Next, NothingElse, Of, Owner, Owns, Pair, Part, Phase, Place, Point, Queue, Receiver, Regs, Rests, Routes, Runs, Says, Sender}
 pub use Rattle.dm_rule.proofs.Names.{ServerSends, Slot, Sort, Sound, Spelled, Spot, Stage, StandsAsBag, StandsNowhere, StandsOutside, StandsRight, Step, Target, Todo, Told, Transmits, Unknown, Untaken, View, accepts, after, after_head}
 pub use Rattle.dm_rule.proofs.Names.{after_label, after_line, after_proto, after_put, after_stage, after_step, after_taken, alive-is, all_follow, answer_link, answers_move, are_for_home, are_home, ascends, asker_in, asks_on, at_hand-is}
-pub use Rattle.dm_rule.proofs.Names.{at_id, at_machine, at_pair, at_record, begins, behind, bind-is, board_gets, board_takes_lem, child_from, child_number, chunks_of, completing, cons_option, counts, dropped_for, enclosed_of, ended}
-pub use Rattle.dm_rule.proofs.Names.{ended_told, ends_move-is, filter, filter_map, first_gives, first_point, first_view, fits, follows_up, forward_about, forwarded_for, forwards, forwards_on, free_room, front_of, front_told, gets, given}
-pub use Rattle.dm_rule.proofs.Names.{gives, gives_piece, goes_out, gone_to, group_of, handled, handled_first, headed, hears, held_for, here_told, holder_eq, id_eq-is, id_eq-same, is_apart, is_away, is_behind, is_between, is_counted}
-pub use Rattle.dm_rule.proofs.Names.{is_dropped, is_early, is_for_home, is_here, is_kernels, is_restart, is_told_back, kernel_after, kernel_hears, kernel_told, kills, kind_comes, kind_leaves, known_at, knows, label_of, landing_gets}
-pub use Rattle.dm_rule.proofs.Names.{lands-is, leaves, leaves_for, length-append, lines_of, link_target, links_in, machine_in, manager_gets, manager_takes_lem, marked, migrates, moved, moved_back, moves_to, name_link, names, next_step}
-pub use Rattle.dm_rule.proofs.Names.{nexts, not_server, oldest, on_mask, outcome, own_given, own_gives, own_id, owner_in, owner_of, packet_line, pending_of, pid_eq-is, pid_eq-same, pieces_of, place_known, place_of_child, place_told}
-pub use Rattle.dm_rule.proofs.Names.{plain_kind, process_told, puts, queued_for, receiver_in, receiver_of, reply_code, reply_eq, right_true, ring_at, routed_on, seen, sender_in, sender_of, sends_on, sent_at, served_told, server_told}
-pub use Rattle.dm_rule.proofs.Names.{serves_what, slice_set, slot_of, slots_of, slots_with, sort_of, spelled, standing, start-sound, stayed, taken_id, takes_block, takes_chunk, target_of, tells_asker, times, to_kernel, to_of}
-pub use Rattle.dm_rule.proofs.Names.{told_back_gets, told_between, topic_by, unentered, unmoved, untaken, updated, updated_to, updates, view_after, when-is, without, without_front, without_id, ◌||◌}
+pub use Rattle.dm_rule.proofs.Names.{at_id, at_machine, at_pair, at_record, begins, behind, bind-is, board_gets, board_takes_lem, child_from, child_number, chunks_of, completing, cons_option, counts, dropped_for, ended, ended_told}
+pub use Rattle.dm_rule.proofs.Names.{ends_move-is, filter, filter_map, first_gives, first_point, first_view, fits, follows_up, forward_about, forwarded_for, forwards, forwards_on, free_room, front_of, front_told, gets, given, gives}
+pub use Rattle.dm_rule.proofs.Names.{gives_piece, goes_out, gone_to, group_of, handled, handled_first, headed, hears, held_for, here_told, holder_eq, id_eq-is, id_eq-same, is_apart, is_away, is_behind, is_between, is_counted, is_dropped}
+pub use Rattle.dm_rule.proofs.Names.{is_early, is_for_home, is_here, is_kernels, is_restart, is_told_back, kernel_after, kernel_hears, kernel_told, kills, kind_comes, kind_leaves, known_at, knows, label_of, landing_gets, lands-is, leaves}
+pub use Rattle.dm_rule.proofs.Names.{leaves_for, length-append, lines_of, link_target, links_in, machine_in, manager_gets, manager_takes_lem, marked, migrates, move_target, moved, moved_back, moves_to, names, nexts, not_server, oldest}
+pub use Rattle.dm_rule.proofs.Names.{on_mask, outcome, own_given, own_gives, own_id, owner_of, packet_line, pending_of, pid_eq-is, pid_eq-same, pieces_of, place_known, place_of_child, place_told, plain_kind, process_told, puts, queued_for}
+pub use Rattle.dm_rule.proofs.Names.{receiver_in, receiver_of, reply_code, reply_eq, right_true, ring_at, routed_on, seen, sender_in, sender_of, sends_on, sent_at, served_told, server_told, serves_what, slice_set, slot_of, slots_of}
+pub use Rattle.dm_rule.proofs.Names.{slots_with, sort_of, spelled, standing, start-sound, stayed, taken_id, takes_block, takes_chunk, target_of, tells_asker, times, to_kernel, to_of, told_back_gets, told_between, topic_by, unentered}
+pub use Rattle.dm_rule.proofs.Names.{unmoved, untaken, updated, updated_to, updates, view_after, when-is, without, without_front, without_id, ◌||◌}
 pub use Rattle.dm_rule.proofs.Once.{one_of}
 pub use Rattle.dm_rule.proofs.Outcomes.{by_group, by_net, by_outcome, by_parts}
 pub use Rattle.dm_rule.proofs.Pairs.Moves.{or_first}

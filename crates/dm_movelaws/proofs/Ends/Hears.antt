@@ -1,9 +1,9 @@
 -- A turn that handles a kernel's own message: a request to move ends where it finds its process, and else goes on.
 use Rattle.dm_movelaws.proofs.Names.{◌≡◌, ℕ, ◌==◌, ◌&&◌, Bool, true, false, List, [], ◌∷◌, length, refl, ap, ◌∙◌, sym, subst, inl, inr, arith, if◌then◌else◌, Option, None, Some, cases_Bool, Pid, pid_eq, MsgId, MessageKind, Stage, Boot}
 use Rattle.dm_movelaws.proofs.Names.{manager, bind, pid_eq-is, Line, Addresses, Sender, is_told_back, to_kernel, forwards_on, kernel_told, here_told, ended_told, process_told, server_told, View, Told, About, Of, Known, Unknown, Here}
-use Rattle.dm_movelaws.proofs.Names.{Frozen, Forward, Ended, view_after, handled, handled_first, receiver_of, target_of, Point, moved, Part, Says, Again, Owns, Spelled, spelled, kernel_hears, Spot, Inbox, ids_at, first_off}
-use Rattle.dm_movelaws.proofs.Names.{line_next, fits_put, pair_same, handled_spots, held_known, forwarded_spots, forwarded_known, put_spots, put_there, put_spot, InPhases, fits_as, PairsFit, sane_line, part_sane, AllLoose, loose_walks}
-use Rattle.dm_movelaws.proofs.Names.{turned, is_moving, is_for, frozen_off, ◌+◌, ◌++◌, ⊤, pid_of, PlainProcess, accepts, takes_chunk, takes_block, sends_on, chunks_of, pieces_of, Incoming, rejoins, front_of, gone_to, is_between, parts}
+use Rattle.dm_movelaws.proofs.Names.{Frozen, Forward, Ended, view_after, handled, handled_first, receiver_of, target_of, Point, moved, Part, Says, Again, Owns, Spelled, spelled, kernel_hears, Spot, Inbox, ids_at, first_off, line_next}
+use Rattle.dm_movelaws.proofs.Names.{fits_put, pair_same, handled_spots, held_known, forwarded_spots, forwarded_known, put_spots, put_there, put_spot, InPhases, fits_as, PairsFit, sane_line, part_sane, AllLoose, loose_walks, turned}
+use Rattle.dm_movelaws.proofs.Names.{is_moving, is_for, frozen_off, ◌+◌, ◌++◌, ⊤, pid_of, PlainProcess, accepts, takes_chunk, takes_block, sends_on, chunks_of, pieces_of, Incoming, rejoins, front_of, gone_to, is_between, parts}
 use Rattle.dm_movelaws.proofs.Names.{at_record_off, due, Walks, asks, ends, accepted_off, state_off, memory_off, lacks_off, left_off, leaves, label_of, is_put, touches, nat_tests, sets, aim, at_record, MoveNote, Outcome, tells_asker}
 use Rattle.dm_movelaws.proofs.Names.{restarted_off, times}
 use Rattle.dm_rule.specs.View as view

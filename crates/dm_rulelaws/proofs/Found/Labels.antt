@@ -3,12 +3,11 @@ use Rattle.dm_rulelaws.proofs.Names.{◌≡◌, ◌≢◌, ℕ, ◌+◌, ◌<◌
 use Rattle.dm_rulelaws.proofs.Names.{Life, OneKernel, entry, reception, Grown, after_step, View, Told, Unknown, Here, is_kernels, after_label, handled, kills, served_told, receiver_of, Holder, Receiver, Sender, given, gives, to_of, Point}
 use Rattle.dm_rulelaws.proofs.Names.{moved, at_record_at, grown_none, not_kernels, AtHome, homes_are, at_home, SaidOn, label_on, ReceivedAt, dropped_known, Sane, Goes, Comes, Links, Outside, gives_spares, spared_receiver, spared_sender}
 use Rattle.dm_rulelaws.proofs.Names.{label_told, label_topic, is_fixed, zero_cases, acting_dropped, ◌⊎◌, ◌&&◌, Bool, slice_get, pid_of, pid_eq, plain_kind, PlainWhat, Alive, PlainProcess, pid_eq-is, first_number, bind-is, when-is}
-use Rattle.dm_rulelaws.proofs.Names.{with_sent, answer_to, without_message, is_kill, nat_lt, List, [], length, if◌then◌else◌, id_eq, id_of, switchboard, manager, bind, answer_id, id_eq-is, Addresses, Gets, landing_gets}
-use Rattle.dm_rulelaws.proofs.Names.{serves_what, board_gets, manager_gets, not_true, nat_tests, unentered, Sound, id_in, landed_id, served_id, board_id, manager_id, took_id, bag_sends, bag_served, bag_gone, bag_no_space, bag_created}
-use Rattle.dm_rulelaws.proofs.Names.{bag_took, spares, spares_both, two_more, made_spares, sends_spares, receives_spares, creates_what_spares, finds_spares, keeps_spares, manager_takes_spares, WhatFits, KernelFits, topic_by, machine_in}
-use Rattle.dm_rulelaws.proofs.Names.{bag_answered, aim, sets, not, filter, ◌==◌, Step, Load, Stage, About, Known, Frozen, Incoming, view_after, after_head, after_stage, after_proto, queued_for, held_for, taken_id, oldest, gone_to, front_of}
-use Rattle.dm_rulelaws.proofs.Names.{label_of, kernel_after, is_put, hushed, queued_known, held_known, proto_known, proto_acting}
-use Rattle.dm_rule.specs.Point.{move_target}
+use Rattle.dm_rulelaws.proofs.Names.{with_sent, answer_to, without_message, is_kill, nat_lt, List, [], length, if◌then◌else◌, id_eq, id_of, switchboard, manager, bind, answer_id, id_eq-is, Addresses, Gets, landing_gets, serves_what}
+use Rattle.dm_rulelaws.proofs.Names.{board_gets, manager_gets, not_true, nat_tests, unentered, Sound, id_in, landed_id, served_id, board_id, manager_id, took_id, bag_sends, bag_served, bag_gone, bag_no_space, bag_created, bag_took, spares}
+use Rattle.dm_rulelaws.proofs.Names.{spares_both, two_more, made_spares, sends_spares, receives_spares, creates_what_spares, finds_spares, keeps_spares, manager_takes_spares, WhatFits, KernelFits, topic_by, machine_in, bag_answered, aim}
+use Rattle.dm_rulelaws.proofs.Names.{sets, not, filter, ◌==◌, Step, Load, Stage, About, Known, Frozen, Incoming, view_after, after_head, after_stage, after_proto, queued_for, held_for, taken_id, oldest, gone_to, front_of, label_of}
+use Rattle.dm_rulelaws.proofs.Names.{kernel_after, is_put, hushed, queued_known, held_known, proto_known, proto_acting, move_target}
 use Rattle.dm_rule.specs.View.{Ended}
 use Rattle.dm_rule.proofs.Trails.Places.{Owns}
 use Rattle.dm_onekernel.specs.Step as kernel

@@ -4,8 +4,8 @@ use Rattle.dm_rulelaws.proofs.Names.{Step, id_eq-is, id_eq-same, Line, Stage, at
 use Rattle.dm_rulelaws.proofs.Names.{after_proto, follows_up, asks_on, handled, handled_first, queued_for, held_for, dropped_for, forwarded_for, rejoins, served_told, kills, receiver_of, taken_id, oldest, routed_on, Spot, Queue, Held}
 use Rattle.dm_rulelaws.proofs.Names.{Inbox, Untaken, times, untaken, standing, eq_is, parts, at_place, pair_keeps, times-append, machine_of, Target, ap, ◌∙◌, cases_Bool, false≢true, Place, id_eq, manager, OneKernel, NothingElse, is_kernels}
 use Rattle.dm_rulelaws.proofs.Names.{own_id, Addresses, Holder, Receiver, Sender, Gets, gets, given, holder_eq, place_known, all_follow, is_told_back, told_back_gets, forwards, place_told, is_behind, updated_to, updated, own_gives}
-use Rattle.dm_rulelaws.proofs.Names.{first_gives, one_of, put_told_off, put_at, Goes, Comes, Named, Links, holder_is, unnamed_receiver, unnamed_sender, put_named, told_again, is_own, leads_where, behind_where, plain_gives, not_own}
-use Rattle.dm_rulelaws.proofs.Names.{◌<◌, is_some, nat_tests, PlainMessage, is_fixed, by_step, MoveNote}
+use Rattle.dm_rulelaws.proofs.Names.{first_gives, one_of, put_told_off, put_at, Goes, Comes, Named, Links, holder_is, unnamed_receiver, unnamed_sender, put_named, told_again, is_own, leads_where, behind_where, plain_gives, not_own, ◌<◌}
+use Rattle.dm_rulelaws.proofs.Names.{is_some, nat_tests, PlainMessage, is_fixed, by_step, MoveNote}
 use Rattle.dm_rule.proofs.Trails.Places.{Owns}
 use Rattle.dm_rule.specs.View as view
 use Rattle.dm_onekernel.specs.Service as service
@@ -386,12 +386,6 @@ IsFor s id = (m : PlainMessage) → s.bag id ≡ Some m → is_fixed m.to ≡ tr
 
 for_it : (s : OneKernel) (id : MsgId) (m : PlainMessage) → s.bag id ≡ Some m → is_fixed m.to ≡ true → IsFor s id
 for_it s id m there fixed x is = let f : Some m ≡ Some x = sym there ∙ is in let g : m ≡ x = cc in subst (λ (y : PlainMessage). is_fixed y.to ≡ true) g fixed
-
-abbrev ForThem : OneKernel → Label → Type 0
-ForThem s (Label.Took id) = IsFor s id
-ForThem s (Label.Created id child) = IsFor s id
-ForThem s (Label.NoSpace id a b) = IsFor s id
-ForThem s l = ⊤
 
 pub took_for : (s t : OneKernel) (id : MsgId) → kernel.step s (Label.Took id) ≡ Some t → IsFor s id
 took_for s t id = search (arith, by_step, for_it, kernel_fixed)

@@ -3,7 +3,7 @@ use Rattle.dm_rulelaws.proofs.Names.{◌≡◌, ◌≢◌, ℕ, ◌/◌, ◌≤�
 use Rattle.dm_rulelaws.proofs.Names.{pid_eq, MsgId, MessageKind, Line, Stage, Boot, switchboard, manager, bind, PlainProcess, Life, Alive, View, Told, Of, Known, Unknown, Here, Frozen, Forward, is_kernels, target_of, to_kernel, forwards_on}
 use Rattle.dm_rulelaws.proofs.Names.{moves_to, accepts, takes_chunk, takes_block, gives_piece, kernel_told, chunks_of, pieces_of, updates, here_told, ended_told, process_told, server_told, sends_on, fits, free_room, kernel_hears, hears}
 use Rattle.dm_rulelaws.proofs.Names.{is_between, is_restart, kind_comes, knows, is_away, Moves, sender_in, receiver_in, told_between, IsIn, Point, Part, Says, Spot, Queue, Held, Inbox, times, standing, token_is, token_at, is_server}
-use Rattle.dm_rulelaws.proofs.Names.{is_fixed, first_of, eq_self, inbox_is, about_same, kind_leaves, Label, MoveNote, Outcome, label_of, with_label, is_put, moved, answers_move, tells_asker}
+use Rattle.dm_rulelaws.proofs.Names.{is_fixed, first_of, eq_self, inbox_is, about_same, kind_leaves, Label, MoveNote, Outcome, label_of, with_label, is_put, moved, answers_move, tells_asker, agrees}
 use Rattle.dm_onekernel.specs.Service as service
 use Rattle.dm_onekernel.specs.Step as kernel
 use Rattle.dm_rule.specs.Migrating as migrating
@@ -13,7 +13,6 @@ use Rattle.dm_rulelaws.proofs.Own.Told.{OwnTold, own_sort, own_between, own_serv
 use Rattle.dm_rulelaws.proofs.Goes.Parts.{ArePlain, Can, can_as, can_plain, does_line, Quiet, no_receive}
 use Rattle.dm_rulelaws.proofs.Goes.Front.{begun, Calm, CanTurn, does_answers}
 use Rattle.dm_rulelaws.proofs.Goes.Process.{forwards_plain}
-use Rattle.dm_rulelaws.proofs.Names.{agrees}
 
 -- it was told of
 pub record FrontOwn (b : Boot) (m : ℕ) (o : Point) (i : MsgId) : Type 0 where
