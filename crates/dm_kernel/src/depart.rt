@@ -70,21 +70,16 @@ impl Kernel {
         ensures { Answers result self.now (bind (here_of (at self.now.records pid))
             (λ x. turned (kernel_state self.now) (parts.items ++ tells_asker self.now.here x ends_.Done asker))) }
     {
-        match self.records.borrow(pid) {
-            Record::Here(process) => {
-                tell_asker(
-                    self.alloc,
-                    process,
-                    self.here,
-                    Outcome::Done,
-                    asker,
-                    &mut parts,
-                )?;
-                Ok(parts)
-            }
-            // It is here: the requirement says so.
-            _ => unreachable!(),
-        }
+        let process = self.records.here(pid).unwrap();
+        tell_asker(
+            self.alloc,
+            process,
+            self.here,
+            Outcome::Done,
+            asker,
+            &mut parts,
+        )?;
+        Ok(parts)
     }
 
     /// Freezes a process that is to leave for a machine, and keeps who waits to hear how that ends: it isn't served any more, and

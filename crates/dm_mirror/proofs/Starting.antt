@@ -176,11 +176,6 @@ sent_all b (p ∷ ps) s = sent_all b ps (begins_process b s p (slice_get b.image
 abbrev no_history : History
 no_history = record { given = λ a c. []; packets = λ a c. [] }
 
-kept_nones : (k i : ℕ) → place (replicate {A = Option Message} k None) i ≡ None
-kept_nones zero i = refl
-kept_nones (suc k) zero = refl
-kept_nones (suc k) (suc i) = kept_nones k i
-
 none_kept : (n : ℕ) → is_some (kept_under (fresh_receiving {M = Message}) n) ≡ false
 none_kept n = grind (arith, nat_tests)
 

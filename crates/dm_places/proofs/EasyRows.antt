@@ -1,7 +1,7 @@
 -- Rows of the rule whose parts need nothing beside, so that a kernel with places goes along.
-use Rattle.dm_places.proofs.Names.{◌≡◌, refl, ℕ, zero, suc, ◌+◌, ◌-◌, ◌/◌, ◌==◌, Bool, true, false, List, [], ◌∷◌, ◌++◌, length, ⊤, if◌then◌else◌, nat_lt, Option, None, Some, Pid, pid_eq, MsgId, MessageKind, Line, plain_kind, PlainMessage, PlainWhat}
-use Rattle.dm_places.proofs.Names.{instruction, Boot, manager, switchboard, OneKernel, bind, PlainProcess, PlainStatus, Ready, Waiting, Moving, Load, About, Forward, Frozen, Here, Known, Of, Pair, SentLoad, Told, Unknown, View, target_of}
-use Rattle.dm_places.proofs.Names.{Addresses, child_number, is_told_back, Part, Says, Transmits, pair_window, Point, outcome, by_migrates, IsHeardLine, hears_kept}
+use Rattle.dm_places.proofs.Names.{◌≡◌, refl, ℕ, zero, suc, ◌+◌, ◌-◌, ◌/◌, ◌==◌, Bool, true, false, List, [], ◌∷◌, ◌++◌, length, ⊤, if◌then◌else◌, nat_lt, Option, None, Some, Pid, pid_eq, MsgId, MessageKind, Line, plain_kind, PlainMessage}
+use Rattle.dm_places.proofs.Names.{PlainWhat, instruction, Boot, manager, switchboard, OneKernel, bind, PlainProcess, PlainStatus, Ready, Waiting, Moving, Load, About, Forward, Frozen, Here, Known, Of, Pair, SentLoad, Told, Unknown, View}
+use Rattle.dm_places.proofs.Names.{target_of, Addresses, child_number, is_told_back, Part, Says, Transmits, pair_window, Point, outcome, by_migrates, IsHeardLine, hears_kept, id_of, Outcome}
 use Rattle.dm_onekernel.specs.Calls as calls
 use Rattle.dm_onekernel.specs.Pieces as pieces
 use Rattle.dm_onekernel.specs.Receiving as receiving
@@ -10,7 +10,6 @@ use Rattle.dm_rule.specs.View.{Ended}
 use Rattle.dm_rule.specs.Migrating as migrating
 use Rattle.dm_rule.specs.Rule as rule
 use Rattle.dm_places.proofs.Any.AnyPart.{EasyLine, EasyParts}
-use Rattle.dm_places.proofs.Names.{id_of, Outcome}
 
 -- parts that need nothing beside
 abbrev pub Easy : Option (List Part) → Type 0

@@ -2,11 +2,9 @@
 use Rattle.dm_places.proofs.Names.{◌≡◌, ℕ, Bool, true, false, List, refl, ap, sym, subst, if◌then◌else◌, slice_get, Option, None, Some, false≢true, Pid, pid_eq, MsgId, Message, What, Process, begun_process, instruction, Format, BootImage}
 use Rattle.dm_places.proofs.Names.{Label, manager, slots_of, switchboard, bind, memory_of, slots_with, Machine, plain_steps, Landed, Landing, landing, after_serving, answer, gone_answer, serving_answer, Completion, bind-is, Placed, Acted}
 use Rattle.dm_places.proofs.Names.{acted, acts, after_landing, board_took, completed, creates, lands, machine_of, manager_took, ran, running, serves, takes, with_acted, with_child, with_machine, with_process, with_sent, without_message}
-use Rattle.dm_places.proofs.Names.{Changes, StepsChangeLittle, changed, is_named, receiver_in, taken, taken_out}
+use Rattle.dm_places.proofs.Names.{Changes, StepsChangeLittle, changed, is_named, receiver_in, taken, taken_out, answers, Asker, asker_of, ends_move, moved_answer, with_note, without_note}
 use Rattle.dm_switchboard.specs.Taking as board
 use Rattle.dm_procman.specs.Taking as manage
-use Rattle.dm_places.specs.PlacedStep.{answers}
-use Rattle.dm_places.proofs.Names.{Asker, asker_of, ends_move, moved_answer, with_note, without_note}
 
 -- a process set, and a message sent or none
 kept_process : (l : Placed) (p : Pid) (x : Option Process) (o : Option Message) (q : Pid) → pid_eq p q ≡ false → (with_sent (with_process l p x) o).processes q ≡ l.processes q
@@ -101,7 +99,7 @@ lands_leaves here l m id n x e =
     let (d, is, last) = bind-is (landing here x n.what x.status) (λ (d : Landing). Some (after_landing (without_message l id) n.to.pid d.landed d.process)) m e in
     let f : after_landing (without_message l id) n.to.pid d.landed d.process ≡ m = cc in
     subst (Leaves l (Some n.to.pid) (Some id)) f (elim d.landed as (λ d_. Leaves l (Some n.to.pid) (Some id) (after_landing (without_message l id) n.to.pid d_ d.process))
-        [ Landed.Next n_ ↦ sets_and_takes l id n.to.pid (Some d.process) (Some n_) | Landed.Done c ↦ sets_and_takes l id n.to.pid (Some d.process) None ])
+    [ Landed.Next n_ ↦ sets_and_takes l id n.to.pid (Some d.process) (Some n_) | Landed.Done c ↦ sets_and_takes l id n.to.pid (Some d.process) None ])
 
 answers_leaves : (here : ℕ) (l m : Placed) (id : MsgId) (n : Message) (x : Process) → answers here (without_message l id) n x ≡ Some m → Leaves l (Some n.to.pid) (Some id) m
 answers_leaves here l m id n x e =

@@ -1,9 +1,8 @@
 -- The rows with places in a machine's terms: where the kernel with places has a machine's process but for its queue, each row
 -- is what the machine's code does to that process, but for its queue.
-use Rattle.dm_places.proofs.Names.{◌≡◌, ℕ, Bool, true, false, List, refl, ap, ◌∙◌, sym, if◌then◌else◌, option_map, Option, None, Some, Pid, MsgId, Message, Process, Status, Regs, Fault, Row, instruction, bind, Machine, plain_steps, Landing, arith, nat_tests}
-use Rattle.dm_places.proofs.Names.{landing, after_serving, serving_answer, Called, Done, calls, Completion, completion, Placed, Acted, acted, acts, after_call, after_done, after_landing, completed, if_ready, lands, machine_of, ran, running}
-use Rattle.dm_places.proofs.Names.{with_acted, with_machine, with_process, with_sent}
-use Rattle.dm_places.specs.PlacedStep.{answers}
+use Rattle.dm_places.proofs.Names.{◌≡◌, ℕ, Bool, true, false, List, refl, ap, ◌∙◌, sym, if◌then◌else◌, option_map, Option, None, Some, Pid, MsgId, Message, Process, Status, Regs, Fault, Row, instruction, bind, Machine, plain_steps, Landing}
+use Rattle.dm_places.proofs.Names.{arith, nat_tests, landing, after_serving, serving_answer, Called, Done, calls, Completion, completion, Placed, Acted, acted, acts, after_call, after_done, after_landing, completed, if_ready, lands}
+use Rattle.dm_places.proofs.Names.{machine_of, ran, running, with_acted, with_machine, with_process, with_sent, answers}
 use Rattle.dm_places.proofs.Keeps.{of_map}
 use Rattle.dm_places.proofs.Queues.{after_serving_with, calls_with, completion_is, completion_with, landing_is, landing_with, queue_after, serving_with, with_queue}
 

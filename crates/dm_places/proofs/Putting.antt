@@ -1,10 +1,8 @@
 -- The lines of a message that is put: the put, and a packet where it goes out at once.
-use Rattle.dm_places.proofs.Names.{◌≡◌, ℕ, ◌==◌, Bool, true, false, List, [], ◌∷◌, length, refl, ap, ◌∙◌, sym, subst, inl, inr, if◌then◌else◌, Option, Some, cases_Bool, Pid, MsgId, MessageKind, id_eq, plain_kind, PlainMessage, bind, arith, nat_tests}
-use Rattle.dm_places.proofs.Names.{id_eq-is, bind-is, Line, Load, Told, first_told, own_id, Receiver, Again, Routes, goes_out, lines_of, puts, Point, after, moved, Placed, MirrorsPoint}
+use Rattle.dm_places.proofs.Names.{◌≡◌, ℕ, ◌==◌, Bool, true, false, List, [], ◌∷◌, length, refl, ap, ◌∙◌, sym, subst, inl, inr, if◌then◌else◌, Option, Some, cases_Bool, Pid, MsgId, MessageKind, id_eq, plain_kind, PlainMessage, bind, arith}
+use Rattle.dm_places.proofs.Names.{nat_tests, id_eq-is, bind-is, Line, Load, Told, first_told, own_id, Receiver, Again, Routes, goes_out, lines_of, puts, Point, after, moved, Placed, MirrorsPoint, Gets, given}
 use Rattle.dm_places.proofs.Lines.{lines_keep, routed_keeps, told_keeps}
 use Rattle.dm_places.proofs.OwnPuts.{put_own_id}
-use Rattle.dm_places.proofs.Names.{Gets}
-use Rattle.dm_places.proofs.Names.{given}
 
 -- what the packet leaves as it is
 pub record SamePoint (pt pt' : Point) : Type 0 where

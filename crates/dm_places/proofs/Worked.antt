@@ -1,7 +1,6 @@
 -- The steps with places, computed on worked cases.
 use Rattle.dm_places.proofs.Names.{◌≡◌, ℕ, List, [], ◌∷◌, refl, take, drop, option_map, Option, None, Some, Addr, Link, pid_of, link_at, Message, What, Reply, id_of, Process, begun_process, instruction, One, Label, bind, hi, Placed}
-use Rattle.dm_places.proofs.Names.{placed_start, placed_step}
-use Rattle.dm_places.proofs.Names.{MsgId, Outcome, answer_id, id_eq, if◌then◌else◌}
+use Rattle.dm_places.proofs.Names.{placed_start, placed_step, MsgId, Outcome, answer_id, id_eq, if◌then◌else◌}
 
 -- labels in order, each on its machine
 abbrev steps : Placed → List (ℕ × Label) → Option Placed

@@ -87,6 +87,19 @@ impl<H, L, A, E> Record<H, L, A, E> {
         }
     }
 
+    /// The process, if it is here.
+    pub fn here(&self) -> Option<&H>
+        ensures { option_copied result ≡ process_of self.now }
+    {
+        match self {
+            Record::Here(process) => Some(process),
+            Record::Frozen(_) => None,
+            Record::Incoming(_) => None,
+            Record::Forward { .. } => None,
+            Record::Ended(_) => None,
+        }
+    }
+
     /// The process, if it leaves.
     pub fn frozen(&self) -> Option<&L>
         ensures { option_copied result ≡ leaving_of self.now }

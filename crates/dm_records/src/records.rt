@@ -60,6 +60,16 @@ impl<H, L, A, E> Records<H, L, A, E> {
         self.get(pid).unwrap()
     }
 
+    /// A process that is here.
+    pub fn here(&self, pid: Pid) -> Option<&H>
+        ensures { option_copied result ≡ here_of (at self.now pid) }
+    {
+        match self.get(pid) {
+            Some(record) => record.here(),
+            None => None,
+        }
+    }
+
     /// A process that leaves.
     pub fn frozen(&self, pid: Pid) -> Option<&L>
         ensures { option_copied result ≡ frozen_of (at self.now pid) }

@@ -193,8 +193,12 @@ State-start b valid = record {
   e = λ i. 0;
   sound = start-sound b valid;
   own = λ i. None;
-  stands = record { kept = λ i. nothing_stands (standing (first_view b) i) (is_kernels i) (λ z. elim z as (λ z_. standing (first_view b) i z_ ≡ 0)
-      [ Queue m p ↦ refl | _ ↦ refl ]); told = λ i x k. absurd (nothing_there x (is_kernels i) k); mine = λ m p i x least k. absurd (nothing_there x (is_kernels i) k) };
+  stands = record {
+    kept = λ i. nothing_stands (standing (first_view b) i) (is_kernels i) (λ z. elim z as (λ z_. standing (first_view b) i z_ ≡ 0)
+        [ Queue m p ↦ refl | _ ↦ refl ]);
+    told = λ i x k. absurd (nothing_there x (is_kernels i) k);
+    mine = λ m p i x least k. absurd (nothing_there x (is_kernels i) k);
+  };
   untold = λ i z other. refl;
   numbered = λ m n le. refl;
   pending = λ j k. cc;

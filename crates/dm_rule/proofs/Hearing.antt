@@ -196,7 +196,3 @@ heard_kept P c o m id t =
 
 pub hears_kept : (P : List Part → Type 0) → Kept P → (b : Boot) (o : Point) (m : ℕ) (id : MsgId) (q : Option Told) (ps : List Part) → hears b o m id q ≡ Some ps → P ps
 hears_kept P c b o m id q ps = by_hears P b o m id q ps (λ t is. heard_kept P c o m id t)
-
--- what another kernel is told of a process alone
-pub kernel_kept : (P : List Part → Type 0) → Kept P → (b : Boot) (o : Point) (m : ℕ) (id : MsgId) (k : MessageKind) (a : About) (ps : List Part) → kernel_hears b o m id k a ≡ Some ps → P ps
-kernel_kept P c b o m id k a ps = by_kernel P b o m id k a ps (λ p x is alive. (heard_kept P c o m id (record { kind = k; receiver = manager; about = a })).told p x is alive)

@@ -61,9 +61,12 @@ hushed v (Line.Held id) e = let h = elim (receiver_of (v.told id)) as (λ o. Hus
     [ None ↦ hush (handled v id) | Some p ↦ record { count = refl; told = refl } ] in record { count = h.count; told = h.told }
 hushed v (Line.Forwarded id m) e = let h = elim (receiver_of (v.told id)) as (λ o. Hushed (handled v id) (forwarded_for (handled v id) o))
     [ None ↦ hush (handled v id) | Some p ↦ record { count = refl; told = refl } ] in record { count = h.count; told = h.told }
-hushed v (Line.Migration s p) e = elim s as (λ s_. Hushed v (after_stage v p s_))
-    [ Stage.Frozen ↦ (elim v.topic as (λ a. Hushed v (sets_off v p a))
-        [ Target m ↦ record { count = refl; told = refl } | _ ↦ record { count = refl; told = refl } ]) | Stage.Asked ↦ hush v | _ ↦ record { count = refl; told = refl } ]
+hushed v (Line.Migration s p) e = elim s as (λ s_. Hushed v (after_stage v p s_)) [
+  | Stage.Frozen ↦ (elim v.topic as (λ a. Hushed v (sets_off v p a))
+      [ Target m ↦ record { count = refl; told = refl } | _ ↦ record { count = refl; told = refl } ])
+  | Stage.Asked ↦ hush v
+  | _ ↦ record { count = refl; told = refl }
+]
 hushed v (Line.Proto id) e = let h = proto_hush (handled v id) (v.told id) in record { count = h.count; told = h.told }
 hushed v (Line.NoChild p) e = hush v
 hushed v (Line.Pinned p) e = hush v

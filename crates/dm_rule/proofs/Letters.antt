@@ -25,7 +25,7 @@ not_counted s i z h =
     let a : pid_eq i.from switchboard ≡ false = grind (arith, nat_tests) in
     let b : pid_eq i.from manager ≡ false = grind (arith, nat_tests) in
     let c : is_counted i.n (s.processes i.from) ≡ false = (elim (s.processes i.from) as (λ o. s.processes i.from ≡ o → is_counted i.n o ≡ false)
-        [ None ↦ λ e. refl | Some life ↦ λ e. absurd (let k = h.least i.from (ap is_some e) in grind (arith, nat_tests)) ]) refl in
+    [ None ↦ λ e. refl | Some life ↦ λ e. absurd (let k = h.least i.from (ap is_some e) in grind (arith, nat_tests)) ]) refl in
     grind (arith, nat_tests)
 
 pub kernels_fresh : (r e : MsgId → ℕ) (s : OneKernel) (i : MsgId) → Sound r e s → is_kernels i ≡ true → e i ≡ 0

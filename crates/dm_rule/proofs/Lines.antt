@@ -361,7 +361,7 @@ taken_by bag v a b n None is h =
     let next : (v.pair a b).taken + 1 ≡ suc (v.pair a b).taken = omega arith in
     let same : untaken (taken_pair (v.pair a b) n) ≡ untaken (v.pair a b) = ap (λ m. drop m (v.pair a b).ids) next ∙ k.1 ∙ sym k.0 in
     Stands-stays bag v (view.with_pair v a b (taken_pair (v.pair a b) n)) (λ z. elim z as (λ z_. ids_at (view.with_pair v a b (taken_pair (v.pair a b) n)) z_ ≡ ids_at v z_)
-        [ Untaken c d ↦ pair_keeps v.pair a b (taken_pair (v.pair a b) n) same c d | _ ↦ refl ]) (λ j. refl) h
+    [ Untaken c d ↦ pair_keeps v.pair a b (taken_pair (v.pair a b) n) same c d | _ ↦ refl ]) (λ j. refl) h
 taken_by bag v a b n (Some i) is h =
     let u = record (view.with_pair v a b (taken_pair (v.pair a b) n)) { inbox = at_machine v.inbox b (v.inbox b ++ i ∷ []) } in
     let next : (v.pair a b).taken + 1 ≡ suc (v.pair a b).taken = omega arith in

@@ -20,10 +20,13 @@ learnt f p k q = if pid_eq p q then k else f q
 
 pub all_learnt : (f : Pid → Known) (p : Pid) (k : Known) (ps : List Pid) → (f p ≡ Here → k ≡ Here) → AllHere f ps → AllHere (learnt f p k) ps
 all_learnt f p k [] keeps h = tt
-all_learnt f p k (q ∷ qs) keeps h = (elim (cases_Bool (pid_eq p q)) [
-  | inl same ↦ ap (λ (c : Bool). if c then k else f q) same ∙ keeps (ap f (pid_eq-is p q same) ∙ h.0)
-  | inr apart ↦ ap (λ (c : Bool). if c then k else f q) apart ∙ h.0
-], all_learnt f p k qs keeps h.1)
+all_learnt f p k (q ∷ qs) keeps h = (
+  elim (cases_Bool (pid_eq p q)) [
+    | inl same ↦ ap (λ (c : Bool). if c then k else f q) same ∙ keeps (ap f (pid_eq-is p q same) ∙ h.0)
+    | inr apart ↦ ap (λ (c : Bool). if c then k else f q) apart ∙ h.0
+  ],
+  all_learnt f p k qs keeps h.1,
+)
 
 -- the others of a ring
 without_row : (f g : Pid → Known) (p q : Pid) (ps : List Pid) (b : Bool) → pid_eq p q ≡ b → ((x : Pid) → pid_eq p x ≡ false → f x ≡ Here → g x ≡ Here) → f q ≡ Here → AllHere g ps → AllHere g (if not b then q ∷ ps else ps)

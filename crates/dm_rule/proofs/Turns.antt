@@ -152,6 +152,6 @@ all_dropped (j ∷ js) pt p w h front e =
     let next = moved pt (Line.Label (Label.Dropped j)) k.s in
     let told = queue_told pt j js p k.s h front is in
     let acting : next.view.acting ≡ pt.view.acting = elim (receiver_of (pt.view.told j)) as (λ o. (view.dropped_for (handled pt.view j) j o).acting ≡ pt.view.acting)
-        [ None ↦ refl | Some p ↦ refl ] in
+    [ None ↦ refl | Some p ↦ refl ] in
     let left : next.view.queue next.view.acting p ≡ js = ap (λ m. next.view.queue m p) acting ∙ dropped_queue pt.view j js p (receiver_of (pt.view.told j)) told front in
     State-at None k.rest.point w.point k.point (all_dropped js next p k.rest (queue_front pt k.s j js p h front is) left k.more)

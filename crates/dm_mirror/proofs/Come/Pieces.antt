@@ -199,7 +199,7 @@ state_by b m pt l records k y p c a chunk h false is takes took asked test =
       front_gone y.id c.ids (v.inbox m) c.box,
       asked_others,
       subst (λ (n : ℕ). IsAsked a.process n (Chunk (chunk + 1)))
-      (sym (ap (λ (d : Bool). if d then (v.asked p + 1) else v.asked p) (pid_eq-same p))) asked,
+          (sym (ap (λ (d : Bool). if d then (v.asked p + 1) else v.asked p) (pid_eq-same p))) asked,
     ))
 
 pub turns_state : (b : Boot) (m : ℕ) (pt : Point) (l : Placed) (records : AllRecords) (k : KernelState) (y : Message) (p : Pid) (q : Pid) (chunk : ℕ) (last : Bool) (bytes : _) → Comes b m pt l records k y p → y.what ≡ What.State q chunk last bytes → TurnsAt b m pt l records k
@@ -234,7 +234,7 @@ memory_by b m pt l records k y p c a block h true is takes took asked test later
       front_gone y.id c.ids (v.inbox m) c.box,
       asked_others,
       subst (λ (n : ℕ). IsAsked a.process n (Block (block + 1)))
-      (sym (ap (λ (d : Bool). if d then (v.asked p + 1) else v.asked p) (pid_eq-same p))) asked,
+          (sym (ap (λ (d : Bool). if d then (v.asked p + 1) else v.asked p) (pid_eq-same p))) asked,
     ))
 memory_by b m pt l records k y p c a block h false is takes took asked test later =
     turns_piece b m pt l records k y p c a (search (

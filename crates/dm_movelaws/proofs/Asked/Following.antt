@@ -1,9 +1,9 @@
 -- A process follows a request to move only while it moves.
-use Rattle.dm_movelaws.proofs.Names.{◌≡◌, ℕ, ◌==◌, Bool, true, false, refl, ap, ◌∙◌, sym, inl, inr, if◌then◌else◌, Option, Some, is_some, cases_Bool, false≢true, Pid, MsgId, MessageKind, Boot, Alive, PlainProcess, Point, View, Known}
-use Rattle.dm_movelaws.proofs.Names.{Phase, Nowhere, Rests, Over, Moves, knows, is_here, is_over, IsIn, first_point, is_server, eq_self, run_always, nat_tests, arith, FollowsWhileMoving, MoveNote, Based, List}
-use Rattle.dm_movelaws.proofs.Names.{[], ◌∷◌, ◌++◌, subst, None, pid_eq, Stage, Outcome, manager, Label, OneKernel, PlainMessage, PlainWhat, with_note, without_message, with_sent, Step, Line, Told, Here, Addresses, label_of, kernel_after}
-use Rattle.dm_movelaws.proofs.Names.{Part, Says, Routes, Spelled, spelled, outcome, sends_on, to_kernel, forwards_on, answers_move, leaves_for, IsNetLine, by_round, by_handles, by_hears, by_forwards, by_migrates, by_outcome, by_step, bind}
-use Rattle.dm_movelaws.proofs.Names.{bind-is, said_by, plain_kind, answer_id, asked_noted, ends_move-is, begun, asks, ◌+◌, ◌≤◌, id_eq, id_eq-is, id_eq-same, in_bag, entry, reception, replay, Sound, after_step, not_true}
+use Rattle.dm_movelaws.proofs.Names.{◌≡◌, ℕ, ◌==◌, Bool, true, false, refl, ap, ◌∙◌, sym, inl, inr, if◌then◌else◌, Option, Some, is_some, cases_Bool, false≢true, Pid, MsgId, MessageKind, Boot, Alive, PlainProcess, Point, View, Known, Phase}
+use Rattle.dm_movelaws.proofs.Names.{Nowhere, Rests, Over, Moves, knows, is_here, is_over, IsIn, first_point, is_server, eq_self, run_always, nat_tests, arith, FollowsWhileMoving, MoveNote, Based, List, [], ◌∷◌, ◌++◌, subst, None, pid_eq}
+use Rattle.dm_movelaws.proofs.Names.{Stage, Outcome, manager, Label, OneKernel, PlainMessage, PlainWhat, with_note, without_message, with_sent, Step, Line, Told, Here, Addresses, label_of, kernel_after, Part, Says, Routes, Spelled, spelled}
+use Rattle.dm_movelaws.proofs.Names.{outcome, sends_on, to_kernel, forwards_on, answers_move, leaves_for, IsNetLine, by_round, by_handles, by_hears, by_forwards, by_migrates, by_outcome, by_step, bind, bind-is, said_by, plain_kind}
+use Rattle.dm_movelaws.proofs.Names.{answer_id, asked_noted, ends_move-is, begun, asks, ◌+◌, ◌≤◌, id_eq, id_eq-is, id_eq-same, in_bag, entry, reception, replay, Sound, after_step, not_true}
 use Rattle.dm_onekernel.specs.Service as service
 use Rattle.dm_onekernel.specs.Step as kernel
 use Rattle.dm_rule.specs.Rule as rule

@@ -1,9 +1,8 @@
 -- Where a process has ended nothing comes to its queue: each group keeps it.
 use Rattle.dm_movelaws.proofs.Names.{◌≡◌, ℕ, ◌+◌, Bool, true, false, List, [], ◌∷◌, refl, ap, ◌∙◌, sym, false≢true, Option, None, Some, Pid, MsgId, MessageKind, plain_kind, Label, Step, Line, Stage, migrates, Part, Says, Routes, Spelled}
-use Rattle.dm_movelaws.proofs.Names.{spelled, Point, at_record, View, Told, Known, Here, Ended, view_after, handled, receiver_of, IsNetLine, set_all, by_migrates, ◌++◌, ⊤, PlainMessage, Boot, manager, Addresses, forwards_on}
-use Rattle.dm_movelaws.proofs.Names.{sends_on, is_kill, Sane, by_hears, by_round, by_handles, by_forwards, queued_known, held_known, forwarded_known, proto_known, nat_tests, arith, aim, sets, Frozen, subst, PlainProcess, Life, Alive}
-use Rattle.dm_movelaws.proofs.Names.{OneKernel, after_step, is_away, kernel_after, label_of, group_of, without_id, without_front, Incoming, served_told, front_of, gone_to, Phased, KnownStands, group_keeps, Loud}
-use Rattle.dm_movelaws.proofs.Names.{keeps_by, killed_or}
+use Rattle.dm_movelaws.proofs.Names.{spelled, Point, at_record, View, Told, Known, Here, Ended, view_after, handled, receiver_of, IsNetLine, set_all, by_migrates, ◌++◌, ⊤, PlainMessage, Boot, manager, Addresses, forwards_on, sends_on}
+use Rattle.dm_movelaws.proofs.Names.{is_kill, Sane, by_hears, by_round, by_handles, by_forwards, queued_known, held_known, forwarded_known, proto_known, nat_tests, arith, aim, sets, Frozen, subst, PlainProcess, Life, Alive, OneKernel}
+use Rattle.dm_movelaws.proofs.Names.{after_step, is_away, kernel_after, label_of, group_of, without_id, without_front, Incoming, served_told, front_of, gone_to, Phased, KnownStands, group_keeps, Loud, keeps_by, killed_or}
 use Rattle.dm_rule.specs.View as view
 use Rattle.dm_rule.specs.Rule as rule
 use Rattle.dm_onekernel.specs.Step as kernel

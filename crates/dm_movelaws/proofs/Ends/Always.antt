@@ -1,8 +1,7 @@
 -- Where nothing is on its way between machines, no kernel's own message stands anywhere, and no process moves.
-use Rattle.dm_movelaws.proofs.Names.{◌≡◌, ℕ, ◌+◌, List, [], ◌∷◌, length, refl, ap, subst, arith, Pid, MsgId, Boot, IsValid, Step, Line, IsStep, Point, first_point, IsQuiet, fits, LeadsBy, Both, both_start, both_group, run_start}
-use Rattle.dm_movelaws.proofs.Names.{run_group, asks, count, EndsAlways, nat_tests, own_ends, ◌∙◌, ◌⊎◌, ◌<◌, ◌≤◌, Bool, true, false, drop, sym, inl, inr, Option, None, Some, false≢true, drop-length, PlainMessage, Phase, Moves, is_due, IsIn}
-use Rattle.dm_movelaws.proofs.Names.{told_between, Spot, Queue, Held, Inbox, Untaken, times, untaken, standing, View, Told, is_kernels, letters, kernels_fresh, under_way, kernels_by, between_of, Run, is_moving}
-use Rattle.dm_movelaws.proofs.Names.{not_true, times_self}
+use Rattle.dm_movelaws.proofs.Names.{◌≡◌, ℕ, ◌+◌, List, [], ◌∷◌, length, refl, ap, subst, arith, Pid, MsgId, Boot, IsValid, Step, Line, IsStep, Point, first_point, IsQuiet, fits, LeadsBy, Both, both_start, both_group, run_start, run_group}
+use Rattle.dm_movelaws.proofs.Names.{asks, count, EndsAlways, nat_tests, own_ends, ◌∙◌, ◌⊎◌, ◌<◌, ◌≤◌, Bool, true, false, drop, sym, inl, inr, Option, None, Some, false≢true, drop-length, PlainMessage, Phase, Moves, is_due, IsIn}
+use Rattle.dm_movelaws.proofs.Names.{told_between, Spot, Queue, Held, Inbox, Untaken, times, untaken, standing, View, Told, is_kernels, letters, kernels_fresh, under_way, kernels_by, between_of, Run, is_moving, not_true, times_self}
 use Rattle.dm_movelaws.proofs.Ends.Open.{Opens, moving_in, waits_or, IsOpen, waits_moves}
 use Rattle.dm_movelaws.proofs.Ends.Parts.{count-append, Extends, plain_in_bag}
 use Rattle.dm_movelaws.proofs.Ends.Groups.{group_balance, owned, owned_zero, own-append, leads_next}

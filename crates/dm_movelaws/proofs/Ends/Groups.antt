@@ -4,7 +4,7 @@ use Rattle.dm_movelaws.proofs.Names.{View, Told, after_head, after_put, view_aft
 use Rattle.dm_movelaws.proofs.Names.{InPhases, calm_phases, PairsFit, PacketsKeep, put_told_off, said, Sane, KnownStands, Begins, begins, WalksOf, loose_walks, begun, begun_sane, turned, resting, round_walks, handles_walks, asks, ends}
 use Rattle.dm_movelaws.proofs.Names.{count, first_none, by_migrates, by_outcome, group_is, None, false, label_of, nat_tests, seen_none, MoveNote, Outcome, PlainMessage, PlainWhat, Label, Stage, Target, Frozen, Known, Here, to_kernel}
 use Rattle.dm_movelaws.proofs.Names.{leaves_for, answers_move, said_by, part_sane, machine_in, move_target, sets, aim, asked_off, moved, is_moving, Walks, pid_eq-is, pid_eq-same, own_ends, ◌&&◌, not, ◌++◌, lines_of, LeadsBy, by_parts}
-use Rattle.dm_movelaws.proofs.Names.{is_answered_next, is_answer_by, act_of}
+use Rattle.dm_movelaws.proofs.Names.{is_answered_next, is_answer_by, act_of, hears}
 use Rattle.dm_rule.specs.Rule as rule
 use Rattle.dm_movelaws.proofs.Ends.Parts.{packet_smooth, one_if, zero_if, parts_count, round_quiet, handles_quiet, Rest, rest_packet, rest_behind, Handled, Quiets, SetsOff, part_count, unit_if, is_migrate, Extends, Still, plain_in_bag}
 use Rattle.dm_movelaws.proofs.Ends.Parts.{own_untold, smooth_same, Tame, still_same, Smooth, smooth_trans, moves_none}
@@ -13,7 +13,6 @@ use Rattle.dm_movelaws.proofs.Ends.Open.{net_level, net_asks, net_ends}
 use Rattle.dm_movelaws.proofs.Ends.Hears.{ComesOf, kernel_comes, of_if, process_comes, server_comes}
 use Rattle.dm_movelaws.proofs.Leading.{next_of, part_leads, net_says, lines_are, asker_known}
 use Rattle.dm_movelaws.proofs.Asked.Following.{Row, Plain, Ends, IsHere, Leaves, outcome_row, plain_notes, ends_notes, here_notes, leaves_notes, AllUnmarked, IsUnmarked, net_unmarked, EndLine}
-use Rattle.dm_movelaws.proofs.Names.{hears}
 
 abbrev pub is_answer_part : List Part → Bool
 is_answer_part (Says l ∷ ps) = is_answer_by (act_of l)

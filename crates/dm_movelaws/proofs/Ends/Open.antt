@@ -1,11 +1,10 @@
 -- Heads, deliveries and ticks leave all requests to move a process under way.
 use Rattle.dm_movelaws.proofs.Names.{◌≡◌, ℕ, suc, ◌+◌, ◌≤◌, Bool, true, false, List, [], ◌∷◌, length, refl, ◌∙◌, sym, subst, inl, inr, arith, if◌then◌else◌, Option, None, Some, cases_Bool, Pid, MsgId, id_eq, id_eq-is, Part, without_id}
 use Rattle.dm_movelaws.proofs.Names.{Spot, times, standing, View, Told, not_true, without_counts, asks, ends, one_of-same, off_zero, nat_tests, ◌⊎◌, ◌==◌, ◌&&◌, not, ap, false≢true, MessageKind, Known, Here, Phase, Nowhere, Rests, Over}
-use Rattle.dm_movelaws.proofs.Names.{Moves, knows, kind_comes, is_away, is_here, is_over, is_restart, is_early, is_between, IsIn, parts, InPhases, rests_here, is_moving, source_knows, pid_eq, Label, OneKernel, bind}
-use Rattle.dm_movelaws.proofs.Names.{pid_eq-is, pid_eq-same, Line, Of, view_after, handled_first, Point, label_of, kernel_after, moved, after_line, Says, Spelled, spelled, at_record, Inbox, ids_at, is_put, at_record_at, at_record_off}
-use Rattle.dm_movelaws.proofs.Names.{first_off, line_next, touches, due, front_gone, handled_spots, State, PairsFit, said, Sane, sane_line, Walks, seen_none, NothingElse, filter, ◌++◌, slice_get, Step, at_machine, at_pair, Pair, after_head}
-use Rattle.dm_movelaws.proofs.Names.{taken_id, with_pair, Queue, Held, Untaken, untaken, times-append, one_of, eq_is, eq_self, at_place, past_place, pair_keeps, IsNetLine, IsNet, early_off, acked_off, turn_off, tick_off, deliver_off}
-use Rattle.dm_movelaws.proofs.Names.{migrate_off, PacketsKeep}
+use Rattle.dm_movelaws.proofs.Names.{Moves, knows, kind_comes, is_away, is_here, is_over, is_restart, is_early, is_between, IsIn, parts, InPhases, rests_here, is_moving, source_knows, pid_eq, Label, OneKernel, bind, pid_eq-is, pid_eq-same}
+use Rattle.dm_movelaws.proofs.Names.{Line, Of, view_after, handled_first, Point, label_of, kernel_after, moved, after_line, Says, Spelled, spelled, at_record, Inbox, ids_at, is_put, at_record_at, at_record_off, first_off, line_next}
+use Rattle.dm_movelaws.proofs.Names.{touches, due, front_gone, handled_spots, State, PairsFit, said, Sane, sane_line, Walks, seen_none, NothingElse, filter, ◌++◌, slice_get, Step, at_machine, at_pair, Pair, after_head, taken_id, with_pair}
+use Rattle.dm_movelaws.proofs.Names.{Queue, Held, Untaken, untaken, times-append, one_of, eq_is, eq_self, at_place, past_place, pair_keeps, IsNetLine, IsNet, early_off, acked_off, turn_off, tick_off, deliver_off, migrate_off, PacketsKeep}
 pub use Rattle.dm_rulelaws.proofs.Goes.Own.{destination_knows as knows_target}
 pub use Rattle.dm_rule.proofs.Phases.Pieces.{not_false, and_false as and_off}
 pub use Rattle.dm_rule.proofs.Phases.Answers.{about_same}

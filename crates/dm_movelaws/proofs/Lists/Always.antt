@@ -1,9 +1,9 @@
 -- No message is queued for a server: each line keeps it, where what it queues is for a process.
-use Rattle.dm_movelaws.proofs.Names.{◌≡◌, ℕ, ◌≤◌, Bool, true, false, List, [], ◌∷◌, refl, ap, ◌∙◌, arith, Some, Pid, MsgId, PlainMessage, Boot, id_eq-same, Step, Line, Part, Spelled, Point, moved, group_of, Inbox, View, is_server}
-use Rattle.dm_movelaws.proofs.Names.{Run, ListsAlways, some_is, by_outcome, by_group, run_always, sym, inl, inr, Option, None, cases_Bool, false≢true, Spot, Queue, Held, StandsOutside, StandsRight, standing, is_kernels, stands_right}
-use Rattle.dm_movelaws.proofs.Names.{kernels_fresh, IsQueued, IsUserFor, IsFor, ListsForTheirs, user_kind, nat_tests, subst, ⊤, plain_kind, Label, bind-is, Stage, lines_of, spelled, after_line, after, at_record, Told}
-use Rattle.dm_movelaws.proofs.Names.{view_after, handled, receiver_of, IsNetLine, IsNet, is_put, hushed, line_view, set_all, killed_or, told_kept, by_parts, migrates, hears, by_migrates, IsHeardLine, Kept}
-use Rattle.dm_movelaws.proofs.Names.{kept_forward, hears_kept, goes_round, handles, Loose, loose_round, loose_handles, sets, seen}
+use Rattle.dm_movelaws.proofs.Names.{◌≡◌, ℕ, ◌≤◌, Bool, true, false, List, [], ◌∷◌, refl, ap, ◌∙◌, arith, Some, Pid, MsgId, PlainMessage, Boot, id_eq-same, Step, Line, Part, Spelled, Point, moved, group_of, Inbox, View, is_server, Run}
+use Rattle.dm_movelaws.proofs.Names.{ListsAlways, some_is, by_outcome, by_group, run_always, sym, inl, inr, Option, None, cases_Bool, false≢true, Spot, Queue, Held, StandsOutside, StandsRight, standing, is_kernels, stands_right}
+use Rattle.dm_movelaws.proofs.Names.{kernels_fresh, IsQueued, IsUserFor, IsFor, ListsForTheirs, user_kind, nat_tests, subst, ⊤, plain_kind, Label, bind-is, Stage, lines_of, spelled, after_line, after, at_record, Told, view_after, handled}
+use Rattle.dm_movelaws.proofs.Names.{receiver_of, IsNetLine, IsNet, is_put, hushed, line_view, set_all, killed_or, told_kept, by_parts, migrates, hears, by_migrates, IsHeardLine, Kept, kept_forward, hears_kept, goes_round, handles, Loose}
+use Rattle.dm_movelaws.proofs.Names.{loose_round, loose_handles, sets, seen}
 use Rattle.dm_rule.specs.Rule as rule
 use Rattle.dm_rule.specs.View as view
 use Rattle.dm_movelaws.proofs.At.RestQueues.{drops_always}

@@ -1,9 +1,10 @@
 -- Each step keeps what the messages of data moves say.
-use Rattle.dm_movelaws.proofs.Names.{◌≡◌, ℕ, ◌+◌, ◌==◌, true, false, List, [], ◌∷◌, refl, ap, ◌∙◌, sym, subst, arith, Option, None, Some, nat_tests, Pid, MsgId, id_of, PlainMessage, PlainWhat, Direction, Boot, Label}
-use Rattle.dm_movelaws.proofs.Names.{PlainProcess, PlainStatus, Moving, Life, Alive, OneKernel, answer_id, is_of_memory, replay, Step, Point, labels, entry, reception, is_piece, pending_of, after_step, Sound, bind-is}
-use Rattle.dm_movelaws.proofs.Names.{piece_fits, status_awaits, awaits, WhatFits, KernelFits, based_always, both, fits_step, group_replay, Based, HasEnded, HasPiece, MoversHavePieces, Spelled}
-use Rattle.dm_movelaws.proofs.Names.{group_of, InOrder, step_constant, ◌⊎◌, Bool, length, take, drop, inl, inr, ⊤, if◌then◌else◌, PlainLink, instruction, switchboard, manager, Reply, Why, with_process, with_sent, Called, Sends}
-use Rattle.dm_movelaws.proofs.Names.{CallNumber, answer_to, first_failed, without_message, ServerSends, board_takes_lem, manager_takes_lem, lands-is, by_step, Lives, Grown, LifeGrows, stayed, came, Outcome, without_note}
+use Rattle.dm_movelaws.proofs.Names.{◌≡◌, ℕ, ◌+◌, ◌==◌, true, false, List, [], ◌∷◌, refl, ap, ◌∙◌, sym, subst, arith, Option, None, Some, nat_tests, Pid, MsgId, id_of, PlainMessage, PlainWhat, Direction, Boot, Label, PlainProcess}
+use Rattle.dm_movelaws.proofs.Names.{PlainStatus, Moving, Life, Alive, OneKernel, answer_id, is_of_memory, replay, Step, Point, labels, entry, reception, is_piece, pending_of, after_step, Sound, bind-is, piece_fits, status_awaits, WhatFits}
+use Rattle.dm_movelaws.proofs.Names.{KernelFits, based_always, both, fits_step, group_replay, Based, HasEnded, HasPiece, MoversHavePieces, Spelled, group_of, InOrder, step_constant, ◌⊎◌, Bool, length, take, drop, inl, inr, ⊤, if◌then◌else◌}
+use Rattle.dm_movelaws.proofs.Names.{PlainLink, instruction, switchboard, manager, Reply, Why, with_process, with_sent, Called, Sends, CallNumber, answer_to, first_failed, without_message, ServerSends, board_takes_lem, manager_takes_lem}
+use Rattle.dm_movelaws.proofs.Names.{lands-is, by_step, Lives, Grown, LifeGrows, stayed, came, Outcome, without_note, answers_piece, asks_piece, plain_kind}
+use Rattle.dm_rulelaws.proofs.Names.{awaits}
 use Rattle.dm_movelaws.specs.Movers.{Moves}
 use Rattle.dm_rule.proofs.Names.{begun}
 use Rattle.dm_onekernel.specs.Kernel.{Ended}
@@ -13,7 +14,6 @@ use Rattle.dm_onekernel.specs.Pieces as pieces
 use Rattle.dm_onekernel.specs.Service as service
 use Rattle.dm_movelaws.proofs.Movers.Says.{other_end, Begins, StatusSays, Says, AllSay, still_says, fresh_says, ended_says, out_says, other_says, answer_says, Requests, request_says, set_says}
 use Rattle.dm_movelaws.proofs.After.{keeps_always}
-use Rattle.dm_movelaws.proofs.Names.{answers_piece, asks_piece, plain_kind}
 
 -- what a call sends: no message of a data move, or the request for its first piece
 abbrev CallSends : Pid → Called → Type 0

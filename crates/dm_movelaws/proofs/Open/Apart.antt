@@ -2,8 +2,8 @@
 use Rattle.dm_movelaws.proofs.Names.{◌≡◌, ◌≢◌, ℕ, ◌+◌, ◌==◌, Bool, true, false, List, [], ◌∷◌, ◌++◌, refl, ap, ◌∙◌, sym, subst, ⊤, Option, Some, false≢true, Pid, pid_of, MsgId, MessageKind, PlainMessage, Boot, Label, Why, first_number}
 use Rattle.dm_movelaws.proofs.Names.{OneKernel, bind, bind-is, Step, Line, Spares, migrates, Part, Spelled, lines_of, spelled, Moves, knows, IsIn, Point, label_of, kernel_after, moved, after_line, after, group_of, Here, SparesPart}
 use Rattle.dm_movelaws.proofs.Names.{FirstApart, ApartOf, apart_first, turns_apart, net_apart, migrates_apart, arrives_net, resends_net, Rooted, nowhere_known, moves_away, is_fixed, IsAnothersIf, moves_known, by_parts, by_group, is_some}
-use Rattle.dm_movelaws.proofs.Names.{IsValid, start, replay, ended_stays, Phase, is_between, is_restart, kind_comes, first_point, labels, moving_stays_always, is_server, agrees, LeadsBy, after_replay, Run, run_always}
-use Rattle.dm_movelaws.proofs.Names.{mark_while, IsSpared, OpenSpares, apart_is, destination_knows, server_leaves, why_ended-is, kind_leaves, nat_tests, arith}
+use Rattle.dm_movelaws.proofs.Names.{IsValid, start, replay, ended_stays, Phase, is_between, is_restart, kind_comes, first_point, labels, moving_stays_always, is_server, agrees, LeadsBy, after_replay, Run, run_always, mark_while, IsSpared}
+use Rattle.dm_movelaws.proofs.Names.{OpenSpares, apart_is, destination_knows, server_leaves, why_ended-is, kind_leaves, nat_tests, arith}
 use Rattle.dm_onekernel.specs.Kernel.{Ended}
 pub use Rattle.dm_rule.proofs.Apart.Groups.{kernel_same}
 pub use Rattle.dm_rulelaws.proofs.Goes.Own.{source_knows}

@@ -1,9 +1,9 @@
 -- While a process moves, no line answers a request that it follows: only the line by which it comes here is followed by that.
-use Rattle.dm_movelaws.proofs.Names.{◌+◌, ◌≡◌, ◌≢◌, ℕ, ◌==◌, Bool, true, false, List, [], ◌∷◌, ◌++◌, length, refl, ap, ◌∙◌, sym, subst, ⊤, is_some, if◌then◌else◌, Option, None, Some, false≢true, Pid, pid_eq}
-use Rattle.dm_movelaws.proofs.Names.{pid_eq-same, MsgId, MessageKind, plain_kind, Boot, manager, Label, OneKernel, PlainMessage, MoveNote, bind, bind-is, Step, Line, Stage, Load, Receiver, Point, label_of, kernel_after}
-use Rattle.dm_movelaws.proofs.Names.{after_line, after, moved, Part, Says, Routes, Again, Owns, Transmits, Spelled, lines_of, puts, goes_out, packet_line, spelled, group_of, own_id, Told, Here, Sane, sends_on, to_kernel}
-use Rattle.dm_movelaws.proofs.Names.{gives_piece, forwards_on, updates, migrates, left_parts, Mark, Reached, Staying, with_mark, mark_for, marks, left_open, IsNet, IsNetLine, by_net, by_hears, by_forwards, by_migrates}
-use Rattle.dm_movelaws.proofs.Names.{by_outcome, by_parts, by_group, begun, said_by, Outcome, answers_move, leaves_for, asked_noted}
+use Rattle.dm_movelaws.proofs.Names.{◌+◌, ◌≡◌, ◌≢◌, ℕ, ◌==◌, Bool, true, false, List, [], ◌∷◌, ◌++◌, length, refl, ap, ◌∙◌, sym, subst, ⊤, is_some, if◌then◌else◌, Option, None, Some, false≢true, Pid, pid_eq, pid_eq-same, MsgId, MessageKind}
+use Rattle.dm_movelaws.proofs.Names.{plain_kind, Boot, manager, Label, OneKernel, PlainMessage, MoveNote, bind, bind-is, Step, Line, Stage, Load, Receiver, Point, label_of, kernel_after, after_line, after, moved, Part, Says, Routes, Again}
+use Rattle.dm_movelaws.proofs.Names.{Owns, Transmits, Spelled, lines_of, puts, goes_out, packet_line, spelled, group_of, own_id, Told, Here, Sane, sends_on, to_kernel, gives_piece, forwards_on, updates, migrates, left_parts, Mark, Reached}
+use Rattle.dm_movelaws.proofs.Names.{Staying, with_mark, mark_for, marks, left_open, IsNet, IsNetLine, by_net, by_hears, by_forwards, by_migrates, by_outcome, by_parts, by_group, begun, said_by, Outcome, answers_move, leaves_for}
+use Rattle.dm_movelaws.proofs.Names.{asked_noted}
 use Rattle.dm_onekernel.specs.Pieces as pieces
 use Rattle.dm_rule.specs.Rule as rule
 use Rattle.dm_movelaws.proofs.Leading.{AllLines, parts_say, next_of}

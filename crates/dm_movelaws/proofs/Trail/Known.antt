@@ -5,7 +5,7 @@ use Rattle.dm_movelaws.proofs.Names.{Known, Unknown, Ended, parts, along_treads,
 use Rattle.dm_movelaws.proofs.Names.{first_view, eq_is, start_known, Carries, trails_always_by, Both, both_start, both_group, run_start, run_group, not, filter, is_some, refl, cases_Bool, false≢true, None, Place, Label, Life, OneKernel}
 use Rattle.dm_movelaws.proofs.Names.{after_step, Stage, kernel_after, at_record, Told, About, NothingElse, Here, Frozen, Forward, view_after, handled, receiver_of, served_told, hushed, grown_none, Phased, queued_known, held_known}
 use Rattle.dm_movelaws.proofs.Names.{dropped_known, Sane, label_topic, is_server, KnownStands, group_keeps, Loud, keeps_by, set_all, killed_or, named_real, is_made, IsNamed, ByHolder, ByOwn, ByRequest, ByUpdate, ByForward, queued_topic}
-use Rattle.dm_movelaws.proofs.Names.{held_topic, taken_topic, or_first, run_always, sets, topic_by, seen, label_of}
+use Rattle.dm_movelaws.proofs.Names.{held_topic, taken_topic, or_first, run_always, sets, topic_by, seen, label_of, Of}
 use Rattle.dm_rulelaws.proofs.Found.Core.{IsReal}
 use Rattle.dm_onekernel.specs.Step as kernel
 use Rattle.dm_rule.specs.View as view
@@ -16,7 +16,6 @@ use Rattle.dm_movelaws.proofs.At.RestAlways.{is_here_is as here_is, is_unknown_i
 use Rattle.dm_movelaws.proofs.Trail.Loose.{AllGood, good_fit, good_places, along_after}
 use Rattle.dm_movelaws.proofs.Trail.Rows.{group_good}
 use Rattle.dm_movelaws.proofs.Promise.Spots.{TrailKnown}
-use Rattle.dm_movelaws.proofs.Names.{Of}
 
 places_start : (b : Boot) → Places (first_view b) first_trails
 places_start b p = grind (arith, nat_tests, eq_is, start_known)

@@ -61,9 +61,11 @@ comes_fit b pt v m id (Some k) acting counts h needs server asks =
     let three = rule.manager_parts id (manage.manager_takes s.manager s.machines (length s.images) k k.what) in
     let four = rule.process_handles pt m id k (pt.view.known m k.to) in
     let last = if pid_eq k.to manager then three else four in
-    if_fits s v (k.to.num == 0) one (if pid_eq k.to switchboard then two else last) (λ e. elim k.what as (λ w. Fits pt.kernel v (rule.kernel_handles b pt m id w))
-        [ PlainWhat.Create image links ↦ (elim (slice_get b.images image) as (λ o. Fits pt.kernel v (rule.creation_parts pt m id (rule.free_room b pt m) o))
-            [ None ↦ tt | Some i ↦ creates_if pt v m id (rule.free_room b pt m) (rule.has_room (rule.free_room b pt m) i.blocks) counts h needs ]) | _ ↦ tt ])
+    if_fits s v (k.to.num == 0) one (if pid_eq k.to switchboard then two else last) (λ e. elim k.what as (λ w. Fits pt.kernel v (rule.kernel_handles b pt m id w)) [
+      | PlainWhat.Create image links ↦ (elim (slice_get b.images image) as (λ o. Fits pt.kernel v (rule.creation_parts pt m id (rule.free_room b pt m) o))
+          [ None ↦ tt | Some i ↦ creates_if pt v m id (rule.free_room b pt m) (rule.has_room (rule.free_room b pt m) i.blocks) counts h needs ])
+      | _ ↦ tt
+    ])
     (if_fits s v (pid_eq k.to switchboard) two last
     (λ e. board_fits pt v id (board.board_takes s.switchboard k k.what) (acting ∙ server k refl (or_first (pid_eq k.to switchboard) (pid_eq k.to manager) e)) needs)
     (if_fits s v (pid_eq k.to manager) three four

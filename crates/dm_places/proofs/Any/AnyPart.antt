@@ -1,12 +1,10 @@
 -- Behind the parts of a group there is a kernel with places, where there was one before.
 use Rattle.dm_places.proofs.Names.{◌≡◌, ℕ, true, false, List, [], ◌∷◌, refl, ap, ◌∙◌, sym, subst, is_some, ◌⊎◌, inl, inr, ⊤, nat_le, Option, None, Some, MsgId, PlainMessage, Label, manager, switchboard, Life, OneKernel, bind, Sound}
 use Rattle.dm_places.proofs.Names.{bind-is, after_step, Line, Told, View, is_kernels, own_id, Again, Owns, Part, Routes, Says, Spelled, Transmits, behind, lines_of, packet_line, puts, spelled, Point, after, after_line, kernel_after}
-use Rattle.dm_places.proofs.Names.{label_of, moved, not_kernels, Placed, LineNeeds, MirrorsPoint, ServersApart, StepNeeds}
+use Rattle.dm_places.proofs.Names.{label_of, moved, not_kernels, Placed, LineNeeds, MirrorsPoint, ServersApart, StepNeeds, id_of, note-is}
 use Rattle.dm_onekernel.specs.Step as kernel
 use Rattle.dm_places.proofs.Any.AnyLine.{line_follows}
 use Rattle.dm_places.proofs.Putting.{SamePoint, again_same, puts_same, routes_kernel, routes_mirrors}
-use Rattle.dm_places.proofs.Names.{id_of}
-use Rattle.dm_laws.proofs.Servers.{note-is}
 
 -- what the kernel without machines keeps
 pub record SoundAt (s : OneKernel) : Type 0 where

@@ -1,11 +1,10 @@
 -- Wherever the rule leads there is a kernel with places, where something holds at each point that gives what groups need.
 use Rattle.dm_places.proofs.Names.{◌≡◌, ℕ, ◌≤◌, ◌||◌, true, List, [], ◌∷◌, is_some, refl, ap, ◌∙◌, sym, subst, arith, Option, None, Some, nat_tests, Pid, pid_eq, MsgId, PlainMessage, Boot, IsValid, manager, switchboard, Step, start-sound}
-use Rattle.dm_places.proofs.Names.{ascends, IsStep, Leads, Spelled, Point, first_point, group_of, Inbox, Spot, standing, times, TellsRight, Told, Placed, placed_start, GroupNeeds, MirrorsPoint}
+use Rattle.dm_places.proofs.Names.{ascends, IsStep, Leads, Spelled, Point, first_point, group_of, Inbox, Spot, standing, times, TellsRight, Told, Placed, placed_start, GroupNeeds, MirrorsPoint, PlainWhat, id_of}
 use Rattle.dm_places.proofs.Any.AnyGroup.{group_follows}
 use Rattle.dm_places.proofs.Any.AnyPart.{SoundAt}
 use Rattle.dm_places.proofs.Starts.{start_mirrors}
 use Rattle.dm_rule.proofs.Phases.Leaves.{first_of}
-use Rattle.dm_places.proofs.Names.{PlainWhat, id_of}
 
 -- from a point on, and from the start
 pub run_follows : (b : Boot) (Holds : Point → Type 0) → ((p : Point) → Holds p → GroupNeeds p) → ((p : Point) (d : Step) (w : Spelled) → IsStep p.kernel.machines d → group_of b p d ≡ Some w → Holds p → Holds w.point)

@@ -1,9 +1,10 @@
 -- The holders of a process or a server that is told where another process is: their addresses follow where they know fewer moves.
-use Rattle.dm_places.proofs.Names.{◌≡◌, ℕ, zero, suc, ◌==◌, ◌&&◌, Bool, true, false, List, [], ◌∷◌, map, refl, ap, ◌∙◌, sym, subst, inl, inr, if◌then◌else◌, nat_lt, option_map, slice_get, Option, None, Some, cases_Bool, slice_get-map, Pid, arith, nat_tests}
-use Rattle.dm_places.proofs.Names.{Addr, Link, Place, pid_eq, place_of, relocated, retargeted, retargeted_link, plain_link, link_at, plain_map_retargeted, applied, status_after, MsgId, Process, Status, Line, manager, switchboard, Manager}
-use Rattle.dm_places.proofs.Names.{NamedLink, OneKernel, Switchboard, plain_process, plain_status, PlainProcess, Moving, Named, plain_named, retargeted_named, Pending, plain_child, plain_pending, retargeted_manager, retargeted_pending}
-use Rattle.dm_places.proofs.Names.{child_address, pending_request, pid_eq-is, pid_eq-same, pid_eq-swap, About, Told, View, view_after, Addresses, Answer, Child, Holder, Name, Owner, Slot, answer_link, belongs_to, is_pid, leads_to}
-use Rattle.dm_places.proofs.Names.{link_target, name_link, owner_in, owner_of, place_told, slot_of, updated, updated_to, Point, moved, SameMessage, SameProcess, Placed, Mirrors, MirrorsProcess, owner_at, MirrorsPoint, with_process}
+use Rattle.dm_places.proofs.Names.{◌≡◌, ℕ, zero, suc, ◌==◌, ◌&&◌, Bool, true, false, List, [], ◌∷◌, map, refl, ap, ◌∙◌, sym, subst, inl, inr, if◌then◌else◌, nat_lt, option_map, slice_get, Option, None, Some, cases_Bool, slice_get-map, Pid}
+use Rattle.dm_places.proofs.Names.{arith, nat_tests, Addr, Link, Place, pid_eq, place_of, relocated, retargeted, retargeted_link, plain_link, link_at, plain_map_retargeted, applied, status_after, MsgId, Process, Status, Line, manager}
+use Rattle.dm_places.proofs.Names.{switchboard, Manager, NamedLink, OneKernel, Switchboard, plain_process, plain_status, PlainProcess, Moving, Named, plain_named, retargeted_named, Pending, plain_child, plain_pending, retargeted_manager}
+use Rattle.dm_places.proofs.Names.{retargeted_pending, child_address, pending_request, pid_eq-is, pid_eq-same, pid_eq-swap, About, Told, View, view_after, Addresses, Answer, Child, Holder, Name, Owner, Slot, answer_link, belongs_to, is_pid}
+use Rattle.dm_places.proofs.Names.{leads_to, link_target, name_link, owner_in, owner_of, place_told, slot_of, updated, updated_to, Point, moved, SameMessage, SameProcess, Placed, Mirrors, MirrorsProcess, owner_at, MirrorsPoint}
+use Rattle.dm_places.proofs.Names.{with_process, AnswerNames}
 use Rattle.dm_link.specs.Places as places
 use Rattle.dm_onekernel.specs.Kernel as one
 use Rattle.dm_onekernel.specs.Manager as manage
@@ -11,7 +12,6 @@ use Rattle.dm_onekernel.specs.Step as kernel
 use Rattle.dm_switchboard.proofs.Plain as board
 use Rattle.dm_procman.proofs.Plain as managing
 use Rattle.dm_rule.specs.Addresses as addresses
-use Rattle.dm_places.proofs.Names.{AnswerNames}
 use Rattle.dm_places.proofs.Keeps.{answer_as, message_same, of_map, process_same}
 use Rattle.dm_places.proofs.Following.Followed.{kernel_process_again}
 use Rattle.dm_places.proofs.Lines.{mirrors_view}
@@ -74,7 +74,7 @@ told_process s v a q r at moves x alive h = record {
 plain_status_after : (r : Pid) (at moves : ℕ) (st : Status) → plain_status (status_after r at moves st) ≡ plain_status st
 plain_status_after r at moves (Status.Moving dir owner base own left pending) =
     ap (λ (p : Pid). Moving dir p base own left pending) (elim (places.is_behind r moves owner) as (λ b. (if b then relocated at moves owner else owner).pid ≡ owner.pid)
-        [ true ↦ refl | false ↦ refl ])
+    [ true ↦ refl | false ↦ refl ])
 plain_status_after r at moves _ = refl
 
 process_places : (s : OneKernel) (v : View) (a : Addresses) (l : Placed) (q r : Pid) (at moves : ℕ) (x : Process) (p : Pid) (z : Process) → Mirrors s v a l → l.processes q ≡ Some x → (with_process l q (Some (applied r at moves x))).processes p ≡ Some z

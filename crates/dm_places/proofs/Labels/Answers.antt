@@ -1,9 +1,9 @@
 -- Messages without links that come in another's place, with places: answers, and what kernels say of ended processes and of
 -- want of room.
 use Rattle.dm_places.proofs.Names.{◌≡◌, ℕ, List, [], ◌∷◌, Bool, refl, ap, ◌∙◌, sym, subst, if◌then◌else◌, slice_get, Option, None, Some, Link, Place, place_of, MsgId, Message, What, Label, PlainMessage, PlainWhat, plain_message, plain_what}
-use Rattle.dm_places.proofs.Names.{arith, nat_tests}
-use Rattle.dm_places.proofs.Names.{with_what, bind, OneKernel, answer_id, answer_to, answer, gone_answer, id_eq-same, bind-is, when-is, View, Addresses, answer_gets, given, gives, Receiver, Sender, unmoved, two, two_process, two_servers}
-use Rattle.dm_places.proofs.Names.{two_off, Placed, Mirrors, MirrorsMessage, enclosed, with_sent, without_message}
+use Rattle.dm_places.proofs.Names.{arith, nat_tests, with_what, bind, OneKernel, answer_id, answer_to, answer, gone_answer, id_eq-same, bind-is, when-is, View, Addresses, answer_gets, given, gives, Receiver, Sender, unmoved, two}
+use Rattle.dm_places.proofs.Names.{two_process, two_servers, two_off, Placed, Mirrors, MirrorsMessage, enclosed, with_sent, without_message, Asker, AskedBy, Gets, MirrorsKernel, MoveNote, Outcome, Pid, PlainProcess, Process, acting_place}
+use Rattle.dm_places.proofs.Names.{asker_of, gets, id_of, manager, moved_answer, pid_eq-same, plain_note, manager_request, with_note, without_note, ends_move-is}
 use Rattle.dm_onekernel.specs.Kernel as kernels
 use Rattle.dm_onekernel.specs.Service as service
 use Rattle.dm_onekernel.specs.Step as kernel
@@ -11,9 +11,6 @@ use Rattle.dm_places.proofs.Keeps.{alive_of, kernel_sent, noted_mirrors, of_map,
 use Rattle.dm_places.proofs.Labels.Calls.{stands_here}
 use Rattle.dm_places.proofs.Whats.{move_what, read_what, write_what}
 use Rattle.dm_places.proofs.Labels.Acts.{Follows, mirrors_as}
-use Rattle.dm_places.proofs.Names.{Asker, AskedBy, Gets, MirrorsKernel, MoveNote, Outcome, Pid, PlainProcess, Process, acting_place, asker_of, gets, id_of, manager, moved_answer, pid_eq-same, plain_note, manager_request, with_note}
-use Rattle.dm_places.proofs.Names.{without_note}
-use Rattle.dm_laws.proofs.Servers.{ends_move-is}
 use Rattle.dm_datamove.specs.Serving as serving
 use Rattle.dm_rule.specs.Given as giving
 use Rattle.dm_places.specs.PlacedStep as placed

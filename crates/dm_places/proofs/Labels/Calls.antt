@@ -111,7 +111,7 @@ listed_kept v a p x [] k w h some e = cc
 listed_kept v a p x (s ∷ ss) k w h some e =
     let first : is_none (link_at (map plain_slot x.table) s) ≡ false = or-left (is_none (link_at (map plain_slot x.table) s)) (one.any_empty (map plain_slot x.table) ss) some in
     listed_step v a p x s ss k w (link_at x.table s) h refl (sym (elim (link_at x.table s) as (λ o. is_none (plain_slot o) ≡ is_none o)
-        [ None ↦ refl | Some w ↦ refl ]) ∙ sym (ap is_none (slot_at x.table s)) ∙ first)
+    [ None ↦ refl | Some w ↦ refl ]) ∙ sym (ap is_none (slot_at x.table s)) ∙ first)
     (λ j f. listed_kept v a p x ss j w h (or-right (is_none (link_at (map plain_slot x.table) s)) (one.any_empty (map plain_slot x.table) ss) some) f) e
 
 emptied_at : (ss : List ℕ) (slots : List (Option Link)) (j : ℕ) (w : Link) → link_at (emptied slots ss) j ≡ Some w → link_at slots j ≡ Some w
@@ -119,7 +119,7 @@ emptied_at [] slots j w e = e
 emptied_at (s ∷ ss) slots j w e =
     let b = one.holds_reply (plain_slot (link_at slots s)) in
     ((elim b as (λ b_. link_at (if b_ then slice_set slots s None else slots) j ≡ Some w → link_at slots j ≡ Some w)
-        [ true ↦ λ e_. emptied_link slots s j w e_ | false ↦ λ e_. e_ ]) (emptied_at ss (if b then slice_set slots s None else slots) j w e))
+    [ true ↦ λ e_. emptied_link slots s j w e_ | false ↦ λ e_. e_ ]) (emptied_at ss (if b then slice_set slots s None else slots) j w e))
 
 -- a user message goes over the link in slot r1
 user_sent : (v : View) (a : Addresses) (p : Pid) (x : Process) (w : Link) → link_at x.table (reg x.regs 1) ≡ Some w → one.any_empty (map plain_slot x.table) (calls.listed x) ≡ false → MirrorsProcess v a p x

@@ -3,6 +3,7 @@ use Rattle.dm_places.proofs.Names.{◌≡◌, ℕ, suc, ◌+◌, ◌*◌, ◌==�
 use Rattle.dm_places.proofs.Names.{slice_get-map, Pid, Addr, Link, place_of, plain_link, MsgId, What, id_of, PlainMessage, PlainWhat, plain_message, manager, OneKernel, goes_over, Pending, Managing, plain_child, plain_manager}
 use Rattle.dm_places.proofs.Names.{plain_pending, answer_over, message_to, Taken, child_address, plain_numbered, plain_push, id_eq-same, View, Addresses, gets, given, Receiver, Sender, Enclosed, Child, Answer, unmoved, encloses}
 use Rattle.dm_places.proofs.Names.{enclosed_from, manager_sends, ascends, encloses_servers, encloses_process, encloses_message, encloses_at, two, enclosed_at, Placed, Mirrors, MirrorsKernel, enclosed, manager_took, without_message}
+use Rattle.dm_places.proofs.Names.{AnswerNames, Place, PlainLink, pending_request, ◌++◌, kernel_at, PendingKind}
 use Rattle.dm_onekernel.specs.Kernel as kernels
 use Rattle.dm_onekernel.specs.Manager as one
 use Rattle.dm_onekernel.specs.Service as service
@@ -10,9 +11,6 @@ use Rattle.dm_procman.specs.Taking as take
 use Rattle.dm_places.proofs.Keeps.{answer_as, came_places, kernel_out, kernel_sent, message_same, places_out, process_same}
 use Rattle.dm_places.proofs.Labels.Answers.{two_sends}
 use Rattle.dm_places.proofs.Pendings.{numbered_below, pending_last}
-use Rattle.dm_places.proofs.Names.{AnswerNames, Place, PlainLink, pending_request, ◌++◌}
-use Rattle.dm_link.specs.Places.{kernel_at}
-use Rattle.dm_onekernel.specs.declared.request.PendingKind.{PendingKind}
 
 -- the manager's requests have ascending numbers, below the number of its next message
 abbrev pub InOrder : Managing → Type 0

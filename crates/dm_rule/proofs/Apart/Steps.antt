@@ -127,6 +127,6 @@ keeps_step s p (Label.NoSpace id a b) off = keeps_bind s p (s.bag id) (λ m. ser
 keeps_step s p (Label.Asked id) off =
     keeps_bind s p (s.bag id) (λ m. bind (kernel.at_hand s m.to) (λ x. service.follows_request s id m m.what))
     (λ m there. keeps_bind s p (kernel.at_hand s m.to) (λ x. service.follows_request s id m m.what) (λ x is. elim m.what as (λ k. Keeps s p (service.follows_request s id m k))
-        [ PlainWhat.Move machine ↦ refl | _ ↦ tt ]))
+    [ PlainWhat.Move machine ↦ refl | _ ↦ tt ]))
 keeps_step s p (Label.Answered id o) off =
     keeps_bind s p (s.noted id) (λ q. bind (s.notes q) (λ n. service.ends_move s id q n o)) (λ q noted. keeps_bind s p (s.notes q) (λ n. service.ends_move s id q n o) (λ n notes. keeps_ends_move s p id q n o))

@@ -91,7 +91,7 @@ filter_home m [] f h = refl
 filter_home m (p ∷ ps) f h =
     let k = both (p.home == m) (are_home m ps) h in
     (elim (f p) as (λ b. are_home m (if b then p ∷ (filter f ps) else (filter f ps)) ≡ true)
-        [ true ↦ ap (λ (c : Bool). c && are_home m (filter f ps)) k.0 ∙ (filter_home m ps f k.1) | false ↦ (filter_home m ps f k.1) ])
+    [ true ↦ ap (λ (c : Bool). c && are_home m (filter f ps)) k.0 ∙ (filter_home m ps f k.1) | false ↦ (filter_home m ps f k.1) ])
 
 pub without_home : (m : ℕ) (p : Pid) (ps : List Pid) → are_home m ps ≡ true → are_home m (without p ps) ≡ true
 without_home m p ps h = filter_home m ps (λ q. not (pid_eq p q)) h

@@ -39,7 +39,7 @@ all_stand_without s e m i [] h = refl
 all_stand_without s e m i (j ∷ js) h =
     let w = both (stands s e m j) (all_stand s e m js) h in
     (elim (id_eq i j) as (λ b. all_stand s e m (if b then js else j ∷ (without_id i js)) ≡ true)
-        [ true ↦ w.1 | false ↦ both_true (stands s e m j) (all_stand s e m (without_id i js)) w.0 (all_stand_without s e m i js w.1) ])
+    [ true ↦ w.1 | false ↦ both_true (stands s e m j) (all_stand s e m (without_id i js)) w.0 (all_stand_without s e m i js w.1) ])
 
 pub drop_last : (s : OneKernel) (e : MsgId → ℕ) (m n : ℕ) (is : List MsgId) (i : MsgId) → all_stand s e m (drop n is) ≡ true → stands s e m i ≡ true → all_stand s e m (drop n (is ++ i ∷ [])) ≡ true
 drop_last s e m zero is i h k = all_stand_last s e m is i h k

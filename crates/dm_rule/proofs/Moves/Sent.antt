@@ -86,7 +86,7 @@ pub line_next : (pt : Point) (l : Line) (ps : List Part) (w : Spelled) → label
 line_next pt l ps w none e =
     let k = says_next pt l ps w e in
     let same : pt.kernel ≡ k.s = (elim (label_of l) as (λ o. o ≡ None → kernel_after pt.kernel o ≡ Some k.s → pt.kernel ≡ k.s)
-        [ None ↦ λ none_ is_. cc | Some l_ ↦ λ none_ is_. cc ]) none k.is in
+    [ None ↦ λ none_ is_. cc | Some l_ ↦ λ none_ is_. cc ]) none k.is in
     record { rest = k.rest; more = ap (λ s. spelled (moved pt l s) ps) same ∙ k.more; point = k.point }
 
 pub line_ends : (pt : Point) (l : Line) (w : Spelled) → label_of l ≡ None → State None (moved pt l pt.kernel) → spelled pt (Says l ∷ []) ≡ Some w → State None w.point

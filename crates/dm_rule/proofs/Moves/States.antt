@@ -192,7 +192,7 @@ by_own_put pt b k q fits h =
     let bag = letters h.own pt.kernel.bag in
     let untold : v.told i ≡ None = h.numbered v.acting (v.count v.acting) (omega arith) in
     let none : bag i ≡ None = (elim (bag i) as (λ o. bag i ≡ o → o ≡ None)
-        [ None ↦ λ is. refl | Some q ↦ λ is. absurd (let f : None ≡ Some q = sym (ap receiver_of untold) ∙ h.stands.told i q is in cc) ]) refl in
+    [ None ↦ λ is. refl | Some q ↦ λ is. absurd (let f : None ≡ Some q = sym (ap receiver_of untold) ∙ h.stands.told i q is in cc) ]) refl in
     record {
       r = h.r;
       e = h.e;

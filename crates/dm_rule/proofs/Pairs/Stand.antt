@@ -46,8 +46,11 @@ Later-trans f g h k l = record {
 
 pub WireStands-more : (g b g' b' : ℕ) (ss : List SentLoad) → g ≤ g' → b ≤ b' → WireStands g b ss → WireStands g' b' ss
 WireStands-more g b g' b' [] x y h = h
-WireStands-more g b g' b' (s ∷ ss) x y h = ((elim s.load as (λ l. LoadStands g b l → LoadStands g' b' l)
-    [ Load.Data n ↦ λ h_. omega (arith, h_) | Load.Ack n ↦ λ h_. omega (arith, h_) ]) h.0, WireStands-more g b g' b' ss x y h.1)
+WireStands-more g b g' b' (s ∷ ss) x y h = (
+  (elim s.load as (λ l. LoadStands g b l → LoadStands g' b' l)
+      [ Load.Data n ↦ λ h_. omega (arith, h_) | Load.Ack n ↦ λ h_. omega (arith, h_) ]) h.0,
+  WireStands-more g b g' b' ss x y h.1,
+)
 
 -- one more packet
 pub WireStands-put : (g b : ℕ) (ss : List SentLoad) (s : SentLoad) → WireStands g b ss → LoadStands g b s.load → WireStands g b (ss ++ s ∷ [])

@@ -30,7 +30,7 @@ rings_first [] m = tt
 rings_first (p ∷ ps) m =
     ring_row (known_at (p ∷ ps) m) p.pid (ring_at ps m) (p.pid.home == m) (first_here p.pid m (known_at ps m p.pid))
     (more_here (known_at ps m) (known_at (p ∷ ps) m) (ring_at ps m) (λ q e. elim (pid_eq p.pid q && (p.pid.home == m)) as (λ c. (if c then Here else (known_at ps m q)) ≡ Here)
-        [ true ↦ refl | false ↦ e ]) (rings_first ps m))
+    [ true ↦ refl | false ↦ e ]) (rings_first ps m))
 
 -- each process of it is made
 image_there : (b : Boot) (p : BootProcess) → p.image < length b.images → first_life b p ≡ None → ⊥
@@ -64,10 +64,16 @@ pub record Phased (pt : Point) : Type 0 where
   pub phases : InPhases pt.view
 
 pub phased_start : (b : Boot) → IsValid b → Phased (first_point b)
-phased_start b valid = record { pairs = Pairs-start b; state = State-start b valid; sane = sane_start b valid; ground = record {
-  rings = record { each = λ m. rings_first b.processes m };
-  lives = record { none = λ p is le n. known_first b [] b.processes n p valid.processes is le };
-}; phases = phases_start b }
+phased_start b valid = record {
+  pairs = Pairs-start b;
+  state = State-start b valid;
+  sane = sane_start b valid;
+  ground = record {
+    rings = record { each = λ m. rings_first b.processes m };
+    lives = record { none = λ p is le n. known_first b [] b.processes n p valid.processes is le };
+  };
+  phases = phases_start b;
+}
 
 pub phased_group : (b : Boot) (pt : Point) (d : Step) (w : Spelled) → IsStep pt.kernel.machines d → group_of b pt d ≡ Some w → Phased pt → Phased w.point
 phased_group b pt d w fit is h =

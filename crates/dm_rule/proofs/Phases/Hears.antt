@@ -33,8 +33,14 @@ quiet_row parts pt w h sane state quiet e =
     record { state = state; fits = s.fits; phases = calm_phases pt.view w.point.view s.calm h.phases }
 
 pub forwards_quiet : (v : View) (a : Addresses) (i : MsgId) (k : MessageKind) (sender : Pid) (to : ℕ) → Tame v i → AllQuiet v (forwards_on a i k sender to)
-forwards_quiet v a i k sender to tame = (tame, (tame, elim (is_told_back k) as (λ c. AllQuiet v (if c then Owns MessageKind.Update sender (a (Sender i)).at ∷ [] else []))
-    [ true ↦ (refl, tt) | false ↦ tt ]))
+forwards_quiet v a i k sender to tame = (
+  tame,
+  (
+    tame,
+    elim (is_told_back k) as (λ c. AllQuiet v (if c then Owns MessageKind.Update sender (a (Sender i)).at ∷ [] else []))
+        [ true ↦ (refl, tt) | false ↦ tt ],
+  ),
+)
 
 -- a line that ends a move is followed by the answer, if somebody asked for it
 asker_quiet : (v : View) (q : Option MoveNote) (r : Outcome) → AllQuiet v (tells_asker q r)

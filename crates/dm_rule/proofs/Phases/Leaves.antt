@@ -155,7 +155,7 @@ left_known s d m n true y e h =
 left_known s d m n false y e h =
     ap (λ (c : Bool). if c then phase.kind_leaves MessageKind.Restart d y else if d == m then kind_comes MessageKind.Restart s y else is_away y) e
     ∙ ap (λ (c : Bool). if d == m then c else is_away y) (elim y as (λ y_. kind_comes MessageKind.Restart s y_ ≡ kind_comes MessageKind.AllTaken s y_)
-        [ Unknown ↦ refl | _ ↦ refl ])
+    [ Unknown ↦ refl | _ ↦ refl ])
     ∙ sym (ap (λ (c : Bool). if c then phase.kind_leaves MessageKind.AllTaken d y else if d == m then kind_comes MessageKind.AllTaken s y else is_away y) e) ∙ h
 
 left_by : (v : View) (a m : ℕ) (p : Pid) (n : ℕ) (b : Bool) → (a == m) ≡ b → (if b && true then gone_to (v.known a p) n else v.known m p) ≡ (if b then gone_to (v.known m p) n else v.known m p)

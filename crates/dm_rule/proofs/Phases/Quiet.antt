@@ -229,8 +229,12 @@ parts_settle (p ∷ ps) v pt w quiet h is =
     let (z, more, end) = bind-is (spelled next ps) (λ (y : Spelled). Some (behind ls y)) w last in
     let f : behind ls z ≡ w = cc in
     let here : Quiet pt.view p = (elim p as (λ p_. Quiet v p_ → Quiet pt.view p_)
-        [ Says l ↦ λ h_. line_on v pt.view l h.calm h_ | Again i b ↦ λ h_. tame_on v pt.view i h.calm h_ | _ ↦ λ h_. h_ ]) quiet.0 in
+    [ Says l ↦ λ h_. line_on v pt.view l h.calm h_ | Again i b ↦ λ h_. tame_on v pt.view i h.calm h_ | _ ↦ λ h_. h_ ]) quiet.0 in
     let c = part_calm pt next p ls h.sane h.fits here lines leads in
-    let there : Settled v next = record { calm = calm_trans v pt.view next.view h.calm c.0; sane = part_sane pt next p ls ((elim p as (λ p_. Quiet pt.view p_ → Sayable p_)
-        [ Says l ↦ λ h. quiet_put pt.view l h | _ ↦ λ h. tt ]) here) lines leads h.sane; fits = c.1 } in
+    let there : Settled v next = record {
+      calm = calm_trans v pt.view next.view h.calm c.0;
+      sane = part_sane pt next p ls ((elim p as (λ p_. Quiet pt.view p_ → Sayable p_)
+          [ Says l ↦ λ h. quiet_put pt.view l h | _ ↦ λ h. tt ]) here) lines leads h.sane;
+      fits = c.1;
+    } in
     subst (λ (x : Spelled). Settled v x.point) f (parts_settle ps v next z quiet.1 there more)

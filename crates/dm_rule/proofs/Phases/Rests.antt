@@ -132,7 +132,7 @@ refused_if k s d m o true y e f h = ap (λ (c : Bool). if c then is_here Here el
 refused_if k s d m o false y e f h =
     ap (λ (c : Bool). if c then is_here y else is_away y) f
     ∙ ((elim (d == m) as (λ c_. (if c_ then kind_comes k s y else is_away y) ≡ true → is_away y ≡ true)
-        [ true ↦ λ h_. early_away k s y e h_ | false ↦ λ h_. h_ ]) (sym (ap (λ (c : Bool). if c then kind_leaves k d y else if d == m then kind_comes k s y else is_away y) f) ∙ h))
+    [ true ↦ λ h_. early_away k s y e h_ | false ↦ λ h_. h_ ]) (sym (ap (λ (c : Bool). if c then kind_leaves k d y else if d == m then kind_comes k s y else is_away y) f) ∙ h))
 
 restarted_if : (k : MessageKind) (s d m : ℕ) (o : Option MsgId) (b : Bool) (y : Known) → is_restart k ≡ true → (d == m) ≡ b → knows (Moves k s d o) m y ≡ true → knows (Rests d) m (if b then Here else y) ≡ true
 restarted_if k s d m o true y e f h = ap (λ (c : Bool). if c then is_here Here else is_away Here) f

@@ -40,7 +40,7 @@ pub token_is : (v : View) (h : InPhases v) (i : MsgId) (t : Told) (z : Spot) →
 token_is v h i t z told b st =
     let (p, about) = h.about i t told b in
     let (k, s, d, is) = (elim (h.of p) as (λ phase. IsIn v p phase → token_in phase ≡ Some i → (k : MessageKind) × (s : ℕ) × (d : ℕ) × (phase ≡ Moves k s d (Some i)))
-        [ Moves k s d id ↦ λ h_ e. (k, s, d, ap (λ (o : Option MsgId). Moves k s d o) e) | _ ↦ λ h_ e. cc ]) (h.each p) ((h.each p).alone i t z told b about st) in
+    [ Moves k s d id ↦ λ h_ e. (k, s, d, ap (λ (o : Option MsgId). Moves k s d o) e) | _ ↦ λ h_ e. cc ]) (h.each p) ((h.each p).alone i t z told b about st) in
     (p, k, s, d, about, is)
 
 -- the token of a phase

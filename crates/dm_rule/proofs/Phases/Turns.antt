@@ -104,8 +104,11 @@ pub phases_handles : (b : Boot) (o pt : Point) (m : ℕ) (i : MsgId) (msg : Plai
 phases_handles b o pt m i msg parts w h f unknown known acting is = by_handles (Into pt) b o m i msg parts (record {
   created = λ fixed w. creates_row pt i msg (pid_of m (first_number + o.kernel.made m)) true 0 0 w h f unknown;
   no_space = λ fixed slots blocks w. creates_row pt i msg (pid_of m (first_number + o.kernel.made m)) false slots blocks w h f unknown;
-  took = λ fixed sent w. quiet_parts (rule.says (Label.Took i) ∷ rule.routes sent) pt w h (tt, elim sent as (λ o. AllQuiet pt.view (rule.routes o))
-      [ None ↦ tt | Some m ↦ (tt, tt) ]);
+  took = λ fixed sent w. quiet_parts (rule.says (Label.Took i) ∷ rule.routes sent) pt w h (
+    tt,
+    elim sent as (λ o. AllQuiet pt.view (rule.routes o))
+        [ None ↦ tt | Some m ↦ (tt, tt) ],
+  );
   queued = λ to user w. quiet_parts (Says (Line.Queued i) ∷ []) pt w h (front_tame pt i msg h f, tt);
   served = λ to mild w. quiet_parts (rule.says (Label.Served i) ∷ []) pt w h (front_mild pt i msg h f mild, tt);
   answers = λ to mild j w. quiet_parts (rule.says (Label.Served i) ∷ Routes j ∷ []) pt w h (front_mild pt i msg h f mild, (tt, tt));

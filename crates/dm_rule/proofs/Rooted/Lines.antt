@@ -138,7 +138,7 @@ label_roots pt t (Label.Receive p id) need sane kept e h = roots_ring pt.kernel 
 label_roots pt t (Label.Refuse p id c) need sane kept e h = roots_ring pt.kernel t pt.view (view_after pt.view (Line.Label (Label.Refuse p id c))) p kept refl refl need h
 label_roots pt t (Label.Dropped id) need sane kept e h =
     let i = elim (receiver_of (pt.view.told id)) as (λ o. Idles (handled pt.view id) (view.dropped_for (handled pt.view id) id o))
-        [ None ↦ idles (handled pt.view id) | Some p ↦ record { known = refl; ring = refl } ] in
+    [ None ↦ idles (handled pt.view id) | Some p ↦ record { known = refl; ring = refl } ] in
     roots_idle pt.kernel t pt.view (view_after pt.view (Line.Label (Label.Dropped id))) kept (record { known = i.known; ring = i.ring }) h
 label_roots pt t (Label.Served id) need sane kept e h =
     served_roots t (handled pt.view id) (pt.view.told id) (served_lived pt t id sane kept e) (roots_idle pt.kernel t pt.view (handled pt.view id) kept (record { known = refl; ring = refl }) h)

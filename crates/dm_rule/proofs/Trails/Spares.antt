@@ -38,14 +38,14 @@ spared_receiver a i [] e = refl
 spared_receiver a i (g ∷ gs) e =
     let x = both (spares_one i g.holder) (spares i gs) e in
     ap (λ (c : Bool). if c then g.place else given a gs (Receiver i)) ((elim g.holder as (λ h. spares_one i h ≡ true → holder_eq h (Receiver i) ≡ false)
-        [ Receiver j ↦ λ e. not_is (id_eq j i) e | _ ↦ λ e. refl ]) x.0) ∙ spared_receiver a i gs x.1
+    [ Receiver j ↦ λ e. not_is (id_eq j i) e | _ ↦ λ e. refl ]) x.0) ∙ spared_receiver a i gs x.1
 
 pub spared_sender : (a : Addresses) (i : MsgId) (gs : List Gets) → spares i gs ≡ true → given a gs (Sender i) ≡ a (Sender i)
 spared_sender a i [] e = refl
 spared_sender a i (g ∷ gs) e =
     let x = both (spares_one i g.holder) (spares i gs) e in
     ap (λ (c : Bool). if c then g.place else given a gs (Sender i)) ((elim g.holder as (λ h. spares_one i h ≡ true → holder_eq h (Sender i) ≡ false)
-        [ Sender j ↦ λ e. not_is (id_eq j i) e | _ ↦ λ e. refl ]) x.0) ∙ spared_sender a i gs x.1
+    [ Sender j ↦ λ e. not_is (id_eq j i) e | _ ↦ λ e. refl ]) x.0) ∙ spared_sender a i gs x.1
 
 pub spares_both : (i : MsgId) (xs ys : List Gets) → spares i xs ≡ true → spares i ys ≡ true → spares i (xs ++ ys) ≡ true
 spares_both i [] ys e f = f

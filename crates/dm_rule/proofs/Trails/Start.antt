@@ -23,7 +23,7 @@ trail_start b p = record {
   behind = λ m k j c e f. absurd (start_no_forward (starts b.processes p && (p.home == m)) k j (sym (start_known b.processes m p) ∙ e));
   kept = λ m n c e f g.
       let some : starts b.processes p ≡ true = (elim (starts b.processes p) as (λ b_. (if b_ && (p.home == n) then Here else Unknown) ≢ Unknown → b_ ≡ true)
-          [ true ↦ λ e_. refl | false ↦ λ e_. absurd (e_ refl) ]) (λ x. e (start_known b.processes n p ∙ x)) in
+      [ true ↦ λ e_. refl | false ↦ λ e_. absurd (e_ refl) ]) (λ x. e (start_known b.processes n p ∙ x)) in
       here_not (starts b.processes p && (p.home == m)) (both_true (starts b.processes p) (p.home == m) some (start_place p c m f)) (sym (start_known b.processes m p) ∙ g);
 }
 

@@ -2,13 +2,12 @@
 use Rattle.dm_rulelaws.proofs.Names.{◌≡◌, ℕ, zero, suc, ◌+◌, ◌-◌, true, List, [], ◌∷◌, ◌++◌, length, map, replicate, refl, ap, ◌∙◌, sym, subst, is_some, nat_le, arith, Option, None, Some, false≢true, nat_tests, Pid, pid_of, PlainLink}
 use Rattle.dm_rulelaws.proofs.Names.{MsgId, PlainMessage, PlainWhat, BootImage, first_number, slots_of, Format, Life, Alive, OneKernel, with_process, with_sent, answer_id, answer_to, without_message, begun, Sound, Each, Lives, has_bytes}
 use Rattle.dm_rulelaws.proofs.Names.{LinkFits, SlotFits, ProcessFits, awaits, IsPending, WhatFits, KernelFits, PendingKind, Bool, Label, bind, PlainProcess, PlainStatus, Ready, pending_of, bind-is, status_awaits, ◌≤◌, false, ⊤}
-use Rattle.dm_rulelaws.proofs.Names.{if◌then◌else◌, common_steps, first_empty, Row, instruction, Reply, Waiting, written_at, at_hand-is, Runs, move_fits, running_is}
+use Rattle.dm_rulelaws.proofs.Names.{if◌then◌else◌, common_steps, first_empty, Row, instruction, Reply, Waiting, written_at, at_hand-is, Runs, move_fits, running_is, KeepsLengths, Regs, instruction-lengths}
 use Rattle.dm_onekernel.specs.Service as service
 use Rattle.dm_onekernel.specs.Step as kernel
 use Rattle.dm_onekernel.specs.Receiving as receiving
 use Rattle.dm_onekernel.specs.Calls as calls
 use Rattle.dm_rulelaws.proofs.Fits.Rises.{Becomes, carries, set_fits, set_at, out_fits, put_fits, pending_on, Rises, Each-on, link_on, users_on, move_on, set_rises, Goes, SentFits, Requests, CallFits, call_fits, slots_set}
-use Rattle.dm_rulelaws.proofs.Names.{KeepsLengths, Regs, instruction-lengths}
 
 -- a request is answered under its number
 pub pending_at : (s u : OneKernel) (kind : PendingKind) (id : MsgId) (m : PlainMessage) → m.id ≡ id → u.manager ≡ s.manager → IsPending s kind id → IsPending u kind (answer_id m.id)

@@ -388,12 +388,6 @@ IsFor s id = (m : PlainMessage) → s.bag id ≡ Some m → is_fixed m.to ≡ tr
 for_it : (s : OneKernel) (id : MsgId) (m : PlainMessage) → s.bag id ≡ Some m → is_fixed m.to ≡ true → IsFor s id
 for_it s id m there fixed x is = let f : Some m ≡ Some x = sym there ∙ is in let g : m ≡ x = cc in subst (λ (y : PlainMessage). is_fixed y.to ≡ true) g fixed
 
-abbrev ForThem : OneKernel → Label → Type 0
-ForThem s (Label.Took id) = IsFor s id
-ForThem s (Label.Created id child) = IsFor s id
-ForThem s (Label.NoSpace id a b) = IsFor s id
-ForThem s l = ⊤
-
 pub took_for : (s t : OneKernel) (id : MsgId) → kernel.step s (Label.Took id) ≡ Some t → IsFor s id
 took_for s t id = search (arith, by_step, for_it, kernel_fixed)
 

@@ -1,8 +1,7 @@
 -- Each group keeps what was told of kernels' own messages.
 use Rattle.dm_rulelaws.proofs.Names.{◌≡◌, ℕ, Bool, true, false, List, [], ◌∷◌, refl, ap, ◌∙◌, sym, subst, inl, inr, ⊤, if◌then◌else◌, Option, None, Some, cases_Bool, false≢true, Pid, MsgId, MessageKind, id_eq, plain_kind, Boot, Label}
-use Rattle.dm_rulelaws.proofs.Names.{OneKernel, bind, id_eq-is, bind-is, Step, Line, Stage, Receiver, Point, label_of, kernel_after, after_line, after, moved, Part, Says, Routes, Again, Owns, Transmits, Spelled, lines_of, puts}
-use Rattle.dm_rulelaws.proofs.Names.{packet_line, behind, spelled, group_of, View, About, Told, view_after, is_kernels, own_id, is_put, hushed, not_kernels, put_told_off, Sane, sane_line, part_sane, Sayable, AllSayable, outcome_sayable}
-use Rattle.dm_rulelaws.proofs.Names.{seen_none, sets}
+use Rattle.dm_rulelaws.proofs.Names.{OneKernel, bind, id_eq-is, bind-is, Step, Line, Stage, Receiver, Point, label_of, kernel_after, after_line, after, moved, Part, Says, Routes, Again, Owns, Transmits, Spelled, lines_of, puts, packet_line}
+use Rattle.dm_rulelaws.proofs.Names.{behind, spelled, group_of, View, About, Told, view_after, is_kernels, own_id, is_put, hushed, not_kernels, put_told_off, Sane, sane_line, part_sane, Sayable, AllSayable, outcome_sayable, seen_none, sets}
 use Rattle.dm_rule.specs.View as view
 use Rattle.dm_rulelaws.proofs.Runs.{Run}
 use Rattle.dm_rulelaws.proofs.Own.Told.{OwnTold, own_sort, HasNoOwn, HaveNoOwn, topic_stage, Later, OwnsFit, NoOwns, FirstOwns, ThenOwns, AnyOwns, senders_step}

@@ -12,9 +12,9 @@ pub loop-request-preserved : goal.loop-request-preserved
 loop-request-preserved c =
     let told = c.loop-request.invariant.told in
     let behind =
-        c.retarget_answer.ensures.changed
-        ∙ ap (λ xs. pending_is_behind c.args.about c.args.moves (get_or xs c.loop-request.request-index nothing)) told
-        ∙ ap (pending_is_behind c.args.about c.args.moves) (later_followed (retargeted_pending c.args.about c.args.at c.args.moves) c.loop-request.request-index c.args.pending.now nothing)
+    c.retarget_answer.ensures.changed
+    ∙ ap (λ xs. pending_is_behind c.args.about c.args.moves (get_or xs c.loop-request.request-index nothing)) told
+    ∙ ap (pending_is_behind c.args.about c.args.moves) (later_followed (retargeted_pending c.args.about c.args.at c.args.moves) c.loop-request.request-index c.args.pending.now nothing)
     in
     let next = counted_next (pending_is_behind c.args.about c.args.moves) c.loop-request.request-index c.args.pending.now nothing c.loop-request-test.true in
     record {
