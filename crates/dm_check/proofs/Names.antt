@@ -13,7 +13,7 @@ pub use Rattle.dm_switchboard.proofs.Imports.{is_general, is_name, nat_eq, switc
 pub use Rattle.dm_procman.proofs.Names.{Boot, IsValid, PlainLink, manager}
 pub use Rattle.dm_laws.proofs.Names.{Alive, BootImage, Label, Life, MoveNote, OneKernel, Pending, PlainMessage, PlainProcess, Reply, Switchboard, Why, bind, false≢true, first_number, id_of, pid_of, start, when, with_sent, ⊤}
 pub use Rattle.dm_datamove.proofs.Names.{All-nil}
-pub use Rattle.dm_rule.proofs.Names.{Addresses, Directive, IsStep, Line, NamedLink, Next, Part, Point, Spelled, Step, Todo, View, after_line, all_of, bind-is, first_point, group_of, has_mail, behind, is_quiet, next_step, outcome, spelled}
+pub use Rattle.dm_rule.proofs.Names.{Addresses, Directive, IsStep, Line, NamedLink, Next, Part, Point, Spelled, Step, Todo, View, after_line, all_of, behind, bind-is, first_point, group_of, has_mail, is_quiet, next_step, outcome, spelled}
 pub use Rattle.dm_rule.proofs.Names.{untaken}
 pub use Rattle.dm_kernel.proofs.Names.{All-head, All-tail, take_more}
 pub use Rattle.dm_rulelaws.proofs.Names.{IsRun, labels}

@@ -61,14 +61,13 @@ pub use Rattle.dm_rule.proofs.Names.{About, Addresses, Again, Child, Completing,
 pub use Rattle.dm_rule.proofs.Names.{Name, NamedLink, Next, Nexts, NothingElse, Nowhere, Of, Over, Owns, Pair, Phase, Place, Point, Queue, Receiver, Rests, Room, Routes, Says, Sender, SentLoad, ServerSends, Slot, Sort, Sound, Spelled, Spot}
 pub use Rattle.dm_rule.proofs.Names.{Stage, StandsAsBag, StandsNowhere, StandsOnce, StandsOutside, StandsRight, Step, Target, Todo, Told, Transmits, Unknown, Untaken, View, actor, addresses_after, after, after_label, after_line}
 pub use Rattle.dm_rule.proofs.Names.{after_packet, after_proto, after_put, after_step, alive-is, all_of, answers_move, ascends, at_hand-is, at_id, at_least, at_machine, at_pair, at_pid, at_record, begins, behind, behind_count, bind-is}
-pub use Rattle.dm_rule.proofs.Names.{board_takes_lem, child_number, chunks_of, comes_to, completing, counts, counts_process, dropped_for, ended, told_ended, ends_move-is, filter, first_gives, first_point, first_view, fits, forward_about}
-pub use Rattle.dm_rule.proofs.Names.{forwarded_for, forwards_on, free_room, front_of, gets, given, goes_out, gone_after, gone_to, group_of, handled, has, has_mail, hears, told_here, id_eq-is, id_eq-same, id_eq-swap}
-pub use Rattle.dm_rule.proofs.Names.{ids_at, is_apart, is_away, is_between, is_counted, is_dropped, is_due, is_early, is_here, is_kernels, is_over, is_quiet, is_restart, is_told_back, kept_from, kernel_after, kernel_hears, told_step}
-pub use Rattle.dm_rule.proofs.Names.{kind_comes, kind_leaves, known_at, knows, label_of, lands-is, leaves_for, left_true, less, lines_of, machine_in, manager_takes_lem, migrates, migrates_child, more, moved, moved_back, next_step, nexts}
-pub use Rattle.dm_rule.proofs.Names.{not_server, numbers_from, oldest, outcome, own_given, own_id, packet_line, pair_is_quiet, pid_eq-is, pid_eq-same, pieces_of, place_of, place_told, plain_kind, process_told}
-pub use Rattle.dm_rule.proofs.Names.{puts, queued_for, receiver_in, receiver_of, repeats, resends, right_true, ring_at, routed_on, seen, sender_in, sends_on, told_server, slice_get_cases, slots_of, slots_with, sort_of, spelled, standing}
-pub use Rattle.dm_rule.proofs.Names.{takes_block, takes_chunk, taking_parts, target_of, times, to_kernel, to_of, token_in, told_between, unentered, unmoved, untaken, updates, view_after, when-is, with_pair, without}
-pub use Rattle.dm_rule.proofs.Names.{without_front, without_id}
+pub use Rattle.dm_rule.proofs.Names.{board_takes_lem, child_number, chunks_of, comes_to, completing, counts, counts_process, dropped_for, ended, ends_move-is, filter, first_gives, first_point, first_view, fits, forward_about, forwarded_for}
+pub use Rattle.dm_rule.proofs.Names.{forwards_on, free_room, front_of, gets, given, goes_out, gone_after, gone_to, group_of, handled, has, has_mail, hears, id_eq-is, id_eq-same, id_eq-swap, ids_at, is_apart, is_away, is_between, is_counted}
+pub use Rattle.dm_rule.proofs.Names.{is_dropped, is_due, is_early, is_here, is_kernels, is_over, is_quiet, is_restart, is_told_back, kept_from, kernel_after, kernel_hears, kind_comes, kind_leaves, known_at, knows, label_of, lands-is}
+pub use Rattle.dm_rule.proofs.Names.{leaves_for, left_true, less, lines_of, machine_in, manager_takes_lem, migrates, migrates_child, more, moved, moved_back, next_step, nexts, not_server, numbers_from, oldest, option_and_then}
+pub use Rattle.dm_rule.proofs.Names.{option_map_or, outcome, own_given, own_id, packet_line, pair_is_quiet, pid_eq-is, pid_eq-same, pieces_of, place_of, place_told, plain_kind, process_told, puts, queued_for, receiver_in, receiver_of}
+pub use Rattle.dm_rule.proofs.Names.{repeats, resends, right_true, ring_at, routed_on, seen, sender_in, sends_on, slice_get_cases, slots_of, slots_with, sort_of, spelled, standing, takes_block, takes_chunk, taking_parts, target_of, times}
+pub use Rattle.dm_rule.proofs.Names.{to_kernel, to_of, token_in, told_between, told_ended, told_here, told_server, told_step, unentered, unmoved, untaken, updates, view_after, when-is, with_pair, without, without_front, without_id}
 pub use Rattle.dm_rule.proofs.Pairs.{Pairs, pair_home, pair_stands, pairs_stand_always}
 pub use Rattle.dm_rule.proofs.Pairs.Comes.{less-right, more-is}
 pub use Rattle.dm_rule.proofs.Pairs.Lines.{AllFit, forwarded_pair, held_pair, label_pair, onward, pair_same, proto_pair, queued_pair, stage_pair, taken_pair, touches}
@@ -151,8 +150,8 @@ pub use Rattle.dm_rulelaws.proofs.Goes.Serves.{reply_same, running_of}
 pub use Rattle.dm_rulelaws.proofs.Goes.Turns.{Droppable, IsFor, at_hand_of, droppable_on, dropped_is, queue_drops, user_dropped}
 pub use Rattle.dm_rulelaws.proofs.Names.{AllSayable, Each, InPhases, IsNet, IsNetLine, IsPending, IsRun, LeadsBy, PendingFits, Phased, Sane, Sayable, StandsAsBag-elsewhere, StandsAsBag-one, WhatFits, about_same, agrees, aim, arrives_net}
 pub use Rattle.dm_rulelaws.proofs.Names.{at_record_at, awaits, bag_answered, bag_created, bag_gone, bag_no_space, bag_served, by_hears, eq_is, eq_self, goes_between, group_is, has_bytes, has_no_queue, has_nothing_held, hushed, if_some-is}
-pub use Rattle.dm_rulelaws.proofs.Names.{inbox_is, is_fixed, is_for, tells_onward, is_put, is_server, kernels_fresh, kind_eq, labels, least_of, letters, machine_of, not_false, not_first, not_true, out_off, outcome_sayable, pair_keeps}
-pub use Rattle.dm_rulelaws.proofs.Names.{part_sane, piece_fits, proto_acting, put_at, put_told_off, resends_net, rests_here, rings, sane_line, served_id, sets, stands_right, status_awaits, times-append, token_at, token_is, told_some}
+pub use Rattle.dm_rulelaws.proofs.Names.{inbox_is, is_fixed, is_for, is_put, is_server, kernels_fresh, kind_eq, labels, least_of, letters, machine_of, not_false, not_first, not_true, out_off, outcome_sayable, pair_keeps, part_sane}
+pub use Rattle.dm_rulelaws.proofs.Names.{piece_fits, proto_acting, put_at, put_told_off, resends_net, rests_here, rings, sane_line, served_id, sets, stands_right, status_awaits, tells_onward, times-append, token_at, token_is, told_some}
 pub use Rattle.dm_rulelaws.proofs.Names.{why_code, zero_if}
 pub use Rattle.dm_rulelaws.proofs.Own.Told.{OwnTold, is_place, is_target, own_server, own_sort}
 pub use Rattle.dm_rulelaws.proofs.Queued.{IsQueued}

@@ -120,7 +120,7 @@ made_home pt next m home made others =
     let one : next.kernel.made home ≡ suc n = omega (arith, made) in
     ap (taken_of_home next m home) one
     ∙ ap (λ (r : Room). and r (taken_by next m (pid_of home (first_number + n))))
-      (same_home pt next m home n (λ k less. others (pid_of home (first_number + k)) (number_apart home (first_number + k) (pid_of home (first_number + n)) (λ e. omega (arith, e, less)))))
+    (same_home pt next m home n (λ k less. others (pid_of home (first_number + k)) (number_apart home (first_number + k) (pid_of home (first_number + n)) (λ e. omega (arith, e, less)))))
 
 made_homes : (pt next : Point) (m home homes : ℕ) → home < homes → next.kernel.made home ≡ pt.kernel.made home + 1 → ((h : ℕ) → h ≢ home → next.kernel.made h ≡ pt.kernel.made h)
     → ((q : Pid) → q ≢ pid_of home (first_number + pt.kernel.made home) → taken_by next m q ≡ taken_by pt m q)

@@ -1,7 +1,7 @@
 -- A turn with a kernel's own message at the inbox's front, a row a kind.
 use Rattle.dm_mirror.proofs.Names.{◌≡◌, ℕ, ◌<◌, false, List, [], ◌∷◌, refl, ap, ◌∙◌, sym, inl, inr, Option, None, Some, cases_Bool, Message, MsgId, PlainMessage, plain_message, Boot, IsValid, bind, FreezesWhole, IsLawfulState, KernelState}
 use Rattle.dm_mirror.proofs.Names.{Point, Known, Unknown, Here, Ended, is_fixed, OwnTold, Run, Placed, Mirrors, parts, MadeStands, AllOwnStand, KernelStands, AllRecords, TokensStand, true, subst, false≢true, Pid, What, kind_of, PlainWhat}
-use Rattle.dm_mirror.proofs.Names.{plain_what, with_what, FreezesReceiverWhole, is_between, tells_onward, Frozen, Incoming, Forward, Of, own_sort, about_of, told_of, ◌==◌, manager, pid_eq, switchboard}
+use Rattle.dm_mirror.proofs.Names.{plain_what, with_what, FreezesReceiverWhole, is_between, tells_onward, Frozen, Incoming, Forward, Of, own_sort, about_of, told_of, ◌==◌, manager, pid_eq, switchboard, sort_of}
 use Rattle.dm_mirror.proofs.Follow.Fronts.{fronted, Fronts}
 use Rattle.dm_mirror.proofs.Leave.Fronts.{heard, Hearing, three_off}
 use Rattle.dm_mirror.proofs.Turning.{TurnsAt}
@@ -15,7 +15,6 @@ use Rattle.dm_mirror.proofs.Row.Tokens.{row_turns, serve_turns}
 use Rattle.dm_mirror.proofs.Handle.Created.{BagFor, ForFixed, ForHere, ForEnded, bag_row}
 use Rattle.dm_mirror.proofs.Come.Answers.{Around, turns_come}
 use Rattle.dm_mirror.proofs.Follow.Asks.{apart_turn, front_known, migrate_apart, update_turn}
-use Rattle.dm_message.specs.Sorts.{sort_of}
 
 module _ (b : Boot) (m : ℕ) (pt : Point) (l : Placed) (records : AllRecords) (k : KernelState) (y : Message) (h : Hearing b m pt l records k y) (plain : plain_message y ≡ None) (below : m < pt.kernel.machines) (made : MadeStands pt.kernel) (around : Around b pt l) (whole : FreezesWhole k k.inbox) where
   fronts : Fronts b m pt l records k y

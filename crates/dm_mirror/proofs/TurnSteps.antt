@@ -1,8 +1,8 @@
 -- A turn, or a directive to move a process: the machine says and routes what the rule spells, or stops worn.
 use Rattle.dm_mirror.proofs.Names.{◌≡◌, ℕ, ◌+◌, ◌<◌, ◌≤◌, ◌==◌, List, [], ◌∷◌, ◌++◌, length, map, refl, ap, ◌∙◌, sym, subst, inl, inr, All, Option, Some, cases_Bool, eqb-true, All-head, All-tail, Boot, OneKernel, bind, bind-is, Step, Line}
-use Rattle.dm_mirror.proofs.Names.{Stage, Out, Spelled, spelled, Point, after_line, moved, group_of, outcome, at_machine, standing, About, Pair, begins, worn_in, PairsFit, AllSayable, Sane, outcome_sayable, sane_line, machine_of}
-use Rattle.dm_mirror.proofs.Names.{Run, Placed, Mirrors, lines_keep, IsLawfulPart, IsLawfulTurned, NodeState, Acts, Goes, Worn, acts, Spoken, spoken, WorldState, acted, world_step, GoesOn, StopsWorn, Steps, CountsStand, History, StandsWith}
-use Rattle.dm_mirror.proofs.Names.{Pid, IsMachine, IsValid, NothingElse, Target, goes_on, RunGoes, OwnTold, asks_move, MayTurn, turn, asked_lawful, turn_lawful, Part}
+use Rattle.dm_mirror.proofs.Names.{Stage, Out, Spelled, spelled, Point, after_line, moved, group_of, outcome, at_machine, standing, About, Pair, begins, worn_in, PairsFit, AllSayable, Sane, outcome_sayable, sane_line, machine_of, Run}
+use Rattle.dm_mirror.proofs.Names.{Placed, Mirrors, lines_keep, IsLawfulPart, IsLawfulTurned, NodeState, Acts, Goes, Worn, acts, Spoken, spoken, WorldState, acted, world_step, GoesOn, StopsWorn, Steps, CountsStand, History, StandsWith, Pid}
+use Rattle.dm_mirror.proofs.Names.{IsMachine, IsValid, NothingElse, Target, goes_on, RunGoes, OwnTold, asks_move, MayTurn, turn, asked_lawful, turn_lawful, Part}
 use Rattle.std.proofs.lemmas.List.{append_assoc}
 use Rattle.dm_rule.proofs.Groups.{fits}
 use Rattle.dm_world.specs.World.{turned}

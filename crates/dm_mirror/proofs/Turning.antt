@@ -1,9 +1,8 @@
 -- What a turn says before the messages that it sends are routed.
 use Rattle.dm_mirror.proofs.Names.{◌≡◌, ◌≢◌, ℕ, ◌+◌, ◌≤◌, Bool, true, false, not, ◌==◌, ◌&&◌, List, [], ◌∷◌, ◌++◌, map, is_some, ⊤, Option, None, Some, Pid, place_of, kernel_at, Message, MsgId, MessageKind, Stage, kind_of, plain_message}
 use Rattle.dm_mirror.proofs.Names.{Process, incoming_of, Boot, manager, Step, Line, Receiver, Sender, given, own_given, is_between, Point, after, moved, outcome, at_machine, Spot, Queue, Held, Inbox, Untaken, standing, Known, Here, Frozen}
-use Rattle.dm_mirror.proofs.Names.{Incoming, Ended, Of, Told, own_id, Placed, Mirrors, enclosed, KernelState, Turned, turn, AllOwnStand, about_of, told_of, KernelStands, AllRecords, Carries, TokensStand, destination_of, Part}
+use Rattle.dm_mirror.proofs.Names.{Incoming, Ended, Of, Told, own_id, Placed, Mirrors, enclosed, KernelState, Turned, turn, AllOwnStand, about_of, told_of, KernelStands, AllRecords, Carries, TokensStand, destination_of, Part, sort_of}
 use Rattle.dm_rule.specs.Parts as rule
-use Rattle.dm_message.specs.Sorts.{sort_of}
 
 -- behind the head of a turn
 abbrev pub begun : Point → ℕ → Point

@@ -1,8 +1,8 @@
 -- What the proofs of this crate name of what lies below it.
 pub use Rattle.std.proofs.Math.Seq.{drop-nil}
 pub use Rattle.std.proofs.lemmas.List.Elements.{filter-append}
-pub use Rattle.dm_processor.proofs.Names.{Bool, List, Row, [], ap, arith, drop, false, instruction, length, nat_tests, refl, suc, sym, take, true, zero, ℕ, ◌++◌, ◌+◌, ◌-◌, ◌/◌, ◌<◌, ◌∙◌, ◌∷◌, ◌≡◌, ◌≤◌}
-pub use Rattle.dm_linktable.proofs.Names.{Pid, first_empty, is_none, link_at, map, pid_eq, subst, ◌&&◌, ◌==◌, ◌≢◌}
+pub use Rattle.dm_processor.proofs.Names.{Bool, List, [], ap, arith, drop, false, instruction, length, nat_tests, refl, suc, sym, take, true, zero, ℕ, ◌++◌, ◌+◌, ◌-◌, ◌/◌, ◌<◌, ◌∙◌, ◌∷◌, ◌≡◌, ◌≤◌}
+pub use Rattle.dm_linktable.proofs.Names.{Pid, first_empty, link_at, map, pid_eq, subst, ◌&&◌, ◌==◌, ◌≢◌}
 pub use Rattle.dm_schedule.proofs.Names.{append-nil, append_assoc, drop-length, if◌then◌else◌, nat_lt, not}
 pub use Rattle.dm_process.proofs.Names.{slice_get}
 pub use Rattle.dm_onekernel.specs.Pieces.{piece_of}
@@ -39,15 +39,15 @@ pub use Rattle.dm_rule.proofs.Moves.States.{kernels_by, packet_off}
 pub use Rattle.dm_rule.proofs.Names.{About, Addresses, AddressesOn, Again, Answer, Child, Enclosed, Ended, Forward, Frozen, Gets, Held, Here, Holder, Inbox, Incoming, IsIn, IsOn, IsQuiet, IsStep, IsToken, Known, Leads, LifeGrows, Line}
 pub use Rattle.dm_rule.proofs.Names.{Load, MessageKind, Moves, Name, NamedLink, NothingElse, Nowhere, Of, Over, Owner, Owns, Pair, Part, Phase, Place, Point, Queue, Receiver, Rests, Routes, Says, Sender, ServerSends, Slot, Sort, Sound}
 pub use Rattle.dm_rule.proofs.Names.{Spares, Spelled, Spot, Stage, StandsOutside, StandsRight, Step, StoodOnTrail, Target, Told, Trail, Trails, TrailsAlways, Transmits, Trodden, Unknown, Untaken, View, accepts, actor, addresses_after}
-pub use Rattle.dm_rule.proofs.Names.{after, after_head, after_line, after_proto, after_put, after_step, alive-is, all_follow, along, answers_move, ascends, at_machine, at_pair, at_record, behind, behind_count, belongs_to, bind-is}
-pub use Rattle.dm_rule.proofs.Names.{board_takes_lem, both_true, child_links, chunks_of, counts, counts_process, destination, enclosed_from, encloses, told_ended, ends_move-is, filter, first_gives, first_point, first_trails, first_trodden}
-pub use Rattle.dm_rule.proofs.Names.{first_view, forwarded_for, forwards, forwards_on, front_of, given, gives, gives_piece, goes_out, goes_round, gone_to, group_of, handled, handled_first, hears, held_for, told_here, holder_eq, id_eq-is}
-pub use Rattle.dm_rule.proofs.Names.{id_eq-same, ids_at, is_away, is_behind, is_between, is_counted, is_dropped, is_due, is_early, is_here, is_kernels, is_over, is_pid, is_restart, is_told_back, kernel_after, kernel_hears, told_step}
-pub use Rattle.dm_rule.proofs.Names.{ends_by, kind_comes, kind_leaves, knowing, knows, label_of, lands-is, leads_to, leaves, leaves_for, left_true, length-append, lines_of, link_target, machine_in, manager_takes_burden, manager_sends}
-pub use Rattle.dm_rule.proofs.Names.{manager_takes_lem, manager_tells_burden, migrates, move_target, moved, name_link, not_server, outcome, own_given, own_id, packet_line, pending_of, pid_eq-is, pid_eq-same, pieces_of, place_told}
-pub use Rattle.dm_rule.proofs.Names.{plain_kind, process_told, puts, receiver_in, receiver_of, receives_links, receives_burden, released, right_true, seen, sender_in, sender_of, sends_on, sends_burden, sent_at, sent_off, served_told}
-pub use Rattle.dm_rule.proofs.Names.{told_server, slice_get_cases, slice_get_within, slot_after, slot_of, sort_of, spelled, standing, start-sound, stayed, taken_id, takes_block, takes_chunk, target_of, tells_asker, times, to_kernel, to_of}
-pub use Rattle.dm_rule.proofs.Names.{token_in, told_between, topic_by, trails_after, unmoved, untaken, updated, updates, view_after, why_ended-is, with_pair, with_ring, without_front, without_id, ◌||◌}
+pub use Rattle.dm_rule.proofs.Names.{after, after_head, after_line, after_put, after_step, alive-is, all_follow, along, answers_move, ascends, at_machine, at_pair, at_record, behind, behind_count, belongs_to, bind-is, board_takes_lem}
+pub use Rattle.dm_rule.proofs.Names.{both_true, burden_of, child_links, chunks_of, counts, counts_process, destination, enclosed_from, encloses, ends_by, ends_move-is, filter, first_gives, first_point, first_trails, first_trodden}
+pub use Rattle.dm_rule.proofs.Names.{first_view, forwarded_for, forwards, forwards_on, front_of, given, gives, gives_piece, goes_out, goes_round, gone_to, group_of, handled, handled_first, hears, held_for, holder_eq, id_eq-is, id_eq-same}
+pub use Rattle.dm_rule.proofs.Names.{ids_at, is_away, is_behind, is_between, is_counted, is_due, is_early, is_here, is_kernels, is_over, is_pid, is_restart, is_told_back, kernel_after, kernel_hears, kind_comes, kind_leaves, knowing, knows}
+pub use Rattle.dm_rule.proofs.Names.{label_of, lands-is, leads_to, leaves, leaves_for, left_true, length-append, lines_of, link_target, machine_in, manager_sends, manager_takes_burden, manager_takes_lem, manager_tells_burden, migrates}
+pub use Rattle.dm_rule.proofs.Names.{move_target, moved, name_link, not_server, outcome, own_given, own_id, packet_line, pending_of, pid_eq-is, pid_eq-same, pieces_of, place_told, plain_kind, process_told, puts, receiver_in, receiver_of}
+pub use Rattle.dm_rule.proofs.Names.{receives_burden, receives_links, released, right_true, seen, sender_in, sender_of, sends_burden, sends_on, sent_at, sent_off, served_told, slice_get_cases, slice_get_within, slot_after, slot_of, sort_of}
+pub use Rattle.dm_rule.proofs.Names.{spelled, standing, start-sound, stayed, taken_id, takes_block, takes_chunk, target_of, tells_asker, times, to_kernel, to_of, token_in, told_between, told_ended, told_here, told_server, told_step}
+pub use Rattle.dm_rule.proofs.Names.{topic_by, trails_after, unmoved, untaken, updated, updates, view_after, why_ended-is, with_pair, with_ring, without_front, without_id, ◌||◌}
 pub use Rattle.dm_rule.proofs.Once.{one_of-same}
 pub use Rattle.dm_rule.proofs.Pairs.Lines.{AllFit, line_view, onward, pair_same, taken_pair, touches}
 pub use Rattle.dm_rule.proofs.Pairs.Migrating.{migrates_fit}
@@ -91,7 +91,7 @@ pub use Rattle.dm_rule.specs.Rule.{handles, landing_parts}
 pub use Rattle.dm_rulelaws.proofs.Based.Always.{based_always, based_group}
 pub use Rattle.dm_rulelaws.proofs.Based.Groups.{Begins, begins, group_keeps}
 pub use Rattle.dm_rulelaws.proofs.Based.Loud.{Loud, keeps_by}
-pub use Rattle.dm_rulelaws.proofs.Based.Needs.{AllLoose, Needs, NeedsLabel, NeedsPart, Rides, Said, Serves, Steps, Unborn, Walks, WalksOf, again_rides, begun, begun_sane, loose_walks, said_by}
+pub use Rattle.dm_rulelaws.proofs.Based.Needs.{AllLoose, Needs, NeedsLabel, NeedsPart, Rides, Said, Steps, Unborn, Walks, WalksOf, again_rides, begun, begun_sane, loose_walks, said_by}
 pub use Rattle.dm_rulelaws.proofs.Based.Queues.{told_kept, user_kind}
 pub use Rattle.dm_rulelaws.proofs.Based.Rows.{handles_walks, living, resting, round_walks, turned, unborn}
 pub use Rattle.dm_rulelaws.proofs.Based.Sets.{killed_or, set_all}
@@ -114,15 +114,14 @@ pub use Rattle.dm_rulelaws.proofs.Goes.Parts.{some_is}
 pub use Rattle.dm_rulelaws.proofs.Goes.Runs.{Both, both_group, both_start}
 pub use Rattle.dm_rulelaws.proofs.Goes.Serves.{first_is}
 pub use Rattle.dm_rulelaws.proofs.Goes.Turns.{times_more, times_self}
-pub use Rattle.dm_rulelaws.proofs.Names.{AllSayable, AtHome, BagStep, Grown, InPhases, IsNet, IsNetLine, IsPending, KernelFits, KnownStands, LeadsBy, Links, Named, One, Outside, Phased, ReceivedAt, Rooted, SaidOn, Sane, Sayable, State}
-pub use Rattle.dm_rulelaws.proofs.Names.{Stops, WhatFits, about_same, agrees, aim, arrives_net, at_home, at_machine_at, at_place, at_record_at, awaits, bag_answered, bag_call, bag_created, bag_dropped, bag_end, bag_gone, bag_no_space}
-pub use Rattle.dm_rulelaws.proofs.Names.{bag_out, bag_ran, bag_receive, bag_refuse, bag_sends, bag_served, bag_took, bag_wait, both_lists, both_times, by_forwards, by_group, by_handles, by_hears, by_migrates, by_net, by_outcome, by_parts}
-pub use Rattle.dm_rulelaws.proofs.Names.{by_round, by_step, calm_phases, came, child_is, destination_expects, dropped_known, due, eq_is, eq_self, first_off, forwarded_back, forwarded_known, front_gone, front_kernels, front_way}
-pub use Rattle.dm_rulelaws.proofs.Names.{goes_between, group_is, grown_none, has_bytes, has_no_queue, has_nothing_held, head_calm, held_known, hidden, homes_are, hushed, is_fixed, is_kill, is_of_memory, is_piece, is_put, is_server}
-pub use Rattle.dm_rulelaws.proofs.Names.{kernels_fresh, kind_eq, label_on, label_topic, labels, left_parts, length-drop, length-take, letters, machine_of, move_fits, moves_away, not_false, not_kernels, not_true, note-is, numbered_from}
-pub use Rattle.dm_rulelaws.proofs.Names.{one_of, or_first, out_off, outcome_sayable, pair_keeps, part_sane, parts, phased_group, phased_start, pid_eq-swap, piece_fits, proto_acting, proto_known, put_at, put_told_off, queued_known, rejoins}
-pub use Rattle.dm_rulelaws.proofs.Names.{resends_net, rests_here, rooted, sane_line, second, seen_none, served_keeps, sets, source_holds, stands_right, status_awaits, tells_between, times-append, token_is, told_some, turn_off, under_way}
-pub use Rattle.dm_rulelaws.proofs.Names.{with_label}
+pub use Rattle.dm_rulelaws.proofs.Names.{AllSayable, AtHome, BagStep, Grown, InPhases, IsNet, IsNetLine, IsPending, KernelFits, KnownStands, LeadsBy, Links, Named, Outside, Phased, ReceivedAt, Rooted, SaidOn, Sane, Sayable, State, Stops}
+pub use Rattle.dm_rulelaws.proofs.Names.{WhatFits, about_same, agrees, aim, arrives_net, at_home, at_machine_at, at_place, at_record_at, awaits, bag_answered, bag_call, bag_created, bag_dropped, bag_end, bag_gone, bag_no_space, bag_out}
+pub use Rattle.dm_rulelaws.proofs.Names.{bag_ran, bag_receive, bag_refuse, bag_sends, bag_served, bag_took, bag_wait, both_lists, both_times, by_forwards, by_group, by_handles, by_hears, by_migrates, by_net, by_outcome, by_parts, by_round}
+pub use Rattle.dm_rulelaws.proofs.Names.{by_step, calm_phases, came, child_is, destination_expects, dropped_known, due, eq_is, eq_self, first_off, forwarded_back, forwarded_known, front_gone, front_kernels, front_way, goes_between}
+pub use Rattle.dm_rulelaws.proofs.Names.{group_is, grown_none, has_bytes, has_no_queue, has_nothing_held, head_calm, held_known, hidden, homes_are, hushed, is_fixed, is_kill, is_of_memory, is_piece, is_put, is_server, kernels_fresh}
+pub use Rattle.dm_rulelaws.proofs.Names.{kind_eq, label_on, label_topic, labels, left_parts, length-drop, length-take, letters, machine_of, move_fits, moves_away, not_false, not_kernels, not_true, note-is, numbered_from, one_of, or_first}
+pub use Rattle.dm_rulelaws.proofs.Names.{out_off, outcome_sayable, pair_keeps, part_sane, parts, phased_group, phased_start, pid_eq-swap, piece_fits, proto_acting, proto_known, put_at, put_told_off, queued_known, rejoins, resends_net}
+pub use Rattle.dm_rulelaws.proofs.Names.{rests_here, rooted, sane_line, second, seen_none, served_keeps, sets, source_holds, stands_right, status_awaits, tells_between, times-append, token_is, told_some, turn_off, under_way, with_label}
 pub use Rattle.dm_rulelaws.proofs.Own.Told.{is_place, own_sort}
 pub use Rattle.dm_rulelaws.proofs.Queued.{IsQueued}
 pub use Rattle.dm_rulelaws.proofs.RunLabels.{after_replay, group_replay, labels-append, replay-append}
@@ -136,7 +135,7 @@ pub use Rattle.dm_movelaws.specs.Forwards.{ForwardsTell, RequestsTell, Tells}
 pub use Rattle.dm_movelaws.specs.LifeLines.{IsPlace, IsSaid, LivesAreSaid, life_lines, stands_by, tells_life}
 pub use Rattle.dm_movelaws.specs.Links.{CountsPromise, IsThere}
 pub use Rattle.dm_movelaws.specs.Lists.{IsFor, IsUserFor, ListsAlways, ListsForTheirs}
-pub use Rattle.dm_movelaws.specs.Movers.{AnswersFor, AsksFor, HasEnded, HasPiece, MoversHavePieces, answers_piece, asks_piece}
+pub use Rattle.dm_movelaws.specs.Movers.{HasEnded, HasPiece, MoversHavePieces, answers_piece, asks_piece}
 pub use Rattle.dm_movelaws.specs.Numbers.{IsBelow, NumbersAlways}
 pub use Rattle.dm_movelaws.specs.Open.{AllOpen, IsAnothers, IsAnothersIf, IsSpared, OpenKeeps, OpenMoves, OpenSpares, OpenStays, is_open, mark_while, open_mark}
 pub use Rattle.dm_movelaws.specs.Pending.{HasOne, IsOfPending, PendingAscends, PendingHasOne, answered_by, asked_by, is_pending, requests}

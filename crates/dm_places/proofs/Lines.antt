@@ -1,11 +1,7 @@
 -- Lines that are no steps leave the kernel with places as it is, and a line that is one leads on.
 use Rattle.dm_places.proofs.Names.{◌≡◌, ℕ, List, refl, ap, ◌∙◌, sym, subst, Option, None, Some, Pid, MsgId, plain_kind, Stage, PlainMessage, MessageKind, Label, OneKernel, Step, Line, About, View, Told, after_head, after_label, handled}
-use Rattle.dm_places.proofs.Names.{view_after, Addresses, Gets, first_gives, given, own_given, Point, Placed, Mirrors, KeepsPlaces, LinesKeep, own_none, first_none}
-use Rattle.std.specs.Prelude.{◌+◌, ◌==◌, not, filter}
-use Rattle.dm_rule.specs.View.{Pair}
+use Rattle.dm_places.proofs.Names.{view_after, Addresses, Gets, first_gives, given, own_given, Point, Placed, Mirrors, KeepsPlaces, LinesKeep, own_none, first_none, ◌+◌, ◌==◌, not, filter, Pair, seen, sort_of}
 use Rattle.dm_rule.specs.View as view
-use Rattle.dm_places.proofs.Names.{seen}
-use Rattle.dm_message.specs.Sorts.{sort_of}
 
 -- another view, in which as many moves are counted
 pub mirrors_view : (s : OneKernel) (v w : View) (a : Addresses) (l : Placed) → w.moves ≡ v.moves → Mirrors s v a l → Mirrors s w a l

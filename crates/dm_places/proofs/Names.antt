@@ -4,31 +4,32 @@ pub use Rattle.dm_processor.proofs.Names.{Bool, List, Row, [], ap, arith, cond, 
 unfoldable pub use Rattle.dm_processor.specs.Instructions.{instruction}
 pub use Rattle.dm_room.proofs.Names.{remove, slice_get}
 pub use Rattle.dm_message.specs.Plain.{Read, Write}
-pub use Rattle.dm_message.specs.declared.Outcome.{Outcome}
 pub use Rattle.dm_linktable.proofs.Names.{Link, Pid, count_by, first_empty, is_none, length-map, link_at, map, pid_eq, plain_slot, slot_is_behind, subst, ◌&&◌, ◌==◌}
 pub use Rattle.dm_linktable.proofs.Plain.{plain_map_retargeted}
-pub use Rattle.dm_schedule.proofs.Names.{if◌then◌else◌, nat_lt}
+pub use Rattle.dm_schedule.proofs.Names.{if◌then◌else◌, nat_lt, not}
 pub use Rattle.dm_process.proofs.Names.{Message}
 pub use Rattle.dm_linkupdate.proofs.Names.{Addr, None, Option, Process, Some, Status, applied, relocated, retargeted, retargeted_link, status_after}
 pub use Rattle.dm_statebytes.proofs.Names.{Direction, Regs, begun_process, direction_numbered, inl, inr, nat_le, slice_set, ◌⊎◌}
-pub use Rattle.dm_migrate.proofs.Names.{PlainWhat, What, plain_message, plain_what, sent_on, with_what}
+pub use Rattle.dm_migrate.proofs.Names.{Asker, PlainWhat, What, plain_message, plain_what, sent_on, with_what}
+pub use Rattle.dm_migrate.specs.Asking.{asker_of, manager_request, moved_answer}
 pub use Rattle.dm_onekernel.specs.Start.{memory_of, zero_regs}
 pub use Rattle.dm_onekernel.specs.Step.{Machine, plain_steps}
 pub use Rattle.dm_onekernel.specs.Switchboard.{goes_over}
 pub use Rattle.dm_onekernel.specs.declared.boot.Format.{Format}
 pub use Rattle.dm_switchboard.proofs.Imports.{ArrayVec, Asked, Named, bytes_eq, is_general, is_name, is_some, named_is_behind, plain_board, plain_link, plain_named, retargeted_named, switchboard}
 pub use Rattle.dm_switchboard.proofs.Plain.{plain_answer, plain_asked, plain_asks, plain_reply}
-pub use Rattle.dm_procman.proofs.Names.{Boot, BootProcess, IsValid, Managing, MsgId, PlainLink, Taken, answer_over, at_home, child_address, child_at_home, child_named, control_link, manager, message_to, pending_is_behind}
-pub use Rattle.dm_procman.proofs.Names.{pending_request, plain_child, plain_manager, plain_pending, retargeted_manager, retargeted_pending, slice_get-map, without_pending, ◌||◌}
+pub use Rattle.dm_procman.proofs.Names.{Boot, BootProcess, IsValid, Managing, MsgId, Outcome, PendingKind, PlainLink, Taken, answer_over, at_home, child_address, child_at_home, child_named, code_of_outcome, control_link, kernel_at, manager}
+pub use Rattle.dm_procman.proofs.Names.{message_to, pending_is_behind, pending_request, plain_child, plain_manager, plain_pending, retargeted_manager, retargeted_pending, slice_get-map, without_pending, ◌||◌}
 pub use Rattle.dm_procman.proofs.Plain.{plain_bear, plain_numbered, plain_pending_numbered, plain_push, plain_without}
+pub use Rattle.dm_procman.specs.Managing.{answer_is_behind}
 pub use Rattle.dm_procman.specs.declared.pending.Pending.{Pending}
 pub use Rattle.dm_laws.proofs.Equal.{pid_eq-swap}
-pub use Rattle.dm_laws.proofs.Names.{Alive, BootImage, CallNumber, Copy, Drop, Ended, Label, Life, Make, Manager, Move, Moving, OneKernel, PlainMessage, PlainProcess, PlainStatus, Ready, Receive, Reply, Send, Switchboard, Waiting, Why}
-pub use Rattle.dm_laws.proofs.Names.{answer_id, answer_to, bind, call_number, cases_Bool, false≢true, first_failed, first_number, id_eq, id_of, option_map, pid_of, reg, ⊤}
+pub use Rattle.dm_laws.proofs.Names.{Alive, BootImage, CallNumber, Copy, Drop, Ended, Label, Life, Make, Manager, Move, MoveNote, Moving, OneKernel, PlainMessage, PlainProcess, PlainStatus, Ready, Receive, Reply, Send, Switchboard, Waiting}
+pub use Rattle.dm_laws.proofs.Names.{Why, answer_id, answer_to, bind, call_number, cases_Bool, false≢true, first_failed, first_number, id_eq, id_of, option_map, pid_of, reg, ⊤}
+pub use Rattle.dm_laws.proofs.Servers.{note-is}
 pub use Rattle.dm_datamove.proofs.Landings.{ends_plainly, goes_on_plainly}
-pub use Rattle.dm_datamove.proofs.Names.{Landing, after_serving, answer, answer_of, answer_with, landing, piece_of, plain_landed, plain_process, plain_status, serving_answer, written_at}
+pub use Rattle.dm_datamove.proofs.Names.{Landing, after_serving, answer, answer_of, answer_with, gone_answer, landing, piece_of, plain_landed, plain_process, plain_status, serving_answer, written_at}
 pub use Rattle.dm_datamove.specs.Requests.{address_of, moving, request}
-pub use Rattle.dm_datamove.specs.Serving.{gone_answer}
 pub use Rattle.dm_datamove.specs.declared.Landed.{Landed}
 pub use Rattle.dm_syscall.proofs.Completes.{status_plainly}
 pub use Rattle.dm_syscall.proofs.Names.{Completion, Done, Rest, User, calls, completes, completes_unless, completion, cons_option, emptied, is_outside, is_reply, links_in, make_refusals, map-set, move_refusals, on_mask, plain_called}
@@ -47,14 +48,14 @@ pub use Rattle.dm_rule.proofs.Homes.Serves.{child_at, gone_lands, nothing_lands,
 pub use Rattle.dm_rule.proofs.Homes.Slots.{emptied_link, past_call, set_link}
 pub use Rattle.dm_rule.proofs.Homes.Steps.{OnlySlots, gives_same, made_is, only_gives_by}
 pub use Rattle.dm_rule.proofs.Letters.{not_kernels}
-pub use Rattle.dm_rule.proofs.Names.{About, Addresses, Again, Answer, Child, Enclosed, Fault, Forward, Frozen, Gets, Here, Holder, Inbox, IsStep, Known, Leads, Line, Load, MessageKind, Name, NamedLink, Of, One, Owner, Owns, Pair, Part}
-pub use Rattle.dm_rule.proofs.Names.{Place, Point, Receiver, Routes, Says, Sender, SentLoad, Slot, Sort, Sound, Spelled, Spot, Stage, Step, TellsRight, Told, Transmits, Unknown, View, acting_place, addresses_after, after, after_head}
-pub use Rattle.dm_rule.proofs.Names.{after_label, after_line, after_step, all_follow, answer_gets, answer_link, ascends, at_machine, at_pid, behind, behind_count, belongs_to, bind-is, board_finds, board_takes_burden, board_keeps}
-pub use Rattle.dm_rule.proofs.Names.{call_gets, child_from, child_links, child_number, enclosed_from, encloses, fills, fills_by, filter_map, first_addresses, first_gives, first_point, first_view, forwarded_for, forwards, gets, given, gives}
-pub use Rattle.dm_rule.proofs.Names.{goes_out, group_of, handled, id_eq-is, id_eq-same, id_eq-swap, is_kernels, is_pid, is_told_back, kernel_after, label_of, leads_to, lines_of, link_target, links_at, manager_answers, manager_takes_burden}
-pub use Rattle.dm_rule.proofs.Names.{manager_sends, moved, name_link, nth_child, outcome, own_given, own_id, owner_in, owner_of, packet_line, pair_window, pid_eq-is, pid_eq-same, place_known, place_named, place_of}
-pub use Rattle.dm_rule.proofs.Names.{place_told, plain_kind, puts, receiver_of, receives_links, receives_burden, reply_eq, sends_burden, serves_burden, slot_after, slot_of, slots_of, slots_with, sort_of, spelled, standing}
-pub use Rattle.dm_rule.proofs.Names.{start-sound, target_of, times, told_back_gets, unmoved, updated, updated_to, view_after, when-is, why_eq}
+pub use Rattle.dm_rule.proofs.Names.{About, Addresses, Again, Answer, AskedBy, Child, Enclosed, Fault, Forward, Frozen, Gets, Here, Holder, Inbox, IsStep, Known, Leads, Line, Load, MessageKind, Name, NamedLink, Of, One, Owner, Owns, Pair}
+pub use Rattle.dm_rule.proofs.Names.{Part, Place, Point, Receiver, Routes, Says, Sender, SentLoad, Slot, Sort, Sound, Spelled, Spot, Stage, Step, TellsRight, Told, Transmits, Unknown, View, acting_place, addresses_after, after, after_head}
+pub use Rattle.dm_rule.proofs.Names.{after_label, after_line, after_step, all_follow, answer_gets, answer_link, ascends, at_hand-is, at_machine, at_pid, behind, behind_count, belongs_to, bind-is, board_finds, board_keeps}
+pub use Rattle.dm_rule.proofs.Names.{board_takes_burden, burden_of, call_gets, child_from, child_links, child_number, enclosed_from, encloses, ends_move-is, fills, fills_by, filter, filter_map, first_addresses, first_gives, first_point}
+pub use Rattle.dm_rule.proofs.Names.{first_view, forwarded_for, forwards, gets, given, gives, goes_out, group_of, handled, id_eq-is, id_eq-same, id_eq-swap, is_kernels, is_pid, is_told_back, kernel_after, label_of, landing_gets, leads_to}
+pub use Rattle.dm_rule.proofs.Names.{lines_of, link_target, links_at, manager_answers, manager_sends, manager_takes_burden, moved, name_link, nth_child, option_map_or, outcome, own_given, own_id, owner_in, owner_of, packet_line}
+pub use Rattle.dm_rule.proofs.Names.{pair_window, pid_eq-is, pid_eq-same, place_known, place_named, place_of, place_told, plain_kind, puts, receiver_of, receives_burden, receives_links, reply_eq, seen, sends_burden, serves_burden}
+pub use Rattle.dm_rule.proofs.Names.{slot_after, slot_of, slots_of, slots_with, sort_of, spelled, standing, start-sound, target_of, times, told_back_gets, unmoved, updated, updated_to, view_after, when-is, why_eq}
 pub use Rattle.dm_rule.proofs.Pairs.Moves.{or_first, or_first as or_second}
 pub use Rattle.dm_rule.proofs.Requests.{by_migrates}
 pub use Rattle.dm_rule.proofs.Worked.{hi}
@@ -64,14 +65,7 @@ pub use Rattle.dm_rule.specs.View.{first_told, is_own}
 pub use Rattle.dm_places.specs.Changes.{Changes, StepsChangeLittle, changed, is_named, receiver_in, taken, taken_out}
 pub use Rattle.dm_places.specs.Following.{GroupNeeds, LineNeeds, MirrorsPoint, ServersApart, is_among, sent_all}
 pub use Rattle.dm_places.specs.Laws.{KeepsPlaces, LinesKeep, PointDetermines, StartMirrors, StepNeeds, StepsFollow}
-pub use Rattle.dm_places.specs.Placed.{Mirrors, MirrorsKernel, MirrorsMessage, MirrorsPlaces, MirrorsProcess, Placed, enclosed, owner_at}
+pub use Rattle.dm_places.specs.Placed.{AnswerNames, Mirrors, MirrorsKernel, MirrorsMessage, MirrorsPlaces, MirrorsProcess, Placed, enclosed, owner_at, plain_note}
 pub use Rattle.dm_places.specs.PlacedStart.{placed_start, started, started_at}
-pub use Rattle.dm_places.specs.PlacedStep.{Acted, acted, acts, after_call, after_done, after_landing, board_took, completed, creates, if_ready, lands, machine_of, manager_took, placed_step, ran, running, serves, takes, with_acted}
-pub use Rattle.dm_places.specs.PlacedStep.{with_child, with_machine, with_message, with_process, with_sent, without_message}
-pub use Rattle.dm_message.specs.declared.Asker.{Asker}
-pub use Rattle.dm_migrate.specs.Asking.{asker_of, manager_request, moved_answer}
-pub use Rattle.dm_onekernel.specs.Kernel.{MoveNote}
-pub use Rattle.dm_rule.specs.Addresses.{AskedBy}
-pub use Rattle.dm_rule.specs.Point.{seen}
-pub use Rattle.dm_places.specs.Placed.{AnswerNames, plain_note}
-pub use Rattle.dm_places.specs.PlacedStep.{ends_move, with_note, without_note}
+pub use Rattle.dm_places.specs.PlacedStep.{Acted, acted, acts, after_call, after_done, after_landing, answers, board_took, completed, creates, ends_move, if_ready, lands, machine_of, manager_took, placed_step, ran, running, serves, takes}
+pub use Rattle.dm_places.specs.PlacedStep.{with_acted, with_child, with_machine, with_message, with_note, with_process, with_sent, without_message, without_note}

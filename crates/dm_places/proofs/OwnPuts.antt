@@ -1,12 +1,11 @@
 -- A message that a machine's kernel sends itself, where it is put for the first time.
-use Rattle.dm_places.proofs.Names.{◌≡◌, ℕ, zero, suc, ◌+◌, Bool, false, List, [], ◌∷◌, map, refl, ap, ◌∙◌, sym, subst, ◌⊎◌, inl, inr, arith, if◌then◌else◌, cond, slice_get, Option, None, Some, cases_Bool, Pid, Addr, Link, Place, pid_eq, nat_tests}
-use Rattle.dm_places.proofs.Names.{pid_of, place_of, MsgId, Message, What, Line, MessageKind, id_eq, id_of, plain_message, plain_child, child_named, manager, Manager, OneKernel, pid_eq-swap, at_machine, Told, View, is_own, own_id}
-use Rattle.dm_places.proofs.Names.{view_after, Addresses, Child, Gets, Receiver, Sender, child_from, child_number, first_gives, given, own_given, unmoved, Point, moved, SameMessage, SameProcess, SameServers, two, two_off}
-use Rattle.dm_places.proofs.Names.{two_process, two_servers, Placed, Mirrors, MirrorsMessage, enclosed, MirrorsPoint, with_message, KeepsPlaces, Sort, sort_of}
+use Rattle.dm_places.proofs.Names.{◌≡◌, ℕ, zero, suc, ◌+◌, Bool, false, List, [], ◌∷◌, map, refl, ap, ◌∙◌, sym, subst, ◌⊎◌, inl, inr, arith, if◌then◌else◌, cond, slice_get, Option, None, Some, cases_Bool, Pid, Addr, Link, Place, pid_eq}
+use Rattle.dm_places.proofs.Names.{nat_tests, pid_of, place_of, MsgId, Message, What, Line, MessageKind, id_eq, id_of, plain_message, plain_child, child_named, manager, Manager, OneKernel, pid_eq-swap, at_machine, Told, View, is_own}
+use Rattle.dm_places.proofs.Names.{own_id, view_after, Addresses, Child, Gets, Receiver, Sender, child_from, child_number, first_gives, given, own_given, unmoved, Point, moved, SameMessage, SameProcess, SameServers, two, two_off}
+use Rattle.dm_places.proofs.Names.{two_process, two_servers, Placed, Mirrors, MirrorsMessage, enclosed, MirrorsPoint, with_message, KeepsPlaces, Sort, sort_of, option_map_or}
 use Rattle.dm_places.proofs.Keeps.{stays_message, stays_process, stays_servers}
 use Rattle.dm_places.proofs.Following.Changed.{free_mirrors, kernel_again, places_message, this_message}
 use Rattle.dm_places.proofs.Lines.{mirrors_view}
-use Rattle.std.specs.Option.{option_map_or}
 
 -- it gets nothing then, or a receiver's and a sender's place
 abbrev OwnGives : OneKernel → View → Addresses → MsgId → Pid → Sort → Type 0

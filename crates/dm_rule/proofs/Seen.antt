@@ -1,10 +1,8 @@
 -- The view behind a line is what the line changes; only where a process is asked to move the topic is another.
 use Rattle.dm_rule.proofs.Names.{◌≡◌, Bool, refl, ap, subst, Option, None, Some, Pid, Label, OneKernel, Line, View, About, NothingElse, Target, view_after, label_of, seen, topic_by, after_stage, frozen_for, handled_first, target_of}
-use Rattle.dm_rule.proofs.Names.{sets_off, Stage, ℕ, Spot, Queue, ids_at, Of, Frozen, at_machine, at_record, without, IsUnasked}
+use Rattle.dm_rule.proofs.Names.{sets_off, Stage, ℕ, Spot, Queue, ids_at, Of, Frozen, at_machine, at_record, without, IsUnasked, option_and_then, slice_get}
 use Rattle.dm_rule.specs.View as view
 use Rattle.dm_rule.proofs.Lines.{Bag, Stands, Stands-stays}
-use Rattle.std.specs.Prelude.{option_and_then}
-use Rattle.std.specs.Prelude.{slice_get}
 
 topic_is : (s : OneKernel) (a : About) (o : Option Label) → IsUnasked o → topic_by s a o ≡ a
 topic_is s a None h = refl

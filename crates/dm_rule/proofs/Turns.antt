@@ -1,7 +1,7 @@
 -- Each turn, delivery and tick keeps that each message stands once.
 use Rattle.dm_rule.proofs.Names.{◌≡◌, ◌≢◌, ℕ, ◌≤◌, ◌==◌, ◌&&◌, Bool, true, false, List, [], ◌∷◌, refl, ap, ◌∙◌, sym, subst, arith, inl, inr, if◌then◌else◌, Option, None, Some, cases_Bool, false≢true, nat_tests, Pid, pid_eq, MsgId}
 use Rattle.dm_rule.proofs.Names.{MessageKind, Line, id_eq, Label, bind, OneKernel, at_machine, at_record, without_front, View, Told, view_after, handled, receiver_of, Point, moved, Spelled, spelled, Spot, Queue, Inbox, times, ids_at}
-use Rattle.dm_rule.proofs.Names.{standing, pid_eq-is, pid_eq-same, id_eq-same, bind-is, is_kernels, drop_parts}
+use Rattle.dm_rule.proofs.Names.{standing, pid_eq-is, pid_eq-same, id_eq-same, bind-is, is_kernels, drop_parts, sort_of}
 use Rattle.dm_onekernel.specs.Step as kernel
 use Rattle.dm_rule.specs.View as view
 use Rattle.dm_rule.proofs.Standing.{StandsAsBag-elsewhere}
@@ -12,7 +12,6 @@ use Rattle.dm_rule.proofs.Once.{one_of}
 use Rattle.dm_rule.proofs.Bags.{bag_dropped}
 use Rattle.dm_rule.proofs.States.{State, says_next, said, State-at, by_label}
 use Rattle.dm_rule.proofs.Homes.Servers.{and-both}
-use Rattle.dm_message.specs.Sorts.{sort_of}
 
 pub ended_off : (v : View) (p : Pid) (z : Spot) → ids_at (view.ended v p) z ≡ ids_at v z
 ended_off v p (Queue m q) = refl

@@ -1,8 +1,7 @@
 -- What lines do to what was routed on a pair, and to its wire.
 use Rattle.dm_runlaws.proofs.Names.{◌≡◌, ◌⊎◌, ℕ, ◌+◌, ◌≤◌, ◌<◌, ◌==◌, ◌&&◌, Bool, true, false, not, filter, List, [], ◌∷◌, ◌++◌, length, refl, ap, ◌∙◌, sym, subst, inl, inr, arith, if◌then◌else◌, Option, None, Some, cases_Bool, nat_tests}
-use Rattle.dm_runlaws.proofs.Names.{Pid, MsgId, MessageKind, bind-is, Step, Line, at_pair, Two, or, Point, after, after_line, View, Pair, view_after, after_put, marked, routed_on, gone_after, at_least, oldest, with_pair, is_full, full_route}
-use Rattle.dm_runlaws.proofs.Names.{worn_in, is_put, pair_same, taken_pair, line_view, one_longer, worn_alike}
-use Rattle.dm_rule.specs.Acts.{act_of}
+use Rattle.dm_runlaws.proofs.Names.{Pid, MsgId, MessageKind, bind-is, Step, Line, at_pair, Two, or, Point, after, after_line, View, Pair, view_after, after_put, marked, routed_on, gone_after, at_least, oldest, with_pair, is_full}
+use Rattle.dm_runlaws.proofs.Names.{full_route, worn_in, is_put, pair_same, taken_pair, line_view, one_longer, worn_alike, act_of}
 
 -- a pair is set to one with the same value of something
 pub set_keeps : {X : Type 0} (f : Pair → X) (g : ℕ → ℕ → Pair) (a b : ℕ) (p : Pair) (c d : ℕ) → f p ≡ f (g a b) → f (at_pair g a b p c d) ≡ f (g c d)

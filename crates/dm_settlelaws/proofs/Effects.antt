@@ -1,10 +1,9 @@
 -- What each line does to inboxes, and to what was routed and not taken.
 use Rattle.dm_settlelaws.proofs.Names.{◌≡◌, ℕ, ◌+◌, ◌<◌, ◌≤◌, ◌==◌, ◌&&◌, Bool, true, false, not, filter, List, [], ◌∷◌, ◌++◌, drop, refl, ap, ◌∙◌, inl, inr, arith, ⊤, if◌then◌else◌, Option, None, Some, cases_Bool, eqb_tells, nat_tests}
 use Rattle.dm_settlelaws.proofs.Names.{Pid, MsgId, MessageKind, Label, Step, Line, Stage, sum_below, at_machine, at_pair, without_front, untaken, About, NothingElse, Target, Pair, Told, View, asks_on, dropped_for, follows_by, forwarded_for}
-use Rattle.dm_settlelaws.proofs.Names.{handled, held_for, ends_by, queued_for, receiver_of, served_told, view_after, pair_same, touches, weight, weight_of, weight_to, at_machine_at}
+use Rattle.dm_settlelaws.proofs.Names.{handled, held_for, ends_by, queued_for, receiver_of, served_told, view_after, pair_same, touches, weight, weight_of, weight_to, at_machine_at, sort_of}
 use Rattle.dm_rule.specs.View as view
 use Rattle.dm_settlelaws.proofs.Weights.{first_weight, front_taken, front_weight, spike, spike_here, spike_off, sum_le, sum_moves, weight-append}
-use Rattle.dm_message.specs.Sorts.{sort_of}
 
 -- what a line does to the acting machine's inbox: nothing, its front goes, if it is this message, or whatever it is, or whatever it
 -- is unless it has gone already, or it goes and what was held for a process comes before the others

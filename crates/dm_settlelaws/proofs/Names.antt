@@ -21,11 +21,11 @@ pub use Rattle.dm_rule.proofs.Homes.Calls.{or-left}
 pub use Rattle.dm_rule.proofs.Names.{About, Addresses, Again, Child, Directive, Forward, Held, Here, Inbox, IsQuiet, IsStep, Known, Leads, Line, Load, MessageKind, Name, NamedLink, Next, NothingElse, Of, Owns, Pair, PairStands, Part, Point}
 pub use Rattle.dm_rule.proofs.Names.{Receiver, Room, Routes, Says, Sender, SentLoad, Slot, Spelled, Spot, Stage, StandsOutside, StandsRight, Step, Target, TellsRight, Todo, Told, Transmits, Untaken, View, accepts, after, after_line, all_of}
 pub use Rattle.dm_rule.proofs.Names.{answers_move, arrives, asks_on, at_id, at_least, at_machine, at_pair, behind, behind_count, bind-is, board_took, chunks_of, comes, comes_to, creation_parts, drop_parts, dropped_for, ended_handles}
-pub use Rattle.dm_rule.proofs.Names.{told_ended, filter, first_point, first_view, fits, follows_by, forwarded_for, forwards_on, free_room, goes_out, gone_after, group_of, handled, has, has_mail, has_room, hears, held_for, here_handles}
-pub use Rattle.dm_rule.proofs.Names.{told_here, id_eq-is, id_eq-same, is_between, is_kernels, is_quiet, is_told_back, kept_from, kernel_handles, kernel_hears, told_step, ends_by, leads, leads_on, leaves, leaves_for, less, let_go, lines_of}
-pub use Rattle.dm_rule.proofs.Names.{manager_parts, marked, marked_at, migrates, more, moved, next_step, numbers_from, oldest, outcome, outstanding_count, own_id, packet_line, pair_window, pieces_of, place_told, plain_kind, process_handles}
-pub use Rattle.dm_rule.proofs.Names.{process_told, puts, queued_for, receiver_of, repeats, resends, right_true, routed_on, routes, says, seen, sends_on, served_told, told_server, slice_set, spelled, standing, taken_id, takes_block}
-pub use Rattle.dm_rule.proofs.Names.{takes_chunk, takes_on, taking_parts, target_of, tells_asker, times, to_kernel, to_of, turns, untaken, view_after, without_front, ◌||◌}
+pub use Rattle.dm_rule.proofs.Names.{ends_by, filter, first_point, first_view, fits, follows_by, forwarded_for, forwards_on, free_room, goes_out, gone_after, group_of, handled, has, has_mail, has_room, hears, held_for, here_handles}
+pub use Rattle.dm_rule.proofs.Names.{id_eq-is, id_eq-same, is_between, is_kernels, is_quiet, is_told_back, kept_from, kernel_handles, kernel_hears, leads, leads_on, leaves, leaves_for, less, let_go, lines_of, manager_parts, marked}
+pub use Rattle.dm_rule.proofs.Names.{marked_at, migrates, more, moved, next_step, numbers_from, oldest, outcome, outstanding_count, own_id, packet_line, pair_window, pieces_of, place_told, plain_kind, process_handles, process_told, puts}
+pub use Rattle.dm_rule.proofs.Names.{queued_for, receiver_of, repeats, resends, right_true, routed_on, routes, says, seen, sends_on, served_told, slice_set, sort_of, spelled, standing, taken_id, takes_block, takes_chunk, takes_on}
+pub use Rattle.dm_rule.proofs.Names.{taking_parts, target_of, tells_asker, times, to_kernel, to_of, told_ended, told_here, told_server, told_step, turns, untaken, view_after, without_front, ◌||◌}
 pub use Rattle.dm_rule.proofs.Pairs.{Pairs, Pairs-always, Pairs-group, Pairs-start, acked_out_by, pair_home, pairs_stand_always}
 pub use Rattle.dm_rule.proofs.Pairs.Comes.{less-left}
 pub use Rattle.dm_rule.proofs.Pairs.Lines.{AllFit-later, Fits, Onward, fitting_goes, one_view, says_view, transmits_view, two_views}

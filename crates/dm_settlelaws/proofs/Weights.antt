@@ -1,8 +1,7 @@
 -- Weights of lists of messages, and sums over machines.
 use Rattle.dm_settlelaws.proofs.Names.{◌≡◌, ◌≢◌, ℕ, zero, suc, ◌+◌, ◌*◌, ◌<◌, ◌≤◌, ◌==◌, Bool, true, false, List, [], ◌∷◌, ◌++◌, length, refl, ap, subst, inl, inr, arith, suc-mul, if◌then◌else◌, eqb_tells, leb_tells, MsgId, id_eq}
-use Rattle.dm_settlelaws.proofs.Names.{id_eq-same, sum_below, without_front, times, one_each, weight, more_front}
+use Rattle.dm_settlelaws.proofs.Names.{id_eq-same, sum_below, without_front, times, one_each, weight, more_front, drop}
 pub use Rattle.dm_rule.proofs.Phases.Leaves.{first_of as first_times}
-use Rattle.std.specs.Prelude.{drop}
 
 pub weight-append : (f : MsgId → ℕ) (xs ys : List MsgId) → weight f (xs ++ ys) ≡ weight f xs + weight f ys
 weight-append f [] ys = omega arith

@@ -2,8 +2,8 @@
 use Rattle.dm_mirror.proofs.Names.{◌≡◌, ◌≢◌, ℕ, ◌+◌, ◌/◌, ◌<◌, ◌==◌, ◌&&◌, Bool, true, false, nat_le, List, [], length, map, refl, ap, ◌∙◌, sym, subst, arith, if◌then◌else◌, slice_get, Option, Some, false≢true, All-nil, Pid, pid_eq}
 use Rattle.dm_mirror.proofs.Names.{Message, MsgId, What, Record, Line, Stage, MessageKind, kind_of, IsLawfulMessage, Process, Taken, free_blocks, free_slots, with_reserved, incoming_of, Chunk, expected, CanMove, HasChunk, state_of, coming}
 use Rattle.dm_mirror.proofs.Names.{Boot, slots_of, plain_process, PlainProcess, pid_eq-same, told_step, Moves, kind_comes, knows, kind_leaves, Point, Room, fits, free_room, taken_at, taken_by, at_pid, at_record, Known, Unknown, Frozen}
-use Rattle.dm_mirror.proofs.Names.{Incoming, Forward, front_of, is_server, has_nothing_held, Placed, room_of, accepts, with_expected, kernel_handles, KernelState, KnownStands, KernelStands, RoomStands, AllRecords, Carries}
-use Rattle.dm_mirror.proofs.Names.{source_knows, and_false, tells_onward, nat_tests}
+use Rattle.dm_mirror.proofs.Names.{Incoming, Forward, front_of, is_server, has_nothing_held, Placed, room_of, accepts, with_expected, kernel_handles, KernelState, KnownStands, KernelStands, RoomStands, AllRecords, Carries, source_knows}
+use Rattle.dm_mirror.proofs.Names.{and_false, tells_onward, nat_tests, sort_of, drop}
 use Rattle.dm_room.specs.Room as room_
 use Rattle.dm_onekernel.specs.Step as kernel
 use Rattle.dm_rule.specs.Migrating as rule_moves
@@ -17,8 +17,6 @@ use Rattle.dm_mirror.proofs.Turning.{TurnsAt}
 use Rattle.dm_mirror.proofs.Handle.Taking.{pid_apart as pid_off, some_same}
 use Rattle.dm_mirror.proofs.Come.Restarts.{turns_restart}
 use Rattle.dm_mirror.proofs.Handle.Kills.{free_of as free_as}
-use Rattle.dm_message.specs.Sorts.{sort_of}
-use Rattle.std.specs.Prelude.{drop}
 
 room_as : (t : Taken) (r : Room) (n : ℕ) → (free_slots t ≡ r.slots) × (free_blocks t ≡ r.blocks) → room_.has_room t n ≡ rule.has_room r n
 room_as t r n h = λ i. nat_le 1 (h.0 i) && nat_le n (h.1 i)

@@ -2,8 +2,8 @@
 use Rattle.dm_mirror.proofs.Names.{◌≡◌, ℕ, ◌/◌, Bool, true, false, List, [], ◌∷◌, length, refl, ap, ◌∙◌, sym, subst, if◌then◌else◌, slice_get, Option, None, Some, Pid, pid_eq, Message, MsgId, kind_of, plain_what, Process, Record}
 use Rattle.dm_mirror.proofs.Names.{incoming_of, Wanted, Chunk, Nothing, Arrival, pull, with_piece, CanMove, coming, Boot, OneKernel, bind, plain_process, pid_eq-same, Line, Addresses, goes_between, own_given, told_step, to_kernel}
 use Rattle.dm_mirror.proofs.Names.{is_between, is_early, tells_onward, Point, after, fits, free_room, taken_at, Incoming, Known, Of, View, Placed, enclosed, room_of, piece_line, takes_piece, took_piece, kernel_handles, KernelState}
-use Rattle.dm_mirror.proofs.Names.{about_of, ComesStand, KnownStands, RoomStands, AllRecords, Carries, IsAsked, ◌+◌, ◌==◌, MessageKind, Step, Stage, arith, nat_tests, kind_comes, outcome, at_pid, without_front, About, Turned}
-use Rattle.dm_mirror.proofs.Names.{turn, apart_is, expects_is, not, nat_lt, What, Block, after_chunk, block_of, chunk_of, is_last, state_of, ComesByPieces, by_pieces, chunks_of, pieces_of, takes_block, takes_chunk, Wants, Asker}
+use Rattle.dm_mirror.proofs.Names.{about_of, ComesStand, KnownStands, RoomStands, AllRecords, Carries, IsAsked, ◌+◌, ◌==◌, MessageKind, Step, Stage, arith, nat_tests, kind_comes, outcome, at_pid, without_front, About, Turned, turn}
+use Rattle.dm_mirror.proofs.Names.{apart_is, expects_is, not, nat_lt, What, Block, after_chunk, block_of, chunk_of, is_last, state_of, ComesByPieces, by_pieces, chunks_of, pieces_of, takes_block, takes_chunk, Wants, Asker, sort_of, drop}
 use Rattle.dm_rule.proofs.Names.{Part}
 use Rattle.dm_kernel.specs.declared.part.Part.TheVariants as part
 use Rattle.dm_kernel.specs.State as machine
@@ -14,8 +14,6 @@ use Rattle.dm_mirror.proofs.Turning.{TurnsAt, begun}
 use Rattle.dm_mirror.proofs.Kernel.Sets.{on_if as if_true}
 use Rattle.dm_mirror.proofs.Follow.Fronts.{front_gone, set_self}
 use Rattle.dm_mirror.proofs.Handle.Taking.{some_same}
-use Rattle.dm_message.specs.Sorts.{sort_of}
-use Rattle.std.specs.Prelude.{drop}
 
 pub turn_kernel : (b : Boot) (m : ℕ) (pt : Point) (l : Placed) (records : AllRecords) (k : KernelState) (y : Message) (p : Pid) (c : Comes b m pt l records k y p) (a : Arrives b m pt l k y p) (o : Option Turned) → kernel_handles b (record k { inbox = c.rest }) y y.what ≡ o → turn b k ≡ o
 turn_kernel b m pt l records k y p c a o e = grind (arith, nat_tests, if_true)

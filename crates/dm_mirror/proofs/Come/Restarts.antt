@@ -2,9 +2,9 @@
 use Rattle.dm_mirror.proofs.Names.{◌≡◌, ◌≢◌, ℕ, ◌+◌, ◌/◌, ◌≤◌, ◌==◌, Bool, true, false, List, [], ◌∷◌, ◌++◌, length, map, refl, ap, ◌∙◌, sym, subst, inl, inr, arith, if◌then◌else◌, slice_get, Option, None, Some, cases_Bool, nat_tests}
 use Rattle.dm_mirror.proofs.Names.{false≢true, Pid, pid_eq, Message, MsgId, What, Record, Line, Stage, MessageKind, kind_of, Process, incoming_of, with_record, Nothing, restarted, ComesByPieces, by_pieces, Boot, bind, plain_process}
 use Rattle.dm_mirror.proofs.Names.{pid_eq-is, pid_eq-same, told_step, Moves, is_away, is_early, knows, kind_leaves, Point, moved, Room, fits, free_room, taken_at, taken_by, at_machine, at_record, Spot, Held, Inbox, standing, times, Known}
-use Rattle.dm_mirror.proofs.Names.{Unknown, Here, Frozen, Incoming, Forward, Ended, Of, View, once_at, times-append, is_server, has_no_queue, Placed, restarted_mirrors, mirrors_view, room_of, restarts, restarts_as}
-use Rattle.dm_mirror.proofs.Names.{kernel_handles, KernelState, AreMessages, KnownStands, RoomStands, AllRecords, Carries, TokensStand, destination_of, and_false, least_of, at_record_at, Asker, Outcome, Arrival, coming, tells_asker, Told}
-use Rattle.dm_mirror.proofs.Names.{is_between}
+use Rattle.dm_mirror.proofs.Names.{Unknown, Here, Frozen, Incoming, Forward, Ended, Of, View, once_at, times-append, is_server, has_no_queue, Placed, restarted_mirrors, mirrors_view, room_of, restarts, restarts_as, kernel_handles}
+use Rattle.dm_mirror.proofs.Names.{KernelState, AreMessages, KnownStands, RoomStands, AllRecords, Carries, TokensStand, destination_of, and_false, least_of, at_record_at, Asker, Outcome, Arrival, coming, tells_asker, Told, is_between}
+use Rattle.dm_mirror.proofs.Names.{sort_of, drop}
 use Rattle.dm_rule.proofs.Names.{Part}
 use Rattle.dm_places.specs.PlacedStep.{with_process}
 use Rattle.dm_migrate.specs.Way as way
@@ -21,8 +21,6 @@ use Rattle.dm_mirror.proofs.Turning.{TurnsAt, begun, has_process}
 use Rattle.dm_mirror.proofs.Leave.Stays.{messages_append as are_both}
 use Rattle.dm_mirror.proofs.Come.Pieces.{first_gone, known_incoming, outcome_kernel, turn_kernel, before}
 use Rattle.dm_mirror.proofs.Handle.Taking.{machine_off, record_off as record_away}
-use Rattle.dm_message.specs.Sorts.{sort_of}
-use Rattle.std.specs.Prelude.{drop}
 
 abbrev pub back_point : Point → ℕ → Pid → Point
 back_point pt m p = moved (begun pt m) (Line.Migration Stage.Restarted p) pt.kernel

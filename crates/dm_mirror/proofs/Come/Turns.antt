@@ -2,7 +2,7 @@
 use Rattle.dm_mirror.proofs.Names.{◌≡◌, ◌≢◌, ℕ, ◌+◌, ◌≤◌, ◌==◌, Bool, true, false, List, [], ◌∷◌, map, refl, ap, ◌∙◌, sym, subst, inl, inr, arith, if◌then◌else◌, slice_get, Option, None, Some, cases_Bool, false≢true, nat_tests, Addr, Pid}
 use Rattle.dm_mirror.proofs.Names.{pid_eq, pid_of, place_of, kernel_at, Message, MsgId, What, id_of, kind_of, plain_what, with_what, Record, Step, incoming_of, Boot, id_eq-same, pid_eq-is, Line, Addresses, Gets, Receiver, Sender, given}
 use Rattle.dm_mirror.proofs.Names.{goes_between, own_given, unmoved, to_kernel, is_between, tells_onward, Point, after, outcome, taken_at, at_machine, Spot, Inbox, standing, times, Known, Unknown, Here, Frozen, Incoming, Forward, Ended, Of}
-use Rattle.dm_mirror.proofs.Names.{View, once_at, is_server, Placed, enclosed, mirrors_view, room_of, KernelState, own, turn, about_of, told_of, KnownStands, RoomStands, AllRecords, Carries, TokensStand, destination_of, eq_is}
+use Rattle.dm_mirror.proofs.Names.{View, once_at, is_server, Placed, enclosed, mirrors_view, room_of, KernelState, own, turn, about_of, told_of, KnownStands, RoomStands, AllRecords, Carries, TokensStand, destination_of, eq_is, sort_of}
 use Rattle.dm_rule.proofs.Names.{Part}
 pub use Rattle.dm_rule.proofs.Lines.{eq_self, at_machine_at as machine_self}
 use Rattle.dm_kernel.specs.declared.part.Part.TheVariants as part
@@ -12,7 +12,6 @@ use Rattle.dm_mirror.proofs.Turning.{IsCarried, MayOwn, Nothing, Own, TurnsAt, b
 pub use Rattle.dm_mirror.proofs.End.Servers.{off as eq_off}
 use Rattle.dm_mirror.proofs.Handle.Taking.{machine_off, stands_set}
 use Rattle.dm_mirror.proofs.Leave.Fronts.{untold_next as next_untold}
-use Rattle.dm_message.specs.Sorts.{sort_of}
 
 -- the view behind the line: the message is handled, and what is known of p here and asked for of it may be new
 abbrev pub come_view : View → ℕ → Pid → List MsgId → (ℕ → Pid → Known) → (Pid → ℕ) → View

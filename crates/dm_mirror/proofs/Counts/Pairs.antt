@@ -4,7 +4,7 @@ use Rattle.dm_mirror.proofs.Names.{cases_Bool, false≢true, nat_tests, Pid, Msg
 use Rattle.dm_mirror.proofs.Names.{packet_line, puts, spelled, Point, after, moved, group_of, Spot, Untaken, standing, times, View, Pair, after_put, gone_after, is_kernels, oldest, own_id, view_after, routed_on, with_pair, migrates, to_of}
 use Rattle.dm_mirror.proofs.Names.{machine_of, Pairs, pair_stands, IsNet, IsNetLine, arrives_net, group_is, resends_net, stands_right, AllFit, onward, pair_same, migrates_fit, turns_fit, said, says_next, transmits_next, Run, told_there}
 use Rattle.dm_mirror.proofs.Names.{cases_zero, own_by, taken_pair, OneKernel, after_line, kernel_after, label_of, is_own, hushed, is_put, pid_eq, Stage, Label, at_record, About, Known, Told, handled, first_number, Alive, PlainProcess}
-use Rattle.dm_mirror.proofs.Names.{touches, proto_acting, queued_acting, held_acting, forwarded_acting, acting_label, aim, sets, seen}
+use Rattle.dm_mirror.proofs.Names.{touches, proto_acting, queued_acting, held_acting, forwarded_acting, acting_label, aim, sets, seen, sort_of}
 use Rattle.dm_rule.proofs.Names.{Part}
 use Rattle.dm_rule.proofs.Names.{marked}
 use Rattle.dm_rule.proofs.Lines.{parts}
@@ -13,7 +13,6 @@ use Rattle.dm_rule.specs.Rule as rule
 use Rattle.dm_rule.specs.View as view
 use Rattle.dm_mirror.proofs.Totals.{ids_of, Grows, line_grows, put_adds, total, total_adds, total_grows}
 pub use Rattle.dm_mirror.proofs.Puts.{ids_if as set_ids}
-use Rattle.dm_message.specs.Sorts.{sort_of}
 
 -- a process comes, has gone on or moves again by these alone
 abbrev pub is_free : Line → Bool

@@ -4,7 +4,7 @@ use Rattle.dm_mirror.proofs.Names.{slot_is_behind, applied, Message, MsgId, What
 use Rattle.dm_mirror.proofs.Names.{Servers, handles, KernelState, with_here, pid_eq-same, place_told, behind_count, told_here, told_server, updates, Phase, Rests, is_away, is_between, is_here, knows, token_in, Point, moved, comes_to, hears}
 use Rattle.dm_mirror.proofs.Names.{Inbox, Spot, standing, Known, Here, Of, Told, rests_here, is_fixed, Run, Placed, Mirrors, mirrors_view, board_told, manager_told, updated_board_mirrors, updated_manager_mirrors, updated_mirrors}
 use Rattle.dm_mirror.proofs.Names.{updated_board_count, updated_count, updated_manager_count, about_of, told_of, HereStands, KnownStands, servers_at, AllRecords, Wants, MessageKind, PlainMessage, Why, Managing, Board, Addresses, told_ended}
-use Rattle.dm_mirror.proofs.Names.{after_line, Ended, updated_ended_mirrors, no_process, Wanted, is_server, Part}
+use Rattle.dm_mirror.proofs.Names.{after_line, Ended, updated_ended_mirrors, no_process, Wanted, is_server, Part, sort_of}
 use Rattle.dm_places.specs.PlacedStep.{with_process}
 use Rattle.dm_link.specs.Places as places
 use Rattle.dm_onekernel.specs.Step as kernel
@@ -14,7 +14,6 @@ use Rattle.dm_rule.specs.Parts as rule
 use Rattle.dm_mirror.proofs.Follow.Fronts.{front_still, is_process_of, plain_there, Fronts, at_front, eq_off, known_on, machine_process, rule_process, set_other, set_self, handled_point, turns_follow, handled_view}
 use Rattle.dm_mirror.proofs.Turning.{TurnsAt, begun, has_process}
 use Rattle.dm_mirror.proofs.Kernel.Sets.{away_process as away_not}
-use Rattle.dm_message.specs.Sorts.{sort_of}
 
 -- the servers may change, and addresses
 abbrev pub with_servers : Placed → Board → Managing → Placed

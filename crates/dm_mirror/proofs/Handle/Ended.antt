@@ -3,7 +3,7 @@ use Rattle.dm_mirror.proofs.Names.{◌≡◌, ℕ, true, List, [], ◌∷◌, re
 use Rattle.dm_mirror.proofs.Names.{answer_to, without_message, is_dropped, Point, times, Known, View, handled, bag_none, bag_gone, agrees, ended_of, WhatFits, is_manager, dropped_is, Placed, plainly, user_what, read_what, write_what}
 use Rattle.dm_mirror.proofs.Names.{block_what, stop_what, resume_what, kill_what, written_what, gone_what, What, handles, process_handles, ended_handles, KernelState, Turned, turned, KnownStands, gone_is, ◌/◌, Bool, length, map}
 use Rattle.dm_mirror.proofs.Names.{if◌then◌else◌, plain_kind, PlainMessage, arith, nat_tests, Process, Alive, Life, OneKernel, plain_process, PlainProcess, pid_eq-same, blocks_of, alive_of, served_is, of_map, with_queue, here_handles}
-use Rattle.dm_mirror.proofs.Names.{with_here, AreMessages, is_server, pid_eq, false, begun, Outcome, move_what, here_free}
+use Rattle.dm_mirror.proofs.Names.{with_here, AreMessages, is_server, pid_eq, false, begun, Outcome, move_what, here_free, sort_of}
 use Rattle.dm_rule.proofs.Names.{Part}
 use Rattle.dm_onekernel.specs.Kernel.{Ended, with_sent}
 use Rattle.dm_kernel.specs.declared.part.Part.TheVariants.{Routes}
@@ -20,7 +20,6 @@ use Rattle.dm_mirror.proofs.Handle.Rows.{IsLeft, turns_row, handled_point, here_
 use Rattle.dm_mirror.proofs.Handle.Taking.{Taking, sane_of, known_on, map_same, IsProcess, no_kernel, not_server, to_process, rule_to_process}
 use Rattle.dm_mirror.proofs.Turning.{Row, routed, rule_routed}
 use Rattle.dm_mirror.proofs.Handle.Servers.{sent_processes, sent_made, sent_machines, placed_processes, placed_bag, placed_notes, placed_servers}
-use Rattle.dm_message.specs.Sorts.{sort_of}
 
 -- what the machine knows of a process that has ended here
 pub record IsEnded (b : Boot) (m : ℕ) (pt : Point) (l : Placed) (k : KernelState) (p : Pid) : Type 0 where

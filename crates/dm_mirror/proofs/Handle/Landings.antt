@@ -3,7 +3,7 @@ use Rattle.dm_mirror.proofs.Names.{◌≡◌, ℕ, ◌+◌, ◌-◌, ◌≤◌, 
 use Rattle.dm_mirror.proofs.Names.{Message, What, id_of, plain_kind, Label, Reply, PlainMessage, PlainWhat, plain_message, plain_what, Process, Direction, Status, Landed, Rest, Landing, plain_landed, ends_plainly, goes_on_plainly}
 use Rattle.dm_mirror.proofs.Names.{length-written, Boot, Alive, OneKernel, bind, piece_of, written_at, plain_process, plain_status, PlainProcess, counts, is_counted, unentered, lands-is, counts_process, not_server, bind-is, Routes, Point}
 use Rattle.dm_mirror.proofs.Names.{View, bag_none, both, Placed, after_landing, parts, lands_match, with_queue, plainly, block_what, written_what, gone_what, here_handles, KernelState, take, drop, after_serving, answer, answer_of}
-use Rattle.dm_mirror.proofs.Names.{answer_with, serving_answer, answer_id, answer_to, bag_served, served_id, has_bytes, WhatFits, answers_match, read_what, write_what, stop_what, resume_what}
+use Rattle.dm_mirror.proofs.Names.{answer_with, serving_answer, answer_id, answer_to, bag_served, served_id, has_bytes, WhatFits, answers_match, read_what, write_what, stop_what, resume_what, sort_of}
 use Rattle.dm_rule.proofs.Names.{Part}
 use Rattle.dm_datamove.specs.Landing as landing
 use Rattle.dm_onekernel.specs.Pieces as pieces
@@ -17,7 +17,6 @@ use Rattle.dm_onekernel.specs.Step as kernel
 use Rattle.dm_mirror.proofs.Handle.Taking.{Taking, sane_of}
 use Rattle.dm_mirror.proofs.Turning.{Row}
 use Rattle.dm_mirror.proofs.Handle.Ended.{IsHere, served_row, served_step}
-use Rattle.dm_message.specs.Sorts.{sort_of}
 
 -- a landing with places, and what it comes to without: the process keeps its queue and the length of its memory
 record Lands (p : Pid) (x : Process) (o : Option Landing) (c : pieces.Landed) : Type 0 where

@@ -1,11 +1,12 @@
 -- A process is told to move: to where it is, or it is frozen, and the other machine is asked.
 use Rattle.dm_mirror.proofs.Names.{◌≡◌, ◌≢◌, ℕ, ◌+◌, ◌≤◌, ◌==◌, ◌&&◌, Bool, true, false, not, List, [], ◌∷◌, map, refl, ap, ◌∙◌, sym, subst, inl, inr, arith, if◌then◌else◌, None, Some, eqb_tells, Pid, pid_eq, kernel_at, Message, nat_tests}
 use Rattle.dm_mirror.proofs.Names.{MsgId, What, MessageKind, Record, Line, Stage, Process, CanMove, ask_of, frozen, Taken, Boot, manager, switchboard, FreezesReceiverWhole, KnownIsWhole, freezes, with_frozen, KernelState, own, turned}
-use Rattle.dm_mirror.proofs.Names.{pid_eq-is, pid_eq-same, to_kernel, Point, moved, Room, taken_by, takes_room, at_machine, at_record, without, without_front, times, Here, Frozen, Known, Of, own_id, target_of}
-use Rattle.dm_mirror.proofs.Names.{is_server, has_nothing_held, is_fixed, Placed, mirrors_view, told_of, KnownStands, LeavesStand, RoomStands, AllRecords, eq_not, or-right, ◌/◌, length, option_map, Option, Addr, pid_of, kind_of, plain_what}
-use Rattle.dm_mirror.proofs.Names.{with_what, frozen_of, incoming_of, Departure, block_of, chunk_of, state_of, OneKernel, bind, plain_process, gives_piece, kernel_handles, Addresses, Receiver, Sender, gets, own_given, unmoved, told_step}
-use Rattle.dm_mirror.proofs.Names.{is_between, tells_onward, fits, free_room, kernel_hears, Inbox, standing, Told, Unknown, View, after_proto, handled, Run, enclosed, about_of, Carries, destination_of, false≢true, ◌++◌, turn, outcome}
-use Rattle.dm_mirror.proofs.Names.{after, Step, plain_message, HereStands, Mirrors, AllOwnStand, KernelStands, TokensStand, AreMessages, Spot, Queue, Held, spot_cases, Asker, plain_note, leaves_for, here_free, Part}
+use Rattle.dm_mirror.proofs.Names.{pid_eq-is, pid_eq-same, to_kernel, Point, moved, Room, taken_by, takes_room, at_machine, at_record, without, without_front, times, Here, Frozen, Known, Of, own_id, target_of, is_server, has_nothing_held}
+use Rattle.dm_mirror.proofs.Names.{is_fixed, Placed, mirrors_view, told_of, KnownStands, LeavesStand, RoomStands, AllRecords, eq_not, or-right, ◌/◌, length, option_map, Option, Addr, pid_of, kind_of, plain_what, with_what, frozen_of}
+use Rattle.dm_mirror.proofs.Names.{incoming_of, Departure, block_of, chunk_of, state_of, OneKernel, bind, plain_process, gives_piece, kernel_handles, Addresses, Receiver, Sender, gets, own_given, unmoved, told_step, is_between}
+use Rattle.dm_mirror.proofs.Names.{tells_onward, fits, free_room, kernel_hears, Inbox, standing, Told, Unknown, View, after_proto, handled, Run, enclosed, about_of, Carries, destination_of, false≢true, ◌++◌, turn, outcome, after, Step}
+use Rattle.dm_mirror.proofs.Names.{plain_message, HereStands, Mirrors, AllOwnStand, KernelStands, TokensStand, AreMessages, Spot, Queue, Held, spot_cases, Asker, plain_note, leaves_for, here_free, Part, sort_of, drop, slice_get}
+use Rattle.dm_mirror.proofs.Names.{option_and_then}
 use Rattle.dm_kernel.specs.State.{with_sent}
 use Rattle.dm_onekernel.specs.Step as kernel
 use Rattle.dm_rule.specs.Parts as rule
@@ -20,10 +21,6 @@ use Rattle.dm_mirror.proofs.Handle.Taking.{eq_self, machine_self, machine_off, r
 use Rattle.dm_mirror.proofs.Handle.Rows.{Elsewhere, here_left, standing_begun}
 use Rattle.dm_mirror.proofs.Follow.Fronts.{front_gone as front_off, elsewhere_apart}
 use Rattle.dm_mirror.proofs.Leave.Fronts as owns
-use Rattle.dm_message.specs.Sorts.{sort_of}
-use Rattle.std.specs.Prelude.{drop}
-use Rattle.std.specs.Prelude.{slice_get}
-use Rattle.std.specs.Prelude.{option_and_then}
 
 -- the room is the same where machine m has the same of each process
 pub room_stays : (room given : Taken) (r s : Room) → s ≡ r → RoomStands room given r → RoomStands room given s

@@ -5,14 +5,13 @@ use Rattle.dm_mirror.proofs.Names.{token_in, Point, comes_to, hears, outcome, Sp
 use Rattle.dm_mirror.proofs.Names.{StandsAsBag-elsewhere, spot_cases, OwnTold, Run, Placed, Mirrors, AllOwnStand, about_of, told_of, AreMessages, KernelStands, AllRecords, TokensStand, eq_self, source_knows, inbox_is, of_same, more_front}
 use Rattle.dm_mirror.proofs.Names.{holds_is, ◌||◌, [], refl, Addr, pid_eq, place_of, nat_tests, kernel_at, id_of, What, MessageKind, Arrival, PlainMessage, Process, incoming_of, process_handles, Gets, Receiver, Sender, gets, given}
 use Rattle.dm_mirror.proofs.Names.{own_given, unmoved, process_told, kernel_hears, at_machine, Known, own_id, not_kernels, is_fixed, enclosed, Carries, destination_of, about_same, cases_Bool, Record, Departure, pid_eq-is, HereStands}
-use Rattle.dm_mirror.proofs.Names.{KnownStands, LeavesStand, Asker}
+use Rattle.dm_mirror.proofs.Names.{KnownStands, LeavesStand, Asker, sort_of}
 use Rattle.dm_rule.specs.Parts as rule
 use Rattle.dm_rule.specs.Rule as ruled
 use Rattle.dm_kernel.specs.State as machine
 use Rattle.dm_mirror.proofs.Handle.Taking.{front_of, times_self, machine_self, machine_off, some_same}
 use Rattle.dm_mirror.proofs.Turning.{IsCarried, MayOwn}
 pub use Rattle.dm_mirror.proofs.Handle.Taking.{to_kernel}
-use Rattle.dm_message.specs.Sorts.{sort_of}
 
 -- machine m hears message y, which is no message of the kernel without machines
 pub record Hearing (b : Boot) (m : ℕ) (pt : Point) (l : Placed) (records : AllRecords) (k : KernelState) (y : Message) : Type 0 where

@@ -2,9 +2,9 @@
 use Rattle.dm_mirror.proofs.Names.{◌≡◌, ◌≢◌, ℕ, ◌+◌, ◌/◌, ◌≤◌, ◌==◌, Bool, true, false, not, List, [], ◌∷◌, ◌++◌, length, map, is_some, refl, ap, ◌∙◌, sym, subst, inl, arith, if◌then◌else◌, option_map, Option, Some, false≢true, Pid}
 use Rattle.dm_mirror.proofs.Names.{nat_tests, pid_eq, kernel_at, Message, MsgId, What, MessageKind, Record, Wanted, Line, Stage, Process, Taken, with_released, frozen_of, incoming_of, all_sent_on, Boot, Life, bind, plain_process}
 use Rattle.dm_mirror.proofs.Names.{PlainProcess, without_leaving, KernelState, own, turned, pid_eq-same, sends_on, to_kernel, Point, moved, Room, blocks_of, taken_at, taken_by, takes_room, at_machine, Spot, Held, Inbox, Queue, standing}
-use Rattle.dm_mirror.proofs.Names.{times, Forward, Frozen, Known, gone_to, own_id, MirrorsPoint, sent_all, Placed, sent_on_mirrors, mirrors_view, MadeStands, told_of, AreMessages, KnownStands, RoomStands, AllRecords, Wants}
-use Rattle.dm_mirror.proofs.Names.{◌||◌, inr, None, cases_Bool, id_eq, IsKindOfPlain, kind_of, PlainMessage, PlainWhat, plain_message, plain_what, with_what, sent_on, id_eq-swap, is_between, Told, View, letters, held_plain, queued_plain}
-use Rattle.dm_mirror.proofs.Names.{StandsAsBag-elsewhere, Run, Mirrors, is_among, among_times, parts, AllOwnStand, told_there, more_front, leaves, is_server, Part}
+use Rattle.dm_mirror.proofs.Names.{times, Forward, Frozen, Known, gone_to, own_id, MirrorsPoint, sent_all, Placed, sent_on_mirrors, mirrors_view, MadeStands, told_of, AreMessages, KnownStands, RoomStands, AllRecords, Wants, ◌||◌, inr, None}
+use Rattle.dm_mirror.proofs.Names.{cases_Bool, id_eq, IsKindOfPlain, kind_of, PlainMessage, PlainWhat, plain_message, plain_what, with_what, sent_on, id_eq-swap, is_between, Told, View, letters, held_plain, queued_plain}
+use Rattle.dm_mirror.proofs.Names.{StandsAsBag-elsewhere, Run, Mirrors, is_among, among_times, parts, AllOwnStand, told_there, more_front, leaves, is_server, Part, drop}
 use Rattle.dm_kernel.specs.State.{with_sent}
 use Rattle.dm_onekernel.specs.Step as kernel
 use Rattle.dm_kernel.specs.State as machine
@@ -18,7 +18,6 @@ use Rattle.dm_mirror.proofs.Leave.Asks.{carried, departing, kernel_number, leave
 use Rattle.dm_mirror.proofs.Handle.Taking.{eq_self, machine_self, machine_off, map_same, pid_apart, record_self, record_off, record_others, times_more, times_self, some_same, stands_set}
 use Rattle.dm_mirror.proofs.Leave.Fronts as owns
 use Rattle.dm_mirror.proofs.Turning as turning
-use Rattle.std.specs.Prelude.{drop}
 
 pub times_among : (i : MsgId) (ids : List MsgId) → is_among i ids ≡ true → 1 ≤ times i ids
 times_among i [] e = absurd (false≢true e)

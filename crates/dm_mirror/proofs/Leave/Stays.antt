@@ -1,7 +1,7 @@
 -- A process that was to leave stays: it is served again, and what was held comes before the inbox.
 use Rattle.dm_mirror.proofs.Names.{◌≡◌, ◌≢◌, ◌⊎◌, ℕ, ◌≤◌, Bool, true, false, List, [], ◌∷◌, ◌++◌, map, nat_le, refl, ap, ◌∙◌, sym, subst, inl, inr, arith, if◌then◌else◌, Option, Some, nat_tests, Pid, pid_eq, Message, MsgId, What}
-use Rattle.dm_mirror.proofs.Names.{MessageKind, Record, Line, frozen_of, with_record, Boot, bind, stays, KernelState, pid_eq-same, Point, moved, takes_room, at_machine, standing, times, Here, Known, times-append, Placed}
-use Rattle.dm_mirror.proofs.Names.{mirrors_view, told_of, AreMessages, KnownStands, AllRecords, is_server, false≢true, ◌==◌, Moves, Spot, Told, is_away, is_between, kind_comes, knows, Of, turned, Outcome, tells_asker}
+use Rattle.dm_mirror.proofs.Names.{MessageKind, Record, Line, frozen_of, with_record, Boot, bind, stays, KernelState, pid_eq-same, Point, moved, takes_room, at_machine, standing, times, Here, Known, times-append, Placed, mirrors_view}
+use Rattle.dm_mirror.proofs.Names.{told_of, AreMessages, KnownStands, AllRecords, is_server, false≢true, ◌==◌, Moves, Spot, Told, is_away, is_between, kind_comes, knows, Of, turned, Outcome, tells_asker, drop}
 use Rattle.dm_kernel.specs.declared.part.Part as part
 use Rattle.dm_kernel.specs.State as machine
 use Rattle.dm_rule.specs.Migrating as migrating
@@ -12,7 +12,6 @@ use Rattle.dm_mirror.proofs.Leave.Fronts.{FrontGone, Hearing, front_nowhere, lea
 use Rattle.dm_mirror.proofs.Leave.Asks.{room_stays, taken_at_record, departing, kernel_number, leaves_alive, leaves_no_server}
 use Rattle.dm_mirror.proofs.Turning.{TurnsAt, begun, has_process}
 use Rattle.dm_mirror.proofs.Handle.Taking.{eq_off, machine_self, machine_off, record_self, record_off, record_others, stands_set}
-use Rattle.std.specs.Prelude.{drop}
 
 -- messages of two lists, one after the other
 pub messages_append : (bag : MsgId → Option Message) (is js : List MsgId) (ms ns : List Message) → AreMessages bag is ms → AreMessages bag js ns → AreMessages bag (is ++ js) (ms ++ ns)

@@ -5,14 +5,13 @@ use Rattle.dm_mirror.proofs.Names.{MessageKind, Record, kind_of, IsLawfulMessage
 use Rattle.dm_mirror.proofs.Names.{kind_comes, is_apart, is_away, is_between, is_early, tells_onward, is_restart, knows, kind_leaves, receiver_in, sender_in, told_between, Point, Inbox, standing, View, Known, Unknown, Here, Frozen}
 use Rattle.dm_mirror.proofs.Names.{Incoming, Of, Told, token_at, token_is, is_server, Run, Placed, IsSuch, KernelState, about_of, ComesStand, KernelStands, KnownStands, LeavesStand, Carries, TokensStand, Wants, destination_of, eq_self}
 use Rattle.dm_mirror.proofs.Names.{apart_is, inbox_is, about_same, ◌<◌, ◌||◌, [], IsSome, Chunk, Block, Nothing, IsNextPiece, restarted, block_of, chunk_of, coming, by_pieces, takes_room, own_sort, Mirrors, FitsKernel, MayLeave, MayRestart}
-use Rattle.dm_mirror.proofs.Names.{MadeStands, nat_tests, Asker}
+use Rattle.dm_mirror.proofs.Names.{MadeStands, nat_tests, Asker, sort_of}
 use Rattle.dm_migrate.specs.Way.{moved}
 use Rattle.dm_kernel.specs.State as machine
 use Rattle.dm_mirror.proofs.May.Own.{OwnFront, has_taken, life_is}
 use Rattle.dm_mirror.proofs.Turning.{is_moving}
 use Rattle.dm_mirror.proofs.Leave.Asks.{process_same as same_process}
 use Rattle.dm_mirror.proofs.Counts.Pairs.{CountsFew}
-use Rattle.dm_message.specs.Sorts.{sort_of}
 
 -- what source and destination know of a process whose message comes here
 pub record IsMoved (pt : Point) (m : ℕ) (p : Pid) (k : MessageKind) : Type 0 where

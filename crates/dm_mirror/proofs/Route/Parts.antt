@@ -2,14 +2,13 @@
 use Rattle.dm_mirror.proofs.Names.{◌≡◌, ℕ, ◌+◌, ◌≤◌, ◌==◌, Bool, true, false, List, [], ◌∷◌, ◌++◌, length, map, refl, ap, ◌∙◌, sym, subst, arith, if◌then◌else◌, Option, None, Some, Pid, MsgId, MessageKind, kind_of, plain_kind, PlainMessage}
 use Rattle.dm_mirror.proofs.Names.{nat_tests, bind, bind-is, Line, Load, Stage, Receiver, Spelled, goes_out, puts, spelled, Point, after, moved, at_machine, Spot, standing, Told, View, is_own, own_id, fits_packet, fits_put, PairsFit, Sane}
 use Rattle.dm_mirror.proofs.Names.{Placed, Mirrors, AllRecords, pid_of, Message, id_eq, id_of, id_eq-is, Gets, Sender, first_gives, given, own_given, is_kernels, not_kernels, put_told_off, not_first, zero, suc, ◌&&◌, drop, eqb-true}
-use Rattle.dm_mirror.proofs.Names.{drop-append-le, Inbox, Untaken, times, untaken, Pair, after_packet, after_put, routed_on, two_of, put_spot, put_there, times-append, home_full, behind}
+use Rattle.dm_mirror.proofs.Names.{drop-append-le, Inbox, Untaken, times, untaken, Pair, after_packet, after_put, routed_on, two_of, put_spot, put_there, times-append, home_full, behind, sort_of}
 use Rattle.dm_rule.specs.Parts as rule
 use Rattle.dm_mirror.proofs.Turning.{Route, First, On, Own, Late, Nothing, Leaves, MayPut, late_rule_parts, message_of, rule_part_of, MayOwn, AllMayPut, LateMay, late_owns, owns}
 use Rattle.dm_mirror.proofs.Puts.{put_standing}
 use Rattle.dm_mirror.proofs.Route.Puts.{after_route, route_keeps, route_more, told_stays, own_gives_same}
 use Rattle.dm_mirror.proofs.Join.{put_end, plain_of, put_point}
 use Rattle.dm_mirror.proofs.Turning as turning
-use Rattle.dm_message.specs.Sorts.{sort_of}
 
 more_times : (j : MsgId) (xs ys : List MsgId) → 1 ≤ times j xs → 1 ≤ times j (xs ++ ys)
 more_times j xs ys h = let a = times-append j xs ys in omega (arith, a, h)

@@ -2,7 +2,7 @@
 use Rattle.dm_mirror.proofs.Names.{◌≡◌, ℕ, ◌≤◌, ◌&&◌, Bool, true, false, List, [], ◌∷◌, ◌++◌, map, refl, ap, ◌∙◌, subst, arith, if◌then◌else◌, Option, None, Some, false≢true, Pid, MsgId, id_eq, nat_tests, MessageKind, Label, OneKernel}
 use Rattle.dm_mirror.proofs.Names.{bind, id_eq-is, pid_eq-is, bind-is, Line, Says, Point, after, after_line, kernel_after, label_of, moved, without_front, without_id, Spot, Queue, Inbox, times, standing, View, Told, after_label, view_after}
 use Rattle.dm_mirror.proofs.Names.{handled, queued_for, dropped_for, receiver_of, is_kernels, eq_is, queued_spots, Needs, Walks, not, ⊤, Message, PlainMessage, Step, Boot, letter_of, Phased, told_some, Begins, WalksOf, resting, round_walks}
-use Rattle.dm_mirror.proofs.Names.{handles_walks, by_hears, about_off, seen}
+use Rattle.dm_mirror.proofs.Names.{handles_walks, by_hears, about_off, seen, sort_of}
 use Rattle.dm_rule.proofs.Names.{Part}
 use Rattle.dm_rule.proofs.Lines.{parts}
 use Rattle.dm_rulelaws.specs.KnownStands.{KnownStands}
@@ -11,7 +11,6 @@ use Rattle.dm_rulelaws.proofs.Based.Rows.{turned}
 use Rattle.dm_rule.specs.View as view
 use Rattle.dm_rule.specs.Rule as rule
 use Rattle.dm_mirror.proofs.Turning.{is_still, are_still, rule_routed}
-use Rattle.dm_message.specs.Sorts.{sort_of}
 
 -- a list without a message has no message more often
 fewer_if : (j : MsgId) (x : MsgId) (xs ys : List MsgId) (c : Bool) → times j ys ≤ times j xs → times j (if c then xs else x ∷ ys) ≤ times j (x ∷ xs)

@@ -3,7 +3,7 @@ use Rattle.dm_mirror.proofs.Names.{◌≡◌, ℕ, zero, suc, ◌+◌, ◌<◌, 
 use Rattle.dm_mirror.proofs.Names.{false≢true, Pid, Message, MsgId, What, Record, Halt, id_eq, plain_message, plain_what, with_what, Regs, Fault, Row, instruction, first_on, is_on, what_is_on, without_first_on, status_is_runnable, Process}
 use Rattle.dm_mirror.proofs.Names.{Status, Boot, bind, Life, Alive, OneKernel, plain_process, plain_status, PlainProcess, Machine, pid_eq-same, id_eq-is, id_eq-same, Point, without_id, times, is_server, rings, Placed, MirrorsKernel}
 use Rattle.dm_mirror.proofs.Names.{with_queue, KernelState, AreMessages, KnownStands, KernelStands, ◌==◌, pid_eq, Label, Why, out_off, Line, moved, after, without_front, Spot, Queue, Inbox, standing, View, handled, dropped_for, receiver_of}
-use Rattle.dm_mirror.proofs.Names.{Droppable, droppable_on, dropped_is, Mirrors, user_dropped, Part}
+use Rattle.dm_mirror.proofs.Names.{Droppable, droppable_on, dropped_is, Mirrors, user_dropped, Part, option_map_or, drop}
 use Rattle.dm_onekernel.specs.Kernel.{Ended}
 use Rattle.dm_places.specs.PlacedStep.{without_message}
 use Rattle.dm_onekernel.specs.Step as kernel
@@ -18,8 +18,6 @@ use Rattle.dm_rule.specs.Parts as rule_part
 use Rattle.dm_mirror.proofs.Kernel.Sets.{times_self, times_more, ViewLeaves, Leaves, view_leaves_on, leaves_on, view_same, view_queue, view_not_handled, kernel_same, kernel_out, placed_same, placed_out, not_own_there, label_mirrors}
 use Rattle.dm_mirror.proofs.Kernel.Sets.{after_label}
 use Rattle.dm_mirror.proofs.Turning.{are_still}
-use Rattle.std.specs.Option.{option_map_or}
-use Rattle.std.specs.Prelude.{drop}
 
 -- a message is awaited without its places where it is on the mask with them
 awaited_what : (mask : ℕ) (m : Message) (w : What) → rule.is_awaited mask (with_what m (plain_what w)) ≡ what_is_on mask w

@@ -1,11 +1,11 @@
 -- A turn that handles a kernel's own message: a request to move ends where it finds its process, and else goes on.
 use Rattle.dm_movelaws.proofs.Names.{◌≡◌, ℕ, ◌==◌, ◌&&◌, Bool, true, false, List, [], ◌∷◌, length, refl, ap, ◌∙◌, sym, subst, inl, inr, arith, if◌then◌else◌, Option, None, Some, cases_Bool, Pid, pid_eq, MsgId, MessageKind, Stage, Boot}
-use Rattle.dm_movelaws.proofs.Names.{manager, bind, pid_eq-is, Line, Addresses, Sender, is_told_back, to_kernel, forwards_on, told_step, told_here, told_ended, process_told, told_server, View, Told, About, Of, Known, Unknown, Here}
-use Rattle.dm_movelaws.proofs.Names.{Frozen, Forward, Ended, view_after, handled, handled_first, receiver_of, target_of, Point, moved, Part, Says, Again, Owns, Spelled, spelled, kernel_hears, Spot, Inbox, ids_at, first_off}
-use Rattle.dm_movelaws.proofs.Names.{line_next, fits_put, pair_same, handled_spots, held_known, forwarded_spots, forwarded_known, put_spots, put_there, put_spot, InPhases, fits_as, PairsFit, sane_line, part_sane, AllLoose, loose_walks}
-use Rattle.dm_movelaws.proofs.Names.{turned, is_moving, is_for, frozen_off, ◌+◌, ◌++◌, ⊤, pid_of, PlainProcess, accepts, takes_chunk, takes_block, sends_on, chunks_of, pieces_of, Incoming, rejoins, front_of, gone_to, is_between, parts}
-use Rattle.dm_movelaws.proofs.Names.{at_record_off, due, Walks, asks, ends, accepted_off, state_off, memory_off, lacks_off, left_off, leaves, label_of, is_put, touches, nat_tests, sets, aim, at_record, MoveNote, Outcome, tells_asker}
-use Rattle.dm_movelaws.proofs.Names.{restarted_off, times}
+use Rattle.dm_movelaws.proofs.Names.{manager, bind, pid_eq-is, Line, Addresses, Sender, is_told_back, to_kernel, forwards_on, told_step, told_here, told_ended, process_told, told_server, View, Told, About, Of, Known, Unknown, Here, Frozen}
+use Rattle.dm_movelaws.proofs.Names.{Forward, Ended, view_after, handled, handled_first, receiver_of, target_of, Point, moved, Part, Says, Again, Owns, Spelled, spelled, kernel_hears, Spot, Inbox, ids_at, first_off, line_next, fits_put}
+use Rattle.dm_movelaws.proofs.Names.{pair_same, handled_spots, held_known, forwarded_spots, forwarded_known, put_spots, put_there, put_spot, InPhases, fits_as, PairsFit, sane_line, part_sane, AllLoose, loose_walks, turned, is_moving}
+use Rattle.dm_movelaws.proofs.Names.{is_for, frozen_off, ◌+◌, ◌++◌, ⊤, pid_of, PlainProcess, accepts, takes_chunk, takes_block, sends_on, chunks_of, pieces_of, Incoming, rejoins, front_of, gone_to, is_between, parts, at_record_off, due}
+use Rattle.dm_movelaws.proofs.Names.{Walks, asks, ends, accepted_off, state_off, memory_off, lacks_off, left_off, leaves, label_of, is_put, touches, nat_tests, sets, aim, at_record, MoveNote, Outcome, tells_asker, restarted_off, times}
+use Rattle.dm_movelaws.proofs.Names.{sort_of}
 use Rattle.dm_rule.specs.View as view
 use Rattle.dm_movelaws.proofs.Ends.Parts.{AllQuiet, Rest, rest_packet, Settled, parts_settle, quiet_count, quiet_asks, told_quiet, one_if, zero_if, first_off as first_off_and, is_migrate, asks_for, kind_not, Smooth, Still, smooth_trans}
 use Rattle.dm_movelaws.proofs.Ends.Parts.{told_by, Tame, Foreign, still_by, smooth_still, moves_none}
@@ -13,7 +13,6 @@ use Rattle.dm_movelaws.proofs.Ends.Open.{IsOpen, level_balance, close_opens, smo
 use Rattle.dm_movelaws.proofs.Ends.Open.{line_then, and_off, other_still, set_here, level_row, level_still, quiet_row, end_row, Comes, between_plain, due_moves, about_same}
 use Rattle.dm_movelaws.proofs.Leading.{next_of, part_leads, asker_known}
 use Rattle.dm_movelaws.proofs.Ends.Sources.{smooth_moves, held_smooth, again_told, all_sent, sent_smooth, sends_count, sent_begins, handled_smooth, rejoins_smooth}
-use Rattle.dm_message.specs.Sorts.{sort_of}
 
 abbrev pub ComesOf : Pid → (pt : Point) → InPhases pt.view → Option (List Part) → Type 0
 ComesOf p pt h None = ⊤

@@ -1,9 +1,9 @@
 -- Each group keeps the marks of each process in order, and so they are wherever the rule leads.
 use Rattle.dm_movelaws.proofs.Names.{◌≡◌, ℕ, ◌==◌, Bool, true, false, List, [], ◌∷◌, refl, ap, ◌∙◌, sym, subst, length, ◌/◌, if◌then◌else◌, Option, None, Some, Pid, pid_eq, MsgId, PlainMessage, Boot, switchboard, manager, Step, Line, View}
-use Rattle.dm_movelaws.proofs.Names.{Told, About, Of, Known, first_view, target_of, is_between, is_due, Point, first_point, Part, Spelled, spelled, told_step, told_server, process_told, migrates, group_of, bind-is, IsNet}
-use Rattle.dm_movelaws.proofs.Names.{not_true, front_way, Phased, phased_start, phased_group, Calm, calm_same, calm_in, told_some, head_calm, net_parts, migrates_quiet, Tame, plain_in_bag, parts_settle, InPhases, State, PairsFit, Sane}
-use Rattle.dm_movelaws.proofs.Names.{LeadsBy, begun, begun_sane, Mark, marks, in_order, StepsInOrder, plain_by, by_migrates, by_outcome, nat_tests, arith, NothingElse, Label, Says, said_by, moved, calm_about, view_after, line_calm}
-use Rattle.dm_movelaws.proofs.Names.{part_sane, machine_in, move_target, Target, Here}
+use Rattle.dm_movelaws.proofs.Names.{Told, About, Of, Known, first_view, target_of, is_between, is_due, Point, first_point, Part, Spelled, spelled, told_step, told_server, process_told, migrates, group_of, bind-is, IsNet, not_true}
+use Rattle.dm_movelaws.proofs.Names.{front_way, Phased, phased_start, phased_group, Calm, calm_same, calm_in, told_some, head_calm, net_parts, migrates_quiet, Tame, plain_in_bag, parts_settle, InPhases, State, PairsFit, Sane, LeadsBy}
+use Rattle.dm_movelaws.proofs.Names.{begun, begun_sane, Mark, marks, in_order, StepsInOrder, plain_by, by_migrates, by_outcome, nat_tests, arith, NothingElse, Label, Says, said_by, moved, calm_about, view_after, line_calm, part_sane}
+use Rattle.dm_movelaws.proofs.Names.{machine_in, move_target, Target, Here, sort_of}
 use Rattle.dm_onekernel.specs.Step as kernel
 use Rattle.dm_rule.specs.Rule as rule
 use Rattle.dm_rule.proofs.Groups as groups
@@ -11,7 +11,6 @@ use Rattle.dm_movelaws.proofs.Stages.Spares.{mark_in, spares_same, spares_calm, 
 use Rattle.dm_movelaws.proofs.Stages.Rows.{about_others, plain_others, row_marked, AllMild, mild_marks, net_marks, TameAt, parts_spare}
 use Rattle.dm_movelaws.proofs.Stages.Steps.{freezes_row, setting_row, told_marked, round_mild, handles_mild, Hears, Calms, Freezes, Handled, Spared, SetsOff, freezes, server_mild, process_hears}
 use Rattle.dm_movelaws.proofs.Leading.{next_of, line_fits}
-use Rattle.dm_message.specs.Sorts.{sort_of}
 
 -- where the parts of a turn begin
 pub record Turning (o pt : Point) (m : ℕ) : Type 0 where

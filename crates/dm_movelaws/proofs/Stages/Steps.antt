@@ -4,12 +4,11 @@ use Rattle.dm_movelaws.proofs.Names.{Frozen, view_after, handled_first, released
 use Rattle.dm_movelaws.proofs.Names.{pid_eq-swap, is_put, at_record_at, first_off, home_again, home_off, frozen_off, line_next, touches, handled_spots, record_off, InPhases, queued_plain, held_plain, Mark, Reached, mark_for, with_mark}
 use Rattle.dm_movelaws.proofs.Names.{in_order, released_on, nat_tests, arith, ◌==◌, Bool, PlainProcess, Incoming, handled, front_of, accepts, gives_piece, takes_chunk, takes_block, told_step, chunks_of, pieces_of, Owns, accepted_off}
 use Rattle.dm_movelaws.proofs.Names.{state_off, memory_off, lacks_off, proto_off, restarted_off, proto_known, Lacking, Staying, leaves, sets, MoveNote, Outcome, NothingElse, tells_asker, aim, PairsFit, Sane, Target, asked_off, target_of}
-use Rattle.dm_movelaws.proofs.Names.{forwards_on, process_told, told_server, plain_kind, PlainMessage, Boot, goes_round, handles, Addresses, loose_round, loose_handles, by_forwards, Label, PlainWhat}
+use Rattle.dm_movelaws.proofs.Names.{forwards_on, process_told, told_server, plain_kind, PlainMessage, Boot, goes_round, handles, Addresses, loose_round, loose_handles, by_forwards, Label, PlainWhat, sort_of}
 use Rattle.dm_rule.specs.Rule as rule
 use Rattle.dm_movelaws.proofs.Stages.Spares.{is_settled, Spares, spares_same, TokenOf, HasMark, token_mark, here_mark, some_marked, mark_of, Marked, open_after, marks_of, mark_same, mark_other, marks_sent}
 use Rattle.dm_movelaws.proofs.Stages.Rows.{Handling, first_spares, owns_token, line_sane, line_and_parts, Row, split, front_token, row_marked, answer, AllMild, spares_line, same_spot, Kept, parts_spare}
 use Rattle.dm_movelaws.proofs.Leading.{line_fits, asker_known}
-use Rattle.dm_message.specs.Sorts.{sort_of}
 
 pub round_mild : (me : Pid) (front : Option MsgId) (b : Boot) (pt : Point) (m : ℕ) (o : Option Pid) (ps : List Part) → goes_round b pt m o ≡ Some ps → AllMild me front ps
 round_mild me front b pt m o ps e = loose_round (AllMild me front) (record { none = tt; label = λ l ps h. (tt, h); routes = λ i ps h. (tt, h) }) b pt m o ps (tt, tt) e

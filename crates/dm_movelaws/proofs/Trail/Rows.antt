@@ -1,12 +1,12 @@
 -- What a turn says of a kernel's own message fits the trails.
 use Rattle.dm_movelaws.proofs.Names.{◌≡◌, ℕ, ◌+◌, Bool, true, false, List, [], ◌∷◌, refl, ap, ◌∙◌, sym, subst, arith, ◌||◌, if◌then◌else◌, slice_get, Option, None, Some, Pid, pid_of, MsgId, MessageKind, Label, Line, plain_kind}
-use Rattle.dm_movelaws.proofs.Names.{PlainMessage, Boot, Why, first_number, View, Told, Unknown, Here, Forward, Ended, handled, ends_by, served_told, view_after, Receiver, Point, moved, Part, Says, Routes, Nowhere, forwards_on, Trails, Trail}
-use Rattle.dm_movelaws.proofs.Names.{ReceivedAt, ended_on, is_fixed, Unborn, said_by, Stops, by_round, by_handles, StoodOnTrail, nat_tests, ◌≤◌, inl, inr, PutFits, manager, Step, Of, is_kernels, own_id, after_head, front_of, Child, Sender}
-use Rattle.dm_movelaws.proofs.Names.{to_of, sender_of, Spelled, IsIn, is_between, group_of, Inbox, Queue, Held, times, standing, both_lists, both_times, front_kernels, Phased, due, outcome_sayable, Named, Links, child_is, migrate_to}
-use Rattle.dm_movelaws.proofs.Names.{migrate_from, Treads, line_treads, KnownStands, Begins, begins, begun, begun_sane, turned, unborn, FoundBy, KnowsAt, moves_back, own_outside, own_fresh, told_there, about_same, stands_first, queued_for}
-use Rattle.dm_movelaws.proofs.Names.{told_for, either, fixed_home, by_migrates, migrates, by_outcome, by_group, answers_move, leaves_for, Outcome, asked_noted, ◌++◌, false≢true, Stage, pid_eq-same, Frozen, Incoming, to_kernel, Moves}
-use Rattle.dm_movelaws.proofs.Names.{receiver_in, sender_in, Sane, source_holds, destination_expects, by_hears, place_told, behind_count, left_parts, MoveNote, OneKernel, Known, label_of, kernel_after, at_record, at_record_at, Said, aim}
-use Rattle.dm_movelaws.proofs.Names.{sets}
+use Rattle.dm_movelaws.proofs.Names.{PlainMessage, Boot, Why, first_number, View, Told, Unknown, Here, Forward, Ended, handled, ends_by, served_told, view_after, Receiver, Point, moved, Part, Says, Routes, Nowhere, forwards_on, Trails}
+use Rattle.dm_movelaws.proofs.Names.{Trail, ReceivedAt, ended_on, is_fixed, Unborn, said_by, Stops, by_round, by_handles, StoodOnTrail, nat_tests, ◌≤◌, inl, inr, PutFits, manager, Step, Of, is_kernels, own_id, after_head, front_of, Child}
+use Rattle.dm_movelaws.proofs.Names.{Sender, to_of, sender_of, Spelled, IsIn, is_between, group_of, Inbox, Queue, Held, times, standing, both_lists, both_times, front_kernels, Phased, due, outcome_sayable, Named, Links, child_is}
+use Rattle.dm_movelaws.proofs.Names.{migrate_to, migrate_from, Treads, line_treads, KnownStands, Begins, begins, begun, begun_sane, turned, unborn, FoundBy, KnowsAt, moves_back, own_outside, own_fresh, told_there, about_same, stands_first}
+use Rattle.dm_movelaws.proofs.Names.{queued_for, told_for, either, fixed_home, by_migrates, migrates, by_outcome, by_group, answers_move, leaves_for, Outcome, asked_noted, ◌++◌, false≢true, Stage, pid_eq-same, Frozen, Incoming, to_kernel}
+use Rattle.dm_movelaws.proofs.Names.{Moves, receiver_in, sender_in, Sane, source_holds, destination_expects, by_hears, place_told, behind_count, left_parts, MoveNote, OneKernel, Known, label_of, kernel_after, at_record, at_record_at, Said}
+use Rattle.dm_movelaws.proofs.Names.{aim, sets, sort_of}
 use Rattle.dm_onekernel.specs.Pieces as pieces
 use Rattle.dm_rule.specs.Rule as rule
 use Rattle.dm_rule.proofs.Hearing as hearing
@@ -14,7 +14,6 @@ use Rattle.dm_movelaws.proofs.Trail.Placed.{is_held, Placed, Places, Learnt, pla
 use Rattle.dm_movelaws.proofs.Trail.Loose.{Walks, AllLoose, loose_walks, places_same, label_fits, label_walks, routes_loose, idle_loose, queued_loose, held_loose, dropped_loose, drops_loose, AllGood, parts_good, owns_leave, no_child_loose}
 use Rattle.dm_movelaws.proofs.Trail.Loose.{pinned_loose, net_loose, first_walks, updated_loose, lacks_loose, proto_loose, to_between, asked_loose, state_loose, memory_loose, Loose, quiet, forwards_walks}
 use Rattle.dm_movelaws.proofs.Trail.Loose.{leaves_walks}
-use Rattle.dm_message.specs.Sorts.{sort_of}
 
 pub at_end : (pt : Point) (t : Trails) (p : Pid) → pt.view.known pt.view.acting p ≡ Here → Places pt.view t → slice_get (t p) (pt.view.moves p) ≡ Some pt.view.acting
 at_end pt t p here h = (h p).now pt.view.acting (ap is_held here)

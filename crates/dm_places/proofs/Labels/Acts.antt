@@ -2,15 +2,13 @@
 use Rattle.dm_places.proofs.Names.{◌≡◌, ℕ, ◌==◌, ◌&&◌, Bool, true, false, refl, ap, ◌∙◌, sym, subst, arith, if◌then◌else◌, Option, None, Some, nat_tests, Pid, MsgId, Message, id_eq, PlainMessage, plain_message, Process, Status, Label, Regs}
 use Rattle.dm_places.proofs.Names.{Row, instruction, past, Reply, Why, reply_eq, why_eq, bind, Alive, Ended, OneKernel, plain_process, plain_status, PlainProcess, Called, calls, plain_called, call_plainly, id_eq-is, bind-is, when-is, View}
 use Rattle.dm_places.proofs.Names.{Addresses, given, gives, call_gets, sends_burden, past_call, gives_by, made_is, gives_same, only_gives_by, Placed, Mirrors, MirrorsKernel, MirrorsProcess, Acted, acted, acts, after_call, after_done}
-use Rattle.dm_places.proofs.Names.{if_ready, machine_of, ran, running, with_acted, with_machine, with_process, with_sent}
+use Rattle.dm_places.proofs.Names.{if_ready, machine_of, ran, running, with_acted, with_machine, with_process, with_sent, at_hand-is, burden_of}
 use Rattle.dm_onekernel.specs.Kernel as kernels
 use Rattle.dm_onekernel.specs.Calls as one
 use Rattle.dm_onekernel.specs.Step as kernel
 use Rattle.dm_rule.specs.Addresses as addresses
 use Rattle.dm_places.proofs.Keeps.{alive_of, goes_mirrors, ends_mirrors, kernel_process, kernel_sent, places_process, places_sends, this_process}
 use Rattle.dm_places.proofs.Labels.Calls.{MirrorsCalled, MirrorsSent, behind, does_call_kept}
-use Rattle.dm_laws.proofs.Steps.{at_hand-is}
-use Rattle.dm_rule.specs.Given.{burden_of}
 
 -- a step with places that leads to what mirrors a kernel
 abbrev pub Follows : OneKernel → View → Addresses → Option Placed → Type 0

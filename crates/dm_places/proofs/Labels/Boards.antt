@@ -2,7 +2,8 @@
 use Rattle.dm_places.proofs.Names.{◌≡◌, ℕ, zero, suc, ◌+◌, ◌==◌, ◌&&◌, Bool, true, false, List, [], ◌∷◌, ◌++◌, refl, ap, ◌∙◌, sym, subst, inl, inr, arith, if◌then◌else◌, map, slice_get, Option, None, Some, cases_Bool, nat_tests, length-map}
 use Rattle.dm_places.proofs.Names.{Pid, Link, Place, place_of, PlainLink, plain_link, MsgId, Message, What, id_eq, id_of, PlainMessage, PlainWhat, plain_what, is_general, switchboard, bind, OneKernel, Switchboard, bytes_eq, is_name, Named}
 use Rattle.dm_places.proofs.Names.{plain_board, plain_named, Asked, plain_answer, plain_asks, plain_asked, plain_reply, id_eq-same, View, Addresses, gets, given, Receiver, Sender, Enclosed, Child, Name, Answer, unmoved, place_named}
-use Rattle.dm_places.proofs.Names.{board_asks, board_finds, board_keeps, board_takes_burden, SameProcess, SameMessage, two, two_off, get_last, Placed, Mirrors, MirrorsKernel, MirrorsMessage, enclosed, board_took, without_message}
+use Rattle.dm_places.proofs.Names.{board_asks, board_finds, board_keeps, board_takes_burden, SameProcess, SameMessage, two, two_off, get_last, Placed, Mirrors, MirrorsKernel, MirrorsMessage, enclosed, board_took, without_message, AskedBy}
+use Rattle.dm_places.proofs.Names.{burden_of}
 use Rattle.dm_onekernel.specs.Service as service
 use Rattle.dm_onekernel.specs.Switchboard as one
 use Rattle.dm_switchboard.specs.declared.reply.Reply.{Reply}
@@ -10,8 +11,6 @@ use Rattle.dm_switchboard.specs.Taking as board
 use Rattle.dm_places.proofs.Keeps.{answer_as, came_places, kernel_out, kernel_sent, out_mirrors, places_out, process_same}
 use Rattle.dm_places.proofs.Labels.Acts.{Follows}
 use Rattle.dm_places.proofs.Whats.{user_what}
-use Rattle.dm_places.proofs.Names.{AskedBy}
-use Rattle.dm_rule.specs.Given.{burden_of}
 
 -- the names and the answer after a request, where b is a with what the request gives
 record AskedKept (a b : Addresses) (sent : MsgId) (k : Asked) : Type 0 where

@@ -3,10 +3,9 @@ use Rattle.dm_places.proofs.Names.{◌≡◌, ℕ, zero, suc, ◌==◌, ◌&&◌
 use Rattle.dm_places.proofs.Names.{Option, None, Some, nat_tests, Pid, Link, Place, place_of, pid_eq, plain_link, first_empty, link_at, plain_slot, MsgId, Message, id_eq, PlainMessage, User, Read, Write, plain_message, Process, Direction}
 use Rattle.dm_places.proofs.Names.{Status, direction_numbered, Regs, past, Reply, plain_process, reg, CallNumber, first_failed, piece_of, address_of, moving, request, Called, Done, emptied, links_in, first_of, slot_at, pid_eq-same}
 use Rattle.dm_places.proofs.Names.{id_eq-same, View, Addresses, Gets, gets, given, Slot, Owner, Receiver, Sender, acting_place, encloses, fills, fills_by, sends_burden, set_link, emptied_link, SameProcess, SameMessage, SameServers}
-use Rattle.dm_places.proofs.Names.{encloses_servers, encloses_process, encloses_message, encloses_at, gives_by, no_gives, or-left, or-right, MirrorsProcess, MirrorsMessage, enclosed, owner_at}
+use Rattle.dm_places.proofs.Names.{encloses_servers, encloses_process, encloses_message, encloses_at, gives_by, no_gives, or-left, or-right, MirrorsProcess, MirrorsMessage, enclosed, owner_at, burden_of}
 use Rattle.dm_onekernel.specs.Calls as one
 use Rattle.dm_syscall.specs.Calls as calls
-use Rattle.dm_rule.specs.Given.{burden_of}
 
 -- the process behind its call
 abbrev pub behind : Process → Process

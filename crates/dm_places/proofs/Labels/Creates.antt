@@ -2,7 +2,7 @@
 use Rattle.dm_places.proofs.Names.{◌≡◌, ℕ, zero, suc, ◌+◌, ◌-◌, ◌&&◌, List, [], ◌∷◌, ◌++◌, length, refl, ap, ◌∙◌, sym, subst, false, arith, map, option_map, slice_get, replicate, Option, None, Some, length-map, slice_get-map, Pid, Link}
 use Rattle.dm_places.proofs.Names.{pid_eq, pid_of, PlainLink, plain_link, link_at, plain_slot, MsgId, Message, What, Label, PlainMessage, PlainWhat, plain_message, plain_what, begun_process, Format, BootImage, first_number, slots_of, bind}
 use Rattle.dm_places.proofs.Names.{Alive, OneKernel, plain_process, Ready, answer_id, answer_to, memory_of, slots_with, zero_regs, answer, bind-is, when-is, View, Addresses, Gets, Sender, answer_gets, child_links, given, gives, unmoved}
-use Rattle.dm_places.proofs.Names.{two, child_at, only_child, Placed, Mirrors, MirrorsMessage, MirrorsProcess, enclosed, with_child, with_sent, without_message}
+use Rattle.dm_places.proofs.Names.{two, child_at, only_child, Placed, Mirrors, MirrorsMessage, MirrorsProcess, enclosed, with_child, with_sent, without_message, nat_tests, burden_of}
 use Rattle.dm_onekernel.specs.Kernel as kernels
 use Rattle.dm_onekernel.specs.Service as service
 use Rattle.dm_onekernel.specs.Start as one
@@ -13,8 +13,6 @@ use Rattle.dm_places.proofs.Keeps.{kernel_out, kernel_process, parts, places_out
 use Rattle.dm_places.proofs.Labels.Acts.{Follows}
 use Rattle.dm_places.proofs.Labels.Answers.{two_sends}
 use Rattle.dm_places.proofs.Whats.{create_what}
-use Rattle.dm_places.proofs.Names.{nat_tests}
-use Rattle.dm_rule.specs.Given.{burden_of}
 
 -- the slots of a process as it begins
 pub begun_link : (links : List Link) (n k : ℕ) (w : Link) → link_at (map Some links ++ replicate n None) k ≡ Some w → slice_get links k ≡ Some w

@@ -3,7 +3,7 @@ use Rattle.dm_places.proofs.Names.{◌≡◌, ℕ, suc, ◌+◌, ◌==◌, ◌&&
 use Rattle.dm_places.proofs.Names.{nat_tests, map-set, Pid, Link, place_of, pid_eq, PlainLink, plain_link, first_empty, link_at, plain_slot, MsgId, Message, What, Label, PlainMessage, PlainWhat, plain_message, Process, Status, on_mask}
 use Rattle.dm_places.proofs.Names.{what_is_on, Reply, reply_eq, bind, Alive, OneKernel, plain_process, plain_status, PlainProcess, first_failed, Completed, Completion, completion, completes, completes_unless, plain_completed, first_of}
 use Rattle.dm_places.proofs.Names.{status_plainly, pid_eq-same, pid_eq-is, bind-is, when-is, View, Addresses, Gets, given, gives, Slot, Enclosed, fills, receives_links, receives_burden, slot_after, set_at, set_off, is_empty, only_receives}
-use Rattle.dm_places.proofs.Names.{OnlySlots, Placed, Mirrors, MirrorsProcess, enclosed, with_process, without_message, and-both}
+use Rattle.dm_places.proofs.Names.{OnlySlots, Placed, Mirrors, MirrorsProcess, enclosed, with_process, without_message, and-both, at_hand-is, burden_of}
 use Rattle.dm_onekernel.specs.Receiving as one
 use Rattle.dm_onekernel.specs.Service as service
 use Rattle.dm_onekernel.specs.Step as kernel
@@ -13,8 +13,6 @@ use Rattle.dm_places.specs.PlacedStep as placed
 use Rattle.dm_places.proofs.Keeps.{alive_of, there_of, parts, goes_mirrors, kernel_out, kernel_process, places_out, places_process, this_process}
 use Rattle.dm_places.proofs.Labels.Acts.{Follows, mirrors_as}
 use Rattle.dm_places.proofs.Whats.{user_what}
-use Rattle.dm_laws.proofs.Steps.{at_hand-is}
-use Rattle.dm_rule.specs.Given.{burden_of}
 
 -- the slots that links go into, and what they get
 abbrev table_after : List (Option Link) → Link → Option ℕ → List (Option Link)
@@ -204,7 +202,7 @@ receive_row s t v a l p id (one.Receives z) w f h =
       ap (λ (q : Option Completion). bind q (λ (e : Completion). Some (with_process (without_message l id) p (Some e.process)))) w.completed,
       mirrors_as (kernel.goes_on (service.without_message s id) p (plain_process y)) t v (given a gs) (given a (gives s v a (Label.Receive p id))) on on
           (ap (kernel.goes_on (service.without_message s id) p) ((elim w.e.completed as (λ c. plain_completed c y ≡ one.Receives z → plain_process y ≡ z)
-              [ Completed.Received i ↦ λ e_. cc | Completed.Refused r ↦ λ e_. cc ]) w.plain) ∙ eq) (ap (given a) gs_is) refl
+          [ Completed.Received i ↦ λ e_. cc | Completed.Refused r ↦ λ e_. cc ]) w.plain) ∙ eq) (ap (given a) gs_is) refl
           (record {
             plain = kernel_process (service.without_message s id) (without_message l id) p (Alive (plain_process y)) (Some y) refl (kernel_out s l id h.plain);
             places = places_process v a (given a gs) (without_message l id) p (Some y) (places_out v a l id h.places) o.others (this_process v (given a gs) p y w.kept.process) o.messages o.servers;

@@ -2,7 +2,8 @@
 use Rattle.dm_places.proofs.Names.{◌≡◌, ℕ, ◌+◌, ◌-◌, ◌==◌, ◌&&◌, Bool, true, false, List, [], length, refl, ap, ◌∙◌, sym, subst, nat_le, if◌then◌else◌, take, drop, Option, None, Some, ArrayVec, Pid, Addr, place_of, MsgId, Message, What}
 use Rattle.dm_places.proofs.Names.{Label, Why, PlainMessage, PlainWhat, plain_message, plain_what, Process, Direction, Status, Reply, bind, Ended, OneKernel, plain_process, plain_status, PlainProcess, answer_to, piece_of, written_at, Rest}
 use Rattle.dm_places.proofs.Names.{Landed, Landing, plain_landed, after_serving, answer, answer_of, answer_with, serving_answer, ends_plainly, goes_on_plainly, bind-is, View, Addresses, Gets, answer_gets, given, gives, acting_place}
-use Rattle.dm_places.proofs.Names.{serves_burden, Owner, two, gone_lands, nothing_lands, Placed, Mirrors, MirrorsMessage, MirrorsProcess, enclosed, owner_at, after_landing, with_process, with_sent, without_message, some_is}
+use Rattle.dm_places.proofs.Names.{serves_burden, Owner, two, gone_lands, nothing_lands, Placed, Mirrors, MirrorsMessage, MirrorsProcess, enclosed, owner_at, after_landing, with_process, with_sent, without_message, some_is, landing_gets}
+use Rattle.dm_places.proofs.Names.{at_hand-is, burden_of, option_map_or}
 use Rattle.dm_message.specs.Plain as said
 use Rattle.dm_onekernel.specs.Kernel as kernels
 use Rattle.dm_onekernel.specs.Pieces as pieces
@@ -10,16 +11,12 @@ use Rattle.dm_onekernel.specs.Service as service
 use Rattle.dm_onekernel.specs.Step as kernel
 use Rattle.dm_datamove.specs.Landing as landing
 use Rattle.dm_rule.specs.Addresses as addresses
-use Rattle.dm_rule.specs.Addresses.{landing_gets}
 use Rattle.dm_places.specs.PlacedStep as placed
 use Rattle.dm_places.proofs.Keeps.{alive_of, ends_mirrors, goes_mirrors, out_mirrors, parts, there_of}
 use Rattle.dm_places.proofs.Labels.Calls.{stands_here}
 use Rattle.dm_places.proofs.Labels.Acts.{Follows}
 use Rattle.dm_places.proofs.Labels.Answers.{answer_mirrors, two_sends}
 use Rattle.dm_places.proofs.Whats.{read_what, write_what, block_what, stop_what, resume_what, kill_what, written_what, gone_what}
-use Rattle.dm_laws.proofs.Steps.{at_hand-is}
-use Rattle.dm_rule.specs.Given.{burden_of}
-use Rattle.std.specs.Option.{option_map_or}
 
 -- a message without places that says this
 abbrev pub plainly : Message → PlainWhat → PlainMessage
@@ -50,7 +47,7 @@ goes_on_kept : (v : View) (a : Addresses) (p : Pid) (x : Process) (r : Rest) →
 goes_on_kept v a p x r h at =
     let b = landing.behind r in
     (elim (r.left - piece_of r.left == 0) as (λ b_. LandingKept v a p (if b_ then (landing.done Reply.Done x) else (landing.asks v.acting x b)))
-        [ true ↦ (done_kept v a p x Reply.Done h) | false ↦ (asks_kept v a p x b.dir b.owner b.base b.own b.left h at) ])
+    [ true ↦ (done_kept v a p x Reply.Done h) | false ↦ (asks_kept v a p x b.dir b.owner b.base b.own b.left h at) ])
 
 record Lands (v : View) (a : Addresses) (p : Pid) (x : Process) (o : Option Landing) (c : pieces.Landed) : Type 0 where
   d : Landing

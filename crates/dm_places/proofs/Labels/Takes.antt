@@ -2,8 +2,9 @@
 use Rattle.dm_places.proofs.Names.{◌≡◌, ℕ, zero, suc, ◌+◌, ◌==◌, ◌&&◌, Bool, true, false, List, [], ◌∷◌, ◌++◌, length, refl, ap, ◌∙◌, sym, subst, arith, if◌then◌else◌, map, option_map, slice_get, Option, None, Some, nat_tests, length-map}
 use Rattle.dm_places.proofs.Names.{Pid, Addr, Link, Place, pid_eq, place_of, PlainLink, plain_link, MsgId, Message, What, id_eq, id_of, Label, PlainMessage, PlainWhat, plain_message, plain_what, manager, switchboard, bind, Manager}
 use Rattle.dm_places.proofs.Names.{OneKernel, goes_over, Pending, Managing, at_home, plain_child, plain_manager, plain_pending, answer_over, control_link, Taken, child_address, pending_request, plain_bear, plain_pending_numbered}
-use Rattle.dm_places.proofs.Names.{plain_without, id_eq-same, bind-is, View, Addresses, Gets, gets, given, gives, Receiver, Sender, Enclosed, Child, Name, Answer, unmoved, board_takes_burden, manager_answers, manager_sends, manager_takes_burden}
-use Rattle.dm_places.proofs.Names.{SameProcess, SameMessage, Placed, Mirrors, MirrorsKernel, MirrorsMessage, enclosed, board_took, manager_took, without_message}
+use Rattle.dm_places.proofs.Names.{plain_without, id_eq-same, bind-is, View, Addresses, Gets, gets, given, gives, Receiver, Sender, Enclosed, Child, Name, Answer, unmoved, board_takes_burden, manager_answers, manager_sends}
+use Rattle.dm_places.proofs.Names.{manager_takes_burden, SameProcess, SameMessage, Placed, Mirrors, MirrorsKernel, MirrorsMessage, enclosed, board_took, manager_took, without_message, AnswerNames, AskedBy, Outcome, code_of_outcome}
+use Rattle.dm_places.proofs.Names.{burden_of}
 use Rattle.dm_onekernel.specs.Manager as one
 use Rattle.dm_onekernel.specs.Service as service
 use Rattle.dm_onekernel.specs.Step as kernel
@@ -18,9 +19,6 @@ use Rattle.dm_places.proofs.Labels.Boards.{board_row}
 use Rattle.dm_places.proofs.Pendings.{child_last, still_pending}
 use Rattle.dm_places.proofs.Labels.Managers.{InOrder, user_mirrors}
 use Rattle.dm_places.proofs.Whats.{user_what, created_what, moved_what, no_room_what}
-use Rattle.dm_places.proofs.Names.{AnswerNames, AskedBy, Outcome}
-use Rattle.dm_message.specs.Outcomes.{code_of_outcome}
-use Rattle.dm_rule.specs.Given.{burden_of}
 
 -- the link of an answer about a child, if it carries one
 enclosed_one : (a : Addresses) (sent : MsgId) (pl : Place) (ls : List Link) → ((k : ℕ) (w : Link) → slice_get ls k ≡ Some w → (k ≡ 0) × (pl ≡ place_of w.addr)) → (k : ℕ) (w : Link) → slice_get ls k ≡ Some w

@@ -2,7 +2,7 @@
 use Rattle.dm_rule.proofs.Names.{◌≡◌, ℕ, zero, suc, ◌+◌, ◌==◌, ◌&&◌, ◌||◌, Bool, true, false, List, [], ◌∷◌, refl, ap, ◌∙◌, sym, subst, inl, inr, arith, nat_lt, ⊤, if◌then◌else◌, map, slice_get, slice_set, filter_map, cons_option, is_none}
 use Rattle.dm_rule.proofs.Names.{Option, None, Some, nat_tests, Pid, Place, pid_eq, PlainLink, first_empty, link_at, MsgId, id_eq, id_of, PlainMessage, Direction, direction_numbered, Regs, Row, instruction, past, Reply, PlainProcess}
 use Rattle.dm_rule.proofs.Names.{Waiting, reg, setting, OneKernel, CallNumber, Called, Replies, Sends, Waits, Outputs, Ends, first_failed, pid_eq-same, id_eq-same, bind-is, View, Addresses, Gets, gets, given, Slot, Owner, Receiver, Sender}
-use Rattle.dm_rule.proofs.Names.{acting_place, encloses, fills, fills_by, sends_burden, owner_in, links_in}
+use Rattle.dm_rule.proofs.Names.{acting_place, encloses, fills, fills_by, sends_burden, owner_in, links_in, burden_of}
 use Rattle.dm_onekernel.specs.Calls as calls
 use Rattle.dm_onekernel.specs.Pieces as pieces
 use Rattle.dm_onekernel.specs.Step as kernel
@@ -10,7 +10,6 @@ use Rattle.dm_rule.proofs.Homes.{place_as, pid_as, HomeProcess, HomeMessage, AtH
 use Rattle.dm_rule.proofs.Homes.Slots.{set_link, emptied_link, without_replies_link, past_call}
 use Rattle.dm_rule.proofs.Homes.Rows.{SameProcess, SameMessage, SameServers, running_home, encloses_servers, encloses_process, encloses_message, encloses_at}
 use Rattle.dm_rule.proofs.Requests.{by_test}
-use Rattle.dm_rule.specs.Given.{burden_of}
 
 -- the process behind its call
 abbrev pub behind : PlainProcess → PlainProcess

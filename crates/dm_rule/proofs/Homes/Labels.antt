@@ -1,7 +1,7 @@
 -- Each label keeps addresses where they may be, as at homes, and what it does to the rings too.
 use Rattle.dm_rule.proofs.Names.{◌≡◌, ℕ, ◌==◌, ◌&&◌, Bool, true, false, not, List, [], ◌∷◌, ◌++◌, refl, ap, ◌∙◌, sym, inl, inr, arith, ⊤, if◌then◌else◌, filter, Option, None, Some, cases_Bool, nat_tests, Pid, Place, pid_eq, MsgId}
 use Rattle.dm_rule.proofs.Names.{MessageKind, Label, OneKernel, at_machine, at_record, without, moved_back, View, Told, Known, Here, Frozen, Incoming, Forward, after_label, served_told, ends_by, ended, handled, Addresses, given, gives}
-use Rattle.dm_rule.proofs.Names.{unmoved, acting_place, are_home}
+use Rattle.dm_rule.proofs.Names.{unmoved, acting_place, are_home, sort_of}
 use Rattle.dm_onekernel.specs.Step as kernel
 use Rattle.dm_rule.specs.View as view
 use Rattle.dm_rule.proofs.Homes.{IsHome, AtHome}
@@ -9,7 +9,6 @@ use Rattle.dm_rule.proofs.Homes.Steps.{ran_home, call_home, send_home, wait_home
 use Rattle.dm_rule.proofs.Homes.Receives.{receive_home, refuse_home}
 use Rattle.dm_rule.proofs.Homes.Serves.{Named, ReceivedAt, ServedAt, EndedAt, dropped_home, gone_home, no_space_home, served_home, created_home, AnsweredAt, asked_home, answered_home}
 use Rattle.dm_rule.proofs.Homes.Manager.{took_home}
-use Rattle.dm_message.specs.Sorts.{sort_of}
 
 -- a label is said where its process is at home, or where its message's receiver is
 abbrev pub SaidAt : OneKernel → ℕ → Label → Type 0

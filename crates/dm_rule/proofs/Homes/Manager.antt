@@ -1,8 +1,8 @@
 -- What the process manager does keeps addresses where they may be.
 use Rattle.dm_rule.proofs.Names.{◌≡◌, ℕ, zero, suc, ◌+◌, ◌==◌, ◌&&◌, Bool, true, false, List, [], ◌∷◌, ◌++◌, refl, ap, ◌∙◌, sym, subst, inl, inr, arith, nat_lt, length, if◌then◌else◌, slice_get, Option, None, Some, nat_tests, Pid, Place}
 use Rattle.dm_rule.proofs.Names.{pid_eq, PlainLink, MsgId, id_eq, id_of, Label, PlainMessage, PlainWhat, bind, OneKernel, without_message, id_eq-same, bind-is, View, Addresses, Gets, gets, given, gives, Receiver, Sender, Enclosed, unmoved}
-use Rattle.dm_rule.proofs.Names.{pid_of, ◌*◌, Pending, Manager, switchboard, manager, Child, Name, Answer, encloses, enclosed_from, board_takes_burden, manager_sends, manager_answers, manager_takes_burden, links_in, ascends, AskedBy, Outcome}
-use Rattle.dm_rule.proofs.Names.{code_of_outcome, PendingKind}
+use Rattle.dm_rule.proofs.Names.{pid_of, ◌*◌, Pending, Manager, switchboard, manager, Child, Name, Answer, encloses, enclosed_from, board_takes_burden, manager_sends, manager_answers, manager_takes_burden, links_in, ascends, AskedBy}
+use Rattle.dm_rule.proofs.Names.{Outcome, code_of_outcome, PendingKind, burden_of}
 use Rattle.dm_onekernel.specs.Step as kernel
 use Rattle.dm_rule.specs.Addresses as addresses
 use Rattle.dm_onekernel.specs.Service as service
@@ -13,7 +13,6 @@ use Rattle.dm_rule.proofs.Homes.Rows.{SameProcess, SameMessage, sent_home, at_ho
 use Rattle.dm_rule.proofs.Homes.Serves.{two, two_sends, Named, ReceivedAt}
 use Rattle.dm_rule.proofs.Homes.Servers.{get_last, ascends_more, ascends_last, ascends_without, numbered_from, pending_last, still_pending, board_row}
 use Rattle.dm_rule.proofs.Requests.{by_test}
-use Rattle.dm_rule.specs.Given.{burden_of}
 
 abbrev TookAt : (Pid → Place → Type 0) → OneKernel → View → Addresses → MsgId → MsgId → ℕ → manage.ManagerTook → Type 0
 TookAt P s v a id mid code k = AtHome P (service.manager_took s id k) (given a (manager_sends v a mid code k.message))

@@ -2,13 +2,12 @@
 use Rattle.dm_rule.proofs.Names.{◌≡◌, ℕ, ◌<◌, ◌≤◌, ◌==◌, Bool, true, false, List, [], ◌∷◌, ◌++◌, refl, ap, ◌∙◌, sym, subst, arith, length, ⊤, if◌then◌else◌, Option, None, Some, Pid, MsgId, MessageKind, plain_kind, Label, bind, Line, Load}
 use Rattle.dm_rule.proofs.Names.{Stage, View, Pair, Told, view_after, after_label, after_stage, after_packet, queued_for, held_for, dropped_for, forwarded_for, served_told, ends_by, receiver_of, taken_id, handled, own_id, after_proto}
 use Rattle.dm_rule.proofs.Names.{follows_by, asks_on, About, NothingElse, Target, seen, sets_off, Receiver, Point, kernel_after, label_of, moved, after_line, after, Part, Says, Routes, Again, Owns, Transmits, Spelled, spelled, behind}
-use Rattle.dm_rule.proofs.Names.{lines_of, puts, packet_line, goes_out, IsUnasked}
+use Rattle.dm_rule.proofs.Names.{lines_of, puts, packet_line, goes_out, IsUnasked, sort_of}
 use Rattle.dm_rule.proofs.Seen.{seen_is}
 use Rattle.dm_rule.proofs.Pairs.Stand.{Later}
 use Rattle.dm_rule.proofs.Pairs.Moves.{Paired, Goes, again_goes, ack_goes, route_out, route_packed, route_home}
 pub use Rattle.dm_laws.proofs.Steps.{bind-is}
 use Rattle.dm_rule.proofs.Pairs.Stand.{Later-same}
-use Rattle.dm_message.specs.Sorts.{sort_of}
 
 -- lines that say something of a pair
 abbrev pub touches : Line → Bool

@@ -1,7 +1,7 @@
 -- A process ends, and one is made.
 use Rattle.dm_rule.proofs.Names.{◌≡◌, ℕ, ◌≤◌, ◌==◌, ◌&&◌, Bool, true, false, refl, ap, ◌∙◌, sym, subst, inl, arith, if◌then◌else◌, Option, None, Some, false≢true, nat_tests, Pid, MsgId, MessageKind, Label, Line, id_eq, Why, at_record, View}
 use Rattle.dm_rule.proofs.Names.{Told, Known, Unknown, Here, Ended, view_after, handled, served_told, ends_by, Spot, times, standing, is_between, is_away, is_here, is_over, kind_comes, Phase, Nowhere, Rests, Over, Moves, knows, token_in}
-use Rattle.dm_rule.proofs.Names.{pid_eq-same, id_eq-is, kind_leaves}
+use Rattle.dm_rule.proofs.Names.{pid_eq-same, id_eq-is, kind_leaves, sort_of}
 use Rattle.dm_rule.specs.View as view
 use Rattle.dm_rule.proofs.Lines.{not_true}
 use Rattle.dm_rule.proofs.Turns.{ended_off, created_off}
@@ -11,7 +11,6 @@ use Rattle.dm_rule.proofs.Phases.Stand.{none_only, InPhases, Learns, learns_phas
 use Rattle.dm_rule.proofs.Phases.Pieces.{record_off, and_true}
 use Rattle.dm_rule.proofs.Phases.Rests.{rests_here}
 use Rattle.dm_rule.proofs.Trails.Steps.{set_at}
-use Rattle.dm_message.specs.Sorts.{sort_of}
 
 -- one machine learns something of one process, and no message of the protocol stands elsewhere
 pub still_learns : (v w : View) (p : Pid) (x : Known) → w.known ≡ at_record v.known v.acting p x → w.told ≡ v.told → ((j : MsgId) (t : Told) → v.told j ≡ Some t → is_between t.kind ≡ true → (z : Spot) → standing w j z ≡ standing v j z) → Learns v w p

@@ -2,12 +2,12 @@
 use Rattle.dm_rule.proofs.Names.{◌≡◌, ℕ, ◌==◌, ◌&&◌, Bool, true, false, not, List, [], ◌∷◌, refl, ap, ◌∙◌, sym, subst, arith, if◌then◌else◌, Option, None, Some, false≢true, nat_tests, Pid, pid_eq, MsgId, MessageKind, Line, Stage, at_record}
 use Rattle.dm_rule.proofs.Names.{View, Told, About, NothingElse, Known, Unknown, Frozen, Incoming, Forward, view_after, handled, front_of, after_proto, follows_by, asks_on, is_kernels, Point, Says, Spelled, spelled, to_kernel, accepts}
 use Rattle.dm_rule.proofs.Names.{takes_chunk, takes_block, gives_piece, Spot, ids_at, is_between, is_apart, is_restart, is_early, kind_comes, is_away, Phase, Moves, knows, sender_in, receiver_in, pid_eq-same, right_true, kind_leaves}
+use Rattle.dm_rule.proofs.Names.{sort_of}
 use Rattle.dm_rule.proofs.Moves.Lists.{first_off}
 use Rattle.dm_rule.proofs.Moves.Rows.{goes_first, goes_front, accepted_off, state_off, memory_off, lacks_off, proto_off}
 use Rattle.dm_rule.proofs.Phases.Stand.{InPhases}
 use Rattle.dm_rule.proofs.Phases.Answers.{Whole, Due, answer_row}
 use Rattle.dm_rule.proofs.Lines.{eq_self}
-use Rattle.dm_message.specs.Sorts.{sort_of}
 
 -- two kinds between which no machine learns anything
 leaves_as : (k j : MessageKind) (d : ℕ) (y : Known) → is_restart k ≡ is_restart j → kind_leaves k d y ≡ kind_leaves j d y

@@ -1,13 +1,12 @@
 -- Each label keeps each address on its trail.
 use Rattle.dm_rule.proofs.Names.{◌≡◌, true, refl, ap, ◌∙◌, sym, subst, Option, None, Some, Pid, Place, MsgId, MessageKind, Line, manager, Label, OneKernel, View, Told, is_kernels, after_label, served_told, ends_by, handled, dropped_for}
-use Rattle.dm_rule.proofs.Names.{receiver_of, Addresses, Receiver, Sender, given, gives, ascends, to_of, Trails, Trail, IsOn, AddressesOn, OwnOn}
+use Rattle.dm_rule.proofs.Names.{receiver_of, Addresses, Receiver, Sender, given, gives, ascends, to_of, Trails, Trail, IsOn, AddressesOn, OwnOn, sort_of}
 use Rattle.dm_onekernel.specs.Step as kernel
 use Rattle.dm_rule.proofs.Hushed.{hushed}
 use Rattle.dm_rule.proofs.Homes.{homes_are, at_home}
 use Rattle.dm_rule.proofs.Homes.Serves.{Named, EndedAt}
 use Rattle.dm_rule.proofs.Homes.Labels.{SaidOn, label_on}
 use Rattle.dm_rule.proofs.Trails.Spares.{Outside, gives_spares, spared_receiver, spared_sender}
-use Rattle.dm_message.specs.Sorts.{sort_of}
 
 -- where a message's receiver has ended, the message's own address says where
 pub ended_on : (s : OneKernel) (v : View) (a : Addresses) (t : Trails) (id : MsgId) → (a (Receiver id)).at ≡ v.acting → AddressesOn s a t → EndedAt (IsOn t) s v a id

@@ -2,7 +2,7 @@
 use Rattle.dm_rule.proofs.Names.{◌≡◌, ◌≢◌, ℕ, ◌+◌, ◌≤◌, Bool, true, false, List, ◌++◌, length, refl, ap, ◌∙◌, sym, subst, ⊤, ◌==◌, not, filter, slice_get, Option, None, Some, Pid, MsgId, MessageKind, manager, Label, OneKernel, Step}
 use Rattle.dm_rule.proofs.Names.{bind-is, Line, Stage, View, Told, Known, Unknown, Here, Frozen, Forward, is_kernels, own_id, view_after, after_label, after_head, after_put, after_proto, handled, taken_id, queued_for, held_for}
 use Rattle.dm_rule.proofs.Names.{forwarded_for, forward_about, served_told, ends_by, receiver_of, Addresses, Receiver, Sender, given, forwards, all_follow, own_given, first_gives, addresses_after, ascends, Nowhere, Moves, IsIn, is_restart}
-use Rattle.dm_rule.proofs.Names.{is_early, Point, moved, after_line, times, Trails, Trail, StoodOnTrail, IsOn, AddressesOn, OwnOn, trails_after, PlainMessage, PlainWhat, gives, machine_in, seen, move_target}
+use Rattle.dm_rule.proofs.Names.{is_early, Point, moved, after_line, times, Trails, Trail, StoodOnTrail, IsOn, AddressesOn, OwnOn, trails_after, PlainMessage, PlainWhat, gives, machine_in, seen, move_target, sort_of}
 use Rattle.dm_onekernel.specs.Step as kernel
 use Rattle.dm_rule.specs.View as view
 use Rattle.dm_rule.proofs.Hushed.{hushed}
@@ -18,7 +18,6 @@ use Rattle.dm_rule.proofs.Trails.Puts.{is_own, put_all, put_routed, told_again, 
 use Rattle.dm_rule.proofs.Trails.Steps.{frozen_trail, accepted_trail, restarted_trail, stays_trail, ended_trail, born_trail, sent_on_at, sent_on_grows, sent_on_trail, left_line_trail, source_holds}
 use Rattle.dm_rule.proofs.Trails.Spares.{Outside}
 use Rattle.dm_rule.proofs.Trails.Labels.{label_links, label_pending, label_own}
-use Rattle.dm_message.specs.Sorts.{sort_of}
 
 -- what each line keeps
 pub record Treads (pt : Point) (t : Trails) : Type 0 where

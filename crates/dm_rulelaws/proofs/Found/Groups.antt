@@ -1,10 +1,10 @@
 -- Each group keeps where addresses lead, what machines know, and where messages stand.
 use Rattle.dm_rulelaws.proofs.Names.{◌≡◌, ℕ, ◌<◌, ◌≤◌, ◌==◌, Bool, true, false, is_some, List, [], ◌∷◌, refl, ap, ◌∙◌, sym, subst, inl, inr, arith, if◌then◌else◌, Option, None, Some, Pid, MsgId, plain_kind, PlainMessage, MessageKind, Boot}
-use Rattle.dm_rulelaws.proofs.Names.{manager, Step, id_eq-same, alive-is, Line, View, Told, About, Target, Of, Known, Unknown, Here, Frozen, Incoming, Forward, is_kernels, own_id, receiver_of, target_in, target_of, front_of}
-use Rattle.dm_rulelaws.proofs.Names.{Child, Receiver, Sender, child_number, names, sender_of, IsStep, forwards_on, migrates, Part, Says, Owns, Spelled, Moves, is_between, is_restart, is_early, knows, receiver_in, tells_onward, Point, moved}
-use Rattle.dm_rulelaws.proofs.Names.{group_of, Inbox, Queue, Held, times, standing, group_is, turn_off, letters, eq_is, parts, both_lists, both_times, under_way, front_kernels, Phased, due, head_calm, InPhases}
-use Rattle.dm_rulelaws.proofs.Names.{calm_phases, rooted, State, Sane, sane_line, outcome_sayable, Comes, Named, Links, child_is, source_holds, destination_expects, is_fixed, eq_self, about_same, front_one, least_of, by_migrates, by_net}
-use Rattle.dm_rulelaws.proofs.Names.{by_outcome, PlainWhat, WhatFits, nat_tests}
+use Rattle.dm_rulelaws.proofs.Names.{manager, Step, id_eq-same, alive-is, Line, View, Told, About, Target, Of, Known, Unknown, Here, Frozen, Incoming, Forward, is_kernels, own_id, receiver_of, target_in, target_of, front_of, Child}
+use Rattle.dm_rulelaws.proofs.Names.{Receiver, Sender, child_number, names, sender_of, IsStep, forwards_on, migrates, Part, Says, Owns, Spelled, Moves, is_between, is_restart, is_early, knows, receiver_in, tells_onward, Point, moved}
+use Rattle.dm_rulelaws.proofs.Names.{group_of, Inbox, Queue, Held, times, standing, group_is, turn_off, letters, eq_is, parts, both_lists, both_times, under_way, front_kernels, Phased, due, head_calm, InPhases, calm_phases, rooted, State}
+use Rattle.dm_rulelaws.proofs.Names.{Sane, sane_line, outcome_sayable, Comes, Named, Links, child_is, source_holds, destination_expects, is_fixed, eq_self, about_same, front_one, least_of, by_migrates, by_net, by_outcome, PlainWhat}
+use Rattle.dm_rulelaws.proofs.Names.{WhatFits, nat_tests, sort_of, slice_get, option_and_then}
 use Rattle.dm_rule.proofs.Groups.{begun}
 use Rattle.dm_rule.proofs.Trails.Places.{Owns}
 use Rattle.dm_rule.specs.Phases as phases
@@ -15,9 +15,6 @@ use Rattle.dm_rulelaws.proofs.Found.Forward.{forwards_need, moves_back, leaves_n
 use Rattle.dm_rulelaws.proofs.Found.Parts.{AllNeed, NeedOf, AllLoose, loose_need, first_need, parts_core, Heard, told_by_need, round_need, handles_need}
 use Rattle.dm_rulelaws.proofs.Found.Real.{made_free, child_real, sends_real, has_some}
 use Rattle.dm_rulelaws.proofs.Found.Parts.{Moves as MovesTo}
-use Rattle.dm_message.specs.Sorts.{sort_of}
-use Rattle.std.specs.Prelude.{slice_get}
-use Rattle.std.specs.Prelude.{option_and_then}
 
 -- behind the head of a group
 abbrev headed : Point → Step → Point

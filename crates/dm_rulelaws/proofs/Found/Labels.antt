@@ -3,12 +3,11 @@ use Rattle.dm_rulelaws.proofs.Names.{◌≡◌, ◌≢◌, ℕ, ◌+◌, ◌<◌
 use Rattle.dm_rulelaws.proofs.Names.{Life, OneKernel, entry, reception, Grown, after_step, View, Told, Unknown, Here, is_kernels, after_label, handled, ends_by, served_told, receiver_of, Holder, Receiver, Sender, given, gives, to_of, Point}
 use Rattle.dm_rulelaws.proofs.Names.{moved, at_record_at, grown_none, not_kernels, AtHome, homes_are, at_home, SaidOn, label_on, ReceivedAt, dropped_known, Sane, Goes, Comes, Links, Outside, gives_spares, spared_receiver, spared_sender}
 use Rattle.dm_rulelaws.proofs.Names.{label_told, label_topic, is_fixed, zero_cases, acting_dropped, ◌⊎◌, ◌&&◌, Bool, slice_get, pid_of, pid_eq, plain_kind, PlainWhat, Alive, PlainProcess, pid_eq-is, first_number, bind-is, when-is}
-use Rattle.dm_rulelaws.proofs.Names.{with_sent, answer_to, without_message, is_kill, nat_lt, List, [], length, if◌then◌else◌, id_eq, id_of, switchboard, manager, bind, answer_id, id_eq-is, Addresses, Gets, landing_gets}
-use Rattle.dm_rulelaws.proofs.Names.{serves_burden, board_takes_burden, manager_takes_burden, not_true, nat_tests, unentered, Sound, id_in, landed_id, served_id, board_id, manager_id, took_id, bag_sends, bag_served, bag_gone, bag_no_space, bag_created}
+use Rattle.dm_rulelaws.proofs.Names.{with_sent, answer_to, without_message, is_kill, nat_lt, List, [], length, if◌then◌else◌, id_eq, id_of, switchboard, manager, bind, answer_id, id_eq-is, Addresses, Gets, landing_gets, serves_burden}
+use Rattle.dm_rulelaws.proofs.Names.{board_takes_burden, manager_takes_burden, not_true, nat_tests, unentered, Sound, id_in, landed_id, served_id, board_id, manager_id, took_id, bag_sends, bag_served, bag_gone, bag_no_space, bag_created}
 use Rattle.dm_rulelaws.proofs.Names.{bag_took, spares, spares_both, two_more, made_spares, sends_spares, receives_spares, creates_what_spares, finds_spares, keeps_spares, manager_takes_spares, WhatFits, KernelFits, topic_by, machine_in}
 use Rattle.dm_rulelaws.proofs.Names.{bag_answered, aim, sets, not, filter, ◌==◌, Step, Load, Stage, About, Known, Frozen, Incoming, view_after, after_head, after_stage, after_proto, queued_for, held_for, taken_id, oldest, gone_to, front_of}
-use Rattle.dm_rulelaws.proofs.Names.{label_of, kernel_after, is_put, hushed, queued_known, held_known, proto_known, proto_acting}
-use Rattle.dm_rule.specs.Point.{move_target}
+use Rattle.dm_rulelaws.proofs.Names.{label_of, kernel_after, is_put, hushed, queued_known, held_known, proto_known, proto_acting, move_target, burden_of, sort_of, option_map_or}
 use Rattle.dm_rule.specs.View.{Ended}
 use Rattle.dm_rule.proofs.Trails.Places.{Owns}
 use Rattle.dm_onekernel.specs.Step as kernel
@@ -25,9 +24,6 @@ use Rattle.dm_rulelaws.proofs.Found.Core.{AboutIs, KnowsAt, Knows, IsAt, KnownIs
 use Rattle.dm_rulelaws.proofs.Found.Core.{forwarded_core, sent_core, updated_core}
 use Rattle.dm_rulelaws.proofs.Based.Loud.{SetLife, some_alike, step_alike, step_ends, step_serves, step_creates}
 use Rattle.dm_rulelaws.proofs.Fits.Rises.{both}
-use Rattle.dm_rule.specs.Given.{burden_of}
-use Rattle.dm_message.specs.Sorts.{sort_of}
-use Rattle.std.specs.Option.{option_map_or}
 
 -- what enters is none that was told of
 apart_from : (e : MsgId → ℕ) (i j : MsgId) → 1 ≤ e i → e j ≡ 0 → id_eq j i ≡ false

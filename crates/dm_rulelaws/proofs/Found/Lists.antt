@@ -4,8 +4,8 @@ use Rattle.dm_rulelaws.proofs.Names.{Step, id_eq-is, id_eq-same, Line, Stage, at
 use Rattle.dm_rulelaws.proofs.Names.{after_proto, follows_by, asks_on, handled, handled_first, queued_for, held_for, dropped_for, forwarded_for, rejoins, served_told, ends_by, receiver_of, taken_id, oldest, routed_on, Spot, Queue, Held}
 use Rattle.dm_rulelaws.proofs.Names.{Inbox, Untaken, times, untaken, standing, eq_is, parts, at_place, pair_keeps, times-append, machine_of, Target, ap, ◌∙◌, cases_Bool, false≢true, Place, id_eq, manager, OneKernel, NothingElse, is_kernels}
 use Rattle.dm_rulelaws.proofs.Names.{own_id, Addresses, Holder, Receiver, Sender, Gets, gets, given, holder_eq, place_known, all_follow, is_told_back, told_back_gets, forwards, place_told, is_behind, updated_to, updated, own_given}
-use Rattle.dm_rulelaws.proofs.Names.{first_gives, one_of, put_told_off, put_at, Goes, Comes, Named, Links, holder_is, unnamed_receiver, unnamed_sender, put_named, told_again, is_own, leads_where, behind_where, plain_gives, not_own}
-use Rattle.dm_rulelaws.proofs.Names.{◌<◌, is_some, nat_tests, PlainMessage, is_fixed, by_step, MoveNote}
+use Rattle.dm_rulelaws.proofs.Names.{first_gives, one_of, put_told_off, put_at, Goes, Comes, Named, Links, holder_is, unnamed_receiver, unnamed_sender, put_named, told_again, is_own, leads_where, behind_where, plain_gives, not_own, ◌<◌}
+use Rattle.dm_rulelaws.proofs.Names.{is_some, nat_tests, PlainMessage, is_fixed, by_step, MoveNote, sort_of}
 use Rattle.dm_rule.proofs.Trails.Places.{Owns}
 use Rattle.dm_rule.specs.View as view
 use Rattle.dm_onekernel.specs.Service as service
@@ -13,7 +13,6 @@ use Rattle.dm_onekernel.specs.Step as kernel
 use Rattle.dm_rulelaws.proofs.Based.Sets.{set_all, without_fewer, front_fewer, last_of}
 use Rattle.dm_rulelaws.proofs.Fits.Constants.{step_constant}
 use Rattle.dm_rulelaws.proofs.Own.Told.{Origin, brings}
-use Rattle.dm_message.specs.Sorts.{sort_of}
 
 -- of each message that stands somewhere, with the machine
 abbrev pub Places : (MsgId → ℕ → Type 0) → View → Type 0

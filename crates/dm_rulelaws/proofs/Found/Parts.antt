@@ -1,11 +1,10 @@
 -- The parts of a group keep where messages stand, where each has what it needs.
 use Rattle.dm_rulelaws.proofs.Names.{◌≡◌, ℕ, ◌<◌, true, false, List, [], ◌∷◌, refl, ◌∙◌, sym, arith, ⊤, Option, None, Some, false≢true, Pid, pid_of, MsgId, MessageKind, plain_kind, PlainMessage, PlainWhat, manager, id_eq-same, bind-is}
-use Rattle.dm_rulelaws.proofs.Names.{Line, Told, is_kernels, own_id, Holder, Receiver, Sender, given, goes_between, own_given, Point, moved, after, Part, Says, Routes, Again, Owns, Transmits, Spelled, lines_of, puts, spelled}
-use Rattle.dm_rulelaws.proofs.Names.{not_kernels, not_first, Sane, AllSayable, part_sane, is_own, by_parts, ◌+◌, ap, subst, Label, Boot, first_number, PlainProcess, Forward, forwards_on, Stops, by_round, by_handles, ◌/◌, ◌==◌, Bool, ◌++◌}
-use Rattle.dm_rulelaws.proofs.Names.{length, ◌||◌, if◌then◌else◌, pid_eq, Stage, switchboard, bind, About, Of, Known, Unknown, Here, target_of, front_of, to_kernel, accepts, takes_chunk, takes_block, leaves, chunks_of, pieces_of}
-use Rattle.dm_rulelaws.proofs.Names.{told_step, told_here, told_ended, process_told, told_server, is_between, is_fixed, Outcome, MoveNote, OneKernel, machine_in, Target, answers_move, leaves_for, aim, label_of, kernel_after, at_record}
-use Rattle.dm_rulelaws.proofs.Names.{at_record_at, tells_asker, inr, View}
-use Rattle.dm_rule.specs.Point.{after_line, move_target}
+use Rattle.dm_rulelaws.proofs.Names.{Line, Told, is_kernels, own_id, Holder, Receiver, Sender, given, goes_between, own_given, Point, moved, after, Part, Says, Routes, Again, Owns, Transmits, Spelled, lines_of, puts, spelled, not_kernels}
+use Rattle.dm_rulelaws.proofs.Names.{not_first, Sane, AllSayable, part_sane, is_own, by_parts, ◌+◌, ap, subst, Label, Boot, first_number, PlainProcess, Forward, forwards_on, Stops, by_round, by_handles, ◌/◌, ◌==◌, Bool, ◌++◌, length, ◌||◌}
+use Rattle.dm_rulelaws.proofs.Names.{if◌then◌else◌, pid_eq, Stage, switchboard, bind, About, Of, Known, Unknown, Here, target_of, front_of, to_kernel, accepts, takes_chunk, takes_block, leaves, chunks_of, pieces_of, told_step, told_here}
+use Rattle.dm_rulelaws.proofs.Names.{told_ended, process_told, told_server, is_between, is_fixed, Outcome, MoveNote, OneKernel, machine_in, Target, answers_move, leaves_for, aim, label_of, kernel_after, at_record, at_record_at, tells_asker}
+use Rattle.dm_rulelaws.proofs.Names.{inr, View, after_line, move_target, packet_line, sort_of}
 use Rattle.dm_rule.specs.View.{Ended}
 use Rattle.dm_onekernel.specs.Pieces as pieces
 use Rattle.dm_onekernel.specs.Step as kernel
@@ -14,8 +13,6 @@ use Rattle.dm_rulelaws.proofs.Found.Core.{Knows, IsReal, LineCore, KnowsAt, IsAt
 use Rattle.dm_rulelaws.proofs.Based.Needs.{by_puts, said_by}
 use Rattle.dm_rulelaws.proofs.Fits.Serves.{asked_noted}
 use Rattle.dm_rulelaws.proofs.Found.Labels.{NeedsLine, line_core, packet_core}
-use Rattle.dm_rulelaws.proofs.Names.{packet_line}
-use Rattle.dm_message.specs.Sorts.{sort_of}
 
 -- the next message of the acting machine's kernel
 pub record NeedsOwn (n : ℕ) (pt : Point) (k : MessageKind) (q : Pid) (b : ℕ) : Type 0 where

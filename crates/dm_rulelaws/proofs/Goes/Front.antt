@@ -1,7 +1,7 @@
 -- The message at the front of the inbox: what it is for whom.
 use Rattle.dm_rulelaws.proofs.Names.{◌≡◌, ℕ, ◌≤◌, ◌==◌, ◌||◌, Bool, true, false, List, [], ◌∷◌, refl, ap, ◌∙◌, sym, subst, is_some, arith, Option, None, Some, Pid, pid_eq, MsgId, id_eq, plain_kind, Step, Line, PlainMessage, PlainWhat, Boot}
 use Rattle.dm_rulelaws.proofs.Names.{switchboard, manager, OneKernel, with_sent, answer_id, answer_to, Made, id_eq-same, pid_eq-same, sent_at, Point, moved, Inbox, times, standing, View, Told, Sane, has_bytes, is_server, WhatFits, is_fixed}
-use Rattle.dm_rulelaws.proofs.Names.{are_home, Part, is_still, is_here, bind, Label, MoveNote, Outcome, without_note, false≢true, Routes, answers_move}
+use Rattle.dm_rulelaws.proofs.Names.{are_home, Part, is_still, is_here, bind, Label, MoveNote, Outcome, without_note, false≢true, Routes, answers_move, sort_of}
 use Rattle.dm_onekernel.specs.Service as service
 use Rattle.dm_onekernel.specs.Step as kernel
 use Rattle.dm_rule.specs.Rule as rule
@@ -12,7 +12,6 @@ use Rattle.dm_rulelaws.proofs.Runs.{Run}
 use Rattle.dm_rulelaws.proofs.Goes.Turns.{Droppable}
 use Rattle.dm_rulelaws.proofs.Found.Real.{has_some, waits_some}
 use Rattle.dm_rulelaws.proofs.Order.Lines.{Last}
-use Rattle.dm_message.specs.Sorts.{sort_of}
 
 -- behind the head of a turn
 abbrev pub begun : Point → ℕ → Point

@@ -2,7 +2,7 @@
 use Rattle.dm_rulelaws.proofs.Names.{◌≡◌, ℕ, zero, suc, ◌+◌, ◌≤◌, ◌==◌, ◌&&◌, Bool, true, false, List, [], ◌∷◌, refl, ap, ◌∙◌, sym, subst, is_some, nat_lt, inl, inr, arith, if◌then◌else◌, Option, None, Some, cases_Bool, false≢true}
 use Rattle.dm_rulelaws.proofs.Names.{nat_tests, Pid, pid_eq, MsgId, id_eq, Label, Why, Line, PlainMessage, PlainWhat, on_mask, instruction, Boot, Reply, reply_eq, reply_code, why_code, bind, when, PlainProcess, PlainStatus, Ready, Waiting}
 use Rattle.dm_rulelaws.proofs.Names.{Alive, Ended, OneKernel, with_process, with_sent, without_message, id_eq-is, id_eq-same, pid_eq-same, sent_at, bind-is, alive-is, counts, Point, moved, Part, Routes, times, is_kernels, not_kernels}
-use Rattle.dm_rulelaws.proofs.Names.{switchboard, manager, not_server, nexts, are_home, Sane, eq_self, not_is, zero_if, runnable_home}
+use Rattle.dm_rulelaws.proofs.Names.{switchboard, manager, not_server, nexts, are_home, Sane, eq_self, not_is, zero_if, runnable_home, burden_of, option_map_or}
 use Rattle.dm_onekernel.specs.Calls as calls
 use Rattle.dm_onekernel.specs.Receiving as receiving
 use Rattle.dm_onekernel.specs.Step as kernel
@@ -12,8 +12,6 @@ use Rattle.dm_rulelaws.proofs.Goes.Parts.{said, no_receive, Shape, Quiet, Takes,
 use Rattle.dm_rulelaws.proofs.Own.Told.{HaveNoOwn, NoOwns}
 use Rattle.dm_rulelaws.proofs.Goes.Turns.{times_self, times_more, Droppable, droppable_on, does_drops, drops_quiet, drops_own, at_hand_of}
 use Rattle.dm_rulelaws.proofs.Order.Lines.{Last}
-use Rattle.dm_rule.specs.Given.{burden_of}
-use Rattle.std.specs.Option.{option_map_or}
 
 -- a process that executes
 pub running_of : (s : OneKernel) (p : Pid) (x : PlainProcess) → s.processes p ≡ Some (Alive x) → s.notes p ≡ None → x.stopped ≡ false → x.status ≡ Ready → kernel.running s p ≡ Some x

@@ -1,8 +1,8 @@
 -- As long as nothing moves, messages of one sender to one process on one channel are received in the order in which they were sent.
 use Rattle.dm_rulelaws.proofs.Names.{◌≡◌, suc, Bool, true, false, List, [], ◌∷◌, ◌++◌, refl, ap, ◌∙◌, sym, subst, arith, Option, Some, false≢true, Pid, MsgId, id_of, Boot, IsValid, Label, OneKernel, bind, start, replay, Step, Line, Spelled}
-use Rattle.dm_rulelaws.proofs.Names.{Point, first_point, labels, moved, LeadsBy, ReceivesInOrder, AreStill, ℕ, ◌+◌, ◌≤◌, ◌==◌, inl, inr, if◌then◌else◌, None, cases_Bool, nat_tests, id_eq, PlainMessage, PlainWhat}
-use Rattle.dm_rulelaws.proofs.Names.{on_mask, in_bag, counts, pid_eq-same, id_eq-is, id_eq-same, after_step, without_id, times, untaken, View, after_label, Each, channel_in, is_for_home}
-use Rattle.dm_rulelaws.proofs.Names.{are_for_home, About, NothingElse, begins, marked, homes_of, Sane, AskNone}
+use Rattle.dm_rulelaws.proofs.Names.{Point, first_point, labels, moved, LeadsBy, ReceivesInOrder, AreStill, ℕ, ◌+◌, ◌≤◌, ◌==◌, inl, inr, if◌then◌else◌, None, cases_Bool, nat_tests, id_eq, PlainMessage, PlainWhat, on_mask, in_bag, counts}
+use Rattle.dm_rulelaws.proofs.Names.{pid_eq-same, id_eq-is, id_eq-same, after_step, without_id, times, untaken, View, after_label, Each, channel_in, is_for_home, are_for_home, About, NothingElse, begins, marked, homes_of, Sane, AskNone}
+use Rattle.dm_rulelaws.proofs.Names.{Life, nat_lt, is_counted, switchboard, manager, pid_eq, first_view, spelled, burden_of}
 use Rattle.dm_rule.specs.View as view
 use Rattle.dm_onekernel.specs.Step as kernel
 use Rattle.dm_rule.specs.Rule as rule
@@ -15,9 +15,6 @@ use Rattle.dm_rulelaws.proofs.Fits.Rises.{both, two}
 use Rattle.dm_rulelaws.proofs.Runs.{Run}
 use Rattle.dm_rulelaws.proofs.Goes.Serves.{first_is}
 use Rattle.dm_rulelaws.proofs.Order.Puts.{thin_pair, queue_on}
-use Rattle.dm_rulelaws.proofs.Names.{Life, nat_lt, is_counted, switchboard, manager, pid_eq}
-use Rattle.dm_rulelaws.proofs.Names.{first_view, spelled}
-use Rattle.dm_rule.specs.Given.{burden_of}
 
 -- messages of one to another on a channel, from a number on
 abbrev pub which : Pid → Pid → ℕ → ℕ → Which

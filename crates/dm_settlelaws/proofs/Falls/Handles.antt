@@ -3,13 +3,12 @@ use Rattle.dm_settlelaws.proofs.Names.{◌≡◌, ℕ, ◌+◌, ◌/◌, ◌==�
 use Rattle.dm_settlelaws.proofs.Names.{Stage, plain_kind, PlainMessage, PlainWhat, Boot, BootImage, first_number, switchboard, manager, PlainProcess, answer_id, bind-is, Line, Sender, is_told_back, accepts, chunks_of, told_ended}
 use Rattle.dm_settlelaws.proofs.Names.{forwards_on, told_here, told_step, leaves, pieces_of, process_told, sends_on, told_server, takes_block, takes_chunk, to_kernel, Part, Says, Routes, Again, Owns, Transmits, Point, Room, board_took}
 use Rattle.dm_settlelaws.proofs.Names.{comes_to, creation_parts, drop_parts, ended_handles, fits, free_room, handles, has_room, hears, here_handles, kernel_handles, kernel_hears, landing_parts, manager_parts, process_handles, routes, says}
-use Rattle.dm_settlelaws.proofs.Names.{About, Known, Of, Told, target_of, touches, lets_go, told_lets_go, MoveNote, Outcome, answers_move, leaves_for, tells_asker}
+use Rattle.dm_settlelaws.proofs.Names.{About, Known, Of, Told, target_of, touches, lets_go, told_lets_go, MoveNote, Outcome, answers_move, leaves_for, tells_asker, sort_of}
 use Rattle.dm_onekernel.specs.Pieces as pieces
 use Rattle.dm_onekernel.specs.Switchboard as board
 use Rattle.dm_onekernel.specs.Manager as manage
 use Rattle.dm_onekernel.specs.Step as kernel
 use Rattle.dm_settlelaws.proofs.Effects.{Effect, Returns, effect, takes_front}
-use Rattle.dm_message.specs.Sorts.{sort_of}
 
 -- a line that changes no pair and brings nothing back; a route is no such line
 abbrev pub is_back : Effect → Bool

@@ -2,12 +2,11 @@
 use Rattle.dm_settlelaws.proofs.Names.{◌≡◌, ℕ, ◌/◌, ◌==◌, ◌||◌, Bool, true, false, not, List, [], ◌∷◌, length, refl, ap, ◌∙◌, sym, if◌then◌else◌, Option, None, Some, false≢true, Pid, pid_eq, MsgId, MessageKind, Label, Step, plain_kind}
 use Rattle.dm_settlelaws.proofs.Names.{PlainMessage, PlainWhat, Boot, manager, switchboard, PlainProcess, bind-is, Line, Sender, is_told_back, behind_count, told_ended, forwards_on, told_here, told_step, process_told, told_server}
 use Rattle.dm_settlelaws.proofs.Names.{place_told, Part, Says, Again, Owns, Point, comes_to, ended_handles, fits, free_room, handles, hears, here_handles, kernel_hears, outcome, process_handles, turns, TellsRight, About, Known, Of, Told}
-use Rattle.dm_settlelaws.proofs.Names.{View, handled, receiver_of, view_after, touches, is_server, is_fixed, is_moving, is_light_kind, says_put, not_is, acting_dropped, or-left, queued_acting, dropped_known, forwarded_acting}
+use Rattle.dm_settlelaws.proofs.Names.{View, handled, receiver_of, view_after, touches, is_server, is_fixed, is_moving, is_light_kind, says_put, not_is, acting_dropped, or-left, queued_acting, dropped_known, forwarded_acting, sort_of}
 use Rattle.dm_onekernel.specs.Step as kernel
 use Rattle.dm_rule.specs.View as view
 use Rattle.dm_settlelaws.proofs.Effects.{effect, takes_front}
 use Rattle.dm_settlelaws.proofs.Falls.Handles.{is_back}
-use Rattle.dm_message.specs.Sorts.{sort_of}
 
 -- a line with which such a message leaves the inbox: it routes nothing, and machines know what they knew
 pub record FrontLine (i : MsgId) (l : Line) : Type 0 where
