@@ -78,18 +78,18 @@ accepts from p has_room slots blocks =
     else Says (line.Lacks p slots blocks) ∷ to_kernel kind.Refuse from ∷ []
 
 -- a line, and a message to the kernel that sent this one: so a piece goes out, or the next is asked for
-abbrev pub replies : MsgId → Line → MessageKind → List Part
-replies id l k = Says l ∷ to_kernel k id.from.home ∷ []
+abbrev pub reply_parts : MsgId → Line → MessageKind → List Part
+reply_parts id l k = Says l ∷ to_kernel k id.from.home ∷ []
 
 abbrev pub gives_piece : MsgId → MessageKind → List Part
-gives_piece id k = replies id (line.Proto id) k
+gives_piece id k = reply_parts id (line.Proto id) k
 
 -- a piece has come: where it is the last chunk the first block is asked for, and where it is the last block all is taken
 abbrev pub takes_chunk : MsgId → Pid → Bool → List Part
-takes_chunk id p last = if last then replies id (line.Migration stage.StateTaken p) kind.PullBlock else gives_piece id kind.PullState
+takes_chunk id p last = if last then reply_parts id (line.Migration stage.StateTaken p) kind.PullBlock else gives_piece id kind.PullState
 
 abbrev pub takes_block : MsgId → Pid → Bool → List Part
-takes_block id p last = if last then replies id (line.Migration stage.MemoryTaken p) kind.AllTaken else gives_piece id kind.PullBlock
+takes_block id p last = if last then reply_parts id (line.Migration stage.MemoryTaken p) kind.AllTaken else gives_piece id kind.PullBlock
 
 -- all is taken: the queue and then the held messages go on, and the other machine may restart the process
 abbrev pub sends_on : ℕ → List MsgId → List Part
