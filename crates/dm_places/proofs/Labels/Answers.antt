@@ -31,11 +31,7 @@ two_sends s v a l m k to from says none e f h = record {
 -- an answer goes back to where its request came from
 pub answer_mirrors : (s : OneKernel) (v : View) (a : Addresses) (l : Placed) (id : MsgId) (m : Message) (k : PlainMessage) (w : What) (u : PlainWhat) (moves : ℕ) → MirrorsMessage a id m → plain_message m ≡ Some k → plain_what w ≡ Some u → enclosed w ≡ []
     → Mirrors s v a l → Mirrors (kernels.with_sent s (Some (answer_to k u))) v (given a (answer_gets a id (record { at = v.acting; moves = moves }))) (with_sent l (Some (answer v.acting moves m w)))
-answer_mirrors s v a l id m k w u moves hm says e none h =
-    let from : Place = record { at = v.acting; moves = moves } in
-    let n = answer v.acting moves m w in
-    subst (λ (i : MsgId). Mirrors (kernels.with_sent s (Some (answer_to k u))) v (given a (two (answer_id i) (a (Sender id)) from)) (with_sent l (Some n))) hm.id
-    (two_sends s v a l n (answer_to k u) (a (Sender id)) from (grind (arith, nat_tests, parts)) none hm.sender refl h)
+answer_mirrors s v a l id m k w u moves hm says e none h = search (arith, two_sends, parts)
 
 -- dropped
 pub dropped_follows : (s t : OneKernel) (v : View) (a : Addresses) (l : Placed) (id : MsgId) → kernel.step s (Label.Dropped id) ≡ Some t → Mirrors s v a l → Follows t v a (Some (without_message l id))
@@ -47,10 +43,7 @@ dropped_follows s t v a l id is h =
 
 -- gone
 gone_says : (w : What) (k u : PlainWhat) → plain_what w ≡ Some k → service.gone_what k ≡ Some u → (plain_what (serving.gone_what w) ≡ Some u) × (enclosed (serving.gone_what w) ≡ [])
-gone_says w (PlainWhat.Read base len) u is e = (ap (λ (x : What). plain_what (serving.gone_what x)) (read_what w base len is) ∙ e, ap (λ (x : What). enclosed (serving.gone_what x)) (read_what w base len is))
-gone_says w (PlainWhat.Write base bytes) u is e = let z = write_what w base bytes is in (ap (λ (x : What). plain_what (serving.gone_what x)) z.is ∙ e, ap (λ (x : What). enclosed (serving.gone_what x)) z.is)
-gone_says w (PlainWhat.Move machine) u is e = (ap (λ (x : What). plain_what (serving.gone_what x)) (move_what w machine is) ∙ e, ap (λ (x : What). enclosed (serving.gone_what x)) (move_what w machine is))
-gone_says w _ u is e = cc
+gone_says w k u h1 h2 = search (arith, read_what, write_what, move_what)
 
 pub gone_follows : (s t : OneKernel) (v : View) (a : Addresses) (l : Placed) (id : MsgId) → kernel.step s (Label.Gone id) ≡ Some t → Mirrors s v a l
     → Follows t v (given a (gives s v a (Label.Gone id))) (bind (l.bag id) (λ (m : Message). Some (with_sent (without_message l id) (Some (gone_answer v.acting m)))))
@@ -82,13 +75,7 @@ no_room_row s t v a l id m k u is hm says h = cc
 
 pub no_space_follows : (s t : OneKernel) (v : View) (a : Addresses) (l : Placed) (id : MsgId) (f b : ℕ) → kernel.step s (Label.NoSpace id f b) ≡ Some t → Mirrors s v a l
     → Follows t v (given a (gives s v a (Label.NoSpace id f b))) (bind (l.bag id) (λ (m : Message). Some (with_sent (without_message l id) (Some (answer v.acting 0 m What.NoRoom)))))
-no_space_follows s t v a l id f b is h =
-    let (k, there, rest) = bind-is (s.bag id) (λ (w : PlainMessage). service.has_no_room s id w w.what) t is in
-    let (m, found, says) = there_of s l id k h.plain there in (
-      with_sent (without_message l id) (Some (answer v.acting 0 m What.NoRoom)),
-      ap (λ (o : Option Message). bind o (λ (n : Message). Some (with_sent (without_message l id) (Some (answer v.acting 0 n What.NoRoom))))) found,
-      no_room_row s t v a l id m k k.what rest (h.places.message id m found) says h,
-    )
+no_space_follows s t v a l id f b is h = search (arith, bind-is, there_of, no_room_row)
 
 -- asked
 asked_row : (s t : OneKernel) (v : View) (a : Addresses) (l : Placed) (id : MsgId) (m : Message) (k : PlainMessage) (u : PlainWhat) → service.follows_request s id k u ≡ Some t → id ≡ id_of manager id.n → MirrorsMessage a id m

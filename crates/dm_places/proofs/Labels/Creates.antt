@@ -32,8 +32,7 @@ table_plainly slots links =
     ap (λ (n : ℕ). map Some (map plain_link links) ++ replicate (slots - n) None) (length-map links plain_link) ∙ slots_plainly links (slots - length links)
 
 pub begun_plainly : (f : Format) (p : Pid) (image : BootImage) (links : List Link) → one.begun f image (map plain_link links) ≡ plain_process (begun_process p (memory_of image) (slots_with (slots_of f) links))
-begun_plainly f p image links =
-    λ i. record { regs = zero_regs; memory = memory_of image; links = table_plainly (slots_of f) links i; status = Ready; stopped = false; sent = 0 }
+begun_plainly f p image links = search (arith, table_plainly)
 
 begun_mirrors : (s : OneKernel) (v : View) (a : Addresses) (l : Placed) (id : MsgId) (m : Message) (child : Pid) (image : BootImage) (links : List Link) → v.moves child ≡ 0 → MirrorsMessage a id m → enclosed m.what ≡ links → Mirrors s v a l
     → Mirrors (service.with_created (service.without_message s id) child image (map plain_link links)) v (given a (child_links a child id 0 (map plain_link links))) (with_child (without_message l id) s.format child image links)
@@ -51,8 +50,7 @@ begun_mirrors s v a l id m child image links none hm is h =
       owner = λ q e. absurd (let f : None ≡ Some q = e in cc);
     } in
     let k = kernel_process (service.without_message s id) (without_message l id) child (Alive (one.begun s.format image ls)) (Some y) (ap Some (begun_plainly s.format child image links)) (kernel_out s l id h.plain) in
-    search
-    (places_process v a b (without_message l id) child (Some y) (places_out v a l id h.places) o.others (this_process v b child y hy) o.messages o.servers)
+    search (arith, places_process, places_out, this_process)
 
 created_row : (s t : OneKernel) (v : View) (a : Addresses) (l : Placed) (id : MsgId) (m : Message) (k : PlainMessage) (child : Pid) (image : BootImage) (links : List Link) → service.creates_of s id k child (map plain_link links) image ≡ Some t → v.moves child ≡ 0
     → MirrorsMessage a id m → plain_message m ≡ Some k → enclosed m.what ≡ links → Mirrors s v a l

@@ -25,8 +25,7 @@ enclosed_one : (a : Addresses) (sent : MsgId) (pl : Place) (ls : List Link) → 
 enclosed_one a sent pl ls h k w e = grind (arith, nat_tests, id_eq-same)
 
 one_link : (place : Place) (w : Link) → place ≡ place_of w.addr → (k : ℕ) (u : Link) → slice_get (w ∷ []) k ≡ Some u → (k ≡ 0) × (place ≡ place_of u.addr)
-one_link place w at zero u e = let f : w ≡ u = cc in (refl, at ∙ ap (λ (z : Link). place_of z.addr) f)
-one_link place w at (suc k) u e = absurd (let f : None ≡ Some u = e in cc)
+one_link place w h1 k u h2 = search arith
 
 -- the manager goes on as g, and answers over the link of a request: c is a with what a new child gives
 answers_mirrors : (s : OneKernel) (v : View) (a c : Addresses) (l : Placed) (id : MsgId) (n : ℕ) (r : Pending) (g : Managing) (k : Manager) (byte : ℕ) (ws : List Link) (over : Option Link) → r.answer ≡ over
@@ -69,11 +68,7 @@ answers_mirrors s v a c l id n r g k byte ws (Some over) is there order h one_is
       places = record {
         process = λ p x e. process_same v a b p x (let w = process p in record { slot = w.slot; owner = w.owner }) (h.places.process p x e);
         message = came_places a b l' m o.message
-            (λ i e. let w = message i in record {
-              receiver = ap (λ (d : Bool). if d then to else c (Receiver i)) e ∙ w.receiver;
-              sender = ap (λ (d : Bool). if d then from else c (Sender i)) e ∙ w.sender;
-              enclosed = λ j. ap (λ (d : Bool). if d && (0 == j) then from else c (Enclosed i j)) e ∙ w.enclosed j;
-            })
+            (λ i e. let w = message i in (search (arith)))
             (search (
               ap (λ (d : Bool). if d then to else c (Receiver sent)) (id_eq-same sent) ∙ subst (λ (w : Option Link). AnswerNames w to) is (h.places.answer n r there),
               ap (λ (d : Bool). if d then from else c (Sender sent)) (id_eq-same sent),
@@ -100,19 +95,7 @@ record TookTo (s : OneKernel) (v : View) (b : Addresses) (l : Placed) (id : MsgI
 child_first : (s : OneKernel) (v : View) (a : Addresses) (l : Placed) (j : ℕ) (pl : Place) (n : ℕ) (m : Option PlainMessage) → Mirrors s v (given (given a (gets (Child j) pl ∷ [])) (manager_answers v a n m)) l
     → Mirrors s v (given a (gets (Child j) pl ∷ manager_answers v a n m)) l
 child_first s v a l j pl n None h = h
-child_first s v a l j pl n (Some q) h =
-    let g = h.places in
-    record {
-      plain = h.plain;
-      places = record {
-        process = λ p x e. let z = g.process p x e in record { pid = z.pid; moves = z.moves; slots = z.slots; owner = z.owner };
-        message = λ i m e. let z = g.message i m e in record { id = z.id; receiver = z.receiver; sender = z.sender; enclosed = z.enclosed };
-        name = g.name;
-        child = g.child;
-        answer = g.answer;
-        asker = g.asker;
-      };
-    }
+child_first s v a l j pl n (Some q) h = search arith
 
 -- the child stands
 created_by : (s : OneKernel) (v : View) (a : Addresses) (l : Placed) (id : MsgId) (n : ℕ) (child : Pid) (p : Option Pending) (k : one.ManagerTook) → pending_request n l.manager.pending ≡ p → one.takes_created s.manager n child (option_map plain_pending p) ≡ Some k
