@@ -166,11 +166,7 @@ module _ (b : Boot) (w : WorldState) (pt : Point) (l : Placed) (h : History) (a 
       may_read p (Data n m) (Packet.Data a c n x.message) is loads x.read (
         refl,
         (
-          record {
-            acts = acts;
-            from = (low_a, λ same. apart (same ∙ (s.nodes c c_in).kernel.here));
-            fits = (come.in_window k n m e, come.numbered k n m e);
-          },
+          record { acts = acts; from = (low_a, λ same. apart (same ∙ (s.nodes c c_in).kernel.here)); fits = (come.in_window k n m e, come.numbered k n m e) },
           sym (s.nodes c c_in).kernel.here,
         ),
       )
@@ -180,11 +176,7 @@ module _ (b : Boot) (w : WorldState) (pt : Point) (l : Placed) (h : History) (a 
       may_read p (Ack n) (Packet.Ack a c n) is loads (reads_ack a c n low_a low_c apart (small_ack b w pt l h a c k s counted a_in c_in apart n e)) (
         refl,
         (
-          record {
-            acts = acts;
-            from = (low_a, λ same. apart (same ∙ (s.nodes c c_in).kernel.here));
-            fits = come.ack k n e;
-          },
+          record { acts = acts; from = (low_a, λ same. apart (same ∙ (s.nodes c c_in).kernel.here)); fits = come.ack k n e },
           sym (s.nodes c c_in).kernel.here,
         ),
       )

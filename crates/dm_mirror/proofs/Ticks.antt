@@ -83,9 +83,6 @@ out_there s k st few =
       ap (λ (t : Bool). if t then numbered (s.sender.acked + k) (slice_get s.sender.unacked k) else None) test ∙ ap (numbered (s.sender.acked + k)) is,
     )
 
-repeats_next : (a c n k : ℕ) → repeats a c (numbers_from n (suc k)) ≡ repeats a c (numbers_from n k) ++ Transmits a c (Load.Data (n + k)) ∷ []
-repeats_next a c n k = ap (repeats a c) (numbers_next n k) ∙ map-append (λ (z : ℕ). Transmits a c (Load.Data z)) (numbers_from n k) ((n + k) ∷ [])
-
 module _ (b : Boot) (l : Placed) (w : WorldState) (m : ℕ) where
   first_then : (pt : Point) (h : History) (c k : ℕ) → m ≢ c → m < pt.kernel.machines → c < pt.kernel.machines → StandsWith b w pt l h → suc k ≤ count_out ((w.nodes m).senders c)
       → Again b l w pt (first_out (w.nodes m) c k) (repeats m c (numbers_from ((w.nodes m).senders c).acked k)) → Again b l w pt (first_out (w.nodes m) c (suc k)) (repeats m c (numbers_from ((w.nodes m).senders c).acked (suc k)))
@@ -96,7 +93,8 @@ module _ (b : Boot) (l : Placed) (w : WorldState) (m : ℕ) where
       let one : Again b l (spoke w outs) a.next (sends (w.nodes m) c (Data (s.acked + k) x) ∷ []) (Transmits m c (Load.Data (s.acked + k)) ∷ []) =
       again_one b l (spoke w outs) a.next a.history m c k (s.acked + k) x apart (omega (arith, small, a.machines)) (omega (arith, less, a.machines)) is a.stands in
       let both = again_then b l w pt outs (sends (w.nodes m) c (Data (s.acked + k) x) ∷ []) (repeats m c (numbers_from s.acked k)) (Transmits m c (Load.Data (s.acked + k)) ∷ []) a one in
-      subst (λ (ps : List Part). Again b l w pt (first_out (w.nodes m) c (suc k)) ps) (sym (repeats_next m c s.acked k))
+      subst (λ (ps : List Part). Again b l w pt (first_out (w.nodes m) c (suc k)) ps)
+      (sym (ap (repeats m c) (numbers_next s.acked k) ∙ map-append (λ (z : ℕ). Transmits m c (Load.Data z)) (numbers_from s.acked k) ((s.acked + k) ∷ [])))
       (subst (λ (o : Option (ℕ × Message)). Again b l w pt (outs ++ again (w.nodes m) c o) (repeats m c (numbers_from s.acked k) ++ Transmits m c (Load.Data (s.acked + k)) ∷ [])) (sym is) both)
 
   -- the first k of what is out to machine c

@@ -54,15 +54,8 @@ set_off f p q x off = ap (λ (d : Bool). if d then x else f q) off
 set_self : {X : Type 0} (f : Pid → X) (p : Pid) (x : X) → (if pid_eq p p then x else f p) ≡ x
 set_self f p x = ap (λ (d : Bool). if d then x else f p) (pid_eq-same p)
 
--- no other machine has the process
-forward_only : (d : ℕ) (n : Known) → kind_leaves MessageKind.Restart d n ≡ true → has_process n ≡ false
-forward_only d n e = grind (arith, nat_tests)
-
-away_only : (n : Known) → is_away n ≡ true → has_process n ≡ false
-away_only n e = grind (arith, nat_tests)
-
 elsewhere_by : (s d n : ℕ) (i : Option MsgId) (k : Known) (at_source at_destination : Bool) → (s == n) ≡ at_source → (d == n) ≡ at_destination → at_destination ≡ false → knows (Moves MessageKind.Restart s d i) n k ≡ true → has_process k ≡ false
-elsewhere_by s d n i k at_source at_destination e f off h = grind (arith, nat_tests, forward_only, away_only)
+elsewhere_by s d n i k at_source at_destination e f off h = grind (arith, nat_tests)
 
 not_elsewhere : (b : Boot) (m : ℕ) (pt : Point) (l : Placed) (k : KernelState) (y : Message) (p : Pid) (a : Arrives b m pt l k y p) (n : ℕ) → kind_of y.what ≡ MessageKind.Restart → n ≢ m → has_process (pt.view.known n p) ≡ false
 not_elsewhere b m pt l k y p a n is apart = grind (arith, nat_tests, elsewhere_by, eq_off)
@@ -71,16 +64,9 @@ not_elsewhere b m pt l k y p a n is apart = grind (arith, nat_tests, elsewhere_b
 back_box : (v : View) (m : ℕ) (p : Pid) (i : MsgId) (is : List MsgId) → v.inbox m ≡ i ∷ is → v.held m p ++ at_machine v.inbox m (without_first (v.inbox m)) m ≡ v.held m p ++ is
 back_box v m p i is box = ap (λ (xs : List MsgId). v.held m p ++ xs) (machine_self v.inbox m (without_first (v.inbox m)) ∙ first_gone i is (v.inbox m) box)
 
-held_fewer : (v : View) (m n : ℕ) (p q : Pid) (j : MsgId) (d : Bool) → times j (if d then [] else v.held n q) ≤ times j (v.held n q)
-held_fewer v m n p q j d = grind (arith, nat_tests)
-
-inbox_back : (v : View) (m n : ℕ) (p : Pid) (j : MsgId) (d : Bool) → (m == n) ≡ d
-    → times j (if d then v.held m p ++ at_machine v.inbox m (without_first (v.inbox m)) m else at_machine v.inbox m (without_first (v.inbox m)) n) ≤ times j (at_machine v.inbox m (without_first (v.inbox m)) n) + times j (v.held m p)
-inbox_back v m n p j d e = grind (arith, nat_tests, times-append, machine_self)
-
 back_standing : (pt : Point) (m : ℕ) (p : Pid) (j : MsgId) (z : Spot)
     → standing (back_point pt m p).view j z ≤ standing (come_view pt.view m p (without_first (pt.view.inbox m)) pt.view.known pt.view.asked) j z + standing pt.view j (Held m p)
-back_standing pt m p j z = grind (arith, nat_tests, held_fewer, inbox_back)
+back_standing pt m p j z = grind (arith, nat_tests, times-append, machine_self)
 
 -- what stands then stood before, and no message of its migration stands
 back_stood : (b : Boot) (m : ℕ) (pt : Point) (l : Placed) (records : AllRecords) (k : KernelState) (y : Message) (p : Pid) (c : Comes b m pt l records k y p) (i : MsgId) (z : Spot)

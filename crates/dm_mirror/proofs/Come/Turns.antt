@@ -30,12 +30,8 @@ known_same pt v l p queue held (Forward at_ moves) (Some (Record.Forward to coun
 known_same pt v l p queue held Ended (Some (Record.Ended y)) h = h
 known_same pt v l p queue held k r h = absurd h
 
--- the handled message is gone, and no other has come
-fewer_at : (f : ℕ → List MsgId) (m n : ℕ) (i j : MsgId) (is box : List MsgId) → f m ≡ i ∷ is → box ≡ is → (c : Bool) → (m == n) ≡ c → times j (if c then box else f n) ≤ times j (f n)
-fewer_at f m n i j is box e b c same = grind (arith, nat_tests, eq_is)
-
 pub fewer : (v : View) (m : ℕ) (p : Pid) (is box : List MsgId) (known : ℕ → Pid → Known) (asked : Pid → ℕ) (i j : MsgId) (z : Spot) → v.inbox m ≡ i ∷ is → box ≡ is → standing (come_view v m p box known asked) j z ≤ standing v j z
-fewer v m p is box known asked i j z e b = grind (arith, nat_tests, fewer_at)
+fewer v m p is box known asked i j z e b = grind (arith, nat_tests, eq_is)
 
 gone_at : (v : View) (m n : ℕ) (i : MsgId) (is box : List MsgId) → v.inbox m ≡ i ∷ is → box ≡ is → standing v i (Inbox m) ≡ 1 → ((z : Spot) → z ≢ Inbox m → standing v i z ≡ 0) → (c : Bool) → (m == n) ≡ c → times i (if c then box else v.inbox n) ≡ 0
 gone_at v m n i is box e b one others true same = ap (times i) b ∙ (let f = times_self i is in omega (arith, ap (times i) (sym e) ∙ one, f))

@@ -198,11 +198,8 @@ group_keeps P topic keep b pt d w e h =
 abbrev pub OwnFew : ℕ → View → Type 0
 OwnFew n v = PairsWithin n v → (m : ℕ) → v.count m ≤ total v n
 
-at_machine_most : (f : ℕ → ℕ) (home m : ℕ) (c : Bool) → (home == m) ≡ c → (if c then f home + 1 else f m) ≤ f m + 1
-at_machine_most f home m c e = grind (arith, nat_tests)
-
 count_if : (f : ℕ → ℕ) (home m : ℕ) (own : Bool) → (if own then (λ (k : ℕ). if home == k then f home + 1 else f k) else f) m ≤ f m + 1
-count_if f home m own = grind (arith, nat_tests, at_machine_most)
+count_if f home m own = grind (arith, nat_tests)
 
 pub put_total : (n : ℕ) (v : View) (a b : ℕ) (i : MsgId) (k : MessageKind) (q : Pid) → PairsWithin n (after_put v a b i k q) → total v n + 1 ≤ total (after_put v a b i k q) n
 put_total n v a b i k q within =

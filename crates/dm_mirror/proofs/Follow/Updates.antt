@@ -228,10 +228,8 @@ server_manager b pt m id t o e h = grind (arith, nat_tests)
 -- the switchboard's links follow
 pub updated_board_turn : (b : Boot) (m : ℕ) (pt : Point) (l : Placed) (records : AllRecords) (k : KernelState) (y : Message) (c : Fronts b m pt l records k y) (about : Addr) → y.to.pid ≡ switchboard → y.what ≡ What.Update about → TurnsAt b m pt l records k
 updated_board_turn b m pt l records k y c about to e =
-    let s = record k { inbox = c.rest } in
     let home = at_home b m pt l records k y c (ap is_fixed to) (ap (λ (p : Pid). p.home) to) in
     let v : Servers = record { board = l.board; manager = l.manager } in
-    let there : k.servers ≡ Some v = c.stands.servers ∙ first_servers l m home in
     let r = about.pid in
     let n = count_by (named_is_behind r about.moves) l.board.names in
     let told = (c.own y.id y c.there (ap (λ (w : What). with_what y (plain_what w)) e)).told in
@@ -261,10 +259,8 @@ updated_board_turn b m pt l records k y c about to e =
 -- the manager's links follow
 pub updated_manager_turn : (b : Boot) (m : ℕ) (pt : Point) (l : Placed) (records : AllRecords) (k : KernelState) (y : Message) (c : Fronts b m pt l records k y) (about : Addr) → y.to.pid ≡ manager → y.what ≡ What.Update about → TurnsAt b m pt l records k
 updated_manager_turn b m pt l records k y c about to e =
-    let s = record k { inbox = c.rest } in
     let home = at_home b m pt l records k y c (ap is_fixed to) (ap (λ (p : Pid). p.home) to) in
     let v : Servers = record { board = l.board; manager = l.manager } in
-    let there : k.servers ≡ Some v = c.stands.servers ∙ first_servers l m home in
     let r = about.pid in
     let n = count_by (places.is_behind r about.moves) l.manager.children + count_by (pending_is_behind r about.moves) l.manager.pending in
     let told = (c.own y.id y c.there (ap (λ (w : What). with_what y (plain_what w)) e)).told in

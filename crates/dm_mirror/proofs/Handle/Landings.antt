@@ -135,8 +135,7 @@ landed_row b m pt l k y w c h f d (Landed.Next n) e serves_as placed_as turn_as 
     let px = plain_process h.x in
     let z = d.process in
     let (q, says, last) = bind-is (plain_message n) (λ (g : PlainMessage). Some (pieces.Next g (plain_process z))) f (sym (ap (λ (g : Landed). plain_landed g z) e) ∙ plain) in
-    let next : pieces.Next q (plain_process z) ≡ f = cc in
-    let is : pieces.lands p px x px.status ≡ Some (pieces.Next q (plain_process z)) = plain_lands ∙ ap Some (sym next) in
+    let is : pieces.lands p px x px.status ≡ Some (pieces.Next q (plain_process z)) = plain_lands ∙ ap Some (sym (cc)) in
     let so = lands-is p px x px.status (pieces.Next q (plain_process z)) is in
     let name : n.id ≡ q.id = (parts n q says).id in
     served_row b m pt l k y w c h (record {
@@ -233,7 +232,6 @@ served_fresh b m pt l k y w c h t i step is =
     let seen = sane_of b m pt l k y w c in
     let g = bag_served seen.r seen.e s t y.id step seen.sound in
     let same : g.m ≡ plainly y w = let f : Some g.m ≡ Some (plainly y w) = sym g.there ∙ c.front.there in cc in
-    let lives : Some (Alive g.x) ≡ Some (Alive (plain_process h.x)) = sym g.alive ∙ ap (λ (n : PlainMessage). s.processes n.to) same ∙ h.life in
     let one : g.x ≡ plain_process h.x = cc in
     bag_none seen.r seen.e s i (g.is.fresh i ((λ j. served_id y.id (same j) (one j) (same j).what) ∙ is)) seen.sound.entered
 

@@ -87,6 +87,9 @@ pub record FrontGone (m : ℕ) (is : List MsgId) (v w : View) : Type 0 where
   pub held : (n : ℕ) (p : Pid) (j : MsgId) → 1 ≤ times j (w.held n p) → 1 ≤ times j (v.held n p)
   pub pair : (a c : ℕ) → w.pair a c ≡ v.pair a c
 
+pub front_rest : (m : ℕ) (is : List MsgId) (v w : View) → w.inbox m ≡ is → (j : MsgId) → 1 ≤ times j (w.inbox m) → (1 ≤ times j is) ⊎ ((p : Pid) × (1 ≤ times j (v.held m p)))
+front_rest m is v w box j least = inl (subst (λ (ids : List MsgId). 1 ≤ times j ids) box least)
+
 -- what stands somewhere then stood somewhere, and if that was in this inbox, behind the front
 pub record Stood (m : ℕ) (is : List MsgId) (v : View) (j : MsgId) : Type 0 where
   pub spot : Spot
@@ -259,13 +262,18 @@ pub leaving_is : (pt : Point) (l : Placed) (p : Pid) (queue held : List MsgId) (
 leaving_is pt l p queue held to (Some (Record.Frozen d)) h = record { departure = d; is = refl; stands = h }
 leaving_is pt l p queue held to _ h = absurd h
 
--- the messages of the migrations of other processes carry what they carried, where none of this process's stands anywhere
-pub record TokensOne (v w : View) (l placed : Placed) (before after : AllRecords) (p : Pid) : Type 0 where
+-- what it leaves of other processes
+pub record TokensStay (v w : View) (l placed : Placed) (before after : AllRecords) (p : Pid) : Type 0 where
   pub told : w.told ≡ v.told
   pub asked : (q : Pid) → pid_eq p q ≡ false → w.asked q ≡ v.asked q
   pub processes : (q : Pid) → pid_eq p q ≡ false → placed.processes q ≡ l.processes q
   pub notes : (q : Pid) → pid_eq p q ≡ false → placed.notes q ≡ l.notes q
   pub records : (n : ℕ) (q : Pid) → pid_eq p q ≡ false → after n q ≡ before n q
+
+-- the messages of the migrations of other processes carry what they carried, where none of this process's stands anywhere
+pub record TokensOne (v w : View) (l placed : Placed) (before after : AllRecords) (p : Pid) : Type 0 where
+  pub stays : TokensStay v w l placed before after p
+  pub open stays use *
   pub came : (i : MsgId) (t : Told) (z : Spot) → v.told i ≡ Some t → is_between t.kind ≡ true → 1 ≤ standing w i z → ((y : Spot) × (1 ≤ standing v i y)) × (placed.bag i ≡ l.bag i)
   pub none : (i : MsgId) (t : Told) (z : Spot) → v.told i ≡ Some t → is_between t.kind ≡ true → t.about ≡ Of p → 1 ≤ standing w i z → ⊥
 

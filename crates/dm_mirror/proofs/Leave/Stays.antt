@@ -21,23 +21,14 @@ messages_append bag (i ∷ is) js [] ns e f = cc
 messages_append bag (i ∷ is) js (m ∷ ms) ns e f =
     let first : bag i ≡ Some m = cc in
     let more : map bag is ≡ map Some ms = cc in
-    let rest : map bag (is ++ js) ≡ map Some (ms ++ ns) = messages_append bag is js ms ns more f in
-    λ c. first c ∷ rest c
+    λ c. first c ∷ (messages_append bag is js ms ns more f) c
 
 -- what stands in two lists stands in one of them
 pub in_one : (j : MsgId) (is js : List MsgId) → 1 ≤ times j (is ++ js) → (1 ≤ times j js) ⊎ (1 ≤ times j is)
 in_one j is js least = grind (arith, nat_tests, nat_le, times-append)
 
--- where the destination refused it, no machine but the source has it
-early_comes : (s : ℕ) (k : Known) → kind_comes MessageKind.Refuse s k ≡ true → has_process k ≡ false
-early_comes s k e = grind (arith, nat_tests)
-
-away_none : (k : Known) → is_away k ≡ true → has_process k ≡ false
-away_none k e = grind (arith, nat_tests)
-
-refused_away : (m d n : ℕ) (i : Option MsgId) (k : Known) (at_source at_destination : Bool) → (m == n) ≡ at_source → (d == n) ≡ at_destination
-    → at_source ≡ false → knows (Moves MessageKind.Refuse m d i) n k ≡ true → has_process k ≡ false
-refused_away m d n i k at_source at_destination e f off h = grind (arith, nat_tests, early_comes, away_none)
+refused_away : (m d n : ℕ) (i : Option MsgId) (k : Known) (at_source at_destination : Bool) → (m == n) ≡ at_source → (d == n) ≡ at_destination → at_source ≡ false → knows (Moves MessageKind.Refuse m d i) n k ≡ true → has_process k ≡ false
+refused_away m d n i k at_source at_destination e f off h = grind (arith, nat_tests)
 
 refuses : (b : Boot) (m : ℕ) (pt : Point) (l : Placed) (records : AllRecords) (k : KernelState) (y : Message) (p : Pid) (slots blocks : ℕ) → Hearing b m pt l records k (record y { what = What.Refuse p slots blocks }) → TurnsAt b m pt l records k
 refuses b m pt l records k y p slots blocks h =
@@ -52,7 +43,6 @@ refuses b m pt l records k y p slots blocks h =
     let server = leaves_no_server b pt m g.to p h.run g.known in
     let state : KernelState = record s { records = with_record s.records p (Record.Here x); ring = s.ring ++ p ∷ []; inbox = d.departure.held ++ s.inbox } in
     let next : Point = moved (begun pt m) (Line.Stays p) pt.kernel in
-    let after_records : AllRecords = at_machine records m state.records in
     let first : List MsgId = at_machine v.inbox m (without_first (v.inbox m)) m in
     let first_is : first ≡ h.ids = machine_self v.inbox m (without_first (v.inbox m)) ∙ ap without_first h.box in
     let box : next.view.inbox m ≡ v.held m p ++ h.ids = machine_self (at_machine v.inbox m (without_first (v.inbox m))) m (v.held m p ++ first) ∙ ap (λ (is : List MsgId). v.held m p ++ is) first_is in
@@ -86,23 +76,17 @@ refuses b m pt l records k y p slots blocks h =
       run = h.run;
       said = refl;
       mirrors = mirrors_view pt.kernel v next.view pt.addresses l refl h.mirrors;
-      kernel = stands_set b pt next l l m k state p
-          (search (sets, record_others, mine, keeps)) h.stands
+      kernel = stands_set b pt next l l m k state p (search (sets, record_others, mine, keeps)) h.stands
           (ap (λ (ring : List Pid). ring ++ p ∷ []) h.stands.ring ∙ sym (machine_self v.ring m (v.ring m ++ p ∷ [])))
           (ap (map l.bag) box ∙ messages_append l.bag (v.held m p) h.ids d.departure.held h.rest d.stands.held h.others)
-          h.stands.made
-          (room_stays k.room _ _ _ taken h.stands.room)
+          h.stands.made (room_stays k.room _ _ _ taken h.stands.room)
           h.stands.servers;
       sent = λ e. e;
       elsewhere = search (machine_off, v.ring, record_off);
       own = own_stays v next.view l refl h.own;
-      tokens = tokens_one v next.view l l records after_records p
+      tokens = tokens_one v next.view l l records (at_machine records m state.records) p
           (record {
-            told = refl;
-            asked = λ q off. refl;
-            processes = λ q off. refl;
-            notes = λ q off. refl;
-            records = λ n q off. records_as records m n k.records state.records q h.records_here (sets q off);
+            stays = search (λ (n : ℕ) (q : Pid) (off : pid_eq p q ≡ false). records_as records m n k.records state.records q h.records_here (sets q off));
             came = λ i t spot told between least. (let e = stood m y.id h.ids v next.view i spot h.box gone least in ((e.spot, e.stands), refl));
             none = none;
           }) h.tokens;
