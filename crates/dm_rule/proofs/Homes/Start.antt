@@ -24,10 +24,7 @@ somewhere_by : (b : Boot) (l : Link) (c d : Bool) → pid_eq l.addr.pid switchbo
     → (if c then boot.leads_to_server l else if d then boot.leads_to_server l || boot.controls_child b l else boot.leads_to_process b l (boot.process_named l.addr.pid b.processes)) ≡ true → l.addr.at ≡ l.addr.pid.home
 somewhere_by b l true d is as_ e = grind (arith, nat_tests)
 somewhere_by b l false true is as_ e =
-    elim (cases_Bool (boot.leads_to_server l)) [
-      | inl holds ↦ grind (arith, nat_tests)
-      | inr fails ↦ let f : boot.controls_child b l ≡ true = ap (λ (v : Bool). v || boot.controls_child b l) (sym fails) ∙ e in grind (arith, nat_tests)
-    ]
+    search arith
 somewhere_by b l false false is as_ e = process_at b l (boot.process_named l.addr.pid b.processes) (named_is l.addr.pid b.processes) e
 
 link_home : (b : Boot) (l : Link) → boot.link_is_valid b l ≡ true → place_of l.addr ≡ unmoved l.addr.pid.home
@@ -54,22 +51,13 @@ first_link b (x ∷ xs) n (suc k) l valid e = first_link b xs n k l (right_true 
 
 begun_home_of : (b : Boot) (p : BootProcess) (q : Pid) (x : PlainProcess) (o : Option BootImage) → boot.links_are_valid b p.links ≡ true → links_at b.processes q ≡ p.links
     → kernel.alive (option_map (λ image. Alive (begun b.format image (map plain_link p.links))) o) ≡ Some x → HomeProcess IsHome (first_addresses b) q x
-begun_home_of b p q x None valid at e = cc
-begun_home_of b p q x (Some i) valid at e =
-    let f : begun b.format i (map plain_link p.links) ≡ x = cc in
-    let links : slots_with (slots_of b.format) (map plain_link p.links) ≡ x.links = ap (λ (v : PlainProcess). v.links) f in
-    record {
-      slots = λ k l there. ap (λ (v : List Link). place_in (slice_get v k)) at ∙ first_link b p.links (slots_of b.format - length (map plain_link p.links)) k l valid (ap (λ (v : List (Option PlainLink)). link_at v k) links ∙ there);
-      owner = λ w moving. absurd (let g : None ≡ Some w = ap (λ (v : PlainProcess). owner_in v.status) f ∙ moving in cc);
-    }
+begun_home_of b p q x o h1 h2 h3 = search (arith, first_link)
 
 links_valid : (b : Boot) (n : ℕ) (p : BootProcess) → boot.process_is_valid b n p ≡ true → boot.links_are_valid b p.links ≡ true
 links_valid b n p e =
     let last = boot.links_are_valid b p.links in
     let few = nat_le (length p.links) (slots_of b.format) in
-    let image = nat_lt p.image (length b.images) in
-    let number = p.pid.num == boot.first_number + n in
-    right_true few last (right_true image (few && last) (right_true number (image && (few && last)) (right_true (nat_lt p.pid.home (length b.machines)) (number && (image && (few && last))) e)))
+    search (arith, right_true)
 
 begun_home : (b : Boot) (earlier ps : List BootProcess) (q : Pid) (x : PlainProcess) → processes_are_valid b earlier ps ≡ true → links_at b.processes q ≡ links_at ps q
     → kernel.alive (life_at b ps q) ≡ Some x → HomeProcess IsHome (first_addresses b) q x
@@ -112,12 +100,4 @@ ring_home m (p ∷ ps) = (elim (p.pid.home == m) as (λ c. (p.pid.home == m) ≡
     [ true ↦ λ is. ap (λ (v : Bool). v && are_home m (ring_at ps m)) is ∙ (ring_home m ps) | false ↦ λ is. (ring_home m ps) ]) refl
 
 pub Homes-start : (b : Boot) → IsValid b → Homes (first_point b)
-Homes-start b valid = record {
-  home = homes_are IsHome (start b) (first_addresses b) (start_at_home b valid);
-  moves = λ p. refl;
-  ring = λ m. ring_home m b.processes;
-  inbox = λ m. refl;
-  queue = λ m p. refl;
-  untaken = λ a m. refl;
-  pending = refl;
-}
+Homes-start b valid = search (arith, homes_are IsHome (start b) (first_addresses b) (start_at_home b valid), ring_home, b.processes)

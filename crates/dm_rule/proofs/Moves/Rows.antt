@@ -3,7 +3,7 @@ use Rattle.dm_rule.proofs.Names.{◌≡◌, ℕ, ◌==◌, Bool, true, false, Li
 use Rattle.dm_rule.proofs.Names.{PlainProcess, Line, View, Told, About, NothingElse, Of, Known, Unknown, Here, Frozen, Forward, Ended, view_after, handled, handled_first, receiver_of, is_kernels, target_of, with_ring, knowing, released}
 use Rattle.dm_rule.proofs.Names.{after_proto, follows_up, asks_on, held_for, Addresses, Sender, Child, is_told_back, Point, moved, seen, Part, Says, Again, Owns, Spelled, spelled, to_kernel, forwards_on, moves_to, accepts, takes_chunk}
 use Rattle.dm_rule.proofs.Names.{takes_block, gives_piece, sends_on, leaves, kernel_told, chunks_of, pieces_of, here_told, ended_told, process_told, server_told, migrates, fits, free_room, kernel_hears, hears, Spot, Queue, Held, Inbox}
-use Rattle.dm_rule.proofs.Names.{Untaken, ids_at, bind-is, label_of, Label, MoveNote, Outcome, Target, Routes, answer_id, answers_move, frozen_for, front_told, leaves_for, tells_asker, sets_off}
+use Rattle.dm_rule.proofs.Names.{Untaken, ids_at, bind-is, label_of, Label, MoveNote, Outcome, Target, Routes, answer_id, answers_move, frozen_for, front_told, leaves_for, tells_asker, sets_off, arith, nat_tests}
 use Rattle.dm_onekernel.specs.Step as kernel
 use Rattle.dm_rule.specs.View as view
 use Rattle.dm_rule.proofs.Lines.{hidden, Stands-stays}
@@ -59,16 +59,11 @@ pub goes_front : (pt : Point) (l : Line) (i : MsgId) (is : List MsgId) → is_pu
 goes_front pt l i is quiet h front mine off = goes_first pt l i is quiet h front mine (λ z. off z ∙ sym (first_off pt.view i is front z))
 
 pub asks_off : (v : View) (a : About) (z : Spot) → ids_at (asks_on v a) z ≡ ids_at v z
-asks_off v (Of p) (Queue m q) = refl
-asks_off v (Of p) (Held m q) = refl
-asks_off v (Of p) (Inbox m) = refl
-asks_off v (Of p) (Untaken c d) = refl
-asks_off v _ z = refl
+asks_off v a z = search arith
 
 pub proto_off : (v : View) (o : Option Told) (z : Spot) → ids_at (after_proto v o) z ≡ ids_at v z
 proto_off v None z = about_off v NothingElse z
-proto_off v (Some t) z = about_off (follows_up v t.about t.kind) t.about z ∙ (elim t.kind as (λ k. ids_at (follows_up v t.about k) z ≡ ids_at v z)
-    [ MessageKind.State ↦ asks_off v t.about z | MessageKind.Memory ↦ asks_off v t.about z | _ ↦ refl ])
+proto_off v (Some t) z = search (arith, about_off, asks_off)
 
 for_off : (v : View) (p : Pid) (to : ℕ) (z : Spot) → ids_at (frozen_for v p to) z ≡ ids_at v z
 for_off v p to (Queue m q) = refl
@@ -85,12 +80,10 @@ accepted_off v p (Queue m q) = refl
 accepted_off v p _ = refl
 
 pub state_off : (v : View) (p : Pid) (z : Spot) → ids_at (view_after v (Line.Migration Stage.StateTaken p)) z ≡ ids_at (handled_first v) z
-state_off v p (Queue m q) = refl
-state_off v p _ = refl
+state_off v p z = search arith
 
 pub memory_off : (v : View) (p : Pid) (z : Spot) → ids_at (view_after v (Line.Migration Stage.MemoryTaken p)) z ≡ ids_at (handled_first v) z
-memory_off v p (Queue m q) = refl
-memory_off v p _ = refl
+memory_off v p z = grind (arith, nat_tests)
 
 pub lacks_off : (v : View) (p : Pid) (slots blocks : ℕ) (z : Spot) → ids_at (view_after v (Line.Lacks p slots blocks)) z ≡ ids_at (handled_first v) z
 lacks_off v p slots blocks (Queue m q) = refl
@@ -105,8 +98,7 @@ abbrev pub home_again : View → Pid → View
 home_again v p = with_ring (knowing v p Here) (v.ring v.acting ++ p ∷ [])
 
 pub home_off : (v : View) (p : Pid) (z : Spot) → ids_at (home_again v p) z ≡ ids_at v z
-home_off v p (Queue m q) = refl
-home_off v p _ = refl
+home_off v p z = search arith
 
 pub restarted_off : (v : View) (p : Pid) (z : Spot) → ids_at (view_after v (Line.Migration Stage.Restarted p)) z ≡ ids_at (released (home_again (handled_first v) p) p) z
 restarted_off v p (Queue m q) = refl
@@ -127,10 +119,7 @@ answers_row pt i o w h fit e =
 
 -- a line that ends a move is followed by the answer, if somebody asked for it
 ends_row : (pt : Point) (l : Line) (q : Option MoveNote) (o : Outcome) (w : Spelled) → label_of l ≡ None → touches l ≡ false → PairsFit pt.view → State None (moved pt l pt.kernel) → spelled pt (Says l ∷ tells_asker q o) ≡ Some w → State None w.point
-ends_row pt l None o w none quiet fit h e = line_ends pt l w none h e
-ends_row pt l (Some n) o w none quiet fit h e =
-    let k = line_next pt l (answers_move n.id o) w none e in
-    State-at None k.rest.point w.point k.point (answers_row (moved pt l pt.kernel) n.id o k.rest h (fits_as pt.view (seen pt.kernel pt.view l) (pair_same pt.view l quiet) fit) k.more)
+ends_row pt l q o w h1 h2 h3 h4 h5 = search (arith, line_ends, line_next, State-at, answers_row, fits_as, pair_same)
 
 -- a process leaves, once it is frozen
 pub goes_row : (pt : Point) (p : Pid) (to : ℕ) (w : Spelled) → State None (moved pt (Line.Migration Stage.Frozen p) pt.kernel) → PairsFit pt.view → spelled pt (leaves_for p to) ≡ Some w → State None w.point
@@ -250,10 +239,7 @@ process_row o pt m i is t _ parts w h fit topic front mine e n = held_row pt i i
 
 kernel_row : (b : Boot) (o pt : Point) (m : ℕ) (i : MsgId) (is : List MsgId) (k : MessageKind) (a : About) (parts : List Part) (w : Spelled) → State None pt → PairsFit pt.view → pt.view.inbox pt.view.acting ≡ i ∷ is → is_kernels i ≡ true → SeesSame o pt m
     → kernel_hears b o m i k a ≡ Some parts → spelled pt parts ≡ Some w → State None w.point
-kernel_row b o pt m i is k (Of p) parts w h fit front mine sees e n =
-    let (x, there, last) = bind-is (kernel.alive (o.kernel.processes p)) (λ x. kernel_told o m i p (fits (free_room b o m) (length x.memory / 256)) x k) parts e in
-    told_row o pt m i is p (fits (free_room b o m) (length x.memory / 256)) x k parts w h fit front mine sees last n
-kernel_row b o pt m i is k _ parts w h fit front mine sees e n = cc
+kernel_row b o pt m i is k a parts w h1 h2 h3 h4 h5 h6 h7 = search (arith, bind-is, told_row)
 
 hears_by : (b : Boot) (o pt : Point) (m : ℕ) (i : MsgId) (is : List MsgId) (t : Told) (c d g : Bool) (parts : List Part) (w : Spelled) → State None pt → PairsFit pt.view → pt.view.topic ≡ NothingElse → pt.view.inbox pt.view.acting ≡ i ∷ is
     → is_kernels i ≡ true → SeesSame o pt m

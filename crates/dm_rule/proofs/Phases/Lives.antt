@@ -57,8 +57,7 @@ nowhere_known (Over at) h = absurd (false≢true (sym (over_if at) ∙ h at))
 nowhere_known (Moves k s d o) h = absurd (false≢true (sym (moves_if k s d) ∙ h s))
 
 made_of : (a m : ℕ) (b : Bool) → (a == m) ≡ b → knows (Rests a) m (if b then Here else Unknown) ≡ true
-made_of a m true e = ap (λ (c : Bool). if c then is_here Here else is_away Here) e
-made_of a m false e = ap (λ (c : Bool). if c then is_here Unknown else is_away Unknown) e
+made_of a m b h1 = search arith
 
 -- one is made on the acting machine
 pub made_phases : (v w : View) (p : Pid) → InPhases v → ((m : ℕ) → v.known m p ≡ Unknown) → w.known ≡ at_record v.known v.acting p Here → w.told ≡ v.told → ((j : MsgId) (t : Told) → v.told j ≡ Some t → is_between t.kind ≡ true → (z : Spot) → standing w j z ≡ standing v j z) → InPhases w
@@ -78,8 +77,7 @@ created_phases v i p h plain unknown = made_phases v (view_after v (Line.Label (
 
 -- a kill ends its receiver
 killed_is : (v : View) (t : Told) (o : Option Told) → o ≡ Some t → t.kind ≡ MessageKind.Kill → served_told v o ≡ view.ended v t.receiver
-killed_is v t None e k = cc
-killed_is v t (Some s) e k = let f : s ≡ t = cc in ap (λ (u : Told). kills u.kind v (Some u.receiver)) f ∙ ap (λ (n : MessageKind). kills n v (Some t.receiver)) k
+killed_is v t o h1 h2 = grind (arith, nat_tests)
 
 pub killed_phases : (v : View) (i : MsgId) (t : Told) → InPhases v → Plain v i → v.told i ≡ Some t → t.kind ≡ MessageKind.Kill → v.known v.acting t.receiver ≡ Here → InPhases (view_after v (Line.Label (Label.Served i)))
 killed_phases v i t h plain told k here =

@@ -1,6 +1,6 @@
 -- Each label keeps each address on its trail.
 use Rattle.dm_rule.proofs.Names.{◌≡◌, true, refl, ap, ◌∙◌, sym, subst, Option, None, Some, Pid, Place, MsgId, MessageKind, Line, manager, Label, OneKernel, View, Told, is_kernels, after_label, served_told, kills, handled, dropped_for}
-use Rattle.dm_rule.proofs.Names.{receiver_of, Addresses, Receiver, Sender, given, gives, ascends, to_of, Trails, Trail, IsOn, AddressesOn, OwnOn}
+use Rattle.dm_rule.proofs.Names.{receiver_of, Addresses, Receiver, Sender, given, gives, ascends, to_of, Trails, Trail, IsOn, AddressesOn, OwnOn, arith, nat_tests}
 use Rattle.dm_onekernel.specs.Step as kernel
 use Rattle.dm_rule.proofs.Hushed.{hushed}
 use Rattle.dm_rule.proofs.Homes.{homes_are, at_home}
@@ -24,19 +24,13 @@ label_pending s t v a tr l is named said trail pending links = (label_on (IsOn t
 
 -- a label tells nothing of messages, and isn't about a place
 kills_topic : (v : View) (k : MessageKind) (o : Option Pid) → (kills k v o).topic ≡ v.topic
-kills_topic v MessageKind.Kill (Some p) = refl
-kills_topic v MessageKind.Kill None = refl
-kills_topic v _ o = refl
+kills_topic v k o = grind (arith, nat_tests)
 
 pub label_told : (v : View) (l : Label) → (after_label v l).told ≡ v.told
 label_told v l = (hushed v (Line.Label l) refl).told
 
 pub label_topic : (v : View) (l : Label) → (after_label v l).topic ≡ v.topic
-label_topic v (Label.Served id) = elim (v.told id) as (λ o. (served_told (handled v id) o).topic ≡ (handled v id).topic)
-    [ None ↦ refl | Some u ↦ kills_topic (handled v id) u.kind (Some u.receiver) ]
-label_topic v (Label.Dropped id) = elim (receiver_of (v.told id)) as (λ o. (dropped_for (handled v id) id o).topic ≡ (handled v id).topic)
-    [ None ↦ refl | Some p ↦ refl ]
-label_topic v _ = refl
+label_topic v l = search (arith, kills_topic)
 
 -- kernels' own messages keep theirs
 pub own_same : (v w : View) (a b : Addresses) (t u : Trails) → w.told ≡ v.told → w.topic ≡ v.topic → ((i : MsgId) → is_kernels i ≡ true → b (Receiver i) ≡ a (Receiver i)) → ((i : MsgId) → is_kernels i ≡ true → b (Sender i) ≡ a (Sender i))

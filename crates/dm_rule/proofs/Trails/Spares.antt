@@ -2,7 +2,7 @@
 use Rattle.dm_rule.proofs.Names.{◌≡◌, ℕ, ◌+◌, ◌==◌, ◌&&◌, Bool, true, false, not, List, [], ◌∷◌, ◌++◌, length, map, refl, ap, ◌∙◌, sym, subst, if◌then◌else◌, Option, None, Some, false≢true, Pid, Place, pid_eq, PlainLink, first_empty, MsgId}
 use Rattle.dm_rule.proofs.Names.{id_eq, id_of, PlainMessage, PlainWhat, Label, Reply, switchboard, manager, bind, PlainProcess, reg, NamedLink, OneKernel, with_sent, answer_id, id_eq-is, id_eq-same, sent_at, bind-is, when-is, View}
 use Rattle.dm_rule.proofs.Names.{is_kernels, Addresses, Holder, Slot, Owner, Receiver, Sender, Enclosed, Answer, Gets, gets, given, gives, holder_eq, unmoved, encloses, enclosed_from, sends_what, fills, fills_by, call_gets, receives_links}
-use Rattle.dm_rule.proofs.Names.{receives_what, slot_after, landing_gets, serves_what, child_links, board_finds, board_keeps, board_gets, manager_tells, manager_sends, manager_answers, manager_gets, both_true, at_hand-is}
+use Rattle.dm_rule.proofs.Names.{receives_what, slot_after, landing_gets, serves_what, child_links, board_finds, board_keeps, board_gets, manager_tells, manager_sends, manager_answers, manager_gets, both_true, at_hand-is, arith, nat_tests}
 use Rattle.dm_onekernel.specs.Calls as calls
 use Rattle.dm_onekernel.specs.Pieces as pieces
 use Rattle.dm_onekernel.specs.Switchboard as board
@@ -24,8 +24,7 @@ spares i [] = true
 spares i (g ∷ gs) = spares_one i g.holder && spares i gs
 
 pub not_is : (b : Bool) → not b ≡ true → b ≡ false
-not_is true e = absurd (false≢true e)
-not_is false e = refl
+not_is b h1 = search arith
 
 both : (b c : Bool) → (b && c) ≡ true → (b ≡ true) × (c ≡ true)
 both true c e = (refl, e)
@@ -76,10 +75,7 @@ fills_spares p None place i = refl
 fills_spares p (Some slot) place i = refl
 
 pub made_spares : (v : View) (a : Addresses) (p : Pid) (n : ℕ) (c : Reply) (o : Option PlainProcess) (i : MsgId) → spares i (call_gets v a p n c o) ≡ true
-made_spares v a p n Reply.Done (Some x) i = elim (calls.call_number n) as (λ n_. spares i (fills_by v a p x n_) ≡ true)
-    [ calls.Make ↦ fills_spares p (first_empty x.links) _ i | calls.Copy ↦ fills_spares p (first_empty x.links) _ i | _ ↦ refl ]
-made_spares v a p n Reply.Done None i = refl
-made_spares v a p n _ o i = refl
+made_spares v a p n c o i = search (arith, fills_spares)
 
 -- sendings
 pub sends_what_spares : (v : View) (a : Addresses) (p : Pid) (x : PlainProcess) (id : MsgId) (w : PlainWhat) (i : MsgId) → id_eq id i ≡ false → spares i (sends_what v a p x id w) ≡ true
@@ -115,10 +111,7 @@ receives_links_spares a p id n slots (l ∷ ls) i =
     (fills_spares p (first_empty slots) (a (Enclosed id n)) i) (receives_links_spares a p id (n + 1) (slot_after slots l (first_empty slots)) ls i)
 
 pub receives_spares : (a : Addresses) (p : Pid) (id : MsgId) (o : Option PlainProcess) (m : Option PlainMessage) (i : MsgId) → spares i (addresses.reception_gets a p id o m) ≡ true
-receives_spares a p id None m i = refl
-receives_spares a p id (Some x) None i = refl
-receives_spares a p id (Some x) (Some m) i = elim m.what as (λ w. spares i (receives_what a p id x w) ≡ true)
-    [ PlainWhat.User b1 b2 b3 b4 ↦ receives_links_spares a p id 0 x.links b4 i | _ ↦ refl ]
+receives_spares a p id o m i = grind (arith, nat_tests, receives_links_spares)
 
 -- served
 landed_spares : (s t : OneKernel) (v : View) (a : Addresses) (id : MsgId) (m : PlainMessage) (c : pieces.Landed) (i : MsgId) → Outside t → is_kernels i ≡ true → service.landed s id m c ≡ t → spares i (landing_gets v a m.to (Some c)) ≡ true
@@ -133,11 +126,7 @@ lands_spares s t v a id m x i out own e =
     subst (λ (o : Option pieces.Landed). spares i (landing_gets v a m.to o) ≡ true) (sym is) (landed_spares s t v a id m c i out own k)
 
 serve_spares : (s t : OneKernel) (v : View) (a : Addresses) (id : MsgId) (m : PlainMessage) (x : PlainProcess) (w : PlainWhat) (i : MsgId) → Outside t → is_kernels i ≡ true → service.serves s id m x w ≡ Some t → spares i (serves_what v a id m x w) ≡ true
-serve_spares s t v a id m x (PlainWhat.Read b1 b2) i new own is = two_more i (answer_id id) [] (answers_apart i id own) refl
-serve_spares s t v a id m x (PlainWhat.Write b1 b2) i new own is = two_more i (answer_id id) [] (answers_apart i id own) refl
-serve_spares s t v a id m x (PlainWhat.Block b1) i new own is = lands_spares s t v a id m x i new own is
-serve_spares s t v a id m x PlainWhat.Written i new own is = lands_spares s t v a id m x i new own is
-serve_spares s t v a id m x _ i new own is = refl
+serve_spares s t v a id m x w i h1 h2 h3 = search (arith, two_more, answers_apart, lands_spares)
 
 -- created
 pub creates_what_spares : (a : Addresses) (id : MsgId) (child : Pid) (w : PlainWhat) (i : MsgId) → spares i (addresses.creates_what a id child w) ≡ true
@@ -146,9 +135,7 @@ creates_what_spares a id child _ i = refl
 
 -- the switchboard
 pub finds_spares : (a : Addresses) (sent : MsgId) (names : List NamedLink) (body : List ℕ) (k : board.Answer) (i : MsgId) → spares i (board_finds a sent names body k) ≡ true
-finds_spares a sent names [] k i = refl
-finds_spares a sent names (op ∷ name) board.Registered i = refl
-finds_spares a sent names (op ∷ name) _ i = refl
+finds_spares a sent names body k i = search arith
 
 pub keeps_spares : (a : Addresses) (id : MsgId) (names : List NamedLink) (k : board.Answer) (i : MsgId) → spares i (board_keeps a id names k) ≡ true
 keeps_spares a id names board.Registered i = refl
@@ -156,11 +143,7 @@ keeps_spares a id names _ i = refl
 
 board_links_spares : (s : OneKernel) (v : View) (a : Addresses) (id : MsgId) (code channel : ℕ) (body : List ℕ) (links : List PlainLink) (i : MsgId) → is_kernels i ≡ true → spares i (board_gets s v a id (PlainWhat.User code channel body links)) ≡ true
 board_links_spares s v a id code channel body [] i own = refl
-board_links_spares s v a id code channel body (l ∷ ls) i own =
-    let sent = id_of switchboard s.switchboard.sent in
-    let asked = board.asks s.switchboard.names body ls in
-    two_more i sent (board_finds a sent s.switchboard.names body asked.answer ++ board_keeps a id s.switchboard.names asked.answer) (apart i sent own refl)
-    (spares_both i (board_finds a sent s.switchboard.names body asked.answer) (board_keeps a id s.switchboard.names asked.answer) (finds_spares a sent s.switchboard.names body asked.answer i) (keeps_spares a id s.switchboard.names asked.answer i))
+board_links_spares s v a id code channel body (l ∷ ls) i own = search (arith, two_more, apart, spares_both, finds_spares, keeps_spares)
 
 -- the manager
 pub tells_spares : (v : View) (a : Addresses) (id : MsgId) (code : ℕ) (sent : PlainMessage) (w : PlainWhat) (i : MsgId) → id_eq sent.id i ≡ false → spares i (manager_tells v a id code sent w) ≡ true
@@ -172,8 +155,7 @@ manager_sends_spares v a id code None i e = refl
 manager_sends_spares v a id code (Some sent) i e = tells_spares v a id code sent sent.what i (e sent refl)
 
 pub manager_answers_spares : (v : View) (a : Addresses) (n : ℕ) (o : Option PlainMessage) (i : MsgId) → ((m : PlainMessage) → o ≡ Some m → id_eq m.id i ≡ false) → spares i (manager_answers v a n o) ≡ true
-manager_answers_spares v a n None i e = refl
-manager_answers_spares v a n (Some sent) i e = two_more i sent.id (gets (Enclosed sent.id 0) (unmoved v.acting) ∷ []) (e sent refl) refl
+manager_answers_spares v a n o i h1 = search (arith, two_more)
 
 pub manager_takes_spares : (s : OneKernel) (v : View) (a : Addresses) (m : PlainMessage) (w : PlainWhat) (o : Option manage.ManagerTook) (i : MsgId) → ((k : manage.ManagerTook) → o ≡ Some k → (x : PlainMessage) → k.message ≡ Some x → id_eq x.id i ≡ false) → spares i (manager_gets s v a m w o) ≡ true
 manager_takes_spares s v a m (PlainWhat.User b1 b2 b3 b4) None i e = refl
@@ -223,6 +205,5 @@ gives_spares s t v a (Label.Created id child) i is out own = elim (s.bag id) as 
     [ None ↦ refl | Some m ↦ two_more i (answer_id id) (addresses.creates_what a id child m.what) (answers_apart i id own) (creates_what_spares a id child m.what i) ]
 gives_spares s t v a (Label.NoSpace id f b) i is out own = two_more i (answer_id id) [] (answers_apart i id own) refl
 gives_spares s t v a (Label.Asked id) i is out own = elim (s.bag id) as (λ o. spares i (request.given_to_follow a id o) ≡ true) [ None ↦ refl | Some m ↦ refl ]
-gives_spares s t v a (Label.Answered id o) i is out own = elim (s.noted id) as (λ o. spares i (request.given_at_end v a id o) ≡ true)
-    [ None ↦ refl | Some p ↦ two_more i (answer_id id) [] (answers_apart i id own) refl ]
+gives_spares s t v a (Label.Answered id o) i is out own = grind (arith, nat_tests, two_more, answers_apart)
 gives_spares s t v a _ i is out own = refl
