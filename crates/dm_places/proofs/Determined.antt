@@ -1,8 +1,7 @@
 -- A point determines the kernel with places, but for the queues: what is a process or a message without places, and has the
 -- places of the addresses, is the one that stands there.
-use Rattle.dm_places.proofs.Names.{◌≡◌, ℕ, zero, suc, List, [], ◌∷◌, map, refl, ap, ◌∙◌, sym, option_map, slice_get, Option, None, Some, ArrayVec, Pid, Addr, Link, place_of, plain_link, link_at, plain_slot, MsgId, Message, What, arith, nat_tests}
+use Rattle.dm_places.proofs.Names.{◌≡◌, ℕ, zero, suc, List, [], ◌∷◌, map, refl, ap, ◌∙◌, sym, option_map, slice_get, Option, Some, ArrayVec, Pid, Addr, Link, place_of, plain_link, link_at, plain_slot, MsgId, Message, What, arith, nat_tests}
 use Rattle.dm_places.proofs.Names.{PlainMessage, PlainWhat, plain_message, plain_what, Process, Status, plain_process, plain_status, PlainProcess, View, Addresses, MirrorsMessage, MirrorsProcess, enclosed, owner_at, PointDetermines}
-use Rattle.dm_onekernel.specs.Step as kernel
 use Rattle.dm_places.proofs.Keeps.{parts, there_of}
 use Rattle.dm_places.proofs.Queues.{with_queue}
 use Rattle.dm_places.proofs.Whats.{user_what, create_what, read_what, write_what, block_what, stop_what, resume_what, kill_what, written_what, gone_what, created_what, no_room_what, move_what, moved_what}

@@ -1,12 +1,9 @@
 -- Rows of the rule whose parts need nothing beside, so that a kernel with places goes along.
-use Rattle.dm_places.proofs.Names.{◌≡◌, refl, ℕ, zero, suc, ◌+◌, ◌-◌, ◌/◌, ◌==◌, Bool, true, false, List, [], ◌∷◌, ◌++◌, length, ⊤, if◌then◌else◌, nat_lt, Option, None, Some, Pid, pid_eq, MsgId, MessageKind, Line, plain_kind, PlainMessage}
-use Rattle.dm_places.proofs.Names.{PlainWhat, instruction, Boot, manager, switchboard, OneKernel, bind, PlainProcess, PlainStatus, Ready, Waiting, Moving, Load, About, Forward, Frozen, Here, Known, Of, Pair, SentLoad, Told, Unknown, View}
-use Rattle.dm_places.proofs.Names.{target_of, Addresses, child_number, is_told_back, Part, Says, Transmits, pair_window, Point, outcome, by_migrates, IsHeardLine, hears_kept, id_of, Outcome, arith}
-use Rattle.dm_onekernel.specs.Calls as calls
+use Rattle.dm_places.proofs.Names.{◌≡◌, ℕ, zero, suc, ◌-◌, ◌==◌, Bool, List, [], ◌∷◌, ◌++◌, ⊤, if◌then◌else◌, Option, None, Some, Pid, MsgId, Line, PlainMessage, PlainWhat, Boot, manager, OneKernel, bind, PlainProcess, PlainStatus, Load}
+use Rattle.dm_places.proofs.Names.{Known, Pair, SentLoad, Told, View, Part, Point, by_migrates, IsHeardLine, hears_kept, id_of, arith}
 use Rattle.dm_onekernel.specs.Pieces as pieces
 use Rattle.dm_onekernel.specs.Receiving as receiving
 use Rattle.dm_onekernel.specs.Step as kernel
-use Rattle.dm_rule.specs.View.{Ended}
 use Rattle.dm_rule.specs.Migrating as migrating
 use Rattle.dm_rule.specs.Rule as rule
 use Rattle.dm_places.proofs.Any.AnyPart.{EasyLine, EasyParts}

@@ -1,8 +1,8 @@
 -- What a step with places leaves as it is.
 use Rattle.dm_places.proofs.Names.{◌≡◌, ℕ, Bool, true, false, List, refl, ap, sym, subst, if◌then◌else◌, slice_get, Option, None, Some, false≢true, Pid, pid_eq, MsgId, Message, What, Process, begun_process, instruction, Format, BootImage}
-use Rattle.dm_places.proofs.Names.{Label, manager, slots_of, switchboard, bind, memory_of, slots_with, Machine, plain_steps, Landed, Landing, landing, after_serving, answer, gone_answer, serving_answer, Completion, bind-is, Placed, Acted}
-use Rattle.dm_places.proofs.Names.{acted, acts, after_landing, board_took, completed, creates, lands, machine_of, manager_took, ran, running, serves, takes, with_acted, with_child, with_machine, with_process, with_sent, without_message}
-use Rattle.dm_places.proofs.Names.{Changes, StepsChangeLittle, changed, is_named, receiver_in, taken, taken_out, answers, Asker, asker_of, ends_move, moved_answer, with_note, without_note, arith}
+use Rattle.dm_places.proofs.Names.{Label, manager, slots_of, switchboard, bind, memory_of, slots_with, Landed, Landing, landing, after_serving, answer, gone_answer, serving_answer, Completion, bind-is, Placed, Acted, acted, acts}
+use Rattle.dm_places.proofs.Names.{after_landing, board_took, completed, creates, lands, manager_took, ran, running, serves, takes, with_acted, with_child, with_process, with_sent, without_message, Changes, StepsChangeLittle, changed}
+use Rattle.dm_places.proofs.Names.{is_named, receiver_in, taken, taken_out, answers, Asker, ends_move, moved_answer, without_note, arith}
 use Rattle.dm_switchboard.specs.Taking as board
 use Rattle.dm_procman.specs.Taking as manage
 
@@ -162,8 +162,7 @@ steps_change_little here f images l m (Label.Receive p id) e =
     leaves l (Label.Receive p id) m (goes_leaves l m id p (Some d.process) last)
 steps_change_little here f images l m (Label.Refuse p id c) e =
     let (d, is, last) = bind-is (completed l p id) (λ (d : Completion). Some (with_process l p (Some d.process))) m e in
-    let g : with_process l p (Some d.process) ≡ m = cc in
-    leaves l (Label.Refuse p id c) m (subst (Leaves l (Some p) None) g (sets l p (Some d.process) None))
+    search (arith, leaves, sets)
 steps_change_little here f images l m (Label.Dropped id) e =
     let g : without_message l id ≡ m = cc in leaves l (Label.Dropped id) m (subst (Leaves l None (Some id)) g (only_takes l id None))
 steps_change_little here f images l m (Label.Served id) e =

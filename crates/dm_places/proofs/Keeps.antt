@@ -1,8 +1,8 @@
 -- What each way of changing the kernel with places keeps: a process that goes on or ends, a message that comes or goes.
-use Rattle.dm_places.proofs.Names.{◌≡◌, Bool, true, false, refl, ap, ◌∙◌, sym, subst, inl, inr, if◌then◌else◌, option_map, Option, None, Some, cases_Bool, Pid, pid_eq, MsgId, Message, id_eq, PlainMessage, PlainWhat, plain_message}
-use Rattle.dm_places.proofs.Names.{plain_what, with_what, Process, Life, OneKernel, bind, plain_process, PlainProcess, pid_eq-is, id_eq-is, bind-is, View, Addresses, SameProcess, SameMessage, SameServers, Placed, Mirrors, MirrorsKernel}
-use Rattle.dm_places.proofs.Names.{MirrorsMessage, MirrorsPlaces, MirrorsProcess, with_message, with_process, with_sent, without_message, ℕ, Link, Place, place_of, Asker, MoveNote, Child, Name, Answer, AskedBy, AnswerNames, plain_note}
-use Rattle.dm_places.proofs.Names.{with_note, without_note, manager_request, arith}
+use Rattle.dm_places.proofs.Names.{◌≡◌, Bool, false, refl, ap, ◌∙◌, sym, subst, inl, inr, if◌then◌else◌, option_map, Option, None, Some, cases_Bool, Pid, pid_eq, MsgId, Message, id_eq, PlainMessage, PlainWhat, plain_message, plain_what}
+use Rattle.dm_places.proofs.Names.{with_what, Process, Life, OneKernel, bind, plain_process, PlainProcess, pid_eq-is, id_eq-is, bind-is, View, Addresses, SameProcess, SameMessage, SameServers, Placed, Mirrors, MirrorsKernel, MirrorsMessage}
+use Rattle.dm_places.proofs.Names.{MirrorsPlaces, MirrorsProcess, with_message, with_process, with_sent, without_message, ℕ, Link, Place, place_of, Asker, Child, Name, Answer, AskedBy, AnswerNames, plain_note, with_note, without_note}
+use Rattle.dm_places.proofs.Names.{manager_request, arith}
 use Rattle.dm_onekernel.specs.Kernel as one
 use Rattle.dm_onekernel.specs.Service as service
 use Rattle.dm_onekernel.specs.Step as kernel

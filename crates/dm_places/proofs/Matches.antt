@@ -1,10 +1,10 @@
 -- The rows with places in a machine's terms: where the kernel with places has a machine's process but for its queue, each row
 -- is what the machine's code does to that process, but for its queue.
-use Rattle.dm_places.proofs.Names.{◌≡◌, ℕ, Bool, true, false, List, refl, ap, ◌∙◌, sym, if◌then◌else◌, option_map, Option, None, Some, Pid, MsgId, Message, Process, Status, Regs, Fault, Row, instruction, bind, Machine, plain_steps, Landing}
-use Rattle.dm_places.proofs.Names.{arith, nat_tests, landing, after_serving, serving_answer, Called, Done, calls, Completion, completion, Placed, Acted, acted, acts, after_call, after_done, after_landing, completed, if_ready, lands}
-use Rattle.dm_places.proofs.Names.{machine_of, ran, running, with_acted, with_machine, with_process, with_sent, answers}
+use Rattle.dm_places.proofs.Names.{◌≡◌, ℕ, List, ap, ◌∙◌, sym, option_map, Option, None, Some, Pid, MsgId, Message, Process, Status, Regs, Fault, Row, instruction, bind, Machine, plain_steps, Landing, arith, nat_tests, landing}
+use Rattle.dm_places.proofs.Names.{after_serving, serving_answer, Called, calls, Completion, completion, Placed, Acted, acted, acts, after_call, after_done, after_landing, completed, if_ready, lands, machine_of, ran, running, with_acted}
+use Rattle.dm_places.proofs.Names.{with_machine, with_process, with_sent, answers}
 use Rattle.dm_places.proofs.Keeps.{of_map}
-use Rattle.dm_places.proofs.Queues.{after_serving_with, calls_with, completion_is, completion_with, landing_is, landing_with, queue_after, serving_with, with_queue}
+use Rattle.dm_places.proofs.Queues.{after_serving_with, calls_with, completion_is, completion_with, landing_is, queue_after, serving_with, with_queue}
 
 ready_with : (x y : Process) (st : Status) (q : List Message) → if_ready x st ≡ Some y → if_ready (with_queue x q) st ≡ Some (with_queue y q)
 ready_with x y st q h1 = search arith

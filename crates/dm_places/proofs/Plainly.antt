@@ -1,5 +1,5 @@
 -- The kernel with places without the messages that machines' kernels send themselves: it mirrors the same point.
-use Rattle.dm_places.proofs.Names.{◌≡◌, refl, ap, ◌∙◌, Option, None, Some, MsgId, Message, PlainWhat, plain_message, plain_what, with_what, OneKernel, bind, View, Addresses, Placed, Mirrors, arith}
+use Rattle.dm_places.proofs.Names.{◌≡◌, ◌∙◌, Option, None, Some, MsgId, Message, PlainWhat, plain_message, plain_what, OneKernel, bind, View, Addresses, Placed, Mirrors, arith}
 
 abbrev if_plain : Message → Option PlainWhat → Option Message
 if_plain m None = None

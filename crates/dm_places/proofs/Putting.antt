@@ -1,6 +1,6 @@
 -- The lines of a message that is put: the put, and a packet where it goes out at once.
-use Rattle.dm_places.proofs.Names.{◌≡◌, ℕ, ◌==◌, Bool, true, false, List, [], ◌∷◌, length, refl, ap, ◌∙◌, sym, subst, inl, inr, if◌then◌else◌, Option, Some, cases_Bool, Pid, MsgId, MessageKind, id_eq, plain_kind, PlainMessage, bind, arith}
-use Rattle.dm_places.proofs.Names.{nat_tests, id_eq-is, bind-is, Line, Load, Told, first_told, own_id, Receiver, Again, Routes, goes_out, lines_of, puts, Point, after, moved, Placed, MirrorsPoint, Gets, given}
+use Rattle.dm_places.proofs.Names.{◌≡◌, ℕ, Bool, List, [], ◌∷◌, refl, ap, ◌∙◌, sym, if◌then◌else◌, Option, Some, Pid, MsgId, MessageKind, plain_kind, PlainMessage, bind, arith, nat_tests, id_eq-is, bind-is, Line, Load, Told, own_id}
+use Rattle.dm_places.proofs.Names.{Receiver, Again, Routes, lines_of, puts, Point, after, moved, Placed, MirrorsPoint, Gets, given}
 use Rattle.dm_places.proofs.Lines.{lines_keep, routed_keeps, told_keeps}
 use Rattle.dm_places.proofs.OwnPuts.{put_own_id}
 

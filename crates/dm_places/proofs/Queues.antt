@@ -1,8 +1,7 @@
 -- The messages that wait for a process change nothing of what it does: each function of the machines' code commutes with
 -- setting the queue, which a received message leaves.
-use Rattle.dm_places.proofs.Names.{◌≡◌, ℕ, ◌-◌, ◌==◌, Bool, true, false, List, map, refl, ap, ◌∙◌, if◌then◌else◌, option_map, remove, Option, None, Some, Link, plain_link, first_empty, link_at, Message, MsgId, What, Called, Process, arith}
-use Rattle.dm_places.proofs.Names.{nat_tests, Direction, Status, direction_numbered, Reply, CallNumber, Make, Copy, Drop, Send, Receive, Move, call_number, is_outside, is_reply, make_refusals, move_refusals, send_refusals, plain_process}
-use Rattle.dm_places.proofs.Names.{reg, piece_of, written_at, receive_refusals, first_failed, Rest, Landing, after_serving, serving_answer, answer_of, answer_with, Completed, Done, Completion}
+use Rattle.dm_places.proofs.Names.{◌≡◌, ℕ, Bool, List, refl, if◌then◌else◌, option_map, remove, Option, Link, Message, MsgId, What, Process, arith, nat_tests, Direction, Status, Reply, CallNumber, call_number, Rest, Landing, after_serving}
+use Rattle.dm_places.proofs.Names.{serving_answer, Completed, Done, Completion}
 use Rattle.dm_datamove.specs.Landing as landing
 use Rattle.dm_syscall.specs.Calls as calls
 use Rattle.dm_syscall.specs.Completing as completing

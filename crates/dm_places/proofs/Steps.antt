@@ -1,5 +1,5 @@
 -- Each step with places, a label after the other.
-use Rattle.dm_places.proofs.Names.{◌≡◌, ◌∙◌, ap, subst, sym, true, ℕ, Some, Label, Line, Manager, OneKernel, View, Addresses, addresses_after, ascends, Point, after_line, moved, bind-is, Placed, Mirrors, placed_step, StepNeeds, StepsFollow}
+use Rattle.dm_places.proofs.Names.{◌≡◌, ◌∙◌, ap, sym, true, ℕ, Some, Label, Line, Manager, OneKernel, View, Addresses, addresses_after, ascends, Point, after_line, moved, bind-is, Placed, Mirrors, placed_step, StepNeeds, StepsFollow}
 use Rattle.dm_places.proofs.Names.{MirrorsPoint, arith, nat_tests}
 use Rattle.dm_onekernel.specs.Step as kernel
 use Rattle.dm_places.proofs.Lines.{mirrors_view, moves_label}

@@ -1,5 +1,5 @@
 -- What a message says with places, where it is known what it says without.
-use Rattle.dm_places.proofs.Names.{◌≡◌, ℕ, List, refl, ap, map, Some, ArrayVec, Pid, Link, PlainLink, plain_link, Outcome, What, PlainWhat, plain_what, arith}
+use Rattle.dm_places.proofs.Names.{◌≡◌, ℕ, List, map, Some, ArrayVec, Pid, Link, PlainLink, plain_link, Outcome, What, PlainWhat, plain_what, arith}
 
 -- a user message
 pub record UserWhat (w : What) (code channel : ℕ) (bytes : List ℕ) (ls : List PlainLink) : Type 0 where

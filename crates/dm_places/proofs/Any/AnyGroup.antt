@@ -1,7 +1,7 @@
 -- Behind each group there is a kernel with places, where there was one before.
-use Rattle.dm_places.proofs.Names.{◌≡◌, ℕ, ◌+◌, ◌<◌, ◌==◌, ◌||◌, Bool, true, false, List, [], ◌∷◌, length, refl, ap, ◌∙◌, subst, is_some, inl, inr, arith, ⊤, if◌then◌else◌, nat_lt, slice_get, Option, None, Some, nat_tests, Pid, pid_eq}
-use Rattle.dm_places.proofs.Names.{pid_of, MsgId, Label, Line, PlainMessage, PlainWhat, Boot, BootImage, first_number, manager, switchboard, Life, OneKernel, bind, Step, bind-is, View, after_head, Part, Routes, Spelled, spelled, Point}
-use Rattle.dm_places.proofs.Names.{after_line, moved, group_of, headed, outcome, Placed, GroupNeeds, MirrorsPoint, or_second}
+use Rattle.dm_places.proofs.Names.{◌≡◌, ℕ, ◌+◌, ◌==◌, ◌||◌, Bool, true, List, [], ◌∷◌, length, refl, ◌∙◌, subst, is_some, arith, ⊤, if◌then◌else◌, slice_get, Option, None, Some, nat_tests, pid_eq, pid_of, MsgId, Label, Line, PlainMessage}
+use Rattle.dm_places.proofs.Names.{PlainWhat, Boot, first_number, manager, switchboard, Life, OneKernel, bind, Step, bind-is, View, after_head, Part, Routes, Spelled, spelled, Point, after_line, moved, group_of, headed, outcome, Placed}
+use Rattle.dm_places.proofs.Names.{GroupNeeds, MirrorsPoint, or_second}
 use Rattle.dm_onekernel.specs.Manager as manage
 use Rattle.dm_onekernel.specs.Pieces as pieces
 use Rattle.dm_onekernel.specs.Switchboard as board

@@ -1,7 +1,7 @@
 -- Behind the parts of a group there is a kernel with places, where there was one before.
-use Rattle.dm_places.proofs.Names.{◌≡◌, ℕ, true, false, List, [], ◌∷◌, refl, ap, ◌∙◌, sym, subst, is_some, ◌⊎◌, inl, inr, ⊤, nat_le, Option, None, Some, MsgId, PlainMessage, Label, manager, switchboard, Life, OneKernel, bind, Sound}
-use Rattle.dm_places.proofs.Names.{bind-is, after_step, Line, Told, View, is_kernels, own_id, Again, Owns, Part, Routes, Says, Spelled, Transmits, behind, lines_of, packet_line, puts, spelled, Point, after, after_line, kernel_after}
-use Rattle.dm_places.proofs.Names.{label_of, moved, not_kernels, Placed, LineNeeds, MirrorsPoint, ServersApart, StepNeeds, id_of, note-is, arith, nat_tests}
+use Rattle.dm_places.proofs.Names.{◌≡◌, ℕ, true, List, [], ◌∷◌, refl, ap, ◌∙◌, sym, subst, is_some, ◌⊎◌, inl, inr, ⊤, Option, None, Some, MsgId, PlainMessage, Label, manager, Life, OneKernel, bind, Sound, bind-is, after_step, Line, Told}
+use Rattle.dm_places.proofs.Names.{View, is_kernels, own_id, Again, Owns, Part, Routes, Says, Spelled, Transmits, behind, lines_of, puts, spelled, Point, after, after_line, kernel_after, label_of, moved, not_kernels, Placed, LineNeeds}
+use Rattle.dm_places.proofs.Names.{MirrorsPoint, StepNeeds, id_of, note-is, arith, nat_tests}
 use Rattle.dm_onekernel.specs.Step as kernel
 use Rattle.dm_places.proofs.Any.AnyLine.{line_follows}
 use Rattle.dm_places.proofs.Putting.{SamePoint, again_same, puts_same, routes_kernel, routes_mirrors}

@@ -1,6 +1,6 @@
 -- Wherever the rule leads there is a kernel with places, where something holds at each point that gives what groups need.
-use Rattle.dm_places.proofs.Names.{◌≡◌, ℕ, ◌≤◌, ◌||◌, true, List, [], ◌∷◌, is_some, refl, ap, ◌∙◌, sym, subst, arith, Option, None, Some, nat_tests, Pid, pid_eq, MsgId, PlainMessage, Boot, IsValid, manager, switchboard, Step, start-sound}
-use Rattle.dm_places.proofs.Names.{ascends, IsStep, Leads, Spelled, Point, first_point, group_of, Inbox, Spot, standing, times, TellsRight, Told, Placed, placed_start, GroupNeeds, MirrorsPoint, PlainWhat, id_of}
+use Rattle.dm_places.proofs.Names.{◌≡◌, ℕ, ◌≤◌, ◌||◌, true, List, [], ◌∷◌, is_some, refl, sym, subst, arith, Option, None, Some, nat_tests, Pid, pid_eq, MsgId, PlainMessage, Boot, IsValid, manager, switchboard, Step, start-sound, ascends}
+use Rattle.dm_places.proofs.Names.{IsStep, Leads, Spelled, Point, first_point, group_of, Inbox, Spot, standing, times, TellsRight, Told, Placed, placed_start, GroupNeeds, MirrorsPoint, PlainWhat, id_of}
 use Rattle.dm_places.proofs.Any.AnyGroup.{group_follows}
 use Rattle.dm_places.proofs.Any.AnyPart.{SoundAt}
 use Rattle.dm_places.proofs.Starts.{start_mirrors}

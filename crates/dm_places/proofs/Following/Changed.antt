@@ -1,7 +1,7 @@
 -- What a message that changes its places keeps, and one whose addresses nobody reads.
-use Rattle.dm_places.proofs.Names.{◌≡◌, ℕ, Bool, false, [], ◌∷◌, refl, ap, ◌∙◌, sym, subst, inl, inr, if◌then◌else◌, option_map, Option, None, Some, cases_Bool, Pid, Place, MsgId, Message, id_eq, PlainWhat, plain_message, plain_what, arith}
-use Rattle.dm_places.proofs.Names.{nat_tests, with_what, sent_on, OneKernel, bind, id_eq-is, id_eq-same, View, Addresses, Receiver, gets, given, SameMessage, SameProcess, SameServers, two, two_off, two_process, Placed, Mirrors}
-use Rattle.dm_places.proofs.Names.{MirrorsKernel, MirrorsMessage, MirrorsPlaces, with_message}
+use Rattle.dm_places.proofs.Names.{◌≡◌, ℕ, Bool, false, [], ◌∷◌, refl, ap, ◌∙◌, sym, subst, inl, inr, if◌then◌else◌, option_map, Option, None, Some, cases_Bool, Pid, Place, MsgId, Message, id_eq, plain_message, plain_what, arith, nat_tests}
+use Rattle.dm_places.proofs.Names.{with_what, sent_on, OneKernel, bind, id_eq-is, id_eq-same, View, Addresses, Receiver, gets, given, SameMessage, SameProcess, SameServers, two, two_off, two_process, Placed, Mirrors, MirrorsKernel}
+use Rattle.dm_places.proofs.Names.{MirrorsMessage, MirrorsPlaces, with_message}
 use Rattle.dm_places.proofs.Keeps.{message_same, process_same}
 use Rattle.dm_places.proofs.Keeps.{answer_as}
 

@@ -1,8 +1,8 @@
 -- Messages that follow a process to another machine, and the process that has come there.
-use Rattle.dm_places.proofs.Names.{◌≡◌, ℕ, ◌+◌, ◌≤◌, ◌||◌, Bool, true, false, List, [], ◌∷◌, ◌++◌, refl, ap, ◌∙◌, sym, subst, inl, inr, arith, if◌then◌else◌, option_map, Option, None, Some, cases_Bool, Pid, Place, pid_eq, place_of, MsgId}
-use Rattle.dm_places.proofs.Names.{nat_tests, Message, id_eq, Process, sent_on, OneKernel, plain_process, id_eq-is, id_eq-same, id_eq-swap, pid_eq-is, pid_eq-same, Line, Stage, at_pid, times, Forward, Frozen, Known, Told, View}
-use Rattle.dm_places.proofs.Names.{forwarded_for, handled, own_id, receiver_of, view_after, Addresses, Gets, Receiver, Sender, all_follow, forwards, gets, given, is_told_back, place_known, told_back_gets, unmoved, Point, moved, Placed}
-use Rattle.dm_places.proofs.Names.{Mirrors, MirrorsKernel, MirrorsProcess, with_message, with_process, MirrorsPoint, is_among, sent_all, or_first}
+use Rattle.dm_places.proofs.Names.{◌≡◌, ℕ, ◌+◌, ◌≤◌, ◌||◌, Bool, true, List, [], ◌∷◌, ◌++◌, refl, ap, ◌∙◌, sym, subst, inl, inr, arith, if◌then◌else◌, option_map, Option, None, Some, cases_Bool, Pid, Place, place_of, MsgId, nat_tests}
+use Rattle.dm_places.proofs.Names.{Message, id_eq, Process, sent_on, OneKernel, plain_process, id_eq-is, id_eq-same, id_eq-swap, pid_eq-is, pid_eq-same, Line, Stage, at_pid, times, Forward, Frozen, Told, View, forwarded_for, handled}
+use Rattle.dm_places.proofs.Names.{own_id, receiver_of, view_after, Addresses, Gets, Receiver, Sender, all_follow, forwards, gets, given, is_told_back, place_known, told_back_gets, unmoved, Point, moved, Placed, Mirrors, MirrorsKernel}
+use Rattle.dm_places.proofs.Names.{MirrorsProcess, with_message, with_process, MirrorsPoint, is_among, sent_all, or_first}
 use Rattle.dm_migrate.specs.Way as way
 use Rattle.dm_onekernel.specs.Step as kernel
 use Rattle.dm_places.proofs.Following.Changed.{free_mirrors, free_off, sent_on_any, sent_on_one}

@@ -1,10 +1,9 @@
 -- The holders of a process or a server that is told where another process is: their addresses follow where they know fewer moves.
-use Rattle.dm_places.proofs.Names.{◌≡◌, ℕ, zero, suc, ◌==◌, ◌&&◌, Bool, true, false, List, [], ◌∷◌, map, refl, ap, ◌∙◌, sym, subst, inl, inr, if◌then◌else◌, nat_lt, option_map, slice_get, Option, None, Some, cases_Bool, slice_get-map, Pid}
-use Rattle.dm_places.proofs.Names.{arith, nat_tests, Addr, Link, Place, pid_eq, place_of, relocated, retargeted, retargeted_link, plain_link, link_at, plain_map_retargeted, applied, status_after, MsgId, Process, Status, Line, manager}
-use Rattle.dm_places.proofs.Names.{switchboard, Manager, NamedLink, OneKernel, Switchboard, plain_process, plain_status, PlainProcess, Moving, Named, plain_named, retargeted_named, Pending, plain_child, plain_pending, retargeted_manager}
-use Rattle.dm_places.proofs.Names.{retargeted_pending, child_address, pending_request, pid_eq-is, pid_eq-same, pid_eq-swap, About, Told, View, view_after, Addresses, Answer, Child, Holder, Name, Owner, Slot, answer_link, belongs_to, is_pid}
-use Rattle.dm_places.proofs.Names.{leads_to, link_target, name_link, owner_in, owner_of, place_told, slot_of, updated, updated_to, Point, moved, SameMessage, SameProcess, Placed, Mirrors, MirrorsProcess, owner_at, MirrorsPoint}
-use Rattle.dm_places.proofs.Names.{with_process, AnswerNames}
+use Rattle.dm_places.proofs.Names.{◌≡◌, ℕ, zero, suc, ◌==◌, Bool, true, false, List, [], ◌∷◌, map, refl, ap, ◌∙◌, sym, subst, inl, inr, if◌then◌else◌, nat_lt, option_map, slice_get, Option, None, Some, cases_Bool, slice_get-map, Pid, arith}
+use Rattle.dm_places.proofs.Names.{nat_tests, Addr, Link, pid_eq, place_of, relocated, retargeted, retargeted_link, plain_link, link_at, plain_map_retargeted, applied, status_after, MsgId, Process, Status, Line, manager, switchboard}
+use Rattle.dm_places.proofs.Names.{Manager, NamedLink, OneKernel, plain_process, plain_status, Named, retargeted_named, Pending, plain_child, plain_pending, retargeted_manager, retargeted_pending, child_address, pending_request, pid_eq-is}
+use Rattle.dm_places.proofs.Names.{pid_eq-same, pid_eq-swap, About, Told, View, view_after, Addresses, Answer, Child, Holder, Name, Owner, Slot, answer_link, belongs_to, leads_to, link_target, owner_in, owner_of, updated, updated_to, Point}
+use Rattle.dm_places.proofs.Names.{moved, SameMessage, SameProcess, Placed, Mirrors, MirrorsProcess, owner_at, MirrorsPoint, with_process, AnswerNames}
 use Rattle.dm_link.specs.Places as places
 use Rattle.dm_onekernel.specs.Kernel as one
 use Rattle.dm_onekernel.specs.Manager as manage

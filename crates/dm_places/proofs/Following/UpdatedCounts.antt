@@ -1,10 +1,9 @@
 -- How many addresses an update changes: as many as know fewer moves among those of its receiver.
-use Rattle.dm_places.proofs.Names.{◌≡◌, ℕ, zero, suc, ◌+◌, ◌≤◌, ◌==◌, ◌&&◌, Bool, true, false, List, [], ◌∷◌, ◌++◌, map, cond, count_by, refl, ap, ◌∙◌, sym, subst, arith, if◌then◌else◌, nat_le, nat_lt, slice_get, Option, None, Some}
-use Rattle.dm_places.proofs.Names.{nat_tests, sum_by-cons, Pid, Link, pid_eq, PlainLink, link_at, plain_slot, slot_is_behind, Process, manager, switchboard, Manager, OneKernel, Switchboard, named_is_behind, plain_named, Pending}
-use Rattle.dm_places.proofs.Names.{pending_is_behind, plain_child, plain_pending, pending_request, pid_eq-same, About, View, Addresses, Answer, Child, Holder, Name, Slot, is_pid, place_told, ascends, answers_in, behind_among, behind_count}
-use Rattle.dm_places.proofs.Names.{holders_of, holders_numbered, slots_from, slot_holders, and-both, Placed, Mirrors, AnswerNames, leads_to, link_target, option_map, plain_link, answer_is_behind}
+use Rattle.dm_places.proofs.Names.{◌≡◌, ℕ, zero, suc, ◌+◌, ◌≤◌, Bool, true, false, List, [], ◌∷◌, ◌++◌, map, cond, count_by, refl, ap, ◌∙◌, sym, arith, if◌then◌else◌, nat_le, slice_get, Option, Some, nat_tests, sum_by-cons, Pid, Link}
+use Rattle.dm_places.proofs.Names.{pid_eq, PlainLink, link_at, plain_slot, slot_is_behind, Process, manager, switchboard, Manager, OneKernel, Switchboard, named_is_behind, plain_named, Pending, pending_is_behind, plain_child, plain_pending}
+use Rattle.dm_places.proofs.Names.{pending_request, pid_eq-same, About, View, Addresses, Answer, Child, Holder, Name, Slot, place_told, ascends, answers_in, behind_among, behind_count, holders_of, holders_numbered, slots_from, slot_holders}
+use Rattle.dm_places.proofs.Names.{and-both, Placed, Mirrors, AnswerNames, leads_to, link_target, option_map, plain_link, answer_is_behind}
 use Rattle.dm_link.specs.Places as places
-use Rattle.dm_onekernel.specs.Kernel as one
 use Rattle.dm_onekernel.specs.Step as kernel
 use Rattle.dm_rule.specs.Addresses as addresses
 use Rattle.dm_places.proofs.Following.Updated.{alive_is, answer_leads, behind_led, child_leads, name_leads, slot_leads}

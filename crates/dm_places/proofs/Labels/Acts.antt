@@ -1,8 +1,8 @@
 -- What a process that executes does, with places: plain instructions, calls and faults, a lemma a label.
-use Rattle.dm_places.proofs.Names.{◌≡◌, ℕ, ◌==◌, ◌&&◌, Bool, true, false, refl, ap, ◌∙◌, sym, subst, arith, if◌then◌else◌, Option, None, Some, nat_tests, Pid, MsgId, Message, id_eq, PlainMessage, plain_message, Process, Status, Label, Regs}
-use Rattle.dm_places.proofs.Names.{Row, instruction, past, Reply, Why, reply_eq, why_eq, bind, Alive, Ended, OneKernel, plain_process, plain_status, PlainProcess, Called, calls, plain_called, call_plainly, id_eq-is, bind-is, when-is, View}
-use Rattle.dm_places.proofs.Names.{Addresses, given, gives, call_gets, sends_what, past_call, gives_by, made_is, gives_same, only_gives_by, Placed, Mirrors, MirrorsKernel, MirrorsProcess, Acted, acted, acts, after_call, after_done}
-use Rattle.dm_places.proofs.Names.{if_ready, machine_of, ran, running, with_acted, with_machine, with_process, with_sent, at_hand-is}
+use Rattle.dm_places.proofs.Names.{◌≡◌, ℕ, ◌==◌, ◌&&◌, true, refl, ap, ◌∙◌, sym, subst, arith, Option, None, Some, nat_tests, Pid, MsgId, Message, id_eq, PlainMessage, plain_message, Process, Status, Label, Regs, Row, instruction, past}
+use Rattle.dm_places.proofs.Names.{Reply, Why, reply_eq, why_eq, bind, Ended, OneKernel, plain_process, plain_status, PlainProcess, Called, calls, plain_called, call_plainly, id_eq-is, bind-is, when-is, View, Addresses, given, gives}
+use Rattle.dm_places.proofs.Names.{call_gets, sends_what, past_call, gives_by, made_is, gives_same, only_gives_by, Placed, Mirrors, MirrorsKernel, MirrorsProcess, Acted, acted, acts, after_call, after_done, if_ready, machine_of, ran}
+use Rattle.dm_places.proofs.Names.{running, with_acted, with_machine, with_process, with_sent, at_hand-is}
 use Rattle.dm_onekernel.specs.Kernel as kernels
 use Rattle.dm_onekernel.specs.Calls as one
 use Rattle.dm_onekernel.specs.Step as kernel

@@ -1,9 +1,9 @@
 -- Messages without links that come in another's place, with places: answers, and what kernels say of ended processes and of
 -- want of room.
 use Rattle.dm_places.proofs.Names.{◌≡◌, ℕ, List, [], ◌∷◌, Bool, refl, ap, ◌∙◌, sym, subst, if◌then◌else◌, slice_get, Option, None, Some, Link, Place, place_of, MsgId, Message, What, Label, PlainMessage, PlainWhat, plain_message, plain_what}
-use Rattle.dm_places.proofs.Names.{arith, nat_tests, with_what, bind, OneKernel, answer_id, answer_to, answer, gone_answer, id_eq-same, bind-is, when-is, View, Addresses, answer_gets, given, gives, Receiver, Sender, unmoved, two}
-use Rattle.dm_places.proofs.Names.{two_process, two_servers, two_off, Placed, Mirrors, MirrorsMessage, enclosed, with_sent, without_message, Asker, AskedBy, Gets, MirrorsKernel, MoveNote, Outcome, Pid, PlainProcess, Process, acting_place}
-use Rattle.dm_places.proofs.Names.{asker_of, gets, id_of, manager, moved_answer, pid_eq-same, plain_note, manager_request, with_note, without_note, ends_move-is}
+use Rattle.dm_places.proofs.Names.{arith, bind, OneKernel, answer_id, answer_to, answer, gone_answer, id_eq-same, bind-is, when-is, View, Addresses, answer_gets, given, gives, Receiver, Sender, unmoved, two, two_process, two_servers}
+use Rattle.dm_places.proofs.Names.{two_off, Placed, Mirrors, MirrorsMessage, enclosed, with_sent, without_message, Asker, AskedBy, Gets, MoveNote, Outcome, Pid, PlainProcess, Process, acting_place, asker_of, gets, id_of, manager}
+use Rattle.dm_places.proofs.Names.{moved_answer, pid_eq-same, plain_note, manager_request, with_note, without_note, ends_move-is}
 use Rattle.dm_onekernel.specs.Kernel as kernels
 use Rattle.dm_onekernel.specs.Service as service
 use Rattle.dm_onekernel.specs.Step as kernel
@@ -93,8 +93,7 @@ asked_row s t v a l id m k (PlainWhat.Move machine) is needs hm says h =
     let p = m.to.pid in
     let done = noted_mirrors (service.without_message s id) v a (b p) (without_message l id) p w (λ q. record { slot = λ i. refl; owner = refl }) (λ i. record { receiver = refl; sender = refl; enclosed = λ j. refl }) (λ n. refl) (λ n. refl) (λ n. refl)
     (λ q apart. ap (λ (c : Bool). if c then pl else a (AskedBy q)) apart) (ap (λ (c : Bool). if c then pl else a (AskedBy p)) (pid_eq-same p) ∙ hm.sender) (out_mirrors s v a l id h) in
-    mirrors_as (kernels.with_note (service.without_message s id) p (plain_note w)) t v (b p) (b k.to) (with_note (without_message l id) p (manager_request w) w) (with_note (without_message l id) p id w)
-    ((λ i. kernels.with_note (service.without_message s id) (g.to i) (note i)) ∙ eq) (ap b g.to) (ap (λ (i : MsgId). with_note (without_message l id) p i w) name) done
+    search (arith, mirrors_as)
 asked_row s t v a l id m k u is needs hm says h = cc
 
 pub asked_follows : (s t : OneKernel) (v : View) (a : Addresses) (l : Placed) (id : MsgId) → kernel.step s (Label.Asked id) ≡ Some t → id ≡ id_of manager id.n → Mirrors s v a l

@@ -1,8 +1,8 @@
 -- What the switchboard takes, with places: each link that it keeps or hands out has the place that the lines say.
-use Rattle.dm_places.proofs.Names.{◌≡◌, ℕ, zero, suc, ◌+◌, ◌==◌, ◌&&◌, Bool, true, false, List, [], ◌∷◌, ◌++◌, refl, ap, ◌∙◌, sym, subst, inl, inr, arith, if◌then◌else◌, map, slice_get, Option, None, Some, cases_Bool, nat_tests, length-map}
-use Rattle.dm_places.proofs.Names.{Pid, Link, Place, place_of, PlainLink, plain_link, MsgId, Message, What, id_eq, id_of, PlainMessage, PlainWhat, plain_what, is_general, switchboard, bind, OneKernel, Switchboard, bytes_eq, is_name, Named}
-use Rattle.dm_places.proofs.Names.{plain_board, plain_named, Asked, plain_answer, plain_asks, plain_asked, plain_reply, id_eq-same, View, Addresses, gets, given, Receiver, Sender, Enclosed, Child, Name, Answer, unmoved, place_named}
-use Rattle.dm_places.proofs.Names.{board_asks, board_finds, board_keeps, board_gets, SameProcess, SameMessage, two, two_off, get_last, Placed, Mirrors, MirrorsKernel, MirrorsMessage, enclosed, board_took, without_message, AskedBy}
+use Rattle.dm_places.proofs.Names.{◌≡◌, ℕ, suc, ◌+◌, ◌==◌, Bool, false, List, [], ◌∷◌, ◌++◌, refl, ap, ◌∙◌, sym, subst, inl, inr, arith, if◌then◌else◌, map, slice_get, Option, None, Some, cases_Bool, length-map, Pid, Link, place_of}
+use Rattle.dm_places.proofs.Names.{PlainLink, plain_link, MsgId, Message, What, id_eq, id_of, PlainMessage, PlainWhat, plain_what, is_general, switchboard, bind, OneKernel, Switchboard, bytes_eq, is_name, Named, plain_board, plain_named}
+use Rattle.dm_places.proofs.Names.{Asked, plain_answer, plain_asks, plain_asked, plain_reply, id_eq-same, View, Addresses, given, Receiver, Sender, Enclosed, Child, Name, Answer, unmoved, place_named, board_asks, board_finds, board_keeps}
+use Rattle.dm_places.proofs.Names.{board_gets, SameProcess, SameMessage, two, two_off, get_last, Placed, Mirrors, MirrorsKernel, MirrorsMessage, enclosed, board_took, without_message, AskedBy}
 use Rattle.dm_onekernel.specs.Service as service
 use Rattle.dm_onekernel.specs.Switchboard as one
 use Rattle.dm_switchboard.specs.declared.reply.Reply.{Reply}

@@ -1,9 +1,9 @@
 -- What a call leaves of a process with places, and of what it sends: each address that it gives is the one that stands there.
-use Rattle.dm_places.proofs.Names.{◌≡◌, ℕ, zero, suc, ◌==◌, ◌&&◌, ◌||◌, Bool, true, false, List, [], ◌∷◌, refl, ap, ◌∙◌, sym, subst, inl, inr, arith, nat_lt, ⊤, if◌then◌else◌, map, slice_get, slice_set, filter_map, cons_option, is_none}
-use Rattle.dm_places.proofs.Names.{Option, None, Some, nat_tests, Pid, Link, Place, place_of, pid_eq, plain_link, first_empty, link_at, plain_slot, MsgId, Message, id_eq, PlainMessage, User, Read, Write, plain_message, Process, Direction}
-use Rattle.dm_places.proofs.Names.{Status, direction_numbered, Regs, past, Reply, plain_process, reg, CallNumber, first_failed, piece_of, address_of, moving, request, Called, Done, emptied, links_in, first_of, slot_at, pid_eq-same}
-use Rattle.dm_places.proofs.Names.{id_eq-same, View, Addresses, Gets, gets, given, Slot, Owner, Receiver, Sender, acting_place, encloses, fills, fills_by, sends_what, set_link, emptied_link, SameProcess, SameMessage, SameServers}
-use Rattle.dm_places.proofs.Names.{encloses_servers, encloses_process, encloses_message, encloses_at, gives_by, no_gives, or-left, or-right, MirrorsProcess, MirrorsMessage, enclosed, owner_at}
+use Rattle.dm_places.proofs.Names.{◌≡◌, ℕ, Bool, true, false, List, [], ◌∷◌, refl, ap, ◌∙◌, sym, subst, arith, ⊤, if◌then◌else◌, map, slice_get, slice_set, filter_map, cons_option, is_none, Option, None, Some, Pid, Link, Place, place_of}
+use Rattle.dm_places.proofs.Names.{pid_eq, plain_link, first_empty, link_at, plain_slot, MsgId, Message, id_eq, PlainMessage, User, plain_message, Process, Direction, Regs, past, Reply, plain_process, reg, CallNumber, first_failed}
+use Rattle.dm_places.proofs.Names.{address_of, Called, Done, emptied, links_in, first_of, slot_at, pid_eq-same, id_eq-same, View, Addresses, Gets, gets, given, Slot, Owner, Receiver, Sender, acting_place, encloses, fills, fills_by}
+use Rattle.dm_places.proofs.Names.{sends_what, set_link, emptied_link, SameProcess, SameMessage, SameServers, encloses_servers, encloses_process, encloses_message, encloses_at, gives_by, no_gives, or-left, or-right, MirrorsProcess}
+use Rattle.dm_places.proofs.Names.{MirrorsMessage, enclosed, owner_at}
 use Rattle.dm_onekernel.specs.Calls as one
 use Rattle.dm_syscall.specs.Calls as calls
 

@@ -1,8 +1,8 @@
 -- A process that a kernel makes, with places: it begins with the links that its request brought.
-use Rattle.dm_places.proofs.Names.{◌≡◌, ℕ, zero, suc, ◌+◌, ◌-◌, ◌&&◌, List, [], ◌∷◌, ◌++◌, length, refl, ap, ◌∙◌, sym, subst, false, arith, map, option_map, slice_get, replicate, Option, None, Some, length-map, slice_get-map, Pid, Link}
-use Rattle.dm_places.proofs.Names.{pid_eq, pid_of, PlainLink, plain_link, link_at, plain_slot, MsgId, Message, What, Label, PlainMessage, PlainWhat, plain_message, plain_what, begun_process, Format, BootImage, first_number, slots_of, bind}
-use Rattle.dm_places.proofs.Names.{Alive, OneKernel, plain_process, Ready, answer_id, answer_to, memory_of, slots_with, zero_regs, answer, bind-is, when-is, View, Addresses, Gets, Sender, answer_gets, child_links, given, gives, unmoved}
-use Rattle.dm_places.proofs.Names.{two, child_at, only_child, Placed, Mirrors, MirrorsMessage, MirrorsProcess, enclosed, with_child, with_sent, without_message, nat_tests}
+use Rattle.dm_places.proofs.Names.{◌≡◌, ℕ, zero, suc, ◌+◌, ◌-◌, ◌&&◌, List, [], ◌∷◌, ◌++◌, length, refl, ap, ◌∙◌, sym, subst, arith, map, option_map, slice_get, replicate, Option, None, Some, length-map, slice_get-map, Pid, Link, pid_eq}
+use Rattle.dm_places.proofs.Names.{pid_of, PlainLink, plain_link, link_at, plain_slot, MsgId, Message, What, Label, PlainMessage, PlainWhat, plain_message, plain_what, begun_process, Format, BootImage, first_number, slots_of, bind, Alive}
+use Rattle.dm_places.proofs.Names.{OneKernel, plain_process, answer_id, answer_to, memory_of, slots_with, answer, bind-is, when-is, View, Addresses, Gets, Sender, answer_gets, child_links, given, gives, unmoved, two, child_at, only_child}
+use Rattle.dm_places.proofs.Names.{Placed, Mirrors, MirrorsMessage, MirrorsProcess, enclosed, with_child, with_sent, without_message, nat_tests}
 use Rattle.dm_onekernel.specs.Kernel as kernels
 use Rattle.dm_onekernel.specs.Service as service
 use Rattle.dm_onekernel.specs.Start as one

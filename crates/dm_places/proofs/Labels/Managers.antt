@@ -1,9 +1,9 @@
 -- What the process manager takes, with places: it tells kernels and children, and answers over links, where the lines say.
-use Rattle.dm_places.proofs.Names.{◌≡◌, ℕ, suc, ◌+◌, ◌*◌, ◌==◌, ◌&&◌, Bool, true, false, List, [], ◌∷◌, length, refl, ap, ◌∙◌, sym, subst, inl, inr, nat_lt, arith, if◌then◌else◌, map, option_map, slice_get, Option, None, Some, nat_tests}
-use Rattle.dm_places.proofs.Names.{slice_get-map, Pid, Addr, Link, place_of, plain_link, MsgId, What, id_of, PlainMessage, PlainWhat, plain_message, manager, OneKernel, goes_over, Pending, Managing, plain_child, plain_manager}
-use Rattle.dm_places.proofs.Names.{plain_pending, answer_over, message_to, Taken, child_address, plain_numbered, plain_push, id_eq-same, View, Addresses, gets, given, Receiver, Sender, Enclosed, Child, Answer, unmoved, encloses}
-use Rattle.dm_places.proofs.Names.{enclosed_from, manager_sends, ascends, encloses_servers, encloses_process, encloses_message, encloses_at, two, enclosed_at, Placed, Mirrors, MirrorsKernel, enclosed, manager_took, without_message}
-use Rattle.dm_places.proofs.Names.{AnswerNames, Place, PlainLink, pending_request, ◌++◌, kernel_at, PendingKind}
+use Rattle.dm_places.proofs.Names.{◌≡◌, ℕ, suc, ◌+◌, ◌==◌, ◌&&◌, Bool, true, false, List, [], ◌∷◌, length, refl, ap, ◌∙◌, subst, inl, inr, nat_lt, arith, if◌then◌else◌, map, option_map, slice_get, Option, None, Some, nat_tests}
+use Rattle.dm_places.proofs.Names.{slice_get-map, Addr, Link, place_of, plain_link, MsgId, What, id_of, PlainMessage, PlainWhat, plain_message, manager, OneKernel, goes_over, Pending, Managing, plain_child, plain_manager, plain_pending}
+use Rattle.dm_places.proofs.Names.{answer_over, message_to, Taken, child_address, plain_numbered, plain_push, id_eq-same, View, Addresses, gets, given, Receiver, Sender, Enclosed, Child, Answer, unmoved, encloses, enclosed_from}
+use Rattle.dm_places.proofs.Names.{manager_sends, ascends, encloses_servers, encloses_process, encloses_message, encloses_at, two, enclosed_at, Placed, Mirrors, MirrorsKernel, enclosed, manager_took, without_message, AnswerNames, Place}
+use Rattle.dm_places.proofs.Names.{PlainLink, pending_request, ◌++◌, kernel_at, PendingKind}
 use Rattle.dm_onekernel.specs.Kernel as kernels
 use Rattle.dm_onekernel.specs.Manager as one
 use Rattle.dm_onekernel.specs.Service as service

@@ -1,7 +1,7 @@
 -- Receives and refusals, with places: each link of a message goes into the slot that the lines say, with its place.
 use Rattle.dm_places.proofs.Names.{◌≡◌, ℕ, suc, ◌+◌, ◌==◌, ◌&&◌, Bool, true, false, List, [], ◌∷◌, ◌++◌, length, refl, ap, ◌∙◌, sym, subst, inl, inr, arith, if◌then◌else◌, map, slice_get, slice_set, Option, None, Some, cases_Bool}
 use Rattle.dm_places.proofs.Names.{nat_tests, map-set, Pid, Link, place_of, pid_eq, PlainLink, plain_link, first_empty, link_at, plain_slot, MsgId, Message, What, Label, PlainMessage, PlainWhat, plain_message, Process, Status, on_mask}
-use Rattle.dm_places.proofs.Names.{what_is_on, Reply, reply_eq, bind, Alive, OneKernel, plain_process, plain_status, PlainProcess, first_failed, Completed, Completion, completion, completes, completes_unless, plain_completed, first_of}
+use Rattle.dm_places.proofs.Names.{what_is_on, Reply, reply_eq, bind, OneKernel, plain_process, plain_status, PlainProcess, first_failed, Completed, Completion, completion, completes, completes_unless, plain_completed, first_of}
 use Rattle.dm_places.proofs.Names.{status_plainly, pid_eq-same, pid_eq-is, bind-is, when-is, View, Addresses, Gets, given, gives, Slot, Enclosed, fills, receives_links, receives_what, slot_after, set_at, set_off, is_empty, only_receives}
 use Rattle.dm_places.proofs.Names.{OnlySlots, Placed, Mirrors, MirrorsProcess, enclosed, with_process, without_message, and-both, at_hand-is}
 use Rattle.dm_onekernel.specs.Receiving as one
@@ -136,10 +136,7 @@ completes_what_of v a p id x m k d mask base size (PlainWhat.User code channel b
     let plain : plain_completed z.completed z.process ≡ d = cc in
     let u_is : PlainWhat.User code channel w.body.items (map plain_link w.links.items) ≡ k.what = (λ i. PlainWhat.User code channel (w.bytes_are i) (w.links_are i)) ∙ sym is in
     let links : EnclosedFrom a id 0 w.links.items = subst (λ (u : What). EnclosedFrom a id 0 (enclosed u)) w.is en in
-    search (
-      ap (λ (st : Status). completing.completion x 0 st (Some m)) waits ∙ comp,
-      subst (λ (u : PlainWhat). CompletedKept v a p id x u d z.process) u_is (unless_kept v a p id m.id x base code channel w.body.items w.links.items o d h links plain),
-    )
+    search (arith, unless_kept)
 completes_what_of v a p id x m k d mask base size u waits says is h en e = cc
 
 completes_status_of : (v : View) (a : Addresses) (p : Pid) (id : MsgId) (x : Process) (m : Message) (k : PlainMessage) (d : one.Completed) (st : Status) → x.status ≡ st → plain_message m ≡ Some k → MirrorsProcess v a p x → EnclosedFrom a id 0 (enclosed m.what)

@@ -1,9 +1,9 @@
 -- What is served with places: control messages, pieces of data moves, and their landing.
-use Rattle.dm_places.proofs.Names.{◌≡◌, ℕ, ◌+◌, ◌-◌, ◌==◌, ◌&&◌, Bool, true, false, List, [], length, refl, ap, ◌∙◌, sym, subst, nat_le, if◌then◌else◌, take, drop, Option, None, Some, ArrayVec, Pid, Addr, place_of, MsgId, Message, What}
-use Rattle.dm_places.proofs.Names.{Label, Why, PlainMessage, PlainWhat, plain_message, plain_what, Process, Direction, Status, Reply, bind, Ended, OneKernel, plain_process, plain_status, PlainProcess, answer_to, piece_of, written_at, Rest}
-use Rattle.dm_places.proofs.Names.{Landed, Landing, plain_landed, after_serving, answer, answer_of, answer_with, serving_answer, ends_plainly, goes_on_plainly, bind-is, View, Addresses, Gets, answer_gets, given, gives, acting_place}
-use Rattle.dm_places.proofs.Names.{serves_what, Owner, two, gone_lands, nothing_lands, Placed, Mirrors, MirrorsMessage, MirrorsProcess, enclosed, owner_at, after_landing, with_process, with_sent, without_message, some_is, landing_gets}
-use Rattle.dm_places.proofs.Names.{at_hand-is, arith}
+use Rattle.dm_places.proofs.Names.{◌≡◌, ℕ, ◌+◌, ◌==◌, Bool, true, false, List, [], length, refl, ap, ◌∙◌, sym, subst, nat_le, if◌then◌else◌, take, drop, Option, None, Some, ArrayVec, Pid, Addr, place_of, MsgId, Message, What, Label, Why}
+use Rattle.dm_places.proofs.Names.{PlainMessage, PlainWhat, plain_message, plain_what, Process, Direction, Status, Reply, bind, Ended, OneKernel, plain_process, plain_status, PlainProcess, answer_to, piece_of, written_at, Rest, Landed}
+use Rattle.dm_places.proofs.Names.{Landing, plain_landed, after_serving, answer, answer_of, answer_with, serving_answer, ends_plainly, goes_on_plainly, bind-is, View, Addresses, Gets, answer_gets, given, gives, acting_place, serves_what}
+use Rattle.dm_places.proofs.Names.{Owner, two, gone_lands, nothing_lands, Placed, Mirrors, MirrorsMessage, MirrorsProcess, enclosed, owner_at, after_landing, with_process, with_sent, without_message, some_is, landing_gets, at_hand-is}
+use Rattle.dm_places.proofs.Names.{arith}
 use Rattle.dm_message.specs.Plain as said
 use Rattle.dm_onekernel.specs.Kernel as kernels
 use Rattle.dm_onekernel.specs.Pieces as pieces

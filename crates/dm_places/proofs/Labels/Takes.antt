@@ -1,9 +1,9 @@
 -- What the two servers take, with places: the manager's answers about children, and both servers' rows together.
-use Rattle.dm_places.proofs.Names.{◌≡◌, ℕ, zero, suc, ◌+◌, ◌==◌, ◌&&◌, Bool, true, false, List, [], ◌∷◌, ◌++◌, length, refl, ap, ◌∙◌, sym, subst, arith, if◌then◌else◌, map, option_map, slice_get, Option, None, Some, nat_tests, length-map}
-use Rattle.dm_places.proofs.Names.{Pid, Addr, Link, Place, pid_eq, place_of, PlainLink, plain_link, MsgId, Message, What, id_eq, id_of, Label, PlainMessage, PlainWhat, plain_message, plain_what, manager, switchboard, bind, Manager}
-use Rattle.dm_places.proofs.Names.{OneKernel, goes_over, Pending, Managing, at_home, plain_child, plain_manager, plain_pending, answer_over, control_link, Taken, child_address, pending_request, plain_bear, plain_pending_numbered}
-use Rattle.dm_places.proofs.Names.{plain_without, id_eq-same, bind-is, View, Addresses, Gets, gets, given, gives, Receiver, Sender, Enclosed, Child, Name, Answer, unmoved, board_gets, manager_answers, manager_sends, manager_gets}
-use Rattle.dm_places.proofs.Names.{SameProcess, SameMessage, Placed, Mirrors, MirrorsKernel, MirrorsMessage, enclosed, board_took, manager_took, without_message, AnswerNames, AskedBy, Outcome, code_of_outcome}
+use Rattle.dm_places.proofs.Names.{◌≡◌, ℕ, ◌+◌, Bool, true, false, List, [], ◌∷◌, ◌++◌, length, refl, ap, ◌∙◌, sym, subst, arith, if◌then◌else◌, map, option_map, slice_get, Option, None, Some, nat_tests, length-map, Pid, Addr, Link, Place}
+use Rattle.dm_places.proofs.Names.{pid_eq, place_of, PlainLink, plain_link, MsgId, Message, What, id_of, Label, PlainMessage, PlainWhat, plain_message, plain_what, manager, switchboard, bind, Manager, OneKernel, goes_over, Pending}
+use Rattle.dm_places.proofs.Names.{Managing, at_home, plain_child, plain_manager, plain_pending, answer_over, control_link, Taken, child_address, pending_request, plain_bear, plain_pending_numbered, plain_without, id_eq-same, bind-is, View}
+use Rattle.dm_places.proofs.Names.{Addresses, Gets, gets, given, gives, Receiver, Sender, Enclosed, Child, Name, Answer, unmoved, board_gets, manager_answers, manager_sends, manager_gets, SameProcess, SameMessage, Placed, Mirrors}
+use Rattle.dm_places.proofs.Names.{MirrorsKernel, MirrorsMessage, enclosed, board_took, manager_took, without_message, AnswerNames, AskedBy, Outcome, code_of_outcome}
 use Rattle.dm_onekernel.specs.Manager as one
 use Rattle.dm_onekernel.specs.Service as service
 use Rattle.dm_onekernel.specs.Step as kernel
