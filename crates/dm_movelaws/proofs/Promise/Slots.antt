@@ -1,6 +1,6 @@
 -- Which holders a label gives an address to doesn't rest on the addresses that there are.
 use Rattle.dm_movelaws.proofs.Names.{◌≡◌, ℕ, ◌+◌, Bool, List, [], ◌∷◌, ◌++◌, map, refl, ap, ◌∙◌, sym, ◌||◌, Option, Pid, Place, PlainLink, first_empty, MsgId, PlainMessage, PlainWhat, Label, PlainProcess, OneKernel, View, Addresses, Holder}
-use Rattle.dm_movelaws.proofs.Names.{Slot, Enclosed, Gets, gives, holder_eq, encloses, enclosed_from, sends_what, receives_links, receives_what, slot_after, child_links, creates_what, manager_tells, manager_sends, gives_to, manager_gets}
+use Rattle.dm_movelaws.proofs.Names.{Slot, Enclosed, Gets, gives, holder_eq, encloses, enclosed_from, sends_what, receives_links, receives_what, slot_after, child_links, creates_what, manager_sends, gives_to, manager_gets}
 use Rattle.dm_movelaws.proofs.Names.{nat_tests, arith, None, Some, ◌==◌, ◌&&◌, true, false, if◌then◌else◌, pid_eq-same, given, leads_to, unmoved, ascends, eq_self, AtHome, HomesAre, homes_are, at_home, SaidOn, label_on}
 use Rattle.dm_rule.proofs.Homes.Serves.{Named}
 use Rattle.dm_onekernel.specs.Manager as manage
@@ -79,12 +79,8 @@ creates_what_same a b id child u = grind (arith, nat_tests, child_same)
 creates_same : (v w : View) (a b : Addresses) (id : MsgId) (child : Pid) (o : Option PlainMessage) → holders (addresses.creation_gets v a id child o) ≡ holders (addresses.creation_gets w b id child o)
 creates_same v w a b id child o = grind (arith, nat_tests, creates_what_same)
 
--- servers
-tells_same : (v w : View) (a b : Addresses) (id : MsgId) (code : ℕ) (sent : PlainMessage) (u : PlainWhat) → holders (manager_tells v a id code sent u) ≡ holders (manager_tells w b id code sent u)
-tells_same v w a b id code sent u = grind (arith, nat_tests, enclosed_same)
-
 manager_sends_same : (v w : View) (a b : Addresses) (id : MsgId) (code : ℕ) (o : Option PlainMessage) → holders (manager_sends v a id code o) ≡ holders (manager_sends w b id code o)
-manager_sends_same v w a b id code o = grind (arith, nat_tests, tells_same)
+manager_sends_same v w a b id code o = search (arith, enclosed_same)
 
 manager_takes_same : (s : OneKernel) (v w : View) (a b : Addresses) (m : PlainMessage) (u : PlainWhat) (o : Option manage.ManagerTook) → holders (manager_gets s v a m u o) ≡ holders (manager_gets s w b m u o)
 manager_takes_same s v w a b m u o = grind (arith, nat_tests, manager_sends_same)
@@ -92,18 +88,13 @@ manager_takes_same s v w a b m u o = grind (arith, nat_tests, manager_sends_same
 takes_same : (s : OneKernel) (v w : View) (a b : Addresses) (id : MsgId) (o : Option PlainMessage) → holders (addresses.taking_gets s v a id o) ≡ holders (addresses.taking_gets s w b id o)
 takes_same s v w a b id o = grind (arith, nat_tests, manager_takes_same)
 
--- requests to move
-follows_same : (a b : Addresses) (id : MsgId) (o : Option PlainMessage) → holders (request.given_to_follow a id o) ≡ holders (request.given_to_follow b id o)
-follows_same a b id None = refl
-follows_same a b id (Some m) = refl
-
 ends_same : (v w : View) (a b : Addresses) (id : MsgId) (o : Option Pid) → holders (request.given_at_end v a id o) ≡ holders (request.given_at_end w b id o)
 ends_same v w a b id None = refl
 ends_same v w a b id (Some p) = refl
 
 -- a row a label
 pub gives_same : (s : OneKernel) (v w : View) (a b : Addresses) (l : Label) → holders (gives s v a l) ≡ holders (gives s w b l)
-gives_same s v w a b l = grind (arith, nat_tests, sends_same, receives_same, serves_same, takes_same, creates_same, follows_same, ends_same)
+gives_same s v w a b l = search (arith, sends_same, receives_same, serves_same, takes_same, creates_same, ends_same)
 
 -- Where no line gives a slot an address, a link in it was there before.
 

@@ -66,11 +66,7 @@ asker_mild p (Some n) r = (tt, (tt, tt))
 
 home_known : (pt : Point) (l : Line) (o : Option MoveNote) (r : Outcome) (w : Spelled) (q : Pid) → label_of l ≡ None → (view_after pt.view l).known ≡ at_record pt.view.known pt.view.acting q Here
     → spelled pt (Says l ∷ tells_asker o r) ≡ Some w → w.point.view.known pt.view.acting q ≡ Here
-home_known pt l o r w q none known e =
-    let n = line_next pt l (tells_asker o r) w none e in
-    let a = pt.view.acting in
-    ap (λ (x : Point). x.view.known a q) (sym n.point)
-    ∙ asker_known a q Here o r (moved pt l pt.kernel) n.rest n.more (ap (λ (f : ℕ → Pid → Known). f a q) known ∙ at_record_at pt.view.known a q Here)
+home_known pt l o r w q none known e = search (arith, line_next, pt.view.acting, asker_known, pt.kernel, at_record_at, pt.view.known)
 
 pub comes_home : (pt : Point) (i : MsgId) (is : List MsgId) (q : Pid) (l : Line) (a : Option MoveNote) (r : Outcome) (ns : List Mark) (x : Option Mark) (w : Spelled) → Handling pt i is q → label_of l ≡ None → is_put l ≡ false → touches l ≡ false
     → ((z : Spot) → ids_at (view_after pt.view l) z ≡ ids_at (released (home_again (handled_first pt.view) q) q) z)

@@ -196,13 +196,7 @@ pinned_loose p = quiet (Line.Pinned p) (λ pt t. tt) (λ v t. refl) (λ v n q. r
 
 -- what the net says
 net_line : (l : Line) → IsNetLine l → Loose (Says l)
-net_line (Line.Taken a b n) h = grind (arith, nat_tests, quiet, at_pid)
-net_line (Line.Old a b n) h = quiet (Line.Old a b n) (λ pt t. tt) (λ v t. refl) (λ v m q. refl) (λ v q. refl)
-net_line (Line.Early a b n) h = quiet (Line.Early a b n) (λ pt t. tt) (λ v t. refl) (λ v m q. refl) (λ v q. refl)
-net_line (Line.Acked a b n) h = quiet (Line.Acked a b n) (λ pt t. tt) (λ v t. refl) (λ v m q. refl) (λ v q. refl)
-net_line (Line.Resent m n) h = quiet (Line.Resent m n) (λ pt t. tt) (λ v t. refl) (λ v k q. refl) (λ v q. refl)
-net_line Line.Nothing h = quiet Line.Nothing (λ pt t. tt) (λ v t. refl) (λ v m q. refl) (λ v q. refl)
-net_line _ h = absurd h
+net_line l h1 = search (arith, quiet, at_pid)
 
 pub net_loose : (ps : List Part) → IsNet ps → AllLoose ps
 net_loose [] h = tt

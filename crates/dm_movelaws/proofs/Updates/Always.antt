@@ -141,18 +141,10 @@ same_line d (x ∷ y ∷ zs) ys id i n k e =
     let f : zs ++ Line.Updated id n ∷ ys ≡ [] = cc in
     absurd (false≢true (sym (ap has f) ∙ has_in zs ys id n))
 
-abbrev spelled_or : Spelled → Option Spelled → Spelled
-spelled_or z None = z
-spelled_or z (Some w) = w
-
 pub by_shape : (b : Boot) (pt : Point) (d : Step) (w : Spelled) (id : MsgId) (n : ℕ) (xs ys : List Line) (g : GroupIs b pt d w) → w.lines ≡ xs ++ Line.Updated id n ∷ ys → Shape pt g.parts → Handled b pt d w id n
 by_shape b pt d w id n xs ys g there (Quiet quiet) =
     absurd (false≢true (sym (parts_have g.parts (begun pt d) g.rest quiet g.said) ∙ ap (λ (x : Spelled). has x.lines) g.whole ∙ ap has there ∙ has_in xs ys id n))
-by_shape b pt d w id n xs ys g there (Updates m i k form handles) =
-    let rest : record { lines = Line.Updated i k ∷ []; point = moved (begun pt d) (Line.Updated i k) pt.kernel } ≡ g.rest = ap (spelled_or g.rest) (ap (spelled (begun pt d)) (sym form) ∙ g.said) in
-    let all : Line.Head d ∷ Line.Updated i k ∷ [] ≡ w.lines = ap (λ (x : Spelled). Line.Head d ∷ x.lines) rest ∙ ap (λ (x : Spelled). x.lines) g.whole in
-    let point : moved (begun pt d) (Line.Updated i k) pt.kernel ≡ w.point = ap (λ (x : Spelled). x.point) rest ∙ ap (λ (x : Spelled). x.point) g.whole in
-    grind (arith, nat_tests, (sym all), (same_line d xs ys id i n k (sym there ∙ sym all)))
+by_shape b pt d w id n xs ys g there (Updates m i k form handles) = search (arith, pt.kernel, g.rest, g.said, w.lines, g.whole, w.point, same_line)
 
 -- What an update does wherever the rule leads.
 

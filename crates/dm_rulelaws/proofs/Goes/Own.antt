@@ -1,7 +1,7 @@
 -- A kernel's own message at the front of the inbox can be handled.
 use Rattle.dm_rulelaws.proofs.Names.{◌≡◌, ◌≢◌, ℕ, ◌/◌, ◌≤◌, ◌==◌, ◌&&◌, ◌||◌, Bool, true, false, not, List, [], ◌∷◌, ◌++◌, length, refl, ap, ◌∙◌, sym, subst, is_some, arith, if◌then◌else◌, Option, None, Some, false≢true, nat_tests, Pid}
-use Rattle.dm_rulelaws.proofs.Names.{pid_eq, MsgId, MessageKind, Line, Stage, Boot, switchboard, manager, bind, PlainProcess, Life, Alive, View, Told, Of, Known, Unknown, Here, Frozen, Forward, is_kernels, target_of, to_kernel, forwards_on}
-use Rattle.dm_rulelaws.proofs.Names.{moves_to, accepts, takes_chunk, takes_block, gives_piece, kernel_told, chunks_of, pieces_of, updates, here_told, ended_told, process_told, server_told, sends_on, fits, free_room, kernel_hears, hears}
+use Rattle.dm_rulelaws.proofs.Names.{pid_eq, MsgId, MessageKind, Line, Stage, Boot, switchboard, manager, bind, PlainProcess, Life, Alive, View, Told, Of, Known, Unknown, Here, Frozen, Forward, is_kernels, to_kernel, forwards_on}
+use Rattle.dm_rulelaws.proofs.Names.{accepts, takes_chunk, takes_block, gives_piece, kernel_told, chunks_of, pieces_of, updates, ended_told, process_told, server_told, sends_on, fits, free_room, kernel_hears, hears}
 use Rattle.dm_rulelaws.proofs.Names.{is_between, is_restart, kind_comes, knows, is_away, Moves, sender_in, receiver_in, told_between, IsIn, Point, Part, Says, Spot, Queue, Held, Inbox, times, standing, token_is, token_at, is_server}
 use Rattle.dm_rulelaws.proofs.Names.{is_fixed, first_of, eq_self, inbox_is, about_same, kind_leaves, Label, MoveNote, Outcome, label_of, with_label, is_put, moved, answers_move, tells_asker, agrees}
 use Rattle.dm_onekernel.specs.Service as service
@@ -57,13 +57,10 @@ pub record Coming (b : Boot) (m : ℕ) (o : Point) (p : Pid) (k : MessageKind) :
 coming_alive : (s : ℕ) (n : Known) (o : Option Life) → kind_comes MessageKind.Restart s n ≡ true → agrees n o ≡ true → IsAlive o
 coming_alive s n o h1 h2 = search arith
 
-frozen_alive : (k : MessageKind) (d : ℕ) (n : Known) (o : Option Life) → kind_leaves k d n ≡ true → is_restart k ≡ false → agrees n o ≡ true → IsAlive o
-frozen_alive k d n o h1 h2 h3 = search arith
-
 moving_server : (c : Bool) (s d : ℕ) (k : MessageKind) (b : Boot) (m : ℕ) (o : Point) (p : Pid) (r : Bool) → is_server p ≡ c → is_restart k ≡ r → Run b o → (s == d) ≡ false → kind_leaves k d (o.view.known s p) ≡ true → (is_restart k ≡ true → kind_comes MessageKind.Restart s (o.view.known d p) ≡ true) → IsAlive (o.kernel.processes p)
 moving_server true s d k b m o p r server restart run off leave come = absurd (false≢true (sym (server_leaves k d (s == 0)) ∙ sym (ap (kind_leaves k d) (run.based.known.server s p server)) ∙ leave))
 moving_server false s d k b m o p true server restart run off leave come = coming_alive s (o.view.known d p) (o.kernel.processes p) (come restart) (run.based.known.agree d p server)
-moving_server false s d k b m o p false server restart run off leave come = frozen_alive k d (o.view.known s p) (o.kernel.processes p) leave restart (run.based.known.agree s p server)
+moving_server false s d k b m o p false server restart run off leave come = search (arith, o.view.known s p, o.kernel.processes p, run.based.known.agree s p server)
 
 pub is_it : (k : MessageKind) → is_restart k ≡ true → k ≡ MessageKind.Restart
 is_it MessageKind.Restart e = refl
@@ -165,20 +162,12 @@ can_kernel C never b m o i f num =
 can_server : (C : Type 0) (never : C → ⊥) (m : ℕ) (o : Point) (i : MsgId) (t : Told) (k : MessageKind) → k ≡ MessageKind.Update → Can C m (begun o m) (server_told o i t k)
 can_server C never m o i t k e = can_as C m (begun o m) (server_told o i t k) (Some (updates o i t)) (ap (server_told o i t) e) (can_plain C m (begun o m) (updates o i t) never (refl, tt) (NoOwns (tt, tt)))
 
--- a process
-can_here : (C : Type 0) (never : C → ⊥) (m : ℕ) (o : Point) (i : MsgId) (t : Told) (k : MessageKind) → own_sort k t.receiver t.about ≡ true → (t.receiver.num == 0) ≡ false → Can C m (begun o m) (here_told o m i t k)
-can_here C never m o i t MessageKind.Migrate e num = can_plain C m (begun o m) (moves_to m i t.receiver (target_of (Some t))) never (moves_plain (begun o m).view m i t.receiver (target_of (Some t)) (m == target_of (Some t))) (moves_own (begun o m).view i t.receiver (target_of (Some t)) (m == target_of (Some t)))
-can_here C never m o i t MessageKind.Update e num = can_plain C m (begun o m) (updates o i t) never (refl, tt) (NoOwns (tt, tt))
-can_here C never m o i t _ e num = absurd (grind (arith, nat_tests))
-
 can_over : (C : Type 0) (never : C → ⊥) (m : ℕ) (o : Point) (i : MsgId) (t : Told) (k : MessageKind) → own_sort k t.receiver t.about ≡ true → (t.receiver.num == 0) ≡ false → Can C m (begun o m) (ended_told i k)
-can_over C never m o i t MessageKind.Migrate e num = can_plain C m (begun o m) (Says (Line.NoMove i) ∷ []) never (refl, tt) (NoOwns (tt, tt))
-can_over C never m o i t MessageKind.Update e num = can_plain C m (begun o m) (Says (Line.Updated i 0) ∷ []) never (refl, tt) (NoOwns (tt, tt))
-can_over C never m o i t _ e num = absurd (grind (arith, nat_tests))
+can_over C never m o i t k h1 h2 = search (arith, can_plain)
 
 can_known : (C : Type 0) (never : C → ⊥) (b : Boot) (m : ℕ) (o : Point) (i : MsgId) (f : FrontOwn b m o i) (n : Known) → o.view.known m f.told.receiver ≡ n → n ≢ Unknown → (f.told.receiver.num == 0) ≡ false → Can C m (begun o m) (process_told o m i f.told n)
 can_known C never b m o i f Unknown is there num = absurd (there refl)
-can_known C never b m o i f Here is there num = can_here C never m o i f.told f.told.kind (sort_of b m o i f) num
+can_known C never b m o i f Here is there num = search (arith, sort_of b m o i f, f.told, f.told.kind, can_plain, moves_plain, moves_own)
 can_known C never b m o i f (Forward at_ moves) is there num = can_plain C m (begun o m) (forwards_on o.addresses i f.told.kind manager at_) never (forwards_plain (begun o m).view o.addresses i f.told.kind manager at_ (ap is_some f.told_is))
     (forwards_own (begun o m).view o.addresses i f.told.kind manager at_ (forwarded_place (begun o m).view i at_ f.told at_ moves f.told_is is) (λ e. refl))
 can_known C never b m o i f Known.Ended is there num = can_over C never m o i f.told f.told.kind (sort_of b m o i f) num
